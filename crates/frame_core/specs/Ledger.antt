@@ -1,0 +1,92 @@
+-- What the keeper knows, where each of its steps is allowed, and what it knows after it: a function of what it knew, the step and the word found.
+use Rattle.std.specs.Prelude.{◌≡◌, ℕ, ◌+◌, ◌-◌, ◌<◌, ◌≤◌, ◌==◌, cond, map, replicate, slice_index_or, slice_set, Option, Some, None}
+use Rattle.ksm_base.specs.declared.page.TheConstants.{PAGE_WORDS}
+use Rattle.ksm_base.specs.declared.shape.Shape.{Shape}
+use Rattle.ksm_base.specs.Values.{frames_of}
+use Rattle.frame_core.specs.declared.event.KeeperStep.{KeeperStep}
+use Rattle.frame_core.specs.declared.event.KeeperStep.TheVariants.{Reap, Put, Raise, Open, Add, Sub, Publish, Withdraw, Freeze, Word}
+use Rattle.frame_core.specs.declared.frame.Frame.{Frame}
+use Rattle.frame_core.specs.declared.frame.Kind.{Kind}
+use Rattle.frame_core.specs.declared.frame.Kind.TheVariants.{Free, Filling, Private, Stable, Dying, Retired}
+use Rattle.frame_core.specs.declared.ledger.Ledger.{Ledger}
+use Rattle.frame_core.specs.declared.ledger.Note.{Note}
+use Rattle.frame_core.specs.declared.seat.Life.{Life}
+use Rattle.frame_core.specs.State.{State}
+
+-- what the keeper knows of a frame
+abbrev pub note_of : Frame → Note
+note_of fr = record { kind = fr.kind; base = fr.base; generation = fr.generation; content = fr.content }
+
+-- what the keeper knows in a state
+abbrev pub ledger_of : State → Ledger
+ledger_of s = record { frames = map note_of s.frames; places = s.places }
+
+-- a frame that was never given
+abbrev pub blank : Note
+blank = record { kind = Free; base = 0; generation = 0; content = replicate PAGE_WORDS 0 }
+
+-- all frames are free and were never given, and all places are empty
+abbrev pub first_ledger : Shape → Ledger
+first_ledger sh = record { frames = replicate (frames_of sh) blank; places = replicate (frames_of sh) None }
+
+abbrev pub frame_at : Ledger → ℕ → Note
+frame_at k f = slice_index_or k.frames f blank
+
+-- what a place names, if anything
+abbrev pub named_at : Ledger → ℕ → Option Life
+named_at k p = slice_index_or k.places p None
+
+abbrev pub with_frame : Ledger → ℕ → Note → Ledger
+with_frame k f note = record { frames = slice_set k.frames f note; places = k.places }
+
+-- the frame has this kind and so many references of the keeper
+abbrev pub referred : Ledger → ℕ → Kind → ℕ → Ledger
+referred k f kind base = with_frame k f record { kind = kind; base = base; generation = (frame_at k f).generation; content = (frame_at k f).content }
+
+-- a frame of this kind may be written
+abbrev pub IsWritable : Kind → Type 0
+IsWritable Filling = Unit {0}
+IsWritable Private = Unit {0}
+IsWritable _ = ⊥
+
+-- a frame of this kind may be read by the keeper
+abbrev pub IsReadable : Kind → Type 0
+IsReadable Private = Unit {0}
+IsReadable Stable = Unit {0}
+IsReadable Dying = Unit {0}
+IsReadable _ = ⊥
+
+-- what a place names is nothing, or a frame that is not stable in the life named
+abbrev pub IsLoose : Ledger → Option Life → Type 0
+IsLoose k None = Unit {0}
+IsLoose k (Some life) = (frame_at k life.frame).generation ≡ life.generation → ¬ ((frame_at k life.frame).kind ≡ Stable)
+
+module _ (sh : Shape) (k : Ledger) where
+  -- where a step of the keeper is allowed
+  abbrev pub MayStep : KeeperStep → Type 0
+  MayStep (Reap f) = (f < frames_of sh) × ((frame_at k f).kind ≡ Dying)
+  MayStep (Put f i w) = (f < frames_of sh) × (i < PAGE_WORDS) × IsWritable (frame_at k f).kind
+  MayStep (Raise f) = (f < frames_of sh) × ((frame_at k f).kind ≡ Free)
+  MayStep (Open f) = (f < frames_of sh) × ((frame_at k f).kind ≡ Filling)
+  MayStep (Add f) = (f < frames_of sh) × (1 ≤ (frame_at k f).base) × ((frame_at k f).base ≤ 1023)
+  MayStep (Sub f) = (f < frames_of sh) × (1 ≤ (frame_at k f).base)
+  MayStep (Publish p f) = (p < frames_of sh) × (f < frames_of sh) × ((frame_at k f).kind ≡ Private) × IsLoose k (named_at k p)
+  MayStep (Withdraw p) = (p < frames_of sh) × IsLoose k (named_at k p)
+  MayStep (Freeze f) = (f < frames_of sh) × ((frame_at k f).kind ≡ Stable)
+  MayStep (Word f i) = (f < frames_of sh) × (i < PAGE_WORDS) × IsReadable (frame_at k f).kind
+
+  -- what the keeper knows after a step that found the word n
+  abbrev pub ledger_after : KeeperStep → ℕ → Ledger
+  ledger_after (Reap f) n = cond (n == 0) (referred k f (cond ((frame_at k f).generation == sh.last_generation) Retired Free) 0) k
+  ledger_after (Put f i w) n = with_frame k f record { kind = (frame_at k f).kind; base = (frame_at k f).base; generation = (frame_at k f).generation; content = slice_set (frame_at k f).content i w }
+  ledger_after (Raise f) n = with_frame k f record { kind = Filling; base = (frame_at k f).base; generation = (frame_at k f).generation + 1; content = (frame_at k f).content }
+  ledger_after (Open f) n = referred k f Private 1
+  ledger_after (Add f) n = referred k f (frame_at k f).kind ((frame_at k f).base + 1)
+  ledger_after (Sub f) n = referred k f (cond ((frame_at k f).base == 1) Dying (frame_at k f).kind) ((frame_at k f).base - 1)
+  ledger_after (Publish p f) n = record {
+    frames = slice_set k.frames f record { kind = Stable; base = (frame_at k f).base; generation = (frame_at k f).generation; content = (frame_at k f).content };
+    places = slice_set k.places p (Some (record { frame = f; generation = (frame_at k f).generation }));
+  }
+  ledger_after (Withdraw p) n = record { frames = k.frames; places = slice_set k.places p None }
+  ledger_after (Freeze f) n = cond (n == (frame_at k f).base) (referred k f Dying 0) k
+  ledger_after (Word f i) n = k

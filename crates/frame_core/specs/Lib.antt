@@ -1,0 +1,9 @@
+pub mod State
+pub mod Steps
+pub mod Bounds
+pub mod Rule
+pub mod Trace
+pub mod Safe
+pub mod Words
+pub mod Machine
+pub mod Ledger

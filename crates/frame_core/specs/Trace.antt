@@ -1,0 +1,130 @@
+-- What was done, the newest step first, and what can be told from it: lives, holders, words stored and words read.
+use Rattle.std.specs.Prelude.{ℕ, ◌≡◌, ◌+◌, ◌*◌, ◌%◌, ◌<◌, Bool, true, false, ◌&&◌, ◌==◌, if◌then◌else◌, List, [], ◌∷◌, filter, All, Option, None, Some, fold}
+use Rattle.std.specs.List.{range_with_len}
+use Rattle.ksm_base.specs.declared.shape.Shape.{Shape}
+use Rattle.frame_core.specs.declared.event.Event.{Event}
+use Rattle.frame_core.specs.declared.event.Event.TheVariants.{Reader, Keeper}
+use Rattle.frame_core.specs.declared.event.ReaderStep.TheVariants.{LoadPlace, LoadCount, Exchange, LoadGeneration, Leave, LoadWord}
+use Rattle.frame_core.specs.declared.event.KeeperStep.TheVariants.{Put, Raise, Open, Publish}
+use Rattle.frame_core.specs.declared.seat.Aim.{Aim}
+use Rattle.frame_core.specs.State.{State, opening}
+use Rattle.frame_core.specs.Steps.{step}
+
+-- an accepted event, and the word that it read
+pub record Entry : Type 0 where
+  pub event : Event
+  pub word : ℕ
+
+-- a state, and what led to it
+pub record History : Type 0 where
+  pub state : State
+  pub trace : List Entry
+
+-- an event that is not allowed changes nothing and leaves no entry
+abbrev pub added_to : History → Event → Option (ℕ × State) → History
+added_to h e None = h
+added_to h e (Some r) = record { state = r.1; trace = record { event = e; word = r.0 } ∷ h.trace }
+
+abbrev pub happens : History → Event → History
+happens h e = added_to h e (step h.state e)
+
+abbrev pub run_of : Shape → List Event → History
+run_of shape events = fold happens (record { state = opening shape; trace = [] }) events
+
+-- ---------------------------------------------------------------- what the trace tells
+
+-- the life of f: how often it was raised
+abbrev pub life_after : ℕ → ℕ → Event → ℕ
+life_after f before (Keeper (Raise g)) = if g == f then before + 1 else before
+life_after f before _ = before
+
+abbrev pub life_of : ℕ → List Entry → ℕ
+life_of f [] = 0
+life_of f (e ∷ t) = life_after f (life_of f t) e.event
+
+-- the last place that the seat loaded, with the word found there
+abbrev pub place_loaded_after : ℕ → Option (ℕ × ℕ) → ℕ → Event → Option (ℕ × ℕ)
+place_loaded_after seat before w (Reader q (LoadPlace p)) = if q == seat then Some (p, w) else before
+place_loaded_after seat before w _ = before
+
+abbrev pub place_loaded : ℕ → List Entry → Option (ℕ × ℕ)
+place_loaded seat [] = None
+place_loaded seat (e ∷ t) = place_loaded_after seat (place_loaded seat t) e.word e.event
+
+-- the last count that the seat loaded
+abbrev pub count_loaded_after : ℕ → ℕ → ℕ → Event → ℕ
+count_loaded_after seat before w (Reader q LoadCount) = if q == seat then w else before
+count_loaded_after seat before w _ = before
+
+abbrev pub count_loaded : ℕ → List Entry → ℕ
+count_loaded seat [] = 0
+count_loaded seat (e ∷ t) = count_loaded_after seat (count_loaded seat t) e.word e.event
+
+-- the frame that a place's word names
+abbrev pub frame_in : Option (ℕ × ℕ) → Option ℕ
+frame_in None = None
+frame_in (Some loaded) = Some (loaded.1 % 1024)
+
+-- the frame on which the seat made its last exchange and that it has not left since: an exchange was made where it found the count loaded before
+abbrev pub held_after : ℕ → List Entry → Option ℕ → ℕ → Event → Option ℕ
+held_after seat t before w (Reader q Exchange) = if q == seat && w == count_loaded seat t then frame_in (place_loaded seat t) else before
+held_after seat t before w (Reader q Leave) = if q == seat then None else before
+held_after seat t before w _ = before
+
+abbrev pub held_by : ℕ → List Entry → Option ℕ
+held_by seat [] = None
+held_by seat (e ∷ t) = held_after seat t (held_by seat t) e.word e.event
+
+abbrev pub is_frame : ℕ → Option ℕ → Bool
+is_frame f None = false
+is_frame f (Some g) = g == f
+
+-- the holders of f, among so many seats
+abbrev pub holders : ℕ → ℕ → List Entry → List ℕ
+holders passes f t = filter (λ seat. is_frame f (held_by seat t)) (range_with_len 0 passes)
+
+-- f was opened since the seat last loaded a place
+abbrev pub given_after : ℕ → ℕ → Bool → Event → Bool
+given_after seat f before (Reader q (LoadPlace p)) = if q == seat then false else before
+given_after seat f before (Keeper (Open g)) = if g == f then true else before
+given_after seat f before _ = before
+
+abbrev pub given_since : ℕ → ℕ → List Entry → Bool
+given_since seat f [] = false
+given_since seat f (e ∷ t) = given_after seat f (given_since seat f t) e.event
+
+-- the last value stored to the word i of f
+abbrev pub stored_after : ℕ → ℕ → ℕ → Event → ℕ
+stored_after f i before (Keeper (Put g j w)) = if g == f && j == i then w else before
+stored_after f i before _ = before
+
+abbrev pub stored : ℕ → ℕ → List Entry → ℕ
+stored f i [] = 0
+stored f i (e ∷ t) = stored_after f i (stored f i t) e.event
+
+-- the value of the word i of f when f was named at a place in its life g
+abbrev pub named_after : ℕ → ℕ → ℕ → List Entry → Option ℕ → Event → Option ℕ
+named_after f g i t before (Keeper (Publish p h)) = if h == f && life_of f t == g then Some (stored f i t) else before
+named_after f g i t before _ = before
+
+abbrev pub named_word : ℕ → ℕ → ℕ → List Entry → Option ℕ
+named_word f g i [] = None
+named_word f g i (e ∷ t) = named_after f g i t (named_word f g i t) e.event
+
+-- the words that the seat has read since it last loaded a generation: their numbers and values
+abbrev pub read_after : ℕ → List (ℕ × ℕ) → ℕ → Event → List (ℕ × ℕ)
+read_after seat before w (Reader q (LoadWord i)) = if q == seat then (i, w) ∷ before else before
+read_after seat before w (Reader q LoadGeneration) = if q == seat then [] else before
+read_after seat before w _ = before
+
+abbrev pub words_read : ℕ → List Entry → List (ℕ × ℕ)
+words_read seat [] = []
+words_read seat (e ∷ t) = read_after seat (words_read seat t) e.word e.event
+
+-- The seat holds what its aim names, rightly
+pub record HoldsRightly (seat : ℕ) (aim : Aim) (t : List Entry) : Type 0 where
+  pub named : place_loaded seat t ≡ Some (aim.place, aim.life.generation * 1024 + aim.life.frame)
+  pub frame : aim.life.frame < 1024
+  pub same_life : aim.life.generation ≡ life_of aim.life.frame t
+  pub not_given : given_since seat aim.life.frame t ≡ false
+  pub words : All (λ r. named_word aim.life.frame aim.life.generation r.0 t ≡ Some r.1) (words_read seat t)

@@ -1,0 +1,25 @@
+-- The words of a state as one list: the places, then for each frame its count, its generation and its content.
+use Rattle.std.specs.Prelude.{ℕ, ◌+◌, ◌*◌, List, ◌∷◌, ◌++◌, map}
+use Rattle.std.specs.List.{flat_map}
+use Rattle.ksm_base.specs.declared.page.TheConstants.{PAGE_WORDS}
+use Rattle.frame_core.specs.declared.frame.Frame.{Frame}
+use Rattle.frame_core.specs.State.{State, place_word}
+
+abbrev pub frame_words : Frame → List ℕ
+frame_words fr = fr.count ∷ fr.generation ∷ fr.content
+
+abbrev pub words_of : State → List ℕ
+words_of s = map place_word s.places ++ flat_map frame_words s.frames
+
+-- where a word stands in a table of so many places
+abbrev pub frame_at : ℕ → ℕ → ℕ
+frame_at places f = places + f * (2 + PAGE_WORDS)
+
+abbrev pub count_at : ℕ → ℕ → ℕ
+count_at places f = frame_at places f + 0
+
+abbrev pub generation_at : ℕ → ℕ → ℕ
+generation_at places f = frame_at places f + 1
+
+abbrev pub content_at : ℕ → ℕ → ℕ → ℕ
+content_at places f i = frame_at places f + (2 + i)

@@ -1,0 +1,10 @@
+pub mod Values
+pub mod Rows
+pub mod State
+pub mod Visit
+pub mod Counting
+pub mod Refusals
+pub mod Answers
+pub mod Apply
+pub mod Journal
+pub mod Worked

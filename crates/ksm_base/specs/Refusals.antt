@@ -1,0 +1,58 @@
+-- The refusals that the state decides, in the order in which they are tested.
+use Rattle.std.specs.Prelude.{ℕ, Bool, false, not, ◌&&◌, ◌==◌, nat_lt, nat_le, find, Option, Some, None, is_some, is_none, if◌then◌else◌}
+use Rattle.std.specs.List.{list_any}
+use Rattle.ksm_base.specs.declared.page.GuestPage.{GuestPage}
+use Rattle.ksm_base.specs.declared.row.Row.{Row}
+use Rattle.ksm_base.specs.declared.row.DupRow.{DupRow}
+use Rattle.ksm_base.specs.declared.command.Command.{Command}
+use Rattle.ksm_base.specs.declared.command.Command.TheVariants.{Register, Drop, Store, Scan, Prune, Unmerge, Mergeable, MovePage, MoveDup, SetRun, SetPagesToScan, SetAcross, SetLimit}
+use Rattle.ksm_base.specs.declared.fault.Fault.{Fault}
+use Rattle.ksm_base.specs.declared.fault.Fault.TheVariants.{UnknownPage, AlreadyRegistered, NotRunning, SharedPages, BadValue, CrossesNodes, UnknownPlace, BadNode}
+use Rattle.ksm_base.specs.Rows.{row_at, has_items}
+use Rattle.ksm_base.specs.State.{BookState}
+use Rattle.ksm_base.specs.Counting.{shared_count}
+
+-- the refusal, where a test holds
+abbrev pub refused_if : Bool → Fault → Option Fault → Option Fault
+refused_if test fault later = if test then Some fault else later
+
+abbrev pub is_known : BookState → GuestPage → Bool
+is_known b page = is_some (row_at page b.rows)
+
+abbrev pub is_of : ℕ → Row → Bool
+is_of guest r = r.page.guest == guest
+
+abbrev pub has_guest : BookState → ℕ → Bool
+has_guest b guest = list_any (is_of guest) b.rows
+
+-- the dup with items at a place
+abbrev pub live_dup_at : BookState → ℕ → Option DupRow
+live_dup_at b place = find (λ d. d.place == place && has_items b.rows d) b.dups
+
+-- a move to a node that isn't the dup's tree, against the knob
+abbrev pub crosses : BookState → ℕ → Option DupRow → Bool
+crosses b node None = false
+crosses b node (Some d) = b.knobs.merge_across_nodes == 0 && not (d.tree == node)
+
+abbrev pub is_within : ℕ → ℕ → ℕ → Bool
+is_within low high v = nat_le low v && nat_le v high
+
+-- the refusals that the state decides, in the order in which they are tested
+abbrev pub refusal : BookState → Command → Option Fault
+refusal b (Register page node bytes) = refused_if (nat_le b.shape.nodes node) BadNode (refused_if (is_known b page) AlreadyRegistered None)
+refusal b (Drop page) = refused_if (not (is_known b page)) UnknownPage None
+refusal b (Store page bytes) = refused_if (not (is_known b page)) UnknownPage None
+refusal b (Scan n) = refused_if (not (b.knobs.run == 1)) NotRunning None
+refusal b Prune = None
+refusal b (Unmerge guest) = refused_if (not (has_guest b guest)) UnknownPage None
+refusal b (Mergeable guest) = refused_if (not (has_guest b guest)) UnknownPage None
+refusal b (MovePage page node) = refused_if (nat_le b.shape.nodes node) BadNode (refused_if (not (is_known b page)) UnknownPage None)
+refusal b (MoveDup place node) =
+    refused_if (nat_le b.shape.nodes node) BadNode (
+    refused_if (is_none (live_dup_at b place)) UnknownPlace (refused_if (crosses b node (live_dup_at b place)) CrossesNodes None))
+refusal b (SetRun v) = refused_if (nat_lt 2 v) BadValue None
+refusal b (SetPagesToScan v) = refused_if (not (is_within 1 1000000 v)) BadValue None
+refusal b (SetAcross v) =
+    refused_if (nat_lt 1 v) BadValue (refused_if (not (v == b.knobs.merge_across_nodes) && nat_lt 0 (shared_count b.rows b.dups)) SharedPages None)
+refusal b (SetLimit v) =
+    refused_if (not (is_within 2 1024 v)) BadValue (refused_if (not (v == b.knobs.max_page_sharing) && nat_lt 0 (shared_count b.rows b.dups)) SharedPages None)

@@ -1,0 +1,21 @@
+//! The values of the page-sharing book: pages, rows, commands, replies, faults, knobs, counters and the shape of a table.
+#![tactic(auto)]
+
+mod command;
+mod counters;
+mod fault;
+mod knobs;
+mod laws;
+mod page;
+mod reply;
+mod row;
+mod shape;
+
+pub use command::Command;
+pub use counters::Counters;
+pub use fault::Fault;
+pub use knobs::Knobs;
+pub use page::{GuestPage, PAGE_WORDS, PageBytes};
+pub use reply::Reply;
+pub use row::{DupRow, PageState, Row};
+pub use shape::Shape;
