@@ -1,0 +1,6 @@
+pub mod Placement
+pub mod Steps
+pub mod Keeping
+pub mod Listed
+pub mod Plain
+pub mod Laid
