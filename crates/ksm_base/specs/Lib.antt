@@ -8,3 +8,4 @@ pub mod Answers
 pub mod Apply
 pub mod Journal
 pub mod Worked
+pub mod Sound
