@@ -4,3 +4,6 @@ pub mod Orders
 pub mod SoundEdits
 pub mod SoundVisit
 pub mod SoundPair
+pub mod SoundScan
+pub mod SoundKnobs
+pub mod SoundSteps

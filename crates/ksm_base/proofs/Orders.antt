@@ -1,5 +1,5 @@
 -- The order of rows and of dups is kept by each edit.
-use Rattle.std.proofs.Common.{◌≡◌, ℕ, zero, suc, ◌+◌, ◌<◌, ◌≤◌, Bool, true, false, List, [], ◌∷◌, ◌++◌, length, get_or, map, Some, inl, inr, refl, ap, ◌∙◌, arith}
+use Rattle.std.proofs.Common.{◌≡◌, ℕ, suc, ◌<◌, ◌≤◌, Bool, true, false, List, [], ◌∷◌, ◌++◌, get_or, map, Some, inl, inr, refl, ap, ◌∙◌, arith}
 use Rattle.std.specs.Prelude.{◌==◌, nat_lt, All, AllPairs, filter, count_by, not, if◌then◌else◌}
 use Rattle.std.proofs.lemmas.Bool.{cases_Bool, cases_lt, cases_order, both_ways, cond_both, le-ltb, ltb-true, eq-eqb, ne_eqb}
 use Rattle.std.proofs.lemmas.Bool.Decides.{nat_tests}
@@ -68,9 +68,9 @@ ordered_with row rows rise =
     let last : Row → Bool = λ r. comes_before row.page r.page in
     let behind : All (Before row) (filter last rows) = filter_passes last rows in
     let cross : All (λ x. All (Before x) (row ∷ filter last rows)) (filter first rows) =
-        All-weaker (λ x. Before x row) (λ x. All (Before x) (row ∷ filter last rows))
-        (λ x h. All-cons (Before x) row (filter last rows) h (All-weaker (Before row) (Before x) (λ s later. before_trans x.page row.page s.page h later) (filter last rows) behind))
-        (filter first rows) (filter_passes first rows) in
+    All-weaker (λ x. Before x row) (λ x. All (Before x) (row ∷ filter last rows))
+    (λ x h. All-cons (Before x) row (filter last rows) h (All-weaker (Before row) (Before x) (λ s later. before_trans x.page row.page s.page h later) (filter last rows) behind))
+    (filter first rows) (filter_passes first rows) in
     pairs_append Before (filter first rows) (row ∷ filter last rows) (AllPairs-filter Before first rows rise)
     (AllPairs-cons Before row (filter last rows) behind (AllPairs-filter Before last rows rise)) cross
 

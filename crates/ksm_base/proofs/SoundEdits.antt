@@ -1,23 +1,21 @@
 -- Edits that keep a book sound: rows that become private, a row more or less, stale dups dropped.
-use Rattle.std.proofs.Common.{◌≡◌, ℕ, zero, suc, ◌+◌, ◌<◌, ◌≤◌, Bool, true, false, List, [], ◌∷◌, ◌++◌, length, get_or, map, Some, None, Option, refl, sym, ap, ◌∙◌, inl, inr, arith}
-use Rattle.std.specs.Prelude.{◌==◌, nat_lt, All, filter, find, count_by, bytes_eq, not, if◌then◌else◌}
+use Rattle.std.proofs.Common.{◌≡◌, ℕ, ◌<◌, ◌≤◌, Bool, true, false, List, [], ◌∷◌, get_or, map, None, refl, sym, ◌∙◌, inl, inr, arith}
+use Rattle.std.specs.Prelude.{◌==◌, All, filter, if◌then◌else◌}
 use Rattle.std.proofs.lemmas.Bool.{cases_Bool, cond_both, both_ways, true≢false, false≢true, eqb-true, eq-eqb, lt-ltb}
-use Rattle.std.proofs.lemmas.Bool.Decides.{nat_tests}
-use Rattle.std.proofs.lemmas.List.Elements.{All-map, All-filter, All-weaker}
+use Rattle.std.proofs.lemmas.List.Elements.{All-map, All-filter}
 use Rattle.std.proofs.lemmas.List.Kept.{AllPairs-filter}
-use Rattle.ksm_base.specs.declared.page.GuestPage.{GuestPage}
 use Rattle.ksm_base.specs.declared.row.PageState.{PageState}
 use Rattle.ksm_base.specs.declared.row.PageState.TheVariants.{Private, Waiting, Merged}
 use Rattle.ksm_base.specs.declared.row.Row.{Row}
 use Rattle.ksm_base.specs.declared.row.DupRow.{DupRow}
 use Rattle.ksm_base.specs.declared.knobs.Knobs.{Knobs}
-use Rattle.ksm_base.specs.Rows.{same_page, comes_before, private_state, waiting_state, merged_into, item_count, has_items, with_row, without_page, change_rows}
-use Rattle.ksm_base.specs.State.{BookState, tree_of, place_count, without_stale}
+use Rattle.ksm_base.specs.Rows.{comes_before, private_state, waiting_state, merged_into, item_count, has_items, with_row, change_rows}
+use Rattle.ksm_base.specs.State.{BookState, place_count, without_stale}
 use Rattle.ksm_base.specs.Visit.{waits_for, partner}
 use Rattle.ksm_base.specs.Counting.{shared_count}
-use Rattle.ksm_base.specs.Sound.{dup_numbered, IsDupOf, IsSound}
+use Rattle.ksm_base.specs.Sound.{IsDupOf, IsSound}
 use Rattle.ksm_base.proofs.Edits.{find_none, find_nothing, find_passes, find_filter, count_more, count-append, counts_one, none_counted, find_all, count_filter_le, count_filters_le, count_map_le}
-use Rattle.ksm_base.proofs.Orders.{ordered_map, ordered_without, ordered_with, ordered_filter, filter_none, all_with_row}
+use Rattle.ksm_base.proofs.Orders.{ordered_map, ordered_with, ordered_filter, filter_none, all_with_row}
 use Rattle.ksm_base.proofs.Pages.{not_both}
 
 -- a row after an edit keeps its page, and where it waits it waited before, with its home and bytes
@@ -63,7 +61,7 @@ pub record IsCalmer (old new : Row) : Type 0 where
   pub bytes : private_state new.state ≡ false → new.bytes ≡ old.bytes
   pub mergeable : private_state new.state ≡ false → old.mergeable ≡ true → new.mergeable ≡ true
 
-waiting_not_private : (state : PageState) → waiting_state state ≡ true → private_state state ≡ false
+pub waiting_not_private : (state : PageState) → waiting_state state ≡ true → private_state state ≡ false
 waiting_not_private Private waits = cc
 waiting_not_private Waiting waits = refl
 waiting_not_private (Merged n) waits = refl
@@ -97,27 +95,27 @@ sound_calmed b f calmer homes s =
       rows_rise = ordered_map f b.rows (λ r. (calmer r).page) s.rows_rise;
       homes = All-map (λ r. r.home < b.shape.nodes) f b.rows homes;
       mergeable = All-map (λ r. private_state r.state ≡ false → r.mergeable ≡ true) f b.rows
-        (λ k d lt taken.
-        let r = get_or b.rows k d in
-        (calmer r).mergeable taken (s.mergeable k d lt (rw (← (calmer r).state taken) taken)));
+          (λ k d lt taken.
+          let r = get_or b.rows k d in
+          (calmer r).mergeable taken (s.mergeable k d lt (rw (← (calmer r).state taken) taken)));
       waiting = waiting_map b.knobs f b.rows (λ r. calmer_waits r (f r) (calmer r)) s.waiting;
       items = All-map (λ r. (number : ℕ) → r.state ≡ Merged number → (dup : DupRow) × IsDupOf b.knobs b.dups r number dup) f b.rows
-        (λ k d lt number merged.
-        let r = get_or b.rows k d in
-        let taken : private_state (f r).state ≡ false = rw merged refl in
-        let item : (dup : DupRow) × IsDupOf b.knobs b.dups r number dup = s.items k d lt number (sym ((calmer r).state taken) ∙ merged) in
-        (item.0, same_dup b.knobs b.dups r (f r) number item.0 ((calmer r).home taken) ((calmer r).bytes taken) item.1));
+          (λ k d lt number merged.
+          let r = get_or b.rows k d in
+          let taken : private_state (f r).state ≡ false = rw merged refl in
+          let item : (dup : DupRow) × IsDupOf b.knobs b.dups r number dup = s.items k d lt number (sym ((calmer r).state taken) ∙ merged) in
+          (item.0, same_dup b.knobs b.dups r (f r) number item.0 ((calmer r).home taken) ((calmer r).bytes taken) item.1));
       dups_rise = s.dups_rise;
       places = s.places;
       numbers = s.numbers;
       trees = s.trees;
       limit = λ k d lt.
-        let dup = get_or b.dups k d in
-        let p : Row → Bool = λ r. merged_into dup.number r.state in
-        let fewer = count_map_le p f b.rows (λ j e lt_e merged.
+          let dup = get_or b.dups k d in
+          let p : Row → Bool = λ r. merged_into dup.number r.state in
+          let fewer = count_map_le p f b.rows (λ j e lt_e merged.
           let r = get_or b.rows j e in
           rw (← (calmer r).state (merged_not_private dup.number (f r).state merged)) merged) in
-        omega (arith, fewer, s.limit k d lt);
+          omega (arith, fewer, s.limit k d lt);
     }
 
 -- rows may go
@@ -131,19 +129,19 @@ sound_filtered b test s =
       homes = All-filter test (λ r. r.home < b.shape.nodes) b.rows s.homes;
       mergeable = All-filter test (λ r. private_state r.state ≡ false → r.mergeable ≡ true) b.rows s.mergeable;
       waiting = All-filter test (λ r. waiting_state r.state ≡ true → partner b.knobs (filter test b.rows) r ≡ None) b.rows
-        (λ k d lt waits.
-        let r = get_or b.rows k d in
-        let none = find_none (waits_for b.knobs r) b.rows (s.waiting k d lt waits) in
-        find_nothing (waits_for b.knobs r) (filter test b.rows) (All-filter test (λ w. waits_for b.knobs r w ≡ false) b.rows none));
+          (λ k d lt waits.
+          let r = get_or b.rows k d in
+          let none = find_none (waits_for b.knobs r) b.rows (s.waiting k d lt waits) in
+          find_nothing (waits_for b.knobs r) (filter test b.rows) (All-filter test (λ w. waits_for b.knobs r w ≡ false) b.rows none));
       items = All-filter test (λ r. (number : ℕ) → r.state ≡ Merged number → (dup : DupRow) × IsDupOf b.knobs b.dups r number dup) b.rows s.items;
       dups_rise = s.dups_rise;
       places = s.places;
       numbers = s.numbers;
       trees = s.trees;
       limit = λ k d lt.
-        let dup = get_or b.dups k d in
-        let fewer = count_filter_le (λ r. merged_into dup.number r.state) test b.rows in
-        omega (arith, fewer, s.limit k d lt);
+          let dup = get_or b.dups k d in
+          let fewer = count_filter_le (λ r. merged_into dup.number r.state) test b.rows in
+          omega (arith, fewer, s.limit k d lt);
     }
 
 -- a private row may come
@@ -157,26 +155,26 @@ sound_with_row b row is_private home s =
       homes = all_with_row (λ r. r.home < b.shape.nodes) row b.rows home s.homes;
       mergeable = all_with_row (λ r. private_state r.state ≡ false → r.mergeable ≡ true) row b.rows (λ taken. absurd (true≢false (rw is_private at taken))) s.mergeable;
       waiting = all_with_row (λ r. waiting_state r.state ≡ true → partner b.knobs (with_row row b.rows) r ≡ None) row b.rows (λ waits. absurd (false≢true (rw is_private at waits)))
-        (λ k d lt waits.
-        let r = get_or b.rows k d in
-        let none = find_none (waits_for b.knobs r) b.rows (s.waiting k d lt waits) in
-        find_nothing (waits_for b.knobs r) (with_row row b.rows) (all_with_row (λ w. waits_for b.knobs r w ≡ false) row b.rows (rw is_private refl) none));
+          (λ k d lt waits.
+          let r = get_or b.rows k d in
+          let none = find_none (waits_for b.knobs r) b.rows (s.waiting k d lt waits) in
+          find_nothing (waits_for b.knobs r) (with_row row b.rows) (all_with_row (λ w. waits_for b.knobs r w ≡ false) row b.rows (rw is_private refl) none));
       items = all_with_row (λ r. (number : ℕ) → r.state ≡ Merged number → (dup : DupRow) × IsDupOf b.knobs b.dups r number dup) row b.rows (λ number merged. let never : Private ≡ Merged number = sym is_private ∙ merged in cc) s.items;
       dups_rise = s.dups_rise;
       places = s.places;
       numbers = s.numbers;
       trees = s.trees;
       limit = λ k d lt.
-        let dup = get_or b.dups k d in
-        let p : Row → Bool = λ r. merged_into dup.number r.state in
-        let first : Row → Bool = λ r. comes_before r.page row.page in
-        let last : Row → Bool = λ r. comes_before row.page r.page in
-        let other : p row ≡ false = rw is_private refl in
-        let apart = count_filters_le p first last b.rows (λ j e lt_e. not_both (get_or b.rows j e).page row.page) in
-        let both = count-append p (filter first b.rows) (row ∷ filter last b.rows) in
-        let more = count_more p row (filter last b.rows) in
-        let held = s.limit k d lt in
-        grind (arith, other, apart, both, more, held);
+          let dup = get_or b.dups k d in
+          let p : Row → Bool = λ r. merged_into dup.number r.state in
+          let first : Row → Bool = λ r. comes_before r.page row.page in
+          let last : Row → Bool = λ r. comes_before row.page r.page in
+          let other : p row ≡ false = rw is_private refl in
+          let apart = count_filters_le p first last b.rows (λ j e lt_e. not_both (get_or b.rows j e).page row.page) in
+          let both = count-append p (filter first b.rows) (row ∷ filter last b.rows) in
+          let more = count_more p row (filter last b.rows) in
+          let held = s.limit k d lt in
+          grind (arith, other, apart, both, more, held);
     }
 
 -- a merged row is an item of its dup
@@ -203,9 +201,9 @@ sound_without_stale b s =
       mergeable = s.mergeable;
       waiting = s.waiting;
       items = λ k d lt number merged.
-        let r = get_or b.rows k d in
-        let item : (dup : DupRow) × IsDupOf b.knobs b.dups r number dup = s.items k d lt number merged in
-        (item.0, record { stands = find_filter (λ d. d.number == number) live b.dups item.0 item.1.stands (dup_has_items b.rows item.0 k d lt (item_of_dup b.knobs b.dups r number item.0 merged item.1)); tree = item.1.tree; bytes = item.1.bytes });
+          let r = get_or b.rows k d in
+          let item : (dup : DupRow) × IsDupOf b.knobs b.dups r number dup = s.items k d lt number merged in
+          (item.0, record { stands = find_filter (λ d. d.number == number) live b.dups item.0 item.1.stands (dup_has_items b.rows item.0 k d lt (item_of_dup b.knobs b.dups r number item.0 merged item.1)); tree = item.1.tree; bytes = item.1.bytes });
       dups_rise = ordered_filter live b.dups s.dups_rise;
       places = All-filter live (λ d. d.place < place_count b.shape) b.dups s.places;
       numbers = All-filter live (λ d. d.number < b.next) b.dups s.numbers;
@@ -224,3 +222,20 @@ none_merged b s none k d lt number merged =
 
 pub no_dup_lives : (b : BookState) → shared_count b.rows b.dups ≡ 0 → filter (has_items b.rows) b.dups ≡ []
 no_dup_lives b none = filter_none (has_items b.rows) b.dups (none_counted (has_items b.rows) b.dups none)
+
+-- a row that becomes private
+pub becomes_private : (old new : Row) → new.page ≡ old.page → new.state ≡ Private → IsCalmer old new
+becomes_private old new page is_private =
+    let never : private_state new.state ≡ false → ⊥ = λ taken. true≢false (rw is_private at taken) in
+    record { page = page; state = λ taken. absurd (never taken); home = λ taken. absurd (never taken); bytes = λ taken. absurd (never taken); mergeable = λ taken _. absurd (never taken) }
+
+pub stays_calm : (r : Row) → IsCalmer r r
+stays_calm r = record { page = refl; state = λ _. refl; home = λ _. refl; bytes = λ _. refl; mergeable = λ _ yet. yet }
+
+-- the rows that pass a test may become private
+pub sound_changed : (b : BookState) (test : Row → Bool) (f : Row → Row) → ((r : Row) → IsCalmer r (f r)) → ((r : Row) → r.home < b.shape.nodes → (f r).home < b.shape.nodes) → IsSound b → IsSound (record b { rows = change_rows test f b.rows })
+sound_changed b test f calmer home s =
+    sound_calmed b (λ r. if test r then f r else r) (λ r. cond_both (test r) (f r) r (IsCalmer r) (λ _. calmer r) (λ _. stays_calm r))
+    (λ k d lt.
+    let r = get_or b.rows k d in
+    cond_both (test r) (f r) r (λ x. x.home < b.shape.nodes) (λ _. home r (s.homes k d lt)) (λ _. s.homes k d lt)) s

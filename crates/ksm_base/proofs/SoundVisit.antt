@@ -1,22 +1,21 @@
 -- A visit keeps a book sound: a page joins a dup, waits, or is paired with the one that waits.
-use Rattle.std.proofs.Common.{◌≡◌, ℕ, zero, suc, ◌+◌, ◌<◌, ◌≤◌, Bool, true, false, List, [], ◌∷◌, ◌++◌, length, get_or, map, Some, None, Option, refl, sym, subst, ap, ◌∙◌, inl, inr, arith}
-use Rattle.std.specs.Prelude.{◌==◌, ◌&&◌, ◌||◌, nat_lt, nat_le, All, filter, find, count_by, bytes_eq, not, if◌then◌else◌}
-use Rattle.std.proofs.lemmas.Bool.{cases_Bool, cond_both, and_parts, or_cases, both_ways, true≢false, false≢true, eqb-true, eq-eqb, ltb-true, lt-ltb, ne_eqb}
+use Rattle.std.proofs.Common.{◌≡◌, ℕ, ◌<◌, Bool, true, false, List, get_or, Some, None, refl, sym, subst, ap, inl, inr, arith}
+use Rattle.std.specs.Prelude.{◌==◌, ◌&&◌, nat_lt, nat_le, All, count_by, bytes_eq, not, if◌then◌else◌}
+use Rattle.std.proofs.lemmas.Bool.{cases_Bool, cond_both, and_parts, both_ways, false≢true, eqb-true, eq-eqb, ltb-true}
 use Rattle.std.proofs.lemmas.Bool.Decides.{nat_tests, same_from_decides, Decides-like}
-use Rattle.std.proofs.lemmas.List.Elements.{All-map, All-filter, All-weaker}
+use Rattle.std.proofs.lemmas.List.Elements.{All-map}
 use Rattle.std.proofs.lemmas.Slice.Eq.{bytes_eq-Decides}
-use Rattle.ksm_base.specs.declared.page.GuestPage.{GuestPage}
 use Rattle.ksm_base.specs.declared.row.PageState.{PageState}
-use Rattle.ksm_base.specs.declared.row.PageState.TheVariants.{Private, Waiting, Merged}
+use Rattle.ksm_base.specs.declared.row.PageState.TheVariants.{Waiting, Merged}
 use Rattle.ksm_base.specs.declared.row.Row.{Row}
 use Rattle.ksm_base.specs.declared.row.DupRow.{DupRow}
 use Rattle.ksm_base.specs.declared.knobs.Knobs.{Knobs}
-use Rattle.ksm_base.specs.Rows.{same_page, comes_before, private_state, waiting_state, merged_into, item_count, has_items, with_dup, change_rows, change_row}
-use Rattle.ksm_base.specs.State.{BookState, tree_of, place_count}
-use Rattle.ksm_base.specs.Visit.{waits_for, partner, may_join, is_best, is_no_rival, best_dup}
+use Rattle.ksm_base.specs.Rows.{same_page, private_state, waiting_state, merged_into, item_count, change_rows, change_row}
+use Rattle.ksm_base.specs.State.{BookState, tree_of}
+use Rattle.ksm_base.specs.Visit.{waits_for, partner, may_join, is_best, best_dup}
 use Rattle.ksm_base.specs.Sound.{dup_numbered, IsDupOf, IsSound}
 use Rattle.ksm_base.proofs.Edits.{find_none, find_nothing, find_passes, find_all, count_map_le, count_change_le}
-use Rattle.ksm_base.proofs.Orders.{ordered_change, one_of_each_page, one_of_page, each_has_number}
+use Rattle.ksm_base.proofs.Orders.{ordered_change, one_of_page, each_has_number}
 use Rattle.ksm_base.proofs.Pages.{same_page_sym}
 use Rattle.ksm_base.proofs.SoundEdits.{WaitsAs, waiting_map}
 
@@ -26,12 +25,12 @@ all_changed P test f rows changed others =
     All-map P (λ r. if test r then f r else r) rows (λ k d lt. let r = get_or rows k d in cond_both (test r) (f r) r P (changed k d lt) (others k d lt))
 
 -- after a change of states by which no row waits that did not, none waits twice
-waiting_changed : (knobs : Knobs) (test : Row → Bool) (f : Row → Row) (rows : List Row) → ((r : Row) → WaitsAs r (f r)) → All (λ r. waiting_state r.state ≡ true → partner knobs rows r ≡ None) rows → All (λ r. waiting_state r.state ≡ true → partner knobs (change_rows test f rows) r ≡ None) (change_rows test f rows)
+pub waiting_changed : (knobs : Knobs) (test : Row → Bool) (f : Row → Row) (rows : List Row) → ((r : Row) → WaitsAs r (f r)) → All (λ r. waiting_state r.state ≡ true → partner knobs rows r ≡ None) rows → All (λ r. waiting_state r.state ≡ true → partner knobs (change_rows test f rows) r ≡ None) (change_rows test f rows)
 waiting_changed knobs test f rows like alone =
     waiting_map knobs (λ r. if test r then f r else r) rows
     (λ r. cond_both (test r) (f r) r (WaitsAs r) (λ _. like r) (λ _. record { page = refl; state = λ waits. waits; home = λ _. refl; bytes = λ _. refl })) alone
 
-merged_waits : (number : ℕ) (r : Row) → WaitsAs r (record r { state = Merged number })
+pub merged_waits : (number : ℕ) (r : Row) → WaitsAs r (record r { state = Merged number })
 merged_waits number r = record { page = refl; state = λ waits. absurd (false≢true waits); home = λ _. refl; bytes = λ _. refl }
 
 -- a mergeable row of the book
@@ -73,35 +72,35 @@ sound_joined b row dup visited joined s =
       rows_rise = ordered_change test f b.rows (λ _. refl) s.rows_rise;
       homes = all_changed (λ r. r.home < b.shape.nodes) test f b.rows (λ k d lt _. s.homes k d lt) (λ k d lt _. s.homes k d lt);
       mergeable = all_changed (λ r. private_state r.state ≡ false → r.mergeable ≡ true) test f b.rows
-        (λ k d lt same _. rw (visited.once k d lt same) visited.mergeable) (λ k d lt _. s.mergeable k d lt);
+          (λ k d lt same _. rw (visited.once k d lt same) visited.mergeable) (λ k d lt _. s.mergeable k d lt);
       waiting = waiting_changed b.knobs test f b.rows (merged_waits dup.number) s.waiting;
       items = all_changed (λ r. (number : ℕ) → r.state ≡ Merged number → (d : DupRow) × IsDupOf b.knobs b.dups r number d) test f b.rows
-        (λ k d lt same number merged.
-        let is : get_or b.rows k d ≡ row = visited.once k d lt same in
-        let number_is : dup.number ≡ number = cc in
-        (dup, record { stands = rw (← number_is) joined.stands; tree = rw is joined.tree; bytes = rw is joined.bytes }))
-        (λ k d lt _. s.items k d lt);
+          (λ k d lt same number merged.
+          let is : get_or b.rows k d ≡ row = visited.once k d lt same in
+          let number_is : dup.number ≡ number = cc in
+          (dup, record { stands = rw (← number_is) joined.stands; tree = rw is joined.tree; bytes = rw is joined.bytes }))
+          (λ k d lt _. s.items k d lt);
       dups_rise = s.dups_rise;
       places = s.places;
       numbers = s.numbers;
       trees = s.trees;
       limit = λ k d lt.
-        let e = get_or b.dups k d in
-        let p : Row → Bool = λ r. merged_into e.number r.state in
-        elim (cases_Bool (e.number == dup.number)) [
-          | inl same ↦
-              let number_is : e.number ≡ dup.number = eqb-true e.number dup.number same in
-              let counts : item_count b.rows e ≡ item_count b.rows dup = ap (λ n. count_by (λ r. merged_into n r.state) b.rows) number_is in
-              let more = count_change_le p test f b.rows in
-              let one = one_of_page row.page b.rows s.rows_rise in
-              omega (arith, more, one, counts, joined.room)
-          | inr other ↦
-              let fewer = count_map_le p (λ r. if test r then f r else r) b.rows (λ j x lt_x.
+          let e = get_or b.dups k d in
+          let p : Row → Bool = λ r. merged_into e.number r.state in
+          elim (cases_Bool (e.number == dup.number)) [
+            | inl same ↦
+                let number_is : e.number ≡ dup.number = eqb-true e.number dup.number same in
+                let counts : item_count b.rows e ≡ item_count b.rows dup = ap (λ n. count_by (λ r. merged_into n r.state) b.rows) number_is in
+                let more = count_change_le p test f b.rows in
+                let one = one_of_page row.page b.rows s.rows_rise in
+                omega (arith, more, one, counts, joined.room)
+            | inr other ↦
+                let fewer = count_map_le p (λ r. if test r then f r else r) b.rows (λ j x lt_x.
                 let r = get_or b.rows j x in
                 cond_both (test r) (f r) r (λ y. p y ≡ true → p r ≡ true)
                 (λ _ into. absurd (both_ways (e.number == dup.number) other (eq-eqb e.number dup.number (sym (eqb-true dup.number e.number into))))) (λ _ into. into)) in
-              omega (arith, fewer, s.limit k d lt)
-        ];
+                omega (arith, fewer, s.limit k d lt)
+          ];
     }
 
 bytes_sym : (x y : List ℕ) → bytes_eq x y ≡ bytes_eq y x
@@ -135,31 +134,31 @@ sound_waiting b row visited alone s =
       rows_rise = ordered_change test f b.rows (λ _. refl) s.rows_rise;
       homes = all_changed (λ r. r.home < b.shape.nodes) test f b.rows (λ k d lt _. s.homes k d lt) (λ k d lt _. s.homes k d lt);
       mergeable = all_changed (λ r. private_state r.state ≡ false → r.mergeable ≡ true) test f b.rows
-        (λ k d lt same _. rw (visited.once k d lt same) visited.mergeable) (λ k d lt _. s.mergeable k d lt);
+          (λ k d lt same _. rw (visited.once k d lt same) visited.mergeable) (λ k d lt _. s.mergeable k d lt);
       waiting = all_changed (λ r. waiting_state r.state ≡ true → partner b.knobs new r ≡ None) test f b.rows
-        (λ k d lt same _.
-        let is : get_or b.rows k d ≡ row = visited.once k d lt same in
-        let P : Row → Type 0 = λ r. partner b.knobs new (f r) ≡ None in
-        subst P (sym is) (find_nothing (waits_for b.knobs (f row)) new (all_changed (λ w. waits_for b.knobs (f row) w ≡ false) test f b.rows
-        (λ j e lt_e same_e. rw same_e refl) (λ j e lt_e _. none j e lt_e))))
-        (λ k d lt other waits.
-        let r = get_or b.rows k d in
-        let not_r = find_none (waits_for b.knobs r) b.rows (s.waiting k d lt waits) in
-        find_nothing (waits_for b.knobs r) new (all_changed (λ w. waits_for b.knobs r w ≡ false) test f b.rows
-        (λ j e lt_e same_e.
-        let P : Row → Type 0 = λ w. waits_for b.knobs r (f w) ≡ false in
-        subst P (sym (visited.once j e lt_e same_e)) (waits_back b.knobs r row Waiting waits (none k d lt))) (λ j e lt_e _. not_r j e lt_e)));
+          (λ k d lt same _.
+          let is : get_or b.rows k d ≡ row = visited.once k d lt same in
+          let P : Row → Type 0 = λ r. partner b.knobs new (f r) ≡ None in
+          subst P (sym is) (find_nothing (waits_for b.knobs (f row)) new (all_changed (λ w. waits_for b.knobs (f row) w ≡ false) test f b.rows
+          (λ j e lt_e same_e. rw same_e refl) (λ j e lt_e _. none j e lt_e))))
+          (λ k d lt other waits.
+          let r = get_or b.rows k d in
+          let not_r = find_none (waits_for b.knobs r) b.rows (s.waiting k d lt waits) in
+          find_nothing (waits_for b.knobs r) new (all_changed (λ w. waits_for b.knobs r w ≡ false) test f b.rows
+          (λ j e lt_e same_e.
+          let P : Row → Type 0 = λ w. waits_for b.knobs r (f w) ≡ false in
+          subst P (sym (visited.once j e lt_e same_e)) (waits_back b.knobs r row Waiting waits (none k d lt))) (λ j e lt_e _. not_r j e lt_e)));
       items = all_changed (λ r. (number : ℕ) → r.state ≡ Merged number → (d : DupRow) × IsDupOf b.knobs b.dups r number d) test f b.rows
-        (λ k d lt same number merged. cc) (λ k d lt _. s.items k d lt);
+          (λ k d lt same number merged. cc) (λ k d lt _. s.items k d lt);
       dups_rise = s.dups_rise;
       places = s.places;
       numbers = s.numbers;
       trees = s.trees;
       limit = λ k d lt.
-        let e = get_or b.dups k d in
-        let p : Row → Bool = λ r. merged_into e.number r.state in
-        let fewer = count_map_le p (λ r. if test r then f r else r) b.rows (λ j x lt_x.
+          let e = get_or b.dups k d in
+          let p : Row → Bool = λ r. merged_into e.number r.state in
+          let fewer = count_map_le p (λ r. if test r then f r else r) b.rows (λ j x lt_x.
           let r = get_or b.rows j x in
           cond_both (test r) (f r) r (λ y. p y ≡ true → p r ≡ true) (λ _ into. absurd (false≢true into)) (λ _ into. into)) in
-        omega (arith, fewer, s.limit k d lt);
+          omega (arith, fewer, s.limit k d lt);
     }
