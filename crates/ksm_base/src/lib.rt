@@ -10,6 +10,7 @@ mod page;
 mod reply;
 mod row;
 mod shape;
+mod worked;
 
 pub use command::Command;
 pub use counters::Counters;
