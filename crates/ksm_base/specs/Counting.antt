@@ -1,5 +1,5 @@
 -- The counters, counted from the rows and dup rows as they are: names of admin-guide/mm/ksm; what each counts is own.
-use Rattle.std.specs.Prelude.{ℕ, ◌-◌, Bool, ◌&&◌, ◌||◌, not, nat_lt, nat_le, List, count_by}
+use Rattle.std.specs.Prelude.{ℕ, ◌+◌, ◌-◌, Bool, ◌&&◌, ◌||◌, not, nat_lt, nat_le, List, count_by}
 use Rattle.std.specs.List.{list_all}
 use Rattle.ksm_base.specs.declared.row.Row.{Row}
 use Rattle.ksm_base.specs.declared.row.DupRow.{DupRow}
@@ -43,3 +43,11 @@ counters_from rows dups passes =
 -- the counters of a state
 abbrev pub counters_of : BookState → Counters
 counters_of b = counters_from b.rows b.dups b.passes
+
+-- how many rows the scan visits (own)
+abbrev pub mergeable_count : List Row → ℕ
+mergeable_count rows = count_by (λ r. r.mergeable) rows
+
+-- how many pages the counters of pages tell of (own)
+abbrev pub pages_told : Counters → ℕ
+pages_told c = c.shared + c.sharing + c.unshared + c.volatile

@@ -5,7 +5,7 @@ mod command;
 mod counters;
 mod fault;
 mod knobs;
-mod laws;
+pub mod laws;
 mod page;
 mod reply;
 mod row;
