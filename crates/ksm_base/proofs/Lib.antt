@@ -7,3 +7,5 @@ pub mod SoundPair
 pub mod SoundScan
 pub mod SoundKnobs
 pub mod SoundSteps
+pub mod Replays
+pub mod Visits

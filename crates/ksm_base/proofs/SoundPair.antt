@@ -11,10 +11,10 @@ use Rattle.ksm_base.specs.declared.row.PageState.{PageState}
 use Rattle.ksm_base.specs.declared.row.PageState.TheVariants.{Private, Waiting, Merged}
 use Rattle.ksm_base.specs.declared.row.Row.{Row}
 use Rattle.ksm_base.specs.declared.row.DupRow.{DupRow}
-use Rattle.ksm_base.specs.Rows.{same_page, private_state, waiting_state, merged_into, item_count, is_stale, has_items, with_dup, change_rows}
+use Rattle.ksm_base.specs.Rows.{same_page, private_state, waiting_state, merged_into, item_count, is_stale, has_items, with_dup, change_rows, dup_numbered}
 use Rattle.ksm_base.specs.State.{BookState, tree_of, place_count}
 use Rattle.ksm_base.specs.Visit.{waits_for, partner, empty_place, chosen_place, new_place, made_dup}
-use Rattle.ksm_base.specs.Sound.{dup_numbered, IsDupOf, IsSound}
+use Rattle.ksm_base.specs.Sound.{IsDupOf, IsSound}
 use Rattle.ksm_base.proofs.Edits.{find_nothing, find_passes, find_filter, find_over, find_all, count_map_le, count_change_le, count_either_le, count_none}
 use Rattle.ksm_base.proofs.Orders.{ordered_change, one_of_each_page, one_of_each_place, one_of_page, dups_parted, elsewhere, dups_with, all_with_dup}
 use Rattle.ksm_base.proofs.SoundEdits.{waiting_not_private, item_of_dup, dup_has_items}

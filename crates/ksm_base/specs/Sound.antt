@@ -1,17 +1,13 @@
 -- What is true of every state of the book, whatever frames there are. (own)
-use Rattle.std.specs.Prelude.{◌≡◌, ℕ, ◌<◌, ◌≤◌, ◌^◌, ◌==◌, true, false, List, find, All, Option, Some, None}
+use Rattle.std.specs.Prelude.{◌≡◌, ℕ, ◌<◌, ◌≤◌, ◌^◌, true, false, List, All, Some, None}
 use Rattle.ksm_base.specs.declared.row.PageState.TheVariants.{Merged}
 use Rattle.ksm_base.specs.declared.row.Row.{Row}
 use Rattle.ksm_base.specs.declared.row.DupRow.{DupRow}
 use Rattle.ksm_base.specs.declared.knobs.Knobs.{Knobs}
 use Rattle.ksm_base.specs.Values.{IsShape}
-use Rattle.ksm_base.specs.Rows.{InPageOrder, InPlaceOrder, private_state, waiting_state, item_count}
+use Rattle.ksm_base.specs.Rows.{InPageOrder, InPlaceOrder, private_state, waiting_state, item_count, dup_numbered}
 use Rattle.ksm_base.specs.State.{BookState, place_count, tree_of}
 use Rattle.ksm_base.specs.Visit.{partner}
-
--- the dup with a number
-abbrev pub dup_numbered : ℕ → List DupRow → Option DupRow
-dup_numbered number dups = find (λ d. d.number == number) dups
 
 -- each knob is in its range
 pub record AreKnobs (knobs : Knobs) : Type 0 where
