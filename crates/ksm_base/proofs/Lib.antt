@@ -9,3 +9,5 @@ pub mod SoundKnobs
 pub mod SoundSteps
 pub mod Replays
 pub mod Visits
+pub mod RowCounts
+pub mod SoundCounts

@@ -1,5 +1,6 @@
 -- Journals in two parts, one after the other.
 use Rattle.std.proofs.Common.{◌≡◌, List, [], ◌∷◌, ◌++◌, refl}
+use Rattle.std.proofs.lemmas.List.{take-append-drop}
 use Rattle.ksm_base.specs.State.{BookState}
 use Rattle.ksm_base.specs.Apply.{after}
 use Rattle.ksm_base.specs.Journal.{Entry, replay, AreAnswers}
@@ -21,3 +22,8 @@ answers_later b (e ∷ first) later h = answers_later (after b e.0 e.1) first la
 pub answers_both : (b : BookState) (first later : List Entry) → AreAnswers b first → AreAnswers (replay b first) later → AreAnswers b (first ++ later)
 answers_both b [] later h k = k
 answers_both b (e ∷ first) later h k = (h.0, answers_both (after b e.0 e.1) first later h.1 k)
+
+-- the answers of the first entries
+pub answers_take : (b : BookState) (n : ℕ) (journal : List Entry) → AreAnswers b journal → AreAnswers b (take n journal)
+answers_take b n journal h =
+    answers_first b (take n journal) (drop n journal) (subst (AreAnswers b) (sym (take-append-drop n journal)) h)

@@ -117,7 +117,7 @@ sound_reset b knobs are_knobs empty alone s =
     }
 
 -- where the value is another one, no dup has items
-none_shared : (b : BookState) (same : Bool) → (not same && nat_lt 0 (shared_count b.rows b.dups)) ≡ false → same ≡ false → shared_count b.rows b.dups ≡ 0
+pub none_shared : (b : BookState) (same : Bool) → (not same && nat_lt 0 (shared_count b.rows b.dups)) ≡ false → same ≡ false → shared_count b.rows b.dups ≡ 0
 none_shared b same accepted other =
     let none : nat_lt 0 (shared_count b.rows b.dups) ≡ false = grind (arith, accepted, other) in
     omega (arith, ltb-false 0 (shared_count b.rows b.dups) none)
