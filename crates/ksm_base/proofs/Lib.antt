@@ -1,2 +1,12 @@
+pub mod Pages
+pub mod Edits
+pub mod Orders
+pub mod SoundEdits
+pub mod SoundVisit
+pub mod SoundPair
+pub mod SoundScan
+pub mod SoundKnobs
+pub mod SoundSteps
 pub mod Replays
 pub mod Visits
+pub mod Sums

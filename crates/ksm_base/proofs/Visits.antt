@@ -1,5 +1,5 @@
 -- Visits change no flag by which pages are chosen to be visited.
-use Rattle.std.proofs.Common.{◌≡◌, ℕ, zero, suc, Bool, true, List, [], ◌∷◌, map, Option, Some, None, refl, sym, ◌∙◌}
+use Rattle.std.proofs.Common.{◌≡◌, ℕ, zero, suc, Bool, true, List, [], ◌∷◌, map, Option, Some, None, refl, ◌∙◌}
 use Rattle.std.specs.Prelude.{◌||◌, if◌then◌else◌}
 use Rattle.std.proofs.lemmas.Bool.{cond_both}
 use Rattle.ksm_base.specs.declared.row.PageState.TheVariants.{Private, Waiting, Merged}
@@ -7,7 +7,7 @@ use Rattle.ksm_base.specs.declared.row.Row.{Row}
 use Rattle.ksm_base.specs.declared.row.DupRow.{DupRow}
 use Rattle.ksm_base.specs.Rows.{same_page, change_rows, change_row, settled, merged_state}
 use Rattle.ksm_base.specs.State.{BookState, place_count, with_none_waiting, pass_ended}
-use Rattle.ksm_base.specs.Visit.{next_row, best_dup, partner, pass_ended_at_last, pass_begun, visit_begun, new_place, made_dup, paired, handled, row_visited, visit_of, visits}
+use Rattle.ksm_base.specs.Visit.{next_row, best_dup, partner, pass_ended_at_last, visit_begun, new_place, made_dup, paired, handled, row_visited, visit_of, visits}
 
 -- the flags of rows, in order
 abbrev pub flags : List Row → List Bool

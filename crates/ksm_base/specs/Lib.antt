@@ -7,6 +7,7 @@ pub mod Refusals
 pub mod Answers
 pub mod Apply
 pub mod Journal
+pub mod Sound
 pub mod Reading
 pub mod Worked
 pub mod WorkedMerging
