@@ -17,7 +17,7 @@ pub fn a_refusal_keeps_the_state()
     ensures { (b : BookState) (command : Command) (fault : Fault) → after b command (Err fault) ≡ b }
 {}
 
-/// Want of memory is never an answer by itself.
+/// Want of memory is no answer that the definitions allow, so no legal journal has an entry of it.
 pub fn memory_is_no_answer()
     ensures { (b : BookState) (command : Command) → IsAnswer b command (Err Fault.Memory) → ⊥ }
 {}
