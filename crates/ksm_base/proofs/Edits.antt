@@ -114,11 +114,3 @@ module _ {X : Type 0} (p : X → Bool) where
       let induction = counts_one xs in
       All-cons (λ y. p y ≡ true → 0 < count_by p (x ∷ xs)) x xs (λ passes. grind (arith, count_more, passes))
       (λ k d lt passes. let rest = induction k d lt passes in grind (arith, count_more, rest))
-
-  -- where each element that passes does so by one of two tests
-  pub count_le_both : (q s : X → Bool) (xs : List X) → ((x : X) → p x ≡ true → (q x || s x) ≡ true) → count_by p xs ≤ count_by q xs + count_by s xs
-  count_le_both q s [] either = omega arith
-  count_le_both q s (x ∷ xs) either =
-      let induction = count_le_both q s xs either in
-      let here = either x in
-      grind (arith, count_more, here, induction)

@@ -11,3 +11,4 @@ pub mod Replays
 pub mod Visits
 pub mod RowCounts
 pub mod SoundCounts
+pub mod Sums

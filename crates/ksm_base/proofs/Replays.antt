@@ -1,6 +1,5 @@
 -- Journals in two parts, one after the other.
-use Rattle.std.proofs.Common.{◌≡◌, List, [], ◌∷◌, ◌++◌, refl}
-use Rattle.std.proofs.lemmas.List.{take-append-drop}
+use Rattle.std.proofs.Common.{◌≡◌, ℕ, List, [], ◌∷◌, ◌++◌, take, drop, take-append-drop, refl, sym, subst}
 use Rattle.ksm_base.specs.State.{BookState}
 use Rattle.ksm_base.specs.Apply.{after}
 use Rattle.ksm_base.specs.Journal.{Entry, replay, AreAnswers}
@@ -23,7 +22,6 @@ pub answers_both : (b : BookState) (first later : List Entry) → AreAnswers b f
 answers_both b [] later h k = k
 answers_both b (e ∷ first) later h k = (h.0, answers_both (after b e.0 e.1) first later h.1 k)
 
--- the answers of the first entries
-pub answers_take : (b : BookState) (n : ℕ) (journal : List Entry) → AreAnswers b journal → AreAnswers b (take n journal)
-answers_take b n journal h =
-    answers_first b (take n journal) (drop n journal) (subst (AreAnswers b) (sym (take-append-drop n journal)) h)
+-- the first entries of a journal have the answers that they had
+pub answers_take : (b : BookState) (journal : List Entry) (n : ℕ) → AreAnswers b journal → AreAnswers b (take n journal)
+answers_take b journal n h = answers_first b (take n journal) (drop n journal) (subst (AreAnswers b) (sym (take-append-drop n journal)) h)

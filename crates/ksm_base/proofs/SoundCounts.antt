@@ -1,9 +1,8 @@
 -- What a sound book's counts and searches tell.
-use Rattle.std.proofs.Common.{◌≡◌, ℕ, zero, suc, ◌+◌, ◌-◌, ◌<◌, ◌≤◌, Bool, true, false, List, [], ◌∷◌, length, get_or, map, Some, None, inl, inr, refl, sym, ap, ◌∙◌, subst, arith}
-use Rattle.std.specs.Prelude.{◌==◌, ◌&&◌, ◌||◌, nat_lt, All, find, count_by, bytes_eq, not, if◌then◌else◌}
-use Rattle.std.proofs.lemmas.Bool.{cases_Bool, and_parts, both_ways, eqb-true, eq-eqb, ne_eqb, ltb-true, lt-ltb, or_left, or_right}
+use Rattle.std.proofs.Common.{◌≡◌, ℕ, ◌+◌, Bool, true, false, List, get_or, Some, None, inl, inr, refl, sym, ◌∙◌, arith}
+use Rattle.std.specs.Prelude.{◌==◌, nat_lt, All, not}
+use Rattle.std.proofs.lemmas.Bool.{cases_Bool, both_ways, eqb-true, eq-eqb}
 use Rattle.std.proofs.lemmas.Bool.Decides.{nat_tests}
-use Rattle.std.proofs.lemmas.List.Elements.{All-head, All-tail}
 use Rattle.ksm_base.specs.declared.page.GuestPage.{GuestPage}
 use Rattle.ksm_base.specs.declared.row.PageState.{PageState}
 use Rattle.ksm_base.specs.declared.row.PageState.TheVariants.{Private, Waiting, Merged}
@@ -11,16 +10,16 @@ use Rattle.ksm_base.specs.declared.row.Row.{Row}
 use Rattle.ksm_base.specs.declared.row.DupRow.{DupRow}
 use Rattle.ksm_base.specs.declared.command.Command.TheVariants.{SetAcross, SetLimit}
 use Rattle.ksm_base.specs.declared.fault.Fault.TheVariants.{SharedPages, BadValue}
-use Rattle.ksm_base.specs.Rows.{same_page, row_at, InPageOrder, InPlaceOrder, private_state, waiting_state, merged_state, merged_into, item_count, is_stale, has_items, change_row, change_rows, with_dup}
-use Rattle.ksm_base.specs.State.{BookState, tree_of}
-use Rattle.ksm_base.specs.Visit.{waits_for, partner, made_dup}
-use Rattle.ksm_base.specs.Counting.{shared_count, merged_count, mergeable_count, pages_told, counters_of}
+use Rattle.ksm_base.specs.Rows.{same_page, row_at, InPageOrder, waiting_state, merged_state, merged_into, item_count, is_stale, has_items, change_row}
+use Rattle.ksm_base.specs.State.{BookState}
+use Rattle.ksm_base.specs.Visit.{waits_for, partner}
+use Rattle.ksm_base.specs.Counting.{shared_count}
 use Rattle.ksm_base.specs.Refusals.{is_within, changes_while_shared, refusal}
 use Rattle.ksm_base.specs.Sound.{IsSound}
-use Rattle.ksm_base.proofs.Edits.{find_none, find_passes, find_all, count_more, count_le_both, count_none, none_counted}
-use Rattle.ksm_base.proofs.Orders.{pairs_head, pairs_tail, one_of_each_page}
+use Rattle.ksm_base.proofs.Edits.{find_none, find_passes, find_all, none_counted}
+use Rattle.ksm_base.proofs.Orders.{one_of_each_page}
 use Rattle.ksm_base.proofs.RowCounts.{count_change_row}
-use Rattle.ksm_base.proofs.SoundPair.{WaitsFor, waits_tells, tells_waits}
+use Rattle.ksm_base.proofs.SoundPair.{waits_tells, tells_waits}
 use Rattle.ksm_base.proofs.SoundKnobs.{refused_none, none_shared}
 
 -- a row that isn't merged is no item
@@ -80,78 +79,3 @@ pub limit_unshares : (b : BookState) (v : ℕ) → refusal b (SetLimit v) ≡ No
 limit_unshares b v accepted other =
     let second = (refused_none (not (is_within 2 1024 v)) BadValue _ accepted).1 in
     none_shared b (v == b.knobs.max_page_sharing) (refused_none (changes_while_shared b b.knobs.max_page_sharing v) SharedPages None second).0 other
-
-abbrev one_if : Bool → ℕ
-one_if test = if test then 1 else 0
-
-has_more : (r : Row) (rs : List Row) (d : DupRow) → has_items (r ∷ rs) d ≡ true → (has_items rs d || merged_into d.number r.state) ≡ true
-has_more r rs d has =
-    let more = count_more (λ x. merged_into d.number x.state) r rs in
-    elim (cases_Bool (merged_into d.number r.state)) [
-      | inl item ↦ or_right (has_items rs d) (merged_into d.number r.state) item
-      | inr other ↦
-          let some = ltb-true 0 (item_count (r ∷ rs) d) has in
-          let none : one_if (merged_into d.number r.state) ≡ 0 = rw other refl in
-          or_left (has_items rs d) (merged_into d.number r.state) (lt-ltb 0 (item_count rs d) (omega (arith, more, some, none)))
-    ]
-
--- there are no more dups with items than merged rows
-module _ (dups : List DupRow) (rise : InPlaceOrder dups) where
-  one_numbered : (number : ℕ) (ds : List DupRow) → InPlaceOrder ds → count_by (λ d. number == d.number) ds ≤ 1
-  one_numbered number [] up = omega arith
-  one_numbered number (d ∷ ds) up =
-      let p : DupRow → Bool = λ e. number == e.number in
-      let more = count_more p d ds in
-      elim (cases_Bool (number == d.number)) [
-        | inl same ↦
-            let none = count_none p ds (λ k e lt.
-            let other = (up 0 (suc k) e (omega arith) (omega arith)).1 in
-            let is : number ≡ d.number = eqb-true number d.number same in
-            rw is other) in
-            grind (arith, more, same, none)
-        | inr other ↦
-            let rest = one_numbered number ds (pairs_tail (λ x y. (x.place < y.place) × ((x.number == y.number) ≡ false)) d ds up) in
-            grind (arith, more, other, rest)
-      ]
-
-  items_le_one : (state : PageState) → count_by (λ d. merged_into d.number state) dups ≤ (if merged_state state then 1 else 0)
-  items_le_one Private = rw (count_none (λ _. false) dups (λ k d lt. refl)) (omega arith)
-  items_le_one Waiting = rw (count_none (λ _. false) dups (λ k d lt. refl)) (omega arith)
-  items_le_one (Merged number) = one_numbered number dups rise
-
-  pub shared_le_merged : (rows : List Row) → shared_count rows dups ≤ merged_count rows
-  shared_le_merged [] = rw (count_none (has_items []) dups (λ k d lt. refl)) (omega arith)
-  shared_le_merged (r ∷ rs) =
-      let induction = shared_le_merged rs in
-      let more = count_more (λ x. merged_state x.state) r rs in
-      let here = items_le_one r.state in
-      let parts = count_le_both (has_items (r ∷ rs)) (has_items rs) (λ d. merged_into d.number r.state) dups (has_more r rs) in
-      omega (arith, induction, more, here, parts)
-
--- each kind of a row, in which at most the private ones are not mergeable
-row_told : (state : PageState) (mergeable : Bool) → (private_state state ≡ false → mergeable ≡ true) →
-    one_if (merged_state state) + one_if (waiting_state state) + one_if (mergeable && private_state state) ≡ one_if mergeable
-row_told Private true h = refl
-row_told Private false h = refl
-row_told Waiting mergeable h = rw (h refl) refl
-row_told (Merged number) mergeable h = rw (h refl) refl
-
-rows_told : (rows : List Row) → All (λ r. private_state r.state ≡ false → r.mergeable ≡ true) rows →
-    merged_count rows + count_by (λ r. waiting_state r.state) rows + count_by (λ r. r.mergeable && private_state r.state) rows ≡ mergeable_count rows
-rows_told [] taken = refl
-rows_told (r ∷ rs) taken =
-    let P : Row → Type 0 = λ x. private_state x.state ≡ false → x.mergeable ≡ true in
-    let here = row_told r.state r.mergeable (All-head P r rs taken) in
-    let induction = rows_told rs (All-tail P r rs taken) in
-    let merged = count_more (λ x. merged_state x.state) r rs in
-    let waiting = count_more (λ x. waiting_state x.state) r rs in
-    let volatile = count_more (λ x. x.mergeable && private_state x.state) r rs in
-    let all = count_more (λ x. x.mergeable) r rs in
-    omega (arith, here, induction, merged, waiting, volatile, all)
-
--- the counters of pages add up to the mergeable pages
-pub counters_add_up : (b : BookState) → IsSound b → pages_told (counters_of b) ≡ mergeable_count b.rows
-counters_add_up b s =
-    let rows = rows_told b.rows s.mergeable in
-    let fewer = shared_le_merged b.dups s.dups_rise b.rows in
-    omega (arith, rows, fewer)

@@ -10,7 +10,7 @@ mod page;
 mod reply;
 mod row;
 mod shape;
-pub mod sound;
+mod sound;
 mod worked;
 
 pub use command::Command;
@@ -21,3 +21,4 @@ pub use page::{GuestPage, PAGE_WORDS, PageBytes};
 pub use reply::Reply;
 pub use row::{DupRow, PageState, Row};
 pub use shape::Shape;
+pub use sound::every_step_keeps_it_sound;

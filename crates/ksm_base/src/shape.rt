@@ -21,16 +21,11 @@ impl Shape {
     pub fn check(&self) -> bool
         ensures { IsTrue result ↔ IsShape self.now }
     {
-        1 <= self.nodes
-            && self.nodes <= 4
-            && 1 <= self.frames_per_node
-            && self.frames_per_node <= 256
-            && 1 <= self.passes
-            && self.passes <= 16
-            && 1 <= self.last_generation
-            && self.last_generation <= 1 << 40
-            && 1 <= self.tries
-            && self.tries <= 64
+        (1..=4).contains(&self.nodes)
+            && (1..=256).contains(&self.frames_per_node)
+            && (1..=16).contains(&self.passes)
+            && (1..=1 << 40).contains(&self.last_generation)
+            && (1..=64).contains(&self.tries)
     }
 
     /// How many frames there are on all nodes together, and as many places: 1 to 1,024.
