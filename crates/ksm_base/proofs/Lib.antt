@@ -12,3 +12,4 @@ pub mod Visits
 pub mod RowCounts
 pub mod SoundCounts
 pub mod Sums
+pub mod LastStored
