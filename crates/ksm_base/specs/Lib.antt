@@ -7,4 +7,10 @@ pub mod Refusals
 pub mod Answers
 pub mod Apply
 pub mod Journal
+pub mod Sound
+pub mod Reading
 pub mod Worked
+pub mod WorkedMerging
+pub mod WorkedKnobs
+pub mod WorkedFrames
+pub mod WorkedSelftests
