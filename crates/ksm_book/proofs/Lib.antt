@@ -8,3 +8,4 @@ pub mod Maps
 pub mod Taken
 pub mod Ranks
 pub mod Laying
+pub mod Found

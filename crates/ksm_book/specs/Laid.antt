@@ -6,6 +6,7 @@ use Rattle.ksm_base.specs.declared.page.GuestPage.{GuestPage}
 use Rattle.ksm_base.specs.declared.row.Row.{Row}
 use Rattle.ksm_base.specs.declared.row.DupRow.{DupRow}
 use Rattle.ksm_base.specs.Rows.{merged_state, row_at}
+use Rattle.ksm_base.specs.State.{BookState}
 use Rattle.ksm_base.specs.Values.{IsShape}
 use Rattle.frame_table.specs.Named.{KeeperView}
 use Rattle.ksm_book.specs.Placement.{Placed}
@@ -21,6 +22,10 @@ pub record Lay : Type 0 where
   pub knobs : Knobs
   pub next : ℕ
   pub keeper : KeeperView
+
+-- the state of the book, by its layout, the cursor and the passes ended
+abbrev pub state_of : Lay → Option GuestPage → ℕ → BookState
+state_of lay cursor passes = record { shape = lay.shape; rows = lay.rows; dups = lay.dups; knobs = lay.knobs; cursor = cursor; passes = passes; next = lay.next }
 
 -- rows and dups lie lawfully in the frames, and no more dups were made than lives were spent
 pub record IsLaid (shape : Shape) (listed : Listed) (dups : List DupRow) (knobs : Knobs) (next : ℕ) (keeper : KeeperView) : Type 0 where

@@ -4,3 +4,4 @@ pub mod Keeping
 pub mod Listed
 pub mod Plain
 pub mod Laid
+pub mod Whole

@@ -89,6 +89,16 @@ impl Layout {
         &self.rows
     }
 
+    /// The row of a page.
+    pub fn row(&self, page: GuestPage) -> Option<Row>
+        ensures { result ≡ row_at page self.now.rows }
+    {
+        match self.rows.find(page) {
+            None => None,
+            Some(held) => Some(held.row),
+        }
+    }
+
     /// The bytes of a page, loaded from the words of its frame.
     pub fn read(&mut self, table: &FrameTable, page: GuestPage) -> Option<PageBytes>
         requires own { self.old.keeper.table ≡ table.now }

@@ -6,3 +6,4 @@ mod frames;
 mod layout;
 mod row;
 mod rows;
+mod state;
