@@ -6,12 +6,16 @@ use mathlib.Core.Logic.{dite}
 use native.Mathlib.Decide.{ℕ_discrete}
 use Rattle.ksm_base.specs.declared.page.GuestPage.{GuestPage}
 use Rattle.ksm_base.specs.declared.row.Row.{Row}
-use Rattle.ksm_base.specs.Rows.{comes_before, same_page, row_at, InPageOrder, with_row, without_page, change_row}
+use Rattle.ksm_base.specs.Rows.{comes_before, same_page, row_at, InPageOrder, with_row, without_page, change_row, change_rows}
 use Rattle.ksm_book.specs.Listed.{Listed, IsListed, rank, StandsAt}
 use Rattle.ksm_book.specs.Placement.{row_in, no_row}
 use Rattle.ksm_book.specs.Plain.{IsAt}
 use Rattle.ksm_book.proofs.Pages.{not_both, before_irrefl, same_page_eq, same_page_refl}
-use Rattle.ksm_book.proofs.Lists.{pairs_tail, filter_none, with_row_at, ordered_with, without_found, ordered_without}
+use Rattle.ksm_book.proofs.Lists.{pairs_tail, filter_none, with_row_at, ordered_with, ordered_map, without_found, ordered_without}
+use Rattle.std.proofs.Common.{map}
+use Rattle.std.proofs.lemmas.List.{length-map}
+use Rattle.std.proofs.lemmas.Bool.{cond_both}
+use Rattle.std.specs.Prelude.{if◌then◌else◌}
 use Rattle.std.proofs.lemmas.List.Edits.{length-insert, length-remove, get_or-insert_at}
 
 same_before : (p q x : GuestPage) → comes_before p q ≡ true → same_page q x ≡ true → comes_before p x ≡ true
@@ -125,3 +129,10 @@ remove_inserted [] zero x le = refl
 remove_inserted [] (suc i) x le = absurd (omega arith)
 remove_inserted (z ∷ zs) zero x le = refl
 remove_inserted (z ∷ zs) (suc i) x le = ap (λ l. z ∷ l) (remove_inserted zs i x (omega arith))
+
+-- changes that keep the pages
+pub listed_map : (f : Row → Row) → ((r : Row) → (f r).page ≡ r.page) → (rows : List Row) (frames : List ℕ) → IsListed rows frames → IsListed (map f rows) frames
+listed_map f keeps rows frames h = record { rise = ordered_map f keeps rows h.rise; paired = h.paired ∙ sym (length-map rows f) }
+
+pub listed_change : (test : Row → Bool) (f : Row → Row) → ((r : Row) → (f r).page ≡ r.page) → (rows : List Row) (frames : List ℕ) → IsListed rows frames → IsListed (change_rows test f rows) frames
+listed_change test f keeps rows frames h = listed_map (λ r. if test r then f r else r) (λ r. cond_both (test r) (f r) r (λ x. x.page ≡ r.page) (λ _. keeps r) (λ _. refl)) rows frames h

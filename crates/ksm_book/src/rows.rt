@@ -146,4 +146,166 @@ impl Rows {
         let _ = self.rows.remove(at);
         let _ = self.frames.remove(at);
     }
+
+    /// The row that is visited next: the least mergeable one after the cursor.
+    pub fn next(&self, cursor: Option<GuestPage>) -> Option<Row>
+        ensures { result ≡ row_to_visit cursor self.now.rows }
+    {
+        next_row(&self.rows, cursor).copied()
+    }
+
+    /// The row that waits for this one.
+    pub fn partner(&self, knobs: &Knobs, row: &Row) -> Option<Row>
+        ensures { result ≡ row_waiting knobs.now self.now.rows row.now }
+    {
+        partner(&self.rows, knobs, row).copied()
+    }
+
+    /// The first item of the dup with this number.
+    pub fn item(&self, number: u64) -> Option<Row>
+        ensures { result ≡ find (λ r. merged_into number r.state) self.now.rows }
+    {
+        first_item(&self.rows, number).copied()
+    }
+
+    pub fn has_guest(&self, guest: u16) -> bool
+        ensures { result ≡ list_any (is_of_guest guest) self.now.rows }
+    {
+        any_of(&self.rows, guest)
+    }
+
+    pub fn any_mergeable(&self) -> bool
+        ensures { result ≡ list_any (λ r. r.mergeable) self.now.rows }
+    {
+        any_mergeable(&self.rows)
+    }
+
+    /// How many rows are merged into the dup with this number.
+    pub fn count_items(&self, number: u64) -> usize
+        ensures { result ≡ count_by (λ r. merged_into number r.state) self.now.rows }
+    {
+        count_items(&self.rows, number)
+    }
+
+    pub fn count_merged(&self) -> usize
+        ensures { result ≡ count_by (λ r. merged_state r.state) self.now.rows }
+    {
+        count_merged(&self.rows)
+    }
+
+    pub fn count_waiting(&self) -> usize
+        ensures { result ≡ count_by (λ r. waiting_state r.state) self.now.rows }
+    {
+        count_waiting(&self.rows)
+    }
+
+    /// How many rows are mergeable and Private.
+    pub fn count_volatile(&self) -> usize
+        ensures { result ≡ count_by (λ r. r.mergeable && private_state r.state) self.now.rows }
+    {
+        count_volatile(&self.rows)
+    }
+
+    /// No row waits any more.
+    pub fn settle_all(&mut self)
+        ensures rows { self.new.rows ≡ map as_settled self.old.rows }
+        ensures frames { self.new.frames ≡ self.old.frames }
+    {
+        settle_all(&mut self.rows);
+    }
+
+    /// All rows of a guest become mergeable.
+    pub fn make_mergeable(&mut self, guest: u16)
+        ensures rows { self.new.rows ≡ change_rows (is_of_guest guest) (λ r. record r { mergeable = true }) self.old.rows }
+        ensures frames { self.new.frames ≡ self.old.frames }
+    {
+        make_mergeable(&mut self.rows, guest);
+    }
+
+    /// Every row becomes Private and not unchanged.
+    pub fn unshare_all(&mut self)
+        ensures rows { self.new.rows ≡ map as_unshared self.old.rows }
+        ensures frames { self.new.frames ≡ self.old.frames }
+    {
+        unshare_all(&mut self.rows);
+    }
+}
+
+fn next_row(rows: &[Row], cursor: Option<GuestPage>) -> Option<&Row>
+    ensures { option_copied result ≡ row_to_visit cursor rows.now }
+{
+    rows.iter()
+        .find(|r| r.mergeable && after_cursor(cursor, r.page))
+}
+
+fn partner<'a>(rows: &'a [Row], knobs: &Knobs, row: &Row) -> Option<&'a Row>
+    ensures { option_copied result ≡ row_waiting knobs.now rows.now row.now }
+{
+    rows.iter().find(|r| waits_for(knobs, row, r))
+}
+
+fn first_item(rows: &[Row], number: u64) -> Option<&Row>
+    ensures { option_copied result ≡ find (λ r. merged_into number r.state) rows.now }
+{
+    rows.iter().find(|r| is_item(r, number))
+}
+
+fn any_of(rows: &[Row], guest: u16) -> bool
+    ensures { result ≡ list_any (is_of_guest guest) rows.now }
+{
+    rows.iter().any(|r| is_of(r, guest))
+}
+
+fn any_mergeable(rows: &[Row]) -> bool
+    ensures { result ≡ list_any (λ r. r.mergeable) rows.now }
+{
+    rows.iter().any(|r| r.mergeable)
+}
+
+fn count_items(rows: &[Row], number: u64) -> usize
+    ensures { result ≡ count_by (λ r. merged_into number r.state) rows.now }
+{
+    rows.iter().filter(|r| is_item(r, number)).count()
+}
+
+fn count_merged(rows: &[Row]) -> usize
+    ensures { result ≡ count_by (λ r. merged_state r.state) rows.now }
+{
+    rows.iter().filter(|r| is_merged(r)).count()
+}
+
+fn count_waiting(rows: &[Row]) -> usize
+    ensures { result ≡ count_by (λ r. waiting_state r.state) rows.now }
+{
+    rows.iter().filter(|r| is_waiting(r)).count()
+}
+
+fn count_volatile(rows: &[Row]) -> usize
+    ensures { result ≡ count_by (λ r. r.mergeable && private_state r.state) rows.now }
+{
+    rows.iter().filter(|r| r.mergeable && is_private(r)).count()
+}
+
+fn settle_all(rows: &mut Vec<Row>)
+    ensures { rows.new.items ≡ map as_settled rows.old.items }
+{
+    for row in rows.iter_mut() {
+        *row = settled(*row);
+    }
+}
+
+fn make_mergeable(rows: &mut Vec<Row>, guest: u16)
+    ensures { rows.new.items ≡ change_rows (is_of_guest guest) (λ r. record r { mergeable = true }) rows.old.items }
+{
+    for row in rows.iter_mut() {
+        *row = with_mergeable(*row, guest);
+    }
+}
+
+fn unshare_all(rows: &mut Vec<Row>)
+    ensures { rows.new.items ≡ map as_unshared rows.old.items }
+{
+    for row in rows.iter_mut() {
+        *row = unshared(*row);
+    }
 }
