@@ -11,3 +11,4 @@ pub mod Laying
 pub mod Found
 pub mod Withdrawn
 pub mod Sharing
+pub mod Visiting

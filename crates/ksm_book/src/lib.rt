@@ -6,4 +6,5 @@ mod frames;
 mod layout;
 mod row;
 mod rows;
+mod scan;
 mod state;
