@@ -12,3 +12,4 @@ pub mod Found
 pub mod Withdrawn
 pub mod Sharing
 pub mod Visiting
+pub mod Pruning

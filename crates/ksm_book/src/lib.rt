@@ -3,6 +3,7 @@
 
 mod dups;
 mod frames;
+mod knobs;
 mod layout;
 mod row;
 mod rows;
