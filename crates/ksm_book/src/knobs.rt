@@ -13,9 +13,11 @@ use ksm_base::{Command, Fault, Knobs, Reply};
 impl State {
     /// Sets how many pages a scan visits.
     pub fn set_pages_to_scan(&mut self, pages: u32) -> Result<Reply, Fault>
-        ensures keeper { self.new.keeper ≡ self.old.keeper }
+        ensures own { self.new.keeper.table ≡ self.old.keeper.table }
         ensures answer { IsAnswerOrMemory self.old.state (Command.SetPagesToScan pages) result }
         ensures state { self.new.state ≡ after self.old.state (Command.SetPagesToScan pages) result }
+        ensures frames { Does self.old.keeper self.new.keeper (nodes_got self.old.state result (Command.SetPagesToScan pages)) }
+        ensures shown { HasShown self.old.state self.old.keeper self.new.keeper result (Command.SetPagesToScan pages) }
     {
         if pages < 1 || pages > 1_000_000 {
             return Err(Fault::BadValue);
@@ -80,6 +82,25 @@ impl State {
             max_page_sharing: limit,
             ..knobs
         });
+        Ok(Reply::Done)
+    }
+
+    /// Sets whether the scan stands or runs.
+    pub fn set_run(&mut self, run: u32) -> Result<Reply, Fault>
+        ensures own { self.new.keeper.table ≡ self.old.keeper.table }
+        ensures answer { IsAnswerOrMemory self.old.state (Command.SetRun run) result }
+        ensures state { self.new.state ≡ after self.old.state (Command.SetRun run) result }
+        ensures frames { Does self.old.keeper self.new.keeper (nodes_got self.old.state result (Command.SetRun run)) }
+        ensures shown { HasShown self.old.state self.old.keeper self.new.keeper result (Command.SetRun run) }
+    {
+        if run > 2 {
+            return Err(Fault::BadValue);
+        }
+        if run == 2 {
+            return Err(Fault::Memory);
+        }
+        let knobs = self.layout.knobs();
+        self.layout.set_knobs(Knobs { run, ..knobs });
         Ok(Reply::Done)
     }
 }

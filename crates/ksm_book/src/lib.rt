@@ -1,6 +1,7 @@
 //! The book of page sharing: which pages there are, which of them are merged, and on which frames they lie.
 #![tactic(auto)]
 
+mod book;
 mod dups;
 mod frames;
 mod knobs;
@@ -9,3 +10,5 @@ mod row;
 mod rows;
 mod scan;
 mod state;
+
+pub use book::Book;

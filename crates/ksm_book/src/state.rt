@@ -186,9 +186,11 @@ impl State {
 
     /// All pages of a guest become mergeable.
     pub fn mergeable(&mut self, guest: u16) -> Result<Reply, Fault>
-        ensures keeper { self.new.keeper ≡ self.old.keeper }
+        ensures own { self.new.keeper.table ≡ self.old.keeper.table }
         ensures answer { IsAnswerOrMemory self.old.state (Command.Mergeable guest) result }
         ensures state { self.new.state ≡ after self.old.state (Command.Mergeable guest) result }
+        ensures frames { Does self.old.keeper self.new.keeper (nodes_got self.old.state result (Command.Mergeable guest)) }
+        ensures shown { HasShown self.old.state self.old.keeper self.new.keeper result (Command.Mergeable guest) }
     {
         if !self.layout.rows().has_guest(guest) {
             return Err(Fault::UnknownPage);
