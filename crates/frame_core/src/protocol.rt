@@ -4,7 +4,7 @@ ghost use Rattle.frame_core.specs.State.{opening};
 ghost use Rattle.frame_core.specs.Steps.{step, answer, after};
 ghost use Rattle.frame_core.specs.Trace.{run_of};
 ghost use Rattle.frame_core.specs.Ledger.{ledger_of, first_ledger};
-ghost use Rattle.frame_core.specs.Knowing.{KeepsLedger};
+ghost use Rattle.frame_core.specs.Knowing.{LedgerTells, ChangesOwnView};
 ghost use Rattle.frame_core.specs.Safe.{IsSafe, GivenUnheld};
 
 use crate::event::{Event, Step};
@@ -52,8 +52,10 @@ impl Core {
     pub fn step(&mut self, event: Event) -> Step
         ensures answer { result ≡ answer (step self.old event) }
         ensures after { self.new ≡ after self.old (step self.old event) }
+        // a reader changes its own phase and nothing that another seat knows, the keeper what it knows itself
+        ensures views { ChangesOwnView self.old event self.new }
         // what the keeper knows tells where its steps are allowed, and follows them
-        ensures ledger { KeepsLedger self.old event result self.new }
+        ensures ledger { LedgerTells self.old event result self.new }
     {
         self.machine.step(event)
     }
