@@ -105,7 +105,8 @@ impl Frame {
         Step::Done(before)
     }
 
-    /// Exchanges the count for 0, where it is the keeper's own references: no reader can take one from then on.
+    /// Exchanges the count for 0, where it is the keeper's own references: no reader can take one from then
+    /// on.
     pub(crate) fn freeze(&mut self) -> Step
         ensures { Makes freeze_step self.old result self.new }
     {
@@ -227,7 +228,8 @@ impl Machine {
         }
     }
 
-    /// Whether the place names a frame that is stable in the life named. Such a place is not overwritten: its dup lives.
+    /// Whether the place names a frame that is stable in the life named. Such a place is not overwritten:
+    /// its dup lives.
     fn is_live(&self, place: Option<Life>) -> bool
         ensures { result ≡ is_live self.now.frames.items place }
     {

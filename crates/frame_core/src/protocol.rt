@@ -15,7 +15,8 @@ use ksm_base::{Fault, Shape};
 use std::alloc::Global;
 use std::marker::Model;
 
-/// The frame protocol as a pure machine: one keeper, and a seat for each pass. Contracts see it as its state, which keeps the rule of the protocol (own).
+/// The frame protocol as a pure machine: one keeper, and a seat for each pass. Contracts see it as its
+/// state, which keeps the rule of the protocol (own).
 #[derive(Drop)]
 pub struct Core {
     machine: Machine,
@@ -35,7 +36,8 @@ impl Model for Core {
 }
 
 impl Core {
-    /// The opening state: all words 0, all frames free, all places empty, all seats idle. The only error is `Fault::Memory`.
+    /// The opening state: all words 0, all frames free, all places empty, all seats idle. The only error is
+    /// `Fault::Memory`.
     pub fn open(alloc: Global, shape: Shape) -> Result<Core, Fault>
         requires { IsShape shape }
         ensures opening { IfOk result (λ core. core ≡ opening shape) }
@@ -88,7 +90,8 @@ impl Core {
     }
 }
 
-/// The core after these events, one after another; those that are not allowed are passed over. The only error is `Fault::Memory`.
+/// The core after these events, one after another; those that are not allowed are passed over. The only
+/// error is `Fault::Memory`.
 pub fn run(alloc: Global, shape: Shape, events: &[Event]) -> Result<Core, Fault>
     requires { IsShape shape }
     ensures state { IfOk result (λ core. core ≡ (run_of shape events.now).state) }
