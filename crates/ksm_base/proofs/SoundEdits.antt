@@ -29,7 +29,8 @@ pub record WaitsAs (old new : Row) : Type 0 where
 abbrev pub NoneWaitsTwice : Knobs → List Row → Type 0
 NoneWaitsTwice knobs rows = All (λ r. waiting_state r.state ≡ true → partner knobs rows r ≡ None) rows
 
-waits_less : (knobs : Knobs) (r r' w w' : Row) → WaitsAs r r' → WaitsAs w w' → waiting_state r'.state ≡ true → waits_for knobs r w ≡ false → waits_for knobs r' w' ≡ false
+waits_less : (knobs : Knobs) (r r' w w' : Row) → WaitsAs r r' → WaitsAs w w' → waiting_state r'.state ≡ true → waits_for knobs r w ≡ false
+    → waits_for knobs r' w' ≡ false
 waits_less knobs r r' w w' of_r of_w waits none =
     elim (cases_Bool (waiting_state w'.state)) [
       | inl both ↦
@@ -44,7 +45,8 @@ waits_less knobs r r' w w' of_r of_w waits none =
       | inr alone ↦ rw alone refl
     ]
 
-pub waiting_map : (knobs : Knobs) (f : Row → Row) (rows : List Row) → ((r : Row) → WaitsAs r (f r)) → NoneWaitsTwice knobs rows → NoneWaitsTwice knobs (map f rows)
+pub waiting_map : (knobs : Knobs) (f : Row → Row) (rows : List Row) → ((r : Row) → WaitsAs r (f r)) → NoneWaitsTwice knobs rows
+    → NoneWaitsTwice knobs (map f rows)
 waiting_map knobs f rows like alone =
     All-map (λ r. waiting_state r.state ≡ true → partner knobs (map f rows) r ≡ None) f rows
     (λ k d lt waits.
@@ -81,7 +83,8 @@ merged_not_private number Waiting merged = cc
 merged_not_private number (Merged n) merged = refl
 
 -- the dup of a row is that of a row with its home and bytes
-pub same_dup : (knobs : Knobs) (dups : List DupRow) (old new : Row) (number : ℕ) (dup : DupRow) → new.home ≡ old.home → new.bytes ≡ old.bytes → IsDupOf knobs dups old number dup → IsDupOf knobs dups new number dup
+pub same_dup : (knobs : Knobs) (dups : List DupRow) (old new : Row) (number : ℕ) (dup : DupRow) → new.home ≡ old.home → new.bytes ≡ old.bytes
+    → IsDupOf knobs dups old number dup → IsDupOf knobs dups new number dup
 same_dup knobs dups old new number dup home bytes h =
     record { stands = h.stands; tree = rw home h.tree; bytes = rw bytes h.bytes }
 
@@ -178,7 +181,8 @@ sound_with_row b row is_private home s =
     }
 
 -- a merged row is an item of its dup
-pub item_of_dup : (knobs : Knobs) (dups : List DupRow) (row : Row) (number : ℕ) (dup : DupRow) → row.state ≡ Merged number → IsDupOf knobs dups row number dup → merged_into dup.number row.state ≡ true
+pub item_of_dup : (knobs : Knobs) (dups : List DupRow) (row : Row) (number : ℕ) (dup : DupRow) → row.state ≡ Merged number
+    → IsDupOf knobs dups row number dup → merged_into dup.number row.state ≡ true
 item_of_dup knobs dups row number dup merged h =
     let passes = find_passes (λ d. d.number == number) dups dup h.stands in
     let same : dup.number ≡ number = eqb-true dup.number number passes in

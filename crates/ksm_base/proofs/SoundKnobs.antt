@@ -75,7 +75,8 @@ within low high v inside =
     let both = and_parts (nat_le low v) (nat_le v high) (not-false (is_within low high v) inside) in
     (leb-true low v both.0, leb-true v high both.1)
 
-pub sound_set_pages : (b : BookState) (v : ℕ) (reply : Reply) → refusal b (SetPagesToScan v) ≡ None → IsSound b → IsSound (effect b (SetPagesToScan v) reply)
+pub sound_set_pages : (b : BookState) (v : ℕ) (reply : Reply) → refusal b (SetPagesToScan v) ≡ None → IsSound b
+    → IsSound (effect b (SetPagesToScan v) reply)
 sound_set_pages b v reply accepted s =
     record {
       shape = s.shape;
@@ -117,7 +118,8 @@ sound_reset b knobs are_knobs empty alone s =
     }
 
 -- where the value is another one, no dup has items
-pub none_shared : (b : BookState) (same : Bool) → (not same && nat_lt 0 (shared_count b.rows b.dups)) ≡ false → same ≡ false → shared_count b.rows b.dups ≡ 0
+pub none_shared : (b : BookState) (same : Bool) → (not same && nat_lt 0 (shared_count b.rows b.dups)) ≡ false → same ≡ false
+    → shared_count b.rows b.dups ≡ 0
 none_shared b same accepted other =
     let none : nat_lt 0 (shared_count b.rows b.dups) ≡ false = grind (arith, accepted, other) in
     omega (arith, ltb-false 0 (shared_count b.rows b.dups) none)

@@ -86,7 +86,8 @@ next_row_visited b row s found =
     }
 
 module _ (b : BookState) (row : Row) (visited : IsVisited b row) (s : IsSound b) where
-  sound_placed : (w : Row) (place : Option ℕ) → partner b.knobs b.rows row ≡ Some w → new_place (place_count b.shape) b.rows b.dups ≡ place → IsSound (made_dup place b w row)
+  sound_placed : (w : Row) (place : Option ℕ) → partner b.knobs b.rows row ≡ Some w → new_place (place_count b.shape) b.rows b.dups ≡ place
+      → IsSound (made_dup place b w row)
   sound_placed w (Some place) waits chosen = sound_made b w row place (partner_pairs b w row s visited waits) (new_place_free b place s chosen) s
   sound_placed w None waits chosen = s
 

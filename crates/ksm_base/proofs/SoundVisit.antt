@@ -20,12 +20,15 @@ use Rattle.ksm_base.proofs.Pages.{same_page_sym}
 use Rattle.ksm_base.proofs.SoundEdits.{WaitsAs, waiting_map}
 
 -- what holds of the rows changed and of the others holds after a change
-pub all_changed : (P : Row → Type 0) (test : Row → Bool) (f : Row → Row) (rows : List Row) → All (λ r. test r ≡ true → P (f r)) rows → All (λ r. test r ≡ false → P r) rows → All P (change_rows test f rows)
+pub all_changed : (P : Row → Type 0) (test : Row → Bool) (f : Row → Row) (rows : List Row) → All (λ r. test r ≡ true → P (f r)) rows
+    → All (λ r. test r ≡ false → P r) rows → All P (change_rows test f rows)
 all_changed P test f rows changed others =
     All-map P (λ r. if test r then f r else r) rows (λ k d lt. let r = get_or rows k d in cond_both (test r) (f r) r P (changed k d lt) (others k d lt))
 
 -- after a change of states by which no row waits that did not, none waits twice
-pub waiting_changed : (knobs : Knobs) (test : Row → Bool) (f : Row → Row) (rows : List Row) → ((r : Row) → WaitsAs r (f r)) → All (λ r. waiting_state r.state ≡ true → partner knobs rows r ≡ None) rows → All (λ r. waiting_state r.state ≡ true → partner knobs (change_rows test f rows) r ≡ None) (change_rows test f rows)
+pub waiting_changed : (knobs : Knobs) (test : Row → Bool) (f : Row → Row) (rows : List Row) → ((r : Row) → WaitsAs r (f r))
+    → All (λ r. waiting_state r.state ≡ true → partner knobs rows r ≡ None) rows
+    → All (λ r. waiting_state r.state ≡ true → partner knobs (change_rows test f rows) r ≡ None) (change_rows test f rows)
 waiting_changed knobs test f rows like alone =
     waiting_map knobs (λ r. if test r then f r else r) rows
     (λ r. cond_both (test r) (f r) r (WaitsAs r) (λ _. like r) (λ _. record { page = refl; state = λ waits. waits; home = λ _. refl; bytes = λ _. refl })) alone
@@ -109,7 +112,8 @@ bytes_sym x y = same_from_decides (bytes_eq x y) (bytes_eq y x) (bytes_eq-Decide
 eqb_sym : (x y : ℕ) → (x == y) ≡ (y == x)
 eqb_sym x y = grind (arith, nat_tests)
 
-both_differ : (waits any same same' group group' content content' : Bool) → waits ≡ true → same ≡ same' → group ≡ group' → content ≡ content' → (waits && not same' && group' && content') ≡ false → (any && not same && group && content) ≡ false
+both_differ : (waits any same same' group group' content content' : Bool) → waits ≡ true → same ≡ same' → group ≡ group' → content ≡ content'
+    → (waits && not same' && group' && content') ≡ false → (any && not same && group && content) ≡ false
 both_differ waits any same same' group group' content content' is_true pages trees contents none = grind (arith, is_true, pages, trees, contents, none)
 
 -- of two rows of which one waits and isn't waited for by the other, the other isn't waited for by it
