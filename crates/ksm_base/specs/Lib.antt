@@ -13,4 +13,5 @@ pub mod Worked
 pub mod WorkedMerging
 pub mod WorkedKnobs
 pub mod WorkedFrames
+pub mod WorkedEdges
 pub mod WorkedSelftests

@@ -21,6 +21,8 @@ use Rattle.ksm_base.specs.Reading.{bytes_of, ticket_of, mappers_of}
 pub data Line : Type 0 where
   -- a command gives an answer
   gives : Command → Answer → Line
+  -- a command may not give an answer, and isn't given here
+  never : Command → Answer → Line
   -- the counters of the rows are these
   counts : Counters → Line
   -- a knob has this value
@@ -32,10 +34,12 @@ pub data Line : Type 0 where
   -- these pages are merged into the dup with items at a place, if one stands there
   maps : ℕ → Option (List GuestPage) → Line
 
--- a book plays a script: each answer is one that its command may have there, and each reading is what the state then shows
+-- a book plays a script: each answer is one that its command may have there, each that
+-- never comes is none, and each reading is what the state then shows
 abbrev pub Plays : BookState → List Line → Type 0
 Plays b [] = Unit {0}
 Plays b (gives command answer ∷ later) = IsAnswer b command answer × Plays (after b command answer) later
+Plays b (never command answer ∷ later) = (IsAnswer b command answer → ⊥) × Plays b later
 Plays b (counts counters ∷ later) = (counters_of b ≡ counters) × Plays b later
 Plays b (shows knob value ∷ later) = (knob b.knobs ≡ value) × Plays b later
 Plays b (reads page bytes ∷ later) = (bytes_of page b ≡ bytes) × Plays b later

@@ -12,6 +12,8 @@ ghost use Rattle.ksm_base.specs.Answers.{Answer, IsAnswer};
 ghost use Rattle.ksm_base.specs.Apply.{after};
 ghost use Rattle.ksm_base.specs.Visit.{visits};
 
+use crate::knobs::Knobs;
+
 /// A refused command keeps the state.
 pub fn a_refusal_keeps_the_state()
     ensures { (b : BookState) (command : Command) (fault : Fault) → after b command (Err fault) ≡ b }
@@ -40,4 +42,9 @@ pub fn the_counters_of_pages_add_up()
         → pages_told (counters_of b) ≡ mergeable_count b.rows }
     ensures published { (shape : Shape) (journal : List Entry) (n : ℕ) → IsShape shape → AreAnswers (opening shape) journal
         → pages_told (published shape journal n) ≡ mergeable_count (replay (opening shape) (take n journal)).rows }
+{}
+
+/// A book opens with the settings of `Knobs::DEFAULT`.
+pub fn a_book_opens_with_the_default_knobs()
+    ensures { (shape : Shape) → (opening shape).knobs ≡ Knobs.DEFAULT }
 {}

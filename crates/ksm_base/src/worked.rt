@@ -5,6 +5,7 @@ ghost use Rattle.ksm_base.specs.Worked.{Plays, shape};
 ghost use Rattle.ksm_base.specs.WorkedMerging;
 ghost use Rattle.ksm_base.specs.WorkedKnobs;
 ghost use Rattle.ksm_base.specs.WorkedFrames;
+ghost use Rattle.ksm_base.specs.WorkedEdges;
 ghost use Rattle.ksm_base.specs.WorkedSelftests;
 
 /// All counters start at zero.
@@ -130,6 +131,91 @@ pub fn held_dying_frame_is_not_given()
 /// Every command that needs a frame meets no free one.
 pub fn no_frame_everywhere()
     ensures { Plays (opening (shape 2 2)) WorkedFrames.no_frame_everywhere }
+{}
+
+/// Of two dups with as many items a page joins the one made first, wherever it stands.
+pub fn tie_goes_to_the_dup_made_first()
+    ensures { Plays (opening (shape 1 8)) WorkedEdges.tie_goes_to_the_dup_made_first }
+{}
+
+/// Waiting ends as a pass begins.
+pub fn waiting_ends_as_a_pass_begins()
+    ensures { Plays (opening (shape 1 4)) WorkedEdges.waiting_ends_as_a_pass_begins }
+{}
+
+/// A scan that is refused memory for a visit has begun it, and no more.
+pub fn scan_stops_for_memory()
+    ensures { Plays (opening (shape 1 4)) WorkedEdges.scan_stops_for_memory }
+{}
+
+/// Pages are ordered by guest, then by page.
+pub fn guests_come_first()
+    ensures { Plays (opening (shape 1 4)) WorkedEdges.guests_come_first }
+{}
+
+/// A page that moves stays unchanged, so one pass more merges it.
+pub fn move_keeps_unchanged()
+    ensures { Plays (opening (shape 2 4)) WorkedEdges.move_keeps_unchanged }
+{}
+
+/// A page that moves merges with pages of its new home.
+pub fn moved_page_merges_at_its_new_home()
+    ensures { Plays (opening (shape 2 4)) WorkedEdges.moved_page_merges_at_its_new_home }
+{}
+
+/// A merged page that moves to its home stays merged.
+pub fn move_to_its_home_changes_nothing()
+    ensures { Plays (opening (shape 1 4)) WorkedEdges.move_to_its_home_changes_nothing }
+{}
+
+/// A store of other bytes clears unchanged, so the page needs a pass more.
+pub fn store_clears_unchanged()
+    ensures { Plays (opening (shape 1 4)) WorkedEdges.store_clears_unchanged }
+{}
+
+/// A run of 2 clears unchanged, and starts the scan at the first page without counting a pass.
+pub fn run_of_two_starts_the_scan_anew()
+    ensures { Plays (opening (shape 1 4)) WorkedEdges.run_of_two_starts_the_scan_anew }
+{}
+
+/// A run of 2 that finds no frame has taken the pages before, and leaves the others, those that wait too.
+pub fn run_of_two_stops_part_way()
+    ensures { Plays (opening (shape 1 4)) WorkedEdges.run_of_two_stops_part_way }
+{}
+
+/// Unmerging takes one guest; its pages are neither mergeable nor unchanged, and making it mergeable again takes that guest alone.
+pub fn unmerging_takes_one_guest()
+    ensures { Plays (opening (shape 1 4)) WorkedEdges.unmerging_takes_one_guest }
+{}
+
+/// Pages that were unmerged are not unchanged, so they need two passes more.
+pub fn unmerged_pages_start_anew()
+    ensures { Plays (opening (shape 1 4)) WorkedEdges.unmerged_pages_start_anew }
+{}
+
+/// Another value of merge_across_nodes ends all waiting, and pages of two nodes may merge from then on.
+pub fn other_trees_end_the_waiting()
+    ensures { Plays (opening (shape 2 4)) WorkedEdges.other_trees_end_the_waiting }
+{}
+
+/// A page whose bytes are merged on another node waits, with merge_across_nodes 0.
+pub fn page_of_another_node_waits()
+    ensures { Plays (opening (shape 2 4)) WorkedEdges.page_of_another_node_waits }
+{}
+
+/// Another value of either knob drops the stale dups.
+pub fn other_values_drop_stale_dups()
+    ensures { Plays (opening (shape 1 4)) WorkedEdges.other_values_drop_stale_dups }
+{}
+
+/// Its own value may be set while pages are shared, and drops no stale dup.
+pub fn own_values_change_nothing()
+    ensures { Plays (opening (shape 1 4)) WorkedEdges.own_values_change_nothing }
+{}
+
+/// Answers that never come: a frame missed where none is needed, or on another node; visits left out; a wrong count.
+pub fn answers_that_never_come()
+    ensures { Plays (opening (shape 2 4)) WorkedEdges.answers_that_never_come }
 {}
 
 /// Below the limit they make one dup.
