@@ -9,4 +9,7 @@ pub mod SoundKnobs
 pub mod SoundSteps
 pub mod Replays
 pub mod Visits
+pub mod RowCounts
+pub mod SoundCounts
 pub mod Sums
+pub mod LastStored

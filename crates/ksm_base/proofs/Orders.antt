@@ -9,8 +9,7 @@ use Rattle.std.proofs.lemmas.List.Kept.{AllPairs-cons, AllPairs-filter}
 use Rattle.ksm_base.specs.declared.page.GuestPage.{GuestPage}
 use Rattle.ksm_base.specs.declared.row.Row.{Row}
 use Rattle.ksm_base.specs.declared.row.DupRow.{DupRow}
-use Rattle.ksm_base.specs.Rows.{comes_before, same_page, InPlaceOrder, InPageOrder, with_dup, with_row, without_page, change_rows}
-use Rattle.ksm_base.specs.Sound.{dup_numbered}
+use Rattle.ksm_base.specs.Rows.{comes_before, same_page, InPlaceOrder, InPageOrder, with_dup, with_row, without_page, change_rows, dup_numbered}
 use Rattle.ksm_base.proofs.Pages.{apart_second, before_trans, before_differs, after_differs}
 use Rattle.ksm_base.proofs.Edits.{count_more, count_none}
 

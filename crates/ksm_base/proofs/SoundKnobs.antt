@@ -14,14 +14,14 @@ use Rattle.ksm_base.specs.declared.reply.Reply.{Reply}
 use Rattle.ksm_base.specs.declared.reply.Reply.TheVariants.{Done, Scanned, Pruned, Unmerged}
 use Rattle.ksm_base.specs.declared.fault.Fault.{Fault}
 use Rattle.ksm_base.specs.declared.fault.Fault.TheVariants.{SharedPages, BadValue}
-use Rattle.ksm_base.specs.Rows.{change_rows, waiting_state, merged_state, settled_state, settled}
+use Rattle.ksm_base.specs.Rows.{change_rows, waiting_state, merged_state, settled_state, settled, dup_numbered}
 use Rattle.ksm_base.specs.State.{BookState, without_stale, with_none_waiting}
 use Rattle.ksm_base.specs.Visit.{partner}
 use Rattle.ksm_base.specs.Counting.{shared_count}
 use Rattle.ksm_base.specs.Refusals.{refused_if, is_within, refusal}
 use Rattle.ksm_base.specs.Answers.{merged_rows, every_row}
 use Rattle.ksm_base.specs.Apply.{unshared, is_before, unshare_stopped, effect}
-use Rattle.ksm_base.specs.Sound.{dup_numbered, AreKnobs, IsDupOf, IsSound}
+use Rattle.ksm_base.specs.Sound.{AreKnobs, IsDupOf, IsSound}
 use Rattle.ksm_base.proofs.SoundEdits.{NoneWaitsTwice, becomes_private, sound_calmed, sound_changed, sound_without_stale, no_dup_lives}
 use Rattle.ksm_base.proofs.SoundScan.{sound_cursor, sound_none_waiting}
 
@@ -117,7 +117,7 @@ sound_reset b knobs are_knobs empty alone s =
     }
 
 -- where the value is another one, no dup has items
-none_shared : (b : BookState) (same : Bool) → (not same && nat_lt 0 (shared_count b.rows b.dups)) ≡ false → same ≡ false → shared_count b.rows b.dups ≡ 0
+pub none_shared : (b : BookState) (same : Bool) → (not same && nat_lt 0 (shared_count b.rows b.dups)) ≡ false → same ≡ false → shared_count b.rows b.dups ≡ 0
 none_shared b same accepted other =
     let none : nat_lt 0 (shared_count b.rows b.dups) ≡ false = grind (arith, accepted, other) in
     omega (arith, ltb-false 0 (shared_count b.rows b.dups) none)

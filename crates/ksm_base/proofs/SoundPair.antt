@@ -2,7 +2,7 @@
 use Rattle.std.proofs.Common.{◌≡◌, ℕ, ◌+◌, ◌<◌, ◌≤◌, Bool, true, false, List, ◌∷◌, get_or, Some, None, Option, refl, sym, subst, ap, ◌∙◌, inl, inr, arith}
 use Rattle.std.specs.Prelude.{◌==◌, ◌||◌, nat_lt, All, filter, find, bytes_eq, not, if◌then◌else◌}
 use Rattle.std.specs.List.{list_any, range_with_len}
-use Rattle.std.proofs.lemmas.Bool.{cases_Bool, cond_both, and_parts, or_cases, both_ways, not-true, eqb-true, eq-eqb, ltb-true, ne_eqb}
+use Rattle.std.proofs.lemmas.Bool.{cases_Bool, cond_both, and_parts, and_from, not_from_false, or_cases, both_ways, not-true, eqb-true, eq-eqb, ltb-true, ne_eqb}
 use Rattle.std.proofs.lemmas.List.Elements.{All-filter}
 use Rattle.std.proofs.lemmas.List.Folds.{find-append, list_any_at}
 use Rattle.std.proofs.lemmas.List.FromFn.{get_or-range_with_len, length-range_with_len}
@@ -11,10 +11,11 @@ use Rattle.ksm_base.specs.declared.row.PageState.{PageState}
 use Rattle.ksm_base.specs.declared.row.PageState.TheVariants.{Private, Waiting, Merged}
 use Rattle.ksm_base.specs.declared.row.Row.{Row}
 use Rattle.ksm_base.specs.declared.row.DupRow.{DupRow}
-use Rattle.ksm_base.specs.Rows.{same_page, private_state, waiting_state, merged_into, item_count, is_stale, has_items, with_dup, change_rows}
+use Rattle.ksm_base.specs.declared.knobs.Knobs.{Knobs}
+use Rattle.ksm_base.specs.Rows.{same_page, private_state, waiting_state, merged_into, item_count, is_stale, has_items, with_dup, change_rows, dup_numbered}
 use Rattle.ksm_base.specs.State.{BookState, tree_of, place_count}
 use Rattle.ksm_base.specs.Visit.{waits_for, partner, empty_place, chosen_place, new_place, made_dup}
-use Rattle.ksm_base.specs.Sound.{dup_numbered, IsDupOf, IsSound}
+use Rattle.ksm_base.specs.Sound.{IsDupOf, IsSound}
 use Rattle.ksm_base.proofs.Edits.{find_nothing, find_passes, find_filter, find_over, find_all, count_map_le, count_change_le, count_either_le, count_none}
 use Rattle.ksm_base.proofs.Orders.{ordered_change, one_of_each_page, one_of_each_place, one_of_page, dups_parted, elsewhere, dups_with, all_with_dup}
 use Rattle.ksm_base.proofs.SoundEdits.{waiting_not_private, item_of_dup, dup_has_items}
@@ -114,22 +115,46 @@ pub record IsPair (b : BookState) (w row : Row) : Type 0 where
   pub tree : tree_of b.knobs w ≡ tree_of b.knobs row
   pub bytes : w.bytes ≡ row.bytes
 
+-- what it says of a row that another waits for it
+pub record WaitsFor (knobs : Knobs) (row w : Row) : Type 0 where
+  pub state : waiting_state w.state ≡ true
+  pub other : same_page w.page row.page ≡ false
+  pub tree : tree_of knobs w ≡ tree_of knobs row
+  pub bytes : w.bytes ≡ row.bytes
+
+pub waits_tells : (knobs : Knobs) (row w : Row) → waits_for knobs row w ≡ true → WaitsFor knobs row w
+waits_tells knobs row w passes =
+    let contents = and_parts _ (bytes_eq w.bytes row.bytes) passes in
+    let trees = and_parts _ (tree_of knobs w == tree_of knobs row) contents.0 in
+    let pages = and_parts (waiting_state w.state) (not (same_page w.page row.page)) trees.0 in
+    record {
+      state = pages.0;
+      other = not-true (same_page w.page row.page) pages.1;
+      tree = eqb-true (tree_of knobs w) (tree_of knobs row) trees.1;
+      bytes = (bytes_eq-Decides w.bytes row.bytes).0 contents.1;
+    }
+
+pub tells_waits : (knobs : Knobs) (row w : Row) → WaitsFor knobs row w → waits_for knobs row w ≡ true
+tells_waits knobs row w h =
+    and_from _ (bytes_eq w.bytes row.bytes)
+    (and_from _ (tree_of knobs w == tree_of knobs row)
+    (and_from (waiting_state w.state) (not (same_page w.page row.page)) h.state (not_from_false (same_page w.page row.page) h.other))
+    (eq-eqb (tree_of knobs w) (tree_of knobs row) h.tree))
+    ((bytes_eq-Decides w.bytes row.bytes).1 h.bytes)
+
 pub partner_pairs : (b : BookState) (w row : Row) → IsSound b → IsVisited b row → partner b.knobs b.rows row ≡ Some w → IsPair b w row
 partner_pairs b w row s visited found =
     let p = waits_for b.knobs row in
-    let passes = find_passes p b.rows w found in
-    let contents = and_parts _ (bytes_eq w.bytes row.bytes) passes in
-    let trees = and_parts _ (tree_of b.knobs w == tree_of b.knobs row) contents.0 in
-    let waits = (and_parts (waiting_state w.state) (not (same_page w.page row.page)) trees.0).0 in
+    let waits = waits_tells b.knobs row w (find_passes p b.rows w found) in
     let mergeable = find_all p (λ r. private_state r.state ≡ false → r.mergeable ≡ true) b.rows w found s.mergeable in
     record {
       visited = visited;
       waited = record {
-        mergeable = mergeable (waiting_not_private w.state waits);
+        mergeable = mergeable (waiting_not_private w.state waits.state);
         once = find_all p (λ r. All (λ t. same_page t.page r.page ≡ true → t ≡ r) b.rows) b.rows w found (one_of_each_page b.rows s.rows_rise);
       };
-      tree = eqb-true (tree_of b.knobs w) (tree_of b.knobs row) trees.1;
-      bytes = (bytes_eq-Decides w.bytes row.bytes).0 contents.1;
+      tree = waits.tree;
+      bytes = waits.bytes;
     }
 
 -- what holds of both pages holds of each row that is one of them

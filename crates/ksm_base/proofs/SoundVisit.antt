@@ -10,10 +10,10 @@ use Rattle.ksm_base.specs.declared.row.PageState.TheVariants.{Waiting, Merged}
 use Rattle.ksm_base.specs.declared.row.Row.{Row}
 use Rattle.ksm_base.specs.declared.row.DupRow.{DupRow}
 use Rattle.ksm_base.specs.declared.knobs.Knobs.{Knobs}
-use Rattle.ksm_base.specs.Rows.{same_page, private_state, waiting_state, merged_into, item_count, change_rows, change_row}
+use Rattle.ksm_base.specs.Rows.{same_page, private_state, waiting_state, merged_into, item_count, change_rows, change_row, dup_numbered}
 use Rattle.ksm_base.specs.State.{BookState, tree_of}
 use Rattle.ksm_base.specs.Visit.{waits_for, partner, may_join, is_best, best_dup}
-use Rattle.ksm_base.specs.Sound.{dup_numbered, IsDupOf, IsSound}
+use Rattle.ksm_base.specs.Sound.{IsDupOf, IsSound}
 use Rattle.ksm_base.proofs.Edits.{find_none, find_nothing, find_passes, find_all, count_map_le, count_change_le}
 use Rattle.ksm_base.proofs.Orders.{ordered_change, one_of_page, each_has_number}
 use Rattle.ksm_base.proofs.Pages.{same_page_sym}

@@ -5,8 +5,7 @@ use Rattle.ksm_base.specs.declared.row.Row.{Row}
 use Rattle.ksm_base.specs.declared.row.DupRow.{DupRow}
 use Rattle.ksm_base.specs.declared.knobs.Knobs.{Knobs}
 use Rattle.ksm_base.specs.Values.{IsShape}
-use Rattle.ksm_base.specs.Rows.{InPageOrder, InPlaceOrder, private_state, waiting_state, item_count}
-pub use Rattle.ksm_base.specs.Rows.{dup_numbered}
+use Rattle.ksm_base.specs.Rows.{InPageOrder, InPlaceOrder, private_state, waiting_state, item_count, dup_numbered}
 use Rattle.ksm_base.specs.State.{BookState, place_count, tree_of}
 use Rattle.ksm_base.specs.Visit.{partner}
 
