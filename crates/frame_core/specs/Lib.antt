@@ -1,4 +1,6 @@
 pub mod State
+pub mod KeeperSteps
+pub mod ReaderSteps
 pub mod Steps
 pub mod Bounds
 pub mod Rule

@@ -21,15 +21,15 @@ pub record History : Type 0 where
   pub trace : List Entry
 
 -- an event that is not allowed changes nothing and leaves no entry
-abbrev pub added_to : History → Event → Option (ℕ × State) → History
-added_to h e None = h
-added_to h e (Some r) = record { state = r.1; trace = record { event = e; word = r.0 } ∷ h.trace }
+abbrev pub history_with : History → Event → Option (ℕ × State) → History
+history_with h e None = h
+history_with h e (Some r) = record { state = r.1; trace = record { event = e; word = r.0 } ∷ h.trace }
 
-abbrev pub happens : History → Event → History
-happens h e = added_to h e (step h.state e)
+abbrev pub history_after : History → Event → History
+history_after h e = history_with h e (step h.state e)
 
 abbrev pub run_of : Shape → List Event → History
-run_of shape events = fold happens (record { state = opening shape; trace = [] }) events
+run_of shape events = fold history_after (record { state = opening shape; trace = [] }) events
 
 -- ---------------------------------------------------------------- what the trace tells
 

@@ -12,14 +12,14 @@ abbrev pub words_of : State → List ℕ
 words_of s = map place_word s.places ++ flat_map frame_words s.frames
 
 -- where a word stands in a table of so many places
-abbrev pub frame_at : ℕ → ℕ → ℕ
-frame_at places f = places + f * (2 + PAGE_WORDS)
+abbrev pub frame_offset : ℕ → ℕ → ℕ
+frame_offset places f = places + f * (2 + PAGE_WORDS)
 
 abbrev pub count_at : ℕ → ℕ → ℕ
-count_at places f = frame_at places f + 0
+count_at places f = frame_offset places f + 0
 
 abbrev pub generation_at : ℕ → ℕ → ℕ
-generation_at places f = frame_at places f + 1
+generation_at places f = frame_offset places f + 1
 
 abbrev pub content_at : ℕ → ℕ → ℕ → ℕ
-content_at places f i = frame_at places f + (2 + i)
+content_at places f i = frame_offset places f + (2 + i)

@@ -23,11 +23,25 @@ fn r(step: ReaderStep) -> Event {
 fn published() -> [(Event, Step); 6] {
     [
         (k(KeeperStep::Raise(0)), Step::Done(0)),
-        (k(KeeperStep::Put(0, 0, 7)), Step::Done(0)),
-        (k(KeeperStep::Put(0, 1, 8)), Step::Done(0)),
+        (
+            k(KeeperStep::Put {
+                frame: 0,
+                word: 0,
+                value: 7,
+            }),
+            Step::Done(0),
+        ),
+        (
+            k(KeeperStep::Put {
+                frame: 0,
+                word: 1,
+                value: 8,
+            }),
+            Step::Done(0),
+        ),
         (k(KeeperStep::Open(0)), Step::Done(0)),
         (k(KeeperStep::Add(0)), Step::Done(1)),
-        (k(KeeperStep::Publish(0, 0)), Step::Done(0)),
+        (k(KeeperStep::Publish { place: 0, frame: 0 }), Step::Done(0)),
     ]
 }
 
@@ -83,11 +97,11 @@ fn a_move_in_place(rt: HostRuntime) -> Result<(), Fail> {
         (r(ReaderStep::Exchange), Step::Done(2)),
         (r(ReaderStep::LoadGeneration), Step::Done(1)),
         (k(KeeperStep::Freeze(0)), Step::Done(3)),
-        (k(KeeperStep::Word(0, 1)), Step::Done(8)),
+        (k(KeeperStep::Word { frame: 0, word: 1 }), Step::Done(8)),
         (r(ReaderStep::LoadWord(1)), Step::Done(8)),
         (r(ReaderStep::Leave), Step::Done(3)),
         (k(KeeperStep::Freeze(0)), Step::Done(2)),
-        (k(KeeperStep::Word(0, 0)), Step::Done(7)),
+        (k(KeeperStep::Word { frame: 0, word: 0 }), Step::Done(7)),
         (r(ReaderStep::LoadPlace(0)), Step::Done(1024)),
         (r(ReaderStep::LoadCount), Step::Done(0)),
         (k(KeeperStep::Add(0)), Step::NotAllowed),

@@ -1,20 +1,19 @@
 ghost use Rattle.std.specs.Prelude.{◌≡◌, ℕ, IfOk, IfErr, slice_get, option_map, take};
-ghost use Rattle.frame_core.specs.Safe.{IsSafe, GivenFree};
 ghost use Rattle.ksm_base.specs.Values.{IsShape};
 ghost use Rattle.frame_core.specs.State.{opening};
-ghost use Rattle.frame_core.specs.Machine.{state_of};
 ghost use Rattle.frame_core.specs.Steps.{step, answer, after};
 ghost use Rattle.frame_core.specs.Trace.{run_of};
+ghost use Rattle.frame_core.specs.Safe.{IsSafe, GivenUnheld};
 
 use crate::event::{Event, Step};
-use crate::frame::{Frame, Kind};
+use crate::frame::Kind;
 use crate::machine::Machine;
-use crate::seat::{Life, Phase};
-use ksm_base::{Fault, PAGE_WORDS, Shape};
-use std::alloc::{AllocError, Global};
+use crate::seat::Phase;
+use ksm_base::{Fault, Shape};
+use std::alloc::Global;
 use std::marker::Model;
 
-/// The frame table as a pure machine.
+/// The frame protocol as a pure machine: one keeper, and a seat for each pass. Contracts see it as its state, which keeps the rule of the protocol (own).
 #[derive(Drop)]
 pub struct Core {
     machine: Machine,
@@ -34,19 +33,19 @@ impl Model for Core {
 }
 
 impl Core {
-    /// All frames free, all places none, all seats idle.
+    /// The opening state: all words 0, all frames free, all places empty, all seats idle. The only error is `Fault::Memory`.
     pub fn open(alloc: Global, shape: Shape) -> Result<Core, Fault>
         requires { IsShape shape }
         ensures opening { IfOk result (λ core. core ≡ opening shape) }
         ensures memory { IfErr result (λ fault. fault ≡ Fault.Memory) }
     {
-        match opened(alloc, shape) {
+        match Machine::new(alloc, shape) {
             Ok(machine) => Ok(Core { machine }),
             Err(_) => Err(Fault::Memory),
         }
     }
 
-    /// One step of one seat; where it is not allowed nothing changes.
+    /// One step of one seat. It takes no memory.
     pub fn step(&mut self, event: Event) -> Step
         ensures answer { result ≡ answer (step self.old event) }
         ensures after { self.new ≡ after self.old (step self.old event) }
@@ -54,14 +53,14 @@ impl Core {
         self.machine.step(event)
     }
 
-    /// How far the reader on a seat has come.
+    /// How far the lookup on a seat has come. `None` where the shape has no such seat.
     pub fn phase(&self, seat: u32) -> Option<Phase>
         ensures { result ≡ slice_get self.now.seats seat }
     {
         self.machine.seat(seat)
     }
 
-    /// What the keeper uses a frame for.
+    /// What the keeper uses a frame for. `None` where the shape has no such frame.
     pub fn kind(&self, frame: u32) -> Option<Kind>
         ensures { result ≡ option_map (λ fr. fr.kind) (slice_get self.now.frames frame) }
     {
@@ -71,7 +70,7 @@ impl Core {
         }
     }
 
-    /// The keeper's own references on a frame.
+    /// The keeper's own references on a frame, 0 to 1,024. `None` where the shape has no such frame.
     pub fn base(&self, frame: u32) -> Option<u64>
         ensures { result ≡ option_map (λ fr. fr.base) (slice_get self.now.frames frame) }
     {
@@ -82,28 +81,7 @@ impl Core {
     }
 }
 
-fn opened(alloc: Global, shape: Shape) -> Result<Machine, AllocError>
-    requires { IsShape shape }
-    ensures { IfOk result (λ m. state_of m ≡ opening shape) }
-{
-    let frame = Frame {
-        count: 0,
-        generation: 0,
-        content: [0; PAGE_WORDS],
-        kind: Kind::Free,
-        base: 0,
-    };
-    let count = shape.frames() as usize;
-    let place: Option<Life> = None;
-    Ok(Machine {
-        shape,
-        frames: vec![in alloc; frame; count]?,
-        places: vec![in alloc; place; count]?,
-        seats: vec![in alloc; Phase::Idle; shape.passes as usize]?,
-    })
-}
-
-/// The machine after these events, one after another.
+/// The core after these events, one after another; those that are not allowed are passed over. The only error is `Fault::Memory`.
 pub fn run(alloc: Global, shape: Shape, events: &[Event]) -> Result<Core, Fault>
     requires { IsShape shape }
     ensures state { IfOk result (λ core. core ≡ (run_of shape events.now).state) }
@@ -111,7 +89,7 @@ pub fn run(alloc: Global, shape: Shape, events: &[Event]) -> Result<Core, Fault>
     // after any number of the events
     ensures safe { (n : ℕ) → IsSafe (run_of shape (take n events.now)) }
     // each raise and each opening in the trace found the frame without a holder
-    ensures given { GivenFree shape.passes (run_of shape events.now).trace }
+    ensures given { GivenUnheld shape.passes (run_of shape events.now).trace }
 {
     let mut core = Core::open(alloc, shape)?;
     for event in events {
