@@ -1,0 +1,5 @@
+pub mod Looked
+pub mod ReaderHalf
+pub mod ReaderMay
+pub mod Allowed
+pub mod ReaderCalls

@@ -40,6 +40,7 @@ agrees_with i n _ = Unit {0}
 abbrev pub tells : Shape → ReaderStep → Phase → ℕ → Type 0
 tells sh (LoadPlace p) phase n = NamesFrame sh n
 tells sh LoadCount phase n = n ≤ 1040
+tells sh Leave phase n = 1 ≤ n
 tells sh (LoadWord i) phase n = agrees_with i n phase
 tells sh _ phase n = Unit {0}
 

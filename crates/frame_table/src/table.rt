@@ -1,4 +1,4 @@
-ghost use Rattle.std.specs.Prelude.{◌≡◌, ◌+◌, ◌<◌, ◌≤◌};
+ghost use Rattle.std.specs.Prelude.{◌≡◌, ◌+◌, ◌*◌, ◌<◌, ◌≤◌};
 ghost use Rattle.ksm_base.specs.declared.page.TheConstants.{PAGE_WORDS as words_of_page};
 ghost use Rattle.ksm_base.specs.Values.{frames_of};
 ghost use Rattle.frame_core.specs.Words.{count_at, generation_at, content_at};
@@ -48,6 +48,7 @@ impl FrameTable {
         requires inside { frame < frames_of self.now.shape }
         ensures at { result ≡ count_at (frames_of self.now.shape) frame }
         ensures within { result + (1 + words_of_page) < self.now.id.words }
+        ensures small { result ≤ 1024 * (3 + words_of_page) }
     {
         self.shape.frames() as usize + frame as usize * (2 + PAGE_WORDS)
     }
