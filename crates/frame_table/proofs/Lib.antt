@@ -3,3 +3,4 @@ pub mod ReaderHalf
 pub mod ReaderMay
 pub mod Allowed
 pub mod ReaderCalls
+pub mod KeeperWords

@@ -1,5 +1,5 @@
 -- What each step of the keeper tells its seat (own).
-use Rattle.std.specs.Prelude.{◌≡◌, ℕ, ◌+◌, ◌*◌, ◌%◌, ◌<◌, ◌≤◌, ◌==◌, cond, List, [], ◌∷◌, ◌++◌, slice_index, Some}
+use Rattle.std.specs.Prelude.{◌≡◌, ℕ, ◌+◌, ◌-◌, ◌*◌, ◌%◌, ◌<◌, ◌≤◌, ◌==◌, cond, List, [], ◌∷◌, ◌++◌, slice_index, Some}
 use Rattle.atomic_table.specs.Table.{Step}
 use Rattle.ksm_base.specs.declared.page.TheConstants.{PAGE_WORDS}
 use Rattle.ksm_base.specs.declared.shape.Shape.{Shape}
@@ -26,6 +26,26 @@ keeper_word places (Publish p f) = p
 keeper_word places (Withdraw p) = p
 keeper_word places (Freeze f) = count_at places f
 keeper_word places (Word f i) = content_at places f i
+
+-- what a step of the keeper leaves there, where it found n
+abbrev pub keeper_written : Ledger → KeeperStep → ℕ → ℕ
+keeper_written k (Put f i w) n = w
+keeper_written k (Raise f) n = n + 1
+keeper_written k (Open f) n = 1
+keeper_written k (Add f) n = n + 1
+keeper_written k (Sub f) n = n - 1
+keeper_written k (Publish p f) n = (frame_at k f).generation * 1024 + f
+keeper_written k (Withdraw p) n = 0
+keeper_written k (Freeze f) n = cond (n == (frame_at k f).base) 0 n
+keeper_written k _ n = n
+
+-- what the keeper is told that it found: of a plain store, 0
+abbrev pub found_by : KeeperStep → ℕ → ℕ
+found_by (Put f i w) n = 0
+found_by (Open f) n = 0
+found_by (Publish p f) n = 0
+found_by (Withdraw p) n = 0
+found_by _ n = n
 
 -- the view after a step: what the keeper knows then, and one entry more in the log
 abbrev pub keeper_after : KeeperStep → View → ℕ → View
