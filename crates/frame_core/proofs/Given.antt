@@ -1,5 +1,5 @@
 -- In the trace of every run each frame that is raised or opened has no holder.
-use Rattle.std.proofs.Common.{◌≡◌, ℕ, ◌&&◌, not, List, [], ◌∷◌, Option, Some, None, option_and_then, slice_get, slice_set, fold, subst, ◌∙◌, refl}
+use Rattle.std.proofs.Common.{◌≡◌, ℕ, List, [], ◌∷◌, Option, Some, None, slice_get, slice_set, fold, subst, ◌∙◌, refl}
 use Rattle.ksm_base.specs.declared.shape.Shape.{Shape}
 use Rattle.ksm_base.specs.Values.{IsShape}
 use Rattle.frame_core.specs.declared.event.Event.{Event}
@@ -7,15 +7,15 @@ use Rattle.frame_core.specs.declared.event.Event.TheVariants as event
 use Rattle.frame_core.specs.declared.event.ReaderStep.TheVariants as reader
 use Rattle.frame_core.specs.declared.event.KeeperStep.TheVariants as keeper
 use Rattle.frame_core.specs.declared.frame.Frame.{Frame}
-use Rattle.frame_core.specs.declared.frame.Kind.TheVariants.{Stable}
 use Rattle.frame_core.specs.declared.seat.Phase.{Phase}
 use Rattle.frame_core.specs.State.{State, opening}
-use Rattle.frame_core.specs.KeeperSteps.{only_if, at_frame, publish_step, withdraw_step, is_private, is_live, reap_step, put_step, raise_step, open_step, add_step, sub_step, freeze_step, word_step}
+use Rattle.frame_core.specs.KeeperSteps.{at_frame, publish_step, withdraw_step, reap_step, put_step, raise_step, open_step, add_step, sub_step, freeze_step, word_step}
 use Rattle.frame_core.specs.ReaderSteps.{at_seat, at_both, load_place_step, load_count_step, load_generation_step, load_word_step, exchange_step, leave_step}
 use Rattle.frame_core.specs.Steps.{step}
 use Rattle.frame_core.specs.Trace.{History, history_after, history_with, run_of}
 use Rattle.frame_core.specs.Safe.{WasUnheld, GivenUnheld}
-use Rattle.frame_core.proofs.Parts.{parts, then_parts, only_if_parts}
+use Rattle.frame_core.proofs.Parts.{parts}
+use Rattle.frame_core.proofs.Made.{at_frame_made, publish_made, withdraw_made}
 use Rattle.frame_core.proofs.Histories.{Sound, sound_after, run_sound}
 use Rattle.frame_core.proofs.Safety.{safe}
 
@@ -24,8 +24,7 @@ abbrev pub SameShape : State → ℕ × State → Type 0
 SameShape s r = r.1.shape ≡ s.shape
 
 frame_shape : (s : State) (f : ℕ) (change : Frame → Option (ℕ × Frame)) (r : ℕ × State) → at_frame s f change ≡ Some r → SameShape s r
-frame_shape s f change r e =
-    subst (SameShape s) (parts (slice_get s.frames f) change (λ (x : ℕ × Frame). (x.0, record s { frames = slice_set s.frames f x.1 })) r e).is refl
+frame_shape s f change r e = subst (SameShape s) (at_frame_made s f change r e).is refl
 
 seat_shape : (s : State) (q : ℕ) (change : Phase → Option (ℕ × Phase)) (r : ℕ × State) → at_seat s q change ≡ Some r → SameShape s r
 seat_shape s q change r e =
@@ -37,15 +36,11 @@ both_shape s q change r e =
 
 publish_shape : (s : State) (p f : ℕ) (r : ℕ × State) → publish_step s p f ≡ Some r → SameShape s r
 publish_shape s p f r e =
-    let next : Frame → ℕ × State = λ fr. (0, record s { frames = slice_set s.frames f (record fr { kind = Stable }); places = slice_set s.places p (Some record { frame = f; generation = fr.generation }) }) in
-    let P = then_parts (λ place. option_and_then (λ fr. only_if (is_private fr.kind && not (is_live s.frames place)) (next fr)) (slice_get s.frames f)) (slice_get s.places p) r e in
-    let Q = then_parts (λ fr. only_if (is_private fr.kind && not (is_live s.frames P.0)) (next fr)) (slice_get s.frames f) r P.2 in
-    subst (SameShape s) (only_if_parts (is_private Q.0.kind && not (is_live s.frames P.0)) (next Q.0) r Q.2).1 refl
+    subst (SameShape s) (publish_made s p f r e).is refl
 
 withdraw_shape : (s : State) (p : ℕ) (r : ℕ × State) → withdraw_step s p ≡ Some r → SameShape s r
 withdraw_shape s p r e =
-    let P = then_parts (λ place. only_if (not (is_live s.frames place)) (0, record s { places = slice_set s.places p None })) (slice_get s.places p) r e in
-    subst (SameShape s) (only_if_parts (not (is_live s.frames P.0)) (0, record s { places = slice_set s.places p None }) r P.2).1 refl
+    subst (SameShape s) (withdraw_made s p r e).3 refl
 
 pub step_shape : (s : State) (e : Event) (r : ℕ × State) → step s e ≡ Some r → SameShape s r
 step_shape s (event.Reader q (reader.LoadPlace p)) r e = seat_shape s q (load_place_step s.places p) r e

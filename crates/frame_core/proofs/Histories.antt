@@ -1,6 +1,5 @@
 -- Every run keeps the rule, and its state and its trace go together.
-use Rattle.std.proofs.Common.{◌≡◌, ℕ, ◌+◌, ◌-◌, ◌==◌, ◌&&◌, ◌||◌, not, ltb, leb, Bool, true, false, if◌then◌else◌, List, [], ◌∷◌, Option, Some, None, option_and_then, length, replicate, slice_get, slice_set, fold, subst, sym, refl}
-use Rattle.std.proofs.lemmas.Bool.{and_parts}
+use Rattle.std.proofs.Common.{◌≡◌, ℕ, ◌+◌, ◌-◌, ◌==◌, ◌||◌, leb, Bool, true, false, if◌then◌else◌, List, [], ◌∷◌, Option, Some, None, replicate, slice_get, slice_set, fold, subst, sym, refl}
 use Rattle.ksm_base.specs.declared.shape.Shape.{Shape}
 use Rattle.ksm_base.specs.declared.page.TheConstants.{PAGE_WORDS}
 use Rattle.ksm_base.specs.Values.{IsShape, frames_of}
@@ -18,13 +17,13 @@ use Rattle.frame_core.specs.declared.seat.Aim.{Aim}
 use Rattle.frame_core.specs.declared.seat.Phase.{Phase}
 use Rattle.frame_core.specs.declared.seat.Phase.TheVariants.{Idle, Placed, Counted, Doubt, Held, Spent}
 use Rattle.frame_core.specs.State.{State, opening, new_frame, place_word}
-use Rattle.frame_core.specs.KeeperSteps.{keeper_step, only_if, at_frame, reap_step, put_step, raise_step, open_step, add_step, sub_step, freeze_step, word_step, publish_step, withdraw_step, is_live, is_free, is_filling, is_private}
+use Rattle.frame_core.specs.KeeperSteps.{keeper_step, at_frame, reap_step, put_step, raise_step, open_step, add_step, sub_step, freeze_step, word_step, publish_step, withdraw_step, is_filling, is_private}
 use Rattle.frame_core.specs.ReaderSteps.{reader_step, load_place_step, load_count_step, load_generation_step, load_word_step, exchange_step, leave_step, given_back, aimed_at}
 use Rattle.frame_core.specs.Steps.{step}
 use Rattle.frame_core.specs.Trace.{Entry, History, history_after, history_with, run_of}
 use Rattle.frame_core.specs.Rule.{Rule}
-use Rattle.frame_core.proofs.Parts.{parts, map_parts, then_parts, only_if_parts}
-use Rattle.frame_core.proofs.Frames.{filling_is, private_is}
+use Rattle.frame_core.proofs.Parts.{parts, map_parts}
+use Rattle.frame_core.proofs.Made.{at_frame_made, put_made, raise_made, open_made, publish_made, withdraw_made}
 use Rattle.frame_core.proofs.Keeps.{step_keeps, opening_rule, in_replicate}
 use Rattle.frame_core.proofs.Told.{Tale, Told, FrameTold, SeatTold, Writable, tale_of}
 use Rattle.frame_core.proofs.Quiet.{Quiet, reap_quiet, add_quiet, sub_quiet, freeze_quiet, word_quiet}
@@ -39,7 +38,7 @@ told_at_frame : (s : State) (t : List Entry) (e : Event) (f : ℕ) (change : Fra
     → ((old : Frame) (r : ℕ × Frame) → slice_get s.frames f ≡ Some old → change old ≡ Some r → ToldAfter t e (r.0, record s { frames = slice_set s.frames f r.1 }))
     → (r : ℕ × State) → at_frame s f change ≡ Some r → ToldAfter t e r
 told_at_frame s t e f change tells r is =
-    let P = parts (slice_get s.frames f) change (λ (x : ℕ × Frame). (x.0, record s { frames = slice_set s.frames f x.1 })) r is in
+    let P = at_frame_made s f change r is in
     subst (ToldAfter t e) P.is (tells P.old P.new P.at P.gives)
 
 writable_is : (k : Kind) → (is_filling k || is_private k) ≡ true → Writable k
@@ -53,40 +52,31 @@ writable_is Retired e = absurd (cc (e))
 told_put : (s : State) (t : List Entry) (f i w : ℕ) → Told s (tale_of t) → (old : Frame) (r : ℕ × Frame) → slice_get s.frames f ≡ Some old → put_step i w old ≡ Some r
     → ToldAfter t (event.Keeper (keeper.Put f i w)) (r.0, record s { frames = slice_set s.frames f r.1 })
 told_put s t f i w told old r at e =
-    let p = only_if_parts ((is_filling old.kind || is_private old.kind) && ltb i (length old.content)) (0, record old { content = slice_set old.content i w }) r e in
-    let kind = (and_parts (is_filling old.kind || is_private old.kind) (ltb i (length old.content)) p.0).0 in
-    subst (λ (x : ℕ × Frame). ToldAfter t (event.Keeper (keeper.Put f i w)) (x.0, record s { frames = slice_set s.frames f x.1 })) p.1
-    (tell_put s (tale_of t) f i w old at (writable_is old.kind kind) told)
+    let m = put_made i w old r e in
+    subst (λ (x : ℕ × Frame). ToldAfter t (event.Keeper (keeper.Put f i w)) (x.0, record s { frames = slice_set s.frames f x.1 })) m.2
+    (tell_put s (tale_of t) f i w old at (writable_is old.kind m.0) told)
 
 told_raise : (s : State) (t : List Entry) (f : ℕ) → Rule s → Told s (tale_of t) → (old : Frame) (r : ℕ × Frame) → slice_get s.frames f ≡ Some old → raise_step old ≡ Some r
     → ToldAfter t (event.Keeper (keeper.Raise f)) (r.0, record s { frames = slice_set s.frames f r.1 })
 told_raise s t f rule told old r at e =
-    let p = only_if_parts (is_free old.kind) (old.generation, record old { generation = old.generation + 1; kind = Filling }) r e in
-    subst (λ (x : ℕ × Frame). ToldAfter t (event.Keeper (keeper.Raise f)) (x.0, record s { frames = slice_set s.frames f x.1 })) p.1 (tell_raise s (tale_of t) f old at rule told)
+    subst (λ (x : ℕ × Frame). ToldAfter t (event.Keeper (keeper.Raise f)) (x.0, record s { frames = slice_set s.frames f x.1 })) (raise_made old r e).1 (tell_raise s (tale_of t) f old at rule told)
 
 told_open : (s : State) (t : List Entry) (f : ℕ) → Rule s → Told s (tale_of t) → (old : Frame) (r : ℕ × Frame) → slice_get s.frames f ≡ Some old → open_step old ≡ Some r
     → ToldAfter t (event.Keeper (keeper.Open f)) (r.0, record s { frames = slice_set s.frames f r.1 })
 told_open s t f rule told old r at e =
-    let p = only_if_parts (is_filling old.kind) (0, record old { count = 1; kind = Private; base = 1 }) r e in
-    let kind = filling_is old.kind p.0 in
-    subst (λ (x : ℕ × Frame). ToldAfter t (event.Keeper (keeper.Open f)) (x.0, record s { frames = slice_set s.frames f x.1 })) p.1
-    (tell_open s (tale_of t) f old (record old { count = 1; kind = Private; base = 1 }) at kind
-    record { generation = refl; content = refl; kind = λ h. subst Writable (sym kind) tt } rule told)
+    let m = open_made old r e in
+    subst (λ (x : ℕ × Frame). ToldAfter t (event.Keeper (keeper.Open f)) (x.0, record s { frames = slice_set s.frames f x.1 })) m.1
+    (tell_open s (tale_of t) f old (record old { count = 1; kind = Private; base = 1 }) at m.0
+    record { generation = refl; content = refl; kind = λ h. subst Writable (sym m.0) tt } rule told)
 
 told_publish : (s : State) (t : List Entry) (p f : ℕ) → Rule s → Told s (tale_of t) → (r : ℕ × State) → publish_step s p f ≡ Some r → ToldAfter t (event.Keeper (keeper.Publish p f)) r
 told_publish s t p f rule told r e =
-    let next : Frame → ℕ × State = λ fr. (0, record s { frames = slice_set s.frames f (record fr { kind = Stable }); places = slice_set s.places p (Some record { frame = f; generation = fr.generation }) }) in
-    let P = then_parts (λ place. option_and_then (λ fr. only_if (is_private fr.kind && not (is_live s.frames place)) (next fr)) (slice_get s.frames f)) (slice_get s.places p) r e in
-    let Q = then_parts (λ fr. only_if (is_private fr.kind && not (is_live s.frames P.0)) (next fr)) (slice_get s.frames f) r P.2 in
-    let R = only_if_parts (is_private Q.0.kind && not (is_live s.frames P.0)) (next Q.0) r Q.2 in
-    let kind = private_is Q.0.kind (and_parts (is_private Q.0.kind) (not (is_live s.frames P.0)) R.0).0 in
-    subst (ToldAfter t (event.Keeper (keeper.Publish p f))) R.1 (tell_publish s (tale_of t) p f Q.0 Q.1 kind rule told)
+    let m = publish_made s p f r e in
+    subst (ToldAfter t (event.Keeper (keeper.Publish p f))) m.is (tell_publish s (tale_of t) p f m.fr m.at_frame m.kind rule told)
 
 told_withdraw : (s : State) (t : List Entry) (p : ℕ) → Told s (tale_of t) → (r : ℕ × State) → withdraw_step s p ≡ Some r → ToldAfter t (event.Keeper (keeper.Withdraw p)) r
 told_withdraw s t p told r e =
-    let P = then_parts (λ place. only_if (not (is_live s.frames place)) (0, record s { places = slice_set s.places p None })) (slice_get s.places p) r e in
-    let Q = only_if_parts (not (is_live s.frames P.0)) (0, record s { places = slice_set s.places p None }) r P.2 in
-    subst (ToldAfter t (event.Keeper (keeper.Withdraw p))) Q.1 (tell_withdraw s (tale_of t) p told)
+    subst (ToldAfter t (event.Keeper (keeper.Withdraw p))) (withdraw_made s p r e).3 (tell_withdraw s (tale_of t) p told)
 
 told_keeper : (s : State) (t : List Entry) (k : KeeperStep) → Rule s → Told s (tale_of t) → (r : ℕ × State) → keeper_step s k ≡ Some r → ToldAfter t (event.Keeper k) r
 told_keeper s t (keeper.Reap f) rule told r e = told_at_frame s t (event.Keeper (keeper.Reap f)) f (reap_step s.shape.last_generation) (λ old x at is. tell_quiet s (tale_of t) f old x.1 at (reap_quiet s.shape.last_generation old x is) told) r e

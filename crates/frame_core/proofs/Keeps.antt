@@ -21,6 +21,7 @@ use Rattle.frame_core.specs.ReaderSteps.{reader_step, load_place_step, load_coun
 use Rattle.frame_core.specs.Steps.{step, after}
 use Rattle.frame_core.specs.Rule.{Rule, FrameRule, SeatRule, readers_on, is_on}
 use Rattle.frame_core.proofs.Parts.{parts}
+use Rattle.frame_core.proofs.Made.{at_frame_made}
 use Rattle.frame_core.proofs.Frames.{Kept}
 use Rattle.frame_core.proofs.Changes.{frame_changed}
 use Rattle.frame_core.proofs.Moves.Reap.{reap_keeps}
@@ -44,7 +45,7 @@ use Rattle.frame_core.proofs.Moves.Leave.{leave_keeps}
 at_frame_keeps : (s : State) (f : ℕ) (change : Frame → Option (ℕ × Frame)) → ((readers : ℕ) (fr : Frame) (r : ℕ × Frame) → change fr ≡ Some r → FrameRule s.shape.last_generation readers fr → Kept s.shape.last_generation readers fr r.1)
     → (r : ℕ × State) → at_frame s f change ≡ Some r → Rule s → Rule r.1
 at_frame_keeps s f change keeps r e rule =
-    let P = parts (slice_get s.frames f) change (λ (x : ℕ × Frame). (x.0, record s { frames = slice_set s.frames f x.1 })) r e in
+    let P = at_frame_made s f change r e in
     subst (λ (x : ℕ × State). Rule x.1) P.is (frame_changed s f P.old P.new.1 P.at (λ h. keeps (readers_on f s.seats) P.old P.new P.gives h) rule)
 
 keeper_keeps : (s : State) (k : KeeperStep) (r : ℕ × State) → keeper_step s k ≡ Some r → Rule s → Rule r.1

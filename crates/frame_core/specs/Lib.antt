@@ -9,3 +9,4 @@ pub mod Safe
 pub mod Words
 pub mod Machine
 pub mod Ledger
+pub mod Knowing

@@ -3,6 +3,8 @@ ghost use Rattle.ksm_base.specs.Values.{IsShape};
 ghost use Rattle.frame_core.specs.State.{opening};
 ghost use Rattle.frame_core.specs.Steps.{step, answer, after};
 ghost use Rattle.frame_core.specs.Trace.{run_of};
+ghost use Rattle.frame_core.specs.Ledger.{ledger_of, first_ledger};
+ghost use Rattle.frame_core.specs.Knowing.{KeepsLedger};
 ghost use Rattle.frame_core.specs.Safe.{IsSafe, GivenUnheld};
 
 use crate::event::{Event, Step};
@@ -37,6 +39,7 @@ impl Core {
     pub fn open(alloc: Global, shape: Shape) -> Result<Core, Fault>
         requires { IsShape shape }
         ensures opening { IfOk result (λ core. core ≡ opening shape) }
+        ensures ledger { IfOk result (λ core. ledger_of core ≡ first_ledger shape) }
         ensures memory { IfErr result (λ fault. fault ≡ Fault.Memory) }
     {
         match Machine::new(alloc, shape) {
@@ -49,6 +52,8 @@ impl Core {
     pub fn step(&mut self, event: Event) -> Step
         ensures answer { result ≡ answer (step self.old event) }
         ensures after { self.new ≡ after self.old (step self.old event) }
+        // what the keeper knows tells where its steps are allowed, and follows them
+        ensures ledger { KeepsLedger self.old event result self.new }
     {
         self.machine.step(event)
     }
