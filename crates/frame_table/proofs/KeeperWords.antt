@@ -21,6 +21,9 @@ use Rattle.frame_core.specs.KeeperSteps.{keeper_step, at_frame, only_if, reap_st
 use Rattle.frame_core.specs.Rule.{Rule, GenerationFits}
 use Rattle.frame_core.proofs.Parts.{parts, map_parts, then_parts, only_if_parts}
 use Rattle.frame_core.proofs.Frames.{free_is}
+use Rattle.frame_core.proofs.Made.{sub_made}
+use Rattle.frame_core.proofs.Moves.LoadCount.{count_at_most}
+use Rattle.frame_core.proofs.Fitting.{generation_at_most}
 use Rattle.frame_core.proofs.Flat.{words_get, words_set, words_set_place}
 use Rattle.frame_table.specs.Keeping.{keeper_word, keeper_written, found_by, knows}
 
@@ -82,11 +85,11 @@ module _ (s : State) (rule : Rule s) where
   opens : (f : ℕ) (fr : Frame) (r : ℕ × Frame) → open_step fr ≡ Some r → Leaves (Open f) 0 fr r
   opens f fr r is = subst (Leaves (Open f) 0 fr) (only_if_parts (is_filling fr.kind) (0, record fr { count = 1; kind = Private; base = 1 }) r is).1 (refl, refl, tt)
 
-  adds : (f : ℕ) (fr : Frame) (r : ℕ × Frame) → add_step fr ≡ Some r → Leaves (Add f) 0 fr r
-  adds f fr r is = subst (Leaves (Add f) 0 fr) (only_if_parts (nat_le 1 fr.base && nat_le fr.base 1023) (fr.count, record fr { count = fr.count + 1; base = fr.base + 1 }) r is).1 (refl, refl, tt)
+  adds : (f : ℕ) (fr : Frame) (r : ℕ × Frame) → slice_get s.frames f ≡ Some fr → add_step fr ≡ Some r → Leaves (Add f) 0 fr r
+  adds f fr r at is = subst (Leaves (Add f) 0 fr) (only_if_parts (nat_le 1 fr.base && nat_le fr.base 1023) (fr.count, record fr { count = fr.count + 1; base = fr.base + 1 }) r is).1 (refl, refl, count_at_most s f fr at rule)
 
-  subs : (f : ℕ) (fr : Frame) (r : ℕ × Frame) → sub_step fr ≡ Some r → Leaves (Sub f) 0 fr r
-  subs f fr r is = subst (Leaves (Sub f) 0 fr) (only_if_parts (nat_le 1 fr.base) (fr.count, record fr { count = fr.count - 1; base = fr.base - 1; kind = cond (fr.base == 1) Dying fr.kind }) r is).1 (refl, refl, tt)
+  subs : (f : ℕ) (fr : Frame) (r : ℕ × Frame) → slice_get s.frames f ≡ Some fr → sub_step fr ≡ Some r → Leaves (Sub f) 0 fr r
+  subs f fr r at is = let P = sub_made fr r is in subst (Leaves (Sub f) 0 fr) P.1 (refl, refl, omega (arith, P.0, (rule.frames f fr at).counted))
 
   frozen : (b : Bool) (fr : Frame) → set (frame_words fr) 0 (cond b 0 fr.count) ≡ frame_words (cond b (record fr { count = 0; base = 0; kind = Dying }) fr)
   frozen true fr = refl
@@ -144,7 +147,8 @@ module _ (s : State) (rule : Rule s) where
         ap (λ (x : Note). set (words_of s) p (x.generation * 1024 + f)) (note_there s f fr Q.1) ∙ (words_set_place s rule p life within
             ∙ ap (λ (w : List ℕ). map place_word (slice_set s.places p life) ++ w) (sym (flat_same frame_words s.frames f fr (record fr { kind = Stable }) Q.1 refl))),
         refl,
-        tt,
+        subst (λ (x : Note). x.generation ≤ 1099511627776) (sym (note_there s f fr Q.1))
+        (omega (arith, generation_at_most s.shape.last_generation fr.kind fr.generation (rule.frames f fr Q.1).generation, rule.shape.generation_high)),
       )
 
   withdraws : (p : ℕ) (r : ℕ × State) → withdraw_step s p ≡ Some r → OneWord s (Withdraw p) r
@@ -160,8 +164,8 @@ module _ (s : State) (rule : Rule s) where
   keeper_words (Put f i w) r is = at_one_frame (Put f i w) f (2 + i) (put_step i w) (λ fr x at gives. put_below f i w fr x at gives) refl (λ fr x note at. puts f i w fr x) r is
   keeper_words (Raise f) r is = at_one_frame (Raise f) f 1 raise_step (λ fr x at gives. omega arith) refl (λ fr x note at. raises f fr x note at) r is
   keeper_words (Open f) r is = at_one_frame (Open f) f 0 open_step (λ fr x at gives. omega arith) refl (λ fr x note at. opens f fr x) r is
-  keeper_words (Add f) r is = at_one_frame (Add f) f 0 add_step (λ fr x at gives. omega arith) refl (λ fr x note at. adds f fr x) r is
-  keeper_words (Sub f) r is = at_one_frame (Sub f) f 0 sub_step (λ fr x at gives. omega arith) refl (λ fr x note at. subs f fr x) r is
+  keeper_words (Add f) r is = at_one_frame (Add f) f 0 add_step (λ fr x at gives. omega arith) refl (λ fr x note at. adds f fr x at) r is
+  keeper_words (Sub f) r is = at_one_frame (Sub f) f 0 sub_step (λ fr x at gives. omega arith) refl (λ fr x note at. subs f fr x at) r is
   keeper_words (Publish p f) r is = publishes p f r is
   keeper_words (Withdraw p) r is = withdraws p r is
   keeper_words (Freeze f) r is = at_one_frame (Freeze f) f 0 freeze_step (λ fr x at gives. omega arith) refl (λ fr x note at. freezes f fr x note) r is

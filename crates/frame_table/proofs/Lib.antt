@@ -4,3 +4,5 @@ pub mod ReaderMay
 pub mod Allowed
 pub mod ReaderCalls
 pub mod KeeperWords
+pub mod KeeperMay
+pub mod KeeperCalls

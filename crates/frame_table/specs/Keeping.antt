@@ -52,9 +52,12 @@ abbrev pub keeper_after : KeeperStep → View → ℕ → View
 keeper_after e (Keeper sh ledger tally log) n = Keeper sh (ledger_after sh ledger e n) tally (log ++ (e, n) ∷ [])
 keeper_after e v n = v
 
--- the word found is that of the ledger, where the keeper alone writes it
+-- what the rule says of the word that a step found: it is that of the ledger, where the keeper alone writes it
 abbrev pub knows : Ledger → KeeperStep → ℕ → Type 0
 knows ledger (Raise f) n = (n ≡ (frame_at ledger f).generation) × (n < 1099511627776)
+knows ledger (Publish p f) n = (frame_at ledger f).generation ≤ 1099511627776
+knows ledger (Add f) n = n ≤ 1040
+knows ledger (Sub f) n = 1 ≤ n
 knows ledger (Word f i) n = n ≡ slice_index (frame_at ledger f).content i
 knows ledger _ n = Unit {0}
 
