@@ -6,3 +6,4 @@ pub mod ReaderCalls
 pub mod KeeperWords
 pub mod KeeperMay
 pub mod KeeperCalls
+pub mod Looks
