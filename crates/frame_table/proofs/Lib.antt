@@ -7,3 +7,6 @@ pub mod KeeperWords
 pub mod KeeperMay
 pub mod KeeperCalls
 pub mod Looks
+pub mod Compared
+pub mod Opening
+pub mod Seatings

@@ -45,6 +45,10 @@ pub record ReaderHalf (s : State) (q : ℕ) (e : ReaderStep) (phase : Phase) : T
 pub frames_at_most : (sh : Shape) → IsShape sh → frames_of sh ≤ 1024
 frames_at_most sh fits = let a : sh.nodes * sh.frames_per_node ≤ 4 * sh.frames_per_node = mul-le-mul_right sh.frames_per_node fits.nodes_high in omega (arith, a, fits.frames_high)
 
+-- there is a frame
+pub frames_at_least : (sh : Shape) → IsShape sh → 1 ≤ frames_of sh
+frames_at_least sh fits = let a : 1 * sh.frames_per_node ≤ sh.nodes * sh.frames_per_node = mul-le-mul_right sh.frames_per_node fits.nodes_low in omega (arith, a, fits.frames_low)
+
 module _ (s : State) (rule : Rule s) (q : ℕ) where
   abbrev F : ℕ
   F = frames_of s.shape
@@ -90,7 +94,7 @@ module _ (s : State) (rule : Rule s) (q : ℕ) where
       let b : w / 1024 ≡ life.generation = omega arith in
       (omega arith, omega arith)
 
-  place_read : (p : ℕ) (place : Option Life) → slice_get s.places p ≡ Some place → get_or (words_of s) p 0 ≡ place_word place
+  pub place_read : (p : ℕ) (place : Option Life) → slice_get s.places p ≡ Some place → get_or (words_of s) p 0 ≡ place_word place
   place_read p place at = get_or_append_left (map place_word s.places) (flat_map frame_words s.frames) 0 p (omega (arith, length-map s.places place_word, slice_get_within s.places p place at))
       ∙ get_or_from_slice_get (map place_word s.places) p (place_word place) 0 (slice_get-map place_word s.places p ∙ ap (option_map place_word) at)
 

@@ -84,6 +84,7 @@ impl FrameTable {
     fn take_back(&self, seat: &mut Seat<(), View>, pass: Pass)
         requires own { seat.old.table_id ≡ self.now.id }
         requires keeper { IsKeeper self.now.shape seat.old.me }
+        requires out { 0 < (tally_in seat.old.me).out }
         requires pass { pass.table ≡ self.now }
         ensures seat { (seat.new.table_id ≡ seat.old.table_id) × (seat.new.id ≡ seat.old.id) }
         ensures one_less { seat.new.me ≡ keeps_ledger self.now.shape (ledger_in seat.old.me) (tally_of (tally_in seat.old.me).unmade ((tally_in seat.old.me).out - 1)) (keeper_log seat.old.me) }
