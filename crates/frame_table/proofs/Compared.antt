@@ -1,5 +1,5 @@
 -- A comparison reads the words one after another.
-use Rattle.std.proofs.Common.{◌≡◌, ℕ, ◌+◌, ◌<◌, ◌≢◌, List, [], ◌∷◌, ◌++◌, Option, Some, None, get_or, set, sym, refl, ap, ◌∙◌, subst, arith, append-nil, append_assoc, get_or-set_other}
+use Rattle.std.proofs.Common.{◌≡◌, ℕ, ◌+◌, ◌<◌, List, [], ◌∷◌, ◌++◌, Option, Some, None, get_or, set, sym, refl, ap, ◌∙◌, subst, arith, append-nil, append_assoc, get_or-set_other}
 use mathlib.Core.Logic.{dite}
 use native.Mathlib.Decide.{ℕ_discrete}
 use Rattle.frame_core.specs.declared.event.ReaderStep.TheVariants.{LoadWord}

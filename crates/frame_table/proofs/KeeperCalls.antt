@@ -1,19 +1,17 @@
 -- What each step of the keeper asks of the table.
-use Rattle.std.proofs.Common.{◌≡◌, ℕ, ◌+◌, ◌-◌, ◌*◌, ◌%◌, ◌^◌, ◌<◌, ◌≤◌, Bool, true, false, cond, eqb, List, [], get_or, refl, ap, sym, subst, ◌∙◌, arith}
+use Rattle.std.proofs.Common.{◌≡◌, ℕ, ◌+◌, ◌-◌, ◌*◌, ◌%◌, ◌^◌, ◌<◌, ◌≤◌, Bool, true, false, cond, eqb, [], get_or, refl, ap, subst, ◌∙◌, arith}
 use prog.Atomic.{either}
 use Rattle.atomic_table.specs.Table.{carried_after}
 use Rattle.ksm_base.specs.declared.page.TheConstants.{PAGE_WORDS}
 use Rattle.ksm_base.specs.declared.shape.Shape.{Shape}
 use Rattle.ksm_base.specs.Values.{frames_of}
-use Rattle.frame_core.specs.declared.event.KeeperStep.{KeeperStep}
 use Rattle.frame_core.specs.declared.event.KeeperStep.TheVariants.{Reap, Put, Raise, Open, Add, Sub, Publish, Withdraw, Freeze, Word}
 use Rattle.frame_core.specs.declared.ledger.Ledger.{Ledger}
 use Rattle.frame_core.specs.Words.{count_at, generation_at, content_at}
 use Rattle.frame_core.specs.Ledger.{frame_at, MayStep}
 use Rattle.frame_table.specs.declared.view.Tally.{Tally}
 use Rattle.frame_table.specs.Views.{KeeperLog, Sat, keeps_ledger}
-use Rattle.frame_table.specs.Rule.{Holds}
-use Rattle.frame_table.specs.Keeping.{Keeps, keeper_word, keeper_written, found_by, knows, reaps, puts, raises, opens, adds, subs, publishes, withdraws, freezes, shows}
+use Rattle.frame_table.specs.Keeping.{Keeps, reaps, puts, raises, opens, adds, subs, publishes, withdraws, freezes, shows}
 use Rattle.frame_table.proofs.Allowed.{MayLoad, MayStore, MayExchange, MayAddOne, MaySubOne}
 use Rattle.frame_table.proofs.KeeperMay.{keeper_may}
 
@@ -67,7 +65,7 @@ module _ (slots id : ℕ) (sh : Shape) (k : Ledger) (tally : Tally) (log : Keepe
   pub may_freeze : (f base : ℕ) → base ≡ (frame_at k f).base → MayStep sh k (Freeze f) → MayExchange freezes slots id base 0 sh (count_at F f) me
   may_freeze f base is may t h size at small =
       let r = keeper_may slots (Freeze f) (λ n. either (eqb n base) 0 n) log sh k tally id may
-          (λ n small told. ap (λ (b : ℕ). either (eqb n b) 0 n) is ∙ exchanged (eqb n (frame_at k f).base) n) t h size at small in
+      (λ n small told. ap (λ (b : ℕ). either (eqb n b) 0 n) is ∙ exchanged (eqb n (frame_at k f).base) n) t h size at small in
       (r.0, r.1, r.2, r.3, λ g is. let same : f ≡ g = omega arith in subst (λ (x : ℕ). Keeps (Freeze x) me (get_or t.words (count_at F f) 0) (r.0, carried_after [] r.1)) same r.4)
 
   -- a word of the table is one word of one page

@@ -1,5 +1,5 @@
 -- A step of the keeper changes one word of the table, and is told what it found there.
-use Rattle.std.proofs.Common.{◌≡◌, ℕ, zero, suc, ◌+◌, ◌-◌, ◌*◌, ◌<◌, ◌≤◌, ◌==◌, ◌&&◌, ◌||◌, Bool, true, false, not, cond, nat_le, nat_lt, List, [], ◌∷◌, ◌++◌, map, length, set, get_or, slice_get, slice_set, Option, Some, None, option_map, option_and_then, refl, ap, sym, subst, ◌∙◌, arith}
+use Rattle.std.proofs.Common.{◌≡◌, ℕ, zero, suc, ◌+◌, ◌*◌, ◌<◌, ◌≤◌, ◌==◌, ◌&&◌, ◌||◌, Bool, true, false, not, cond, nat_le, nat_lt, List, [], ◌∷◌, ◌++◌, map, length, set, get_or, slice_get, slice_set, Option, Some, None, option_map, option_and_then, refl, ap, sym, subst, ◌∙◌, arith}
 use Rattle.std.proofs.lemmas.List.{set-get_or}
 use Rattle.std.proofs.lemmas.Bool.{ltb-true}
 use Rattle.std.proofs.lemmas.Option.{same_Some, slice_get-map, slice_get_within, get_or_from_slice_get}
@@ -148,7 +148,7 @@ module _ (s : State) (rule : Rule s) where
             ∙ ap (λ (w : List ℕ). map place_word (slice_set s.places p life) ++ w) (sym (flat_same frame_words s.frames f fr (record fr { kind = Stable }) Q.1 refl))),
         refl,
         subst (λ (x : Note). x.generation ≤ 1099511627776) (sym (note_there s f fr Q.1))
-        (omega (arith, generation_at_most s.shape.last_generation fr.kind fr.generation (rule.frames f fr Q.1).generation, rule.shape.generation_high)),
+            (omega (arith, generation_at_most s.shape.last_generation fr.kind fr.generation (rule.frames f fr Q.1).generation, rule.shape.generation_high)),
       )
 
   withdraws : (p : ℕ) (r : ℕ × State) → withdraw_step s p ≡ Some r → OneWord s (Withdraw p) r

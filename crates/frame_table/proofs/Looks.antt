@@ -1,15 +1,14 @@
 -- The steps of a lookup, put together.
-use Rattle.std.proofs.Common.{◌≡◌, ℕ, ◌+◌, ◌/◌, ◌%◌, ◌<◌, ◌≤◌, eqb, nat_le, Bool, true, false, cond, List, [], ◌∷◌, ◌++◌, length, sym, refl, ap, ◌∙◌, subst, arith, eq-eqb, ne_eqb, append_assoc, length-append}
+use Rattle.std.proofs.Common.{◌≡◌, ℕ, ◌+◌, ◌<◌, ◌≤◌, eqb, nat_le, Bool, cond, List, [], ◌∷◌, ◌++◌, length, sym, refl, ap, ◌∙◌, subst, arith, ne_eqb, append_assoc, length-append}
 use Rattle.std.proofs.lemmas.Bool.{lt-leb}
 use Rattle.ksm_base.specs.declared.shape.Shape.{Shape}
-use Rattle.frame_core.specs.declared.seat.Aim.{Aim}
 use Rattle.frame_core.specs.declared.seat.Phase.{Phase}
-use Rattle.frame_core.specs.declared.seat.Phase.TheVariants.{Idle, Placed, Doubt, Held}
-use Rattle.frame_core.specs.declared.event.ReaderStep.TheVariants.{LoadPlace, LoadCount, Exchange, LoadGeneration, Leave}
-use Rattle.frame_table.specs.declared.pass.Round.TheVariants.{Zero, Lost, Won}
-use Rattle.frame_table.specs.Rounds.{GoesRound, Checks}
+use Rattle.frame_core.specs.declared.seat.Phase.TheVariants.{Idle, Placed, Doubt}
+use Rattle.frame_core.specs.declared.event.ReaderStep.TheVariants.{LoadPlace, LoadCount, Exchange}
+use Rattle.frame_table.specs.declared.pass.Round.TheVariants.{Lost, Won}
+use Rattle.frame_table.specs.Rounds.{GoesRound}
 use Rattle.frame_table.specs.Lookup.{rounds, AllLost, opening}
-use Rattle.frame_table.specs.Seat.{nothing_known, aim_of, seat_after}
+use Rattle.frame_table.specs.Seat.{aim_of}
 use Rattle.frame_table.specs.Views.{Log, Sat, sits, log_in, IsIn}
 use Rattle.frame_table.specs.Reading.{reader_after, Steps}
 

@@ -1,8 +1,8 @@
 -- The words and the views of a table that was just opened.
-use Rattle.std.proofs.Common.{◌≡◌, ℕ, zero, suc, ◌+◌, ◌*◌, ◌<◌, List, [], ◌∷◌, ◌++◌, map, length, replicate, count_by, cond, Option, None, sym, refl, ap, ◌∙◌, subst, arith}
+use Rattle.std.proofs.Common.{◌≡◌, ℕ, zero, suc, ◌+◌, ◌*◌, List, [], ◌∷◌, ◌++◌, replicate, cond, None, sym, refl, ap, ◌∙◌, subst, arith}
 use Rattle.std.proofs.lemmas.List.{replicate-append-replicate}
 use Rattle.std.proofs.lemmas.List.Folds.{sum_by-replicate}
-use Rattle.std.proofs.Math.Nat.{suc-mul, mul-suc}
+use Rattle.std.proofs.Math.Nat.{suc-mul}
 use Rattle.std.specs.List.{flat_map}
 use mathlib.Core.Option.{some, some-injective, some-ne-none}
 use lib.ListN.{get_elem?}
@@ -11,12 +11,11 @@ use Rattle.ksm_base.specs.declared.page.TheConstants.{PAGE_WORDS}
 use Rattle.ksm_base.specs.declared.shape.Shape.{Shape}
 use Rattle.ksm_base.specs.Values.{IsShape, frames_of}
 use Rattle.frame_core.specs.declared.ledger.Ledger.{Ledger}
-use Rattle.frame_core.specs.declared.seat.Life.{Life}
 use Rattle.frame_core.specs.declared.seat.Phase.{Phase}
 use Rattle.frame_core.specs.declared.seat.Phase.TheVariants.{Idle}
 use Rattle.frame_core.specs.State.{opening, new_frame, place_word}
 use Rattle.frame_core.specs.Words.{words_of, frame_words}
-use Rattle.frame_core.specs.Ledger.{ledger_of, first_ledger}
+use Rattle.frame_core.specs.Ledger.{first_ledger}
 use Rattle.frame_core.proofs.Keeps.{opening_rule}
 use Rattle.frame_core.proofs.Notes.{map_replicate, opening_ledger}
 use Rattle.frame_table.specs.declared.view.View.{View}

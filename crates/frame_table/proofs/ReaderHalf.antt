@@ -1,5 +1,5 @@
 -- A step of a reader, as its seat sees it, is the core's step of the same name.
-use Rattle.std.proofs.Common.{◌≡◌, ℕ, zero, suc, ◌+◌, ◌-◌, ◌*◌, ◌/◌, ◌%◌, ◌<◌, ◌≤◌, ◌==◌, Bool, true, false, cond, eqb, nat_le, List, replicate, map, length, set, get_or, slice_get, slice_set, Option, Some, None, option_map, option_and_then, refl, ap, sym, subst, ◌∙◌, arith, eq-eqb, ne_eqb}
+use Rattle.std.proofs.Common.{◌≡◌, ℕ, suc, ◌+◌, ◌-◌, ◌*◌, ◌/◌, ◌%◌, ◌<◌, ◌≤◌, ◌==◌, Bool, true, false, cond, eqb, nat_le, List, replicate, map, length, set, get_or, slice_get, slice_set, Option, Some, None, option_map, option_and_then, refl, ap, sym, ◌∙◌, arith, eq-eqb, ne_eqb}
 use Rattle.std.proofs.lemmas.List.{map-set, length-map, set-get_or, get_or_append_left}
 use Rattle.std.proofs.lemmas.Option.{same_Some, slice_get-map, slice_get_within, get_or_from_slice_get}
 use Rattle.std.proofs.Math.Nat.{mul-le-mul_right}
@@ -15,11 +15,11 @@ use Rattle.frame_core.specs.declared.ledger.Ledger.{Ledger}
 use Rattle.frame_core.specs.declared.seat.Life.{Life}
 use Rattle.frame_core.specs.declared.seat.Aim.{Aim}
 use Rattle.frame_core.specs.declared.seat.Phase.{Phase}
-use Rattle.frame_core.specs.declared.seat.Phase.TheVariants.{Idle, Placed, Counted, Doubt, Held, Spent}
+use Rattle.frame_core.specs.declared.seat.Phase.TheVariants.{Idle, Placed, Counted, Doubt, Held}
 use Rattle.frame_core.specs.State.{State, place_word}
-use Rattle.frame_core.specs.Words.{words_of, frame_words, count_at, generation_at, content_at}
+use Rattle.frame_core.specs.Words.{words_of, frame_words, count_at, content_at}
 use Rattle.frame_core.specs.Ledger.{ledger_of, note_of}
-use Rattle.frame_core.specs.ReaderSteps.{reader_step, at_seat, at_both, aimed_at, load_place_step, load_count_step, load_generation_step, load_word_step, exchange_step, leave_step, given_back}
+use Rattle.frame_core.specs.ReaderSteps.{reader_step, at_seat, aimed_at, load_place_step, load_count_step, load_generation_step, load_word_step, exchange_step, leave_step, given_back}
 use Rattle.frame_core.specs.Rule.{Rule, is_on}
 use Rattle.frame_core.proofs.Fitting.{get_inside}
 use Rattle.frame_core.proofs.Lists.{set_self, count_one}
@@ -102,21 +102,21 @@ module _ (s : State) (rule : Rule s) (q : ℕ) where
   loads_place p at below =
       let here = get_inside s.places p (omega (arith, rule.place_count)) in
       seat_only (LoadPlace p) Idle (aimed_at p here.0) (load_place_step s.places p) (place_word here.0) at refl
-          (ap (option_map (λ place. (place_word place, aimed_at p place))) here.1) (place_read p here.0 here.1) refl (aimed p here.0 here.1) (names_frame p here.0 here.1)
+      (ap (option_map (λ place. (place_word place, aimed_at p place))) here.1) (place_read p here.0 here.1) refl (aimed p here.0 here.1) (names_frame p here.0 here.1)
 
   loads_count : (aim : Aim) (failures : ℕ) → slice_get s.seats q ≡ Some (Placed aim failures) → ReaderHalf s q LoadCount (Placed aim failures)
   loads_count aim failures at =
       let here = get_inside s.frames aim.life.frame (rule.seats q (Placed aim failures) at).0.inside in
       seat_only LoadCount (Placed aim failures) _ (load_count_step s.frames) here.0.count at refl
-          (ap (option_map (λ fr. (fr.count, cond (fr.count == 0) Idle (Counted aim failures fr.count)))) here.1)
-          (words_get s rule aim.life.frame 0 here.0 here.1 (omega arith)) refl refl (count_at_most s aim.life.frame here.0 here.1 rule)
+      (ap (option_map (λ fr. (fr.count, cond (fr.count == 0) Idle (Counted aim failures fr.count)))) here.1)
+      (words_get s rule aim.life.frame 0 here.0 here.1 (omega arith)) refl refl (count_at_most s aim.life.frame here.0 here.1 rule)
 
   loads_generation : (aim : Aim) → slice_get s.seats q ≡ Some (Doubt aim) → ReaderHalf s q LoadGeneration (Doubt aim)
   loads_generation aim at =
       let here = get_inside s.frames aim.life.frame (rule.seats q (Doubt aim) at).inside in
       seat_only LoadGeneration (Doubt aim) _ (load_generation_step s.frames) here.0.generation at refl
-          (ap (option_map (λ fr. (fr.generation, cond (fr.generation == aim.life.generation) (Held aim (replicate PAGE_WORDS None)) (Doubt aim)))) here.1)
-          (words_get s rule aim.life.frame 1 here.0 here.1 (omega arith)) refl refl tt
+      (ap (option_map (λ fr. (fr.generation, cond (fr.generation == aim.life.generation) (Held aim (replicate PAGE_WORDS None)) (Doubt aim)))) here.1)
+      (words_get s rule aim.life.frame 1 here.0 here.1 (omega arith)) refl refl tt
 
   content_read : (f i w : ℕ) (fr : Frame) → slice_get s.frames f ≡ Some fr → slice_get fr.content i ≡ Some w → get_or (words_of s) (content_at F f i) 0 ≡ w
   content_read f i w fr at here =
@@ -130,9 +130,9 @@ module _ (s : State) (rule : Rule s) (q : ℕ) where
       let here = get_inside s.frames aim.life.frame held.0.inside in
       let word = get_inside here.0.content i (omega (arith, (rule.frames aim.life.frame here.0 here.1).content)) in
       seat_only (LoadWord i) (Held aim known) _ (load_word_step s.frames i) word.0 at refl
-          (ap (option_and_then (λ fr. option_map (λ w. (w, Held aim (slice_set known i (Some w)))) (slice_get fr.content i))) here.1 ∙ ap (option_map (λ w. (w, Held aim (slice_set known i (Some w))))) word.1)
-          (content_read aim.life.frame i word.0 here.0 here.1 word.1) refl refl
-          (λ v e. same_Some word.0 v (sym word.1 ∙ held.1.words here.0 here.1 i v (there known i v e)))
+      (ap (option_and_then (λ fr. option_map (λ w. (w, Held aim (slice_set known i (Some w)))) (slice_get fr.content i))) here.1 ∙ ap (option_map (λ w. (w, Held aim (slice_set known i (Some w))))) word.1)
+      (content_read aim.life.frame i word.0 here.0 here.1 word.1) refl refl
+      (λ v e. same_Some word.0 v (sym word.1 ∙ held.1.words here.0 here.1 i v (there known i v e)))
 
   -- ---------------------------------------------------------------- steps that change a count
 

@@ -1,5 +1,5 @@
 -- Whatever the table is, a step of a reader that the core allows keeps the table's rule.
-use Rattle.std.proofs.Common.{◌≡◌, ℕ, zero, suc, ◌+◌, ◌-◌, ◌*◌, ◌%◌, ◌^◌, ◌<◌, ◌≤◌, ◌≢◌, Bool, true, false, cond, eqb, nat_le, List, [], ◌∷◌, ◌++◌, replicate, map, length, set, get_or, slice_get, slice_set, count_by, Option, Some, refl, ap, sym, subst, ◌∙◌, ⊎_elim, arith}
+use Rattle.std.proofs.Common.{◌≡◌, ℕ, zero, suc, ◌+◌, ◌<◌, ◌≢◌, Bool, true, false, cond, eqb, nat_le, List, [], ◌∷◌, ◌++◌, replicate, map, length, set, get_or, slice_get, slice_set, count_by, Some, refl, ap, sym, subst, ◌∙◌, ⊎_elim, arith}
 use Rattle.std.proofs.lemmas.List.{map-set, length-map, set-append_left}
 use Rattle.std.proofs.lemmas.Option.{slice_get_within}
 use mathlib.Core.Option.{some}
@@ -21,13 +21,13 @@ use Rattle.frame_core.proofs.Keeps.{step_keeps}
 use Rattle.frame_core.proofs.Lists.{count_set}
 use Rattle.frame_table.specs.declared.view.Tally.{Tally}
 use Rattle.frame_table.specs.declared.view.View.{View}
-use Rattle.frame_table.specs.declared.view.View.TheVariants.{Keeper, Reader, Spent}
+use Rattle.frame_table.specs.declared.view.View.TheVariants.{Reader}
 use Rattle.frame_table.specs.Seat.{MayRead, word_of, written, seat_after}
-use Rattle.frame_table.specs.Views.{Log, Sat, sits, phase_of}
+use Rattle.frame_table.specs.Views.{Log, sits, phase_of}
 use Rattle.frame_table.specs.Rule.{Holds, Tied, is_out}
 use Rattle.frame_table.specs.Reading.{Makes, tells}
 use Rattle.frame_table.proofs.Looked.{got}
-use Rattle.frame_table.proofs.ReaderHalf.{ReaderHalf, reader_half}
+use Rattle.frame_table.proofs.ReaderHalf.{reader_half}
 
 abbrev pub St : Type 0
 St = State (Unit {0}) View

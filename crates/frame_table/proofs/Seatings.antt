@@ -1,27 +1,22 @@
 -- The table's rule where a pass is made, where one is given back, and what it says at the end.
-use Rattle.std.proofs.Common.{◌≡◌, ℕ, zero, suc, ◌+◌, ◌-◌, ◌<◌, ◌≤◌, ◌≢◌, Bool, true, false, cond, eqb, List, [], ◌∷◌, ◌++◌, map, length, get_or, set, slice_get, slice_set, replicate, count_by, Option, Some, None, option_map, sym, refl, ap, ◌∙◌, subst, ⊎_elim, arith, append_assoc}
-use Rattle.std.proofs.lemmas.List.{length-map, get_or_append_left}
+use Rattle.std.proofs.Common.{◌≡◌, ℕ, zero, suc, ◌+◌, ◌-◌, ◌<◌, ◌≤◌, ◌≢◌, Bool, true, false, cond, eqb, List, [], ◌∷◌, ◌++◌, map, set, slice_set, replicate, count_by, None, sym, refl, ap, ◌∙◌, subst, ⊎_elim, arith, append_assoc}
 use Rattle.std.proofs.lemmas.List.Sums.{sum_by-le-sum_by}
-use Rattle.std.proofs.lemmas.Option.{slice_get-map, slice_get_within, get_or_from_slice_get}
-use Rattle.std.specs.List.{flat_map}
-use mathlib.Core.Option.{some, some-injective, some-ne-none}
+use Rattle.std.proofs.lemmas.Option.{get_or_from_slice_get}
+use mathlib.Core.Option.{some, some-ne-none}
 use mathlib.Core.List.{map-append}
 use lib.ListN.{get_elem?}
 use Rattle.atomic_table.specs.Table.{Splits, Joins, Seen, Final}
-use Rattle.atomic_table.proofs.Lists.{at_set, at_snoc, set_else}
-use Rattle.ksm_base.specs.declared.page.TheConstants.{PAGE_WORDS}
+use Rattle.atomic_table.proofs.Lists.{at_set, at_snoc}
 use Rattle.ksm_base.specs.declared.shape.Shape.{Shape}
 use Rattle.ksm_base.specs.Values.{frames_of}
-use Rattle.frame_core.specs.declared.frame.Frame.{Frame}
 use Rattle.frame_core.specs.declared.ledger.Ledger.{Ledger}
 use Rattle.frame_core.specs.declared.ledger.Note.{Note}
-use Rattle.frame_core.specs.declared.seat.Life.{Life}
 use Rattle.frame_core.specs.declared.seat.Phase.{Phase}
 use Rattle.frame_core.specs.declared.seat.Phase.TheVariants.{Idle, Placed, Counted, Doubt, Held, Spent as spent_phase}
 use Rattle.frame_core.specs.State as core
 use Rattle.frame_core.specs.State.{place_word}
-use Rattle.frame_core.specs.Words.{words_of, frame_words, count_at, generation_at}
-use Rattle.frame_core.specs.Ledger.{ledger_of, frame_at, named_at}
+use Rattle.frame_core.specs.Words.{words_of}
+use Rattle.frame_core.specs.Ledger.{ledger_of}
 use Rattle.frame_core.specs.Rule as core_rule
 use Rattle.frame_core.specs.Rule.{is_on, readers_on}
 use Rattle.frame_core.proofs.Changes.{seat_changed}
@@ -35,7 +30,6 @@ use Rattle.frame_table.specs.declared.view.View.TheVariants.{Keeper, Reader, Spe
 use Rattle.frame_table.specs.Views.{Log, KeeperLog, phase_of, tally_of}
 use Rattle.frame_table.specs.Rule.{Holds, Tied, is_out}
 use Rattle.frame_table.specs.Seats.{one_more, newcomer, one_less, Ends}
-use Rattle.frame_table.proofs.Looked.{got}
 use Rattle.frame_table.proofs.ReaderHalf.{place_read}
 use Rattle.frame_table.proofs.ReaderMay.{St, seat_there, seats_set}
 use Rattle.frame_table.proofs.KeeperMay.{phases_stay, tied_again}

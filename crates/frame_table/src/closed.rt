@@ -58,8 +58,7 @@ impl ClosedTable {
         requires { frame < frames_of self.now.shape }
         ensures { result ≡ slice_index self.now.words (count_at (frames_of self.now.shape) frame) }
     {
-        self.closed
-            .word(self.shape.frames() as usize + frame as usize * (2 + PAGE_WORDS))
+        self.closed.word(self.shape.frames() as usize + frame as usize * (2 + PAGE_WORDS))
     }
 
     /// How many times a frame was given.
@@ -67,8 +66,7 @@ impl ClosedTable {
         requires { frame < frames_of self.now.shape }
         ensures { result ≡ slice_index self.now.words (generation_at (frames_of self.now.shape) frame) }
     {
-        self.closed
-            .word(self.shape.frames() as usize + frame as usize * (2 + PAGE_WORDS) + 1)
+        self.closed.word(self.shape.frames() as usize + frame as usize * (2 + PAGE_WORDS) + 1)
     }
 
     /// The word of a place: 0 where it is empty, else `generation * 1024 + frame`.

@@ -164,7 +164,9 @@ impl FrameTable {
         ensures seat { (seat.new.table_id ≡ seat.old.table_id) × (seat.new.id ≡ seat.old.id) }
         ensures step { Keeps (keeper.Publish place frame) seat.old.me 0 seat.new.me }
     {
-        self.table.shared.store::<Publish>(seat, place as usize, name);
+        self.table
+            .shared
+            .store::<Publish>(seat, place as usize, name);
     }
 
     pub(crate) fn withdraw_at(&self, seat: &mut Seat<(), View>, place: u32)

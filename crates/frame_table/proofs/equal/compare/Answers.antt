@@ -1,4 +1,4 @@
-use Rattle.std.proofs.Common.{ap, ◌∙◌, refl, arith}
+use Rattle.std.proofs.Common.{ap, ◌∙◌, arith}
 use Rattle.frame_table.proofs.Compared.{same_hold, reads_more, still_read}
 use Rattle.frame_table.proofs.equal.compare.Goals as goal
 

@@ -1,5 +1,4 @@
 use Rattle.std.proofs.Common.{rules, ◌≡◌, ap, ◌∙◌}
-use Rattle.ksm_base.specs.declared.shape.Shape.{Shape}
 use Rattle.frame_table.specs.Keeping.{freezes}
 use Rattle.frame_table.proofs.Allowed.{turned, MayExchange}
 use Rattle.frame_table.proofs.KeeperCalls.{may_freeze}

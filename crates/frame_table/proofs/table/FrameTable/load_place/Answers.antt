@@ -1,5 +1,4 @@
 use Rattle.std.proofs.Common.{rules, ◌≡◌, ap, ◌∙◌, refl}
-use Rattle.ksm_base.specs.declared.shape.Shape.{Shape}
 use Rattle.frame_table.specs.Reading.{loads_place}
 use Rattle.frame_table.proofs.Allowed.{turned, MayLoad}
 use Rattle.frame_table.proofs.ReaderCalls.{may_load_place}

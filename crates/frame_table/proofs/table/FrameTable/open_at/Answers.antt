@@ -1,5 +1,4 @@
 use Rattle.std.proofs.Common.{rules, ◌≡◌, ap, ◌∙◌}
-use Rattle.ksm_base.specs.declared.shape.Shape.{Shape}
 use Rattle.frame_table.specs.Keeping.{opens}
 use Rattle.frame_table.proofs.Allowed.{turned, MayStore}
 use Rattle.frame_table.proofs.KeeperCalls.{may_open}

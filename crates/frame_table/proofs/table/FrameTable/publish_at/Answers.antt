@@ -1,5 +1,4 @@
 use Rattle.std.proofs.Common.{rules, ◌≡◌, ap, ◌∙◌, refl, ◌≤◌, subst, arith}
-use Rattle.ksm_base.specs.declared.shape.Shape.{Shape}
 use Rattle.ksm_base.specs.Values.{IsShape, frames_of}
 use Rattle.frame_table.specs.Keeping.{publishes}
 use Rattle.frame_table.proofs.Allowed.{turned, MayStore}

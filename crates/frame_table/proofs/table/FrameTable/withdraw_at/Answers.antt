@@ -1,5 +1,4 @@
 use Rattle.std.proofs.Common.{rules, ◌≡◌, ap, ◌∙◌, refl}
-use Rattle.ksm_base.specs.declared.shape.Shape.{Shape}
 use Rattle.frame_table.specs.Keeping.{withdraws}
 use Rattle.frame_table.proofs.Allowed.{turned, MayStore}
 use Rattle.frame_table.proofs.KeeperCalls.{may_withdraw}
