@@ -66,11 +66,12 @@ run_of_two_stops_part_way =
     reg 0 1 0 0xaa ∷ reg 0 2 0 0xaa ∷ ok (SetRun 1) ∷ scan 4 ∷ reg 0 0 0 0xbb ∷ reg 0 3 0 0xcc ∷ scan 8 ∷ stat 1 1 2 0 0 0 4
     ∷ stopped (SetRun 2) 1 0 ∷ stat 1 0 2 1 0 0 4 ∷ ticket 0 2 0 ∷ shows (λ k. k.run) 0 ∷ []
 
--- unmerging takes one guest; its pages are neither mergeable nor unchanged, and making it mergeable again takes that guest alone
+-- unmerging takes one guest, whose pages the scan leaves out from then on; making it mergeable again takes that guest alone
 abbrev pub unmerging_takes_one_guest : List Line
 unmerging_takes_one_guest =
     reg 0 0 0 0xaa ∷ reg 1 0 0 0xaa ∷ reg 2 0 0 0xaa ∷ ok (SetRun 1) ∷ scan 6 ∷ stat 1 2 0 0 0 0 2
-    ∷ unmerge 0 1 ∷ unmerge 1 1 ∷ stat 1 0 0 0 0 0 2 ∷ ticket 2 0 0 ∷ ok (Mergeable 0) ∷ stat 1 0 0 1 0 0 2 ∷ []
+    ∷ unmerge 0 1 ∷ unmerge 1 1 ∷ stat 1 0 0 0 0 0 2 ∷ ticket 2 0 0 ∷ scan 2 ∷ stat 1 0 0 0 0 0 4 ∷ ok (Mergeable 0)
+    ∷ stat 1 0 0 1 0 0 4 ∷ []
 
 -- pages that were unmerged are not unchanged, so they need two passes more
 abbrev pub unmerged_pages_start_anew : List Line

@@ -188,7 +188,7 @@ pub fn run_of_two_stops_part_way()
     ensures { Plays (opening (shape 1 4)) WorkedEdges.run_of_two_stops_part_way }
 {}
 
-/// Unmerging takes one guest; its pages are neither mergeable nor unchanged, and making it mergeable again takes that guest alone.
+/// Unmerging takes one guest, whose pages the scan leaves out from then on; making it mergeable again takes that guest alone.
 pub fn unmerging_takes_one_guest()
     ensures { Plays (opening (shape 1 4)) WorkedEdges.unmerging_takes_one_guest }
 {}
