@@ -9,3 +9,5 @@ pub mod Taken
 pub mod Ranks
 pub mod Laying
 pub mod Found
+pub mod RowLists
+pub mod RowWalks
