@@ -11,3 +11,5 @@ pub mod Laying
 pub mod Found
 pub mod RowLists
 pub mod RowWalks
+pub mod Withdrawn
+pub mod Sharing

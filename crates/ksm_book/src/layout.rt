@@ -1,19 +1,22 @@
 //! Rows and dups as they lie in the keeper's frames: each call is one lawful change of both.
 
-ghost use Rattle.std.specs.Prelude.{◌≡◌, ◌<◌, [], true, None, Err, is_some, option_map, OnOk, OnErr, IfOk};
+ghost use Rattle.std.specs.Prelude.{◌≡◌, ◌<◌, ◌+◌, ◌⊎◌, [], true, false, None, Err, All, filter, map, is_some, option_map, OnOk, OnErr, IfOk};
 ghost use Rattle.ksm_base.specs.declared.fault.Fault.TheVariants.{Memory};
-ghost use Rattle.ksm_base.specs.declared.row.PageState.TheVariants.{Private};
-ghost use Rattle.ksm_base.specs.Rows.{row_at, with_row, without_page, change_row};
-ghost use Rattle.ksm_base.specs.Values.{IsShape};
+ghost use Rattle.ksm_base.specs.declared.row.PageState.TheVariants.{Private, Merged};
+ghost use Rattle.ksm_base.specs.Rows.{row_at, with_row, with_dup, without_page, change_row, change_rows, merged_state, settled};
+ghost use Rattle.ksm_base.specs.Apply.{unshared};
+ghost use Rattle.ksm_base.specs.Refusals.{is_of};
+ghost use Rattle.ksm_base.specs.Values.{IsShape, frames_of};
 ghost use Rattle.frame_core.specs.Ledger.{first_ledger};
-ghost use Rattle.ksm_book.specs.Laid.{IsHoused, Knows, IsOnItsOwn, LodgesAs, Stores, LoadsIf};
+ghost use Rattle.ksm_book.specs.Laid.{IsHoused, Knows, IsOnItsOwn, LodgesAs, Joins, Founds, IsVacant, new_dup, elsewhere, Stores, LoadsIf};
 ghost use Rattle.ksm_book.specs.Steps.{Does};
 
 use crate::dups::Dups;
-use crate::frames::{load, release, take_frame, write};
+use crate::frames::{clear, load, release, share, take_frame, write};
+use crate::row::tree_of;
 use crate::rows::Rows;
 use frame_table::{FrameTable, Keeper};
-use ksm_base::{Fault, GuestPage, Knobs, PageBytes, Row, Shape};
+use ksm_base::{DupRow, Fault, GuestPage, Knobs, PageBytes, PageState, Row, Shape};
 use std::alloc::Global;
 use std::marker::Model;
 
@@ -194,5 +197,108 @@ impl Layout {
         };
         self.rows.remove(page);
         release(&mut self.keeper, table, held.frame);
+    }
+
+    /// No page waits any more.
+    pub fn settle_all(&mut self)
+        ensures { self.new ≡ record self.old { rows = map settled self.old.rows } }
+    {
+        self.rows.settle_all();
+    }
+
+    /// All pages of a guest become mergeable.
+    pub fn make_mergeable(&mut self, guest: u16)
+        ensures { self.new ≡ record self.old { rows = change_rows (is_of guest) (λ r. record r { mergeable = true }) self.old.rows } }
+    {
+        self.rows.make_mergeable(guest);
+    }
+
+    /// All pages become Private and not unchanged, where none is merged.
+    pub fn unshare_all(&mut self)
+        requires { All (λ r. merged_state r.state ≡ false) self.old.rows }
+        ensures { self.new ≡ record self.old { rows = map unshared self.old.rows } }
+    {
+        self.rows.unshare_all();
+    }
+
+    /// Sets the knobs; `merge_across_nodes` changes only where no dup is.
+    pub fn set_knobs(&mut self, knobs: Knobs)
+        requires { (knobs.merge_across_nodes ≡ self.old.knobs.merge_across_nodes) ⊎ (self.old.dups ≡ []) }
+        ensures { self.new ≡ record self.old { knobs = knobs } }
+    {
+        self.knobs = knobs;
+    }
+
+    /// The page of a row with a frame of its own joins the dup of an item, and leaves its frame.
+    pub fn join(&mut self, table: &FrameTable, row: Row, item: Row)
+        requires own { self.old.keeper.table ≡ table.now }
+        requires joins { Joins self.old row item }
+        ensures own { self.new.keeper.table ≡ self.old.keeper.table }
+        ensures state { self.new ≡ record self.old { rows = change_row row.page (λ _. record row { state = item.state }) self.old.rows; keeper = self.new.keeper } }
+        ensures does { Does self.old.keeper self.new.keeper [] }
+    {
+        let Some(held) = self.rows.find(row.page) else {
+            return;
+        };
+        let Some(other) = self.rows.find(item.page) else {
+            return;
+        };
+        share(&mut self.keeper, table, other.frame);
+        self.rows.replace(
+            Row {
+                state: item.state,
+                ..row
+            },
+            other.frame,
+        );
+        release(&mut self.keeper, table, held.frame);
+    }
+
+    /// A new dup stands at a place, on the frame of a row that has one of its own and becomes its first item. A stale dup at the place goes first. Refused for memory alone.
+    pub fn found(&mut self, table: &FrameTable, place: u32, row: Row) -> Result<(), Fault>
+        requires own { self.old.keeper.table ≡ table.now }
+        requires founds { Founds self.old place row }
+        ensures own { self.new.keeper.table ≡ self.old.keeper.table }
+        ensures state { OnOk result (self.new ≡ record self.old { rows = change_row row.page (λ _. record row { state = Merged self.old.next }) self.old.rows; dups = with_dup (new_dup self.old place row) self.old.dups; next = self.old.next + 1; keeper = self.new.keeper }) }
+        ensures does { Does self.old.keeper self.new.keeper [] }
+        ensures refused { OnErr result (self.new ≡ self.old) }
+        ensures fault { OnErr result (result ≡ Err Memory) }
+    {
+        let Some(held) = self.rows.find(row.page) else {
+            return Ok(());
+        };
+        let dup = DupRow {
+            number: self.next,
+            place,
+            tree: tree_of(&self.knobs, &row),
+            bytes: row.bytes,
+        };
+        let taken = self.dups.has(place);
+        self.dups.put(dup)?;
+        clear(&mut self.keeper, table, place, taken);
+        self.keeper.publish(table, place, held.frame);
+        self.rows.replace(
+            Row {
+                state: PageState::Merged(dup.number),
+                ..row
+            },
+            held.frame,
+        );
+        self.next += 1;
+        Ok(())
+    }
+
+    /// The stale dup at a place goes.
+    pub fn drop_stale(&mut self, table: &FrameTable, place: u32)
+        requires own { self.old.keeper.table ≡ table.now }
+        requires inside { place < frames_of self.old.shape }
+        requires vacant { IsVacant place self.old.rows self.old.dups }
+        ensures own { self.new.keeper.table ≡ self.old.keeper.table }
+        ensures state { self.new ≡ record self.old { dups = filter (elsewhere place) self.old.dups; keeper = self.new.keeper } }
+        ensures does { Does self.old.keeper self.new.keeper [] }
+    {
+        let taken = self.dups.has(place);
+        clear(&mut self.keeper, table, place, taken);
+        self.dups.remove(place);
     }
 }
