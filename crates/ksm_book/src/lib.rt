@@ -2,6 +2,7 @@
 #![tactic(auto)]
 
 mod dups;
+mod entry;
 mod frames;
 mod layout;
 mod row;
