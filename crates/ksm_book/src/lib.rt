@@ -3,6 +3,7 @@
 
 mod book;
 mod dups;
+mod entry;
 mod frames;
 mod knobs;
 mod layout;

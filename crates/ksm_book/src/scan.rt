@@ -107,7 +107,7 @@ impl State {
         ensures fault { OnErr result (result ≡ Err Memory) }
         ensures does { Does self.old.keeper self.new.keeper [] }
     {
-        if is_merged(&row) {
+        if is_merged(row.state) {
             return Ok(());
         }
         if let Some(dup) = self.layout.best(&row) {

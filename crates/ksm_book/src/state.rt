@@ -116,7 +116,7 @@ impl State {
         let Some(row) = self.layout.row(page) else {
             return Err(Fault::UnknownPage);
         };
-        if !is_merged(&row) {
+        if !is_merged(row.state) {
             self.layout.rewrite(table, stored(row, bytes));
             return Ok(Reply::Done);
         }
