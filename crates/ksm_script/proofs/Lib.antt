@@ -1,0 +1,5 @@
+pub mod Tests
+pub mod Words
+pub mod Numbers
+pub mod Fields
+pub mod Lines

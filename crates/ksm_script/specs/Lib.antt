@@ -1,0 +1,3 @@
+pub mod Content
+pub mod Grammar
+pub mod Reading
