@@ -3,3 +3,5 @@ pub mod Words
 pub mod Numbers
 pub mod Fields
 pub mod Lines
+pub mod Parts
+pub mod Decimals
