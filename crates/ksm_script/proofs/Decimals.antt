@@ -33,15 +33,17 @@ put_step buffer number rest at high p =
     let above : 1 ≤ at = omega (arith, p.room, longer, some) in
     let back : at - 1 + 1 ≡ at = omega (arith, above) in
     let in_range : at < length buffer = omega (arith, p.within, p.long) in
-    let behind : drop (at - 1 + 1) (set buffer at digit) ≡ digit ∷ drop (at + 1) buffer = ap (λ k. drop k (set buffer at digit)) back ∙ drop-set buffer at digit in_range in
-    (above, record {
-      long = length-set buffer at digit ∙ p.long;
-      small = less;
-      room = omega (arith, p.room, longer, above);
-      within = omega (arith, p.within);
-      whole = ap (λ (t : List ℕ). decimal (rest / 10) ++ t) behind ∙ sym (append_assoc (decimal (rest / 10)) (digit ∷ []) (drop (at + 1) buffer))
-      ∙ ap (λ (t : List ℕ). t ++ drop (at + 1) buffer) (sym step) ∙ p.whole;
-    })
+    let behind : drop (at - 1 + 1) (set buffer at digit) ≡ digit ∷ drop (at + 1) buffer = ap (λ k. drop k (set buffer at digit)) back ∙ drop-set buffer at digit in_range in (
+      above,
+      record {
+        long = length-set buffer at digit ∙ p.long;
+        small = less;
+        room = omega (arith, p.room, longer, above);
+        within = omega (arith, p.within);
+        whole = ap (λ (t : List ℕ). decimal (rest / 10) ++ t) behind ∙ sym (append_assoc (decimal (rest / 10)) (digit ∷ []) (drop (at + 1) buffer))
+            ∙ ap (λ (t : List ℕ). t ++ drop (at + 1) buffer) (sym step) ∙ p.whole;
+      },
+    )
 
 pub put_ended : (buffer : List ℕ) (number rest at : ℕ) → rest < 10 → IsPut buffer number rest at → drop at (set buffer at (48 + rest)) ≡ decimal number
 put_ended buffer number rest at low p =

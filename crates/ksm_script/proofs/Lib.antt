@@ -5,3 +5,4 @@ pub mod Fields
 pub mod Lines
 pub mod Parts
 pub mod Decimals
+pub mod Turns

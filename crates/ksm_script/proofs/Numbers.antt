@@ -48,10 +48,10 @@ parsed {E = E} word (Ok n) e h =
 parsed {E = E} word (Err f) e h =
     let is = parse_digits own {E = E} 32 word (Err f) h (plain_parts word e).digits in
     let high : ltb (digits_value 10 word) (2 ^ 32) ≡ false =
-        elim (cases_lt (digits_value 10 word) (2 ^ 32)) [
-          | inl lt ↦ absurd (is ((plain_parts word e).long, lt))
-          | inr le ↦ le-ltb _ _ le
-        ] in
+    elim (cases_lt (digits_value 10 word) (2 ^ 32)) [
+      | inl lt ↦ absurd (is ((plain_parts word e).long, lt))
+      | inr le ↦ le-ltb _ _ le
+    ] in
     rw (e, high) refl
 
 -- what a fault of `parse` says of a plain word

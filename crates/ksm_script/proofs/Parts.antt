@@ -7,8 +7,8 @@ use Rattle.std.specs.List.{flat_map}
 use Rattle.std.specs.Io.KnownBytes.{Appends, Keeps}
 use Rattle.std.proofs.KnownBytes.{Appends-trans, Appends-kept}
 use Rattle.std.specs.Prelude.{IfErr, IsErrAnd}
-use Rattle.ksm_script.specs.declared.run.RunFault.{RunFault}
-use Rattle.ksm_script.specs.declared.run.RunFault.TheVariants.{Write}
+use Rattle.ksm_script.specs.declared.script.RunFault.{RunFault}
+use Rattle.ksm_script.specs.declared.script.RunFault.TheVariants.{Write}
 use Rattle.ksm_script.specs.Texts.{AppendsPart}
 
 pub one_more : (a b c : Option (List ℕ)) (text : List ℕ) (n m : ℕ)

@@ -20,4 +20,3 @@ first_true false b e = absurd cc
 pub second_true : (a b : Bool) → (a && b) ≡ true → b ≡ true
 second_true true b e = e
 second_true false b e = absurd cc
-

@@ -4,3 +4,7 @@ pub mod Reading
 pub mod Texts
 pub mod Pieces
 pub mod Replies
+pub mod Input
+pub mod Answering
+pub mod Script
+pub mod Seen

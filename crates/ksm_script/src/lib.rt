@@ -2,11 +2,14 @@
 #![tactic(auto)]
 
 mod field;
+mod input;
 mod line;
 mod output;
 mod reply;
-mod run;
+mod script;
+mod session;
 
 pub use line::{Line, LineFault, read_line};
 pub use reply::{LineReply, write_reply};
-pub use run::RunFault;
+pub use script::{End, RunFault, run};
+pub use session::Session;

@@ -20,9 +20,14 @@ pub enum Line {
         bytes: PageBytes,
     },
     /// `put G P HEX`
-    Store { page: GuestPage, bytes: PageBytes },
+    Store {
+        page: GuestPage,
+        bytes: PageBytes,
+    },
     /// `get G P`
-    Get { page: GuestPage },
+    Get {
+        page: GuestPage,
+    },
     /// `stat`
     Stat,
 }

@@ -6,7 +6,7 @@ ghost use Rattle.std.specs.Io.KnownBytes.{Appends};
 ghost use Rattle.ksm_script.specs.Texts.{AppendsPart, word_digits, nibble_at, content_text};
 ghost use Rattle.ksm_script.specs.Pieces.{piece_text};
 
-use crate::run::RunFault;
+use crate::script::RunFault;
 use ksm_base::PageBytes;
 use std::io::Write;
 

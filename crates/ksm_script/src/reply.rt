@@ -6,7 +6,7 @@ ghost use Rattle.ksm_script.specs.Texts.{AppendsPart};
 ghost use Rattle.ksm_script.specs.Replies.{text_of, counted_text, stopped_text, counters_text, mapper_text, mappers_text};
 
 use crate::output::{Piece, write_pieces, write_text};
-use crate::run::RunFault;
+use crate::script::RunFault;
 use ksm_base::{Counters, Fault, GuestPage, PageBytes};
 use std::io::Write;
 

@@ -1,0 +1,51 @@
+-- What a line is answered, and the book state after it (own).
+use Rattle.std.specs.Prelude.{◌≡◌, ℕ, List, [], Option, Some, None, Ok, Err}
+use Rattle.ksm_base.specs.declared.command.Command.{Command}
+use Rattle.ksm_base.specs.declared.command.Command.TheVariants as commands
+use Rattle.ksm_base.specs.declared.reply.Reply.TheVariants as replies
+use Rattle.ksm_base.specs.declared.fault.Fault.TheVariants.{UnknownPage}
+use Rattle.ksm_base.specs.State.{BookState}
+use Rattle.ksm_base.specs.Answers.{Answer, IsAnswerOrMemory}
+use Rattle.ksm_base.specs.Apply.{after}
+use Rattle.ksm_base.specs.Counting.{counters_of}
+use Rattle.ksm_base.specs.Reading.{bytes_of}
+use Rattle.ksm_script.specs.declared.line.Line.{Line}
+use Rattle.ksm_script.specs.declared.line.Line.TheVariants.{Empty, Register, Store, Get, Stat}
+use Rattle.ksm_script.specs.declared.reply.LineReply.{LineReply}
+use Rattle.ksm_script.specs.declared.reply.LineReply.TheVariants.{Done, Content, Scanned, Pruned, Unmerged, Counters, Refused}
+use Rattle.ksm_script.specs.Replies.{text_of}
+
+-- the reply to the answer of a command
+abbrev pub reply_to : Answer → LineReply
+reply_to (Ok replies.Done) = Done
+reply_to (Ok (replies.Scanned visits stop)) = Scanned visits stop
+reply_to (Ok (replies.Pruned count)) = Pruned count
+reply_to (Ok (replies.Unmerged pages stop)) = Unmerged pages stop
+reply_to (Err fault) = Refused fault
+
+-- A command is a step of the book; refused for memory it is left out.
+abbrev pub Commands : Command → BookState → Option LineReply → BookState → Type 0
+Commands command b reply next =
+    (answer : Answer) × IsAnswerOrMemory b command answer × (reply ≡ Some (reply_to answer)) × (next ≡ after b command answer)
+
+-- what a line reads is a function of the book state, which it keeps
+abbrev pub Reads : (BookState → Option LineReply) → BookState → Option LineReply → BookState → Type 0
+Reads told b reply next = (reply ≡ told b) × (next ≡ b)
+
+-- the content of a page, if it has a row
+abbrev pub content_reply : Option (List ℕ) → LineReply
+content_reply None = Refused UnknownPage
+content_reply (Some content) = Content content
+
+-- a line is answered so in a book state, and leaves the other one
+abbrev pub Answers : Line → BookState → Option LineReply → BookState → Type 0
+Answers Empty = Reads (λ b. None)
+Answers (Register page node bytes) = Commands (commands.Register page node bytes)
+Answers (Store page bytes) = Commands (commands.Store page bytes)
+Answers (Get page) = Reads (λ b. Some (content_reply (bytes_of page b)))
+Answers Stat = Reads (λ b. Some (Counters (counters_of b)))
+
+-- a line of no bytes has no reply
+abbrev pub reply_text : Option LineReply → List ℕ
+reply_text None = []
+reply_text (Some reply) = text_of reply
