@@ -35,7 +35,7 @@ note_changed s f fr next change at is =
     (map-set note_of s.frames f next ∙ ap (λ (n : Note). slice_set (map note_of s.frames) f n) (is ∙ ap change (sym (note_at s f fr at))))
 
 -- the keeper first knows that no frame was given and no place names anything
-map_replicate : {A B : Type 0} (f : A → B) (n : ℕ) (a : A) → map f (replicate n a) ≡ replicate n (f a)
+pub map_replicate : {A B : Type 0} (f : A → B) (n : ℕ) (a : A) → map f (replicate n a) ≡ replicate n (f a)
 map_replicate f zero a = refl
 map_replicate f (suc n) a = ap (λ (xs : List _). f a ∷ xs) (map_replicate f n a)
 

@@ -66,7 +66,8 @@ module _ {X : Type 0} (p : X → Bool) where
   count_filter_le q (x ∷ xs) = let induction = count_filter_le q xs in grind (arith, count_more, induction)
 
   -- of two filters that no element passes both
-  pub count_filters_le : (q s : X → Bool) (xs : List X) → All (λ x. q x ≡ true → s x ≡ false) xs → count_by p (filter q xs) + count_by p (filter s xs) ≤ count_by p xs
+  pub count_filters_le : (q s : X → Bool) (xs : List X) → All (λ x. q x ≡ true → s x ≡ false) xs
+      → count_by p (filter q xs) + count_by p (filter s xs) ≤ count_by p xs
   count_filters_le q s [] apart = omega arith
   count_filters_le q s (x ∷ xs) apart =
       let here = All-head (λ y. q y ≡ true → s y ≡ false) x xs apart in
@@ -82,7 +83,8 @@ module _ {X : Type 0} (p : X → Bool) where
       grind (arith, count_more, here, induction)
 
   -- a change of some elements counts at most as many more
-  pub count_change_le : (test : X → Bool) (f : X → X) (xs : List X) → count_by p (map (λ x. if test x then f x else x) xs) ≤ count_by p xs + count_by test xs
+  pub count_change_le : (test : X → Bool) (f : X → X) (xs : List X)
+      → count_by p (map (λ x. if test x then f x else x) xs) ≤ count_by p xs + count_by test xs
   count_change_le test f [] = omega arith
   count_change_le test f (x ∷ xs) = let induction = count_change_le test f xs in grind (arith, count_more, induction)
 

@@ -30,7 +30,8 @@ module _ (kept : GuestPage → Option (List ℕ)) where
   abbrev Reads : List Row → Type 0
   Reads rows = All Has rows
 
-  reads_map : (f : Row → Row) (page : (r : Row) → (f r).page ≡ r.page) (bytes : (r : Row) → (f r).bytes ≡ r.bytes) (rows : List Row) → Reads rows → Reads (map f rows)
+  reads_map : (f : Row → Row) (page : (r : Row) → (f r).page ≡ r.page) (bytes : (r : Row) → (f r).bytes ≡ r.bytes) (rows : List Row) → Reads rows
+      → Reads (map f rows)
   reads_map f page bytes rows h = All-map Has f rows (λ k d lt. rw (page (get_or rows k d), bytes (get_or rows k d)) (h k d lt))
 
   reads_change : (test : Row → Bool) (f : Row → Row) (page : (r : Row) → (f r).page ≡ r.page) (bytes : (r : Row) → (f r).bytes ≡ r.bytes) (rows : List Row) → Reads rows → Reads (change_rows test f rows)
@@ -103,7 +104,8 @@ refused_stores page (SetPagesToScan v) f = refl
 refused_stores page (SetAcross v) f = refl
 refused_stores page (SetLimit v) f = refl
 
-reads_effect : (kept : GuestPage → Option (List ℕ)) (b : BookState) (c : Command) (r : Reply) → Reads kept b.rows → Reads (kept_after c (Ok r) kept) (effect b c r).rows
+reads_effect : (kept : GuestPage → Option (List ℕ)) (b : BookState) (c : Command) (r : Reply) → Reads kept b.rows
+    → Reads (kept_after c (Ok r) kept) (effect b c r).rows
 reads_effect kept b (Register page node bytes) r h = reads_with kept page bytes (fresh_row page node bytes) b.rows refl refl h
 reads_effect kept b (Drop page) r h = All-filter (λ r. not (same_page r.page page)) (Has kept) b.rows h
 reads_effect kept b (Store page bytes) r h = reads_stored kept page bytes b.rows h
@@ -133,11 +135,13 @@ reads_effect kept b (SetLimit v) r h =
     cond_both (v == b.knobs.max_page_sharing) b (record (without_stale b) { knobs = record b.knobs { max_page_sharing = v } }) (λ x. Reads kept x.rows)
     (λ _. h) (λ _. h)
 
-reads_after : (kept : GuestPage → Option (List ℕ)) (b : BookState) (c : Command) (a : Answer) → Reads kept b.rows → Reads (kept_after c a kept) (after b c a).rows
+reads_after : (kept : GuestPage → Option (List ℕ)) (b : BookState) (c : Command) (a : Answer) → Reads kept b.rows
+    → Reads (kept_after c a kept) (after b c a).rows
 reads_after kept b c (Ok r) h = reads_effect kept b c r h
 reads_after kept b c (Err f) h = λ k d lt. rw (refused_stores (get_or b.rows k d).page c f) (h k d lt)
 
-reads_replay : (kept : GuestPage → Option (List ℕ)) (b : BookState) (es : List Entry) → Reads kept b.rows → Reads (λ page. fold (λ earlier e. or_else (stored_by page e) earlier) (kept page) es) (replay b es).rows
+reads_replay : (kept : GuestPage → Option (List ℕ)) (b : BookState) (es : List Entry) → Reads kept b.rows
+    → Reads (λ page. fold (λ earlier e. or_else (stored_by page e) earlier) (kept page) es) (replay b es).rows
 reads_replay kept b [] h = h
 reads_replay kept b (e ∷ es) h = reads_replay (kept_after e.0 e.1 kept) (after b e.0 e.1) es (reads_after kept b e.0 e.1 h)
 
@@ -146,7 +150,8 @@ pub reads_last : (b : BookState) (es : List Entry) → b.rows ≡ [] → ReadsLa
 reads_last b es none = reads_replay (λ _. None) b es (rw none (λ k d lt. absurd (omega arith)))
 
 -- so has a page that is read
-pub read_last : (page : GuestPage) (bytes : List ℕ) (b : BookState) (journal : List Entry) → ReadsLastStored journal b.rows → bytes_of page b ≡ Some bytes → last_stored page journal ≡ Some bytes
+pub read_last : (page : GuestPage) (bytes : List ℕ) (b : BookState) (journal : List Entry) → ReadsLastStored journal b.rows
+    → bytes_of page b ≡ Some bytes → last_stored page journal ≡ Some bytes
 read_last page bytes b journal reads read = go (row_at page b.rows) refl read
   where
     go : (row : Option Row) → row_at page b.rows ≡ row → option_map (λ r. r.bytes) row ≡ Some bytes → last_stored page journal ≡ Some bytes

@@ -10,6 +10,7 @@ pub mod SoundSteps
 pub mod Replays
 pub mod Visits
 pub mod RowCounts
+pub mod SoundItems
 pub mod SoundCounts
 pub mod Sums
 pub mod LastStored

@@ -20,7 +20,8 @@ pub pairs_tail : {X : Type 0} (R : X → X → Type 0) (x : X) (xs : List X) →
 pairs_tail R x xs pairs i j d lt in_range = pairs (suc i) (suc j) d (omega arith) (omega arith)
 
 -- two lists in order, with each of the first before each of the second
-pub pairs_append : {X : Type 0} (R : X → X → Type 0) (xs ys : List X) → AllPairs R xs → AllPairs R ys → All (λ x. All (R x) ys) xs → AllPairs R (xs ++ ys)
+pub pairs_append : {X : Type 0} (R : X → X → Type 0) (xs ys : List X) → AllPairs R xs → AllPairs R ys → All (λ x. All (R x) ys) xs
+    → AllPairs R (xs ++ ys)
 pairs_append R [] ys first second cross = second
 pairs_append R (x ∷ xs) ys first second cross =
     AllPairs-cons R x (xs ++ ys) (All-append (R x) xs ys (pairs_head R x xs first) (All-head (λ y. All (R y) ys) x xs cross))
@@ -53,7 +54,8 @@ ordered_map f (r ∷ rs) keeps rise =
     (All-map (λ s. Before (f r) s) f rs (λ k d lt. rw (keeps r, keeps (get_or rs k d)) (rise 0 (suc k) d (omega arith) (omega arith))))
     (ordered_map f rs keeps (pairs_tail Before r rs rise))
 
-pub ordered_change : (test : Row → Bool) (f : Row → Row) (rows : List Row) → ((r : Row) → (f r).page ≡ r.page) → InPageOrder rows → InPageOrder (change_rows test f rows)
+pub ordered_change : (test : Row → Bool) (f : Row → Row) (rows : List Row) → ((r : Row) → (f r).page ≡ r.page) → InPageOrder rows
+    → InPageOrder (change_rows test f rows)
 ordered_change test f rows keeps rise =
     ordered_map (λ r. if test r then f r else r) rows (λ r. cond_both (test r) (f r) r (λ x. x.page ≡ r.page) (λ _. keeps r) (λ _. refl)) rise
 
@@ -74,7 +76,8 @@ ordered_with row rows rise =
     (AllPairs-cons Before row (filter last rows) behind (AllPairs-filter Before last rows rise)) cross
 
 -- where none of two in order is the same as the other, those that are the same are one
-pub one_of_each : {X : Type 0} (R : X → X → Type 0) (same : X → X → Bool) (xs : List X) → ((x y : X) → R x y → same x y ≡ false) → ((x y : X) → R x y → same y x ≡ false) → AllPairs R xs → All (λ x. All (λ y. same y x ≡ true → y ≡ x) xs) xs
+pub one_of_each : {X : Type 0} (R : X → X → Type 0) (same : X → X → Bool) (xs : List X) → ((x y : X) → R x y → same x y ≡ false)
+    → ((x y : X) → R x y → same y x ≡ false) → AllPairs R xs → All (λ x. All (λ y. same y x ≡ true → y ≡ x) xs) xs
 one_of_each R same xs first last rise k d lt j e lt_e is_same =
     let x = get_or xs k d in
     let y = get_or xs j d in

@@ -30,7 +30,8 @@ one_if test = if test then 1 else 0
 
 module _ (p : Row → Bool) where
   -- a page's row is changed
-  pub count_change_row : (page : GuestPage) (f : Row → Row) (rows : List Row) (row : Row) → InPageOrder rows → row_at page rows ≡ Some row → count_by p (change_row page f rows) + one_if (p row) ≡ count_by p rows + one_if (p (f row))
+  pub count_change_row : (page : GuestPage) (f : Row → Row) (rows : List Row) (row : Row) → InPageOrder rows → row_at page rows ≡ Some row
+      → count_by p (change_row page f rows) + one_if (p row) ≡ count_by p rows + one_if (p (f row))
   count_change_row page f [] row rise found = cc
   count_change_row page f (r ∷ rs) row rise found =
       let of_page : Row → Bool = λ s. same_page s.page page in
@@ -50,14 +51,16 @@ module _ (p : Row → Bool) where
       ]
 
   -- a change by which the row counts as before
-  pub count_change_same : (page : GuestPage) (f : Row → Row) (rows : List Row) (row : Row) → InPageOrder rows → row_at page rows ≡ Some row → p (f row) ≡ p row → count_by p (change_row page f rows) ≡ count_by p rows
+  pub count_change_same : (page : GuestPage) (f : Row → Row) (rows : List Row) (row : Row) → InPageOrder rows → row_at page rows ≡ Some row
+      → p (f row) ≡ p row → count_by p (change_row page f rows) ≡ count_by p rows
   count_change_same page f rows row rise found same =
       let exact = count_change_row page f rows row rise found in
       let alike : one_if (p (f row)) ≡ one_if (p row) = ap one_if same in
       omega (arith, exact, alike)
 
   -- a page's row goes
-  pub count_without_page : (page : GuestPage) (rows : List Row) (row : Row) → InPageOrder rows → row_at page rows ≡ Some row → count_by p (without_page page rows) + one_if (p row) ≡ count_by p rows
+  pub count_without_page : (page : GuestPage) (rows : List Row) (row : Row) → InPageOrder rows → row_at page rows ≡ Some row
+      → count_by p (without_page page rows) + one_if (p row) ≡ count_by p rows
   count_without_page page [] row rise found = cc
   count_without_page page (r ∷ rs) row rise found =
       let of_page : Row → Bool = λ s. same_page s.page page in
@@ -75,7 +78,8 @@ module _ (p : Row → Bool) where
             rw (here, count_more p r (without_page page rs), before) (omega (arith, rest))
       ]
 
-  count_filters : (q s : Row → Bool) (rows : List Row) → All (λ r. s r ≡ not (q r)) rows → count_by p (filter q rows) + count_by p (filter s rows) ≡ count_by p rows
+  count_filters : (q s : Row → Bool) (rows : List Row) → All (λ r. s r ≡ not (q r)) rows
+      → count_by p (filter q rows) + count_by p (filter s rows) ≡ count_by p rows
   count_filters q s [] other = refl
   count_filters q s (r ∷ rs) other =
       let here = All-head (λ x. s x ≡ not (q x)) r rs other in

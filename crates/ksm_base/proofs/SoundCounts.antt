@@ -38,7 +38,8 @@ joined_count rows row dup rise found single =
     grind (arith, exact, before, here)
 
 -- a page that leaves its dup is one item less
-pub left_count : (rows : List Row) (page : GuestPage) (row : Row) (dup : DupRow) (f : Row → Row) → InPageOrder rows → row_at page rows ≡ Some row → row.state ≡ Merged dup.number → merged_state (f row).state ≡ false → item_count (change_row page f rows) dup + 1 ≡ item_count rows dup
+pub left_count : (rows : List Row) (page : GuestPage) (row : Row) (dup : DupRow) (f : Row → Row) → InPageOrder rows → row_at page rows ≡ Some row
+    → row.state ≡ Merged dup.number → merged_state (f row).state ≡ false → item_count (change_row page f rows) dup + 1 ≡ item_count rows dup
 left_count rows page row dup f rise found merged single =
     let p : Row → Bool = λ r. merged_into dup.number r.state in
     let exact = count_change_row p page f rows row rise found in
@@ -54,7 +55,8 @@ pub stale_or_live : (rows : List Row) (dup : DupRow) → is_stale rows dup ≡ n
 stale_or_live rows dup = grind (arith, nat_tests)
 
 -- the partner is the only one
-pub only_partner : (b : BookState) (row w : Row) → IsSound b → partner b.knobs b.rows row ≡ Some w → All (λ r. waits_for b.knobs row r ≡ true → r ≡ w) b.rows
+pub only_partner : (b : BookState) (row w : Row) → IsSound b → partner b.knobs b.rows row ≡ Some w
+    → All (λ r. waits_for b.knobs row r ≡ true → r ≡ w) b.rows
 only_partner b row w s found k d lt waits =
     let p = waits_for b.knobs row in
     let r = get_or b.rows k d in
@@ -70,12 +72,14 @@ only_partner b row w s found k d lt waits =
     ]
 
 -- a knob gets another value only while no dup has items
-pub across_unshares : (b : BookState) (v : ℕ) → refusal b (SetAcross v) ≡ None → (v == b.knobs.merge_across_nodes) ≡ false → shared_count b.rows b.dups ≡ 0
+pub across_unshares : (b : BookState) (v : ℕ) → refusal b (SetAcross v) ≡ None → (v == b.knobs.merge_across_nodes) ≡ false
+    → shared_count b.rows b.dups ≡ 0
 across_unshares b v accepted other =
     let second = (refused_none (nat_lt 1 v) BadValue _ accepted).1 in
     none_shared b (v == b.knobs.merge_across_nodes) (refused_none (changes_while_shared b b.knobs.merge_across_nodes v) SharedPages None second).0 other
 
-pub limit_unshares : (b : BookState) (v : ℕ) → refusal b (SetLimit v) ≡ None → (v == b.knobs.max_page_sharing) ≡ false → shared_count b.rows b.dups ≡ 0
+pub limit_unshares : (b : BookState) (v : ℕ) → refusal b (SetLimit v) ≡ None → (v == b.knobs.max_page_sharing) ≡ false
+    → shared_count b.rows b.dups ≡ 0
 limit_unshares b v accepted other =
     let second = (refused_none (not (is_within 2 1024 v)) BadValue _ accepted).1 in
     none_shared b (v == b.knobs.max_page_sharing) (refused_none (changes_while_shared b b.knobs.max_page_sharing v) SharedPages None second).0 other

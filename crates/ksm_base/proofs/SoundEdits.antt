@@ -1,15 +1,16 @@
 -- Edits that keep a book sound: rows that become private, a row more or less, stale dups dropped.
-use Rattle.std.proofs.Common.{◌≡◌, ℕ, ◌<◌, ◌≤◌, Bool, true, false, List, [], ◌∷◌, get_or, map, None, refl, sym, ◌∙◌, inl, inr, arith}
+use Rattle.std.proofs.Common.{◌≡◌, ℕ, ◌<◌, ◌≤◌, Bool, true, false, List, [], ◌∷◌, get_or, map, None, refl, sym, ◌∙◌, inl, inr, arith, Option, ◌^◌}
 use Rattle.std.specs.Prelude.{◌==◌, All, filter, if◌then◌else◌}
 use Rattle.std.proofs.lemmas.Bool.{cases_Bool, cond_both, both_ways, true≢false, false≢true, eqb-true, eq-eqb, lt-ltb}
 use Rattle.std.proofs.lemmas.List.Elements.{All-map, All-filter}
 use Rattle.std.proofs.lemmas.List.Kept.{AllPairs-filter}
+use Rattle.ksm_base.specs.declared.page.GuestPage.{GuestPage}
 use Rattle.ksm_base.specs.declared.row.PageState.{PageState}
 use Rattle.ksm_base.specs.declared.row.PageState.TheVariants.{Private, Waiting, Merged}
 use Rattle.ksm_base.specs.declared.row.Row.{Row}
 use Rattle.ksm_base.specs.declared.row.DupRow.{DupRow}
 use Rattle.ksm_base.specs.declared.knobs.Knobs.{Knobs}
-use Rattle.ksm_base.specs.Rows.{comes_before, private_state, waiting_state, merged_into, item_count, has_items, with_row, change_rows}
+use Rattle.ksm_base.specs.Rows.{InPageOrder, comes_before, private_state, waiting_state, merged_into, item_count, has_items, with_row, change_rows}
 use Rattle.ksm_base.specs.State.{BookState, place_count, without_stale}
 use Rattle.ksm_base.specs.Visit.{waits_for, partner}
 use Rattle.ksm_base.specs.Counting.{shared_count}
@@ -29,7 +30,8 @@ pub record WaitsAs (old new : Row) : Type 0 where
 abbrev pub NoneWaitsTwice : Knobs → List Row → Type 0
 NoneWaitsTwice knobs rows = All (λ r. waiting_state r.state ≡ true → partner knobs rows r ≡ None) rows
 
-waits_less : (knobs : Knobs) (r r' w w' : Row) → WaitsAs r r' → WaitsAs w w' → waiting_state r'.state ≡ true → waits_for knobs r w ≡ false → waits_for knobs r' w' ≡ false
+waits_less : (knobs : Knobs) (r r' w w' : Row) → WaitsAs r r' → WaitsAs w w' → waiting_state r'.state ≡ true → waits_for knobs r w ≡ false
+    → waits_for knobs r' w' ≡ false
 waits_less knobs r r' w w' of_r of_w waits none =
     elim (cases_Bool (waiting_state w'.state)) [
       | inl both ↦
@@ -44,7 +46,8 @@ waits_less knobs r r' w w' of_r of_w waits none =
       | inr alone ↦ rw alone refl
     ]
 
-pub waiting_map : (knobs : Knobs) (f : Row → Row) (rows : List Row) → ((r : Row) → WaitsAs r (f r)) → NoneWaitsTwice knobs rows → NoneWaitsTwice knobs (map f rows)
+pub waiting_map : (knobs : Knobs) (f : Row → Row) (rows : List Row) → ((r : Row) → WaitsAs r (f r)) → NoneWaitsTwice knobs rows
+    → NoneWaitsTwice knobs (map f rows)
 waiting_map knobs f rows like alone =
     All-map (λ r. waiting_state r.state ≡ true → partner knobs (map f rows) r ≡ None) f rows
     (λ k d lt waits.
@@ -52,6 +55,57 @@ waiting_map knobs f rows like alone =
     let none = find_none (waits_for knobs r) rows (alone k d lt ((like r).state waits)) in
     find_nothing (waits_for knobs (f r)) (map f rows) (All-map (λ w. waits_for knobs (f r) w ≡ false) f rows
     (λ j e lt_e. waits_less knobs r (f r) (get_or rows j e) (f (get_or rows j e)) (like r) (like (get_or rows j e)) waits (none j e lt_e))))
+
+-- what must be true of the rows for the book to be sound with them
+pub record AreSoundRows (b : BookState) (rows : List Row) : Type 0 where
+  pub rows_rise : InPageOrder rows
+  pub homes : All (λ r. r.home < b.shape.nodes) rows
+  pub mergeable : All (λ r. private_state r.state ≡ false → r.mergeable ≡ true) rows
+  pub waiting : NoneWaitsTwice b.knobs rows
+  pub items : All (λ r. (number : ℕ) → r.state ≡ Merged number → (dup : DupRow) × IsDupOf b.knobs b.dups r number dup) rows
+  pub limit : All (λ d. item_count rows d ≤ b.knobs.max_page_sharing) b.dups
+
+-- the rows may be others that are sound
+pub sound_rows : (b : BookState) (rows : List Row) → IsSound b → AreSoundRows b rows → IsSound (record b { rows = rows })
+sound_rows b rows s h =
+    record {
+      shape = s.shape;
+      knobs = s.knobs;
+      passes = s.passes;
+      rows_rise = h.rows_rise;
+      homes = h.homes;
+      mergeable = h.mergeable;
+      waiting = h.waiting;
+      items = h.items;
+      dups_rise = s.dups_rise;
+      places = s.places;
+      numbers = s.numbers;
+      trees = s.trees;
+      limit = h.limit;
+    }
+
+-- the cursor, the number of passes and the knobs that the visits don't read may be any in their ranges
+pub sound_settings : (b : BookState) (run pages_to_scan passes : ℕ) (cursor : Option GuestPage) → run ≤ 2 → (1 ≤ pages_to_scan) × (pages_to_scan ≤ 1000000)
+    → passes < 2 ^ 64 → IsSound b
+    → IsSound (record b { knobs = record b.knobs { run = run; pages_to_scan = pages_to_scan }; cursor = cursor; passes = passes })
+sound_settings b run pages_to_scan passes cursor run_most pages_range passes_fit s =
+    record {
+      shape = s.shape;
+      knobs = record { run = run_most; pages_to_scan = pages_range; merge_across_nodes = s.knobs.merge_across_nodes; max_page_sharing = s.knobs.max_page_sharing };
+      passes = passes_fit;
+      rows_rise = s.rows_rise;
+      homes = s.homes;
+      mergeable = s.mergeable;
+      waiting = s.waiting;
+      items = λ k d lt number merged.
+          let item : (dup : DupRow) × IsDupOf b.knobs b.dups (get_or b.rows k d) number dup = s.items k d lt number merged in
+          (item.0, record { stands = item.1.stands; tree = item.1.tree; bytes = item.1.bytes });
+      dups_rise = s.dups_rise;
+      places = s.places;
+      numbers = s.numbers;
+      trees = s.trees;
+      limit = s.limit;
+    }
 
 -- a row after a change by which it became private, or kept its home, bytes and state
 pub record IsCalmer (old new : Row) : Type 0 where
@@ -81,17 +135,16 @@ merged_not_private number Waiting merged = cc
 merged_not_private number (Merged n) merged = refl
 
 -- the dup of a row is that of a row with its home and bytes
-pub same_dup : (knobs : Knobs) (dups : List DupRow) (old new : Row) (number : ℕ) (dup : DupRow) → new.home ≡ old.home → new.bytes ≡ old.bytes → IsDupOf knobs dups old number dup → IsDupOf knobs dups new number dup
+pub same_dup : (knobs : Knobs) (dups : List DupRow) (old new : Row) (number : ℕ) (dup : DupRow) → new.home ≡ old.home → new.bytes ≡ old.bytes
+    → IsDupOf knobs dups old number dup → IsDupOf knobs dups new number dup
 same_dup knobs dups old new number dup home bytes h =
     record { stands = h.stands; tree = rw home h.tree; bytes = rw bytes h.bytes }
 
 -- rows may become private, each with any home and bytes
 pub sound_calmed : (b : BookState) (f : Row → Row) → ((r : Row) → IsCalmer r (f r)) → All (λ r. (f r).home < b.shape.nodes) b.rows → IsSound b → IsSound (record b { rows = map f b.rows })
 sound_calmed b f calmer homes s =
-    record {
-      shape = s.shape;
-      knobs = s.knobs;
-      passes = s.passes;
+    sound_rows b (map f b.rows) s
+    (record {
       rows_rise = ordered_map f b.rows (λ r. (calmer r).page) s.rows_rise;
       homes = All-map (λ r. r.home < b.shape.nodes) f b.rows homes;
       mergeable = All-map (λ r. private_state r.state ≡ false → r.mergeable ≡ true) f b.rows
@@ -105,10 +158,6 @@ sound_calmed b f calmer homes s =
           let taken : private_state (f r).state ≡ false = rw merged refl in
           let item : (dup : DupRow) × IsDupOf b.knobs b.dups r number dup = s.items k d lt number (sym ((calmer r).state taken) ∙ merged) in
           (item.0, same_dup b.knobs b.dups r (f r) number item.0 ((calmer r).home taken) ((calmer r).bytes taken) item.1));
-      dups_rise = s.dups_rise;
-      places = s.places;
-      numbers = s.numbers;
-      trees = s.trees;
       limit = λ k d lt.
           let dup = get_or b.dups k d in
           let p : Row → Bool = λ r. merged_into dup.number r.state in
@@ -116,15 +165,13 @@ sound_calmed b f calmer homes s =
           let r = get_or b.rows j e in
           rw (← (calmer r).state (merged_not_private dup.number (f r).state merged)) merged) in
           omega (arith, fewer, s.limit k d lt);
-    }
+    })
 
 -- rows may go
 pub sound_filtered : (b : BookState) (test : Row → Bool) → IsSound b → IsSound (record b { rows = filter test b.rows })
 sound_filtered b test s =
-    record {
-      shape = s.shape;
-      knobs = s.knobs;
-      passes = s.passes;
+    sound_rows b (filter test b.rows) s
+    (record {
       rows_rise = AllPairs-filter (λ r t. comes_before r.page t.page ≡ true) test b.rows s.rows_rise;
       homes = All-filter test (λ r. r.home < b.shape.nodes) b.rows s.homes;
       mergeable = All-filter test (λ r. private_state r.state ≡ false → r.mergeable ≡ true) b.rows s.mergeable;
@@ -134,23 +181,17 @@ sound_filtered b test s =
           let none = find_none (waits_for b.knobs r) b.rows (s.waiting k d lt waits) in
           find_nothing (waits_for b.knobs r) (filter test b.rows) (All-filter test (λ w. waits_for b.knobs r w ≡ false) b.rows none));
       items = All-filter test (λ r. (number : ℕ) → r.state ≡ Merged number → (dup : DupRow) × IsDupOf b.knobs b.dups r number dup) b.rows s.items;
-      dups_rise = s.dups_rise;
-      places = s.places;
-      numbers = s.numbers;
-      trees = s.trees;
       limit = λ k d lt.
           let dup = get_or b.dups k d in
           let fewer = count_filter_le (λ r. merged_into dup.number r.state) test b.rows in
           omega (arith, fewer, s.limit k d lt);
-    }
+    })
 
 -- a private row may come
 pub sound_with_row : (b : BookState) (row : Row) → row.state ≡ Private → row.home < b.shape.nodes → IsSound b → IsSound (record b { rows = with_row row b.rows })
 sound_with_row b row is_private home s =
-    record {
-      shape = s.shape;
-      knobs = s.knobs;
-      passes = s.passes;
+    sound_rows b (with_row row b.rows) s
+    (record {
       rows_rise = ordered_with row b.rows s.rows_rise;
       homes = all_with_row (λ r. r.home < b.shape.nodes) row b.rows home s.homes;
       mergeable = all_with_row (λ r. private_state r.state ≡ false → r.mergeable ≡ true) row b.rows (λ taken. absurd (true≢false (rw is_private at taken))) s.mergeable;
@@ -160,10 +201,6 @@ sound_with_row b row is_private home s =
           let none = find_none (waits_for b.knobs r) b.rows (s.waiting k d lt waits) in
           find_nothing (waits_for b.knobs r) (with_row row b.rows) (all_with_row (λ w. waits_for b.knobs r w ≡ false) row b.rows (rw is_private refl) none));
       items = all_with_row (λ r. (number : ℕ) → r.state ≡ Merged number → (dup : DupRow) × IsDupOf b.knobs b.dups r number dup) row b.rows (λ number merged. let never : Private ≡ Merged number = sym is_private ∙ merged in cc) s.items;
-      dups_rise = s.dups_rise;
-      places = s.places;
-      numbers = s.numbers;
-      trees = s.trees;
       limit = λ k d lt.
           let dup = get_or b.dups k d in
           let p : Row → Bool = λ r. merged_into dup.number r.state in
@@ -175,10 +212,11 @@ sound_with_row b row is_private home s =
           let more = count_more p row (filter last b.rows) in
           let held = s.limit k d lt in
           grind (arith, other, apart, both, more, held);
-    }
+    })
 
 -- a merged row is an item of its dup
-pub item_of_dup : (knobs : Knobs) (dups : List DupRow) (row : Row) (number : ℕ) (dup : DupRow) → row.state ≡ Merged number → IsDupOf knobs dups row number dup → merged_into dup.number row.state ≡ true
+pub item_of_dup : (knobs : Knobs) (dups : List DupRow) (row : Row) (number : ℕ) (dup : DupRow) → row.state ≡ Merged number
+    → IsDupOf knobs dups row number dup → merged_into dup.number row.state ≡ true
 item_of_dup knobs dups row number dup merged h =
     let passes = find_passes (λ d. d.number == number) dups dup h.stands in
     let same : dup.number ≡ number = eqb-true dup.number number passes in

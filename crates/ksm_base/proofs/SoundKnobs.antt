@@ -22,7 +22,7 @@ use Rattle.ksm_base.specs.Refusals.{refused_if, is_within, refusal}
 use Rattle.ksm_base.specs.Answers.{merged_rows, every_row}
 use Rattle.ksm_base.specs.Apply.{unshared, is_before, unshare_stopped, effect}
 use Rattle.ksm_base.specs.Sound.{AreKnobs, IsDupOf, IsSound}
-use Rattle.ksm_base.proofs.SoundEdits.{NoneWaitsTwice, becomes_private, sound_calmed, sound_changed, sound_without_stale, no_dup_lives}
+use Rattle.ksm_base.proofs.SoundEdits.{NoneWaitsTwice, sound_settings, becomes_private, sound_calmed, sound_changed, sound_without_stale, no_dup_lives}
 use Rattle.ksm_base.proofs.SoundScan.{sound_cursor, sound_none_waiting}
 
 -- what isn't refused passed each test
@@ -31,24 +31,7 @@ refused_none true fault later none = cc
 refused_none false fault later none = (refl, none)
 
 pub sound_run : (b : BookState) (v : ℕ) → v ≤ 2 → IsSound b → IsSound (record b { knobs = record b.knobs { run = v } })
-sound_run b v most s =
-    record {
-      shape = s.shape;
-      knobs = record { run = most; pages_to_scan = s.knobs.pages_to_scan; merge_across_nodes = s.knobs.merge_across_nodes; max_page_sharing = s.knobs.max_page_sharing };
-      passes = s.passes;
-      rows_rise = s.rows_rise;
-      homes = s.homes;
-      mergeable = s.mergeable;
-      waiting = s.waiting;
-      items = λ k d lt number merged.
-          let item : (dup : DupRow) × IsDupOf b.knobs b.dups (get_or b.rows k d) number dup = s.items k d lt number merged in
-          (item.0, record { stands = item.1.stands; tree = item.1.tree; bytes = item.1.bytes });
-      dups_rise = s.dups_rise;
-      places = s.places;
-      numbers = s.numbers;
-      trees = s.trees;
-      limit = s.limit;
-    }
+sound_run b v most s = sound_settings b v b.knobs.pages_to_scan b.passes b.cursor most s.knobs.pages_to_scan s.passes s
 
 unshared_home : (b : BookState) (r : Row) → r.home < b.shape.nodes → (unshared r).home < b.shape.nodes
 unshared_home b r home = home
@@ -75,25 +58,11 @@ within low high v inside =
     let both = and_parts (nat_le low v) (nat_le v high) (not-false (is_within low high v) inside) in
     (leb-true low v both.0, leb-true v high both.1)
 
-pub sound_set_pages : (b : BookState) (v : ℕ) (reply : Reply) → refusal b (SetPagesToScan v) ≡ None → IsSound b → IsSound (effect b (SetPagesToScan v) reply)
+pub sound_set_pages : (b : BookState) (v : ℕ) (reply : Reply) → refusal b (SetPagesToScan v) ≡ None → IsSound b
+    → IsSound (effect b (SetPagesToScan v) reply)
 sound_set_pages b v reply accepted s =
-    record {
-      shape = s.shape;
-      knobs = record { run = s.knobs.run; pages_to_scan = within 1 1000000 v (refused_none (not (is_within 1 1000000 v)) BadValue None accepted).0; merge_across_nodes = s.knobs.merge_across_nodes; max_page_sharing = s.knobs.max_page_sharing };
-      passes = s.passes;
-      rows_rise = s.rows_rise;
-      homes = s.homes;
-      mergeable = s.mergeable;
-      waiting = s.waiting;
-      items = λ k d lt number merged.
-          let item : (dup : DupRow) × IsDupOf b.knobs b.dups (get_or b.rows k d) number dup = s.items k d lt number merged in
-          (item.0, record { stands = item.1.stands; tree = item.1.tree; bytes = item.1.bytes });
-      dups_rise = s.dups_rise;
-      places = s.places;
-      numbers = s.numbers;
-      trees = s.trees;
-      limit = s.limit;
-    }
+    let range = within 1 1000000 v (refused_none (not (is_within 1 1000000 v)) BadValue None accepted).0 in
+    sound_settings b b.knobs.run v b.passes b.cursor s.knobs.run range s.passes s
 
 -- where there is no dup, any knob may be set
 sound_reset : (b : BookState) (knobs : Knobs) → AreKnobs knobs → b.dups ≡ [] → NoneWaitsTwice knobs b.rows → IsSound b → IsSound (record b { knobs = knobs })
@@ -117,7 +86,8 @@ sound_reset b knobs are_knobs empty alone s =
     }
 
 -- where the value is another one, no dup has items
-pub none_shared : (b : BookState) (same : Bool) → (not same && nat_lt 0 (shared_count b.rows b.dups)) ≡ false → same ≡ false → shared_count b.rows b.dups ≡ 0
+pub none_shared : (b : BookState) (same : Bool) → (not same && nat_lt 0 (shared_count b.rows b.dups)) ≡ false → same ≡ false
+    → shared_count b.rows b.dups ≡ 0
 none_shared b same accepted other =
     let none : nat_lt 0 (shared_count b.rows b.dups) ≡ false = grind (arith, accepted, other) in
     omega (arith, ltb-false 0 (shared_count b.rows b.dups) none)

@@ -67,13 +67,15 @@ free_stale b stale s found =
 pub new_place_free : (b : BookState) (place : ℕ) → IsSound b → new_place (place_count b.shape) b.rows b.dups ≡ Some place → IsFree b place
 new_place_free b place s chosen = go (empty_place (place_count b.shape) b.dups) (find (is_stale b.rows) b.dups) refl refl chosen
   where
-    go : (empty : Option ℕ) (stale : Option DupRow) → empty_place (place_count b.shape) b.dups ≡ empty → find (is_stale b.rows) b.dups ≡ stale → chosen_place empty stale ≡ Some place → IsFree b place
+    go : (empty : Option ℕ) (stale : Option DupRow) → empty_place (place_count b.shape) b.dups ≡ empty → find (is_stale b.rows) b.dups ≡ stale
+        → chosen_place empty stale ≡ Some place → IsFree b place
     go (Some p) stale is_empty is_stale e = let same : p ≡ place = cc in free_empty b place (is_empty ∙ e)
     go None (Some d) is_empty is_stale e = let same : d.place ≡ place = cc in subst (IsFree b) same (free_stale b d s is_stale)
     go None None is_empty is_stale e = cc
 
 -- the dup of an item stays among the dups when a new one comes
-pub still_stands : (b : BookState) (new dup : DupRow) (number : ℕ) → IsSound b → IsFree b new.place → (new.number == number) ≡ false → dup_numbered number b.dups ≡ Some dup → has_items b.rows dup ≡ true → dup_numbered number (with_dup new b.dups) ≡ Some dup
+pub still_stands : (b : BookState) (new dup : DupRow) (number : ℕ) → IsSound b → IsFree b new.place → (new.number == number) ≡ false
+    → dup_numbered number b.dups ≡ Some dup → has_items b.rows dup ≡ true → dup_numbered number (with_dup new b.dups) ≡ Some dup
 still_stands b new dup number s free other found lives =
     let p : DupRow → Bool = λ d. d.number == number in
     let lower = filter (λ d. nat_lt d.place new.place) b.dups in
@@ -158,7 +160,8 @@ partner_pairs b w row s visited found =
     }
 
 -- what holds of both pages holds of each row that is one of them
-each_of_pair : (P : Row → Type 0) (b : BookState) (w row : Row) → IsPair b w row → P w → P row → All (λ r. (same_page r.page w.page || same_page r.page row.page) ≡ true → P r) b.rows
+each_of_pair : (P : Row → Type 0) (b : BookState) (w row : Row) → IsPair b w row → P w → P row
+    → All (λ r. (same_page r.page w.page || same_page r.page row.page) ≡ true → P r) b.rows
 each_of_pair P b w row pair of_w of_row k d lt either =
     let r = get_or b.rows k d in
     elim (or_cases (same_page r.page w.page) (same_page r.page row.page) either) [

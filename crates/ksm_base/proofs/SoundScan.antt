@@ -15,46 +15,16 @@ use Rattle.ksm_base.specs.Apply.{scan_stopped}
 use Rattle.ksm_base.specs.Sound.{IsSound}
 use Rattle.ksm_base.proofs.Edits.{find_passes, find_all}
 use Rattle.ksm_base.proofs.Orders.{one_of_each_page}
-use Rattle.ksm_base.proofs.SoundEdits.{IsCalmer, becomes_private, sound_calmed, sound_changed}
+use Rattle.ksm_base.proofs.SoundEdits.{IsCalmer, sound_settings, becomes_private, sound_calmed, sound_changed}
 use Rattle.ksm_base.proofs.SoundVisit.{IsVisited, best_dup_has_room, sound_joined, sound_waiting}
 use Rattle.ksm_base.proofs.SoundPair.{new_place_free, partner_pairs, sound_made}
 
 -- the cursor may be anywhere
 pub sound_cursor : (b : BookState) (cursor : Option GuestPage) → IsSound b → IsSound (record b { cursor = cursor })
-sound_cursor b cursor s =
-    record {
-      shape = s.shape;
-      knobs = s.knobs;
-      passes = s.passes;
-      rows_rise = s.rows_rise;
-      homes = s.homes;
-      mergeable = s.mergeable;
-      waiting = s.waiting;
-      items = s.items;
-      dups_rise = s.dups_rise;
-      places = s.places;
-      numbers = s.numbers;
-      trees = s.trees;
-      limit = s.limit;
-    }
+sound_cursor b cursor s = sound_settings b b.knobs.run b.knobs.pages_to_scan b.passes cursor s.knobs.run s.knobs.pages_to_scan s.passes s
 
 pub sound_pass_ended : (b : BookState) → IsSound b → IsSound (pass_ended b)
-sound_pass_ended b s =
-    record {
-      shape = s.shape;
-      knobs = s.knobs;
-      passes = omega arith;
-      rows_rise = s.rows_rise;
-      homes = s.homes;
-      mergeable = s.mergeable;
-      waiting = s.waiting;
-      items = s.items;
-      dups_rise = s.dups_rise;
-      places = s.places;
-      numbers = s.numbers;
-      trees = s.trees;
-      limit = s.limit;
-    }
+sound_pass_ended b s = sound_settings b b.knobs.run b.knobs.pages_to_scan _ None s.knobs.run s.knobs.pages_to_scan (omega arith) s
 
 settled_keeps : (state : PageState) → private_state (settled_state state) ≡ false → settled_state state ≡ state
 settled_keeps Private taken = cc
@@ -86,7 +56,8 @@ next_row_visited b row s found =
     }
 
 module _ (b : BookState) (row : Row) (visited : IsVisited b row) (s : IsSound b) where
-  sound_placed : (w : Row) (place : Option ℕ) → partner b.knobs b.rows row ≡ Some w → new_place (place_count b.shape) b.rows b.dups ≡ place → IsSound (made_dup place b w row)
+  sound_placed : (w : Row) (place : Option ℕ) → partner b.knobs b.rows row ≡ Some w → new_place (place_count b.shape) b.rows b.dups ≡ place
+      → IsSound (made_dup place b w row)
   sound_placed w (Some place) waits chosen = sound_made b w row place (partner_pairs b w row s visited waits) (new_place_free b place s chosen) s
   sound_placed w None waits chosen = s
 

@@ -1,5 +1,5 @@
 -- Every step keeps a book sound.
-use Rattle.std.proofs.Common.{◌≡◌, ℕ, ◌<◌, true, List, [], ◌∷◌, Some, None, Option, Ok, Err, refl, arith}
+use Rattle.std.proofs.Common.{◌≡◌, ℕ, ◌<◌, true, List, [], ◌∷◌, Some, None, Option, Ok, Err, refl, sym, subst, arith}
 use Rattle.std.specs.Prelude.{◌==◌, ◌&&◌, nat_le, slice_get, not}
 use Rattle.std.proofs.lemmas.Bool.{cond_both, leb-false}
 use Rattle.ksm_base.specs.declared.row.PageState.TheVariants.{Private}
@@ -18,7 +18,7 @@ use Rattle.ksm_base.specs.Visit.{visits}
 use Rattle.ksm_base.specs.Refusals.{refusal, is_of}
 use Rattle.ksm_base.specs.Answers.{Answer, IsAnswerUnless, merged_rows}
 use Rattle.ksm_base.specs.Apply.{IsAnswerOrMemory, effect, after, fresh_row, stored, moved, let_go, is_before}
-use Rattle.ksm_base.specs.Journal.{Entry, replay, AreAnswers}
+use Rattle.ksm_base.specs.Journal.{Entry, replay, AreAnswers, IsLegal}
 use Rattle.ksm_base.specs.Sound.{IsSound}
 use Rattle.ksm_base.proofs.SoundEdits.{IsCalmer, stays_calm, becomes_private, sound_filtered, sound_with_row, sound_changed, sound_without_stale}
 use Rattle.ksm_base.proofs.SoundScan.{sound_visits, sound_scan_stopped}
@@ -94,3 +94,7 @@ pub sound_replay : (b : BookState) (entries : List Entry) → AreAnswers b entri
 sound_replay b [] answers s = s
 sound_replay b ((c, Ok reply) ∷ es) answers s = sound_replay (after b c (Ok reply)) es answers.1 (sound_after b c (Ok reply) s answers.0)
 sound_replay b ((c, Err fault) ∷ es) answers s = sound_replay b es answers.1 s
+
+-- and so the state at the end of each legal journal
+pub sound_legal : (shape : Shape) (journal : List Entry) (b : BookState) → IsShape shape → IsLegal shape journal b → IsSound b
+sound_legal shape journal b small legal = subst IsSound (sym legal.leads) (sound_replay (opening shape) journal legal.answers (sound_opening shape small))

@@ -17,15 +17,18 @@ use Rattle.ksm_base.specs.Sound.{IsDupOf, IsSound}
 use Rattle.ksm_base.proofs.Edits.{find_none, find_nothing, find_passes, find_all, count_map_le, count_change_le}
 use Rattle.ksm_base.proofs.Orders.{ordered_change, one_of_page, each_has_number}
 use Rattle.ksm_base.proofs.Pages.{same_page_sym}
-use Rattle.ksm_base.proofs.SoundEdits.{WaitsAs, waiting_map}
+use Rattle.ksm_base.proofs.SoundEdits.{sound_rows, WaitsAs, waiting_map}
 
 -- what holds of the rows changed and of the others holds after a change
-pub all_changed : (P : Row → Type 0) (test : Row → Bool) (f : Row → Row) (rows : List Row) → All (λ r. test r ≡ true → P (f r)) rows → All (λ r. test r ≡ false → P r) rows → All P (change_rows test f rows)
+pub all_changed : (P : Row → Type 0) (test : Row → Bool) (f : Row → Row) (rows : List Row) → All (λ r. test r ≡ true → P (f r)) rows
+    → All (λ r. test r ≡ false → P r) rows → All P (change_rows test f rows)
 all_changed P test f rows changed others =
     All-map P (λ r. if test r then f r else r) rows (λ k d lt. let r = get_or rows k d in cond_both (test r) (f r) r P (changed k d lt) (others k d lt))
 
 -- after a change of states by which no row waits that did not, none waits twice
-pub waiting_changed : (knobs : Knobs) (test : Row → Bool) (f : Row → Row) (rows : List Row) → ((r : Row) → WaitsAs r (f r)) → All (λ r. waiting_state r.state ≡ true → partner knobs rows r ≡ None) rows → All (λ r. waiting_state r.state ≡ true → partner knobs (change_rows test f rows) r ≡ None) (change_rows test f rows)
+pub waiting_changed : (knobs : Knobs) (test : Row → Bool) (f : Row → Row) (rows : List Row) → ((r : Row) → WaitsAs r (f r))
+    → All (λ r. waiting_state r.state ≡ true → partner knobs rows r ≡ None) rows
+    → All (λ r. waiting_state r.state ≡ true → partner knobs (change_rows test f rows) r ≡ None) (change_rows test f rows)
 waiting_changed knobs test f rows like alone =
     waiting_map knobs (λ r. if test r then f r else r) rows
     (λ r. cond_both (test r) (f r) r (WaitsAs r) (λ _. like r) (λ _. record { page = refl; state = λ waits. waits; home = λ _. refl; bytes = λ _. refl })) alone
@@ -65,10 +68,8 @@ pub sound_joined : (b : BookState) (row : Row) (dup : DupRow) → IsVisited b ro
 sound_joined b row dup visited joined s =
     let test : Row → Bool = λ r. same_page r.page row.page in
     let f : Row → Row = λ r. record r { state = Merged dup.number } in
-    record {
-      shape = s.shape;
-      knobs = s.knobs;
-      passes = s.passes;
+    sound_rows b (change_rows test f b.rows) s
+    (record {
       rows_rise = ordered_change test f b.rows (λ _. refl) s.rows_rise;
       homes = all_changed (λ r. r.home < b.shape.nodes) test f b.rows (λ k d lt _. s.homes k d lt) (λ k d lt _. s.homes k d lt);
       mergeable = all_changed (λ r. private_state r.state ≡ false → r.mergeable ≡ true) test f b.rows
@@ -80,10 +81,6 @@ sound_joined b row dup visited joined s =
           let number_is : dup.number ≡ number = cc in
           (dup, record { stands = rw (← number_is) joined.stands; tree = rw is joined.tree; bytes = rw is joined.bytes }))
           (λ k d lt _. s.items k d lt);
-      dups_rise = s.dups_rise;
-      places = s.places;
-      numbers = s.numbers;
-      trees = s.trees;
       limit = λ k d lt.
           let e = get_or b.dups k d in
           let p : Row → Bool = λ r. merged_into e.number r.state in
@@ -101,7 +98,7 @@ sound_joined b row dup visited joined s =
                 (λ _ into. absurd (both_ways (e.number == dup.number) other (eq-eqb e.number dup.number (sym (eqb-true dup.number e.number into))))) (λ _ into. into)) in
                 omega (arith, fewer, s.limit k d lt)
           ];
-    }
+    })
 
 bytes_sym : (x y : List ℕ) → bytes_eq x y ≡ bytes_eq y x
 bytes_sym x y = same_from_decides (bytes_eq x y) (bytes_eq y x) (bytes_eq-Decides x y) (Decides-like (bytes_eq y x) sym sym (bytes_eq-Decides y x))
@@ -109,7 +106,8 @@ bytes_sym x y = same_from_decides (bytes_eq x y) (bytes_eq y x) (bytes_eq-Decide
 eqb_sym : (x y : ℕ) → (x == y) ≡ (y == x)
 eqb_sym x y = grind (arith, nat_tests)
 
-both_differ : (waits any same same' group group' content content' : Bool) → waits ≡ true → same ≡ same' → group ≡ group' → content ≡ content' → (waits && not same' && group' && content') ≡ false → (any && not same && group && content) ≡ false
+both_differ : (waits any same same' group group' content content' : Bool) → waits ≡ true → same ≡ same' → group ≡ group' → content ≡ content'
+    → (waits && not same' && group' && content') ≡ false → (any && not same && group && content) ≡ false
 both_differ waits any same same' group group' content content' is_true pages trees contents none = grind (arith, is_true, pages, trees, contents, none)
 
 -- of two rows of which one waits and isn't waited for by the other, the other isn't waited for by it
@@ -127,10 +125,8 @@ sound_waiting b row visited alone s =
     let f : Row → Row = λ r. record r { state = Waiting } in
     let new = change_rows test f b.rows in
     let none = find_none (waits_for b.knobs row) b.rows alone in
-    record {
-      shape = s.shape;
-      knobs = s.knobs;
-      passes = s.passes;
+    sound_rows b (change_rows test f b.rows) s
+    (record {
       rows_rise = ordered_change test f b.rows (λ _. refl) s.rows_rise;
       homes = all_changed (λ r. r.home < b.shape.nodes) test f b.rows (λ k d lt _. s.homes k d lt) (λ k d lt _. s.homes k d lt);
       mergeable = all_changed (λ r. private_state r.state ≡ false → r.mergeable ≡ true) test f b.rows
@@ -150,10 +146,6 @@ sound_waiting b row visited alone s =
           subst P (sym (visited.once j e lt_e same_e)) (waits_back b.knobs r row Waiting waits (none k d lt))) (λ j e lt_e _. not_r j e lt_e)));
       items = all_changed (λ r. (number : ℕ) → r.state ≡ Merged number → (d : DupRow) × IsDupOf b.knobs b.dups r number d) test f b.rows
           (λ k d lt same number merged. cc) (λ k d lt _. s.items k d lt);
-      dups_rise = s.dups_rise;
-      places = s.places;
-      numbers = s.numbers;
-      trees = s.trees;
       limit = λ k d lt.
           let e = get_or b.dups k d in
           let p : Row → Bool = λ r. merged_into e.number r.state in
@@ -161,4 +153,4 @@ sound_waiting b row visited alone s =
           let r = get_or b.rows j x in
           cond_both (test r) (f r) r (λ y. p y ≡ true → p r ≡ true) (λ _ into. absurd (false≢true into)) (λ _ into. into)) in
           omega (arith, fewer, s.limit k d lt);
-    }
+    })

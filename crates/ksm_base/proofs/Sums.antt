@@ -43,7 +43,8 @@ count_numbered number (d ∷ dups) rise =
     ]
 
 -- a row is an item of at most one dup
-item_once : (state : PageState) (dups : List DupRow) → InPlaceOrder dups → count_by (λ d. merged_into d.number state) dups ≤ (if merged_state state then 1 else 0)
+item_once : (state : PageState) (dups : List DupRow) → InPlaceOrder dups
+    → count_by (λ d. merged_into d.number state) dups ≤ (if merged_state state then 1 else 0)
 item_once Private dups rise = let none = count_none (λ d. false) dups (λ k d lt. refl) in omega arith
 item_once Waiting dups rise = let none = count_none (λ d. false) dups (λ k d lt. refl) in omega arith
 item_once (Merged number) dups rise = count_numbered number dups rise
@@ -88,7 +89,8 @@ states-add (r ∷ rows) h =
     omega arith
 
 -- the counters of pages tell of the mergeable rows, each once
-pub told-mergeable : (rows : List Row) (dups : List DupRow) (passes : ℕ) → InPlaceOrder dups → All (λ r. private_state r.state ≡ false → r.mergeable ≡ true) rows
+pub told-mergeable : (rows : List Row) (dups : List DupRow) (passes : ℕ) → InPlaceOrder dups
+    → All (λ r. private_state r.state ≡ false → r.mergeable ≡ true) rows
     → pages_told (counters_from rows dups passes) ≡ mergeable_count rows
 told-mergeable rows dups passes rise mergeable =
     let fewer = shared-le-merged rows dups rise in

@@ -64,7 +64,8 @@ module _ (start : List Row) where
       let settle : IsRowwise e.rows (map settled e.rows) = record { change = settled; keeps = λ r. same_but r r.unchanged (settled_state r.state); rows = refl } in
       cond_both _ (with_none_waiting e) e Comes (λ _. and_then start e.rows (map settled e.rows) (comes_ended b h) settle) (λ _. comes_ended b h)
 
-  comes_changed : (test : Row → Bool) (f : Row → Row) → ((r : Row) → IsSameBut r (f r)) → (b : BookState) → Comes b → IsRowwise start (change_rows test f b.rows)
+  comes_changed : (test : Row → Bool) (f : Row → Row) → ((r : Row) → IsSameBut r (f r)) → (b : BookState) → Comes b
+      → IsRowwise start (change_rows test f b.rows)
   comes_changed test f keeps b h = and_then start b.rows (change_rows test f b.rows) h (some_changed test f keeps b.rows)
 
   comes_made : (place : Option ℕ) (b : BookState) (w row : Row) → Comes b → Comes (made_dup place b w row)

@@ -17,6 +17,11 @@ abbrev pub waiting_ends_as_a_pass_begins : List Line
 waiting_ends_as_a_pass_begins =
     reg 0 0 0 0xaa ∷ reg 0 1 0 0xbb ∷ ok (SetRun 1) ∷ scan 4 ∷ stat 0 0 2 0 0 0 2 ∷ scan 1 ∷ stat 0 0 1 1 0 0 2 ∷ []
 
+-- a pass ends before the next visit where the pages that it had left are gone
+abbrev pub pass_ends_where_the_rest_is_gone : List Line
+pass_ends_where_the_rest_is_gone =
+    reg 0 0 0 0xaa ∷ reg 0 1 0 0xaa ∷ ok (SetRun 1) ∷ scan 1 ∷ drop 0 1 ∷ stat 0 0 0 1 0 0 0 ∷ scan 1 ∷ stat 0 0 1 0 0 0 2 ∷ []
+
 -- a scan that is refused memory for a visit has begun it, and no more
 abbrev pub scan_stops_for_memory : List Line
 scan_stops_for_memory =
@@ -55,17 +60,18 @@ run_of_two_starts_the_scan_anew =
     reg 0 0 0 0xaa ∷ reg 0 1 0 0xaa ∷ ok (SetRun 1) ∷ scan 3 ∷ stat 0 0 1 1 0 0 1 ∷ gives (SetRun 2) (Ok (Unmerged 0 None))
     ∷ stat 0 0 0 2 0 0 1 ∷ shows (λ k. k.run) 2 ∷ ok (SetRun 1) ∷ scan 1 ∷ stat 0 0 0 2 0 0 1 ∷ scan 1 ∷ stat 0 0 0 2 0 0 2 ∷ []
 
--- a run of 2 that finds no frame has taken the pages before, and leaves the others, those that wait too
+-- a run of 2 that finds no frame has taken the merged pages before, and leaves all others, those that wait too
 abbrev pub run_of_two_stops_part_way : List Line
 run_of_two_stops_part_way =
-    merged ++ reg 0 2 0 0xbb ∷ reg 0 3 0 0xcc ∷ scan 8 ∷ stat 1 1 2 0 0 0 4 ∷ stopped (SetRun 2) 1 0
-    ∷ stat 1 0 2 1 0 0 4 ∷ ticket 0 1 0 ∷ shows (λ k. k.run) 0 ∷ []
+    reg 0 1 0 0xaa ∷ reg 0 2 0 0xaa ∷ ok (SetRun 1) ∷ scan 4 ∷ reg 0 0 0 0xbb ∷ reg 0 3 0 0xcc ∷ scan 8 ∷ stat 1 1 2 0 0 0 4
+    ∷ stopped (SetRun 2) 1 0 ∷ stat 1 0 2 1 0 0 4 ∷ ticket 0 2 0 ∷ shows (λ k. k.run) 0 ∷ []
 
--- unmerging takes one guest; its pages are neither mergeable nor unchanged, and making it mergeable again takes that guest alone
+-- unmerging takes one guest, whose pages the scan leaves out from then on; making it mergeable again takes that guest alone
 abbrev pub unmerging_takes_one_guest : List Line
 unmerging_takes_one_guest =
     reg 0 0 0 0xaa ∷ reg 1 0 0 0xaa ∷ reg 2 0 0 0xaa ∷ ok (SetRun 1) ∷ scan 6 ∷ stat 1 2 0 0 0 0 2
-    ∷ unmerge 0 1 ∷ unmerge 1 1 ∷ stat 1 0 0 0 0 0 2 ∷ ticket 2 0 0 ∷ ok (Mergeable 0) ∷ stat 1 0 0 1 0 0 2 ∷ []
+    ∷ unmerge 0 1 ∷ unmerge 1 1 ∷ stat 1 0 0 0 0 0 2 ∷ ticket 2 0 0 ∷ scan 2 ∷ stat 1 0 0 0 0 0 4 ∷ ok (Mergeable 0)
+    ∷ stat 1 0 0 1 0 0 4 ∷ []
 
 -- pages that were unmerged are not unchanged, so they need two passes more
 abbrev pub unmerged_pages_start_anew : List Line

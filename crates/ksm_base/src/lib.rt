@@ -21,4 +21,6 @@ pub use page::{GuestPage, PAGE_WORDS, PageBytes};
 pub use reply::Reply;
 pub use row::{DupRow, PageState, Row};
 pub use shape::Shape;
-pub use sound::{each_page_has_what_was_stored_last, every_step_keeps_it_sound};
+pub use sound::{
+    each_page_has_what_was_stored_last, every_step_keeps_it_sound, items_agree_with_their_dup,
+};

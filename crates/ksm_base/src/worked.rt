@@ -143,6 +143,11 @@ pub fn waiting_ends_as_a_pass_begins()
     ensures { Plays (opening (shape 1 4)) WorkedEdges.waiting_ends_as_a_pass_begins }
 {}
 
+/// A pass ends before the next visit where the pages that it had left are gone.
+pub fn pass_ends_where_the_rest_is_gone()
+    ensures { Plays (opening (shape 1 4)) WorkedEdges.pass_ends_where_the_rest_is_gone }
+{}
+
 /// A scan that is refused memory for a visit has begun it, and no more.
 pub fn scan_stops_for_memory()
     ensures { Plays (opening (shape 1 4)) WorkedEdges.scan_stops_for_memory }
@@ -178,12 +183,12 @@ pub fn run_of_two_starts_the_scan_anew()
     ensures { Plays (opening (shape 1 4)) WorkedEdges.run_of_two_starts_the_scan_anew }
 {}
 
-/// A run of 2 that finds no frame has taken the pages before, and leaves the others, those that wait too.
+/// A run of 2 that finds no frame has taken the merged pages before, and leaves all others, those that wait too.
 pub fn run_of_two_stops_part_way()
     ensures { Plays (opening (shape 1 4)) WorkedEdges.run_of_two_stops_part_way }
 {}
 
-/// Unmerging takes one guest; its pages are neither mergeable nor unchanged, and making it mergeable again takes that guest alone.
+/// Unmerging takes one guest, whose pages the scan leaves out from then on; making it mergeable again takes that guest alone.
 pub fn unmerging_takes_one_guest()
     ensures { Plays (opening (shape 1 4)) WorkedEdges.unmerging_takes_one_guest }
 {}

@@ -1,0 +1,11 @@
+pub mod Pages
+pub mod Moves
+pub mod Logs
+pub mod Keeping
+pub mod Filling
+pub mod Lists
+pub mod Maps
+pub mod Taken
+pub mod Ranks
+pub mod Laying
+pub mod Found

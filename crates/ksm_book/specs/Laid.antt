@@ -1,0 +1,69 @@
+-- Rows, dups and knobs, as they lie in the keeper's frames (own).
+use Rattle.std.specs.Prelude.{◌≡◌, ℕ, ◌≤◌, Bool, true, false, List, [], ◌∷◌, Option, None, MatchBool, MatchOption, ◌⊎◌}
+use Rattle.ksm_base.specs.declared.shape.Shape.{Shape}
+use Rattle.ksm_base.specs.declared.knobs.Knobs.{Knobs}
+use Rattle.ksm_base.specs.declared.page.GuestPage.{GuestPage}
+use Rattle.ksm_base.specs.declared.row.Row.{Row}
+use Rattle.ksm_base.specs.declared.row.DupRow.{DupRow}
+use Rattle.ksm_base.specs.Rows.{merged_state, row_at}
+use Rattle.ksm_base.specs.State.{BookState}
+use Rattle.ksm_base.specs.Values.{IsShape}
+use Rattle.frame_table.specs.Named.{KeeperView}
+use Rattle.ksm_book.specs.Placement.{Placed}
+use Rattle.ksm_book.specs.Steps.{Does, Did, puts, loads}
+use Rattle.ksm_book.specs.Keeping.{spent, NoneLeft}
+use Rattle.ksm_book.specs.Listed.{Listed}
+
+-- the rows and dups, the knobs, the number of the next dup, and the keeper of the frames
+pub record Lay : Type 0 where
+  pub shape : Shape
+  pub rows : List Row
+  pub dups : List DupRow
+  pub knobs : Knobs
+  pub next : ℕ
+  pub keeper : KeeperView
+
+-- the state of the book, by its layout, the cursor and the passes ended
+abbrev pub state_of : Lay → Option GuestPage → ℕ → BookState
+state_of lay cursor passes = record { shape = lay.shape; rows = lay.rows; dups = lay.dups; knobs = lay.knobs; cursor = cursor; passes = passes; next = lay.next }
+
+-- rows and dups lie lawfully in the frames, and no more dups were made than lives were spent
+pub record IsLaid (shape : Shape) (listed : Listed) (dups : List DupRow) (knobs : Knobs) (next : ℕ) (keeper : KeeperView) : Type 0 where
+  pub small : IsShape shape
+  pub same : keeper.table.shape ≡ shape
+  pub placed : Placed shape knobs.merge_across_nodes keeper.ledger listed.rows listed.frames dups None
+  pub spent : next ≤ spent keeper.ledger
+
+-- a row got a frame of its home, with these rows after it
+pub record Housed (old new : Lay) (row : Row) (after : List Row) : Type 0 where
+  pub state : new ≡ record old { rows = after; keeper = new.keeper }
+  pub does : Does old.keeper new.keeper (row.home ∷ [])
+
+-- no frame of the row's home was left, and nothing changed
+pub record Unhoused (old new : Lay) (row : Row) : Type 0 where
+  pub state : new ≡ record old { keeper = new.keeper }
+  pub left : NoneLeft old.keeper new.keeper row.home
+
+-- whether a row got a frame of its home
+abbrev pub IsHoused : Lay → Lay → Row → List Row → Bool → Type 0
+IsHoused old new row after got = MatchBool got (Housed old new row after) (Unhoused old new row)
+
+-- the page of a row has a row
+abbrev pub Knows : List Row → Row → (Row → Type 0) → Type 0
+Knows rows row fact = MatchOption (row_at row.page rows) ⊥ fact
+
+-- the page of a row has a frame of its own, on the row's home
+abbrev pub IsOnItsOwn : Row → Row → Type 0
+IsOnItsOwn row r = (merged_state r.state ≡ false) × (row.home ≡ r.home)
+
+-- a row may stand in the stead of another on the same frame
+abbrev pub LodgesAs : Row → Row → Type 0
+LodgesAs row r = (row.home ≡ r.home) × (row.bytes ≡ r.bytes) × ((row.state ≡ r.state) ⊎ ((merged_state r.state ≡ false) × (merged_state row.state ≡ false)))
+
+-- the keeper stored the bytes to a frame, each word once
+abbrev pub Stores : KeeperView → KeeperView → List ℕ → Type 0
+Stores v w bytes = (f : ℕ) × Did v w [] (puts f 0 bytes)
+
+-- the keeper loaded the bytes from a frame, each word once, if there was a page to read
+abbrev pub LoadsIf : Option (List ℕ) → KeeperView → KeeperView → Type 0
+LoadsIf bytes v w = MatchOption bytes (w ≡ v) (λ b. (f : ℕ) × Did v w [] (loads f 0 b))

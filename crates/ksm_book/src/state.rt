@@ -1,0 +1,126 @@
+//! The state of the book, and its commands.
+
+ghost use Rattle.std.specs.Prelude.{◌≡◌, [], option_map};
+ghost use Rattle.ksm_base.specs.Values.{IsShape};
+ghost use Rattle.ksm_base.specs.State.{opening};
+ghost use Rattle.ksm_base.specs.Answers.{IsAnswerOrMemory};
+ghost use Rattle.ksm_base.specs.Apply.{after};
+ghost use Rattle.ksm_base.specs.Reading.{bytes_of};
+ghost use Rattle.frame_core.specs.Ledger.{first_ledger};
+ghost use Rattle.ksm_book.specs.Laid.{LoadsIf};
+ghost use Rattle.ksm_book.specs.Steps.{Does};
+ghost use Rattle.ksm_book.specs.Whole.{nodes_got, HasShown};
+
+use crate::layout::Layout;
+use crate::row::{fresh_row, is_merged, stored};
+use frame_table::{FrameTable, Keeper};
+use ksm_base::{Command, Fault, GuestPage, PageBytes, Reply, Shape};
+use std::alloc::Global;
+use std::marker::Model;
+
+/// The rows and dups in their frames, the page visited last in this pass, and how many passes have ended.
+pub struct State {
+    layout: Layout,
+    cursor: Option<GuestPage>,
+    passes: u64,
+}
+
+impl Model for State {
+    ghost use Rattle.ksm_base.specs.Sound.{IsSound};
+    ghost use Rattle.ksm_book.specs.Whole.{BookView};
+    ghost use Rattle.ksm_book.specs.Laid.{state_of};
+
+    ghost Value = { BookView };
+
+    ghost view = { λ s. record { state = state_of s.layout s.cursor s.passes; keeper = s.layout.keeper } };
+
+    ghost invariant = { λ s. IsSound (state_of s.layout s.cursor s.passes) };
+}
+
+impl State {
+    /// The opening state, in the frames of a keeper that has made no step.
+    pub fn open(alloc: Global, keeper: Keeper, shape: Shape) -> State
+        requires shape { IsShape shape }
+        requires same { keeper.table.shape ≡ shape }
+        requires new { keeper.ledger ≡ first_ledger shape }
+        ensures { result ≡ record { state = opening shape; keeper = keeper } }
+    {
+        State {
+            layout: Layout::open(alloc, keeper, shape),
+            cursor: None,
+            passes: 0,
+        }
+    }
+
+    /// The keeper, as it is.
+    pub fn close(self) -> Keeper
+        ensures { result ≡ self.keeper }
+    {
+        let State {
+            layout,
+            cursor: _,
+            passes: _,
+        } = self;
+        layout.close()
+    }
+
+    /// The bytes of a page, loaded from the words of its frame.
+    pub fn read(&mut self, table: &FrameTable, page: GuestPage) -> Option<PageBytes>
+        requires own { self.old.keeper.table ≡ table.now }
+        ensures own { self.new.keeper.table ≡ self.old.keeper.table }
+        ensures bytes { result ≡ bytes_of page self.old.state }
+        ensures state { self.new.state ≡ self.old.state }
+        ensures loads { LoadsIf result self.old.keeper self.new.keeper }
+    {
+        self.layout.read(table, page)
+    }
+
+    /// Adds the row of a page.
+    pub fn register(
+        &mut self,
+        table: &FrameTable,
+        page: GuestPage,
+        node: u32,
+        bytes: PageBytes,
+    ) -> Result<Reply, Fault>
+        requires own { self.old.keeper.table ≡ table.now }
+        ensures own { self.new.keeper.table ≡ self.old.keeper.table }
+        ensures answer { IsAnswerOrMemory self.old.state (Command.Register page node bytes) result }
+        ensures state { self.new.state ≡ after self.old.state (Command.Register page node bytes) result }
+        ensures frames { Does self.old.keeper self.new.keeper (nodes_got self.old.state result (Command.Register page node bytes)) }
+        ensures shown { HasShown self.old.state self.old.keeper self.new.keeper result (Command.Register page node bytes) }
+    {
+        if node >= self.layout.shape().nodes {
+            return Err(Fault::BadNode);
+        }
+        if self.layout.rows().has(page) {
+            return Err(Fault::AlreadyRegistered);
+        }
+        if !self.layout.admit(table, fresh_row(page, node, bytes))? {
+            return Err(Fault::NoFrame(node));
+        }
+        Ok(Reply::Done)
+    }
+
+    /// Stores to a page.
+    pub fn store(&mut self, table: &FrameTable, page: GuestPage, bytes: PageBytes) -> Result<Reply, Fault>
+        requires own { self.old.keeper.table ≡ table.now }
+        ensures own { self.new.keeper.table ≡ self.old.keeper.table }
+        ensures answer { IsAnswerOrMemory self.old.state (Command.Store page bytes) result }
+        ensures state { self.new.state ≡ after self.old.state (Command.Store page bytes) result }
+        ensures frames { Does self.old.keeper self.new.keeper (nodes_got self.old.state result (Command.Store page bytes)) }
+        ensures shown { HasShown self.old.state self.old.keeper self.new.keeper result (Command.Store page bytes) }
+    {
+        let Some(row) = self.layout.row(page) else {
+            return Err(Fault::UnknownPage);
+        };
+        if !is_merged(&row) {
+            self.layout.rewrite(table, stored(row, bytes));
+            return Ok(Reply::Done);
+        }
+        if !self.layout.resettle(table, stored(row, bytes)) {
+            return Err(Fault::NoFrame(row.home));
+        }
+        Ok(Reply::Done)
+    }
+}
