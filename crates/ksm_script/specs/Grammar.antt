@@ -2,8 +2,9 @@
 use Rattle.std.specs.Prelude.{◌≡◌, ℕ, ◌^◌, ◌<◌, ◌==◌, List, [], ◌∷◌, Some, codes, decimal}
 use Rattle.std.specs.List.{slice_split}
 use Rattle.ksm_script.specs.declared.line.Line.{Line}
-use Rattle.ksm_script.specs.declared.line.Line.TheVariants.{Empty, Register, Store, Get, Stat}
+use Rattle.ksm_script.specs.declared.line.Line.TheVariants.{Empty, Register, Drop, Store, Get, Ticket, Mappers, ScanPages, Scan, Prune, Unmerge, Mergeable, MovePage, MoveDup, Set, Show, Stat}
 use Rattle.ksm_script.specs.Content.{content_of}
+use Rattle.ksm_script.specs.Knobs.{knob_name}
 
 -- the words of a line: its bytes, parted at each space
 abbrev pub words_of : List ℕ → List (List ℕ)
@@ -34,8 +35,20 @@ AreWritten (part ∷ parts) [] = ⊥
 abbrev pub parts_of : Line → List Part
 parts_of Empty = name [] ∷ []
 parts_of (Register page node bytes) = name (codes "reg") ∷ guest page.guest ∷ number page.page ∷ number node ∷ content bytes ∷ []
+parts_of (Drop page) = name (codes "drop") ∷ guest page.guest ∷ number page.page ∷ []
 parts_of (Store page bytes) = name (codes "put") ∷ guest page.guest ∷ number page.page ∷ content bytes ∷ []
 parts_of (Get page) = name (codes "get") ∷ guest page.guest ∷ number page.page ∷ []
+parts_of (Ticket page) = name (codes "ticket") ∷ guest page.guest ∷ number page.page ∷ []
+parts_of (Mappers place) = name (codes "rmap") ∷ number place ∷ []
+parts_of ScanPages = name (codes "scan") ∷ []
+parts_of (Scan visits) = name (codes "scan") ∷ number visits ∷ []
+parts_of Prune = name (codes "prune") ∷ []
+parts_of (Unmerge owner) = name (codes "unmerge") ∷ guest owner ∷ []
+parts_of (Mergeable owner) = name (codes "mergeable") ∷ guest owner ∷ []
+parts_of (MovePage page node) = name (codes "move") ∷ guest page.guest ∷ number page.page ∷ number node ∷ []
+parts_of (MoveDup place node) = name (codes "movedup") ∷ number place ∷ number node ∷ []
+parts_of (Set knob value) = name (codes "set") ∷ name (knob_name knob) ∷ number value ∷ []
+parts_of (Show knob) = name (codes "show") ∷ name (knob_name knob) ∷ []
 parts_of Stat = name (codes "stat") ∷ []
 
 -- the bytes are the line: single spaces stand between its words, and none at the ends

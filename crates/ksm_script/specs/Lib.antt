@@ -1,4 +1,5 @@
 pub mod Content
+pub mod Knobs
 pub mod Grammar
 pub mod Reading
 pub mod Texts

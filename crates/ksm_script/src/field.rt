@@ -4,8 +4,9 @@ ghost use Rattle.std.specs.Char.{is_ascii_digit, is_ascii_hexdigit};
 ghost use Rattle.std.specs.List.{list_all};
 ghost use Rattle.ksm_script.specs.Content.{hex_value, byte_at, word_at, page_of, content_of};
 ghost use Rattle.ksm_script.specs.Grammar.{words_of};
-ghost use Rattle.ksm_script.specs.Reading.{Gives, GivesField, words_left, is_plain, field, guest_of, number_of, page_at, page_alone, ended};
+ghost use Rattle.ksm_script.specs.Reading.{Gives, GivesField, words_left, is_plain, field, guest_of, number_of, page_at, alone, page_alone, knob_of, ended};
 
+use crate::knob::{Knob, knob_named};
 use crate::line::LineFault;
 use ksm_base::{GuestPage, PAGE_WORDS, PageBytes};
 use std::array;
@@ -115,13 +116,48 @@ pub fn page(left: Option<&[u8]>) -> Result<(GuestPage, Option<&[u8]>), LineFault
     Ok((GuestPage { guest, page }, left))
 }
 
-/// The words that are left as a page.
+/// The last word as a number.
+pub fn number_alone(left: Option<&[u8]>) -> Result<u32, LineFault>
+    ensures { Gives result (alone number_of (words_left left.entry)) }
+{
+    let (number, left) = number(left)?;
+    ended(left)?;
+    Ok(number)
+}
+
+/// The last word as the number of a guest.
+pub fn guest_alone(left: Option<&[u8]>) -> Result<u16, LineFault>
+    ensures { Gives result (alone guest_of (words_left left.entry)) }
+{
+    let (guest, left) = guest(left)?;
+    ended(left)?;
+    Ok(guest)
+}
+
+/// The last two words as a page.
 pub fn page_alone(left: Option<&[u8]>) -> Result<GuestPage, LineFault>
     ensures { Gives result (page_alone (words_left left.entry)) }
 {
     let (page, left) = page(left)?;
     ended(left)?;
     Ok(page)
+}
+
+/// The next word as a knob.
+pub fn knob(left: Option<&[u8]>) -> Result<(Knob, Option<&[u8]>), LineFault>
+    ensures { GivesField result (field knob_of (words_left left.entry)) }
+{
+    let (word, left) = cut(left.ok_or(LineFault::Bad)?);
+    Ok((knob_named(word)?, left))
+}
+
+/// The last word as a knob.
+pub fn knob_alone(left: Option<&[u8]>) -> Result<Knob, LineFault>
+    ensures { Gives result (alone knob_of (words_left left.entry)) }
+{
+    let (knob, left) = knob(left)?;
+    ended(left)?;
+    Ok(knob)
 }
 
 /// The byte that digits 2k and 2k + 1 write.
@@ -179,10 +215,12 @@ fn content_in(word: &[u8]) -> Result<PageBytes, LineFault>
     Ok(page_of(word))
 }
 
-/// The next word as the content of a page.
-pub fn content(left: Option<&[u8]>) -> Result<(PageBytes, Option<&[u8]>), LineFault>
-    ensures { GivesField result (field content_of (words_left left.entry)) }
+/// The last word as the content of a page.
+pub fn content_alone(left: Option<&[u8]>) -> Result<PageBytes, LineFault>
+    ensures { Gives result (alone content_of (words_left left.entry)) }
 {
     let (word, left) = cut(left.ok_or(LineFault::Bad)?);
-    Ok((content_in(word)?, left))
+    let bytes = content_in(word)?;
+    ended(left)?;
+    Ok(bytes)
 }

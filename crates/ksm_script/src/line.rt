@@ -2,9 +2,12 @@
 ghost use Rattle.std.specs.Prelude.{◌≡◌, IfOk, Ok};
 ghost use Rattle.ksm_script.specs.declared.line.Line.{Line};
 ghost use Rattle.ksm_script.specs.Grammar.{Writes};
-ghost use Rattle.ksm_script.specs.Reading.{Gives, words_left, forms, named_line, name_alone, register_at, store_at};
+ghost use Rattle.ksm_script.specs.Reading.{Gives, words_left, forms, named_line, name_alone, register_at, store_at, scan_at, move_page_at, move_dup_at, set_at};
 
-use crate::field::{content, cut, ended, is, number, page, page_alone};
+use crate::field::{
+    content_alone, cut, ended, guest_alone, is, knob, knob_alone, number, number_alone, page, page_alone,
+};
+use crate::knob::Knob;
 use ksm_base::{GuestPage, PageBytes};
 use thiserror::Error;
 
@@ -19,15 +22,34 @@ pub enum Line {
         node: u32,
         bytes: PageBytes,
     },
+    /// `drop G P`
+    Drop { page: GuestPage },
     /// `put G P HEX`
-    Store {
-        page: GuestPage,
-        bytes: PageBytes,
-    },
+    Store { page: GuestPage, bytes: PageBytes },
     /// `get G P`
-    Get {
-        page: GuestPage,
-    },
+    Get { page: GuestPage },
+    /// `ticket G P`
+    Ticket { page: GuestPage },
+    /// `rmap PLACE`
+    Mappers { place: u32 },
+    /// `scan`: as many visits as the knob `pages_to_scan` says.
+    ScanPages,
+    /// `scan N`
+    Scan { visits: u32 },
+    /// `prune`
+    Prune,
+    /// `unmerge G`
+    Unmerge { guest: u16 },
+    /// `mergeable G`
+    Mergeable { guest: u16 },
+    /// `move G P NODE`
+    MovePage { page: GuestPage, node: u32 },
+    /// `movedup PLACE NODE`
+    MoveDup { place: u32, node: u32 },
+    /// `set KNOB V`
+    Set { knob: Knob, value: u32 },
+    /// `show KNOB`
+    Show { knob: Knob },
     /// `stat`
     Stat,
 }
@@ -57,12 +79,32 @@ fn named(name: &[u8], left: Option<&[u8]>) -> Result<Line, LineFault>
         alone(Line::Empty, left)
     } else if is(name, "reg") {
         register(left)
+    } else if is(name, "drop") {
+        page_alone(left).map(|page| Line::Drop { page })
     } else if is(name, "put") {
         store(left)
     } else if is(name, "get") {
-        Ok(Line::Get {
-            page: page_alone(left)?,
-        })
+        page_alone(left).map(|page| Line::Get { page })
+    } else if is(name, "ticket") {
+        page_alone(left).map(|page| Line::Ticket { page })
+    } else if is(name, "rmap") {
+        number_alone(left).map(|place| Line::Mappers { place })
+    } else if is(name, "scan") {
+        scan(left)
+    } else if is(name, "prune") {
+        alone(Line::Prune, left)
+    } else if is(name, "unmerge") {
+        guest_alone(left).map(|guest| Line::Unmerge { guest })
+    } else if is(name, "mergeable") {
+        guest_alone(left).map(|guest| Line::Mergeable { guest })
+    } else if is(name, "move") {
+        move_page(left)
+    } else if is(name, "movedup") {
+        move_dup(left)
+    } else if is(name, "set") {
+        set(left)
+    } else if is(name, "show") {
+        knob_alone(left).map(|knob| Line::Show { knob })
     } else if is(name, "stat") {
         alone(Line::Stat, left)
     } else {
@@ -83,8 +125,7 @@ fn register(left: Option<&[u8]>) -> Result<Line, LineFault>
 {
     let (page, left) = page(left)?;
     let (node, left) = number(left)?;
-    let (bytes, left) = content(left)?;
-    ended(left)?;
+    let bytes = content_alone(left)?;
     Ok(Line::Register { page, node, bytes })
 }
 
@@ -92,7 +133,39 @@ fn store(left: Option<&[u8]>) -> Result<Line, LineFault>
     ensures { Gives result (store_at (words_left left.entry)) }
 {
     let (page, left) = page(left)?;
-    let (bytes, left) = content(left)?;
-    ended(left)?;
+    let bytes = content_alone(left)?;
     Ok(Line::Store { page, bytes })
+}
+
+fn scan(left: Option<&[u8]>) -> Result<Line, LineFault>
+    ensures { Gives result (scan_at (words_left left.entry)) }
+{
+    match ended(left) {
+        Ok(()) => Ok(Line::ScanPages),
+        Err(_) => number_alone(left).map(|visits| Line::Scan { visits }),
+    }
+}
+
+fn move_page(left: Option<&[u8]>) -> Result<Line, LineFault>
+    ensures { Gives result (move_page_at (words_left left.entry)) }
+{
+    let (page, left) = page(left)?;
+    let node = number_alone(left)?;
+    Ok(Line::MovePage { page, node })
+}
+
+fn move_dup(left: Option<&[u8]>) -> Result<Line, LineFault>
+    ensures { Gives result (move_dup_at (words_left left.entry)) }
+{
+    let (place, left) = number(left)?;
+    let node = number_alone(left)?;
+    Ok(Line::MoveDup { place, node })
+}
+
+fn set(left: Option<&[u8]>) -> Result<Line, LineFault>
+    ensures { Gives result (set_at (words_left left.entry)) }
+{
+    let (knob, left) = knob(left)?;
+    let value = number_alone(left)?;
+    Ok(Line::Set { knob, value })
 }

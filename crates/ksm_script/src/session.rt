@@ -3,14 +3,18 @@ ghost use Rattle.std.specs.Prelude.{◌≡◌, ◌≤◌, ℕ, List, length, Ok,
 ghost use Rattle.std.specs.Io.KnownBytes.{Consumes, IsAtEnd};
 ghost use Rattle.ksm_base.specs.State.{opening};
 ghost use Rattle.ksm_base.specs.Values.{IsShape};
-ghost use Rattle.ksm_base.specs.Reading.{bytes_of};
+ghost use Rattle.ksm_base.specs.Reading.{bytes_of, ticket_of, mappers_of};
+ghost use Rattle.ksm_base.specs.Refusals.{is_known};
+ghost use Rattle.ksm_base.specs.declared.command.Command.TheVariants.{Scan as scan};
+ghost use Rattle.ksm_script.specs.Knobs.{value_in};
 ghost use Rattle.ksm_base.specs.Counting.{counters_of};
-ghost use Rattle.ksm_script.specs.declared.reply.LineReply.TheVariants.{Counters as counters_reply};
+ghost use Rattle.ksm_script.specs.declared.reply.LineReply.TheVariants.{Counters as counters_reply, Value as value_reply};
 ghost use Rattle.frame_table.specs.Seats.{Ends};
-ghost use Rattle.ksm_script.specs.Answering.{Answers, Commands, reply_to, content_reply};
+ghost use Rattle.ksm_script.specs.Answering.{Answers, Commands, IsMappers, reply_to, content_reply, ticket_reply};
 ghost use Rattle.ksm_script.specs.Input.{EndsAs, IsPlain};
 
 use crate::input::{LineBuffer, LineEnd, next_line};
+use crate::knob::Knob;
 use crate::line::Line;
 use crate::reply::LineReply;
 use crate::script::RunFault;
@@ -23,6 +27,7 @@ use std::marker::Model;
 
 /// What a run works on. It must be closed.
 pub struct Session {
+    alloc: Global,
     table: FrameTable,
     passes: Vec<Pass>,
     book: Book,
@@ -51,6 +56,7 @@ impl Session {
         let (table, keeper, passes) = FrameTable::open(alloc, shape)?;
         match Book::open(alloc, keeper, shape) {
             Ok(book) => Ok(Session {
+                alloc,
                 table,
                 passes,
                 book,
@@ -69,6 +75,7 @@ impl Session {
         ensures ends { Ends self.keeper.ledger result }
     {
         let Session {
+            alloc: _,
             table,
             passes,
             book,
@@ -108,10 +115,60 @@ impl Session {
             Line::Register { page, node, bytes } => {
                 Some(self.command(Command::Register { page, node, bytes }))
             }
+            Line::Drop { page } => Some(self.command(Command::Drop { page })),
             Line::Store { page, bytes } => Some(self.command(Command::Store { page, bytes })),
             Line::Get { page } => Some(self.content(page)),
+            Line::Ticket { page } => Some(self.ticket(page)),
+            Line::Mappers { place } => Some(self.mappers(place)),
+            Line::ScanPages => Some(self.scan_pages()),
+            Line::Scan { visits } => Some(self.command(Command::Scan {
+                visits: u64::from(visits),
+            })),
+            Line::Prune => Some(self.command(Command::Prune)),
+            Line::Unmerge { guest } => Some(self.command(Command::Unmerge { guest })),
+            Line::Mergeable { guest } => Some(self.command(Command::Mergeable { guest })),
+            Line::MovePage { page, node } => Some(self.command(Command::MovePage { page, node })),
+            Line::MoveDup { place, node } => Some(self.command(Command::MoveDup { place, node })),
+            Line::Set { knob, value } => Some(self.command(knob.setting(value))),
+            Line::Show { knob } => Some(self.value(knob)),
             Line::Stat => Some(self.counters()),
         }
+    }
+
+    fn scan_pages(&mut self) -> LineReply
+        ensures answers { Commands (scan self.old.state.knobs.pages_to_scan) self.old.state (Some result) self.new.state }
+        ensures table { self.new.keeper.table ≡ self.old.keeper.table }
+    {
+        let visits = u64::from(self.book.knobs().pages_to_scan);
+        self.command(Command::Scan { visits })
+    }
+
+    fn ticket(&self, page: GuestPage) -> LineReply
+        ensures { result ≡ ticket_reply (is_known self.now.state page) (ticket_of page self.now.state) }
+    {
+        if !self.book.registered(page) {
+            return LineReply::Refused(Fault::UnknownPage);
+        }
+        match self.book.ticket(page) {
+            None => LineReply::Private,
+            Some(place) => LineReply::Place(place),
+        }
+    }
+
+    fn mappers(&self, place: u32) -> LineReply
+        ensures { IsMappers (mappers_of place self.now.state) result }
+    {
+        match self.book.mappers(self.alloc, place) {
+            Ok(Some(pages)) => LineReply::Mappers(pages),
+            Ok(None) => LineReply::Refused(Fault::UnknownPlace),
+            Err(fault) => LineReply::Refused(fault),
+        }
+    }
+
+    fn value(&self, knob: Knob) -> LineReply
+        ensures { result ≡ value_reply (value_in knob self.now.state.knobs) }
+    {
+        LineReply::Value(knob.value_in(&self.book.knobs()))
     }
 
     fn command(&mut self, command: Command) -> LineReply
