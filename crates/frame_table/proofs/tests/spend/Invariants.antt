@@ -9,3 +9,10 @@ invariant-loop-life l = record {
   width : length l.keeper.ledger.frames ≡ 1;
   named : (life : Life) → named_at l.keeper.ledger 0 ≡ Some life → life.frame ≡ 0;
 }
+
+abbrev pub invariant-loop : goal.invariant-loop
+invariant-loop l = record {
+  own : l.keeper.table ≡ l.table;
+  width : length l.keeper.ledger.frames ≡ 1;
+  named : (life : Life) → named_at l.keeper.ledger 0 ≡ Some life → life.frame ≡ 0;
+}
