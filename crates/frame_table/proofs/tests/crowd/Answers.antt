@@ -2,7 +2,7 @@ use Rattle.std.proofs.Common.{rules, ◌≡◌, Option, subst}
 use Rattle.std.specs.Prelude.{IsSomeAnd}
 use Rattle.frame_table.specs.Named.{PassView}
 use Rattle.frame_table.specs.declared.tests.Worker.{Worker}
-use Rattle.frame_table.proofs.Crowd.{all_put, all_left, one_taken}
+use Rattle.frame_table.proofs.Elements.{all_put, all_left, one_taken}
 use Rattle.frame_table.proofs.tests.crowd.Goals as goal
 
 pub loop-pass-preserved : goal.loop-pass-preserved
