@@ -5,7 +5,7 @@ pub const PAGE_WORDS: usize = 2;
 pub type PageBytes = [u64; PAGE_WORDS];
 
 /// A page of a guest. Pages are ordered by guest, then by page.
-#[derive(Clone, Copy, Debug, PartialEq, Eq, PartialOrd, Ord)]
+#[derive(Clone, Copy, Debug, PartialEq, Eq, PartialOrd, Ord, Default)]
 pub struct GuestPage {
     pub guest: u16,
     pub page: u32,
