@@ -1,5 +1,5 @@
 -- Lists in a strict order: where an element stands, and what an insert or a removal there leaves.
-use Rattle.std.proofs.Common.{◌≡◌, ℕ, zero, suc, ◌<◌, ◌≤◌, Bool, true, false, List, [], ◌∷◌, ◌++◌, length, get_or, refl, sym, ap, inl, inr, arith}
+use Rattle.std.proofs.Common.{◌≡◌, ℕ, zero, suc, ◌<◌, ◌≤◌, Bool, true, false, true≢false, List, [], ◌∷◌, ◌++◌, length, get_or, refl, sym, ap, ◌∙◌, inl, inr, arith}
 use Rattle.std.specs.Prelude.{not, All, AllPairs, filter, insert, remove}
 use Rattle.std.specs.List.{AllWithin, list_any}
 use Rattle.std.specs.List.Sorted.{IsPartitionedBy}
@@ -81,6 +81,12 @@ module _ {X : Type 0} (before same : X → X → Bool) (order : IsOrder before s
         | inl less ↦ order.trans (get_or xs i d) (get_or xs j d) x (rise i j d less lt) later
         | inr no_less ↦ let e : j ≡ i = omega arith in rw (← e) later
       ]
+
+  irreflexive : (y : X) → before y y ≡ false
+  irreflexive y = elim (cases_Bool (before y y)) [
+    | inl before_itself ↦ order.asym y y before_itself
+    | inr fine ↦ fine
+  ]
 
   -- of elements that are all behind x none is before it, and none is x
   none_low : (ys : List X) → All (λ z. high z ≡ true) ys → All (λ z. low z ≡ false) ys
@@ -183,6 +189,33 @@ module _ {X : Type 0} (before same : X → X → Bool) (order : IsOrder before s
       let absent_rest : list_any is_x ys ≡ false = grind (arith, absent, here) in
       let rest = absent_kept ys absent_rest in
       grind (arith, here, rest)
+
+  -- an element that is there is not put in twice
+  pub with_found : (xs : List X) → AllPairs (λ a b. before a b ≡ true) xs → list_any is_x xs ≡ true → xs ≡ filter low xs ++ x ∷ filter high xs
+  with_found [] rise found = absurd (true≢false (sym found))
+  with_found (y ∷ ys) rise found =
+      elim (cases_Bool (is_x y)) [
+        | inl equal ↦
+            let e = order.same_eq y x equal in
+            let low_here : low y ≡ false = rw e (irreflexive x) in
+            let high_here : high y ≡ false = rw e (irreflexive x) in
+            let behind = behind_x y ys rise equal in
+            let none = filter_none low ys (none_low ys behind) in
+            let each = filter_all high ys behind in
+            grind (arith, low_here, high_here, e, none, each)
+        | inr differ ↦
+            let found_rest : list_any is_x ys ≡ true = grind (arith, found, differ) in
+            elim (cases_Bool (low y)) [
+              | inl first ↦
+                  let none : high y ≡ false = order.asym y x first in
+                  let rest = with_found ys (pairs_tail (λ a b. before a b ≡ true) y ys rise) found_rest in
+                  grind (arith, first, none, rest)
+              | inr second ↦
+                  let behind = behind_rest y ys rise (order.total y x differ second) in
+                  let e = any_none is_x ys (none_same ys behind) in
+                  absurd (true≢false (sym found_rest ∙ e))
+            ]
+      ]
 
   -- both keep the order
   pub with_rises : (xs : List X) → AllPairs (λ a b. before a b ≡ true) xs → AllPairs (λ a b. before a b ≡ true) (filter low xs ++ x ∷ filter high xs)
