@@ -21,7 +21,7 @@ eq_both Less b = refl
 eq_both Equal b = refl
 eq_both Greater b = refl
 
-eq_bytes : (xs ys : List ℕ) → bytes_eq xs ys ≡ bytes_eq ys xs
+pub eq_bytes : (xs ys : List ℕ) → bytes_eq xs ys ≡ bytes_eq ys xs
 eq_bytes [] [] = refl
 eq_bytes [] (y ∷ ys) = refl
 eq_bytes (x ∷ xs) [] = refl

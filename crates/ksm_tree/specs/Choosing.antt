@@ -1,5 +1,5 @@
 -- Which dup a page joins, and where a new dup goes: the book's own words, with the items of a dup in place of the rows merged into it.
-use Rattle.std.specs.Prelude.{ℕ, Bool, not, ◌&&◌, ◌||◌, ◌==◌, nat_lt, nat_le, List, length, find, Option, Some, None, bytes_eq}
+use Rattle.std.specs.Prelude.{ℕ, Bool, not, ◌&&◌, ◌||◌, ◌==◌, nat_lt, nat_le, List, length, find, Option, Some, None, bytes_eq, if◌then◌else◌}
 use Rattle.std.specs.List.{list_all}
 use Rattle.ksm_base.specs.Visit.{empty_place}
 use Rattle.ksm_tree.specs.declared.choice.Choice.{Choice}
@@ -39,3 +39,12 @@ chosen None None = None
 -- where a new dup goes
 abbrev pub choice_of : DupsState → Option Choice
 choice_of s = chosen (empty_place s.places (rows_of s.dups)) (find is_stale s.dups)
+
+-- with an item, and below the limit
+abbrev pub has_room : ℕ → Dup → Bool
+has_room limit d = nat_le 1 (length d.items) && nat_lt (length d.items) limit
+
+-- the better of two dups to join, of which the second comes later
+abbrev pub better : ℕ → Option Dup → Dup → Option Dup
+better limit None d = if has_room limit d then Some d else None
+better limit (Some best) d = if has_room limit d && not (is_no_worse best d) then Some d else Some best

@@ -1,7 +1,8 @@
 -- Dups with their items, in the order of their places (mm/ksm: stable nodes, chains).
-use Rattle.std.specs.Prelude.{◌≡◌, ℕ, ◌+◌, ◌<◌, Bool, false, not, ◌==◌, nat_lt, List, [], ◌∷◌, ◌++◌, length, map, filter, find, Option, Some, None, All, AllPairs, if◌then◌else◌}
+use Rattle.std.specs.Prelude.{ℕ, ◌<◌, Bool, not, ◌==◌, nat_lt, List, [], ◌∷◌, ◌++◌, length, map, filter, find, Option, Some, None, All, if◌then◌else◌}
 use Rattle.ksm_base.specs.declared.page.GuestPage.{GuestPage}
 use Rattle.ksm_base.specs.declared.row.DupRow.{DupRow}
+use Rattle.ksm_base.specs.Rows.{InPlaceOrder}
 use Rattle.ksm_tree.specs.declared.dup.Dup.{Dup}
 
 -- how many places there are, the dups in the order of their places, and the number of the dup that is made next
@@ -56,6 +57,6 @@ change_items number change dups = map (λ d. if has_number number d then record 
 
 -- the dups stand in the order of their places, below how many there are; their numbers differ and are not still to be given
 pub record AreDups (s : DupsState) : Type 0 where
-  pub in_place_order : AllPairs (λ d e. (d.row.place < e.row.place) × ((d.row.number == e.row.number) ≡ false)) s.dups
-  pub places_below : All (λ d. d.row.place < s.places) s.dups
-  pub numbers_below : All (λ d. d.row.number < s.next) s.dups
+  pub in_place_order : InPlaceOrder (rows_of s.dups)
+  pub places_below : All (λ r. r.place < s.places) (rows_of s.dups)
+  pub numbers_below : All (λ r. r.number < s.next) (rows_of s.dups)

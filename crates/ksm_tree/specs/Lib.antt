@@ -1,6 +1,7 @@
 pub mod Choosing
 pub mod Dups
 pub mod Groups
+pub mod Index
 pub mod Places
 pub mod Slots
 pub mod Waits

@@ -4,10 +4,13 @@
 mod choice;
 mod content;
 mod dup;
+mod dups;
 mod groups;
+mod index;
 mod places;
 mod slots;
 mod waiting;
 
 pub use choice::Choice;
+pub use dups::Dups;
 pub use waiting::Waiting;

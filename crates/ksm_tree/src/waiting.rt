@@ -38,7 +38,7 @@ impl Waiting {
     pub fn find(&self, tree: u32, bytes: &PageBytes) -> Option<GuestPage>
         ensures { result ≡ waiting_page tree bytes.now self.now }
     {
-        self.pages.get(&content(tree, bytes)).copied()
+        self.pages.get(&Content::of(tree, bytes)).copied()
     }
 
     /// A page waits from now on. The one fault is `Memory`, and then nothing changes.
@@ -49,7 +49,7 @@ impl Waiting {
         ensures kept { OnErr result (self.new ≡ self.old) }
         ensures memory { IfErr result (λ fault. fault ≡ Fault.Memory) }
     {
-        self.pages.insert(content(tree, bytes), page)?;
+        self.pages.insert(Content::of(tree, bytes), page)?;
         Ok(())
     }
 
@@ -58,7 +58,7 @@ impl Waiting {
         ensures { (t : ℕ) (b : List ℕ) → waiting_page t b self.new
             ≡ (if t == tree && bytes_eq b bytes.now then None else waiting_page t b self.old) }
     {
-        self.pages.remove(&content(tree, bytes));
+        self.pages.remove(&Content::of(tree, bytes));
     }
 
     /// No page waits any more.
@@ -66,15 +66,5 @@ impl Waiting {
         ensures { self.new ≡ [] }
     {
         self.pages.clear();
-    }
-}
-
-/// A tree and bytes as one key.
-fn content(tree: u32, bytes: &PageBytes) -> Content
-    ensures { result ≡ record { tree = tree; bytes = bytes.now } }
-{
-    Content {
-        tree,
-        bytes: *bytes,
     }
 }

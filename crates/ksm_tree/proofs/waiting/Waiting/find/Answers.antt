@@ -11,6 +11,6 @@ returns c =
     let entries = c.self.inside.pages.entries in
     c.copied.ensures
     ∙ c.get.ensures.value
-    ∙ ap (λ k. lookup (λ q. is_eq (content_ord.ghosts.cmp k q)) entries) c.content.ensures
+    ∙ ap (λ k. lookup (λ q. is_eq (content_ord.ghosts.cmp k q)) entries) c.of.ensures
     ∙ sym (waiting_found c.args.tree c.args.bytes.now entries)
     ∙ ap (waiting_page c.args.tree c.args.bytes.now) c.self.view_is

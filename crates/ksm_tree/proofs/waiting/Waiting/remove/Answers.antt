@@ -10,7 +10,7 @@ pub returns : goal.returns
 returns c t b =
     let q : Content = record { tree = t; bytes = b } in
     let key : Content = record { tree = c.args.tree; bytes = c.args.bytes.now } in
-    let here = ap (λ k. is_eq (content_ord.ghosts.cmp k q)) c.content.ensures ∙ same_content key q in
+    let here = ap (λ k. is_eq (content_ord.ghosts.cmp k q)) c.of.ensures ∙ same_content key q in
     let elsewhere = sym (waiting_found t b c.self.inside.pages.entries) ∙ ap (waiting_page t b) c.self.view_is in
     waiting_found t b c.remove.new.self.entries
     ∙ c.remove.ensures.updates.0 q
