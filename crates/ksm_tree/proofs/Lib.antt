@@ -1,4 +1,5 @@
 pub mod Best
+pub mod Bridge
 pub mod Chains
 pub mod Changes
 pub mod Indexed

@@ -1,3 +1,4 @@
+pub mod Bridge
 pub mod Choosing
 pub mod Dups
 pub mod Groups

@@ -154,30 +154,21 @@ impl Dups {
         ensures number { result ≡ option_map (λ d. d.row.number) (dup_at place self.now.dups) }
         ensures lawful { AreDups self.now }
     {
-        match self.slots.at(place) {
-            Some(dup) => Some(dup.row.number),
-            None => None,
-        }
+        self.slots.at(place).map(|dup| dup.row.number)
     }
 
     /// The row of a dup.
     pub fn row(&self, dup: u64) -> Option<DupRow>
         ensures { result ≡ option_map (λ d. d.row) (dup_of dup self.now.dups) }
     {
-        match self.find(dup) {
-            Some(dup) => Some(dup.row),
-            None => None,
-        }
+        self.find(dup).map(|dup| dup.row)
     }
 
     /// How many items a dup has: none where there is no such dup.
     pub fn items(&self, dup: u64) -> u32
         ensures { result ≡ length (items_of dup self.now.dups) }
     {
-        match self.find(dup) {
-            Some(dup) => dup.items.len() as u32,
-            None => 0,
-        }
+        self.find(dup).map_or(0, |dup| dup.items.len() as u32)
     }
 
     /// The item of a dup at `i`, in ascending order from 0 on.

@@ -7,6 +7,7 @@ mod dup;
 mod dups;
 mod groups;
 mod index;
+pub mod laws;
 mod places;
 mod slots;
 mod waiting;
@@ -14,3 +15,6 @@ mod waiting;
 pub use choice::Choice;
 pub use dups::Dups;
 pub use waiting::Waiting;
+
+#[cfg(test)]
+mod tests;
