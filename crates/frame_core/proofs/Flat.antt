@@ -9,7 +9,7 @@ use Rattle.ksm_base.specs.Values.{frames_of}
 use Rattle.frame_core.specs.declared.frame.Frame.{Frame}
 use Rattle.frame_core.specs.declared.seat.Life.{Life}
 use Rattle.frame_core.specs.State.{State, place_word}
-use Rattle.frame_core.specs.Words.{frame_words, words_of, frame_at, count_at, generation_at}
+use Rattle.frame_core.specs.Words.{frame_words, words_of, frame_offset, count_at, generation_at}
 use Rattle.frame_core.specs.Rule.{Rule}
 
 module _ {A : Type 0} where
@@ -61,17 +61,17 @@ module _ (s : State) (rule : Rule s) where
 
   -- the word j of the frame f becomes v
   pub words_set : (f j v : ℕ) (fr next : Frame) → slice_get s.frames f ≡ Some fr → j < 2 + PAGE_WORDS → set (frame_words fr) j v ≡ frame_words next
-      → set (words_of s) (frame_at (frames_of s.shape) f + j) v ≡ words_of (record s { frames = slice_set s.frames f next })
+      → set (words_of s) (frame_offset (frames_of s.shape) f + j) v ≡ words_of (record s { frames = slice_set s.frames f next })
   words_set f j v fr next at below is =
-      let moved : frame_at (frames_of s.shape) f + j ≡ frames_of s.shape + (f * (2 + PAGE_WORDS) + j) = omega arith in
+      let moved : frame_offset (frames_of s.shape) f + j ≡ frames_of s.shape + (f * (2 + PAGE_WORDS) + j) = omega arith in
       ap (λ (m : ℕ). set (words_of s) m v) moved
       ∙ (set_right (map place_word s.places) (flat_map frame_words s.frames) (frames_of s.shape) (f * (2 + PAGE_WORDS) + j) v places_long
       ∙ ap (λ (w : List ℕ). map place_word s.places ++ w) (flat_set frame_words (2 + PAGE_WORDS) s.frames f j v fr next blocks_fit at below is))
 
   -- what stands there
-  pub words_get : (f j : ℕ) (fr : Frame) → slice_get s.frames f ≡ Some fr → j < 2 + PAGE_WORDS → get_or (words_of s) (frame_at (frames_of s.shape) f + j) 0 ≡ get_or (frame_words fr) j 0
+  pub words_get : (f j : ℕ) (fr : Frame) → slice_get s.frames f ≡ Some fr → j < 2 + PAGE_WORDS → get_or (words_of s) (frame_offset (frames_of s.shape) f + j) 0 ≡ get_or (frame_words fr) j 0
   words_get f j fr at below =
-      let moved : frame_at (frames_of s.shape) f + j ≡ length (map place_word s.places) + (f * (2 + PAGE_WORDS) + j) = omega (arith, places_long) in
+      let moved : frame_offset (frames_of s.shape) f + j ≡ length (map place_word s.places) + (f * (2 + PAGE_WORDS) + j) = omega (arith, places_long) in
       ap (λ (m : ℕ). get_or (words_of s) m 0) moved
       ∙ (get_or-append-add (map place_word s.places) (flat_map frame_words s.frames) (f * (2 + PAGE_WORDS) + j) 0
       ∙ flat_get frame_words (2 + PAGE_WORDS) s.frames f j fr blocks_fit at below)

@@ -16,9 +16,12 @@ use Rattle.frame_core.specs.declared.frame.Frame.{Frame}
 use Rattle.frame_core.specs.declared.seat.Phase.{Phase}
 use Rattle.frame_core.specs.declared.seat.Phase.TheVariants.{Idle}
 use Rattle.frame_core.specs.State.{State, opening, new_frame}
-use Rattle.frame_core.specs.Steps.{step, reader_step, keeper_step, after, at_frame, reaped, filled, raised, opened, added, lowered, frozen, shown, load_place, load_count, load_generation, load_word, exchange, leave}
+use Rattle.frame_core.specs.KeeperSteps.{keeper_step, at_frame, reap_step, put_step, raise_step, open_step, add_step, sub_step, freeze_step, word_step}
+use Rattle.frame_core.specs.ReaderSteps.{reader_step, load_place_step, load_count_step, load_generation_step, load_word_step, exchange_step, leave_step}
+use Rattle.frame_core.specs.Steps.{step, after}
 use Rattle.frame_core.specs.Rule.{Rule, FrameRule, SeatRule, readers_on, is_on}
 use Rattle.frame_core.proofs.Parts.{parts}
+use Rattle.frame_core.proofs.Made.{at_frame_made}
 use Rattle.frame_core.proofs.Frames.{Kept}
 use Rattle.frame_core.proofs.Changes.{frame_changed}
 use Rattle.frame_core.proofs.Moves.Reap.{reap_keeps}
@@ -28,7 +31,7 @@ use Rattle.frame_core.proofs.Moves.Open.{open_keeps}
 use Rattle.frame_core.proofs.Moves.Add.{add_keeps}
 use Rattle.frame_core.proofs.Moves.Sub.{sub_keeps}
 use Rattle.frame_core.proofs.Moves.Freeze.{freeze_keeps}
-use Rattle.frame_core.proofs.Moves.Show.{show_keeps}
+use Rattle.frame_core.proofs.Moves.Word.{word_keeps}
 use Rattle.frame_core.proofs.Moves.Publish.{publish_keeps}
 use Rattle.frame_core.proofs.Moves.Withdraw.{withdraw_keeps}
 use Rattle.frame_core.proofs.Moves.LoadPlace.{load_place_keeps}
@@ -42,39 +45,39 @@ use Rattle.frame_core.proofs.Moves.Leave.{leave_keeps}
 at_frame_keeps : (s : State) (f : ℕ) (change : Frame → Option (ℕ × Frame)) → ((readers : ℕ) (fr : Frame) (r : ℕ × Frame) → change fr ≡ Some r → FrameRule s.shape.last_generation readers fr → Kept s.shape.last_generation readers fr r.1)
     → (r : ℕ × State) → at_frame s f change ≡ Some r → Rule s → Rule r.1
 at_frame_keeps s f change keeps r e rule =
-    let P = parts (slice_get s.frames f) change (λ (x : ℕ × Frame). (x.0, record s { frames = slice_set s.frames f x.1 })) r e in
+    let P = at_frame_made s f change r e in
     subst (λ (x : ℕ × State). Rule x.1) P.is (frame_changed s f P.old P.new.1 P.at (λ h. keeps (readers_on f s.seats) P.old P.new P.gives h) rule)
 
 keeper_keeps : (s : State) (k : KeeperStep) (r : ℕ × State) → keeper_step s k ≡ Some r → Rule s → Rule r.1
-keeper_keeps s (keeper.Reap f) r e rule = at_frame_keeps s f (reaped s.shape.last_generation) (reap_keeps s.shape.last_generation) r e rule
-keeper_keeps s (keeper.Put f i w) r e rule = at_frame_keeps s f (filled i w) (λ n. put_keeps s.shape.last_generation n i w) r e rule
-keeper_keeps s (keeper.Raise f) r e rule = at_frame_keeps s f raised (raise_keeps s.shape.last_generation) r e rule
-keeper_keeps s (keeper.Open f) r e rule = at_frame_keeps s f opened (open_keeps s.shape.last_generation) r e rule
-keeper_keeps s (keeper.Add f) r e rule = at_frame_keeps s f added (add_keeps s.shape.last_generation) r e rule
-keeper_keeps s (keeper.Sub f) r e rule = at_frame_keeps s f lowered (sub_keeps s.shape.last_generation) r e rule
+keeper_keeps s (keeper.Reap f) r e rule = at_frame_keeps s f (reap_step s.shape.last_generation) (reap_keeps s.shape.last_generation) r e rule
+keeper_keeps s (keeper.Put f i w) r e rule = at_frame_keeps s f (put_step i w) (λ n. put_keeps s.shape.last_generation n i w) r e rule
+keeper_keeps s (keeper.Raise f) r e rule = at_frame_keeps s f raise_step (raise_keeps s.shape.last_generation) r e rule
+keeper_keeps s (keeper.Open f) r e rule = at_frame_keeps s f open_step (open_keeps s.shape.last_generation) r e rule
+keeper_keeps s (keeper.Add f) r e rule = at_frame_keeps s f add_step (add_keeps s.shape.last_generation) r e rule
+keeper_keeps s (keeper.Sub f) r e rule = at_frame_keeps s f sub_step (sub_keeps s.shape.last_generation) r e rule
 keeper_keeps s (keeper.Publish p f) r e rule = publish_keeps s p f r e rule
 keeper_keeps s (keeper.Withdraw p) r e rule = withdraw_keeps s p r e rule
-keeper_keeps s (keeper.Freeze f) r e rule = at_frame_keeps s f frozen (freeze_keeps s.shape.last_generation) r e rule
-keeper_keeps s (keeper.Word f i) r e rule = at_frame_keeps s f (shown i) (λ n. show_keeps s.shape.last_generation n i) r e rule
+keeper_keeps s (keeper.Freeze f) r e rule = at_frame_keeps s f freeze_step (freeze_keeps s.shape.last_generation) r e rule
+keeper_keeps s (keeper.Word f i) r e rule = at_frame_keeps s f (word_step i) (λ n. word_keeps s.shape.last_generation n i) r e rule
 
 reader_keeps : (s : State) (q : ℕ) (k : ReaderStep) (r : ℕ × State) → reader_step s q k ≡ Some r → Rule s → Rule r.1
 reader_keeps s q (reader.LoadPlace p) r e rule =
-    let P = parts (slice_get s.seats q) (load_place s.places p) (λ (x : ℕ × Phase). (x.0, record s { seats = slice_set s.seats q x.1 })) r e in
+    let P = parts (slice_get s.seats q) (load_place_step s.places p) (λ (x : ℕ × Phase). (x.0, record s { seats = slice_set s.seats q x.1 })) r e in
     subst (λ (x : ℕ × State). Rule x.1) P.is (load_place_keeps s q p P.old P.at P.new P.gives rule)
 reader_keeps s q reader.LoadCount r e rule =
-    let P = parts (slice_get s.seats q) (load_count s.frames) (λ (x : ℕ × Phase). (x.0, record s { seats = slice_set s.seats q x.1 })) r e in
+    let P = parts (slice_get s.seats q) (load_count_step s.frames) (λ (x : ℕ × Phase). (x.0, record s { seats = slice_set s.seats q x.1 })) r e in
     subst (λ (x : ℕ × State). Rule x.1) P.is (load_count_keeps s q P.old P.at P.new P.gives rule)
 reader_keeps s q reader.Exchange r e rule =
-    let P = parts (slice_get s.seats q) (exchange s.shape.tries s.frames) (λ (x : ℕ × List Frame × Phase). (x.0, record s { frames = x.1; seats = slice_set s.seats q x.2 })) r e in
+    let P = parts (slice_get s.seats q) (exchange_step s.shape.tries s.frames) (λ (x : ℕ × List Frame × Phase). (x.0, record s { frames = x.1; seats = slice_set s.seats q x.2 })) r e in
     subst (λ (x : ℕ × State). Rule x.1) P.is (exchange_keeps s q P.old P.at P.new P.gives rule)
 reader_keeps s q reader.LoadGeneration r e rule =
-    let P = parts (slice_get s.seats q) (load_generation s.frames) (λ (x : ℕ × Phase). (x.0, record s { seats = slice_set s.seats q x.1 })) r e in
+    let P = parts (slice_get s.seats q) (load_generation_step s.frames) (λ (x : ℕ × Phase). (x.0, record s { seats = slice_set s.seats q x.1 })) r e in
     subst (λ (x : ℕ × State). Rule x.1) P.is (load_generation_keeps s q P.old P.at P.new P.gives rule)
 reader_keeps s q reader.Leave r e rule =
-    let P = parts (slice_get s.seats q) (leave s.frames) (λ (x : ℕ × List Frame × Phase). (x.0, record s { frames = x.1; seats = slice_set s.seats q x.2 })) r e in
+    let P = parts (slice_get s.seats q) (leave_step s.frames) (λ (x : ℕ × List Frame × Phase). (x.0, record s { frames = x.1; seats = slice_set s.seats q x.2 })) r e in
     subst (λ (x : ℕ × State). Rule x.1) P.is (leave_keeps s q P.old P.at P.new P.gives rule)
 reader_keeps s q (reader.LoadWord i) r e rule =
-    let P = parts (slice_get s.seats q) (load_word s.frames i) (λ (x : ℕ × Phase). (x.0, record s { seats = slice_set s.seats q x.1 })) r e in
+    let P = parts (slice_get s.seats q) (load_word_step s.frames i) (λ (x : ℕ × Phase). (x.0, record s { seats = slice_set s.seats q x.1 })) r e in
     subst (λ (x : ℕ × State). Rule x.1) P.is (load_word_keeps s q i P.old P.at P.new P.gives rule)
 
 pub step_keeps : (s : State) (e : Event) (r : ℕ × State) → step s e ≡ Some r → Rule s → Rule r.1

@@ -1,7 +1,6 @@
 -- Every run is safe.
-use Rattle.std.proofs.Common.{◌≡◌, ℕ, ◌+◌, ◌≢◌, ◌&&◌, ◌||◌, ltb, Bool, cond, List, [], ◌∷◌, Option, Some, None, length, slice_get, slice_set, count_by, suc, subst, sym, ap, ◌∙◌, refl, arith}
+use Rattle.std.proofs.Common.{◌≡◌, ℕ, ◌+◌, ◌≢◌, Bool, cond, List, [], ◌∷◌, Option, Some, None, length, slice_get, count_by, suc, subst, sym, ap, ◌∙◌, refl, arith}
 use Rattle.std.specs.List.{range_with_len}
-use Rattle.std.proofs.lemmas.Bool.{and_parts}
 use Rattle.std.proofs.lemmas.List.Sums.{sum_by-cons, length-filter}
 use Rattle.ksm_base.specs.declared.shape.Shape.{Shape}
 use Rattle.ksm_base.specs.Values.{IsShape}
@@ -10,16 +9,15 @@ use Rattle.frame_core.specs.declared.event.Event.TheVariants.{Keeper}
 use Rattle.frame_core.specs.declared.event.KeeperStep.TheVariants.{Put, Raise, Open}
 use Rattle.frame_core.specs.declared.frame.Frame.{Frame}
 use Rattle.frame_core.specs.declared.frame.Kind.{Kind}
-use Rattle.frame_core.specs.declared.frame.Kind.TheVariants.{Filling, Private}
 use Rattle.frame_core.specs.declared.seat.Aim.{Aim}
 use Rattle.frame_core.specs.declared.seat.Phase.{Phase}
 use Rattle.frame_core.specs.declared.seat.Phase.TheVariants.{Idle, Placed, Counted, Doubt, Held, Spent}
-use Rattle.frame_core.specs.Steps.{step, raised, opened, filled, is_free, is_filling, is_private}
+use Rattle.frame_core.specs.KeeperSteps.{raise_step, open_step, put_step}
+use Rattle.frame_core.specs.Steps.{step}
 use Rattle.frame_core.specs.Rule.{CountFits, is_on, readers_on}
 use Rattle.frame_core.specs.Trace.{History, run_of, held_by, holders, is_frame, life_of, HoldsRightly}
 use Rattle.frame_core.specs.Safe.{IsSafe}
-use Rattle.frame_core.proofs.Parts.{parts, only_if_parts}
-use Rattle.frame_core.proofs.Frames.{free_is, filling_is}
+use Rattle.frame_core.proofs.Made.{at_frame_made, raise_made, open_made, put_made}
 use Rattle.frame_core.proofs.Fitting.{get_inside}
 use Rattle.frame_core.proofs.Moves.Put.{not_held}
 use Rattle.frame_core.proofs.Told.{SeatTale, SeatTold, tale_of}
@@ -79,20 +77,16 @@ module _ (h : History) (sound : Sound h) where
   safe = record {
     raised = λ f allowed.
         let r = some_of (step h.state (Keeper (Raise f))) allowed in
-        let P = parts (slice_get h.state.frames f) raised (λ (x : ℕ × Frame). (x.0, record h.state { frames = slice_set h.state.frames f x.1 })) r.0 r.1 in
-        let kind = free_is P.old.kind (only_if_parts (is_free P.old.kind) (P.old.generation, record P.old { generation = P.old.generation + 1; kind = Filling }) P.new P.gives).0 in
-        none_held f P.old P.at (subst (λ (k : Kind). CountFits k P.old.count) kind (sound.rule.frames f P.old P.at).count);
+        let P = at_frame_made h.state f raise_step r.0 r.1 in
+        none_held f P.old P.at (subst (λ (k : Kind). CountFits k P.old.count) (raise_made P.old P.new P.gives).0 (sound.rule.frames f P.old P.at).count);
     opened = λ f allowed.
         let r = some_of (step h.state (Keeper (Open f))) allowed in
-        let P = parts (slice_get h.state.frames f) opened (λ (x : ℕ × Frame). (x.0, record h.state { frames = slice_set h.state.frames f x.1 })) r.0 r.1 in
-        let kind = filling_is P.old.kind (only_if_parts (is_filling P.old.kind) (0, record P.old { count = 1; kind = Private; base = 1 }) P.new P.gives).0 in
-        none_held f P.old P.at (subst (λ (k : Kind). CountFits k P.old.count) kind (sound.rule.frames f P.old P.at).count);
+        let P = at_frame_made h.state f open_step r.0 r.1 in
+        none_held f P.old P.at (subst (λ (k : Kind). CountFits k P.old.count) (open_made P.old P.new P.gives).0 (sound.rule.frames f P.old P.at).count);
     unwritten = λ f i w seat aim known allowed at same.
         let r = some_of (step h.state (Keeper (Put f i w))) allowed in
-        let P = parts (slice_get h.state.frames f) (filled i w) (λ (x : ℕ × Frame). (x.0, record h.state { frames = slice_set h.state.frames f x.1 })) r.0 r.1 in
-        let test = (only_if_parts ((is_filling P.old.kind || is_private P.old.kind) && ltb i (length P.old.content)) (0, record P.old { content = slice_set P.old.content i w }) P.new P.gives).0 in
-        let kind = (and_parts (is_filling P.old.kind || is_private P.old.kind) (ltb i (length P.old.content)) test).0 in
-        not_held P.old.kind kind ((sound.rule.seats seat (Held aim known) at).1.kind P.old (ap (λ (k : ℕ). slice_get h.state.frames k) same ∙ P.at));
+        let P = at_frame_made h.state f (put_step i w) r.0 r.1 in
+        not_held P.old.kind (put_made i w P.old P.new P.gives).0 ((sound.rule.seats seat (Held aim known) at).1.kind P.old (ap (λ (k : ℕ). slice_get h.state.frames k) same ∙ P.at));
     rightly = holds_rightly;
     counted = λ f fr at. omega (arith, (sound.rule.frames f fr at).counted, holders_count f);
   }

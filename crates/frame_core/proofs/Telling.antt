@@ -12,7 +12,7 @@ use Rattle.frame_core.specs.declared.seat.Aim.{Aim}
 use Rattle.frame_core.specs.declared.seat.Phase.{Phase}
 use Rattle.frame_core.specs.declared.seat.Phase.TheVariants.{Idle, Placed, Counted, Doubt, Held, Spent}
 use Rattle.frame_core.specs.State.{State, place_word}
-use Rattle.frame_core.specs.Steps.{aimed_at}
+use Rattle.frame_core.specs.ReaderSteps.{aimed_at}
 use Rattle.frame_core.specs.Trace.{frame_in}
 use Rattle.frame_core.specs.Rule.{Rule, LifeRule, HeldRule, SeatRule, MayBeNamed, MayBeHeld}
 use Rattle.frame_core.proofs.Lists.{get_set, each_set}

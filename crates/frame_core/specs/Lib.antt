@@ -1,4 +1,6 @@
 pub mod State
+pub mod KeeperSteps
+pub mod ReaderSteps
 pub mod Steps
 pub mod Bounds
 pub mod Rule
@@ -7,3 +9,4 @@ pub mod Safe
 pub mod Words
 pub mod Machine
 pub mod Ledger
+pub mod Knowing

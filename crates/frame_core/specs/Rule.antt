@@ -1,4 +1,4 @@
--- The rule that every step keeps: what is true of words, keeper and seats between any two steps.
+-- The rule of the protocol: what is true of words, keeper and seats between any two steps, and is kept by each. Source: own.
 use Rattle.std.specs.Prelude.{ℕ, ◌≡◌, ◌+◌, ◌<◌, ◌≤◌, Bool, false, ◌==◌, List, length, slice_get, count_by, Option, Some}
 use Rattle.ksm_base.specs.Values.{IsShape, frames_of}
 use Rattle.ksm_base.specs.declared.page.TheConstants.{PAGE_WORDS}
@@ -84,6 +84,7 @@ SeatRule tries frames (Doubt aim) = LifeRule frames aim.life
 SeatRule tries frames (Held aim known) = LifeRule frames aim.life × HeldRule frames aim.life known
 SeatRule tries frames Spent = Unit {0}
 
+-- the rule of the protocol: of the sizes, of each frame with the readers on it, of each place, of each seat
 pub record Rule (s : State) : Type 0 where
   pub shape : IsShape s.shape
   pub frame_count : length s.frames ≡ frames_of s.shape

@@ -1,4 +1,5 @@
--- The state of a frame table, and what its words are.
+-- The core state: what the words of a frame table hold, what the keeper knows beside them, and how far each reader has come.
+-- Source: own, after mm/ksm (a stable node has no reference on its page).
 use Rattle.std.specs.Prelude.{ℕ, ◌+◌, ◌*◌, List, replicate, Option, None, Some}
 use Rattle.ksm_base.specs.declared.shape.Shape.{Shape}
 use Rattle.ksm_base.specs.Values.{frames_of}
@@ -9,6 +10,7 @@ use Rattle.frame_core.specs.declared.seat.Life.{Life}
 use Rattle.frame_core.specs.declared.seat.Phase.{Phase}
 use Rattle.frame_core.specs.declared.seat.Phase.TheVariants.{Idle}
 
+-- a frame each, with its count, generation, content, kind and base; what each place names; the phase of each seat
 pub record State : Type 0 where
   pub shape : Shape
   pub frames : List Frame
@@ -19,6 +21,7 @@ pub record State : Type 0 where
 abbrev pub new_frame : Frame
 new_frame = record { count = 0; generation = 0; content = replicate PAGE_WORDS 0; kind = Free; base = 0 }
 
+-- all words are 0: all frames are free, all places empty, all seats idle
 abbrev pub opening : Shape → State
 opening shape = record { shape = shape; frames = replicate (frames_of shape) new_frame; places = replicate (frames_of shape) None; seats = replicate shape.passes Idle }
 

@@ -1,4 +1,4 @@
--- What was done, the newest step first, and what can be told from it: lives, holders, words stored and words read.
+-- What was done, the newest step first, and what can be told from it: lives, holders, words stored and words read. No count and no phase is read here. Source: own.
 use Rattle.std.specs.Prelude.{ℕ, ◌≡◌, ◌+◌, ◌*◌, ◌%◌, ◌<◌, Bool, true, false, ◌&&◌, ◌==◌, if◌then◌else◌, List, [], ◌∷◌, filter, All, Option, None, Some, fold}
 use Rattle.std.specs.List.{range_with_len}
 use Rattle.ksm_base.specs.declared.shape.Shape.{Shape}
@@ -21,19 +21,21 @@ pub record History : Type 0 where
   pub trace : List Entry
 
 -- an event that is not allowed changes nothing and leaves no entry
-abbrev pub added_to : History → Event → Option (ℕ × State) → History
-added_to h e None = h
-added_to h e (Some r) = record { state = r.1; trace = record { event = e; word = r.0 } ∷ h.trace }
+abbrev pub history_with : History → Event → Option (ℕ × State) → History
+history_with h e None = h
+history_with h e (Some r) = record { state = r.1; trace = record { event = e; word = r.0 } ∷ h.trace }
 
-abbrev pub happens : History → Event → History
-happens h e = added_to h e (step h.state e)
+-- one event more
+abbrev pub history_after : History → Event → History
+history_after h e = history_with h e (step h.state e)
 
+-- the events one after another, from the opening state
 abbrev pub run_of : Shape → List Event → History
-run_of shape events = fold happens (record { state = opening shape; trace = [] }) events
+run_of shape events = fold history_after (record { state = opening shape; trace = [] }) events
 
 -- ---------------------------------------------------------------- what the trace tells
 
--- the life of f: how often it was raised
+-- the life of f: how often it was raised so far
 abbrev pub life_after : ℕ → ℕ → Event → ℕ
 life_after f before (Keeper (Raise g)) = if g == f then before + 1 else before
 life_after f before _ = before
@@ -42,7 +44,7 @@ abbrev pub life_of : ℕ → List Entry → ℕ
 life_of f [] = 0
 life_of f (e ∷ t) = life_after f (life_of f t) e.event
 
--- the last place that the seat loaded, with the word found there
+-- the last place that the seat loaded, with the word found there, if it loaded any
 abbrev pub place_loaded_after : ℕ → Option (ℕ × ℕ) → ℕ → Event → Option (ℕ × ℕ)
 place_loaded_after seat before w (Reader q (LoadPlace p)) = if q == seat then Some (p, w) else before
 place_loaded_after seat before w _ = before
@@ -51,7 +53,7 @@ abbrev pub place_loaded : ℕ → List Entry → Option (ℕ × ℕ)
 place_loaded seat [] = None
 place_loaded seat (e ∷ t) = place_loaded_after seat (place_loaded seat t) e.word e.event
 
--- the last count that the seat loaded
+-- the last count that the seat loaded, 0 if none
 abbrev pub count_loaded_after : ℕ → ℕ → ℕ → Event → ℕ
 count_loaded_after seat before w (Reader q LoadCount) = if q == seat then w else before
 count_loaded_after seat before w _ = before
@@ -65,7 +67,7 @@ abbrev pub frame_in : Option (ℕ × ℕ) → Option ℕ
 frame_in None = None
 frame_in (Some loaded) = Some (loaded.1 % 1024)
 
--- the frame on which the seat made its last exchange and that it has not left since: an exchange was made where it found the count loaded before
+-- the frame on which the seat has made an exchange and that it has not left since: an exchange is made where it finds the count that the seat loaded last
 abbrev pub held_after : ℕ → List Entry → Option ℕ → ℕ → Event → Option ℕ
 held_after seat t before w (Reader q Exchange) = if q == seat && w == count_loaded seat t then frame_in (place_loaded seat t) else before
 held_after seat t before w (Reader q Leave) = if q == seat then None else before
@@ -75,11 +77,12 @@ abbrev pub held_by : ℕ → List Entry → Option ℕ
 held_by seat [] = None
 held_by seat (e ∷ t) = held_after seat t (held_by seat t) e.word e.event
 
+-- it is this very frame
 abbrev pub is_frame : ℕ → Option ℕ → Bool
 is_frame f None = false
 is_frame f (Some g) = g == f
 
--- the holders of f, among so many seats
+-- the holders of f, of so many seats: those that made an exchange on it and have not left since
 abbrev pub holders : ℕ → ℕ → List Entry → List ℕ
 holders passes f t = filter (λ seat. is_frame f (held_by seat t)) (range_with_len 0 passes)
 
@@ -93,7 +96,7 @@ abbrev pub given_since : ℕ → ℕ → List Entry → Bool
 given_since seat f [] = false
 given_since seat f (e ∷ t) = given_after seat f (given_since seat f t) e.event
 
--- the last value stored to the word i of f
+-- the last value stored to the content word i of f, 0 if none
 abbrev pub stored_after : ℕ → ℕ → ℕ → Event → ℕ
 stored_after f i before (Keeper (Put g j w)) = if g == f && j == i then w else before
 stored_after f i before _ = before
@@ -102,7 +105,7 @@ abbrev pub stored : ℕ → ℕ → List Entry → ℕ
 stored f i [] = 0
 stored f i (e ∷ t) = stored_after f i (stored f i t) e.event
 
--- the value of the word i of f when f was named at a place in its life g
+-- the last value stored to the content word i of f before the keeper published f in its life g, if it did
 abbrev pub named_after : ℕ → ℕ → ℕ → List Entry → Option ℕ → Event → Option ℕ
 named_after f g i t before (Keeper (Publish p h)) = if h == f && life_of f t == g then Some (stored f i t) else before
 named_after f g i t before _ = before
@@ -111,7 +114,7 @@ abbrev pub named_word : ℕ → ℕ → ℕ → List Entry → Option ℕ
 named_word f g i [] = None
 named_word f g i (e ∷ t) = named_after f g i t (named_word f g i t) e.event
 
--- the words that the seat has read since it last loaded a generation: their numbers and values
+-- the content words that the seat has loaded since it last loaded a generation: their numbers and values
 abbrev pub read_after : ℕ → List (ℕ × ℕ) → ℕ → Event → List (ℕ × ℕ)
 read_after seat before w (Reader q (LoadWord i)) = if q == seat then (i, w) ∷ before else before
 read_after seat before w (Reader q LoadGeneration) = if q == seat then [] else before
@@ -121,7 +124,7 @@ abbrev pub words_read : ℕ → List Entry → List (ℕ × ℕ)
 words_read seat [] = []
 words_read seat (e ∷ t) = read_after seat (words_read seat t) e.word e.event
 
--- The seat holds what its aim names, rightly
+-- The seat holds rightly what its aim names: its last load of a place found that frame in that life; this is the frame's life by now; it was not opened since that load; each word read is the one that the life was published with
 pub record HoldsRightly (seat : ℕ) (aim : Aim) (t : List Entry) : Type 0 where
   pub named : place_loaded seat t ≡ Some (aim.place, aim.life.generation * 1024 + aim.life.frame)
   pub frame : aim.life.frame < 1024

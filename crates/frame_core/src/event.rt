@@ -1,57 +1,62 @@
-/// One atomic step of one seat.
-#[derive(Clone, Copy, Debug)]
+/// One atomic step of one seat, on one word of the table.
+#[derive(Clone, Copy, Debug, PartialEq, Eq)]
 pub enum Event {
-    /// A step of the reader that has this seat.
+    /// A step of the reader that has this seat, from 0.
     Reader(u32, ReaderStep),
     /// A step of the keeper.
     Keeper(KeeperStep),
 }
 
-/// What a reader does. Each is one operation on one word.
-#[derive(Clone, Copy, Debug)]
+/// A step of a reader, in the order in which a lookup makes them.
+#[derive(Clone, Copy, Debug, PartialEq, Eq)]
 pub enum ReaderStep {
-    /// Loads the word of a place.
+    /// Loads the word of this place.
     LoadPlace(u32),
     /// Loads the count of the frame that the place named.
     LoadCount,
-    /// Exchanges the count that it loaded for one more.
+    /// Exchanges the count that was loaded for one more: takes a reference, unless the count is another by
+    /// now.
     Exchange,
-    /// Loads the generation of that frame.
+    /// Loads the generation of that frame, to tell whether it is still in the life that the place named.
     LoadGeneration,
-    /// Gives its reference back.
+    /// Subtracts 1 from the count: gives the reference back.
     Leave,
-    /// Loads a word of the content.
+    /// Loads this content word of the frame that is held.
     LoadWord(usize),
 }
 
-/// What the keeper does, each on a frame; `Publish` and `Withdraw` name a place first.
-#[derive(Clone, Copy, Debug)]
+/// A step of the keeper, who alone gives frames and names them at places.
+#[derive(Clone, Copy, Debug, PartialEq, Eq)]
 pub enum KeeperStep {
-    /// Loads the count of a dying frame.
+    /// Loads the count of this dying frame: at 0 it is free again, or retired.
     Reap(u32),
-    /// Stores a word of the content.
-    Put(u32, usize, u64),
-    /// Gives a free frame its next life.
+    /// Stores this value to a content word of a frame that nobody else can see.
+    Put { frame: u32, word: usize, value: u64 },
+    /// Adds 1 to the generation of this free frame: its next life begins.
     Raise(u32),
-    /// Stores 1 to the count.
+    /// Stores 1 to the count of this frame: from now on it has a reference, the keeper's.
     Open(u32),
-    /// Adds a reference.
+    /// Adds 1 to the count of this frame: one more reference of the keeper.
     Add(u32),
-    /// Takes a reference back.
+    /// Subtracts 1 from the count of this frame: one reference of the keeper less.
     Sub(u32),
-    /// Names the frame, in its life, at a place.
-    Publish(u32, u32),
-    /// Empties a place.
+    /// Stores the frame and its generation to the place: lookups find it there from now on.
+    Publish { place: u32, frame: u32 },
+    /// Stores 0 to this place: it names nothing.
     Withdraw(u32),
-    /// Exchanges the count for 0 where it is the keeper's own references.
+    /// Exchanges the count of this frame for 0, unless a reader counts on it.
     Freeze(u32),
-    /// Loads a word of the content.
-    Word(u32, usize),
+    /// Loads a content word of the frame.
+    Word { frame: u32, word: usize },
 }
 
-/// The answer to an event: the word as it was before the step, or 0 for a plain store.
+/// The answer to an event.
 #[derive(Clone, Copy, Debug, PartialEq, Eq)]
 pub enum Step {
+    /// The step was made. The word is the one that it found: for a change the word before it, for a plain
+    /// store 0.
     Done(u64),
+    /// The state allows no such step, or it names no seat, frame, place or word of the shape. Nothing
+    /// changed.
     NotAllowed,
 }

@@ -1,19 +1,22 @@
-//! The frame table as a pure machine: what one atomic step of one seat does, without atomics.
+//! The frame protocol as a pure machine: what one atomic step of one seat does, without atomics.
+//! `keeper` has the steps of the keeper, `reader` those of a reader; `protocol` has `Core` and `run`, which
+//! carry what is promised of them.
 #![tactic(auto)]
 
 mod event;
 mod frame;
+mod keeper;
 mod ledger;
 mod machine;
+mod protocol;
 mod reader;
 mod seat;
-mod table;
 
 pub use event::{Event, KeeperStep, ReaderStep, Step};
 pub use frame::{Frame, Kind};
 pub use ledger::{Ledger, Note};
+pub use protocol::{Core, run};
 pub use seat::{Aim, Life, Phase};
-pub use table::{Core, run};
 
 #[cfg(test)]
 mod tests;

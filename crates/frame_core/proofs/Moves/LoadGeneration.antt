@@ -13,7 +13,7 @@ use Rattle.frame_core.proofs.Parts.{map_parts}
 use Rattle.frame_core.proofs.Lists.{count_one}
 use Rattle.frame_core.proofs.Changes.{seat_changed}
 use Rattle.ksm_base.specs.declared.page.TheConstants.{PAGE_WORDS}
-use Rattle.frame_core.specs.Steps.{load_generation}
+use Rattle.frame_core.specs.ReaderSteps.{load_generation_step}
 use Rattle.frame_core.specs.Rule.{Rule, CountFits, MayBeNamed, MayBeHeld, is_on}
 
 -- a frame that may be named, and has a reference, may be held
@@ -51,7 +51,7 @@ load_generation_cases s q aim at fr found rule true is =
     )
     rule
 
-pub load_generation_keeps : (s : State) (q : ℕ) (old : Phase) → slice_get s.seats q ≡ Some old → (r : ℕ × Phase) → load_generation s.frames old ≡ Some r → Rule s → Rule (record s { seats = slice_set s.seats q r.1 })
+pub load_generation_keeps : (s : State) (q : ℕ) (old : Phase) → slice_get s.seats q ≡ Some old → (r : ℕ × Phase) → load_generation_step s.frames old ≡ Some r → Rule s → Rule (record s { seats = slice_set s.seats q r.1 })
 load_generation_keeps s q (Doubt aim) at r e rule =
     let P = map_parts (λ (fr : Frame). (fr.generation, if fr.generation == aim.life.generation then Held aim (replicate PAGE_WORDS None) else Doubt aim)) (slice_get s.frames aim.life.frame) r e in
     subst (λ (x : ℕ × Phase). Rule (record s { seats = slice_set s.seats q x.1 })) P.2 (load_generation_cases s q aim at P.0 P.1 rule (P.0.generation == aim.life.generation) refl)

@@ -1,0 +1,31 @@
+-- What a call on the table asks, by the operation on the word and by what the step tells its seat.
+use Rattle.std.proofs.Common.{◌≡◌, ℕ, ◌+◌, ◌-◌, ◌%◌, ◌^◌, eqb, sym, subst}
+use mathlib.Core.Option.{none}
+use prog.Atomic.{either}
+use Rattle.atomic_table.specs.Table.{Step, step, Allows}
+use Rattle.ksm_base.specs.declared.shape.Shape.{Shape}
+use Rattle.frame_table.specs.Views.{Sat}
+use Rattle.frame_table.specs.Rule.{Holds}
+
+abbrev pub Tells : Type 1
+Tells = Step (Unit {0}) → Sat → ℕ → Sat → Type 0
+
+module _ (then : Tells) (slots id : ℕ) where
+  abbrev pub MayLoad : Shape → ℕ → Sat → Type 0
+  MayLoad key i me = Allows (Holds key) slots id me i (λ n. n) (then (step slots i 0 0 none) me)
+
+  abbrev pub MayStore : ℕ → Shape → ℕ → Sat → Type 0
+  MayStore w key i me = Allows (Holds key) slots id me i (λ _. w) (λ _. then (step slots i w 0 none) me w)
+
+  abbrev pub MayExchange : ℕ → ℕ → Shape → ℕ → Sat → Type 0
+  MayExchange old new key i me = Allows (Holds key) slots id me i (λ n. either (eqb n old) new n) (then (step slots i old new none) me)
+
+  abbrev pub MayAddOne : Shape → ℕ → Sat → Type 0
+  MayAddOne key i me = Allows (Holds key) slots id me i (λ n. (n + 1) % 2 ^ 64) (then (step slots i 1 0 none) me)
+
+  abbrev pub MaySubOne : Shape → ℕ → Sat → Type 0
+  MaySubOne key i me = Allows (Holds key) slots id me i (λ n. (n + (2 ^ 64 - 1)) % 2 ^ 64) (then (step slots i 1 0 none) me)
+
+-- what is allowed at a key, a word and a seat written out, is allowed where they are given by equations
+pub turned : (Q : Shape → ℕ → Sat → Type 0) (key sh : Shape) (i j : ℕ) (me at : Sat) → key ≡ sh → i ≡ j → me ≡ at → Q sh j at → Q key i me
+turned Q key sh i j me at e f h q = subst (λ (x : Shape × ℕ × Sat). Q x.0 x.1 x.2) (λ t. (sym e t, sym f t, sym h t)) q

@@ -1,0 +1,12 @@
+pub mod Looked
+pub mod ReaderHalf
+pub mod ReaderMay
+pub mod Allowed
+pub mod ReaderCalls
+pub mod KeeperWords
+pub mod KeeperMay
+pub mod KeeperCalls
+pub mod Looks
+pub mod Compared
+pub mod Opening
+pub mod Seatings

@@ -1,0 +1,46 @@
+-- What each step of a reader asks of the table.
+use Rattle.std.proofs.Common.{◌≡◌, ℕ, ◌+◌, ◌-◌, ◌%◌, ◌^◌, ◌<◌, ◌≤◌, Bool, true, false, cond, eqb, List, [], get_or, Option, refl, ap, sym, subst, arith}
+use Rattle.std.proofs.lemmas.Bool.{eqb-true}
+use prog.Atomic.{either}
+use Rattle.atomic_table.specs.Table.{carried_after}
+use Rattle.ksm_base.specs.declared.page.TheConstants.{PAGE_WORDS}
+use Rattle.ksm_base.specs.declared.shape.Shape.{Shape}
+use Rattle.ksm_base.specs.Values.{frames_of}
+use Rattle.frame_core.specs.declared.event.ReaderStep.TheVariants.{LoadPlace, LoadCount, Exchange, LoadGeneration, Leave, LoadWord}
+use Rattle.frame_core.specs.declared.seat.Aim.{Aim}
+use Rattle.frame_core.specs.declared.seat.Phase.{Phase}
+use Rattle.frame_core.specs.declared.seat.Phase.TheVariants.{Idle, Placed, Counted, Doubt, Held}
+use Rattle.frame_core.specs.Words.{count_at, generation_at, content_at}
+use Rattle.frame_table.specs.Seat.{MayRead, word_of}
+use Rattle.frame_table.specs.Views.{Log, sits}
+use Rattle.frame_table.specs.Reading.{Makes, loads_place, loads_count, exchanges, loads_generation, leaves, loads_word}
+use Rattle.frame_table.proofs.Allowed.{MayLoad, MayExchange, MaySubOne}
+use Rattle.frame_table.proofs.ReaderMay.{reader_may}
+
+module _ (slots id : ℕ) (sh : Shape) (log : Log) where
+  pub may_load_place : (p : ℕ) → p < frames_of sh → MayLoad loads_place slots id sh p (sits sh Idle log)
+  may_load_place p below = reader_may slots (LoadPlace p) Idle log (λ n. n) sh id below (λ n small told. refl)
+
+  pub may_load_count : (aim : Aim) (failures : ℕ) → MayLoad loads_count slots id sh (count_at (frames_of sh) aim.life.frame) (sits sh (Placed aim failures) log)
+  may_load_count aim failures = reader_may slots LoadCount (Placed aim failures) log (λ n. n) sh id tt (λ n small told. refl)
+
+  exchanged : (n c : ℕ) (b : Bool) → eqb n c ≡ b → either b (c + 1) n ≡ cond b (n + 1) n
+  exchanged n c true is = let e : n ≡ c = eqb-true n c is in ap (λ (m : ℕ). m + 1) (sym e)
+  exchanged n c false is = refl
+
+  pub may_exchange : (aim : Aim) (failures c : ℕ) → MayExchange exchanges slots id c (c + 1) sh (count_at (frames_of sh) aim.life.frame) (sits sh (Counted aim failures c) log)
+  may_exchange aim failures c = reader_may slots Exchange (Counted aim failures c) log (λ n. either (eqb n c) (c + 1) n) sh id tt (λ n small told. exchanged n c (eqb n c) refl)
+
+  pub may_load_generation : (aim : Aim) → MayLoad loads_generation slots id sh (generation_at (frames_of sh) aim.life.frame) (sits sh (Doubt aim) log)
+  may_load_generation aim = reader_may slots LoadGeneration (Doubt aim) log (λ n. n) sh id tt (λ n small told. refl)
+
+  lowered : (n : ℕ) → 1 ≤ n → n < 18446744073709551616 → (n + 18446744073709551615) % 18446744073709551616 ≡ n - 1
+  lowered n low small = omega arith
+
+  pub may_leave : (aim : Aim) (phase : Phase) → MayRead sh Leave phase → word_of sh Leave phase ≡ count_at (frames_of sh) aim.life.frame → MaySubOne leaves slots id sh (count_at (frames_of sh) aim.life.frame) (sits sh phase log)
+  may_leave aim phase may word = subst (λ (i : ℕ). MaySubOne leaves slots id sh i (sits sh phase log)) word (reader_may slots Leave phase log (λ n. (n + (2 ^ 64 - 1)) % 2 ^ 64) sh id may (λ n small told. lowered n told small))
+
+  -- which word of the page a word of the table is
+  pub may_load_word : (aim : Aim) (known : List (Option ℕ)) (i : ℕ) → i < PAGE_WORDS → MayLoad loads_word slots id sh (content_at (frames_of sh) aim.life.frame i) (sits sh (Held aim known) log)
+  may_load_word aim known i below t h size at small = let r = reader_may slots (LoadWord i) (Held aim known) log (λ n. n) sh id below (λ n small told. refl) t h size at small in
+      (r.0, r.1, r.2, r.3, λ j within is. let same : i ≡ j = omega arith in subst (λ (k : ℕ). Makes (LoadWord k) (sits sh (Held aim known) log) (get_or t.words (content_at (frames_of sh) aim.life.frame i) 0) (r.0, carried_after [] r.1)) same r.4)

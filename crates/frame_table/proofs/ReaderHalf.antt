@@ -1,0 +1,211 @@
+-- A step of a reader, as its seat sees it, is the core's step of the same name.
+use Rattle.std.proofs.Common.{◌≡◌, ℕ, suc, ◌+◌, ◌-◌, ◌*◌, ◌/◌, ◌%◌, ◌<◌, ◌≤◌, ◌==◌, Bool, true, false, cond, eqb, nat_le, List, replicate, map, length, set, get_or, slice_get, slice_set, Option, Some, None, option_map, option_and_then, refl, ap, sym, ◌∙◌, arith, eq-eqb, ne_eqb}
+use Rattle.std.proofs.lemmas.List.{map-set, length-map, set-get_or, get_or_append_left}
+use Rattle.std.proofs.lemmas.Option.{same_Some, slice_get-map, slice_get_within, get_or_from_slice_get}
+use Rattle.std.proofs.Math.Nat.{mul-le-mul_right}
+use Rattle.std.specs.List.{flat_map}
+use Rattle.ksm_base.specs.declared.page.TheConstants.{PAGE_WORDS}
+use Rattle.ksm_base.specs.declared.shape.Shape.{Shape}
+use Rattle.ksm_base.specs.Values.{IsShape, frames_of}
+use Rattle.frame_core.specs.declared.event.ReaderStep.{ReaderStep}
+use Rattle.frame_core.specs.declared.event.ReaderStep.TheVariants.{LoadPlace, LoadCount, Exchange, LoadGeneration, Leave, LoadWord}
+use Rattle.frame_core.specs.declared.frame.Frame.{Frame}
+use Rattle.frame_core.specs.declared.ledger.Note.{Note}
+use Rattle.frame_core.specs.declared.ledger.Ledger.{Ledger}
+use Rattle.frame_core.specs.declared.seat.Life.{Life}
+use Rattle.frame_core.specs.declared.seat.Aim.{Aim}
+use Rattle.frame_core.specs.declared.seat.Phase.{Phase}
+use Rattle.frame_core.specs.declared.seat.Phase.TheVariants.{Idle, Placed, Counted, Doubt, Held}
+use Rattle.frame_core.specs.State.{State, place_word}
+use Rattle.frame_core.specs.Words.{words_of, frame_words, count_at, content_at}
+use Rattle.frame_core.specs.Ledger.{ledger_of, note_of}
+use Rattle.frame_core.specs.ReaderSteps.{reader_step, at_seat, aimed_at, load_place_step, load_count_step, load_generation_step, load_word_step, exchange_step, leave_step, given_back}
+use Rattle.frame_core.specs.Rule.{Rule, is_on}
+use Rattle.frame_core.proofs.Fitting.{get_inside}
+use Rattle.frame_core.proofs.Lists.{set_self, count_one}
+use Rattle.frame_core.proofs.Flat.{words_get, words_set}
+use Rattle.frame_core.proofs.Moves.LoadCount.{count_at_most}
+use Rattle.frame_table.specs.Seat.{MayRead, word_of, written, seat_after, aim_of, aim_at}
+use Rattle.frame_table.specs.Reading.{tells, NamesFrame}
+use Rattle.frame_table.proofs.Looked.{there}
+
+-- The core's step, the word that it finds and what is there after it: the words, the seats, and what the keeper knows
+pub record ReaderHalf (s : State) (q : ℕ) (e : ReaderStep) (phase : Phase) : Type 0 where
+  pub found : ℕ
+  pub next : State
+  pub steps : reader_step s q e ≡ Some (found, next)
+  pub word : get_or (words_of s) (word_of s.shape e phase) 0 ≡ found
+  pub words : set (words_of s) (word_of s.shape e phase) (written e phase found) ≡ words_of next
+  pub shape : next.shape ≡ s.shape
+  pub seats : next.seats ≡ slice_set s.seats q (seat_after s.shape e phase found)
+  pub ledger : ledger_of next ≡ ledger_of s
+  pub told : tells s.shape e phase found
+
+-- there are at most 1,024 frames
+pub frames_at_most : (sh : Shape) → IsShape sh → frames_of sh ≤ 1024
+frames_at_most sh fits = let a : sh.nodes * sh.frames_per_node ≤ 4 * sh.frames_per_node = mul-le-mul_right sh.frames_per_node fits.nodes_high in omega (arith, a, fits.frames_high)
+
+-- there is a frame
+pub frames_at_least : (sh : Shape) → IsShape sh → 1 ≤ frames_of sh
+frames_at_least sh fits = let a : 1 * sh.frames_per_node ≤ sh.nodes * sh.frames_per_node = mul-le-mul_right sh.frames_per_node fits.nodes_low in omega (arith, a, fits.frames_low)
+
+module _ (s : State) (rule : Rule s) (q : ℕ) where
+  abbrev F : ℕ
+  F = frames_of s.shape
+
+  -- ---------------------------------------------------------------- steps that load
+
+  seat_only : (e : ReaderStep) (phase new : Phase) (change : Phase → Option (ℕ × Phase)) (n : ℕ) → slice_get s.seats q ≡ Some phase → reader_step s q e ≡ at_seat s q change → change phase ≡ Some (n, new)
+      → get_or (words_of s) (word_of s.shape e phase) 0 ≡ n → written e phase n ≡ n → new ≡ seat_after s.shape e phase n → tells s.shape e phase n → ReaderHalf s q e phase
+  seat_only e phase new change n at is gives word same after told = record {
+    found = n;
+    next = record s { seats = slice_set s.seats q new };
+    steps = is ∙ (ap (λ (o : Option Phase). option_and_then (λ p. option_map (λ r. (r.0, record s { seats = slice_set s.seats q r.1 })) (change p)) o) at
+        ∙ ap (λ (o : Option (ℕ × Phase)). option_map (λ r. (r.0, record s { seats = slice_set s.seats q r.1 })) o) gives);
+    word = word;
+    words = ap (λ (m : ℕ). set (words_of s) (word_of s.shape e phase) m) (same ∙ sym word) ∙ set-get_or (words_of s) (word_of s.shape e phase) 0;
+    shape = refl;
+    seats = ap (λ (p : Phase). slice_set s.seats q p) after;
+    ledger = refl;
+    told = told;
+  }
+
+  -- the word of a place that names a life, taken apart
+  word_some : (p f g : ℕ) → f < 1024 → 1 ≤ g → let w = g * 1024 + f in Placed (aim_at p f g) 0 ≡ cond (eqb w 0) Idle (Placed (aim_of p w) 0)
+  word_some p f g low given = let w : ℕ = g * 1024 + f in
+      let some : w ≡ 0 → ⊥ = λ e. omega arith in
+      let a : f ≡ w % 1024 = omega arith in
+      let b : g ≡ w / 1024 = omega arith in
+      sym (ap (λ (t : Bool). cond t Idle (Placed (aim_of p w) 0)) (ne_eqb w 0 some) ∙ λ i. Placed (aim_at p (sym a i) (sym b i)) 0)
+
+  aimed : (p : ℕ) (place : Option Life) → slice_get s.places p ≡ Some place → aimed_at p place ≡ seat_after s.shape (LoadPlace p) Idle (place_word place)
+  aimed p None at = refl
+  aimed p (Some life) at = let names = rule.places p life at in
+      word_some p life.frame life.generation (omega (arith, names.inside, rule.frame_count, frames_at_most s.shape rule.shape)) names.first
+
+  names_frame : (p : ℕ) (place : Option Life) → slice_get s.places p ≡ Some place → NamesFrame s.shape (place_word place)
+  names_frame p None at some = absurd (some refl)
+  names_frame p (Some life) at some = let names = rule.places p life at in
+      let w : ℕ = life.generation * 1024 + life.frame in
+      let inside : life.frame < frames_of s.shape = omega (arith, names.inside, rule.frame_count) in
+      let most = frames_at_most s.shape rule.shape in
+      let given = names.first in
+      let a : w % 1024 ≡ life.frame = omega arith in
+      let b : w / 1024 ≡ life.generation = omega arith in
+      (omega arith, omega arith)
+
+  pub place_read : (p : ℕ) (place : Option Life) → slice_get s.places p ≡ Some place → get_or (words_of s) p 0 ≡ place_word place
+  place_read p place at = get_or_append_left (map place_word s.places) (flat_map frame_words s.frames) 0 p (omega (arith, length-map s.places place_word, slice_get_within s.places p place at))
+      ∙ get_or_from_slice_get (map place_word s.places) p (place_word place) 0 (slice_get-map place_word s.places p ∙ ap (option_map place_word) at)
+
+  loads_place : (p : ℕ) → slice_get s.seats q ≡ Some Idle → p < F → ReaderHalf s q (LoadPlace p) Idle
+  loads_place p at below =
+      let here = get_inside s.places p (omega (arith, rule.place_count)) in
+      seat_only (LoadPlace p) Idle (aimed_at p here.0) (load_place_step s.places p) (place_word here.0) at refl
+      (ap (option_map (λ place. (place_word place, aimed_at p place))) here.1) (place_read p here.0 here.1) refl (aimed p here.0 here.1) (names_frame p here.0 here.1)
+
+  loads_count : (aim : Aim) (failures : ℕ) → slice_get s.seats q ≡ Some (Placed aim failures) → ReaderHalf s q LoadCount (Placed aim failures)
+  loads_count aim failures at =
+      let here = get_inside s.frames aim.life.frame (rule.seats q (Placed aim failures) at).0.inside in
+      seat_only LoadCount (Placed aim failures) _ (load_count_step s.frames) here.0.count at refl
+      (ap (option_map (λ fr. (fr.count, cond (fr.count == 0) Idle (Counted aim failures fr.count)))) here.1)
+      (words_get s rule aim.life.frame 0 here.0 here.1 (omega arith)) refl refl (count_at_most s aim.life.frame here.0 here.1 rule)
+
+  loads_generation : (aim : Aim) → slice_get s.seats q ≡ Some (Doubt aim) → ReaderHalf s q LoadGeneration (Doubt aim)
+  loads_generation aim at =
+      let here = get_inside s.frames aim.life.frame (rule.seats q (Doubt aim) at).inside in
+      seat_only LoadGeneration (Doubt aim) _ (load_generation_step s.frames) here.0.generation at refl
+      (ap (option_map (λ fr. (fr.generation, cond (fr.generation == aim.life.generation) (Held aim (replicate PAGE_WORDS None)) (Doubt aim)))) here.1)
+      (words_get s rule aim.life.frame 1 here.0 here.1 (omega arith)) refl refl tt
+
+  content_read : (f i w : ℕ) (fr : Frame) → slice_get s.frames f ≡ Some fr → slice_get fr.content i ≡ Some w → get_or (words_of s) (content_at F f i) 0 ≡ w
+  content_read f i w fr at here =
+      let inside : i < PAGE_WORDS = omega (arith, slice_get_within fr.content i w here, (rule.frames f fr at).content) in
+      let next : 2 + i ≡ suc (suc i) = omega arith in
+      words_get s rule f (2 + i) fr at (omega arith) ∙ (ap (λ (j : ℕ). get_or (frame_words fr) j 0) next ∙ get_or_from_slice_get fr.content i w 0 here)
+
+  loads_word : (i : ℕ) (aim : Aim) (known : List (Option ℕ)) → i < PAGE_WORDS → slice_get s.seats q ≡ Some (Held aim known) → ReaderHalf s q (LoadWord i) (Held aim known)
+  loads_word i aim known below at =
+      let held = rule.seats q (Held aim known) at in
+      let here = get_inside s.frames aim.life.frame held.0.inside in
+      let word = get_inside here.0.content i (omega (arith, (rule.frames aim.life.frame here.0 here.1).content)) in
+      seat_only (LoadWord i) (Held aim known) _ (load_word_step s.frames i) word.0 at refl
+      (ap (option_and_then (λ fr. option_map (λ w. (w, Held aim (slice_set known i (Some w)))) (slice_get fr.content i))) here.1 ∙ ap (option_map (λ w. (w, Held aim (slice_set known i (Some w))))) word.1)
+      (content_read aim.life.frame i word.0 here.0 here.1 word.1) refl refl
+      (λ v e. same_Some word.0 v (sym word.1 ∙ held.1.words here.0 here.1 i v (there known i v e)))
+
+  -- ---------------------------------------------------------------- steps that change a count
+
+  same_notes : (f : ℕ) (fr next : Frame) → slice_get s.frames f ≡ Some fr → note_of next ≡ note_of fr → map note_of (slice_set s.frames f next) ≡ map note_of s.frames
+  same_notes f fr next at same = map-set note_of s.frames f next
+      ∙ (ap (λ (n : Note). slice_set (map note_of s.frames) f n) same ∙ set_self (map note_of s.frames) f (note_of fr) (slice_get-map note_of s.frames f ∙ ap (option_map note_of) at))
+
+  counted : (f c : ℕ) (fr : Frame) → slice_get s.frames f ≡ Some fr → set (words_of s) (count_at F f) c ≡ words_of (record s { frames = slice_set s.frames f (record fr { count = c }) })
+  counted f c fr at = words_set s rule f 0 c fr (record fr { count = c }) at (omega arith) refl
+
+  -- the frames after an exchange that was made, or was not
+  abbrev frames_if : Bool → ℕ → Frame → List Frame
+  frames_if b f fr = cond b (slice_set s.frames f (record fr { count = fr.count + 1 })) s.frames
+
+  words_if : (b : Bool) (f : ℕ) (fr : Frame) → slice_get s.frames f ≡ Some fr → set (words_of s) (count_at F f) (cond b (fr.count + 1) fr.count) ≡ words_of (record s { frames = frames_if b f fr })
+  words_if true f fr at = counted f (fr.count + 1) fr at
+  words_if false f fr at = ap (λ (m : ℕ). set (words_of s) (count_at F f) m) (sym (words_get s rule f 0 fr at (omega arith))) ∙ set-get_or (words_of s) (count_at F f) 0
+
+  ledger_if : (b : Bool) (f : ℕ) (fr : Frame) → slice_get s.frames f ≡ Some fr → ledger_of (record s { frames = frames_if b f fr }) ≡ ledger_of s
+  ledger_if true f fr at = ap (λ (l : List Note). let k : Ledger = record { frames = l; places = s.places } in k) (same_notes f fr (record fr { count = fr.count + 1 }) at refl)
+  ledger_if false f fr at = refl
+
+  abbrev build : ℕ × List Frame × Phase → ℕ × State
+  build r = (r.0, record s { frames = r.1; seats = slice_set s.seats q r.2 })
+
+  abbrev tried : Aim → ℕ → ℕ → Frame → ℕ × List Frame × Phase
+  tried aim failures count fr = (fr.count, frames_if (fr.count == count) aim.life.frame fr, cond (fr.count == count) (Doubt aim) (cond (nat_le s.shape.tries (failures + 1)) Idle (Placed aim (failures + 1))))
+
+  exchanges : (aim : Aim) (failures count : ℕ) → slice_get s.seats q ≡ Some (Counted aim failures count) → ReaderHalf s q Exchange (Counted aim failures count)
+  exchanges aim failures count at =
+      let f = aim.life.frame in
+      let here = get_inside s.frames f (rule.seats q (Counted aim failures count) at).0.inside in
+      let fr = here.0 in
+      record {
+        found = fr.count;
+        next = (build (tried aim failures count fr)).1;
+        steps = ap (option_and_then (λ p. option_map build (exchange_step s.shape.tries s.frames p))) at ∙ ap (λ (o : Option Frame). option_map build (option_map (tried aim failures count) o)) here.1;
+        word = words_get s rule f 0 fr here.1 (omega arith);
+        words = words_if (fr.count == count) f fr here.1;
+        shape = refl;
+        seats = refl;
+        ledger = ledger_if (fr.count == count) f fr here.1;
+        told = tt;
+      }
+
+  abbrev released : Aim → Frame → ℕ × List Frame × Phase
+  released aim fr = (fr.count, slice_set s.frames aim.life.frame (record fr { count = fr.count - 1 }), Idle)
+
+  gives_back : (aim : Aim) (phase : Phase) → slice_get s.seats q ≡ Some phase → aim.life.frame < length s.frames → leave_step s.frames phase ≡ given_back s.frames aim → word_of s.shape Leave phase ≡ count_at F aim.life.frame → is_on aim.life.frame phase ≡ true → ReaderHalf s q Leave phase
+  gives_back aim phase at inside is word on =
+      let f = aim.life.frame in
+      let here = get_inside s.frames f inside in
+      let fr = here.0 in
+      record {
+        found = fr.count;
+        next = (build (released aim fr)).1;
+        steps = ap (option_and_then (λ p. option_map build (leave_step s.frames p))) at ∙ (ap (option_map build) is ∙ ap (λ (o : Option Frame). option_map build (option_map (released aim) o)) here.1);
+        word = ap (λ (i : ℕ). get_or (words_of s) i 0) word ∙ words_get s rule f 0 fr here.1 (omega arith);
+        words = ap (λ (i : ℕ). set (words_of s) i (fr.count - 1)) word ∙ counted f (fr.count - 1) fr here.1;
+        shape = refl;
+        seats = refl;
+        ledger = ap (λ (l : List Note). let k : Ledger = record { frames = l; places = s.places } in k) (same_notes f fr (record fr { count = fr.count - 1 }) here.1 refl);
+        told = omega (arith, (rule.frames f fr here.1).counted, count_one (is_on f) s.seats q phase at on);
+      }
+
+  -- ---------------------------------------------------------------- any of them
+
+  pub reader_half : (e : ReaderStep) (phase : Phase) → slice_get s.seats q ≡ Some phase → MayRead s.shape e phase → ReaderHalf s q e phase
+  reader_half (LoadPlace p) Idle at may = loads_place p at may
+  reader_half LoadCount (Placed aim failures) at may = loads_count aim failures at
+  reader_half Exchange (Counted aim failures count) at may = exchanges aim failures count at
+  reader_half LoadGeneration (Doubt aim) at may = loads_generation aim at
+  reader_half Leave (Doubt aim) at may = gives_back aim (Doubt aim) at (rule.seats q (Doubt aim) at).inside refl refl (eq-eqb aim.life.frame aim.life.frame refl)
+  reader_half Leave (Held aim known) at may = gives_back aim (Held aim known) at (rule.seats q (Held aim known) at).0.inside refl refl (eq-eqb aim.life.frame aim.life.frame refl)
+  reader_half (LoadWord i) (Held aim known) at may = loads_word i aim known may at
+  reader_half _ _ at may = absurd may

@@ -1,0 +1,13 @@
+use Rattle.std.proofs.Common.{rules, ◌≡◌, ap, ◌∙◌, refl, ◌≤◌, subst, arith}
+use Rattle.ksm_base.specs.Values.{IsShape, frames_of}
+use Rattle.frame_table.specs.Keeping.{publishes}
+use Rattle.frame_table.proofs.Allowed.{turned, MayStore}
+use Rattle.frame_table.proofs.ReaderHalf.{frames_at_most}
+use Rattle.frame_table.proofs.KeeperCalls.{may_publish}
+use Rattle.frame_table.proofs.table.FrameTable.publish_at.Goals as goal
+
+pub store-requires : goal.store-requires
+store-requires c =
+    let key : c.self.inside.table.shared.key ≡ c.args.self.now.shape = c.self.invariant.0 ∙ ap (λ n. n.shape) c.self.view_is in
+    let few : frames_of c.args.self.now.shape ≤ 1024 = frames_at_most c.args.self.now.shape (subst IsShape (ap (λ n. n.shape) c.self.view_is) c.self.invariant.3) in
+    (search rules, search rules, turned (MayStore publishes _ _ c.args.name) _ _ _ _ _ _ key refl c.requires.keeper (may_publish _ _ _ _ _ _ c.args.place c.args.frame c.args.name (omega (arith, few, c.requires.may.1)) c.requires.name c.requires.may))

@@ -1,0 +1,102 @@
+-- What each step of the keeper tells its seat (own).
+use Rattle.std.specs.Prelude.{◌≡◌, ℕ, ◌+◌, ◌-◌, ◌*◌, ◌%◌, ◌<◌, ◌≤◌, ◌==◌, cond, [], ◌∷◌, ◌++◌, slice_index}
+use Rattle.atomic_table.specs.Table.{Step}
+use Rattle.ksm_base.specs.declared.page.TheConstants.{PAGE_WORDS}
+use Rattle.ksm_base.specs.Values.{frames_of}
+use Rattle.frame_core.specs.declared.event.KeeperStep.{KeeperStep}
+use Rattle.frame_core.specs.declared.event.KeeperStep.TheVariants.{Reap, Put, Raise, Open, Add, Sub, Publish, Withdraw, Freeze, Word}
+use Rattle.frame_core.specs.declared.ledger.Ledger.{Ledger}
+use Rattle.frame_core.specs.Words.{count_at, generation_at, content_at}
+use Rattle.frame_core.specs.Ledger.{ledger_after, frame_at}
+use Rattle.frame_table.specs.declared.view.View.{View}
+use Rattle.frame_table.specs.declared.view.View.TheVariants.{Keeper}
+use Rattle.frame_table.specs.Views.{Sat, shape_in}
+
+-- the word that a step of the keeper works on, in a table of so many places
+abbrev pub keeper_word : ℕ → KeeperStep → ℕ
+keeper_word places (Reap f) = count_at places f
+keeper_word places (Put f i w) = content_at places f i
+keeper_word places (Raise f) = generation_at places f
+keeper_word places (Open f) = count_at places f
+keeper_word places (Add f) = count_at places f
+keeper_word places (Sub f) = count_at places f
+keeper_word places (Publish p f) = p
+keeper_word places (Withdraw p) = p
+keeper_word places (Freeze f) = count_at places f
+keeper_word places (Word f i) = content_at places f i
+
+-- what a step of the keeper leaves there, where it found n
+abbrev pub keeper_written : Ledger → KeeperStep → ℕ → ℕ
+keeper_written k (Put f i w) n = w
+keeper_written k (Raise f) n = n + 1
+keeper_written k (Open f) n = 1
+keeper_written k (Add f) n = n + 1
+keeper_written k (Sub f) n = n - 1
+keeper_written k (Publish p f) n = (frame_at k f).generation * 1024 + f
+keeper_written k (Withdraw p) n = 0
+keeper_written k (Freeze f) n = cond (n == (frame_at k f).base) 0 n
+keeper_written k _ n = n
+
+-- what the keeper is told that it found: of a plain store, 0
+abbrev pub found_by : KeeperStep → ℕ → ℕ
+found_by (Put f i w) n = 0
+found_by (Open f) n = 0
+found_by (Publish p f) n = 0
+found_by (Withdraw p) n = 0
+found_by _ n = n
+
+-- the view after a step: what the keeper knows then, and one entry more in the log
+abbrev pub keeper_after : KeeperStep → View → ℕ → View
+keeper_after e (Keeper sh ledger tally log) n = Keeper sh (ledger_after sh ledger e n) tally (log ++ (e, n) ∷ [])
+keeper_after e v n = v
+
+-- what the rule says of the word that a step found: it is that of the ledger, where the keeper alone writes it
+abbrev pub knows : Ledger → KeeperStep → ℕ → Type 0
+knows ledger (Raise f) n = (n ≡ (frame_at ledger f).generation) × (n < 1099511627776)
+knows ledger (Publish p f) n = (frame_at ledger f).generation ≤ 1099511627776
+knows ledger (Add f) n = n ≤ 1040
+knows ledger (Sub f) n = 1 ≤ n
+knows ledger (Word f i) n = n ≡ slice_index (frame_at ledger f).content i
+knows ledger _ n = Unit {0}
+
+abbrev pub knows_view : View → KeeperStep → ℕ → Type 0
+knows_view (Keeper sh ledger tally log) e n = knows ledger e n
+knows_view _ e n = Unit {0}
+
+-- the keeper made the step, and found the word n
+abbrev pub Keeps : KeeperStep → Sat → ℕ → Sat → Type 0
+Keeps e m n m' = (m' ≡ (keeper_after e m.0 n, m.1)) × knows_view m.0 e n
+
+abbrev pub places_in : Sat → ℕ
+places_in m = frames_of (shape_in m)
+
+-- the step of this kind that works on this word was made
+abbrev pub reaps : Step (Unit {0}) → Sat → ℕ → Sat → Type 0
+reaps st m n m' = (f : ℕ) → st.word ≡ count_at (places_in m) f → Keeps (Reap f) m n m'
+
+abbrev pub puts : Step (Unit {0}) → Sat → ℕ → Sat → Type 0
+puts st m n m' = (f i : ℕ) → i < PAGE_WORDS → st.word ≡ content_at (places_in m) f i → Keeps (Put f i st.first) m 0 m'
+
+abbrev pub raises : Step (Unit {0}) → Sat → ℕ → Sat → Type 0
+raises st m n m' = (f : ℕ) → st.word ≡ generation_at (places_in m) f → Keeps (Raise f) m n m'
+
+abbrev pub opens : Step (Unit {0}) → Sat → ℕ → Sat → Type 0
+opens st m n m' = (f : ℕ) → st.word ≡ count_at (places_in m) f → Keeps (Open f) m 0 m'
+
+abbrev pub adds : Step (Unit {0}) → Sat → ℕ → Sat → Type 0
+adds st m n m' = (f : ℕ) → st.word ≡ count_at (places_in m) f → Keeps (Add f) m n m'
+
+abbrev pub subs : Step (Unit {0}) → Sat → ℕ → Sat → Type 0
+subs st m n m' = (f : ℕ) → st.word ≡ count_at (places_in m) f → Keeps (Sub f) m n m'
+
+abbrev pub publishes : Step (Unit {0}) → Sat → ℕ → Sat → Type 0
+publishes st m n m' = Keeps (Publish st.word (st.first % 1024)) m 0 m'
+
+abbrev pub withdraws : Step (Unit {0}) → Sat → ℕ → Sat → Type 0
+withdraws st m n m' = Keeps (Withdraw st.word) m 0 m'
+
+abbrev pub freezes : Step (Unit {0}) → Sat → ℕ → Sat → Type 0
+freezes st m n m' = (f : ℕ) → st.word ≡ count_at (places_in m) f → Keeps (Freeze f) m n m'
+
+abbrev pub shows : Step (Unit {0}) → Sat → ℕ → Sat → Type 0
+shows st m n m' = (f i : ℕ) → i < PAGE_WORDS → st.word ≡ content_at (places_in m) f i → Keeps (Word f i) m n m'

@@ -1,0 +1,11 @@
+pub mod Named
+pub mod Kept
+pub mod Seat
+pub mod Views
+pub mod Rule
+pub mod Reading
+pub mod Keeping
+pub mod Rounds
+pub mod Lookup
+pub mod Equal
+pub mod Seats

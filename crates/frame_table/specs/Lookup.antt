@@ -1,0 +1,61 @@
+-- What a lookup adds to its pass's log, and which answer shows which log.
+use Rattle.std.specs.Prelude.{◌≡◌, ℕ, ◌/◌, ◌%◌, ◌<◌, List, [], ◌∷◌, ◌++◌, length, slice_index_or, slice_set, Some, None}
+use Rattle.ksm_base.specs.declared.shape.Shape.{Shape}
+use Rattle.frame_core.specs.declared.event.ReaderStep.{ReaderStep}
+use Rattle.frame_core.specs.declared.event.ReaderStep.TheVariants.{LoadPlace, LoadCount, Exchange, LoadGeneration, Leave, LoadWord}
+use Rattle.frame_table.specs.Seat.{nothing_known}
+use Rattle.frame_table.specs.declared.pass.Found.{Found}
+use Rattle.frame_table.specs.declared.pass.Found.TheVariants.{Held, Gone, Busy}
+use Rattle.frame_table.specs.declared.pass.Why.TheVariants.{Vacant, Zero, Generation}
+use Rattle.frame_table.specs.Named.{PassView, HeldView}
+
+abbrev pub Log : Type 0
+Log = List (ReaderStep × ℕ)
+
+-- rounds that failed: the count loaded, and another that the exchange found
+abbrev pub rounds : List (ℕ × ℕ) → Log
+rounds [] = []
+rounds (x ∷ xs) = (LoadCount, x.0) ∷ (Exchange, x.1) ∷ rounds xs
+
+abbrev pub AllLost : List (ℕ × ℕ) → Type 0
+AllLost [] = Unit {0}
+AllLost (x ∷ xs) = ¬ (x.0 ≡ 0) × ¬ (x.1 ≡ x.0) × AllLost xs
+
+-- the place's word was read, and then the rounds xs were lost
+abbrev pub opening : ℕ → ℕ → List (ℕ × ℕ) → Log
+opening place word xs = (LoadPlace place, word) ∷ rounds xs
+
+abbrev pub IsVacant : ℕ → Log → Type 0
+IsVacant place log = log ≡ (LoadPlace place, 0) ∷ []
+
+abbrev pub IsZero : Shape → ℕ → Log → Type 0
+IsZero sh place log = (word : ℕ) × (xs : List (ℕ × ℕ)) × ¬ (word ≡ 0) × AllLost xs × (length xs < sh.tries) × (log ≡ opening place word xs ++ (LoadCount, 0) ∷ [])
+
+abbrev pub IsOld : Shape → ℕ → Log → Type 0
+IsOld sh place log = (word : ℕ) × (xs : List (ℕ × ℕ)) × (count life back : ℕ) × ¬ (word ≡ 0) × AllLost xs × (length xs < sh.tries) × ¬ (count ≡ 0) × ¬ (life ≡ word / 1024)
+    × (log ≡ opening place word xs ++ (LoadCount, count) ∷ (Exchange, count) ∷ (LoadGeneration, life) ∷ (Leave, back) ∷ [])
+
+abbrev pub IsBusy : Shape → ℕ → Log → Type 0
+IsBusy sh place log = (word : ℕ) × (xs : List (ℕ × ℕ)) × ¬ (word ≡ 0) × AllLost xs × (length xs ≡ sh.tries) × (log ≡ opening place word xs)
+
+abbrev pub IsFound : Shape → ℕ → ℕ → ℕ → Log → Type 0
+IsFound sh place frame generation log = (word : ℕ) × (xs : List (ℕ × ℕ)) × (count : ℕ) × ¬ (word ≡ 0) × AllLost xs × (length xs < sh.tries) × ¬ (count ≡ 0) × (frame ≡ word % 1024) × (generation ≡ word / 1024)
+    × (log ≡ opening place word xs ++ (LoadCount, count) ∷ (Exchange, count) ∷ (LoadGeneration, generation) ∷ [])
+
+-- the log is longer by a part that meets P
+abbrev pub Adds : Log → Log → (Log → Type 0) → Type 0
+Adds before after P = (added : Log) × (after ≡ before ++ added) × P added
+
+abbrev pub LooksUp : PassView → ℕ → Found → Type 0
+LooksUp v place (Held h) = (h.table ≡ v.table) × (h.place ≡ place) × (h.known ≡ nothing_known) × Adds v.log h.log (IsFound v.table.shape place h.frame h.generation)
+LooksUp v place (Gone p Vacant) = (p.table ≡ v.table) × Adds v.log p.log (IsVacant place)
+LooksUp v place (Gone p Zero) = (p.table ≡ v.table) × Adds v.log p.log (IsZero v.table.shape place)
+LooksUp v place (Gone p Generation) = (p.table ≡ v.table) × Adds v.log p.log (IsOld v.table.shape place)
+LooksUp v place (Busy p) = (p.table ≡ v.table) × Adds v.log p.log (IsBusy v.table.shape place)
+
+-- the word i is read; where it was read before in this hold, it is what was read
+abbrev pub ReadsWord : HeldView → ℕ → ℕ → HeldView → Type 0
+ReadsWord v i word w = (w ≡ record v { log = v.log ++ (LoadWord i, word) ∷ []; known = slice_set v.known i (Some word) }) × ((x : ℕ) → slice_index_or v.known i None ≡ Some x → word ≡ x) × (slice_index_or w.known i None ≡ Some word)
+
+abbrev pub Leaves : HeldView → PassView → Type 0
+Leaves v p = (p.table ≡ v.table) × ((back : ℕ) × (p.log ≡ v.log ++ (Leave, back) ∷ []))

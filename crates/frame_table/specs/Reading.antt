@@ -1,0 +1,76 @@
+-- What each step of a reader tells its seat (own).
+use Rattle.std.specs.Prelude.{◌≡◌, ℕ, ◌⊎◌, ◌/◌, ◌%◌, ◌<◌, ◌≤◌, List, [], ◌∷◌, ◌++◌, slice_index_or, Option, Some, None}
+use Rattle.atomic_table.specs.Table.{Step}
+use Rattle.ksm_base.specs.declared.page.TheConstants.{PAGE_WORDS}
+use Rattle.ksm_base.specs.declared.shape.Shape.{Shape}
+use Rattle.ksm_base.specs.Values.{frames_of}
+use Rattle.frame_core.specs.declared.event.ReaderStep.{ReaderStep}
+use Rattle.frame_core.specs.declared.event.ReaderStep.TheVariants.{LoadPlace, LoadCount, Exchange, LoadGeneration, Leave, LoadWord}
+use Rattle.frame_core.specs.declared.seat.Aim.{Aim}
+use Rattle.frame_core.specs.declared.seat.Phase.{Phase}
+use Rattle.frame_core.specs.declared.seat.Phase.TheVariants.{Doubt, Held}
+use Rattle.frame_table.specs.declared.view.View.{View}
+use Rattle.frame_table.specs.declared.view.View.TheVariants.{Reader}
+use Rattle.frame_table.specs.Seat.{seat_after, word_of}
+use Rattle.frame_table.specs.Views.{Sat, IsIn}
+
+-- the view after a step: as far as the step leads, and with one entry more in the log
+abbrev pub reader_after : ReaderStep → View → ℕ → View
+reader_after e (Reader sh phase log) n = Reader sh (seat_after sh e phase n) (log ++ (e, n) ∷ [])
+reader_after e v n = v
+
+-- the step was made, and found the word n
+abbrev pub Steps : ReaderStep → Sat → ℕ → Sat → Type 0
+Steps e m n m' = m' ≡ (reader_after e m.0 n, m.1)
+
+-- the seat has a reference on the frame
+abbrev pub IsHolder : Shape → ℕ → Sat → Type 0
+IsHolder sh f m = ((aim : Aim) × (aim.life.frame ≡ f) × IsIn sh (Doubt aim) m) ⊎ ((aim : Aim) × (known : List (Option ℕ)) × (aim.life.frame ≡ f) × IsIn sh (Held aim known) m)
+
+-- the word of a place is that of none, or names a frame and a life of it
+abbrev pub NamesFrame : Shape → ℕ → Type 0
+NamesFrame sh n = ¬ (n ≡ 0) → (n % 1024 < frames_of sh) × (1 ≤ n / 1024)
+
+-- a word that was read before in this hold has the value that was read
+abbrev pub agrees_with : ℕ → ℕ → Phase → Type 0
+agrees_with i n (Held aim known) = (v : ℕ) → slice_index_or known i None ≡ Some v → n ≡ v
+agrees_with i n _ = Unit {0}
+
+-- what the rule says of the word that a step found
+abbrev pub tells : Shape → ReaderStep → Phase → ℕ → Type 0
+tells sh (LoadPlace p) phase n = NamesFrame sh n
+tells sh LoadCount phase n = n ≤ 1040
+tells sh Leave phase n = 1 ≤ n
+tells sh (LoadWord i) phase n = agrees_with i n phase
+tells sh _ phase n = Unit {0}
+
+abbrev pub tells_view : ReaderStep → View → ℕ → Type 0
+tells_view e (Reader sh phase log) n = tells sh e phase n
+tells_view e _ n = Unit {0}
+
+-- the step was made, and found a word that is as the rule says
+abbrev pub Makes : ReaderStep → Sat → ℕ → Sat → Type 0
+Makes e m n m' = Steps e m n m' × tells_view e m.0 n
+
+abbrev pub content_word : ℕ → View → ℕ
+content_word i (Reader sh phase log) = word_of sh (LoadWord i) phase
+content_word i _ = 0
+
+-- by the word that a step works on, which step it was
+abbrev pub loads_place : Step (Unit {0}) → Sat → ℕ → Sat → Type 0
+loads_place st m n m' = Makes (LoadPlace st.word) m n m'
+
+abbrev pub loads_count : Step (Unit {0}) → Sat → ℕ → Sat → Type 0
+loads_count st m n m' = Makes LoadCount m n m'
+
+abbrev pub exchanges : Step (Unit {0}) → Sat → ℕ → Sat → Type 0
+exchanges st m n m' = Makes Exchange m n m'
+
+abbrev pub loads_generation : Step (Unit {0}) → Sat → ℕ → Sat → Type 0
+loads_generation st m n m' = Makes LoadGeneration m n m'
+
+abbrev pub leaves : Step (Unit {0}) → Sat → ℕ → Sat → Type 0
+leaves st m n m' = Makes Leave m n m'
+
+abbrev pub loads_word : Step (Unit {0}) → Sat → ℕ → Sat → Type 0
+loads_word st m n m' = (i : ℕ) → i < PAGE_WORDS → st.word ≡ content_word i m.0 → Makes (LoadWord i) m n m'

@@ -1,0 +1,180 @@
+//! The keeper gives frames, names them at places, and takes them back.
+ghost use Rattle.std.specs.Prelude.{◌≡◌, ◌<◌, ℕ, ◌↔◌, IsTrue, slice_index};
+ghost use Rattle.frame_core.specs.declared.event.KeeperStep.TheVariants.{Reap, Put, Raise, Open, Add, Sub, Publish, Withdraw, Freeze, Word};
+ghost use Rattle.frame_core.specs.Ledger.{frame_at};
+ghost use Rattle.ksm_base.specs.Values.{frames_of};
+ghost use Rattle.frame_table.specs.Kept.{May, did, Did};
+
+use crate::table::FrameTable;
+use crate::view::View;
+use atomic_table::Seat;
+use frame_core::{Kind, Note};
+use std::marker::Model;
+
+/// The keeper's seat, with what it knows of each frame. Contracts see which table it is of, the ledger and the log.
+///
+/// It must be spent, by closing the table.
+pub struct Keeper {
+    pub(crate) seat: Seat<(), View>,
+    pub(crate) frames: Vec<Note>,
+}
+
+impl Model for Keeper {
+    ghost use Rattle.std.specs.Prelude.{◌≡◌, length};
+    ghost use Rattle.ksm_base.specs.Values.{frames_of};
+    ghost use Rattle.frame_table.specs.Named.{KeeperView};
+    ghost use Rattle.frame_table.specs.Views.{keeps_ledger, shape_in, ledger_in, keeper_log, tally_of};
+
+    ghost Value = { KeeperView };
+
+    ghost view = { λ q. record { table = record { id = q.seat.table_id; shape = shape_in q.seat.me }; ledger = ledger_in q.seat.me; log = keeper_log q.seat.me } };
+
+    ghost invariant = { λ q. (q.seat.me ≡ keeps_ledger (shape_in q.seat.me) (ledger_in q.seat.me) (tally_of 0 (shape_in q.seat.me).passes) (keeper_log q.seat.me)) × (q.frames.items ≡ (ledger_in q.seat.me).frames) × (length q.frames.items ≡ frames_of (shape_in q.seat.me)) };
+}
+
+impl Keeper {
+    pub fn kind(&self, frame: u32) -> Kind
+        requires { frame < frames_of self.now.table.shape }
+        ensures { result ≡ (frame_at self.now.ledger frame).kind }
+    {
+        self.frames[frame as usize].kind
+    }
+
+    pub fn base(&self, frame: u32) -> u64
+        requires { frame < frames_of self.now.table.shape }
+        ensures { result ≡ (frame_at self.now.ledger frame).base }
+    {
+        self.frames[frame as usize].base
+    }
+
+    /// One more reference of the keeper on the frame.
+    pub fn add(&mut self, table: &FrameTable, frame: u32)
+        requires own { self.old.table ≡ table.now }
+        requires may { May self.old (Add frame) }
+        ensures { Did self.old (Add frame) self.new }
+    {
+        table.add_at(&mut self.seat, frame);
+        let mut note = self.frames[frame as usize];
+        note.base += 1;
+        self.frames[frame as usize] = note;
+    }
+
+    /// Gives one reference back. The last one leaves the frame dying.
+    pub fn sub(&mut self, table: &FrameTable, frame: u32)
+        requires own { self.old.table ≡ table.now }
+        requires may { May self.old (Sub frame) }
+        ensures { Did self.old (Sub frame) self.new }
+    {
+        table.sub_at(&mut self.seat, frame);
+        let mut note = self.frames[frame as usize];
+        if note.base == 1 {
+            note.kind = Kind::Dying;
+        }
+        note.base -= 1;
+        self.frames[frame as usize] = note;
+    }
+
+    /// Whether the count of a dying frame is zero. It is free then, or retired.
+    pub fn reap(&mut self, table: &FrameTable, frame: u32) -> bool
+        requires own { self.old.table ≡ table.now }
+        requires may { May self.old (Reap frame) }
+        ensures { (found : ℕ) × (self.new ≡ did self.old (Reap frame) found) × (IsTrue result ↔ found ≡ 0) }
+    {
+        if table.reap_at(&mut self.seat, frame) != 0 {
+            return false;
+        }
+        let mut note = self.frames[frame as usize];
+        note.base = 0;
+        note.kind = if note.generation == table.shape.last_generation {
+            Kind::Retired
+        } else {
+            Kind::Free
+        };
+        self.frames[frame as usize] = note;
+        true
+    }
+
+    /// A new life of a free frame.
+    pub fn raise(&mut self, table: &FrameTable, frame: u32)
+        requires own { self.old.table ≡ table.now }
+        requires may { May self.old (Raise frame) }
+        ensures { Did self.old (Raise frame) self.new }
+    {
+        let next = table.raise_at(&mut self.seat, frame) + 1;
+        let mut note = self.frames[frame as usize];
+        note.kind = Kind::Filling;
+        note.generation = next;
+        self.frames[frame as usize] = note;
+    }
+
+    pub fn put(&mut self, table: &FrameTable, frame: u32, i: usize, word: u64)
+        requires own { self.old.table ≡ table.now }
+        requires may { May self.old (Put frame i word) }
+        ensures { self.new ≡ did self.old (Put frame i word) 0 }
+    {
+        table.put_at(&mut self.seat, frame, i, word);
+        let mut note = self.frames[frame as usize];
+        note.content[i] = word;
+        self.frames[frame as usize] = note;
+    }
+
+    pub fn open(&mut self, table: &FrameTable, frame: u32)
+        requires own { self.old.table ≡ table.now }
+        requires may { May self.old (Open frame) }
+        ensures { self.new ≡ did self.old (Open frame) 0 }
+    {
+        table.open_at(&mut self.seat, frame);
+        let mut note = self.frames[frame as usize];
+        note.kind = Kind::Private;
+        note.base = 1;
+        self.frames[frame as usize] = note;
+    }
+
+    pub fn publish(&mut self, table: &FrameTable, place: u32, frame: u32)
+        requires own { self.old.table ≡ table.now }
+        requires may { May self.old (Publish place frame) }
+        ensures { self.new ≡ did self.old (Publish place frame) 0 }
+    {
+        let mut note = self.frames[frame as usize];
+        let name = note
+            .generation
+            .wrapping_mul(1024)
+            .wrapping_add(frame as u64);
+        table.publish_at(&mut self.seat, place, frame, name);
+        note.kind = Kind::Stable;
+        self.frames[frame as usize] = note;
+    }
+
+    pub fn withdraw(&mut self, table: &FrameTable, place: u32)
+        requires own { self.old.table ≡ table.now }
+        requires may { May self.old (Withdraw place) }
+        ensures { self.new ≡ did self.old (Withdraw place) 0 }
+    {
+        table.withdraw_at(&mut self.seat, place);
+    }
+
+    /// Takes all of the keeper's references back, if nobody else has one. Says whether it did.
+    pub fn freeze(&mut self, table: &FrameTable, frame: u32) -> bool
+        requires own { self.old.table ≡ table.now }
+        requires may { May self.old (Freeze frame) }
+        ensures { (found : ℕ) × (self.new ≡ did self.old (Freeze frame) found) × (IsTrue result ↔ found ≡ (frame_at self.old.ledger frame).base) }
+    {
+        let mut note = self.frames[frame as usize];
+        if table.freeze_at(&mut self.seat, frame, note.base) != note.base {
+            return false;
+        }
+        note.kind = Kind::Dying;
+        note.base = 0;
+        self.frames[frame as usize] = note;
+        true
+    }
+
+    pub fn word(&mut self, table: &FrameTable, frame: u32, i: usize) -> u64
+        requires own { self.old.table ≡ table.now }
+        requires may { May self.old (Word frame i) }
+        ensures step { self.new ≡ did self.old (Word frame i) result }
+        ensures content { result ≡ slice_index (frame_at self.old.ledger frame).content i }
+    {
+        table.word_at(&mut self.seat, frame, i)
+    }
+}

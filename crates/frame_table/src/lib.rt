@@ -1,0 +1,27 @@
+//! The frame table that threads share: its words, a seat for the keeper, and one for each pass.
+//!
+//! Each call is a few atomic steps of one seat. Between any two steps of any threads the words and what the seats know are a state of the
+//! frame core that keeps its rule (own).
+#![tactic(auto)]
+
+mod closed;
+mod equal;
+mod held;
+mod keeper;
+mod keeper_steps;
+mod open;
+mod pass;
+mod reader_steps;
+mod table;
+mod view;
+
+pub use closed::ClosedTable;
+pub use equal::FoundEqual;
+pub use held::Held;
+pub use keeper::Keeper;
+pub use pass::{Found, Pass, Why};
+pub use table::FrameTable;
+pub use view::{FrameRule, Tally, View};
+
+#[cfg(test)]
+mod tests;

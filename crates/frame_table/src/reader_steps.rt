@@ -1,0 +1,132 @@
+//! The single steps of a reader, and what each tells its seat.
+ghost use Rattle.std.specs.Prelude.{◌≡◌, ℕ, ◌<◌, ◌≤◌, List, Option};
+ghost use Rattle.ksm_base.specs.declared.page.TheConstants.{PAGE_WORDS as words_of_page};
+ghost use Rattle.ksm_base.specs.Values.{frames_of};
+ghost use Rattle.frame_core.specs.declared.event.ReaderStep.TheVariants as reader;
+ghost use Rattle.frame_core.specs.declared.seat.Aim.{Aim};
+ghost use Rattle.frame_core.specs.declared.seat.Phase.TheVariants.{Idle, Placed, Counted, Doubt, Held};
+ghost use Rattle.frame_table.specs.Views.{IsIn};
+ghost use Rattle.frame_table.specs.Reading.{IsHolder, Makes};
+
+use crate::table::FrameTable;
+use crate::view::View;
+use atomic_table::{Play, Seat};
+
+pub(crate) struct LoadPlace;
+
+impl Play<(), View> for LoadPlace {
+    ghost use Rattle.frame_table.specs.Reading.{loads_place};
+
+    ghost then = { loads_place };
+}
+
+pub(crate) struct LoadCount;
+
+impl Play<(), View> for LoadCount {
+    ghost use Rattle.frame_table.specs.Reading.{loads_count};
+
+    ghost then = { loads_count };
+}
+
+pub(crate) struct Exchange;
+
+impl Play<(), View> for Exchange {
+    ghost use Rattle.frame_table.specs.Reading.{exchanges};
+
+    ghost then = { exchanges };
+}
+
+pub(crate) struct LoadGeneration;
+
+impl Play<(), View> for LoadGeneration {
+    ghost use Rattle.frame_table.specs.Reading.{loads_generation};
+
+    ghost then = { loads_generation };
+}
+
+pub(crate) struct Leave;
+
+impl Play<(), View> for Leave {
+    ghost use Rattle.frame_table.specs.Reading.{leaves};
+
+    ghost then = { leaves };
+}
+
+pub(crate) struct LoadWord;
+
+impl Play<(), View> for LoadWord {
+    ghost use Rattle.frame_table.specs.Reading.{loads_word};
+
+    ghost then = { loads_word };
+}
+
+impl FrameTable {
+    pub(crate) fn load_place(&self, seat: &mut Seat<(), View>, place: u32) -> u64
+        requires own { seat.old.table_id ≡ self.now.id }
+        requires inside { place < frames_of self.now.shape }
+        requires phase { IsIn self.now.shape Idle seat.old.me }
+        ensures seat { (seat.new.table_id ≡ seat.old.table_id) × (seat.new.id ≡ seat.old.id) }
+        ensures step { Makes (reader.LoadPlace place) seat.old.me result seat.new.me }
+    {
+        self.table.shared.load::<LoadPlace>(seat, place as usize)
+    }
+
+    pub(crate) fn load_count(&self, seat: &mut Seat<(), View>, frame: u32) -> u64
+        requires own { seat.old.table_id ≡ self.now.id }
+        requires inside { frame < frames_of self.now.shape }
+        requires phase { (aim : Aim) × (failures : ℕ) × (aim.life.frame ≡ frame) × IsIn self.now.shape (Placed aim failures) seat.old.me }
+        ensures seat { (seat.new.table_id ≡ seat.old.table_id) × (seat.new.id ≡ seat.old.id) }
+        ensures step { Makes reader.LoadCount seat.old.me result seat.new.me }
+    {
+        let word = self.count_word(frame);
+        self.table.shared.load::<LoadCount>(seat, word)
+    }
+
+    // Raises the count by one, if it is still `count`. Answers the count found.
+    pub(crate) fn exchange(&self, seat: &mut Seat<(), View>, frame: u32, count: u64) -> u64
+        requires own { seat.old.table_id ≡ self.now.id }
+        requires inside { (frame < frames_of self.now.shape) × (count ≤ 1040) }
+        requires phase { (aim : Aim) × (failures : ℕ) × (aim.life.frame ≡ frame) × IsIn self.now.shape (Counted aim failures count) seat.old.me }
+        ensures seat { (seat.new.table_id ≡ seat.old.table_id) × (seat.new.id ≡ seat.old.id) }
+        ensures step { Makes reader.Exchange seat.old.me result seat.new.me }
+    {
+        let word = self.count_word(frame);
+        self.table
+            .shared
+            .compare_exchange::<Exchange>(seat, word, count, count + 1)
+    }
+
+    pub(crate) fn load_generation(&self, seat: &mut Seat<(), View>, frame: u32) -> u64
+        requires own { seat.old.table_id ≡ self.now.id }
+        requires inside { frame < frames_of self.now.shape }
+        requires phase { (aim : Aim) × (aim.life.frame ≡ frame) × IsIn self.now.shape (Doubt aim) seat.old.me }
+        ensures seat { (seat.new.table_id ≡ seat.old.table_id) × (seat.new.id ≡ seat.old.id) }
+        ensures step { Makes reader.LoadGeneration seat.old.me result seat.new.me }
+    {
+        let word = self.generation_word(frame);
+        self.table.shared.load::<LoadGeneration>(seat, word)
+    }
+
+    // Gives the reference back. Answers the count before.
+    pub(crate) fn give_back(&self, seat: &mut Seat<(), View>, frame: u32) -> u64
+        requires own { seat.old.table_id ≡ self.now.id }
+        requires inside { frame < frames_of self.now.shape }
+        requires phase { IsHolder self.now.shape frame seat.old.me }
+        ensures seat { (seat.new.table_id ≡ seat.old.table_id) × (seat.new.id ≡ seat.old.id) }
+        ensures step { Makes reader.Leave seat.old.me result seat.new.me }
+    {
+        let word = self.count_word(frame);
+        self.table.shared.fetch_sub::<Leave>(seat, word, 1)
+    }
+
+    pub(crate) fn load_word(&self, seat: &mut Seat<(), View>, frame: u32, i: usize) -> u64
+        requires own { seat.old.table_id ≡ self.now.id }
+        requires inside { (frame < frames_of self.now.shape) × (i < words_of_page) }
+        requires phase { (aim : Aim) × (known : List (Option ℕ)) × (aim.life.frame ≡ frame) × IsIn self.now.shape (Held aim known) seat.old.me }
+        ensures seat { (seat.new.table_id ≡ seat.old.table_id) × (seat.new.id ≡ seat.old.id) }
+        ensures step { Makes (reader.LoadWord i) seat.old.me result seat.new.me }
+    {
+        let word = self.content_word(frame, i);
+        self.table.shared.load::<LoadWord>(seat, word)
+    }
+}

@@ -1,0 +1,79 @@
+ghost use Rattle.std.specs.Prelude.{◌≡◌, ◌+◌, ◌*◌, ◌<◌, ◌≤◌};
+ghost use Rattle.ksm_base.specs.declared.page.TheConstants.{PAGE_WORDS as words_of_page};
+ghost use Rattle.ksm_base.specs.Values.{frames_of};
+ghost use Rattle.frame_core.specs.Words.{count_at, generation_at, content_at};
+
+use crate::view::{FrameRule, View};
+use atomic_table::Table;
+use ksm_base::{PAGE_WORDS, Shape};
+use std::alloc::Global;
+use std::marker::Model;
+
+/// The table. Contracts see which one it is, and its shape.
+#[derive(Drop)]
+pub struct FrameTable {
+    pub(crate) table: Table<(), View, Shape, FrameRule, Global>,
+    pub(crate) shape: Shape,
+}
+
+impl Model for FrameTable {
+    ghost use Rattle.std.specs.Prelude.{◌≡◌, ◌+◌, ◌*◌};
+    ghost use Rattle.ksm_base.specs.declared.page.TheConstants.{PAGE_WORDS as words_of_page};
+    ghost use Rattle.ksm_base.specs.Values.{IsShape, frames_of};
+    ghost use Rattle.frame_table.specs.Named.{TableName};
+
+    ghost Value = { TableName };
+
+    ghost view = { λ t. record { id = t.table.shared.table_id; shape = t.shape } };
+
+    ghost invariant = { λ t. (t.table.shared.key ≡ t.shape) × (t.table.shared.table_id.words ≡ frames_of t.shape * (3 + words_of_page)) × (t.table.shared.table_id.slots ≡ 0) × IsShape t.shape };
+}
+
+impl FrameTable {
+    /// How many places there are, and as many frames.
+    pub fn places(&self) -> u32
+        ensures { result ≡ frames_of self.now.shape }
+    {
+        self.shape.frames()
+    }
+
+    pub(crate) fn tries(&self) -> u32
+        ensures { (result ≡ self.now.shape.tries) × (1 ≤ result) }
+    {
+        self.shape.tries
+    }
+
+    // Where the words of a frame begin: the words of the places come first.
+    fn frame_word(&self, frame: u32) -> usize
+        requires inside { frame < frames_of self.now.shape }
+        ensures at { result ≡ count_at (frames_of self.now.shape) frame }
+        ensures within { result + (1 + words_of_page) < self.now.id.words }
+        ensures small { result ≤ 1024 * (3 + words_of_page) }
+    {
+        self.shape.frames() as usize + frame as usize * (2 + PAGE_WORDS)
+    }
+
+    pub(crate) fn count_word(&self, frame: u32) -> usize
+        requires inside { frame < frames_of self.now.shape }
+        ensures at { result ≡ count_at (frames_of self.now.shape) frame }
+        ensures within { result < self.now.id.words }
+    {
+        self.frame_word(frame)
+    }
+
+    pub(crate) fn generation_word(&self, frame: u32) -> usize
+        requires inside { frame < frames_of self.now.shape }
+        ensures at { result ≡ generation_at (frames_of self.now.shape) frame }
+        ensures within { result < self.now.id.words }
+    {
+        self.frame_word(frame) + 1
+    }
+
+    pub(crate) fn content_word(&self, frame: u32, i: usize) -> usize
+        requires inside { (frame < frames_of self.now.shape) × (i < words_of_page) }
+        ensures at { result ≡ content_at (frames_of self.now.shape) frame i }
+        ensures within { result < self.now.id.words }
+    {
+        self.frame_word(frame) + 2 + i
+    }
+}

@@ -1,0 +1,17 @@
+pub mod Pages
+pub mod Moves
+pub mod Logs
+pub mod Keeping
+pub mod Filling
+pub mod Lists
+pub mod Maps
+pub mod Taken
+pub mod Ranks
+pub mod Laying
+pub mod Found
+pub mod RowLists
+pub mod RowWalks
+pub mod Withdrawn
+pub mod Sharing
+pub mod Visiting
+pub mod Pruning
