@@ -3,8 +3,12 @@ use Rattle.ksm_base.specs.declared.command.Command.TheVariants.{SetAcross}
 use Rattle.ksm_base.specs.declared.reply.Reply.TheVariants.{Done}
 use Rattle.ksm_base.specs.Sound.{IsSound}
 use Rattle.ksm_base.proofs.SoundSteps.{sound_after}
-use Rattle.std.proofs.Common.{inr, arith}
-use Rattle.ksm_base.specs.Counting.{shared_count}
+use Rattle.std.proofs.Common.{inr, false}
+use Rattle.std.specs.Prelude.{◌==◌}
+use Rattle.std.proofs.lemmas.Bool.{ne_eqb}
+use Rattle.ksm_base.specs.declared.knobs.Knobs.{Knobs}
+use Rattle.ksm_base.specs.Refusals.{changes_while_shared}
+use Rattle.ksm_base.proofs.SoundKnobs.{none_shared}
 use Rattle.ksm_base.proofs.SoundEdits.{no_dup_lives}
 use Rattle.ksm_book.specs.Laid.{Lay, state_of}
 use Rattle.ksm_book.proofs.state.State.set_across.Goals as goal
@@ -18,7 +22,7 @@ invariant_of-self c =
 pub set_knobs-requires : goal.set_knobs-requires
 set_knobs-requires c =
     let s = c.self.inside in
-    let shared = c.count_shared.ensures in
-    let few = c.if-count_shared-gt0.false in
-    let none : shared_count s.layout.rows s.layout.dups ≡ 0 = omega (arith, shared, few) in
-    inr (ap (λ (x : Lay). x.dups) c.settle_all.ensures ∙ ap (λ (x : Lay). x.dups) c.prune.ensures.state ∙ no_dup_lives (state_of s.layout s.cursor s.passes) none)
+    let b = state_of s.layout s.cursor s.passes in
+    let calm : changes_while_shared b b.knobs.merge_across_nodes c.args.across ≡ false = search rules in
+    let other : (c.args.across == b.knobs.merge_across_nodes) ≡ false = ne_eqb c.args.across b.knobs.merge_across_nodes (λ e. c.if-across-knobs.false (e ∙ sym (ap (λ (k : Knobs). k.merge_across_nodes) c.knobs-knobs.ensures))) in
+    inr (ap (λ (x : Lay). x.dups) c.settle_all.ensures ∙ ap (λ (x : Lay). x.dups) c.prune.ensures.state ∙ no_dup_lives b (none_shared b (c.args.across == b.knobs.merge_across_nodes) calm other))
