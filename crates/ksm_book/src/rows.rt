@@ -1,6 +1,6 @@
 //! The rows in an ordered map: each page with what the book knows of it, and the frame that serves it.
 
-ghost use Rattle.std.specs.Prelude.{◌≡◌, ◌<◌, ◌≤◌, [], None, Some, length, filter, find, count_by, map, insert, remove, slice_set, MatchOption, OnOk, OnErr, Err, is_some, true, option_map, ◌&&◌};
+ghost use Rattle.std.specs.Prelude.{◌≡◌, ◌<◌, ◌≤◌, [], None, Some, length, filter, find, count_by, map, insert, remove, slice_set, MatchOption, IfOk, IfErr, OnOk, OnErr, Err, is_some, true, option_map, ◌&&◌};
 ghost use Rattle.std.specs.List.{list_any};
 ghost use Rattle.ksm_base.specs.declared.fault.Fault.TheVariants.{Memory};
 ghost use Rattle.ksm_base.specs.Refusals.{is_of as is_of_guest};
@@ -169,6 +169,20 @@ impl Rows {
                 .iter()
                 .find(|(_, entry)| is_item(entry.state, number)),
         )
+    }
+
+    /// The pages merged into the dup with this number, ascending. Refused for memory alone.
+    pub fn items(&self, alloc: Global, number: u64) -> Result<Vec<GuestPage>, Fault>
+        ensures items { IfOk result (λ pages. pages.items ≡ map (λ r. r.page) (filter (λ r. merged_into number r.state) self.now.rows)) }
+        ensures fault { IfErr result (λ fault. fault ≡ Memory) }
+    {
+        let mut pages = Vec::new(alloc);
+        for (page, entry) in &self.entries {
+            if is_item(entry.state, number) {
+                pages.push(*page)?;
+            }
+        }
+        Ok(pages)
     }
 
     pub fn has_guest(&self, guest: u16) -> bool
