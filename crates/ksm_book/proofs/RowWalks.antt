@@ -1,5 +1,5 @@
 -- What is found, counted and changed in the entries of the rows' map, said of the rows.
-use Rattle.std.proofs.Common.{◌≡◌, Bool, true, false, cond, List, [], ◌∷◌, length, map, Option, Some, None, suc, refl, sym, ap, ◌∙◌, subst}
+use Rattle.std.proofs.Common.{◌≡◌, ℕ, Bool, true, false, cond, List, [], ◌∷◌, length, map, Option, Some, None, suc, refl, sym, ap, ◌∙◌, subst}
 use Rattle.std.specs.Prelude.{filter, find, option_map, ◌&&◌, ◌||◌}
 use Rattle.std.specs.List.{list_any}
 use Rattle.std.specs.Map.{keys_of, values_of}
@@ -121,3 +121,16 @@ module _ (change : Row → Row) (keeps : (r : Row) → (change r).page ≡ r.pag
   pub frames_kept : (es : Entries) → map frame_of (map (λ e. (e.0, changed change e.0 e.1)) es) ≡ map frame_of es
   frames_kept [] = refl
   frames_kept (e ∷ es) = ap (λ l. frame_of e ∷ l) (frames_kept es)
+
+-- an entry with its frame changed
+abbrev pub moved : (ℕ → ℕ) → GuestPage → Entry → Entry
+moved change page e = record e { frame = change e.frame }
+
+module _ (change : ℕ → ℕ) where
+  pub rows_kept : (es : Entries) → rows_of (map (λ e. (e.0, moved change e.0 e.1)) es) ≡ rows_of es
+  rows_kept [] = refl
+  rows_kept (e ∷ es) = ap (λ l. row_of e ∷ l) (rows_kept es)
+
+  pub frames_moved : (es : Entries) → map frame_of (map (λ e. (e.0, moved change e.0 e.1)) es) ≡ map change (map frame_of es)
+  frames_moved [] = refl
+  frames_moved (e ∷ es) = ap (λ l. change (frame_of e) ∷ l) (frames_moved es)

@@ -1,5 +1,5 @@
 -- Rows in the order of their pages, each with its frame (own).
-use Rattle.std.specs.Prelude.{◌≡◌, ℕ, ◌<◌, List, length, filter, Option, Some, None, slice_index}
+use Rattle.std.specs.Prelude.{◌≡◌, ◌==◌, if◌then◌else◌, ℕ, ◌<◌, List, length, filter, Option, Some, None, slice_index}
 use Rattle.ksm_base.specs.declared.page.GuestPage.{GuestPage}
 use Rattle.ksm_base.specs.declared.row.Row.{Row}
 use Rattle.ksm_base.specs.Rows.{comes_before, InPageOrder, row_at}
@@ -25,3 +25,7 @@ pub record StandsAt (v : Listed) (page : GuestPage) (row : Row) (frame : ℕ) : 
   pub row_is : row_in v.rows (rank page v.rows) ≡ row
   pub frame_is : slice_index v.frames (rank page v.rows) ≡ frame
   pub found : row_at page v.rows ≡ Some row
+
+-- the frame g in the stead of f
+abbrev pub instead : ℕ → ℕ → ℕ → ℕ
+instead f g h = if h == f then g else h

@@ -7,7 +7,7 @@ ghost use Rattle.ksm_base.specs.Refusals.{is_of as is_of_guest};
 ghost use Rattle.ksm_base.specs.Apply.{unshared as as_unshared};
 ghost use Rattle.ksm_base.specs.Rows.{row_at, with_row, without_page, change_row, change_rows, merged_into, private_state, waiting_state, merged_state, settled as as_settled};
 ghost use Rattle.ksm_base.specs.Visit.{next_row as row_to_visit, partner as row_waiting};
-ghost use Rattle.ksm_book.specs.Listed.{rank, StandsAt};
+ghost use Rattle.ksm_book.specs.Listed.{rank, StandsAt, instead};
 ghost use Rattle.ksm_book.specs.RowEntries.{row_of, start_after};
 ghost use Rattle.std.specs.Map.Iter.{deref_pair};
 
@@ -250,6 +250,19 @@ impl Rows {
     {
         self.entries.retain(|page, entry| {
             entry.set_row(unshared(entry.row(*page)));
+            true
+        });
+    }
+
+    /// Every row on one frame lies on another from now on.
+    pub fn move_frames(&mut self, old: u32, new: u32)
+        ensures rows { self.new.rows ≡ self.old.rows }
+        ensures frames { self.new.frames ≡ map (instead old new) self.old.frames }
+    {
+        self.entries.retain(|_, entry| {
+            if entry.frame == old {
+                entry.frame = new;
+            }
             true
         });
     }
