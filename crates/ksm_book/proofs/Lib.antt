@@ -12,3 +12,4 @@ pub mod RowLists
 pub mod RowWalks
 pub mod Withdrawn
 pub mod Sharing
+pub mod Visiting

@@ -1,9 +1,12 @@
 //! Rows and dups as they lie in the keeper's frames: each call is one lawful change of both.
 
-ghost use Rattle.std.specs.Prelude.{◌≡◌, ◌<◌, ◌+◌, ◌⊎◌, [], true, false, None, Err, All, filter, map, is_some, option_map, OnOk, OnErr, IfOk};
+ghost use Rattle.std.specs.Prelude.{◌≡◌, ◌<◌, ◌+◌, ◌⊎◌, [], true, false, None, Err, All, filter, find, map, is_some, ◌==◌, ◌&&◌, option_map, OnOk, OnErr, IfOk};
 ghost use Rattle.ksm_base.specs.declared.fault.Fault.TheVariants.{Memory};
 ghost use Rattle.ksm_base.specs.declared.row.PageState.TheVariants.{Private, Merged};
-ghost use Rattle.ksm_base.specs.Rows.{row_at, with_row, with_dup, without_page, change_row, change_rows, merged_state, settled};
+ghost use Rattle.ksm_base.specs.Rows.{row_at, with_row, with_dup, without_page, change_row, change_rows, merged_state, settled, has_items, dup_numbered};
+ghost use Rattle.ksm_base.specs.Counting.{counters_from, shared_count};
+ghost use Rattle.ksm_base.specs.State.{place_count};
+ghost use Rattle.ksm_base.specs.Visit.{best_dup, partner, new_place};
 ghost use Rattle.ksm_base.specs.Apply.{unshared};
 ghost use Rattle.ksm_base.specs.Refusals.{is_of};
 ghost use Rattle.ksm_base.specs.Values.{IsShape, frames_of};
@@ -16,7 +19,7 @@ use crate::frames::{clear, load, release, share, take_frame, write};
 use crate::row::tree_of;
 use crate::rows::Rows;
 use frame_table::{FrameTable, Keeper};
-use ksm_base::{DupRow, Fault, GuestPage, Knobs, PageBytes, PageState, Row, Shape};
+use ksm_base::{Counters, DupRow, Fault, GuestPage, Knobs, PageBytes, PageState, Row, Shape};
 use std::alloc::Global;
 use std::marker::Model;
 
@@ -90,6 +93,78 @@ impl Layout {
         ensures { result.now.rows ≡ self.now.rows }
     {
         &self.rows
+    }
+
+    pub fn knobs(&self) -> Knobs
+        ensures { result ≡ self.now.knobs }
+    {
+        self.knobs
+    }
+
+    /// The number of the dup that is made next.
+    pub fn next_number(&self) -> u64
+        ensures { result ≡ self.now.next }
+    {
+        self.next
+    }
+
+    /// The dup that a row joins.
+    pub fn best(&self, row: &Row) -> Option<DupRow>
+        ensures { result ≡ best_dup self.now.knobs self.now.rows self.now.dups row.now }
+    {
+        self.dups.best(&self.knobs, &self.rows, row)
+    }
+
+    /// The row that waits for another.
+    pub fn partner(&self, row: &Row) -> Option<Row>
+        ensures { result ≡ partner self.now.knobs self.now.rows row.now }
+    {
+        self.rows.partner(&self.knobs, row)
+    }
+
+    /// Where a new dup goes.
+    pub fn new_place(&self) -> Option<u32>
+        ensures { result ≡ new_place (place_count self.now.shape) self.now.rows self.now.dups }
+    {
+        self.dups.new_place(self.shape.frames(), &self.rows)
+    }
+
+    /// The dup with items at a place.
+    pub fn live_at(&self, place: u32) -> Option<DupRow>
+        ensures { result ≡ find (λ d. d.place == place && has_items self.now.rows d) self.now.dups }
+    {
+        self.dups.live_at(&self.rows, place)
+    }
+
+    /// The dup with a number.
+    pub fn numbered(&self, number: u64) -> Option<DupRow>
+        ensures { result ≡ dup_numbered number self.now.dups }
+    {
+        self.dups.numbered(number)
+    }
+
+    /// How many dups have an item.
+    pub fn count_shared(&self) -> usize
+        ensures { result ≡ shared_count self.now.rows self.now.dups }
+    {
+        self.dups.count_shared(&self.rows)
+    }
+
+    /// What is counted, where so many passes have ended.
+    pub fn counters(&self, passes: u64) -> Counters
+        ensures { result ≡ counters_from self.now.rows self.now.dups passes }
+    {
+        let shared = self.dups.count_shared(&self.rows) as u64;
+        let merged = self.rows.count_merged() as u64;
+        Counters {
+            shared,
+            sharing: merged.saturating_sub(shared),
+            unshared: self.rows.count_waiting() as u64,
+            volatile: self.rows.count_volatile() as u64,
+            chains: self.dups.count_chains() as u64,
+            dups: self.dups.count_dups() as u64,
+            full_scans: passes,
+        }
     }
 
     /// The row of a page.

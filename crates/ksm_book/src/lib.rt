@@ -7,4 +7,5 @@ mod frames;
 mod layout;
 mod row;
 mod rows;
+mod scan;
 mod state;
