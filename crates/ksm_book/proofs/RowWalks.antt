@@ -104,10 +104,22 @@ find_alike : {X : Type 0} (p q : X → Bool) (xs : List X) → ((x : X) → p x 
 find_alike p q [] alike = refl
 find_alike p q (x ∷ xs) alike = λ t. cond (alike x t) (Some x) (find_alike p q xs alike t)
 
-pub find_after : (cursor : Option GuestPage) (es : Entries) → find (λ e. e.1.mergeable) (entries_between page_order (start_after cursor) Unbounded es) ≡ find (λ e. (row_of e).mergeable && after_cursor cursor (row_of e).page) es
-find_after cursor es =
-    find_filter (λ e. e.1.mergeable) (λ e. range_contains page_order (start_after cursor) Unbounded e.0) es
-    ∙ find_alike _ _ es (λ e. ap (λ b. e.1.mergeable && b) (in_range cursor e.0))
+pub find_after : (test : Row → Bool) (cursor : Option GuestPage) (es : Entries) → find (λ e. test (row_of e)) (entries_between page_order (start_after cursor) Unbounded es) ≡ find (λ e. test (row_of e) && after_cursor cursor (row_of e).page) es
+find_after test cursor es =
+    find_filter (λ e. test (row_of e)) (λ e. range_contains page_order (start_after cursor) Unbounded e.0) es
+    ∙ find_alike _ _ es (λ e. ap (λ b. test (row_of e) && b) (in_range cursor e.0))
+
+-- the pages of the rows that pass
+pages_passing : (test : Row → Bool) (es : Entries) → map (λ e. e.0) (filter (λ e. test (row_of e)) es) ≡ map (λ r. r.page) (filter test (rows_of es))
+pages_passing test [] = refl
+pages_passing test (e ∷ es) = by (test (row_of e)) (pages_passing test es)
+  where
+    by : (b : Bool) → map (λ x. x.0) (filter (λ x. test (row_of x)) es) ≡ map (λ r. r.page) (filter test (rows_of es)) → map (λ x. x.0) (cond b (e ∷ filter (λ x. test (row_of x)) es) (filter (λ x. test (row_of x)) es)) ≡ map (λ r. r.page) (cond b (row_of e ∷ filter test (rows_of es)) (filter test (rows_of es)))
+    by true rest = ap (λ l. e.0 ∷ l) rest
+    by false rest = rest
+
+pub pages_of : (test : Row → Bool) (es : Entries) (l : Listed) → listed es ≡ l → map (λ e. e.0) (filter (λ e. test (row_of e)) es) ≡ map (λ r. r.page) (filter test l.rows)
+pages_of test es l is = pages_passing test es ∙ ap (λ (v : Listed). map (λ r. r.page) (filter test v.rows)) is
 
 -- ---------------------------------------------------------------- changes
 

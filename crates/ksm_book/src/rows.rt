@@ -1,16 +1,17 @@
 //! The rows in an ordered map: each page with what the book knows of it, and the frame that serves it.
 //!
-//! With n rows, `has`, `find`, `insert`, `replace` and `remove` take a number of steps in the order of log n. `next` takes
-//! as many, and one for each row that it passes over. All other calls walk over the rows.
+//! With n rows, `has`, `find`, `insert`, `replace` and `remove` take a number of steps in the order of log n. `next`,
+//! `next_merged` and `next_of` take as many, and one for each row that they pass over. All other calls walk over the
+//! rows, but for `len`.
 
-ghost use Rattle.std.specs.Prelude.{◌≡◌, ◌<◌, ◌≤◌, [], None, Some, length, filter, find, count_by, map, insert, remove, slice_set, MatchOption, OnOk, OnErr, Err, is_some, true, option_map, ◌&&◌};
+ghost use Rattle.std.specs.Prelude.{◌≡◌, ◌<◌, ◌≤◌, [], None, Some, length, filter, find, count_by, map, insert, remove, slice_set, MatchOption, OnOk, OnErr, IfOk, IfErr, Err, is_some, true, option_map, ◌&&◌};
 ghost use Rattle.std.specs.List.{list_any};
 ghost use Rattle.std.specs.Map.Iter.{deref_pair};
 ghost use Rattle.ksm_base.specs.declared.fault.Fault.TheVariants.{Memory};
 ghost use Rattle.ksm_base.specs.Refusals.{is_of as is_of_guest};
 ghost use Rattle.ksm_base.specs.Apply.{unshared as as_unshared};
 ghost use Rattle.ksm_base.specs.Rows.{row_at, with_row, without_page, change_row, change_rows, merged_into, private_state, waiting_state, merged_state, settled as as_settled};
-ghost use Rattle.ksm_base.specs.Visit.{next_row as row_to_visit, partner as row_waiting};
+ghost use Rattle.ksm_base.specs.Visit.{after_cursor as is_after_cursor, next_row as row_to_visit, partner as row_waiting};
 ghost use Rattle.ksm_book.specs.Listed.{rank, StandsAt, instead};
 ghost use Rattle.ksm_book.specs.RowEntries.{row_of, start_after};
 
@@ -152,6 +153,28 @@ impl Rows {
         )
     }
 
+    /// The first merged row after a page, or of all where no page is given.
+    pub fn next_merged(&self, cursor: Option<GuestPage>) -> Option<Row>
+        ensures { result ≡ find (λ r. merged_state r.state && is_after_cursor cursor r.page) self.now.rows }
+    {
+        row_found(
+            self.entries
+                .range((after_cursor(cursor), Bound::Unbounded))
+                .find(|(_, entry)| is_merged(entry.state)),
+        )
+    }
+
+    /// The first row of a guest after a page, or of all where no page is given.
+    pub fn next_of(&self, guest: u16, cursor: Option<GuestPage>) -> Option<Row>
+        ensures { result ≡ find (λ r. is_of_guest guest r && is_after_cursor cursor r.page) self.now.rows }
+    {
+        row_found(
+            self.entries
+                .range((after_cursor(cursor), Bound::Unbounded))
+                .find(|(page, _)| page.guest == guest),
+        )
+    }
+
     /// Another row that waits, of the same tree and bytes.
     pub fn partner(&self, knobs: &Knobs, row: &Row) -> Option<Row>
         ensures { result ≡ row_waiting knobs.now self.now.rows row.now }
@@ -174,6 +197,20 @@ impl Rows {
         )
     }
 
+    /// The pages of the items of the dup with this number, ascending. Refused for memory alone.
+    pub fn items(&self, alloc: Global, number: u64) -> Result<Vec<GuestPage>, Fault>
+        ensures pages { IfOk result (λ pages. pages.items ≡ map (λ r. r.page) (filter (λ r. merged_into number r.state) self.now.rows)) }
+        ensures fault { IfErr result (λ e. e ≡ Memory) }
+    {
+        let pages = self
+            .entries
+            .iter()
+            .filter(|(_, entry)| is_item(entry.state, number))
+            .map(|(page, _)| *page)
+            .collect(alloc)?;
+        Ok(pages)
+    }
+
     /// Whether the guest has a row.
     pub fn has_guest(&self, guest: u16) -> bool
         ensures { result ≡ list_any (is_of_guest guest) self.now.rows }
@@ -186,6 +223,13 @@ impl Rows {
         ensures { result ≡ list_any (λ r. r.mergeable) self.now.rows }
     {
         self.entries.values().any(|entry| entry.mergeable)
+    }
+
+    /// How many rows there are.
+    pub fn len(&self) -> usize
+        ensures { result ≡ length self.now.rows }
+    {
+        self.entries.len()
     }
 
     /// How many rows are merged into the dup with this number.
