@@ -13,3 +13,4 @@ pub mod RowWalks
 pub mod Withdrawn
 pub mod Sharing
 pub mod Visiting
+pub mod Pruning

@@ -1,9 +1,9 @@
 //! Rows and dups as they lie in the keeper's frames: each call is one lawful change of both.
 
-ghost use Rattle.std.specs.Prelude.{◌≡◌, ◌<◌, ◌+◌, ◌⊎◌, [], true, false, None, Err, All, filter, find, map, is_some, ◌==◌, ◌&&◌, option_map, OnOk, OnErr, IfOk};
+ghost use Rattle.std.specs.Prelude.{◌≡◌, ◌<◌, ◌+◌, ◌⊎◌, [], true, false, None, Err, All, count_by, filter, find, map, is_some, ◌==◌, ◌&&◌, option_map, OnOk, OnErr, IfOk};
 ghost use Rattle.ksm_base.specs.declared.fault.Fault.TheVariants.{Memory};
 ghost use Rattle.ksm_base.specs.declared.row.PageState.TheVariants.{Private, Merged};
-ghost use Rattle.ksm_base.specs.Rows.{row_at, with_row, with_dup, without_page, change_row, change_rows, merged_state, settled, has_items, dup_numbered};
+ghost use Rattle.ksm_base.specs.Rows.{row_at, with_row, with_dup, without_page, change_row, change_rows, merged_state, settled, has_items, is_stale, dup_numbered};
 ghost use Rattle.ksm_base.specs.Counting.{counters_from, shared_count};
 ghost use Rattle.ksm_base.specs.State.{place_count};
 ghost use Rattle.ksm_base.specs.Visit.{best_dup, partner, new_place};
@@ -375,5 +375,24 @@ impl Layout {
         let taken = self.dups.has(place);
         clear(&mut self.keeper, table, place, taken);
         self.dups.remove(place);
+    }
+
+    /// All stale dups go. Says how many there were.
+    pub fn prune(&mut self, table: &FrameTable) -> u64
+        requires own { self.old.keeper.table ≡ table.now }
+        requires places { All (λ d. d.place < frames_of self.old.shape) self.old.dups }
+        ensures own { self.new.keeper.table ≡ self.old.keeper.table }
+        ensures state { self.new ≡ record self.old { dups = filter (has_items self.old.rows) self.old.dups; keeper = self.new.keeper } }
+        ensures count { result ≡ count_by (is_stale self.old.rows) self.old.dups }
+        ensures does { Does self.old.keeper self.new.keeper [] }
+    {
+        let count = self.dups.count_stale(&self.rows) as u64;
+        for done in 0..self.dups.len() {
+            let Some(place) = self.dups.stale_place(&self.rows) else {
+                return count;
+            };
+            self.drop_stale(table, place);
+        }
+        count
     }
 }

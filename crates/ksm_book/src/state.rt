@@ -14,7 +14,7 @@ ghost use Rattle.ksm_book.specs.Steps.{Does};
 ghost use Rattle.ksm_book.specs.Whole.{nodes_got, HasShown};
 
 use crate::layout::Layout;
-use crate::row::{fresh_row, is_merged, stored};
+use crate::row::{fresh_row, is_merged, moved, stored};
 use frame_table::{FrameTable, Keeper};
 use ksm_base::{Command, Counters, Fault, GuestPage, Knobs, PageBytes, PageState, Reply, Shape};
 use std::alloc::Global;
@@ -170,5 +170,56 @@ impl State {
         ensures { result ≡ self.now.state.knobs }
     {
         self.layout.knobs()
+    }
+
+    /// All stale dups go.
+    pub fn prune(&mut self, table: &FrameTable) -> Result<Reply, Fault>
+        requires own { self.old.keeper.table ≡ table.now }
+        ensures own { self.new.keeper.table ≡ self.old.keeper.table }
+        ensures answer { IsAnswerOrMemory self.old.state Command.Prune result }
+        ensures state { self.new.state ≡ after self.old.state Command.Prune result }
+        ensures frames { Does self.old.keeper self.new.keeper (nodes_got self.old.state result Command.Prune) }
+        ensures shown { HasShown self.old.state self.old.keeper self.new.keeper result Command.Prune }
+    {
+        Ok(Reply::Pruned(self.layout.prune(table)))
+    }
+
+    /// All pages of a guest become mergeable.
+    pub fn mergeable(&mut self, guest: u16) -> Result<Reply, Fault>
+        ensures own { self.new.keeper.table ≡ self.old.keeper.table }
+        ensures answer { IsAnswerOrMemory self.old.state (Command.Mergeable guest) result }
+        ensures state { self.new.state ≡ after self.old.state (Command.Mergeable guest) result }
+        ensures frames { Does self.old.keeper self.new.keeper (nodes_got self.old.state result (Command.Mergeable guest)) }
+        ensures shown { HasShown self.old.state self.old.keeper self.new.keeper result (Command.Mergeable guest) }
+    {
+        if !self.layout.rows().has_guest(guest) {
+            return Err(Fault::UnknownPage);
+        }
+        self.layout.make_mergeable(guest);
+        Ok(Reply::Done)
+    }
+
+    /// Moves a page to a node.
+    pub fn move_page(&mut self, table: &FrameTable, page: GuestPage, node: u32) -> Result<Reply, Fault>
+        requires own { self.old.keeper.table ≡ table.now }
+        ensures own { self.new.keeper.table ≡ self.old.keeper.table }
+        ensures answer { IsAnswerOrMemory self.old.state (Command.MovePage page node) result }
+        ensures state { self.new.state ≡ after self.old.state (Command.MovePage page node) result }
+        ensures frames { Does self.old.keeper self.new.keeper (nodes_got self.old.state result (Command.MovePage page node)) }
+        ensures shown { HasShown self.old.state self.old.keeper self.new.keeper result (Command.MovePage page node) }
+    {
+        if node >= self.layout.shape().nodes {
+            return Err(Fault::BadNode);
+        }
+        let Some(row) = self.layout.row(page) else {
+            return Err(Fault::UnknownPage);
+        };
+        if row.home == node {
+            return Ok(Reply::Done);
+        }
+        if !self.layout.resettle(table, moved(row, node)) {
+            return Err(Fault::NoFrame(node));
+        }
+        Ok(Reply::Done)
     }
 }
