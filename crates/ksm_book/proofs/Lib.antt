@@ -4,7 +4,6 @@ pub mod Logs
 pub mod Keeping
 pub mod Filling
 pub mod Lists
-pub mod Maps
 pub mod Taken
 pub mod Ranks
 pub mod Laying
