@@ -16,3 +16,4 @@ pub mod Visiting
 pub mod Pruning
 pub mod Remounted
 pub mod Mounts
+pub mod Remounts
