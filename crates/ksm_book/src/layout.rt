@@ -218,7 +218,8 @@ impl Layout {
         ensures fault { OnErr result (result ≡ Err Memory) }
     {
         self.rows.insert(row, 0)?;
-        let Some(frame) = take_frame(&mut self.keeper, table, self.shape, row.home, row.bytes) else {
+        let Some(frame) = take_frame(&mut self.keeper, table, self.shape, row.home, row.bytes)
+        else {
             self.rows.remove(row.page);
             return Ok(false);
         };
@@ -238,7 +239,8 @@ impl Layout {
         let Some(held) = self.rows.find(row.page) else {
             return false;
         };
-        let Some(frame) = take_frame(&mut self.keeper, table, self.shape, row.home, row.bytes) else {
+        let Some(frame) = take_frame(&mut self.keeper, table, self.shape, row.home, row.bytes)
+        else {
             return false;
         };
         self.rows.replace(row, frame);
