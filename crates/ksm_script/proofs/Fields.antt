@@ -1,6 +1,6 @@
 -- A field is read exactly where a word writes it.
-use Rattle.std.proofs.Common.{◌≡◌, ℕ, ◌+◌, ◌^◌, ◌<◌, ◌≤◌, List, [], ◌∷◌, Option, Some, None, refl, sym, ap, subst, ◌∙◌, inl, inr, Bool, true, false, cond, ◌⊎◌, arith}
-use Rattle.std.specs.Prelude.{decimal, bytes_eq, option_map}
+use Rattle.std.proofs.Common.{◌≡◌, ℕ, ◌^◌, List, [], ◌∷◌, Option, Some, None, refl, sym, ap, subst, ◌∙◌, inl, inr, Bool, true, false, cond, ◌⊎◌, arith}
+use Rattle.std.specs.Prelude.{bytes_eq, option_map}
 use Rattle.std.proofs.lemmas.Slice.Eq.{bytes_eq-Decides}
 use Rattle.ksm_base.specs.declared.page.GuestPage.{GuestPage}
 use Rattle.ksm_script.specs.declared.knob.Knob.{Knob}
@@ -177,13 +177,13 @@ knob_written knob word e =
     elim (tested (knob_name Run) Run _ knob word e) [
       | inl a ↦ named_so Run knob word a.0 a.1
       | inr e1 ↦ elim (tested (knob_name PagesToScan) PagesToScan _ knob word e1) [
-          | inl a ↦ named_so PagesToScan knob word a.0 a.1
-          | inr e2 ↦ elim (tested (knob_name MergeAcrossNodes) MergeAcrossNodes _ knob word e2) [
-              | inl a ↦ named_so MergeAcrossNodes knob word a.0 a.1
-              | inr e3 ↦ elim (tested (knob_name MaxPageSharing) MaxPageSharing None knob word e3) [
-                  | inl a ↦ named_so MaxPageSharing knob word a.0 a.1
-                  | inr e4 ↦ absurd (none_some knob e4)
-                ]
-            ]
+        | inl a ↦ named_so PagesToScan knob word a.0 a.1
+        | inr e2 ↦ elim (tested (knob_name MergeAcrossNodes) MergeAcrossNodes _ knob word e2) [
+          | inl a ↦ named_so MergeAcrossNodes knob word a.0 a.1
+          | inr e3 ↦ elim (tested (knob_name MaxPageSharing) MaxPageSharing None knob word e3) [
+            | inl a ↦ named_so MaxPageSharing knob word a.0 a.1
+            | inr e4 ↦ absurd (none_some knob e4)
+          ]
         ]
+      ]
     ]

@@ -1,12 +1,11 @@
 -- Bytes are read as a line exactly where they write it.
-use Rattle.std.proofs.Common.{◌≡◌, ◌≢◌, ℕ, Bool, true, false, cond, List, [], ◌∷◌, Option, Some, None, Result, Ok, Err, refl, sym, ap, subst, ◌∙◌}
+use Rattle.std.proofs.Common.{◌≡◌, ℕ, true, false, cond, List, [], ◌∷◌, Option, Some, Result, Ok, Err, refl, sym, ap, subst, ◌∙◌}
 use Rattle.std.specs.Prelude.{codes, bytes_eq, option_map, IfOk}
 use Rattle.std.proofs.lemmas.Slice.Eq.{bytes_eq-Decides}
 use Rattle.ksm_script.specs.declared.line.Line.{Line}
 use Rattle.ksm_script.specs.declared.line.Line.TheVariants.{Empty, Register, Drop, Store, Get, Ticket, Mappers, ScanPages, Scan, Prune, Unmerge, Mergeable, MovePage, MoveDup, Set, Show, Stat}
 use Rattle.ksm_script.specs.declared.line.LineFault.{LineFault}
-use Rattle.ksm_script.specs.declared.line.LineFault.TheVariants.{Bad}
-use Rattle.ksm_script.specs.Grammar.{words_of, Part, name, guest, number, content, IsWritten, AreWritten, parts_of, Writes}
+use Rattle.ksm_script.specs.Grammar.{Part, name, guest, number, content, IsWritten, AreWritten, parts_of}
 use Rattle.ksm_script.specs.Content.{content_of}
 use Rattle.ksm_script.specs.Knobs.{knob_name}
 use Rattle.ksm_base.specs.declared.page.GuestPage.{GuestPage}
@@ -185,23 +184,52 @@ AllTake [] = Unit {0}
 AllTake (form ∷ later) = Takes form × AllTake later
 
 all_take : AllTake forms
-all_take =
-    (name_alone_takes [] Empty (refl, tt),
-    (register_takes,
-    (page_form_takes (codes "drop") Drop (λ page. refl),
-    (store_takes,
-    (page_form_takes (codes "get") Get (λ page. refl),
-    (page_form_takes (codes "ticket") Ticket (λ page. refl),
-    (word_form_takes (codes "rmap") number_of Mappers number (λ a. refl) number_written,
-    (scan_takes,
-    (name_alone_takes (codes "prune") Prune (refl, tt),
-    (word_form_takes (codes "unmerge") guest_of Unmerge guest (λ a. refl) guest_written,
-    (word_form_takes (codes "mergeable") guest_of Mergeable guest (λ a. refl) guest_written,
-    (move_page_takes,
-    (move_dup_takes,
-    (set_takes,
-    (word_form_takes (codes "show") knob_of Show (λ knob. name (knob_name knob)) (λ a. refl) knob_written,
-    (name_alone_takes (codes "stat") Stat (refl, tt), tt))))))))))))))))
+all_take = (
+  name_alone_takes [] Empty (refl, tt),
+  (
+    register_takes,
+    (
+      page_form_takes (codes "drop") Drop (λ page. refl),
+      (
+        store_takes,
+        (
+          page_form_takes (codes "get") Get (λ page. refl),
+          (
+            page_form_takes (codes "ticket") Ticket (λ page. refl),
+            (
+              word_form_takes (codes "rmap") number_of Mappers number (λ a. refl) number_written,
+              (
+                scan_takes,
+                (
+                  name_alone_takes (codes "prune") Prune (refl, tt),
+                  (
+                    word_form_takes (codes "unmerge") guest_of Unmerge guest (λ a. refl) guest_written,
+                    (
+                      word_form_takes (codes "mergeable") guest_of Mergeable guest (λ a. refl) guest_written,
+                      (
+                        move_page_takes,
+                        (
+                          move_dup_takes,
+                          (
+                            set_takes,
+                            (
+                              word_form_takes (codes "show") knob_of Show (λ knob. name (knob_name knob)) (λ a. refl) knob_written,
+                              (name_alone_takes (codes "stat") Stat (refl, tt), tt),
+                            ),
+                          ),
+                        ),
+                      ),
+                    ),
+                  ),
+                ),
+              ),
+            ),
+          ),
+        ),
+      ),
+    ),
+  ),
+)
 
 named_takes : (later : List Form) (text : List ℕ) (words : List (List ℕ)) (line : Line) → AllTake later
     → named_line later text words ≡ Some line → AreWritten (parts_of line) (text ∷ words)

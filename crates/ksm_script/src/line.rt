@@ -5,7 +5,8 @@ ghost use Rattle.ksm_script.specs.Grammar.{Writes};
 ghost use Rattle.ksm_script.specs.Reading.{Gives, words_left, forms, named_line, name_alone, register_at, store_at, scan_at, move_page_at, move_dup_at, set_at};
 
 use crate::field::{
-    content_alone, cut, ended, guest_alone, is, knob, knob_alone, number, number_alone, page, page_alone,
+    content_alone, cut, ended, guest_alone, is, knob, knob_alone, number, number_alone, page,
+    page_alone,
 };
 use crate::knob::Knob;
 use ksm_base::{GuestPage, PageBytes};
@@ -23,33 +24,61 @@ pub enum Line {
         bytes: PageBytes,
     },
     /// `drop G P`
-    Drop { page: GuestPage },
+    Drop {
+        page: GuestPage,
+    },
     /// `put G P HEX`
-    Store { page: GuestPage, bytes: PageBytes },
+    Store {
+        page: GuestPage,
+        bytes: PageBytes,
+    },
     /// `get G P`
-    Get { page: GuestPage },
+    Get {
+        page: GuestPage,
+    },
     /// `ticket G P`
-    Ticket { page: GuestPage },
+    Ticket {
+        page: GuestPage,
+    },
     /// `rmap PLACE`
-    Mappers { place: u32 },
+    Mappers {
+        place: u32,
+    },
     /// `scan`: as many visits as the knob `pages_to_scan` says.
     ScanPages,
     /// `scan N`
-    Scan { visits: u32 },
+    Scan {
+        visits: u32,
+    },
     /// `prune`
     Prune,
     /// `unmerge G`
-    Unmerge { guest: u16 },
+    Unmerge {
+        guest: u16,
+    },
     /// `mergeable G`
-    Mergeable { guest: u16 },
+    Mergeable {
+        guest: u16,
+    },
     /// `move G P NODE`
-    MovePage { page: GuestPage, node: u32 },
+    MovePage {
+        page: GuestPage,
+        node: u32,
+    },
     /// `movedup PLACE NODE`
-    MoveDup { place: u32, node: u32 },
+    MoveDup {
+        place: u32,
+        node: u32,
+    },
     /// `set KNOB V`
-    Set { knob: Knob, value: u32 },
+    Set {
+        knob: Knob,
+        value: u32,
+    },
     /// `show KNOB`
-    Show { knob: Knob },
+    Show {
+        knob: Knob,
+    },
     /// `stat`
     Stat,
 }
