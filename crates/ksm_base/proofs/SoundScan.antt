@@ -37,7 +37,7 @@ settled_calmer r = record { page = refl; state = settled_keeps r.state; home = �
 pub sound_none_waiting : (b : BookState) → IsSound b → IsSound (with_none_waiting b)
 sound_none_waiting b s = sound_calmed b settled settled_calmer s.homes s
 
-sound_ended_at_last : (b : BookState) → IsSound b → IsSound (pass_ended_at_last b)
+pub sound_ended_at_last : (b : BookState) → IsSound b → IsSound (pass_ended_at_last b)
 sound_ended_at_last b s = cond_both _ (pass_ended b) b IsSound (λ _. sound_pass_ended b s) (λ _. s)
 
 sound_begun : (b : BookState) → IsSound b → IsSound (pass_begun b)
@@ -61,7 +61,7 @@ module _ (b : BookState) (row : Row) (visited : IsVisited b row) (s : IsSound b)
   sound_placed w (Some place) waits chosen = sound_made b w row place (partner_pairs b w row s visited waits) (new_place_free b place s chosen) s
   sound_placed w None waits chosen = s
 
-  sound_paired : (w : Option Row) → partner b.knobs b.rows row ≡ w → IsSound (paired w b row)
+  pub sound_paired : (w : Option Row) → partner b.knobs b.rows row ≡ w → IsSound (paired w b row)
   sound_paired (Some w) waits = sound_placed w (new_place (place_count b.shape) b.rows b.dups) waits refl
   sound_paired None alone = sound_waiting b row visited alone s
 
@@ -75,11 +75,11 @@ module _ (b : BookState) (row : Row) (visited : IsVisited b row) (s : IsSound b)
       cond_both row.unchanged (paired (partner b.knobs b.rows row) b row) (record b { rows = change_row row.page (λ r. record r { unchanged = true; state = Private }) b.rows }) IsSound
       (λ _. sound_paired (partner b.knobs b.rows row) refl) (λ _. sound_marked)
 
-  sound_row_visited : IsSound (row_visited b row)
+  pub sound_row_visited : IsSound (row_visited b row)
   sound_row_visited =
       cond_both (merged_state row.state) b (handled (best_dup b.knobs b.rows b.dups row) b row) IsSound (λ _. s) (λ _. sound_handled (best_dup b.knobs b.rows b.dups row) refl)
 
-sound_visit_of : (b : BookState) (row : Option Row) → next_row b.cursor b.rows ≡ row → IsSound b → IsSound (visit_of b row)
+pub sound_visit_of : (b : BookState) (row : Option Row) → next_row b.cursor b.rows ≡ row → IsSound b → IsSound (visit_of b row)
 sound_visit_of b None found s = s
 sound_visit_of b (Some row) found s =
     let done = row_visited b row in

@@ -2,6 +2,11 @@
 use Rattle.std.proofs.Common.{◌≡◌, ℕ, ◌<◌, Bool, true, false, List, [], ◌∷◌, length, get_or, set, Option, Some, None, refl, sym, ap, ◌∙◌, subst, arith}
 use Rattle.std.specs.Prelude.{All, position, is_some, MatchOption}
 use Rattle.std.proofs.lemmas.Option.{same_Some}
+use Rattle.std.proofs.lemmas.List.{set-get_or}
+use Rattle.std.proofs.lemmas.Bool.{cond_both, eq-eqb}
+use Rattle.std.specs.Prelude.{◌==◌, if◌then◌else◌}
+use Rattle.ksm_base.specs.declared.row.PageState.TheVariants.{Private}
+use Rattle.ksm_base.specs.Apply.{moved}
 use Rattle.ksm_base.specs.declared.page.GuestPage.{GuestPage}
 use Rattle.ksm_base.specs.declared.row.Row.{Row}
 use Rattle.ksm_base.specs.Rows.{same_page, row_at, InPageOrder, change_row}
@@ -42,3 +47,17 @@ found_known page rows row new found same = ap (λ p. is_some (row_at p rows)) (s
 
 pub found_as : (fact : Row → Type 0) (page : GuestPage) (rows : List Row) (row new : Row) → row_at page rows ≡ Some row → new.page ≡ row.page → fact row → Knows rows new fact
 found_as fact page rows row new found same h = subst (λ (o : Option Row). MatchOption o ⊥ fact) (sym (ap (λ p. row_at p rows) (same ∙ found_page page rows row found) ∙ found)) h
+
+-- a change that leaves the row found as it is changes nothing
+pub change_nothing : (page : GuestPage) (f : Row → Row) (rows : List Row) (row : Row) → InPageOrder rows → row_at page rows ≡ Some row → f row ≡ row → change_row page f rows ≡ rows
+change_nothing page f rows row rise found same =
+    let at = found_at page rows row found in
+    sym (change_found page f rows at.0 row rise at.1) ∙ ap (set rows at.0) (ap f at.2 ∙ same ∙ sym at.2) ∙ set-get_or rows at.0 row
+
+-- a page that moves
+pub moved_page : (node : ℕ) (r : Row) → (moved node r).page ≡ r.page
+moved_page node r = cond_both (r.home == node) r (record r { home = node; state = Private }) (λ x. x.page ≡ r.page) (λ _. refl) (λ _. refl)
+
+pub moved_home : (node : ℕ) (r : Row) → r.home ≡ node → moved node r ≡ r
+moved_home node r same = ap (λ b. if b then r else record r { home = node; state = Private }) (eq-eqb r.home node same)
+

@@ -75,6 +75,23 @@ own_item OwnPage e n = refl
 own_item Waiting e n = refl
 own_item (Merged d) e n = absurd (grind (arith, e))
 
+-- a row that may stand in the stead of another is served by its frame
+module _ (sh : Shape) (across : ℕ) (k : Ledger) (rows : List Row) (frames : List ℕ) (dups : List DupRow) (hand : Option ℕ) (p : Placed sh across k rows frames dups hand) (old r : Row) (f : ℕ) (fits : Serves sh k dups old f) where
+  same_state : r.state ≡ old.state → r.home ≡ old.home → r.bytes ≡ old.bytes → Serves sh k dups r f
+  same_state s home bytes = subst (λ (z : PageState × ℕ × List ℕ). Serves sh k dups (record { page = r.page; home = z.1; bytes = z.2; mergeable = r.mergeable; unchanged = r.unchanged; state = z.0 }) f) (λ t. (sym s t, sym home t, sym bytes t))
+      (record { frame = fits.0.frame; kind = fits.0.kind; content = fits.0.content; given = fits.0.given; node = fits.0.node },
+       λ j d lt. let a = fits.1 j d lt in record { item = a.item; back = a.back })
+
+  both_own : merged_state old.state ≡ false → merged_state r.state ≡ false → r.home ≡ old.home → r.bytes ≡ old.bytes → Serves sh k dups r f
+  both_own was now home bytes =
+      let kind : (frame_at k f).kind ≡ Private = fits.0.kind ∙ own_kind old.state was in
+      (record { frame = fits.0.frame; kind = kind ∙ sym (own_kind r.state now); content = fits.0.content ∙ sym bytes; given = fits.0.given; node = λ _. fits.0.node was ∙ sym home },
+       own_agrees sh across k rows frames dups hand p r f (own_item r.state now) kind)
+
+  pub lodged : LodgesAs r old → Serves sh k dups r f
+  lodged (home, bytes, inl s) = same_state s home bytes
+  lodged (home, bytes, inr own) = both_own own.0 own.1 home bytes
+
 module _ (sh : Shape) (v : Listed) (dups : List DupRow) (knobs : Knobs) (next : ℕ) (k : KeeperView) (h : IsLaid sh v dups knobs next k) where
   abbrev across : ℕ
   across = knobs.merge_across_nodes
@@ -140,23 +157,9 @@ module _ (sh : Shape) (v : Listed) (dups : List DupRow) (knobs : Knobs) (next : 
       small = h.small;
       same = h.same;
       placed = subst (λ (z : List Row × List ℕ). Placed sh across k.ledger z.0 z.1 dups None) (λ t. (sym rows t, sym (frames ∙ ap (set v.frames i) (sym at.frame_is) ∙ set-get_or v.frames i 0) t))
-        (rewritten sh across k.ledger v.rows v.frames dups None i r at.inside h.placed (subst (λ x. Serves sh k.ledger dups r x) (sym at.frame_is) (lodged lodges)));
+        (rewritten sh across k.ledger v.rows v.frames dups None i r at.inside h.placed (subst (λ x. Serves sh k.ledger dups r x) (sym at.frame_is) (lodged sh across k.ledger v.rows v.frames dups None h.placed page_row r f found_fits lodges)));
       spent = h.spent;
     }
-      where
-      same_state : r.state ≡ page_row.state → r.home ≡ page_row.home → r.bytes ≡ page_row.bytes → Serves sh k.ledger dups r f
-      same_state s home bytes = subst (λ (z : PageState × ℕ × List ℕ). Serves sh k.ledger dups (record { page = r.page; home = z.1; bytes = z.2; mergeable = r.mergeable; unchanged = r.unchanged; state = z.0 }) f) (λ t. (sym s t, sym home t, sym bytes t))
-          (record { frame = found_fits.0.frame; kind = found_fits.0.kind; content = found_fits.0.content; given = found_fits.0.given; node = found_fits.0.node },
-           λ j d lt. let a = found_fits.1 j d lt in record { item = a.item; back = a.back })
-      both_own : merged_state page_row.state ≡ false → merged_state r.state ≡ false → r.home ≡ page_row.home → r.bytes ≡ page_row.bytes → Serves sh k.ledger dups r f
-      both_own was now home bytes =
-          let kind : n.kind ≡ Private = found_fits.0.kind ∙ own_kind page_row.state was in
-          (record { frame = found_fits.0.frame; kind = kind ∙ sym (own_kind r.state now); content = found_fits.0.content ∙ sym bytes; given = found_fits.0.given; node = λ _. found_fits.0.node was ∙ sym home },
-           own_agrees sh across k.ledger v.rows v.frames dups None h.placed r f (own_item r.state now) kind)
-      lodged : LodgesAs r page_row → Serves sh k.ledger dups r f
-      lodged (home, bytes, inl s) = same_state s home bytes
-      lodged (home, bytes, inr own) = both_own own.0 own.1 home bytes
-
     pub own_writable : IsOnItsOwn r page_row → IsWritable n.kind
     own_writable own = subst IsWritable (sym (found_fits.0.kind ∙ own_kind page_row.state own.0)) tt
 

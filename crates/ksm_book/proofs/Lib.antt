@@ -9,3 +9,9 @@ pub mod Taken
 pub mod Ranks
 pub mod Laying
 pub mod Found
+pub mod RowLists
+pub mod RowWalks
+pub mod Withdrawn
+pub mod Sharing
+pub mod Visiting
+pub mod Pruning

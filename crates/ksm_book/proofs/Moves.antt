@@ -357,7 +357,7 @@ all_with P d dups here there =
       (All-cons P d higher here
         (λ k x lt. (All-filter (λ e. nat_lt d.place e.place) Q dups there k x lt) (λ e. let l : d.place < (get_or higher k x).place = ltb-true _ _ (filter_passes (λ e. nat_lt d.place e.place) dups k x lt) in omega arith)))
 
-filter_back : (t : DupRow → Bool) (P : DupRow → Type 0) (xs : List DupRow) → All P (filter t xs) → All (λ x. t x ≡ true → P x) xs
+pub filter_back : (t : DupRow → Bool) (P : DupRow → Type 0) (xs : List DupRow) → All P (filter t xs) → All (λ x. t x ≡ true → P x) xs
 filter_back t P [] h = λ k x lt. absurd (omega arith)
 filter_back t P (x ∷ xs) h = elim (cases_Bool (t x)) [
   | inl yes' ↦

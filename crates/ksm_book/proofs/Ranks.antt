@@ -2,6 +2,7 @@
 use Rattle.std.proofs.Common.{inl, inr, ◌≡◌, ℕ, zero, suc, ◌+◌, ◌<◌, ◌≤◌, Bool, true, false, List, [], ◌∷◌, length, get_or, set, Option, Some, None, refl, sym, ap, ◌∙◌, subst, arith, length-set, get_or-set_same, get_or-set_other}
 use Rattle.std.specs.Prelude.{All, filter, insert, remove, is_some}
 use Rattle.std.proofs.lemmas.List.{get_or_default}
+use Rattle.std.proofs.lemmas.Option.{same_Some}
 use mathlib.Core.Logic.{dite}
 use native.Mathlib.Decide.{ℕ_discrete}
 use Rattle.ksm_base.specs.declared.page.GuestPage.{GuestPage}
@@ -136,3 +137,7 @@ listed_map f keeps rows frames h = record { rise = ordered_map f keeps rows h.ri
 
 pub listed_change : (test : Row → Bool) (f : Row → Row) → ((r : Row) → (f r).page ≡ r.page) → (rows : List Row) (frames : List ℕ) → IsListed rows frames → IsListed (change_rows test f rows) frames
 listed_change test f keeps rows frames h = listed_map (λ r. if test r then f r else r) (λ r. cond_both (test r) (f r) r (λ x. x.page ≡ r.page) (λ _. keeps r) (λ _. refl)) rows frames h
+
+-- the row that stands at a page is the one found
+pub stands_as : (v : Listed) (rows : List Row) (page : GuestPage) (r r' : Row) (f : ℕ) → StandsAt v page r f → v.rows ≡ rows → row_at page rows ≡ Some r' → StandsAt v page r' f
+stands_as v rows page r r' f at e found = subst (λ x. StandsAt v page x f) (same_Some r r' (sym at.found ∙ ap (row_at page) e ∙ found)) at

@@ -1,13 +1,13 @@
 -- Rows, dups and knobs, as they lie in the keeper's frames (own).
-use Rattle.std.specs.Prelude.{◌≡◌, ℕ, ◌≤◌, Bool, true, false, List, [], ◌∷◌, Option, None, MatchBool, MatchOption, ◌⊎◌}
+use Rattle.std.specs.Prelude.{◌≡◌, ℕ, ◌<◌, ◌≤◌, Bool, true, false, not, ◌==◌, List, [], ◌∷◌, All, Contains, Option, None, Some, MatchBool, MatchOption, ◌⊎◌}
 use Rattle.ksm_base.specs.declared.shape.Shape.{Shape}
 use Rattle.ksm_base.specs.declared.knobs.Knobs.{Knobs}
 use Rattle.ksm_base.specs.declared.page.GuestPage.{GuestPage}
 use Rattle.ksm_base.specs.declared.row.Row.{Row}
 use Rattle.ksm_base.specs.declared.row.DupRow.{DupRow}
-use Rattle.ksm_base.specs.Rows.{merged_state, row_at}
-use Rattle.ksm_base.specs.State.{BookState}
-use Rattle.ksm_base.specs.Values.{IsShape}
+use Rattle.ksm_base.specs.Rows.{merged_state, merged_into, item_count, row_at}
+use Rattle.ksm_base.specs.State.{BookState, tree_of}
+use Rattle.ksm_base.specs.Values.{IsShape, frames_of}
 use Rattle.frame_table.specs.Named.{KeeperView}
 use Rattle.ksm_book.specs.Placement.{Placed}
 use Rattle.ksm_book.specs.Steps.{Does, Did, puts, loads}
@@ -59,6 +59,36 @@ IsOnItsOwn row r = (merged_state r.state ≡ false) × (row.home ≡ r.home)
 -- a row may stand in the stead of another on the same frame
 abbrev pub LodgesAs : Row → Row → Type 0
 LodgesAs row r = (row.home ≡ r.home) × (row.bytes ≡ r.bytes) × ((row.state ≡ r.state) ⊎ ((merged_state r.state ≡ false) × (merged_state row.state ≡ false)))
+
+-- a row with a frame of its own may join the dup of an item
+pub record Joins (lay : Lay) (row item : Row) : Type 0 where
+  pub row_is : row_at row.page lay.rows ≡ Some row
+  pub item_is : row_at item.page lay.rows ≡ Some item
+  pub alone : merged_state row.state ≡ false
+  pub merged : merged_state item.state ≡ true
+  pub bytes : row.bytes ≡ item.bytes
+  pub room : (d : DupRow) × Contains lay.dups d × (merged_into d.number item.state ≡ true) × (item_count lay.rows d ≤ 1023)
+
+-- no dup with items stands at the place
+abbrev pub IsVacant : ℕ → List Row → List DupRow → Type 0
+IsVacant place rows dups = All (λ d. d.place ≡ place → item_count rows d ≡ 0) dups
+
+-- the dup stands at another place
+abbrev pub elsewhere : ℕ → DupRow → Bool
+elsewhere place d = not (d.place == place)
+
+-- the dup that is made of a row at a place
+abbrev pub new_dup : Lay → ℕ → Row → DupRow
+new_dup lay place row = record { number = lay.next; place = place; tree = tree_of lay.knobs row; bytes = row.bytes }
+
+-- a row may become the first item of a new dup at the place
+pub record Founds (lay : Lay) (place : ℕ) (row : Row) : Type 0 where
+  pub row_is : row_at row.page lay.rows ≡ Some row
+  pub alone : merged_state row.state ≡ false
+  pub inside : place < frames_of lay.shape
+  pub vacant : IsVacant place lay.rows lay.dups
+  pub numbers : All (λ d. d.number < lay.next) lay.dups
+  pub fresh : All (λ r. merged_into lay.next r.state ≡ false) lay.rows
 
 -- the keeper stored the bytes to a frame, each word once
 abbrev pub Stores : KeeperView → KeeperView → List ℕ → Type 0

@@ -1,11 +1,13 @@
 //! The dups in the order of their places, each place and each number once.
 
-ghost use Rattle.std.specs.Prelude.{◌≡◌, ◌≤◌, ◌<◌, [], All, Err, None, Some, filter, count_by, find, length, not, nat_lt, option_copied, option_map, OnOk, OnErr, ◌&&◌, ◌||◌, ◌==◌};
+ghost use Rattle.std.specs.Prelude.{◌≡◌, ◌≤◌, ◌<◌, [], All, Err, None, Some, filter, count_by, find, length, not, nat_lt, option_copied, option_map, IfSome, OnOk, OnErr, ◌&&◌, ◌||◌, ◌==◌};
 ghost use Rattle.std.specs.List.{list_all, list_any};
 ghost use Rattle.ksm_base.specs.declared.fault.Fault.TheVariants.{Memory};
 ghost use Rattle.ksm_base.specs.Counting.{group_size as size_of_group, in_chain as is_in_chain, leads_group as is_leading};
 ghost use Rattle.ksm_base.specs.Rows.{item_count as items_of, has_items as is_live, is_stale as stale, same_group as in_same_group, InPlaceOrder, with_dup, dup_numbered};
 ghost use Rattle.ksm_base.specs.Visit.{may_join as is_candidate, is_no_worse as no_worse_than, best_dup as the_best, is_no_rival as no_rival, is_best as best_one, empty_place as an_empty_place, new_place as a_new_place};
+
+ghost use Rattle.ksm_book.specs.Laid.{IsVacant};
 
 use crate::row::{same_bytes, tree_of};
 use crate::rows::Rows;
@@ -67,7 +69,8 @@ impl Dups {
 
     /// The least place of a stale dup.
     pub fn stale_place(&self, rows: &Rows) -> Option<u32>
-        ensures { result ≡ option_map (λ d. d.place) (find (stale rows.now.rows) self.now) }
+        ensures place { result ≡ option_map (λ d. d.place) (find (stale rows.now.rows) self.now) }
+        ensures vacant { IfSome result (λ place. IsVacant place rows.now.rows self.now) }
     {
         match first_stale(rows, &self.dups) {
             Some(dup) => Some(dup.place),

@@ -1,11 +1,11 @@
 //! What the book has the keeper do with frames: find one and fill it, write it and read it, share it and give it back.
 
-ghost use Rattle.std.specs.Prelude.{◌≡◌, ◌<◌, ◌≤◌, ◌+◌, ◌*◌, ℕ, None, Some, MatchOption, [], ◌∷◌, length, Option};
+ghost use Rattle.std.specs.Prelude.{◌≡◌, ◌<◌, ◌≤◌, ◌+◌, ◌*◌, ℕ, false, None, Some, MatchOption, [], ◌∷◌, length, slice_set, Option};
 ghost use Rattle.ksm_base.specs.declared.page.TheConstants.{PAGE_WORDS as WORDS};
 ghost use Rattle.ksm_base.specs.Values.{frames_of, IsShape};
 ghost use Rattle.frame_core.specs.declared.event.KeeperStep.TheVariants.{Raise, Open, Sub, Add};
 ghost use Rattle.frame_core.specs.declared.frame.Kind.TheVariants.{Free as FreeKind, Stable as StableKind};
-ghost use Rattle.frame_core.specs.Ledger.{frame_at, IsReadable, IsWritable};
+ghost use Rattle.frame_core.specs.Ledger.{frame_at, named_at, IsLoose, IsReadable, IsWritable};
 ghost use Rattle.frame_table.specs.Kept.{did};
 ghost use Rattle.ksm_book.specs.Steps.{free_kind, dying_kind, HasNoFree, IsLowestFree, Does};
 ghost use Rattle.ksm_book.specs.Keeping.{Reaped, IsLawful, Sought, Took, Wrote, Loaded, Keeps, spent};
@@ -148,4 +148,19 @@ pub fn share(keeper: &mut Keeper, table: &FrameTable, frame: u32)
     ensures spent { spent keeper.old.ledger ≤ spent keeper.new.ledger }
 {
     keeper.add(table, frame);
+}
+
+/// The place names nothing any more; it is withdrawn if it named something.
+pub fn clear(keeper: &mut Keeper, table: &FrameTable, place: u32, taken: bool)
+    requires own { keeper.old.table ≡ table.now }
+    requires inside { place < frames_of keeper.old.table.shape }
+    requires loose { IsLoose keeper.old.ledger (named_at keeper.old.ledger place) }
+    requires empty { taken ≡ false → named_at keeper.old.ledger place ≡ None }
+    ensures own { keeper.new.table ≡ keeper.old.table }
+    ensures does { Does keeper.old keeper.new [] }
+    ensures ledger { keeper.new.ledger ≡ record { frames = keeper.old.ledger.frames; places = slice_set keeper.old.ledger.places place None } }
+{
+    if taken {
+        keeper.withdraw(table, place);
+    }
 }

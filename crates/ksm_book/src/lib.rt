@@ -1,9 +1,15 @@
 //! The book of page sharing: which pages there are, which of them are merged, and on which frames they lie.
 #![tactic(auto)]
 
+mod book;
 mod dups;
+mod entry;
 mod frames;
+mod knobs;
 mod layout;
 mod row;
 mod rows;
+mod scan;
 mod state;
+
+pub use book::Book;

@@ -44,29 +44,29 @@ pub fn is_of(row: &Row, guest: u16) -> bool
     row.page.guest == guest
 }
 
-pub fn is_private(row: &Row) -> bool
-    ensures { result ≡ private_state row.now.state }
+pub fn is_private(state: PageState) -> bool
+    ensures { result ≡ private_state state }
 {
-    matches!(row.state, PageState::Private)
+    matches!(state, PageState::Private)
 }
 
-pub fn is_waiting(row: &Row) -> bool
-    ensures { result ≡ waiting_state row.now.state }
+pub fn is_waiting(state: PageState) -> bool
+    ensures { result ≡ waiting_state state }
 {
-    matches!(row.state, PageState::Waiting)
+    matches!(state, PageState::Waiting)
 }
 
-pub fn is_merged(row: &Row) -> bool
-    ensures { result ≡ merged_state row.now.state }
+pub fn is_merged(state: PageState) -> bool
+    ensures { result ≡ merged_state state }
 {
-    matches!(row.state, PageState::Merged(_))
+    matches!(state, PageState::Merged(_))
 }
 
-/// Whether a row is an item of the dup with this number.
-pub fn is_item(row: &Row, number: u64) -> bool
-    ensures { result ≡ merged_into number row.now.state }
+/// Whether a row in this state is an item of the dup with this number.
+pub fn is_item(state: PageState, number: u64) -> bool
+    ensures { result ≡ merged_into number state }
 {
-    match row.state {
+    match state {
         PageState::Merged(d) => d == number,
         _ => false,
     }
@@ -87,7 +87,7 @@ pub fn tree_of(knobs: &Knobs, row: &Row) -> u32
 pub fn waits_for(knobs: &Knobs, row: &Row, other: &Row) -> bool
     ensures { result ≡ is_waiting_for knobs.now row.now other.now }
 {
-    is_waiting(other)
+    is_waiting(other.state)
         && !same_page(other.page, row.page)
         && tree_of(knobs, other) == tree_of(knobs, row)
         && same_bytes(other.bytes, row.bytes)
@@ -137,7 +137,7 @@ pub fn moved(row: Row, node: u32) -> Row
 pub fn settled(row: Row) -> Row
     ensures { result ≡ as_settled row }
 {
-    if is_waiting(&row) {
+    if is_waiting(row.state) {
         return Row {
             state: PageState::Private,
             ..row

@@ -1,22 +1,25 @@
-//! The rows in the order of their pages, each with the number of its frame.
+//! The rows in an ordered map: each page with what the book knows of it, and the frame that serves it.
 
-ghost use Rattle.std.specs.Prelude.{◌≡◌, ◌<◌, ◌≤◌, [], None, Some, length, filter, find, position, count_by, map, insert, remove, slice_set, option_copied, option_map, MatchOption, OnOk, OnErr, Err, is_some, true, ◌&&◌, if◌then◌else◌};
+ghost use Rattle.std.specs.Prelude.{◌≡◌, ◌<◌, ◌≤◌, [], None, Some, length, filter, find, count_by, map, insert, remove, slice_set, MatchOption, OnOk, OnErr, Err, is_some, true, option_map, ◌&&◌};
 ghost use Rattle.std.specs.List.{list_any};
 ghost use Rattle.ksm_base.specs.declared.fault.Fault.TheVariants.{Memory};
 ghost use Rattle.ksm_base.specs.Refusals.{is_of as is_of_guest};
 ghost use Rattle.ksm_base.specs.Apply.{unshared as as_unshared};
-ghost use Rattle.ksm_base.specs.Rows.{comes_before as is_before, same_page as is_same_page, row_at, with_row, without_page, change_row, change_rows, merged_into, private_state, waiting_state, merged_state, settled as as_settled, InPageOrder};
-ghost use Rattle.ksm_base.specs.Visit.{next_row as row_to_visit, partner as row_waiting, after_cursor as is_after_cursor};
+ghost use Rattle.ksm_base.specs.Rows.{row_at, with_row, without_page, change_row, change_rows, merged_into, private_state, waiting_state, merged_state, settled as as_settled};
+ghost use Rattle.ksm_base.specs.Visit.{next_row as row_to_visit, partner as row_waiting};
 ghost use Rattle.ksm_book.specs.Listed.{rank, StandsAt};
-ghost use Rattle.ksm_book.specs.Plain.{IsAt};
+ghost use Rattle.ksm_book.specs.RowEntries.{row_of, start_after};
+ghost use Rattle.std.specs.Map.Iter.{deref_pair};
 
+use crate::entry::Entry;
 use crate::row::{
-    after_cursor, comes_before, is_item, is_merged, is_of, is_private, is_waiting, same_page,
-    settled, unshared, waits_for, with_mergeable,
+    is_item, is_merged, is_private, is_waiting, settled, unshared, waits_for, with_mergeable,
 };
 use ksm_base::{Fault, GuestPage, Knobs, Row};
 use std::alloc::Global;
+use std::collections::BTreeMap;
 use std::marker::Model;
+use std::ops::Bound;
 
 /// A row with the number of its frame.
 #[derive(Clone, Copy, Debug)]
@@ -28,42 +31,35 @@ pub struct Held {
 /// The rows in the order of their pages, each page once, each with its frame.
 #[derive(Drop)]
 pub struct Rows {
-    rows: Vec<Row>,
-    frames: Vec<u32>,
+    entries: BTreeMap<GuestPage, Entry>,
 }
 
 impl Model for Rows {
-    ghost use Rattle.ksm_book.specs.Listed.{Listed, IsListed};
+    ghost use Rattle.ksm_book.specs.Listed.{Listed};
 
     ghost Value = { Listed };
 
-    ghost view = { λ r. record { rows = r.rows.items; frames = r.frames.items } };
+    ghost use Rattle.ksm_book.specs.RowEntries.{listed};
 
-    ghost invariant = { λ r. IsListed r.rows.items r.frames.items };
+    ghost view = { λ r. listed r.entries.entries };
 }
 
-// The first place of a row of the page.
-fn first_index(rows: &[Row], page: GuestPage) -> Option<usize>
-    ensures { result ≡ position (λ r. is_same_page r.page page) rows.now }
+// The row of the entry that a search found.
+fn row_found(found: Option<(&GuestPage, &Entry)>) -> Option<Row>
+    ensures { result ≡ option_map (λ e. row_of (deref_pair e)) found.entry }
 {
-    rows.iter().position(|r| same_page(r.page, page))
+    let (page, entry) = found?;
+    Some(entry.row(*page))
 }
 
-// Where the row of a page is.
-#[tactic(auto, using(crate::proofs::Lists::index_facts, crate::proofs::Lists::index_known))]
-fn index_of(rows: &[Row], page: GuestPage) -> Option<usize>
-    ensures known { is_some (row_at page rows.now) ≡ is_some result }
-    ensures at { MatchOption result (row_at page rows.now ≡ None) (IsAt rows.now page) }
+// Where the pages after the one visited last begin.
+fn after_cursor(cursor: Option<GuestPage>) -> Bound<GuestPage>
+    ensures { result ≡ start_after cursor }
 {
-    first_index(rows, page)
-}
-
-// How many rows come before a page.
-fn count_before(rows: &[Row], page: GuestPage) -> usize
-    ensures count { result ≡ rank page rows.now }
-    ensures within { result ≤ length rows.now }
-{
-    rows.iter().filter(|r| comes_before(r.page, page)).count()
+    match cursor {
+        None => Bound::Unbounded,
+        Some(last) => Bound::Excluded(last),
+    }
 }
 
 impl Rows {
@@ -72,8 +68,7 @@ impl Rows {
         ensures { result ≡ record { rows = []; frames = [] } }
     {
         Rows {
-            rows: Vec::new(alloc),
-            frames: Vec::new(alloc),
+            entries: BTreeMap::new(alloc),
         }
     }
 
@@ -81,7 +76,8 @@ impl Rows {
     pub fn has(&self, page: GuestPage) -> bool
         ensures { result ≡ is_some (row_at page self.now.rows) }
     {
-        index_of(&self.rows, page).is_some()
+        let _ = self.entries.len();
+        self.entries.contains_key(&page)
     }
 
     /// The row of a page, with its frame.
@@ -89,11 +85,12 @@ impl Rows {
         ensures known { is_some (row_at page self.now.rows) ≡ is_some result }
         ensures at { MatchOption result (row_at page self.now.rows ≡ None) (λ held. StandsAt self.now page held.row held.frame) }
     {
-        match index_of(&self.rows, page) {
+        let _ = self.entries.len();
+        match self.entries.get(&page) {
             None => None,
-            Some(at) => Some(Held {
-                row: self.rows[at],
-                frame: self.frames[at],
+            Some(entry) => Some(Held {
+                row: entry.row(page),
+                frame: entry.frame,
             }),
         }
     }
@@ -111,11 +108,7 @@ impl Rows {
         ensures refused { OnErr result (self.new ≡ self.old) }
         ensures fault { OnErr result (result ≡ Err Memory) }
     {
-        self.rows.reserve(1)?;
-        self.frames.reserve(1)?;
-        let at = count_before(&self.rows, row.page);
-        self.rows.insert(at, row)?;
-        self.frames.insert(at, frame)?;
+        let _ = self.entries.insert(row.page, Entry::new(row, frame))?;
         Ok(())
     }
 
@@ -126,11 +119,12 @@ impl Rows {
         ensures frames { self.new.frames ≡ slice_set self.old.frames (rank row.page self.old.rows) frame }
         ensures changed { self.new.rows ≡ change_row row.page (λ _. row) self.old.rows }
     {
-        let Some(at) = index_of(&self.rows, row.page) else {
+        let _ = self.entries.len();
+        let kept = Entry::new(row, frame);
+        let Some(entry) = self.entries.get_mut(&row.page) else {
             return;
         };
-        self.rows[at] = row;
-        self.frames[at] = frame;
+        *entry = kept;
     }
 
     /// Takes the row of a page away, if it has one.
@@ -140,70 +134,91 @@ impl Rows {
         ensures frames { self.new.frames ≡ remove self.old.frames (rank page self.old.rows) }
         ensures gone { self.new.rows ≡ without_page page self.old.rows }
     {
-        let Some(at) = index_of(&self.rows, page) else {
-            return;
-        };
-        let _ = self.rows.remove(at);
-        let _ = self.frames.remove(at);
+        let _ = self.entries.len();
+        let _ = self.entries.remove(&page);
     }
 
     /// The row that is visited next: the least mergeable one after the cursor.
     pub fn next(&self, cursor: Option<GuestPage>) -> Option<Row>
         ensures { result ≡ row_to_visit cursor self.now.rows }
     {
-        next_row(&self.rows, cursor).copied()
+        row_found(
+            self.entries
+                .range((after_cursor(cursor), Bound::Unbounded))
+                .find(|(_, entry)| entry.mergeable),
+        )
     }
 
     /// The row that waits for this one.
     pub fn partner(&self, knobs: &Knobs, row: &Row) -> Option<Row>
         ensures { result ≡ row_waiting knobs.now self.now.rows row.now }
     {
-        partner(&self.rows, knobs, row).copied()
+        row_found(
+            self.entries
+                .iter()
+                .find(|(page, entry)| waits_for(knobs, row, &entry.row(**page))),
+        )
     }
 
     /// The first item of the dup with this number.
     pub fn item(&self, number: u64) -> Option<Row>
         ensures { result ≡ find (λ r. merged_into number r.state) self.now.rows }
     {
-        first_item(&self.rows, number).copied()
+        row_found(
+            self.entries
+                .iter()
+                .find(|(_, entry)| is_item(entry.state, number)),
+        )
     }
 
     pub fn has_guest(&self, guest: u16) -> bool
         ensures { result ≡ list_any (is_of_guest guest) self.now.rows }
     {
-        any_of(&self.rows, guest)
+        self.entries.keys().any(|page| page.guest == guest)
     }
 
     pub fn any_mergeable(&self) -> bool
         ensures { result ≡ list_any (λ r. r.mergeable) self.now.rows }
     {
-        any_mergeable(&self.rows)
+        self.entries.values().any(|entry| entry.mergeable)
     }
 
     /// How many rows are merged into the dup with this number.
     pub fn count_items(&self, number: u64) -> usize
         ensures { result ≡ count_by (λ r. merged_into number r.state) self.now.rows }
     {
-        count_items(&self.rows, number)
+        self.entries
+            .values()
+            .filter(|entry| is_item(entry.state, number))
+            .count()
     }
 
     pub fn count_merged(&self) -> usize
         ensures { result ≡ count_by (λ r. merged_state r.state) self.now.rows }
     {
-        count_merged(&self.rows)
+        self.entries
+            .values()
+            .filter(|entry| is_merged(entry.state))
+            .count()
     }
 
     pub fn count_waiting(&self) -> usize
         ensures { result ≡ count_by (λ r. waiting_state r.state) self.now.rows }
     {
-        count_waiting(&self.rows)
+        self.entries
+            .values()
+            .filter(|entry| is_waiting(entry.state))
+            .count()
     }
 
     /// How many rows are mergeable and Private.
     pub fn count_volatile(&self) -> usize
         ensures { result ≡ count_by (λ r. r.mergeable && private_state r.state) self.now.rows }
     {
-        count_volatile(&self.rows)
+        self.entries
+            .values()
+            .filter(|entry| entry.mergeable && is_private(entry.state))
+            .count()
     }
 
     /// No row waits any more.
@@ -211,7 +226,10 @@ impl Rows {
         ensures rows { self.new.rows ≡ map as_settled self.old.rows }
         ensures frames { self.new.frames ≡ self.old.frames }
     {
-        settle_all(&mut self.rows);
+        self.entries.retain(|page, entry| {
+            entry.set_row(settled(entry.row(*page)));
+            true
+        });
     }
 
     /// All rows of a guest become mergeable.
@@ -219,7 +237,10 @@ impl Rows {
         ensures rows { self.new.rows ≡ change_rows (is_of_guest guest) (λ r. record r { mergeable = true }) self.old.rows }
         ensures frames { self.new.frames ≡ self.old.frames }
     {
-        make_mergeable(&mut self.rows, guest);
+        self.entries.retain(|page, entry| {
+            entry.set_row(with_mergeable(entry.row(*page), guest));
+            true
+        });
     }
 
     /// Every row becomes Private and not unchanged.
@@ -227,85 +248,9 @@ impl Rows {
         ensures rows { self.new.rows ≡ map as_unshared self.old.rows }
         ensures frames { self.new.frames ≡ self.old.frames }
     {
-        unshare_all(&mut self.rows);
-    }
-}
-
-fn next_row(rows: &[Row], cursor: Option<GuestPage>) -> Option<&Row>
-    ensures { option_copied result ≡ row_to_visit cursor rows.now }
-{
-    rows.iter()
-        .find(|r| r.mergeable && after_cursor(cursor, r.page))
-}
-
-fn partner<'a>(rows: &'a [Row], knobs: &Knobs, row: &Row) -> Option<&'a Row>
-    ensures { option_copied result ≡ row_waiting knobs.now rows.now row.now }
-{
-    rows.iter().find(|r| waits_for(knobs, row, r))
-}
-
-fn first_item(rows: &[Row], number: u64) -> Option<&Row>
-    ensures { option_copied result ≡ find (λ r. merged_into number r.state) rows.now }
-{
-    rows.iter().find(|r| is_item(r, number))
-}
-
-fn any_of(rows: &[Row], guest: u16) -> bool
-    ensures { result ≡ list_any (is_of_guest guest) rows.now }
-{
-    rows.iter().any(|r| is_of(r, guest))
-}
-
-fn any_mergeable(rows: &[Row]) -> bool
-    ensures { result ≡ list_any (λ r. r.mergeable) rows.now }
-{
-    rows.iter().any(|r| r.mergeable)
-}
-
-fn count_items(rows: &[Row], number: u64) -> usize
-    ensures { result ≡ count_by (λ r. merged_into number r.state) rows.now }
-{
-    rows.iter().filter(|r| is_item(r, number)).count()
-}
-
-fn count_merged(rows: &[Row]) -> usize
-    ensures { result ≡ count_by (λ r. merged_state r.state) rows.now }
-{
-    rows.iter().filter(|r| is_merged(r)).count()
-}
-
-fn count_waiting(rows: &[Row]) -> usize
-    ensures { result ≡ count_by (λ r. waiting_state r.state) rows.now }
-{
-    rows.iter().filter(|r| is_waiting(r)).count()
-}
-
-fn count_volatile(rows: &[Row]) -> usize
-    ensures { result ≡ count_by (λ r. r.mergeable && private_state r.state) rows.now }
-{
-    rows.iter().filter(|r| r.mergeable && is_private(r)).count()
-}
-
-fn settle_all(rows: &mut Vec<Row>)
-    ensures { rows.new.items ≡ map as_settled rows.old.items }
-{
-    for row in rows.iter_mut() {
-        *row = settled(*row);
-    }
-}
-
-fn make_mergeable(rows: &mut Vec<Row>, guest: u16)
-    ensures { rows.new.items ≡ change_rows (is_of_guest guest) (λ r. record r { mergeable = true }) rows.old.items }
-{
-    for row in rows.iter_mut() {
-        *row = with_mergeable(*row, guest);
-    }
-}
-
-fn unshare_all(rows: &mut Vec<Row>)
-    ensures { rows.new.items ≡ map as_unshared rows.old.items }
-{
-    for row in rows.iter_mut() {
-        *row = unshared(*row);
+        self.entries.retain(|page, entry| {
+            entry.set_row(unshared(entry.row(*page)));
+            true
+        });
     }
 }

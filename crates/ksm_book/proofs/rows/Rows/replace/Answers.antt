@@ -1,26 +1,38 @@
-use Rattle.std.proofs.Common.{◌≡◌, ◌∙◌, sym, ap, set}
-use Rattle.ksm_base.specs.Rows.{change_row}
-use Rattle.ksm_book.specs.Listed.{rank}
-use Rattle.ksm_book.specs.Plain.{IsAt}
-use Rattle.ksm_book.specs.Placement.{no_row}
-use Rattle.ksm_book.proofs.Lists.{change_found}
-use Rattle.ksm_book.proofs.Ranks.{rank_at, listed_set}
+use Rattle.std.proofs.Common.{◌≡◌, sym, ◌∙◌, ap, true, false, arith}
+use Rattle.std.specs.Prelude.{is_some}
+use Rattle.std.specs.Option.{option_copied_mut}
+use Rattle.std.specs.Map.{set_value}
+use Rattle.ksm_base.specs.Rows.{row_at}
+use Rattle.ksm_book.specs.Listed.{Listed}
+use Rattle.ksm_book.specs.RowEntries.{listed}
+use Rattle.ksm_book.proofs.RowLists.{asks, known_by, Replaced, replaced}
 use Rattle.ksm_book.proofs.rows.Rows.replace.Goals as goal
 
-found : (c : goal.After-self-2-1) → IsAt c.self.inside.rows.items c.args.row.page c.in-Some.at
-found c = rw (← c.deref.ensures.value) c.in-Some.ensures.at
+-- the page has a row, so it has an entry
+never : (c : goal.After-self-in_default-2-1) → ⊥
+never c =
+    let none : is_some (row_at c.args.row.page c.args.self.now.rows) ≡ false = ap (λ (l : Listed). is_some (row_at c.args.row.page l.rows)) (sym c.self.view_is) ∙ known_by c.args.row.page c.self.inside.entries.entries
+        ∙ ap is_some (sym c.get_mut.ensures.value ∙ ap option_copied_mut c.in_default.is) in
+    grind (arith, none, c.requires)
 
-place : (c : goal.After-self-2-1) → c.in-Some.at ≡ rank c.args.row.page c.args.self.now.rows
-place c = sym (rank_at c.args.row.page c.self.inside.rows.items c.in-Some.at c.self.invariant.rise (found c)) ∙ ap (λ x. rank c.args.row.page x.rows) c.self.view_is
+pub returns-in_default-clause-rows : goal.returns-in_default-clause-rows
+returns-in_default-clause-rows c = absurd (never c)
 
-pub invariant_of-self : goal.invariant_of-self
-invariant_of-self c = listed_set c.self.inside.rows.items c.self.inside.frames.items c.in-Some.at c.args.row c.args.frame c.self.invariant (found c)
+pub returns-in_default-clause-frames : goal.returns-in_default-clause-frames
+returns-in_default-clause-frames c = absurd (never c)
+
+pub returns-in_default-clause-changed : goal.returns-in_default-clause-changed
+returns-in_default-clause-changed c = absurd (never c)
+
+written : (c : goal.After-self-2-1) → Replaced c.args.self.now (listed (c.get_mut.follows.lender c.new-kept.result).entries) c.args.row c.args.frame
+written c = replaced c.self.inside.entries.entries (c.get_mut.follows.lender c.new-kept.result).entries c.args.self.now c.args.row c.args.frame c.self.view_is c.len.ensures.ordered c.requires
+    ((c.get_mut.follows.holds c.new-kept.result).0 ∙ ap (set_value (asks c.args.row.page) c.self.inside.entries.entries) c.new-kept.ensures)
 
 pub returns-clause-rows : goal.returns-clause-rows
-returns-clause-rows c = λ t. set (c.self.view_is t).rows (place c t) c.args.row
+returns-clause-rows c = (written c).rows
 
 pub returns-clause-frames : goal.returns-clause-frames
-returns-clause-frames c = λ t. set (c.self.view_is t).frames (place c t) c.args.frame
+returns-clause-frames c = (written c).frames
 
 pub returns-clause-changed : goal.returns-clause-changed
-returns-clause-changed c = change_found c.args.row.page (λ _. c.args.row) c.self.inside.rows.items c.in-Some.at no_row c.self.invariant.rise (found c) ∙ ap (λ x. change_row c.args.row.page (λ _. c.args.row) x.rows) c.self.view_is
+returns-clause-changed c = (written c).changed
