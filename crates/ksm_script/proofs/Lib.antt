@@ -1,4 +1,4 @@
-pub mod Tests
+pub mod Booleans
 pub mod Words
 pub mod Numbers
 pub mod Fields

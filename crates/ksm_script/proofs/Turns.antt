@@ -1,12 +1,11 @@
 -- A run goes on by one line.
-use Rattle.std.proofs.Common.{◌≡◌, ◌≢◌, ℕ, ◌+◌, ◌≤◌, List, [], ◌∷◌, ◌++◌, length, Option, Result, Ok, Err, ap, ◌∙◌, sym, subst, append_assoc, inl, inr, refl, arith}
+use Rattle.std.proofs.Common.{◌≡◌, ◌≢◌, ℕ, ◌+◌, ◌≤◌, List, [], ◌∷◌, ◌++◌, length, Option, Result, Ok, Err, ap, ◌∙◌, sym, subst, append_assoc, inl, inr, refl}
 use Rattle.std.specs.Io.KnownBytes.{Appends, Consumes, IsAtEnd}
 use Rattle.std.proofs.KnownBytes.{Appends-nil, Appends-trans, Consumes-nil, Consumes-trans}
 use Rattle.ksm_base.specs.State.{BookState}
 use Rattle.ksm_script.specs.declared.line.Line.{Line}
 use Rattle.ksm_script.specs.declared.line.LineFault.{LineFault}
 use Rattle.ksm_script.specs.declared.reply.LineReply.{LineReply}
-use Rattle.ksm_script.specs.declared.reply.LineReply.TheVariants.{BadLine as bad_line}
 use Rattle.ksm_script.specs.declared.script.End.{End}
 use Rattle.ksm_script.specs.declared.script.End.TheVariants.{BadLine}
 use Rattle.ksm_script.specs.declared.script.RunFault.{RunFault}
@@ -15,7 +14,7 @@ use Rattle.ksm_script.specs.declared.input.LineEnd.TheVariants.{Newline, Input, 
 use Rattle.ksm_script.specs.Grammar.{Writes}
 use Rattle.ksm_script.specs.Input.{EndsAs, IsPlain}
 use Rattle.ksm_script.specs.Answering.{Answers, reply_text}
-use Rattle.ksm_script.specs.Script.{Answered, none, more, ReadFor, AnsweredAll, AnsweredBefore, IsNoLine, IsBad, IsReadAs, AnsweredToBad}
+use Rattle.ksm_script.specs.Script.{Answered, none, more, ReadFor, AnsweredAll, IsNoLine, IsBad, IsReadAs, AnsweredToBad}
 
 abbrev pub ended : End → Result End RunFault
 ended end = Ok end

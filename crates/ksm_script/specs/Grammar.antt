@@ -2,9 +2,10 @@
 use Rattle.std.specs.Prelude.{◌≡◌, ℕ, ◌^◌, ◌<◌, ◌==◌, List, [], ◌∷◌, Some, codes, decimal}
 use Rattle.std.specs.List.{slice_split}
 use Rattle.ksm_script.specs.declared.line.Line.{Line}
-use Rattle.ksm_script.specs.declared.line.Line.TheVariants.{Empty, Register, Drop, Store, Get, Ticket, Mappers, ScanPages, Scan, Prune, Unmerge, Mergeable, MovePage, MoveDup, Set, Show, Stat}
+use Rattle.ksm_script.specs.declared.line.Line.TheVariants.{Empty, Register, Drop, Store, Get, Ticket, ScanPages, Scan, Prune, Mergeable, MovePage, Set, Show, Stat}
 use Rattle.ksm_script.specs.Content.{content_of}
-use Rattle.ksm_script.specs.Knobs.{knob_name}
+use Rattle.ksm_script.specs.declared.knob.Knob.{Knob}
+use Rattle.ksm_script.specs.Knobs.{knob_name, setting_limit}
 
 -- the words of a line: its bytes, parted at each space
 abbrev pub words_of : List ℕ → List (List ℕ)
@@ -16,6 +17,7 @@ pub data Part : Type 0 where
   guest : ℕ → Part
   number : ℕ → Part
   content : List ℕ → Part
+  setting : Knob → ℕ → Part
 
 -- A name is written by its own bytes, a number by its decimal digits without leading zeros, a page's content in hexadecimal.
 abbrev pub IsWritten : Part → List ℕ → Type 0
@@ -23,6 +25,7 @@ IsWritten (name text) word = word ≡ text
 IsWritten (guest n) word = (n < 2 ^ 16) × (word ≡ decimal n)
 IsWritten (number n) word = (n < 2 ^ 32) × (word ≡ decimal n)
 IsWritten (content page) word = content_of word ≡ Some page
+IsWritten (setting knob n) word = (n < setting_limit knob) × (word ≡ decimal n)
 
 -- as many words as parts, each written by the word at its place
 abbrev pub AreWritten : List Part → List (List ℕ) → Type 0
@@ -39,15 +42,12 @@ parts_of (Drop page) = name (codes "drop") ∷ guest page.guest ∷ number page.
 parts_of (Store page bytes) = name (codes "put") ∷ guest page.guest ∷ number page.page ∷ content bytes ∷ []
 parts_of (Get page) = name (codes "get") ∷ guest page.guest ∷ number page.page ∷ []
 parts_of (Ticket page) = name (codes "ticket") ∷ guest page.guest ∷ number page.page ∷ []
-parts_of (Mappers place) = name (codes "rmap") ∷ number place ∷ []
 parts_of ScanPages = name (codes "scan") ∷ []
 parts_of (Scan visits) = name (codes "scan") ∷ number visits ∷ []
 parts_of Prune = name (codes "prune") ∷ []
-parts_of (Unmerge owner) = name (codes "unmerge") ∷ guest owner ∷ []
 parts_of (Mergeable owner) = name (codes "mergeable") ∷ guest owner ∷ []
 parts_of (MovePage page node) = name (codes "move") ∷ guest page.guest ∷ number page.page ∷ number node ∷ []
-parts_of (MoveDup place node) = name (codes "movedup") ∷ number place ∷ number node ∷ []
-parts_of (Set knob value) = name (codes "set") ∷ name (knob_name knob) ∷ number value ∷ []
+parts_of (Set knob value) = name (codes "set") ∷ name (knob_name knob) ∷ setting knob value ∷ []
 parts_of (Show knob) = name (codes "show") ∷ name (knob_name knob) ∷ []
 parts_of Stat = name (codes "stat") ∷ []
 

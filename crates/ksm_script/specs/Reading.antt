@@ -1,18 +1,18 @@
 -- Reading the words of a line from left to right.
-use Rattle.std.specs.Prelude.{◌≡◌, ℕ, ◌≤◌, ◌^◌, Bool, not, ◌&&◌, ◌||◌, ◌==◌, nat_lt, nat_le, List, [], ◌∷◌, length, Option, Some, None, option_map, option_and_then, Result, Ok, Err, codes, bytes_eq, slice_index, if◌then◌else◌}
+use Rattle.std.specs.Prelude.{◌≡◌, ℕ, ◌^◌, Bool, not, ◌&&◌, ◌||◌, ◌==◌, nat_lt, List, [], ◌∷◌, length, Option, Some, None, option_map, Result, Ok, Err, codes, bytes_eq, slice_index, if◌then◌else◌}
 use Rattle.std.specs.Char.{is_ascii_digit}
 use Rattle.std.specs.List.{list_all}
 use Rattle.std.specs.Str.Parse.{digits_value}
 use denote.Ref.{Bor}
 use Rattle.ksm_base.specs.declared.page.GuestPage.{GuestPage}
 use Rattle.ksm_script.specs.declared.line.Line.{Line}
-use Rattle.ksm_script.specs.declared.line.Line.TheVariants.{Empty, Register, Drop, Store, Get, Ticket, Mappers, ScanPages, Scan, Prune, Unmerge, Mergeable, MovePage, MoveDup, Set, Show, Stat}
+use Rattle.ksm_script.specs.declared.line.Line.TheVariants.{Empty, Register, Drop, Store, Get, Ticket, ScanPages, Scan, Prune, Mergeable, MovePage, Set, Show, Stat}
 use Rattle.ksm_script.specs.declared.line.LineFault.{LineFault}
 use Rattle.ksm_script.specs.declared.knob.Knob.{Knob}
 use Rattle.ksm_script.specs.declared.knob.Knob.TheVariants.{Run, PagesToScan, MergeAcrossNodes, MaxPageSharing}
 use Rattle.ksm_script.specs.Content.{content_of}
 use Rattle.ksm_script.specs.Grammar.{words_of}
-use Rattle.ksm_script.specs.Knobs.{knob_name}
+use Rattle.ksm_script.specs.Knobs.{knob_name, setting_limit}
 
 -- the words of what is left of a line, if anything is
 abbrev pub words_left : Option (Bor (List ℕ)) → List (List ℕ)
@@ -107,17 +107,11 @@ move_page_at words = do
   node ← alone number_of page.1
   Some (MovePage page.0 node)
 
-abbrev pub move_dup_at : List (List ℕ) → Option Line
-move_dup_at words = do
-  place ← field number_of words
-  node ← alone number_of place.1
-  Some (MoveDup place.0 node)
-
 abbrev pub set_at : List (List ℕ) → Option Line
 set_at words = do
   knob ← field knob_of words
   value ← alone number_of knob.1
-  Some (Set knob.0 value)
+  if nat_lt value (setting_limit knob.0) then Some (Set knob.0 value) else None
 
 -- with a number of visits, or without one
 abbrev pub scan_when : Option (Unit {0}) → List (List ℕ) → Option Line
@@ -145,13 +139,10 @@ forms =
     ∷ (codes "put", store_at)
     ∷ (codes "get", λ words. option_map Get (page_alone words))
     ∷ (codes "ticket", λ words. option_map Ticket (page_alone words))
-    ∷ (codes "rmap", λ words. option_map Mappers (alone number_of words))
     ∷ (codes "scan", scan_at)
     ∷ (codes "prune", name_alone Prune)
-    ∷ (codes "unmerge", λ words. option_map Unmerge (alone guest_of words))
     ∷ (codes "mergeable", λ words. option_map Mergeable (alone guest_of words))
     ∷ (codes "move", move_page_at)
-    ∷ (codes "movedup", move_dup_at)
     ∷ (codes "set", set_at)
     ∷ (codes "show", λ words. option_map Show (alone knob_of words))
     ∷ (codes "stat", name_alone Stat)

@@ -9,6 +9,8 @@ mod output;
 mod reply;
 mod script;
 mod session;
+#[cfg(test)]
+mod tests;
 
 pub use knob::Knob;
 pub use line::{Line, LineFault, read_line};

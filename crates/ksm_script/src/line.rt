@@ -2,10 +2,11 @@
 ghost use Rattle.std.specs.Prelude.{◌≡◌, IfOk, Ok};
 ghost use Rattle.ksm_script.specs.declared.line.Line.{Line};
 ghost use Rattle.ksm_script.specs.Grammar.{Writes};
-ghost use Rattle.ksm_script.specs.Reading.{Gives, words_left, forms, named_line, name_alone, register_at, store_at, scan_at, move_page_at, move_dup_at, set_at};
+ghost use Rattle.ksm_script.specs.Reading.{Gives, words_left, forms, named_line, name_alone, register_at, store_at, scan_at, move_page_at, set_at};
 
 use crate::field::{
-    content_alone, cut, ended, guest_alone, is, knob, knob_alone, number, number_alone, page, page_alone,
+    content_alone, cut, ended, guest_alone, is, knob, knob_alone, number, number_alone, page,
+    page_alone,
 };
 use crate::knob::Knob;
 use ksm_base::{GuestPage, PageBytes};
@@ -23,33 +24,48 @@ pub enum Line {
         bytes: PageBytes,
     },
     /// `drop G P`
-    Drop { page: GuestPage },
+    Drop {
+        page: GuestPage,
+    },
     /// `put G P HEX`
-    Store { page: GuestPage, bytes: PageBytes },
+    Store {
+        page: GuestPage,
+        bytes: PageBytes,
+    },
     /// `get G P`
-    Get { page: GuestPage },
+    Get {
+        page: GuestPage,
+    },
     /// `ticket G P`
-    Ticket { page: GuestPage },
-    /// `rmap PLACE`
-    Mappers { place: u32 },
+    Ticket {
+        page: GuestPage,
+    },
     /// `scan`: as many visits as the knob `pages_to_scan` says.
     ScanPages,
     /// `scan N`
-    Scan { visits: u32 },
+    Scan {
+        visits: u32,
+    },
     /// `prune`
     Prune,
-    /// `unmerge G`
-    Unmerge { guest: u16 },
     /// `mergeable G`
-    Mergeable { guest: u16 },
+    Mergeable {
+        guest: u16,
+    },
     /// `move G P NODE`
-    MovePage { page: GuestPage, node: u32 },
-    /// `movedup PLACE NODE`
-    MoveDup { place: u32, node: u32 },
+    MovePage {
+        page: GuestPage,
+        node: u32,
+    },
     /// `set KNOB V`
-    Set { knob: Knob, value: u32 },
+    Set {
+        knob: Knob,
+        value: u32,
+    },
     /// `show KNOB`
-    Show { knob: Knob },
+    Show {
+        knob: Knob,
+    },
     /// `stat`
     Stat,
 }
@@ -87,20 +103,14 @@ fn named(name: &[u8], left: Option<&[u8]>) -> Result<Line, LineFault>
         page_alone(left).map(|page| Line::Get { page })
     } else if is(name, "ticket") {
         page_alone(left).map(|page| Line::Ticket { page })
-    } else if is(name, "rmap") {
-        number_alone(left).map(|place| Line::Mappers { place })
     } else if is(name, "scan") {
         scan(left)
     } else if is(name, "prune") {
         alone(Line::Prune, left)
-    } else if is(name, "unmerge") {
-        guest_alone(left).map(|guest| Line::Unmerge { guest })
     } else if is(name, "mergeable") {
         guest_alone(left).map(|guest| Line::Mergeable { guest })
     } else if is(name, "move") {
         move_page(left)
-    } else if is(name, "movedup") {
-        move_dup(left)
     } else if is(name, "set") {
         set(left)
     } else if is(name, "show") {
@@ -154,18 +164,14 @@ fn move_page(left: Option<&[u8]>) -> Result<Line, LineFault>
     Ok(Line::MovePage { page, node })
 }
 
-fn move_dup(left: Option<&[u8]>) -> Result<Line, LineFault>
-    ensures { Gives result (move_dup_at (words_left left.entry)) }
-{
-    let (place, left) = number(left)?;
-    let node = number_alone(left)?;
-    Ok(Line::MoveDup { place, node })
-}
-
 fn set(left: Option<&[u8]>) -> Result<Line, LineFault>
     ensures { Gives result (set_at (words_left left.entry)) }
 {
     let (knob, left) = knob(left)?;
     let value = number_alone(left)?;
-    Ok(Line::Set { knob, value })
+    if u64::from(value) < knob.setting_limit() {
+        Ok(Line::Set { knob, value })
+    } else {
+        Err(LineFault::Bad)
+    }
 }

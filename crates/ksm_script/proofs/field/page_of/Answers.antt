@@ -1,4 +1,4 @@
-use Rattle.std.proofs.Common.{refl, sym, subst, ◌∙◌, ◌<◌, ℕ, ◌≡◌, ◌+◌, arith, get_or, set, length-set}
+use Rattle.std.proofs.Common.{sym, subst, ◌∙◌, ◌<◌, ℕ, ◌≡◌, ◌+◌, arith, get_or, set, length-set}
 use Rattle.std.proofs.lemmas.List.Edits.{fill_by_more}
 use Rattle.std.proofs.lemmas.List.FromFn.{fill_by_all}
 use Rattle.ksm_base.specs.declared.page.TheConstants.{PAGE_WORDS}

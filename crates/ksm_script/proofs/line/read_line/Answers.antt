@@ -1,6 +1,6 @@
 use Rattle.std.proofs.Common.{sym, subst, List, ℕ}
 use Rattle.ksm_script.specs.Grammar.{words_of}
-use Rattle.ksm_script.specs.Reading.{Gives, line_at, words_left}
+use Rattle.ksm_script.specs.Reading.{Gives, line_at}
 use Rattle.ksm_script.proofs.Lines.{given_written, written_given}
 use Rattle.ksm_script.proofs.line.read_line.Goals as goal
 

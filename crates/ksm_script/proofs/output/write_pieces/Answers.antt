@@ -1,4 +1,4 @@
-use Rattle.std.proofs.Common.{rules, refl, sym}
+use Rattle.std.proofs.Common.{refl}
 use Rattle.ksm_script.specs.declared.output.Piece.TheVariants.{Number}
 use Rattle.ksm_script.specs.Pieces.{piece_text}
 use Rattle.ksm_script.proofs.Parts.{pieces_part, broken_off}

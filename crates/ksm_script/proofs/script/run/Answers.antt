@@ -1,4 +1,4 @@
-use Rattle.std.proofs.Common.{rules, ◌+◌, ◌++◌, inl, inr, refl, ◌≡◌, ◌≢◌, Ok, ap, ◌∙◌, sym, subst, ℕ}
+use Rattle.std.proofs.Common.{rules, ◌++◌, inl, inr, refl, ◌≡◌, ◌≢◌, ap, ◌∙◌, sym, subst, ℕ}
 use Rattle.std.specs.Io.KnownBytes.{Appends}
 use Rattle.std.proofs.KnownBytes.{Appends-trans}
 use Rattle.frame_table.specs.Named.{KeeperView}
@@ -8,7 +8,7 @@ use Rattle.ksm_script.specs.Answering.{reply_text}
 use Rattle.ksm_script.specs.Replies.{text_of}
 use Rattle.ksm_script.specs.Texts.{AppendsPart}
 use Rattle.ksm_script.proofs.Parts.{part_after}
-use Rattle.ksm_script.proofs.Turns.{IsSoFar, IsDone, read_as, nothing_yet, in_state, answered_all, goes_on, answered_to_bad, number_is}
+use Rattle.ksm_script.proofs.Turns.{IsDone, read_as, nothing_yet, in_state, answered_all, goes_on, answered_to_bad, number_is}
 use Rattle.ksm_script.proofs.script.run.Goals as goal
 
 pub lines-init : goal.lines-init
@@ -55,10 +55,10 @@ returns-then-eq-2-clause-all g c =
 
 pub lines-preserved : goal.lines-preserved
 lines-preserved g c =
+    let open_end : c.in_ok-end.end ≢ Input = search rules in
     let now = c.in_ok-end.ensures in
     let so = in_state _ _ _ _ _ _ _ _ now.state c.lines.invariant.0 in
     let read = read_as _ _ _ c.in_ok-end.end now.read now.plain now.end in
-    let open_end : c.in_ok-end.end ≢ Input = search rules in
     let did : IsDone _ c.answer.new.self.state _ c.in_ok-end.end c.in-Ok.line c.answer.result =
     record { short = c.in-Ok.ensures.0; written = c.in-Ok.ensures.1; answers = c.answer.ensures.answers } in (
       goes_on _ _ _ _ _ _ _ _ _ _ so read _ _ _ did _ open_end c.in_ok-write_answer.ensures.whole,

@@ -1,5 +1,5 @@
 -- What tests say of their parts.
-use Rattle.std.proofs.Common.{◌≡◌, ℕ, Bool, true, false, ◌&&◌, cond, Option, Some, None, refl}
+use Rattle.std.proofs.Common.{◌≡◌, Bool, true, false, ◌&&◌, cond, Option, Some, None, refl}
 
 -- a value under a test
 abbrev pub chosen : {A : Type 0} → Bool → A → Option A
