@@ -1,10 +1,11 @@
 //! Rows and dups as they lie in the keeper's frames: each call is one lawful change of both.
 
-ghost use Rattle.std.specs.Prelude.{◌≡◌, ◌<◌, ◌+◌, ◌⊎◌, [], true, false, None, Err, All, count_by, filter, find, map, is_some, ◌==◌, ◌&&◌, option_map, OnOk, OnErr, IfOk};
+ghost use Rattle.std.specs.Prelude.{◌≡◌, ◌<◌, ◌+◌, ◌⊎◌, [], true, false, None, Err, All, count_by, filter, find, map, is_some, ◌==◌, ◌&&◌, option_map, OnOk, OnErr, IfOk, IfErr};
 ghost use Rattle.ksm_base.specs.declared.fault.Fault.TheVariants.{Memory};
 ghost use Rattle.ksm_base.specs.declared.row.PageState.TheVariants.{Private, Merged};
 ghost use Rattle.ksm_base.specs.Rows.{row_at, with_row, with_dup, without_page, change_row, change_rows, merged_state, settled, has_items, is_stale, dup_numbered};
 ghost use Rattle.ksm_base.specs.Counting.{counters_from, shared_count};
+ghost use Rattle.ksm_base.specs.Reading.{items_of};
 ghost use Rattle.ksm_base.specs.State.{place_count};
 ghost use Rattle.ksm_base.specs.Visit.{best_dup, partner, new_place};
 ghost use Rattle.ksm_base.specs.Apply.{unshared};
@@ -138,6 +139,17 @@ impl Layout {
         self.dups.live_at(&self.rows, place)
     }
 
+    /// The pages merged into the dup at a place, ascending; none where no dup with items stands there. Refused for memory alone.
+    pub fn mappers(&self, alloc: Global, place: u32) -> Result<Option<Vec<GuestPage>>, Fault>
+        ensures mappers { IfOk result (λ pages. option_map (λ v. v.items) pages ≡ option_map (items_of self.now.rows) (find (λ d. d.place == place && has_items self.now.rows d) self.now.dups)) }
+        ensures fault { IfErr result (λ fault. fault ≡ Memory) }
+    {
+        let Some(dup) = self.live_at(place) else {
+            return Ok(None);
+        };
+        Ok(Some(self.rows.items(alloc, dup.number)?))
+    }
+
     /// The dup with a number.
     pub fn numbered(&self, number: u64) -> Option<DupRow>
         ensures { result ≡ dup_numbered number self.now.dups }
@@ -206,7 +218,8 @@ impl Layout {
         ensures fault { OnErr result (result ≡ Err Memory) }
     {
         self.rows.insert(row, 0)?;
-        let Some(frame) = take_frame(&mut self.keeper, table, self.shape, row.home, row.bytes) else {
+        let Some(frame) = take_frame(&mut self.keeper, table, self.shape, row.home, row.bytes)
+        else {
             self.rows.remove(row.page);
             return Ok(false);
         };
@@ -226,7 +239,8 @@ impl Layout {
         let Some(held) = self.rows.find(row.page) else {
             return false;
         };
-        let Some(frame) = take_frame(&mut self.keeper, table, self.shape, row.home, row.bytes) else {
+        let Some(frame) = take_frame(&mut self.keeper, table, self.shape, row.home, row.bytes)
+        else {
             return false;
         };
         self.rows.replace(row, frame);

@@ -1,12 +1,13 @@
 //! The state of the book, and its commands.
 
-ghost use Rattle.std.specs.Prelude.{◌≡◌, [], option_map};
+ghost use Rattle.std.specs.Prelude.{◌≡◌, IfOk, IfErr, option_map};
 ghost use Rattle.ksm_base.specs.Values.{IsShape};
 ghost use Rattle.ksm_base.specs.State.{opening};
 ghost use Rattle.ksm_base.specs.Answers.{IsAnswerOrMemory};
 ghost use Rattle.ksm_base.specs.Apply.{after};
 ghost use Rattle.ksm_base.specs.Counting.{counters_of};
-ghost use Rattle.ksm_base.specs.Reading.{bytes_of, ticket_of};
+ghost use Rattle.ksm_base.specs.Reading.{bytes_of, mappers_of, ticket_of};
+ghost use Rattle.ksm_base.specs.declared.fault.Fault.TheVariants.{Memory};
 ghost use Rattle.ksm_base.specs.Refusals.{is_known};
 ghost use Rattle.frame_core.specs.Ledger.{first_ledger};
 ghost use Rattle.ksm_book.specs.Laid.{LoadsIf};
@@ -105,7 +106,12 @@ impl State {
     }
 
     /// Stores to a page.
-    pub fn store(&mut self, table: &FrameTable, page: GuestPage, bytes: PageBytes) -> Result<Reply, Fault>
+    pub fn store(
+        &mut self,
+        table: &FrameTable,
+        page: GuestPage,
+        bytes: PageBytes,
+    ) -> Result<Reply, Fault>
         requires own { self.old.keeper.table ≡ table.now }
         ensures own { self.new.keeper.table ≡ self.old.keeper.table }
         ensures answer { IsAnswerOrMemory self.old.state (Command.Store page bytes) result }
@@ -166,6 +172,14 @@ impl State {
         }
     }
 
+    /// The pages merged into the dup at a place.
+    pub fn mappers(&self, alloc: Global, place: u32) -> Result<Option<Vec<GuestPage>>, Fault>
+        ensures mappers { IfOk result (λ pages. option_map (λ v. v.items) pages ≡ mappers_of place self.now.state) }
+        ensures fault { IfErr result (λ fault. fault ≡ Memory) }
+    {
+        self.layout.mappers(alloc, place)
+    }
+
     pub fn knobs(&self) -> Knobs
         ensures { result ≡ self.now.state.knobs }
     {
@@ -200,7 +214,12 @@ impl State {
     }
 
     /// Moves a page to a node.
-    pub fn move_page(&mut self, table: &FrameTable, page: GuestPage, node: u32) -> Result<Reply, Fault>
+    pub fn move_page(
+        &mut self,
+        table: &FrameTable,
+        page: GuestPage,
+        node: u32,
+    ) -> Result<Reply, Fault>
         requires own { self.old.keeper.table ≡ table.now }
         ensures own { self.new.keeper.table ≡ self.old.keeper.table }
         ensures answer { IsAnswerOrMemory self.old.state (Command.MovePage page node) result }
