@@ -4,7 +4,7 @@ use Rattle.std.specs.Prelude.{codes, bytes_eq, option_map, IfOk}
 use Rattle.std.proofs.lemmas.Bool.{ltb-true}
 use Rattle.std.proofs.lemmas.Slice.Eq.{bytes_eq-Decides}
 use Rattle.ksm_script.specs.declared.line.Line.{Line}
-use Rattle.ksm_script.specs.declared.line.Line.TheVariants.{Empty, Register, Drop, Store, Get, Ticket, ScanPages, Scan, Prune, Mergeable, MovePage, Set, Show, Stat}
+use Rattle.ksm_script.specs.declared.line.Line.TheVariants.{Empty, Register, Drop, Store, Get, Ticket, Mappers, ScanPages, Scan, Prune, Mergeable, MovePage, Set, Show, Stat}
 use Rattle.ksm_script.specs.declared.line.LineFault.{LineFault}
 use Rattle.ksm_script.specs.Grammar.{Part, name, guest, number, content, setting, IsWritten, AreWritten, parts_of}
 use Rattle.ksm_script.specs.Content.{content_of}
@@ -53,6 +53,9 @@ line_again (Get page) words h =
 line_again (Ticket page) words h =
     let a = named_again (codes "ticket") (guest page.guest ∷ number page.page ∷ []) words h in
     rw (a.is, fields.page_alone_again page a.rest a.others) refl
+line_again (Mappers place) words h =
+    let a = named_again (codes "rmap") (number place ∷ []) words h in
+    rw (a.is, fields.number_alone_again place a.rest a.others) refl
 line_again ScanPages words h =
     let a = named_again (codes "scan") [] words h in
     rw (a.is, fields.no_words a.rest a.others) refl
@@ -183,18 +186,21 @@ all_take = (
           (
             page_form_takes (codes "ticket") Ticket (λ page. refl),
             (
-              scan_takes,
+              word_form_takes (codes "rmap") number_of Mappers number (λ a. refl) number_written,
               (
-                name_alone_takes (codes "prune") Prune (refl, tt),
+                scan_takes,
                 (
-                  word_form_takes (codes "mergeable") guest_of Mergeable guest (λ a. refl) guest_written,
+                  name_alone_takes (codes "prune") Prune (refl, tt),
                   (
-                    move_page_takes,
+                    word_form_takes (codes "mergeable") guest_of Mergeable guest (λ a. refl) guest_written,
                     (
-                      set_takes,
+                      move_page_takes,
                       (
-                        word_form_takes (codes "show") knob_of Show (λ knob. name (knob_name knob)) (λ a. refl) knob_written,
-                        (name_alone_takes (codes "stat") Stat (refl, tt), tt),
+                        set_takes,
+                        (
+                          word_form_takes (codes "show") knob_of Show (λ knob. name (knob_name knob)) (λ a. refl) knob_written,
+                          (name_alone_takes (codes "stat") Stat (refl, tt), tt),
+                        ),
                       ),
                     ),
                   ),

@@ -3,17 +3,18 @@ use Rattle.std.specs.Prelude.{◌≡◌, ℕ, Bool, true, false, List, [], Optio
 use Rattle.ksm_base.specs.declared.command.Command.{Command}
 use Rattle.ksm_base.specs.declared.command.Command.TheVariants as commands
 use Rattle.ksm_base.specs.declared.reply.Reply.TheVariants as replies
-use Rattle.ksm_base.specs.declared.fault.Fault.TheVariants.{UnknownPage}
+use Rattle.ksm_base.specs.declared.fault.Fault.TheVariants.{Memory, UnknownPage, UnknownPlace}
 use Rattle.ksm_base.specs.State.{BookState}
 use Rattle.ksm_base.specs.Answers.{Answer, IsAnswerOrMemory}
 use Rattle.ksm_base.specs.Apply.{after}
 use Rattle.ksm_base.specs.Counting.{counters_of}
-use Rattle.ksm_base.specs.Reading.{bytes_of, ticket_of}
+use Rattle.ksm_base.specs.Reading.{bytes_of, ticket_of, mappers_of}
+use Rattle.ksm_base.specs.declared.page.GuestPage.{GuestPage}
 use Rattle.ksm_base.specs.Refusals.{is_known}
 use Rattle.ksm_script.specs.declared.line.Line.{Line}
-use Rattle.ksm_script.specs.declared.line.Line.TheVariants.{Empty, Register, Drop, Store, Get, Ticket, ScanPages, Scan, Prune, Mergeable, MovePage, Set, Show, Stat}
+use Rattle.ksm_script.specs.declared.line.Line.TheVariants.{Empty, Register, Drop, Store, Get, Ticket, Mappers, ScanPages, Scan, Prune, Mergeable, MovePage, Set, Show, Stat}
 use Rattle.ksm_script.specs.declared.reply.LineReply.{LineReply}
-use Rattle.ksm_script.specs.declared.reply.LineReply.TheVariants.{Done, Content, Place, Private, Scanned, Pruned, Unmerged, Value, Counters, Refused}
+use Rattle.ksm_script.specs.declared.reply.LineReply.TheVariants.{Done, Content, Place, Private, Mappers as Pages, Scanned, Pruned, Unmerged, Value, Counters, Refused}
 use Rattle.ksm_script.specs.Knobs.{setting, value_in}
 use Rattle.ksm_script.specs.Replies.{text_of}
 
@@ -45,6 +46,18 @@ ticket_reply false place = Refused UnknownPage
 ticket_reply true None = Private
 ticket_reply true (Some place) = Place place
 
+-- the pages that are merged at a place, if any are, or want of memory
+abbrev pub IsMappers : Option (List GuestPage) → LineReply → Type 0
+IsMappers pages (Pages items) = pages ≡ Some items.items
+IsMappers pages (Refused UnknownPlace) = pages ≡ None
+IsMappers pages (Refused Memory) = Unit {0}
+IsMappers pages _ = ⊥
+
+-- what is merged at a place is listed, and the book state kept
+abbrev pub Lists : ℕ → BookState → Option LineReply → BookState → Type 0
+Lists place b None next = ⊥
+Lists place b (Some reply) next = IsMappers (mappers_of place b) reply × (next ≡ b)
+
 -- a line is answered so in a book state, and leaves the other one
 abbrev pub Answers : Line → BookState → Option LineReply → BookState → Type 0
 Answers Empty = Reads (λ b. None)
@@ -53,6 +66,7 @@ Answers (Drop page) = Commands (commands.Drop page)
 Answers (Store page bytes) = Commands (commands.Store page bytes)
 Answers (Get page) = Reads (λ b. Some (content_reply (bytes_of page b)))
 Answers (Ticket page) = Reads (λ b. Some (ticket_reply (is_known b page) (ticket_of page b)))
+Answers (Mappers place) = Lists place
 Answers ScanPages = λ b. Commands (commands.Scan b.knobs.pages_to_scan) b
 Answers (Scan visits) = Commands (commands.Scan visits)
 Answers Prune = Commands commands.Prune

@@ -2,7 +2,7 @@
 use Rattle.std.specs.Prelude.{◌≡◌, ℕ, ◌^◌, ◌<◌, ◌==◌, List, [], ◌∷◌, Some, codes, decimal}
 use Rattle.std.specs.List.{slice_split}
 use Rattle.ksm_script.specs.declared.line.Line.{Line}
-use Rattle.ksm_script.specs.declared.line.Line.TheVariants.{Empty, Register, Drop, Store, Get, Ticket, ScanPages, Scan, Prune, Mergeable, MovePage, Set, Show, Stat}
+use Rattle.ksm_script.specs.declared.line.Line.TheVariants.{Empty, Register, Drop, Store, Get, Ticket, Mappers, ScanPages, Scan, Prune, Mergeable, MovePage, Set, Show, Stat}
 use Rattle.ksm_script.specs.Content.{content_of}
 use Rattle.ksm_script.specs.declared.knob.Knob.{Knob}
 use Rattle.ksm_script.specs.Knobs.{knob_name, setting_limit}
@@ -42,6 +42,7 @@ parts_of (Drop page) = name (codes "drop") ∷ guest page.guest ∷ number page.
 parts_of (Store page bytes) = name (codes "put") ∷ guest page.guest ∷ number page.page ∷ content bytes ∷ []
 parts_of (Get page) = name (codes "get") ∷ guest page.guest ∷ number page.page ∷ []
 parts_of (Ticket page) = name (codes "ticket") ∷ guest page.guest ∷ number page.page ∷ []
+parts_of (Mappers place) = name (codes "rmap") ∷ number place ∷ []
 parts_of ScanPages = name (codes "scan") ∷ []
 parts_of (Scan visits) = name (codes "scan") ∷ number visits ∷ []
 parts_of Prune = name (codes "prune") ∷ []

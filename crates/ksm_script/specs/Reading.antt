@@ -6,7 +6,7 @@ use Rattle.std.specs.Str.Parse.{digits_value}
 use denote.Ref.{Bor}
 use Rattle.ksm_base.specs.declared.page.GuestPage.{GuestPage}
 use Rattle.ksm_script.specs.declared.line.Line.{Line}
-use Rattle.ksm_script.specs.declared.line.Line.TheVariants.{Empty, Register, Drop, Store, Get, Ticket, ScanPages, Scan, Prune, Mergeable, MovePage, Set, Show, Stat}
+use Rattle.ksm_script.specs.declared.line.Line.TheVariants.{Empty, Register, Drop, Store, Get, Ticket, Mappers, ScanPages, Scan, Prune, Mergeable, MovePage, Set, Show, Stat}
 use Rattle.ksm_script.specs.declared.line.LineFault.{LineFault}
 use Rattle.ksm_script.specs.declared.knob.Knob.{Knob}
 use Rattle.ksm_script.specs.declared.knob.Knob.TheVariants.{Run, PagesToScan, MergeAcrossNodes, MaxPageSharing}
@@ -139,6 +139,7 @@ forms =
     ∷ (codes "put", store_at)
     ∷ (codes "get", λ words. option_map Get (page_alone words))
     ∷ (codes "ticket", λ words. option_map Ticket (page_alone words))
+    ∷ (codes "rmap", λ words. option_map Mappers (alone number_of words))
     ∷ (codes "scan", scan_at)
     ∷ (codes "prune", name_alone Prune)
     ∷ (codes "mergeable", λ words. option_map Mergeable (alone guest_of words))

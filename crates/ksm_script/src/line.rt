@@ -40,6 +40,10 @@ pub enum Line {
     Ticket {
         page: GuestPage,
     },
+    /// `rmap PLACE`
+    Mappers {
+        place: u32,
+    },
     /// `scan`: as many visits as the knob `pages_to_scan` says.
     ScanPages,
     /// `scan N`
@@ -103,6 +107,8 @@ fn named(name: &[u8], left: Option<&[u8]>) -> Result<Line, LineFault>
         page_alone(left).map(|page| Line::Get { page })
     } else if is(name, "ticket") {
         page_alone(left).map(|page| Line::Ticket { page })
+    } else if is(name, "rmap") {
+        number_alone(left).map(|place| Line::Mappers { place })
     } else if is(name, "scan") {
         scan(left)
     } else if is(name, "prune") {

@@ -3,14 +3,14 @@ ghost use Rattle.std.specs.Prelude.{◌≡◌, ◌≤◌, ℕ, List, length, Ok,
 ghost use Rattle.std.specs.Io.KnownBytes.{Consumes, IsAtEnd};
 ghost use Rattle.ksm_base.specs.State.{opening};
 ghost use Rattle.ksm_base.specs.Values.{IsShape};
-ghost use Rattle.ksm_base.specs.Reading.{bytes_of, ticket_of};
+ghost use Rattle.ksm_base.specs.Reading.{bytes_of, ticket_of, mappers_of};
 ghost use Rattle.ksm_base.specs.Refusals.{is_known};
 ghost use Rattle.ksm_base.specs.declared.command.Command.TheVariants.{Scan as scan};
 ghost use Rattle.ksm_script.specs.Knobs.{value_in};
 ghost use Rattle.ksm_base.specs.Counting.{counters_of};
 ghost use Rattle.ksm_script.specs.declared.reply.LineReply.TheVariants.{Counters as counters_reply, Value as value_reply};
 ghost use Rattle.frame_table.specs.Seats.{Ends};
-ghost use Rattle.ksm_script.specs.Answering.{Answers, Commands, reply_to, content_reply, ticket_reply};
+ghost use Rattle.ksm_script.specs.Answering.{Answers, Commands, IsMappers, reply_to, content_reply, ticket_reply};
 ghost use Rattle.ksm_script.specs.Input.{EndsAs, IsPlain};
 
 use crate::input::{LineBuffer, LineEnd, next_line};
@@ -27,6 +27,7 @@ use std::marker::Model;
 
 /// What a run works on. It must be closed.
 pub struct Session {
+    alloc: Global,
     table: FrameTable,
     passes: Vec<Pass>,
     book: Book,
@@ -55,6 +56,7 @@ impl Session {
         let (table, keeper, passes) = FrameTable::open(alloc, shape)?;
         match Book::open(alloc, keeper, shape) {
             Ok(book) => Ok(Session {
+                alloc,
                 table,
                 passes,
                 book,
@@ -73,6 +75,7 @@ impl Session {
         ensures ends { Ends self.keeper.ledger result }
     {
         let Session {
+            alloc: _,
             table,
             passes,
             book,
@@ -116,6 +119,7 @@ impl Session {
             Line::Store { page, bytes } => Some(self.command(Command::Store { page, bytes })),
             Line::Get { page } => Some(self.content(page)),
             Line::Ticket { page } => Some(self.ticket(page)),
+            Line::Mappers { place } => Some(self.mappers(place)),
             Line::ScanPages => Some(self.scan_pages()),
             Line::Scan { visits } => Some(self.command(Command::Scan {
                 visits: u64::from(visits),
@@ -146,6 +150,16 @@ impl Session {
         match self.book.ticket(page) {
             None => LineReply::Private,
             Some(place) => LineReply::Place(place),
+        }
+    }
+
+    fn mappers(&self, place: u32) -> LineReply
+        ensures { IsMappers (mappers_of place self.now.state) result }
+    {
+        match self.book.mappers(self.alloc, place) {
+            Ok(Some(pages)) => LineReply::Mappers(pages),
+            Ok(None) => LineReply::Refused(Fault::UnknownPlace),
+            Err(fault) => LineReply::Refused(fault),
         }
     }
 

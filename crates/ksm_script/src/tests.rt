@@ -191,6 +191,15 @@ fn chain_rows(rt: HostRuntime) -> Result<(), Fail> {
             output: b"ok\nok\nok\nok\nok\nok\nscanned 8\nstat shared=2 sharing=2 unshared=0 volatile=0 chains=1 dups=2 full_scans=2\nok\nok\nstat shared=1 sharing=1 unshared=0 volatile=2 chains=1 dups=2 full_scans=2\npruned 1\nstat shared=1 sharing=1 unshared=0 volatile=2 chains=0 dups=0 full_scans=2\n",
             end: End::AllRead,
         },
+        Row {
+            name: "fullest_dup_is_joined",
+            nodes: 1,
+            frames: 8,
+            last_generation: 1 << 40,
+            input: b"set max_page_sharing 3\nreg 0 0 0 aa\nreg 0 1 0 aa\nreg 0 2 0 aa\nreg 0 3 0 aa\nreg 0 4 0 aa\nreg 0 5 0 aa\nset run 1\nscan 12\ndrop 0 0\ndrop 0 1\ndrop 0 3\nreg 0 9 0 aa\nscan 4\nticket 0 9\nstat\nrmap 0\nrmap 1\nrmap 2\n",
+            output: b"ok\nok\nok\nok\nok\nok\nok\nok\nscanned 12\nok\nok\nok\nok\nscanned 4\nplace 1\nstat shared=2 sharing=2 unshared=0 volatile=0 chains=1 dups=2 full_scans=3\nrmap 0:2\nrmap 0:4 0:5 0:9\nrefused 10\n",
+            end: End::AllRead,
+        },
     ];
     for row in rows.iter() {
         let (written, outcome) = row.play(rt.alloc())?;
@@ -263,7 +272,7 @@ fn moving_rows(rt: HostRuntime) -> Result<(), Fail> {
 /// Each of these lines is bad, and no reply comes before.
 #[test]
 fn every_bad_line(rt: HostRuntime) -> Result<(), Fail> {
-    let lines: [&[u8]; 44] = [
+    let lines: [&[u8]; 43] = [
         b"reg 0 0 0",
         b"reg 00 0 0 aa",
         b"reg 0 01 0 aa",
@@ -304,7 +313,6 @@ fn every_bad_line(rt: HostRuntime) -> Result<(), Fail> {
         b"set run 1 1",
         b"show",
         b"show run 1",
-        b"rmap 0",
         b"unmerge 0",
         b"movedup 0 0",
         b"set run 2",
