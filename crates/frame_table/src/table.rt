@@ -9,7 +9,7 @@ use ksm_base::{PAGE_WORDS, Shape};
 use std::alloc::Global;
 use std::marker::Model;
 
-/// The table. Contracts see which one it is, and its shape.
+/// The table, which threads share by reference. Contracts see which one it is, and its shape.
 #[derive(Drop)]
 pub struct FrameTable {
     pub(crate) table: Table<(), View, Shape, FrameRule, Global>,
