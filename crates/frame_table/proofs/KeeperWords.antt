@@ -1,8 +1,8 @@
 -- A step of the keeper changes one word of the table, and is told what it found there.
-use Rattle.std.proofs.Common.{◌≡◌, ℕ, zero, suc, ◌+◌, ◌*◌, ◌<◌, ◌≤◌, ◌==◌, ◌&&◌, ◌||◌, Bool, true, false, not, cond, nat_le, nat_lt, List, [], ◌∷◌, ◌++◌, map, length, set, get_or, slice_get, slice_set, Option, Some, None, option_map, option_and_then, refl, ap, sym, subst, ◌∙◌, arith}
+use Rattle.std.proofs.Common.{◌≡◌, ℕ, zero, suc, ◌+◌, ◌*◌, ◌<◌, ◌≤◌, ◌==◌, ◌&&◌, ◌||◌, Bool, true, false, not, cond, nat_le, nat_lt, List, [], ◌∷◌, ◌++◌, map, length, set, get_or, slice_get, slice_set, Option, Some, None, option_and_then, refl, ap, sym, subst, ◌∙◌, arith}
 use Rattle.std.proofs.lemmas.List.{set-get_or}
 use Rattle.std.proofs.lemmas.Bool.{ltb-true}
-use Rattle.std.proofs.lemmas.Option.{same_Some, slice_get-map, slice_get_within, get_or_from_slice_get}
+use Rattle.std.proofs.lemmas.Option.{same_Some, slice_get_within, get_or_from_slice_get}
 use Rattle.std.specs.List.{flat_map}
 use Rattle.ksm_base.specs.declared.page.TheConstants.{PAGE_WORDS}
 use Rattle.ksm_base.specs.Values.{frames_of}
@@ -16,7 +16,7 @@ use Rattle.frame_core.specs.declared.ledger.Note.{Note}
 use Rattle.frame_core.specs.declared.seat.Life.{Life}
 use Rattle.frame_core.specs.State.{State, place_word}
 use Rattle.frame_core.specs.Words.{words_of, frame_words, frame_offset}
-use Rattle.frame_core.specs.Ledger.{ledger_of, note_of, frame_at, blank}
+use Rattle.frame_core.specs.Ledger.{ledger_of, note_of, frame_at}
 use Rattle.frame_core.specs.KeeperSteps.{keeper_step, at_frame, only_if, reap_step, put_step, raise_step, open_step, add_step, sub_step, freeze_step, word_step, publish_step, withdraw_step, is_live, is_free, is_filling, is_private, is_stable, is_dying}
 use Rattle.frame_core.specs.Rule.{Rule, GenerationFits}
 use Rattle.frame_core.proofs.Parts.{parts, map_parts, then_parts, only_if_parts}

@@ -1,6 +1,6 @@
 -- A step of a reader, as its seat sees it, is the core's step of the same name.
 use Rattle.std.proofs.Common.{◌≡◌, ℕ, suc, ◌+◌, ◌-◌, ◌*◌, ◌/◌, ◌%◌, ◌<◌, ◌≤◌, ◌==◌, Bool, true, false, cond, eqb, nat_le, List, replicate, map, length, set, get_or, slice_get, slice_set, Option, Some, None, option_map, option_and_then, refl, ap, sym, ◌∙◌, arith, eq-eqb, ne_eqb}
-use Rattle.std.proofs.lemmas.List.{map-set, length-map, set-get_or, get_or_append_left}
+use Rattle.std.proofs.lemmas.List.{length-map, set-get_or, get_or_append_left}
 use Rattle.std.proofs.lemmas.Option.{same_Some, slice_get-map, slice_get_within, get_or_from_slice_get}
 use Rattle.std.proofs.Math.Nat.{mul-le-mul_right}
 use Rattle.std.specs.List.{flat_map}
@@ -10,19 +10,16 @@ use Rattle.ksm_base.specs.Values.{IsShape, frames_of}
 use Rattle.frame_core.specs.declared.event.ReaderStep.{ReaderStep}
 use Rattle.frame_core.specs.declared.event.ReaderStep.TheVariants.{LoadPlace, LoadCount, Exchange, LoadGeneration, Leave, LoadWord}
 use Rattle.frame_core.specs.declared.frame.Frame.{Frame}
-use Rattle.frame_core.specs.declared.ledger.Note.{Note}
-use Rattle.frame_core.specs.declared.ledger.Ledger.{Ledger}
 use Rattle.frame_core.specs.declared.seat.Life.{Life}
 use Rattle.frame_core.specs.declared.seat.Aim.{Aim}
 use Rattle.frame_core.specs.declared.seat.Phase.{Phase}
 use Rattle.frame_core.specs.declared.seat.Phase.TheVariants.{Idle, Placed, Counted, Doubt, Held}
 use Rattle.frame_core.specs.State.{State, place_word}
 use Rattle.frame_core.specs.Words.{words_of, frame_words, count_at, content_at}
-use Rattle.frame_core.specs.Ledger.{ledger_of, note_of}
 use Rattle.frame_core.specs.ReaderSteps.{reader_step, at_seat, aimed_at, load_place_step, load_count_step, load_generation_step, load_word_step, exchange_step, leave_step, given_back}
 use Rattle.frame_core.specs.Rule.{Rule, is_on}
 use Rattle.frame_core.proofs.Fitting.{get_inside}
-use Rattle.frame_core.proofs.Lists.{set_self, count_one}
+use Rattle.frame_core.proofs.Lists.{count_one}
 use Rattle.frame_core.proofs.Ledgers.{reader_ledger}
 use Rattle.frame_core.proofs.Flat.{words_get, words_set}
 use Rattle.frame_core.proofs.Moves.LoadCount.{count_at_most}
