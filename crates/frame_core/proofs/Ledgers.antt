@@ -1,5 +1,5 @@
--- After every event, what the keeper knows is as its ledger says.
-use Rattle.std.proofs.Common.{◌≡◌, ℕ, ◌+◌, ◌-◌, ◌==◌, leb, Bool, true, false, if◌then◌else◌, List, map, Option, Some, None, slice_get, slice_set, subst, sym, ap, ◌∙◌, refl}
+-- After every event, what the keeper knows is as its ledger says, and what the other seats know is as it was.
+use Rattle.std.proofs.Common.{◌≡◌, ◌≢◌, ℕ, ◌+◌, ◌-◌, ◌==◌, leb, Bool, true, false, if◌then◌else◌, List, map, Option, Some, None, slice_get, slice_set, subst, sym, ap, ◌∙◌, refl}
 use Rattle.std.proofs.lemmas.List.{map-set}
 use Rattle.frame_core.specs.declared.event.Event.{Event}
 use Rattle.frame_core.specs.declared.event.Event.TheVariants as event
@@ -16,10 +16,11 @@ use Rattle.frame_core.specs.KeeperSteps.{keeper_step}
 use Rattle.frame_core.specs.ReaderSteps.{load_place_step, load_count_step, exchange_step, load_generation_step, leave_step, load_word_step, given_back, at_seat, at_both, reader_step}
 use Rattle.frame_core.specs.Steps.{step, answer, after}
 use Rattle.frame_core.specs.Ledger.{note_of, ledger_of, ledger_after}
-use Rattle.frame_core.specs.Knowing.{FollowsLedger, KeepsLedger}
+use Rattle.frame_core.specs.Knowing.{FollowsLedger, LedgerTells, ChangesOwnView}
 use Rattle.frame_core.specs.Rule.{Rule}
-use Rattle.frame_core.proofs.Lists.{set_self}
+use Rattle.frame_core.proofs.Lists.{set_self, get_set_else}
 use Rattle.frame_core.proofs.Parts.{parts, map_parts}
+use Rattle.frame_core.proofs.KeeperHalf.{keeper_seats}
 use Rattle.frame_core.proofs.Knows.{step_may, may_step, step_knows}
 
 -- ---------------------------------------------------------------- a step of the keeper
@@ -68,33 +69,51 @@ leave_notes frames (Placed aim failures) r e = absurd (cc (e))
 leave_notes frames (Counted aim failures count) r e = absurd (cc (e))
 leave_notes frames Spent r e = absurd (cc (e))
 
--- the ledger after a step is the one before
-abbrev pub SameLedger : State → ℕ × State → Type 0
-SameLedger s x = ledger_of x.1 ≡ ledger_of s
+-- a step of the seat q leaves the ledger and all other seats
+abbrev pub OwnSeatAlone : State → ℕ → ℕ × State → Type 0
+OwnSeatAlone s q x = (ledger_of x.1 ≡ ledger_of s) × ((k : ℕ) → k ≢ q → slice_get x.1.seats k ≡ slice_get s.seats k)
 
-seat_ledger : (s : State) (q : ℕ) (change : Phase → Option (ℕ × Phase)) (r : ℕ × State) → at_seat s q change ≡ Some r → SameLedger s r
-seat_ledger s q change r e = subst (SameLedger s) (parts (slice_get s.seats q) change (λ (x : ℕ × Phase). (x.0, record s { seats = slice_set s.seats q x.1 })) r e).is refl
+seat_alone : (s : State) (q : ℕ) (change : Phase → Option (ℕ × Phase)) (r : ℕ × State) → at_seat s q change ≡ Some r → OwnSeatAlone s q r
+seat_alone s q change r e =
+    let P = parts (slice_get s.seats q) change (λ (x : ℕ × Phase). (x.0, record s { seats = slice_set s.seats q x.1 })) r e in
+    subst (OwnSeatAlone s q) P.is (refl, λ k ne. get_set_else s.seats q k P.new.1 ne)
 
-both_ledger : (s : State) (q : ℕ) (change : Phase → Option (ℕ × List Frame × Phase)) → ((phase : Phase) (x : ℕ × List Frame × Phase) → change phase ≡ Some x → map note_of x.1 ≡ map note_of s.frames)
-    → (r : ℕ × State) → at_both s q change ≡ Some r → SameLedger s r
-both_ledger s q change notes r e =
+both_alone : (s : State) (q : ℕ) (change : Phase → Option (ℕ × List Frame × Phase)) → ((phase : Phase) (x : ℕ × List Frame × Phase) → change phase ≡ Some x → map note_of x.1 ≡ map note_of s.frames)
+    → (r : ℕ × State) → at_both s q change ≡ Some r → OwnSeatAlone s q r
+both_alone s q change notes r e =
     let P = parts (slice_get s.seats q) change (λ (x : ℕ × List Frame × Phase). (x.0, record s { frames = x.1; seats = slice_set s.seats q x.2 })) r e in
-    subst (SameLedger s) P.is (ap (λ (n : List Note). record { frames = n; places = s.places }) (notes P.old P.new P.gives))
+    subst (OwnSeatAlone s q) P.is (ap (λ (n : List Note). record { frames = n; places = s.places }) (notes P.old P.new P.gives), λ k ne. get_set_else s.seats q k P.new.2 ne)
 
-pub reader_ledger : (s : State) (q : ℕ) (k : ReaderStep) (r : ℕ × State) → reader_step s q k ≡ Some r → SameLedger s r
-reader_ledger s q (reader.LoadPlace p) r e = seat_ledger s q (load_place_step s.places p) r e
-reader_ledger s q reader.LoadCount r e = seat_ledger s q (load_count_step s.frames) r e
-reader_ledger s q reader.Exchange r e = both_ledger s q (exchange_step s.shape.tries s.frames) (exchange_notes s.shape.tries s.frames) r e
-reader_ledger s q reader.LoadGeneration r e = seat_ledger s q (load_generation_step s.frames) r e
-reader_ledger s q reader.Leave r e = both_ledger s q (leave_step s.frames) (leave_notes s.frames) r e
-reader_ledger s q (reader.LoadWord i) r e = seat_ledger s q (load_word_step s.frames i) r e
+pub reader_alone : (s : State) (q : ℕ) (k : ReaderStep) (r : ℕ × State) → reader_step s q k ≡ Some r → OwnSeatAlone s q r
+reader_alone s q (reader.LoadPlace p) r e = seat_alone s q (load_place_step s.places p) r e
+reader_alone s q reader.LoadCount r e = seat_alone s q (load_count_step s.frames) r e
+reader_alone s q reader.Exchange r e = both_alone s q (exchange_step s.shape.tries s.frames) (exchange_notes s.shape.tries s.frames) r e
+reader_alone s q reader.LoadGeneration r e = seat_alone s q (load_generation_step s.frames) r e
+reader_alone s q reader.Leave r e = both_alone s q (leave_step s.frames) (leave_notes s.frames) r e
+reader_alone s q (reader.LoadWord i) r e = seat_alone s q (load_word_step s.frames i) r e
 
-after_ledger : (s : State) (o : Option (ℕ × State)) → ((r : ℕ × State) → o ≡ Some r → SameLedger s r) → ledger_of (after s o) ≡ ledger_of s
-after_ledger s None h = refl
-after_ledger s (Some r) h = h r refl
+-- the ledger after a reader's step is the one before
+pub reader_ledger : (s : State) (q : ℕ) (k : ReaderStep) (r : ℕ × State) → reader_step s q k ≡ Some r → ledger_of r.1 ≡ ledger_of s
+reader_ledger s q k r e = (reader_alone s q k r e).0
 
 -- ---------------------------------------------------------------- any event
 
-pub keeps_ledger : (s : State) → Rule s → (e : Event) → KeepsLedger s e (answer (step s e)) (after s (step s e))
-keeps_ledger s rule (event.Reader q k) = after_ledger s (reader_step s q k) (reader_ledger s q k)
-keeps_ledger s rule (event.Keeper k) = follows s rule k (keeper_step s k) refl
+pub ledger_tells : (s : State) → Rule s → (e : Event) → LedgerTells s e (answer (step s e)) (after s (step s e))
+ledger_tells s rule (event.Reader q k) = tt
+ledger_tells s rule (event.Keeper k) = follows s rule k (keeper_step s k) refl
+
+-- a step that was allowed changes its own view alone, and one that was not changes nothing
+allowed_own : (s : State) (e : Event) (r : ℕ × State) → step s e ≡ Some r → ChangesOwnView s e r.1
+allowed_own s (event.Reader q k) r is = reader_alone s q k r is
+allowed_own s (event.Keeper k) r is = keeper_seats s k r is
+
+nothing_own : (s : State) (e : Event) → ChangesOwnView s e s
+nothing_own s (event.Reader q k) = (refl, λ j ne. refl)
+nothing_own s (event.Keeper k) = refl
+
+own_cases : (s : State) (e : Event) (o : Option (ℕ × State)) → step s e ≡ o → ChangesOwnView s e (after s o)
+own_cases s e None is = nothing_own s e
+own_cases s e (Some r) is = allowed_own s e r is
+
+pub changes_own_view : (s : State) (e : Event) → ChangesOwnView s e (after s (step s e))
+changes_own_view s e = own_cases s e (step s e) refl

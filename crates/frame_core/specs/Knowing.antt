@@ -1,5 +1,5 @@
--- What the keeper knows is enough to tell where each of its steps is allowed, and what it knows after it. Source: own.
-use Rattle.std.specs.Prelude.{ℕ, ◌≡◌, ◌↔◌}
+-- What each seat knows: an event changes the view of its own seat alone, and the keeper's is enough to tell where its steps are allowed and what follows. Source: own.
+use Rattle.std.specs.Prelude.{ℕ, ◌≡◌, ◌≢◌, ◌↔◌, slice_get}
 use Rattle.frame_core.specs.declared.event.Event.{Event}
 use Rattle.frame_core.specs.declared.event.Event.TheVariants.{Reader, Keeper}
 use Rattle.frame_core.specs.declared.event.KeeperStep.{KeeperStep}
@@ -20,7 +20,12 @@ pub record FollowsLedger (old : State) (e : KeeperStep) (result : Step) (new : S
   -- what the keeper knows after it, follows from what it knew, the step and the word found
   pub after : (found : ℕ) → result ≡ Done found → ledger_of new ≡ ledger_after old.shape (ledger_of old) e found
 
--- a reader's step leaves what the keeper knows as it was
-abbrev pub KeepsLedger : State → Event → Step → State → Type 0
-KeepsLedger old (Reader seat e) result new = ledger_of new ≡ ledger_of old
-KeepsLedger old (Keeper e) result new = FollowsLedger old e result new
+-- the ledger tells of each step of the keeper
+abbrev pub LedgerTells : State → Event → Step → State → Type 0
+LedgerTells old (Reader seat e) result new = Unit {0}
+LedgerTells old (Keeper e) result new = FollowsLedger old e result new
+
+-- an event changes what its own seat knows, and nothing that another knows: the keeper its ledger, a reader its phase
+abbrev pub ChangesOwnView : State → Event → State → Type 0
+ChangesOwnView old (Reader seat e) new = (ledger_of new ≡ ledger_of old) × ((q : ℕ) → q ≢ seat → slice_get new.seats q ≡ slice_get old.seats q)
+ChangesOwnView old (Keeper e) new = new.seats ≡ old.seats

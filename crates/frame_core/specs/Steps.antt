@@ -1,5 +1,5 @@
 -- The step relation of the frame protocol, as a function: the word that a step finds and the state after it, or None where it is not allowed. Source: own.
-use Rattle.std.specs.Prelude.{ℕ, List, Option, None, Some}
+use Rattle.std.specs.Prelude.{ℕ, ◌≡◌, List, Option, None, Some}
 use Rattle.frame_core.specs.declared.event.Event.{Event}
 use Rattle.frame_core.specs.declared.event.Event.TheVariants as event
 use Rattle.frame_core.specs.declared.event.Step.{Step}
@@ -36,3 +36,14 @@ frames_after old (Some r) = r.1
 abbrev pub phase_after : Phase → Option (ℕ × List Frame × Phase) → Phase
 phase_after old None = old
 phase_after old (Some r) = r.2
+
+-- a change was made of what was there, where it is allowed, and answered
+pub record Makes {A : Type 0} (change : A → Option (ℕ × A)) (old : A) (result : Step) (new : A) : Type 0 where
+  pub answered : result ≡ answer (change old)
+  pub changed : new ≡ after old (change old)
+
+-- the same of the frames and a phase
+pub record MakesBoth (change : List Frame → Phase → Option (ℕ × List Frame × Phase)) (frames : List Frame) (phase : Phase) (result : Step) (new_frames : List Frame) (new_phase : Phase) : Type 0 where
+  pub answered : result ≡ answer_both (change frames phase)
+  pub frames_changed : new_frames ≡ frames_after frames (change frames phase)
+  pub phase_changed : new_phase ≡ phase_after phase (change frames phase)

@@ -14,7 +14,8 @@ pub enum ReaderStep {
     LoadPlace(u32),
     /// Loads the count of the frame that the place named.
     LoadCount,
-    /// Exchanges the count that was loaded for one more: takes a reference, unless the count is another by now.
+    /// Exchanges the count that was loaded for one more: takes a reference, unless the count is another by
+    /// now.
     Exchange,
     /// Loads the generation of that frame, to tell whether it is still in the life that the place named.
     LoadGeneration,
@@ -52,8 +53,10 @@ pub enum KeeperStep {
 /// The answer to an event.
 #[derive(Clone, Copy, Debug, PartialEq, Eq)]
 pub enum Step {
-    /// The step was made. The word is the one that it found: for a change the word before it, for a plain store 0.
+    /// The step was made. The word is the one that it found: for a change the word before it, for a plain
+    /// store 0.
     Done(u64),
-    /// The state allows no such step, or it names no seat, frame, place or word of the shape. Nothing changed.
+    /// The state allows no such step, or it names no seat, frame, place or word of the shape. Nothing
+    /// changed.
     NotAllowed,
 }

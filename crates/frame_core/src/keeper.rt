@@ -1,9 +1,9 @@
 //! The keeper's steps: at one frame, then at a frame or a place of the machine.
 ghost use Rattle.std.specs.Prelude.{◌≡◌, ℕ, ◌^◌, ◌<◌, ◌≤◌, slice_get};
 ghost use Rattle.frame_core.specs.KeeperSteps.{reap_step, put_step, raise_step, open_step, add_step, sub_step, freeze_step, word_step, at_frame, is_live, publish_step, withdraw_step, keeper_step};
-ghost use Rattle.frame_core.specs.Steps.{answer, after};
+ghost use Rattle.frame_core.specs.Steps.{Makes};
 ghost use Rattle.frame_core.specs.Bounds.{FramesFit, Fits};
-ghost use Rattle.frame_core.specs.Machine.{state_of};
+ghost use Rattle.frame_core.specs.Machine.{state_of, Performs};
 
 use crate::event::{KeeperStep, Step};
 use crate::frame::{Frame, Kind};
@@ -13,8 +13,7 @@ use crate::seat::Life;
 impl Frame {
     /// Loads the count. A dying frame with none is free again, or retired after its last life.
     pub(crate) fn reap(&mut self, last_generation: u64) -> Step
-        ensures answer { result ≡ answer (reap_step last_generation self.old) }
-        ensures after { self.new ≡ after self.old (reap_step last_generation self.old) }
+        ensures { Makes (reap_step last_generation) self.old result self.new }
     {
         match self.kind {
             Kind::Dying => {
@@ -33,8 +32,7 @@ impl Frame {
 
     /// Stores a word of the content.
     pub(crate) fn put(&mut self, word: usize, value: u64) -> Step
-        ensures answer { result ≡ answer (put_step word value self.old) }
-        ensures after { self.new ≡ after self.old (put_step word value self.old) }
+        ensures { Makes (put_step word value) self.old result self.new }
     {
         match self.kind {
             Kind::Filling | Kind::Private if word < self.content.len() => {
@@ -48,8 +46,7 @@ impl Frame {
     /// Begins the next life of a free frame, before anybody can count on it.
     pub(crate) fn raise(&mut self) -> Step
         requires { self.old.generation < 2 ^ 63 }
-        ensures answer { result ≡ answer (raise_step self.old) }
-        ensures after { self.new ≡ after self.old (raise_step self.old) }
+        ensures { Makes raise_step self.old result self.new }
     {
         match self.kind {
             Kind::Free => {
@@ -64,8 +61,7 @@ impl Frame {
 
     /// Stores 1 to the count of a frame that was filled.
     pub(crate) fn open(&mut self) -> Step
-        ensures answer { result ≡ answer (open_step self.old) }
-        ensures after { self.new ≡ after self.old (open_step self.old) }
+        ensures { Makes open_step self.old result self.new }
     {
         match self.kind {
             Kind::Filling => {
@@ -81,8 +77,7 @@ impl Frame {
     /// Adds a reference of the keeper, who has 1 to 1,023.
     pub(crate) fn add(&mut self) -> Step
         requires { self.old.count < 2 ^ 63 }
-        ensures answer { result ≡ answer (add_step self.old) }
-        ensures after { self.new ≡ after self.old (add_step self.old) }
+        ensures { Makes add_step self.old result self.new }
     {
         if self.base < 1 || self.base > 1023 {
             return Step::NotAllowed;
@@ -96,8 +91,7 @@ impl Frame {
     /// Gives a reference of the keeper back. The frame dies with the last one, readers or not.
     pub(crate) fn sub(&mut self) -> Step
         requires { self.old.base ≤ self.old.count }
-        ensures answer { result ≡ answer (sub_step self.old) }
-        ensures after { self.new ≡ after self.old (sub_step self.old) }
+        ensures { Makes sub_step self.old result self.new }
     {
         if self.base < 1 {
             return Step::NotAllowed;
@@ -111,10 +105,10 @@ impl Frame {
         Step::Done(before)
     }
 
-    /// Exchanges the count for 0, where it is the keeper's own references: no reader can take one from then on.
+    /// Exchanges the count for 0, where it is the keeper's own references: no reader can take one from then
+    /// on.
     pub(crate) fn freeze(&mut self) -> Step
-        ensures answer { result ≡ answer (freeze_step self.old) }
-        ensures after { self.new ≡ after self.old (freeze_step self.old) }
+        ensures { Makes freeze_step self.old result self.new }
     {
         match self.kind {
             Kind::Stable => {
@@ -132,8 +126,7 @@ impl Frame {
 
     /// Loads a word of the content.
     pub(crate) fn word(&self, word: usize) -> Step
-        ensures answer { result ≡ answer (word_step word self.now) }
-        ensures after { after self.now (word_step word self.now) ≡ self.now }
+        ensures { Makes (word_step word) self.now result self.now }
     {
         match self.kind {
             Kind::Private | Kind::Stable | Kind::Dying => match self.content.get(word) {
@@ -147,8 +140,7 @@ impl Frame {
 
 impl Machine {
     fn reap(&mut self, frame: u32) -> Step
-        ensures answer { result ≡ answer (at_frame (state_of self.old) frame (reap_step self.old.shape.last_generation)) }
-        ensures after { state_of self.new ≡ after (state_of self.old) (at_frame (state_of self.old) frame (reap_step self.old.shape.last_generation)) }
+        ensures { Performs (λ s. at_frame s frame (reap_step s.shape.last_generation)) self.old result self.new }
     {
         let Some(mut found) = self.frame(frame) else {
             return Step::NotAllowed;
@@ -159,8 +151,7 @@ impl Machine {
     }
 
     fn put(&mut self, frame: u32, word: usize, value: u64) -> Step
-        ensures answer { result ≡ answer (at_frame (state_of self.old) frame (put_step word value)) }
-        ensures after { state_of self.new ≡ after (state_of self.old) (at_frame (state_of self.old) frame (put_step word value)) }
+        ensures { Performs (λ s. at_frame s frame (put_step word value)) self.old result self.new }
     {
         let Some(mut found) = self.frame(frame) else {
             return Step::NotAllowed;
@@ -172,8 +163,7 @@ impl Machine {
 
     fn raise(&mut self, frame: u32) -> Step
         requires { FramesFit self.old.frames.items }
-        ensures answer { result ≡ answer (at_frame (state_of self.old) frame raise_step) }
-        ensures after { state_of self.new ≡ after (state_of self.old) (at_frame (state_of self.old) frame raise_step) }
+        ensures { Performs (λ s. at_frame s frame raise_step) self.old result self.new }
     {
         let Some(mut found) = self.frame(frame) else {
             return Step::NotAllowed;
@@ -184,8 +174,7 @@ impl Machine {
     }
 
     fn open(&mut self, frame: u32) -> Step
-        ensures answer { result ≡ answer (at_frame (state_of self.old) frame open_step) }
-        ensures after { state_of self.new ≡ after (state_of self.old) (at_frame (state_of self.old) frame open_step) }
+        ensures { Performs (λ s. at_frame s frame open_step) self.old result self.new }
     {
         let Some(mut found) = self.frame(frame) else {
             return Step::NotAllowed;
@@ -197,8 +186,7 @@ impl Machine {
 
     fn add(&mut self, frame: u32) -> Step
         requires { FramesFit self.old.frames.items }
-        ensures answer { result ≡ answer (at_frame (state_of self.old) frame add_step) }
-        ensures after { state_of self.new ≡ after (state_of self.old) (at_frame (state_of self.old) frame add_step) }
+        ensures { Performs (λ s. at_frame s frame add_step) self.old result self.new }
     {
         let Some(mut found) = self.frame(frame) else {
             return Step::NotAllowed;
@@ -210,8 +198,7 @@ impl Machine {
 
     fn sub(&mut self, frame: u32) -> Step
         requires { FramesFit self.old.frames.items }
-        ensures answer { result ≡ answer (at_frame (state_of self.old) frame sub_step) }
-        ensures after { state_of self.new ≡ after (state_of self.old) (at_frame (state_of self.old) frame sub_step) }
+        ensures { Performs (λ s. at_frame s frame sub_step) self.old result self.new }
     {
         let Some(mut found) = self.frame(frame) else {
             return Step::NotAllowed;
@@ -222,8 +209,7 @@ impl Machine {
     }
 
     fn freeze(&mut self, frame: u32) -> Step
-        ensures answer { result ≡ answer (at_frame (state_of self.old) frame freeze_step) }
-        ensures after { state_of self.new ≡ after (state_of self.old) (at_frame (state_of self.old) frame freeze_step) }
+        ensures { Performs (λ s. at_frame s frame freeze_step) self.old result self.new }
     {
         let Some(mut found) = self.frame(frame) else {
             return Step::NotAllowed;
@@ -234,8 +220,7 @@ impl Machine {
     }
 
     fn word(&self, frame: u32, word: usize) -> Step
-        ensures answer { result ≡ answer (at_frame (state_of self.now) frame (word_step word)) }
-        ensures after { after (state_of self.now) (at_frame (state_of self.now) frame (word_step word)) ≡ state_of self.now }
+        ensures { Performs (λ s. at_frame s frame (word_step word)) self.now result self.now }
     {
         match self.frame(frame) {
             None => Step::NotAllowed,
@@ -243,7 +228,8 @@ impl Machine {
         }
     }
 
-    /// Whether the place names a frame that is stable in the life named. Such a place is not overwritten: its dup lives.
+    /// Whether the place names a frame that is stable in the life named. Such a place is not overwritten:
+    /// its dup lives.
     fn is_live(&self, place: Option<Life>) -> bool
         ensures { result ≡ is_live self.now.frames.items place }
     {
@@ -260,8 +246,7 @@ impl Machine {
     }
 
     fn publish(&mut self, place: u32, frame: u32) -> Step
-        ensures answer { result ≡ answer (publish_step (state_of self.old) place frame) }
-        ensures after { state_of self.new ≡ after (state_of self.old) (publish_step (state_of self.old) place frame) }
+        ensures { Performs (λ s. publish_step s place frame) self.old result self.new }
     {
         let i = place as usize;
         let j = frame as usize;
@@ -288,8 +273,7 @@ impl Machine {
     }
 
     fn withdraw(&mut self, place: u32) -> Step
-        ensures answer { result ≡ answer (withdraw_step (state_of self.old) place) }
-        ensures after { state_of self.new ≡ after (state_of self.old) (withdraw_step (state_of self.old) place) }
+        ensures { Performs (λ s. withdraw_step s place) self.old result self.new }
     {
         let i = place as usize;
         if i >= self.places.len() {
@@ -306,8 +290,7 @@ impl Machine {
     /// A step of the keeper.
     pub(crate) fn keeper(&mut self, step: KeeperStep) -> Step
         requires { Fits (state_of self.old) }
-        ensures answer { result ≡ answer (keeper_step (state_of self.old) step) }
-        ensures after { state_of self.new ≡ after (state_of self.old) (keeper_step (state_of self.old) step) }
+        ensures { Performs (λ s. keeper_step s step) self.old result self.new }
     {
         match step {
             KeeperStep::Reap(frame) => self.reap(frame),

@@ -14,7 +14,8 @@ pub struct Note {
     pub content: [u64; PAGE_WORDS],
 }
 
-/// What the keeper knows: a note of each frame, and what each place names. Contracts speak of it; no value of it is made.
+/// What the keeper knows: a note of each frame, and what each place names. Contracts speak of it; no value
+/// of it is made.
 pub struct Ledger {
     pub frames: LinkedList<Note>,
     pub places: LinkedList<Option<Life>>,

@@ -1,5 +1,6 @@
 //! The frame protocol as a pure machine: what one atomic step of one seat does, without atomics.
-//! `keeper` has the steps of the keeper, `reader` those of a reader; `protocol` has `Core` and `run`, which carry what is promised of them.
+//! `keeper` has the steps of the keeper, `reader` those of a reader; `protocol` has `Core` and `run`, which
+//! carry what is promised of them.
 #![tactic(auto)]
 
 mod event;

@@ -1,9 +1,9 @@
 ghost use Rattle.std.specs.Prelude.{◌≡◌, ℕ, ◌<◌, length, slice_get, slice_set, IfOk};
 ghost use Rattle.ksm_base.specs.Values.{IsShape};
 ghost use Rattle.frame_core.specs.State.{opening};
-ghost use Rattle.frame_core.specs.Steps.{step, answer, after};
+ghost use Rattle.frame_core.specs.Steps.{step};
 ghost use Rattle.frame_core.specs.Bounds.{Fits};
-ghost use Rattle.frame_core.specs.Machine.{state_of};
+ghost use Rattle.frame_core.specs.Machine.{state_of, Performs};
 
 use crate::event::{Event, Step};
 use crate::frame::{Frame, Kind};
@@ -86,8 +86,7 @@ impl Machine {
     /// One step of one seat.
     pub(crate) fn step(&mut self, event: Event) -> Step
         requires { Fits (state_of self.old) }
-        ensures answer { result ≡ answer (step (state_of self.old) event) }
-        ensures after { state_of self.new ≡ after (state_of self.old) (step (state_of self.old) event) }
+        ensures { Performs (λ s. step s event) self.old result self.new }
     {
         match event {
             Event::Reader(seat, step) => self.reader(seat, step),

@@ -4,7 +4,7 @@ ghost use Rattle.frame_core.specs.State.{opening};
 ghost use Rattle.frame_core.specs.Steps.{step, answer, after};
 ghost use Rattle.frame_core.specs.Trace.{run_of};
 ghost use Rattle.frame_core.specs.Ledger.{ledger_of, first_ledger};
-ghost use Rattle.frame_core.specs.Knowing.{KeepsLedger};
+ghost use Rattle.frame_core.specs.Knowing.{LedgerTells, ChangesOwnView};
 ghost use Rattle.frame_core.specs.Safe.{IsSafe, GivenUnheld};
 
 use crate::event::{Event, Step};
@@ -15,7 +15,8 @@ use ksm_base::{Fault, Shape};
 use std::alloc::Global;
 use std::marker::Model;
 
-/// The frame protocol as a pure machine: one keeper, and a seat for each pass. Contracts see it as its state, which keeps the rule of the protocol (own).
+/// The frame protocol as a pure machine: one keeper, and a seat for each pass. Contracts see it as its
+/// state, which keeps the rule of the protocol (own).
 #[derive(Drop)]
 pub struct Core {
     machine: Machine,
@@ -35,7 +36,8 @@ impl Model for Core {
 }
 
 impl Core {
-    /// The opening state: all words 0, all frames free, all places empty, all seats idle. The only error is `Fault::Memory`.
+    /// The opening state: all words 0, all frames free, all places empty, all seats idle. The only error is
+    /// `Fault::Memory`.
     pub fn open(alloc: Global, shape: Shape) -> Result<Core, Fault>
         requires { IsShape shape }
         ensures opening { IfOk result (λ core. core ≡ opening shape) }
@@ -52,8 +54,10 @@ impl Core {
     pub fn step(&mut self, event: Event) -> Step
         ensures answer { result ≡ answer (step self.old event) }
         ensures after { self.new ≡ after self.old (step self.old event) }
+        // a reader changes its own phase and nothing that another seat knows, the keeper what it knows itself
+        ensures views { ChangesOwnView self.old event self.new }
         // what the keeper knows tells where its steps are allowed, and follows them
-        ensures ledger { KeepsLedger self.old event result self.new }
+        ensures ledger { LedgerTells self.old event result self.new }
     {
         self.machine.step(event)
     }
@@ -86,7 +90,8 @@ impl Core {
     }
 }
 
-/// The core after these events, one after another; those that are not allowed are passed over. The only error is `Fault::Memory`.
+/// The core after these events, one after another; those that are not allowed are passed over. The only
+/// error is `Fault::Memory`.
 pub fn run(alloc: Global, shape: Shape, events: &[Event]) -> Result<Core, Fault>
     requires { IsShape shape }
     ensures state { IfOk result (λ core. core ≡ (run_of shape events.now).state) }

@@ -49,7 +49,8 @@ fn published() -> [(Event, Step); 6] {
     ]
 }
 
-/// A seat begins a lookup, the frame dies and is given again, and the seat's exchange meets the count that it loaded.
+/// A seat begins a lookup, the frame dies and is given again, and the seat's exchange meets the count that
+/// it loaded.
 fn second_life() -> [(Event, Step); 17] {
     [
         (reader(ReaderStep::LoadPlace(0)), Step::Done(1024)),
@@ -98,7 +99,8 @@ fn reach(rt: &impl Abort, core: &mut Core, script: &[(Event, Step)], kind: Kind,
     assert_eq!(rt; phase_name(core), phase);
 }
 
-// A seat loads the place and the count of the first life, and its exchange meets the same count in the second: it is counted, but never reads.
+// A seat loads the place and the count of the first life, and its exchange meets the same count in the
+// second: it is counted, but never reads.
 #[test]
 fn the_same_count_in_two_lives(rt: HostRuntime) -> Result<(), Fail> {
     let first = published();
@@ -125,7 +127,8 @@ fn the_same_count_in_two_lives(rt: HostRuntime) -> Result<(), Fail> {
     Ok(())
 }
 
-// The keeper's exchange fails while a reader holds the frame, and is made once it has left: from then on no lookup succeeds.
+// The keeper's exchange fails while a reader holds the frame, and is made once it has left: from then on no
+// lookup succeeds.
 #[test]
 fn migration_event_by_event(rt: HostRuntime) -> Result<(), Fail> {
     let first = published();

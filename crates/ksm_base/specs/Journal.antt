@@ -1,4 +1,4 @@
--- Journals: which are legal, and what was stored last.
+-- Journals: the commands that a book was given with its answers; which are legal, and what was stored last. Own.
 use Rattle.std.specs.Prelude.{◌≡◌, ℕ, Bool, true, false, List, [], ◌∷◌, ◌++◌, fold, take, Option, Some, None, Ok, Err, All, if◌then◌else◌}
 use Rattle.ksm_base.specs.declared.page.GuestPage.{GuestPage}
 use Rattle.ksm_base.specs.declared.row.Row.{Row}
@@ -14,6 +14,7 @@ use Rattle.ksm_base.specs.State.{BookState, opening}
 use Rattle.ksm_base.specs.Answers.{Answer, IsAnswer}
 use Rattle.ksm_base.specs.Apply.{after}
 
+-- an entry is a command with its answer
 abbrev pub Entry : Type 0
 Entry = Command × Answer
 
@@ -32,16 +33,17 @@ pub record IsLegal (shape : Shape) (journal : List Entry) (state : BookState) : 
   pub answers : AreAnswers (opening shape) journal
   pub leads : state ≡ replay (opening shape) journal
 
--- want of memory adds no entry
+-- the fault is want of memory
 abbrev pub memory_fault : Fault → Bool
 memory_fault Memory = true
 memory_fault fault = false
 
+-- the command was refused for memory
 abbrev pub is_memory : Answer → Bool
 is_memory (Ok reply) = false
 is_memory (Err fault) = memory_fault fault
 
--- the journal after a command: one entry more, but for want of memory
+-- the journal after a command: one entry more, but none for want of memory
 abbrev pub journal_after : List Entry → Command → Answer → List Entry
 journal_after journal command answer = if is_memory answer then journal else journal ++ (command, answer) ∷ []
 
@@ -51,6 +53,7 @@ stored_by page (Register other node bytes, Ok reply) = if same_page other page t
 stored_by page (Store other bytes, Ok reply) = if same_page other page then Some bytes else None
 stored_by page _ = None
 
+-- these bytes, or where there are none the earlier ones
 abbrev pub or_else : Option (List ℕ) → Option (List ℕ) → Option (List ℕ)
 or_else (Some bytes) earlier = Some bytes
 or_else None earlier = earlier
@@ -59,10 +62,10 @@ or_else None earlier = earlier
 abbrev pub last_stored : GuestPage → List Entry → Option (List ℕ)
 last_stored page journal = fold (λ earlier e. or_else (stored_by page e) earlier) None journal
 
--- each page has the bytes stored last to it
+-- each row has the bytes stored last to its page
 abbrev pub ReadsLastStored : List Entry → List Row → Type 0
 ReadsLastStored journal rows = All (λ r. last_stored r.page journal ≡ Some r.bytes) rows
 
--- the counters after the first n entries
+-- the counters after the first n entries, as a reader without the lock is shown them
 abbrev pub published : Shape → List Entry → ℕ → Counters
 published shape journal n = counters_of (replay (opening shape) (take n journal))

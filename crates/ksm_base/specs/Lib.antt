@@ -7,4 +7,11 @@ pub mod Refusals
 pub mod Answers
 pub mod Apply
 pub mod Journal
+pub mod Sound
+pub mod Reading
 pub mod Worked
+pub mod WorkedMerging
+pub mod WorkedKnobs
+pub mod WorkedFrames
+pub mod WorkedEdges
+pub mod WorkedSelftests

@@ -1,4 +1,4 @@
--- The refusals that the state decides, in the order in which they are tested.
+-- The refusals that the state decides, in the order in which they are tested. Own, where nothing else is said.
 use Rattle.std.specs.Prelude.{ℕ, Bool, false, not, ◌&&◌, ◌==◌, nat_lt, nat_le, find, Option, Some, None, is_some, is_none, if◌then◌else◌}
 use Rattle.std.specs.List.{list_any}
 use Rattle.ksm_base.specs.declared.page.GuestPage.{GuestPage}
@@ -12,47 +12,60 @@ use Rattle.ksm_base.specs.Rows.{row_at, has_items}
 use Rattle.ksm_base.specs.State.{BookState}
 use Rattle.ksm_base.specs.Counting.{shared_count}
 
--- the refusal, where a test holds
+-- this fault where a test holds, else what later tests find
 abbrev pub refused_if : Bool → Fault → Option Fault → Option Fault
 refused_if test fault later = if test then Some fault else later
 
+-- the page has a row
 abbrev pub is_known : BookState → GuestPage → Bool
 is_known b page = is_some (row_at page b.rows)
 
+-- the row is a page of this guest
 abbrev pub is_of : ℕ → Row → Bool
 is_of guest r = r.page.guest == guest
 
+-- the guest has a row
 abbrev pub has_guest : BookState → ℕ → Bool
 has_guest b guest = list_any (is_of guest) b.rows
 
--- the dup with items at a place
+-- the node isn't there
+abbrev pub is_no_node : BookState → ℕ → Bool
+is_no_node b node = nat_le b.shape.nodes node
+
+-- the dup with items at a place, if one stands there
 abbrev pub live_dup_at : BookState → ℕ → Option DupRow
 live_dup_at b place = find (λ d. d.place == place && has_items b.rows d) b.dups
 
--- a move to a node that isn't the dup's tree, against the knob
+-- a move of a dup to a node that isn't its tree, while each node has trees of its own
 abbrev pub crosses : BookState → ℕ → Option DupRow → Bool
 crosses b node None = false
 crosses b node (Some d) = b.knobs.merge_across_nodes == 0 && not (d.tree == node)
 
+-- a value in its range, both ends included
 abbrev pub is_within : ℕ → ℕ → ℕ → Bool
 is_within low high v = nat_le low v && nat_le v high
 
--- the refusals that the state decides, in the order in which they are tested
+-- a knob gets another value while pages are shared (admin-guide/mm/ksm for merge_across_nodes, own for max_page_sharing)
+abbrev pub changes_while_shared : BookState → ℕ → ℕ → Bool
+changes_while_shared b knob v = not (v == knob) && nat_lt 0 (shared_count b.rows b.dups)
+
+-- the refusal of a command; none where it is up to the frames
 abbrev pub refusal : BookState → Command → Option Fault
-refusal b (Register page node bytes) = refused_if (nat_le b.shape.nodes node) BadNode (refused_if (is_known b page) AlreadyRegistered None)
+refusal b (Register page node bytes) = refused_if (is_no_node b node) BadNode (refused_if (is_known b page) AlreadyRegistered None)
 refusal b (Drop page) = refused_if (not (is_known b page)) UnknownPage None
 refusal b (Store page bytes) = refused_if (not (is_known b page)) UnknownPage None
 refusal b (Scan n) = refused_if (not (b.knobs.run == 1)) NotRunning None
 refusal b Prune = None
 refusal b (Unmerge guest) = refused_if (not (has_guest b guest)) UnknownPage None
 refusal b (Mergeable guest) = refused_if (not (has_guest b guest)) UnknownPage None
-refusal b (MovePage page node) = refused_if (nat_le b.shape.nodes node) BadNode (refused_if (not (is_known b page)) UnknownPage None)
+refusal b (MovePage page node) = refused_if (is_no_node b node) BadNode (refused_if (not (is_known b page)) UnknownPage None)
 refusal b (MoveDup place node) =
-    refused_if (nat_le b.shape.nodes node) BadNode (
-    refused_if (is_none (live_dup_at b place)) UnknownPlace (refused_if (crosses b node (live_dup_at b place)) CrossesNodes None))
+    refused_if (is_no_node b node) BadNode (
+    refused_if (is_none (live_dup_at b place)) UnknownPlace (
+    refused_if (crosses b node (live_dup_at b place)) CrossesNodes None))
 refusal b (SetRun v) = refused_if (nat_lt 2 v) BadValue None
 refusal b (SetPagesToScan v) = refused_if (not (is_within 1 1000000 v)) BadValue None
 refusal b (SetAcross v) =
-    refused_if (nat_lt 1 v) BadValue (refused_if (not (v == b.knobs.merge_across_nodes) && nat_lt 0 (shared_count b.rows b.dups)) SharedPages None)
+    refused_if (nat_lt 1 v) BadValue (refused_if (changes_while_shared b b.knobs.merge_across_nodes v) SharedPages None)
 refusal b (SetLimit v) =
-    refused_if (not (is_within 2 1024 v)) BadValue (refused_if (not (v == b.knobs.max_page_sharing) && nat_lt 0 (shared_count b.rows b.dups)) SharedPages None)
+    refused_if (not (is_within 2 1024 v)) BadValue (refused_if (changes_while_shared b b.knobs.max_page_sharing v) SharedPages None)

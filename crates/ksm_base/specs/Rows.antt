@@ -1,4 +1,4 @@
--- Rows and dup rows: lists in order, and what is read from them and changed in them.
+-- Rows and dup rows: lists in order, what is read from them, and the edits that commands make. Own, where nothing else is said.
 use Rattle.std.specs.Prelude.{◌≡◌, ℕ, ◌<◌, Bool, true, false, not, ◌&&◌, ◌||◌, ◌==◌, nat_lt, List, ◌∷◌, ◌++◌, map, filter, find, count_by, Option, AllPairs, bytes_eq, if◌then◌else◌}
 use Rattle.ksm_base.specs.declared.page.GuestPage.{GuestPage}
 use Rattle.ksm_base.specs.declared.row.PageState.{PageState}
@@ -10,6 +10,7 @@ use Rattle.ksm_base.specs.declared.row.DupRow.{DupRow}
 abbrev pub comes_before : GuestPage → GuestPage → Bool
 comes_before p q = nat_lt p.guest q.guest || (p.guest == q.guest && nat_lt p.page q.page)
 
+-- a page is told by its guest and its number there
 abbrev pub same_page : GuestPage → GuestPage → Bool
 same_page p q = p.guest == q.guest && p.page == q.page
 
@@ -17,65 +18,73 @@ same_page p q = p.guest == q.guest && p.page == q.page
 abbrev pub InPageOrder : List Row → Type 0
 InPageOrder rows = AllPairs (λ r s. comes_before r.page s.page ≡ true) rows
 
--- the row of a page
+-- the row of a page, if it has one
 abbrev pub row_at : GuestPage → List Row → Option Row
 row_at page rows = find (λ r. same_page r.page page) rows
 
--- with a row at its place in the order, in the stead of one that has its page
+-- the rows with one more at its place in the order, in the stead of one that has its page
 abbrev pub with_row : Row → List Row → List Row
 with_row row rows = filter (λ r. comes_before r.page row.page) rows ++ row ∷ filter (λ r. comes_before row.page r.page) rows
 
+-- the rows but for that of a page
 abbrev pub without_page : GuestPage → List Row → List Row
 without_page page rows = filter (λ r. not (same_page r.page page)) rows
 
--- with a change made to the rows that pass a test
+-- the rows with a change made to those that pass a test
 abbrev pub change_rows : (Row → Bool) → (Row → Row) → List Row → List Row
 change_rows test change rows = map (λ r. if test r then change r else r) rows
 
--- with a change made to the row of a page
+-- the rows with a change made to the row of a page
 abbrev pub change_row : GuestPage → (Row → Row) → List Row → List Row
 change_row page change rows = change_rows (λ r. same_page r.page page) change rows
 
+-- mapped from a frame of its own, in neither tree (mm/ksm)
 abbrev pub private_state : PageState → Bool
 private_state Private = true
 private_state Waiting = false
 private_state (Merged d) = false
 
+-- mapped from a frame of its own, in the unstable tree (mm/ksm)
 abbrev pub waiting_state : PageState → Bool
 waiting_state Private = false
 waiting_state Waiting = true
 waiting_state (Merged d) = false
 
+-- mapped from the page of a stable node (mm/ksm)
 abbrev pub merged_state : PageState → Bool
 merged_state Private = false
 merged_state Waiting = false
 merged_state (Merged d) = true
 
+-- mapped from the page of the dup with this number (mm/ksm)
 abbrev pub merged_into : ℕ → PageState → Bool
 merged_into number Private = false
 merged_into number Waiting = false
 merged_into number (Merged d) = d == number
 
--- a Waiting row becomes Private
+-- out of the unstable tree (mm/ksm)
 abbrev pub settled_state : PageState → PageState
 settled_state Private = Private
 settled_state Waiting = Private
 settled_state (Merged d) = Merged d
 
+-- a Waiting row becomes Private, any other stays
 abbrev pub settled : Row → Row
 settled r = record r { state = settled_state r.state }
 
--- the items of a dup are the rows merged into its number
+-- how many items a dup has: the rows merged into its number (mm/ksm, reverse-mapping items)
 abbrev pub item_count : List Row → DupRow → ℕ
 item_count rows d = count_by (λ r. merged_into d.number r.state) rows
 
+-- a dup without items is stale (mm/ksm)
 abbrev pub is_stale : List Row → DupRow → Bool
 is_stale rows d = item_count rows d == 0
 
+-- a dup that is not stale
 abbrev pub has_items : List Row → DupRow → Bool
 has_items rows d = nat_lt 0 (item_count rows d)
 
--- one tree and one content
+-- of one tree and one content: dups that stand in one chain (mm/ksm)
 abbrev pub same_group : DupRow → DupRow → Bool
 same_group d e = d.tree == e.tree && bytes_eq d.bytes e.bytes
 
@@ -83,6 +92,10 @@ same_group d e = d.tree == e.tree && bytes_eq d.bytes e.bytes
 abbrev pub InPlaceOrder : List DupRow → Type 0
 InPlaceOrder dups = AllPairs (λ d e. (d.place < e.place) × ((d.number == e.number) ≡ false)) dups
 
--- with a dup at its place, in the stead of one that stood there
+-- the dup rows with one more at its place, in the stead of one that stands there
 abbrev pub with_dup : DupRow → List DupRow → List DupRow
 with_dup dup dups = filter (λ d. nat_lt d.place dup.place) dups ++ dup ∷ filter (λ d. nat_lt dup.place d.place) dups
+
+-- the dup row with a number, if there is one
+abbrev pub dup_numbered : ℕ → List DupRow → Option DupRow
+dup_numbered number dups = find (λ d. d.number == number) dups

@@ -1,10 +1,10 @@
--- The numbers of the faults and the ranges of a shape.
+-- The numbers of the faults and the ranges of a shape. Own.
 use Rattle.std.specs.Prelude.{ℕ, ◌≤◌, ◌*◌, ◌^◌}
 use Rattle.ksm_base.specs.declared.fault.Fault.{Fault}
 use Rattle.ksm_base.specs.declared.fault.Fault.TheVariants.{Memory, UnknownPage, AlreadyRegistered, NoFrame, NotRunning, SharedPages, BadValue, InUse, CrossesNodes, UnknownPlace, BadNode}
 use Rattle.ksm_base.specs.declared.shape.Shape.{Shape}
 
--- the number of a fault in replies
+-- the number by which a reply tells a fault
 abbrev pub fault_number : Fault → ℕ
 fault_number Memory = 1
 fault_number UnknownPage = 2
@@ -31,6 +31,6 @@ pub record IsShape (s : Shape) : Type 0 where
   pub tries_low : 1 ≤ s.tries
   pub tries_high : s.tries ≤ 64
 
--- how many frames there are, and as many places
+-- how many frames there are on all nodes together
 abbrev pub frames_of : Shape → ℕ
 frames_of s = s.nodes * s.frames_per_node

@@ -1,4 +1,4 @@
--- One visit of the scan.
+-- One visit of the scan (mm/ksm, stable and unstable tree; what is said to be own is not in that text).
 use Rattle.std.specs.Prelude.{ℕ, zero, suc, ◌+◌, Bool, true, not, ◌&&◌, ◌||◌, ◌==◌, nat_lt, nat_le, List, find, Option, Some, None, is_some, is_none, bytes_eq, if◌then◌else◌}
 use Rattle.std.specs.List.{list_any, list_all, range_with_len}
 use Rattle.ksm_base.specs.declared.page.GuestPage.{GuestPage}
@@ -9,20 +9,20 @@ use Rattle.ksm_base.specs.declared.row.DupRow.{DupRow}
 use Rattle.ksm_base.specs.Rows.{comes_before, same_page, change_rows, change_row, waiting_state, merged_state, item_count, is_stale, with_dup}
 use Rattle.ksm_base.specs.State.{BookState, place_count, tree_of, with_none_waiting, pass_ended}
 
--- whether a page comes after the cursor; every page comes after an empty one
+-- a page comes after the cursor; every page comes after an empty one (own)
 abbrev pub after_cursor : Option GuestPage → GuestPage → Bool
 after_cursor None page = true
 after_cursor (Some last) page = comes_before last page
 
--- the row that is visited next: the least mergeable one after the cursor
+-- the row that is visited next: the least mergeable one after the cursor (own)
 abbrev pub next_row : Option GuestPage → List Row → Option Row
 next_row cursor rows = find (λ r. r.mergeable && after_cursor cursor r.page) rows
 
--- the pass ends where the cursor has a page and no mergeable page is greater
+-- the pass ends where the cursor has a page and no mergeable page comes after it (own)
 abbrev pub pass_ended_at_last : BookState → BookState
 pass_ended_at_last b = if is_some b.cursor && is_none (next_row b.cursor b.rows) then pass_ended b else b
 
--- before the first visit of a pass every Waiting row becomes Private
+-- as a pass begins every Waiting row becomes Private
 abbrev pub pass_begun : BookState → BookState
 pass_begun b = if is_none b.cursor then with_none_waiting b else b
 
@@ -30,53 +30,56 @@ pass_begun b = if is_none b.cursor then with_none_waiting b else b
 abbrev pub visit_begun : BookState → BookState
 visit_begun b = pass_begun (pass_ended_at_last b)
 
--- a dup that a row may join: of its tree and bytes, with an item, and below the limit
+-- a row may join a dup of its tree and bytes that has an item and is below the limit (admin-guide/mm/ksm, max_page_sharing)
 abbrev pub may_join : Knobs → List Row → Row → DupRow → Bool
 may_join knobs rows row d =
     d.tree == tree_of knobs row && bytes_eq d.bytes row.bytes && nat_le 1 (item_count rows d)
     && nat_lt (item_count rows d) knobs.max_page_sharing
 
--- d has more items than e, or as many and no greater number
+-- d has more items than e, or as many and no greater number (own)
 abbrev pub is_no_worse : List Row → DupRow → DupRow → Bool
 is_no_worse rows d e =
     nat_lt (item_count rows e) (item_count rows d)
     || (item_count rows e == item_count rows d && nat_le d.number e.number)
 
--- e is no better to join than d
+-- e may not be joined, or is no better to join than d (own)
 abbrev pub is_no_rival : Knobs → List Row → Row → DupRow → DupRow → Bool
 is_no_rival knobs rows row d e = not (may_join knobs rows row e) || is_no_worse rows d e
 
--- a row may join d, and no other dup is better to join
+-- d may be joined, and no other dup is better to join (own)
 abbrev pub is_best : Knobs → List Row → List DupRow → Row → DupRow → Bool
 is_best knobs rows dups row d = may_join knobs rows row d && list_all (is_no_rival knobs rows row d) dups
 
--- the dup that a row joins
+-- the dup that a row joins: of those that it may join the one with the most items, of these the first made (own)
 abbrev pub best_dup : Knobs → List Row → List DupRow → Row → Option DupRow
 best_dup knobs rows dups row = find (is_best knobs rows dups row) dups
 
--- another row that waits, of its tree and bytes
+-- another row that waits, of the same tree and bytes
 abbrev pub waits_for : Knobs → Row → Row → Bool
 waits_for knobs row w =
     waiting_state w.state && not (same_page w.page row.page) && tree_of knobs w == tree_of knobs row
     && bytes_eq w.bytes row.bytes
 
+-- the waiting row with which a row makes a dup
 abbrev pub partner : Knobs → List Row → Row → Option Row
 partner knobs rows row = find (waits_for knobs row) rows
 
--- the least of so many places that no dup has
+-- the least of so many places that no dup has (own)
 abbrev pub empty_place : ℕ → List DupRow → Option ℕ
 empty_place places dups = find (λ p. not (list_any (λ d. d.place == p) dups)) (range_with_len 0 places)
 
--- a new dup takes the least empty place, or where there is none that of the first stale dup
+-- the empty place, or where there is none that of the stale dup (own)
 abbrev pub chosen_place : Option ℕ → Option DupRow → Option ℕ
 chosen_place (Some place) stale = Some place
 chosen_place None (Some d) = Some d.place
 chosen_place None None = None
 
+-- a new dup takes the least empty place, or where there is none that of the stale dup at the least place (own)
 abbrev pub new_place : ℕ → List Row → List DupRow → Option ℕ
 new_place places rows dups = chosen_place (empty_place places dups) (find (is_stale rows) dups)
 
--- a new dup of the waiting row and the visited one; without a place, which can't come about while the frames are as many as the places, nothing changes
+-- a new dup of the waiting row and the visited one, in the stead of a stale dup at its place;
+-- without a place, which can't come about while the frames are as many as the places, nothing changes (own)
 abbrev pub made_dup : Option ℕ → BookState → Row → Row → BookState
 made_dup (Some place) b w row =
     record b {
@@ -86,24 +89,27 @@ made_dup (Some place) b w row =
     }
 made_dup None b w row = b
 
--- a row whose bytes have stayed: it is paired with the waiting one, or waits
+-- a row whose bytes have stayed makes a dup with the row that waits for it, or waits
 abbrev pub paired : Option Row → BookState → Row → BookState
 paired (Some w) b row = made_dup (new_place (place_count b.shape) b.rows b.dups) b w row
 paired None b row = record b { rows = change_row row.page (λ r. record r { state = Waiting }) b.rows }
 
--- a row that isn't merged: it joins the best dup, else becomes unchanged, else is paired
+-- a row that isn't merged joins the best dup, else becomes unchanged, else is paired
 abbrev pub handled : Option DupRow → BookState → Row → BookState
 handled (Some d) b row = record b { rows = change_row row.page (λ r. record r { state = Merged d.number }) b.rows }
 handled None b row =
     if row.unchanged then paired (partner b.knobs b.rows row) b row
     else record b { rows = change_row row.page (λ r. record r { unchanged = true; state = Private }) b.rows }
 
+-- a merged row stays as it is, any other is handled
 abbrev pub row_visited : BookState → Row → BookState
 row_visited b row = if merged_state row.state then b else handled (best_dup b.knobs b.rows b.dups row) b row
 
+-- the cursor goes to the page, and the pass ends if it was the last (own)
 abbrev pub visit_ended : BookState → GuestPage → BookState
 visit_ended b page = pass_ended_at_last (record b { cursor = Some page })
 
+-- the visit of the next row, if there is one
 abbrev pub visit_of : BookState → Option Row → BookState
 visit_of b (Some row) = visit_ended (row_visited b row) row.page
 visit_of b None = b

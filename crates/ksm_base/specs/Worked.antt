@@ -1,74 +1,124 @@
--- Worked journals, by which the definitions are tried.
-use Rattle.std.specs.Prelude.{ℕ, ◌^◌, List, [], ◌∷◌, ◌++◌, None, Some, Ok, Err}
+-- Worked scripts, by which the definitions are tried: what a line may be, and when a book plays a script. Own.
+use Rattle.std.specs.Prelude.{◌≡◌, ℕ, ◌-◌, ◌*◌, ◌^◌, List, [], ◌∷◌, ◌++◌, Option, None, Some, Ok, Err}
+use Rattle.std.specs.List.{repeat}
 use Rattle.ksm_base.specs.declared.page.GuestPage.{GuestPage}
+use Rattle.ksm_base.specs.declared.page.TheConstants.{PAGE_WORDS}
 use Rattle.ksm_base.specs.declared.command.Command.{Command}
-use Rattle.ksm_base.specs.declared.command.Command.TheVariants.{Register, Drop, Store, Scan, Prune, Unmerge, Mergeable, MovePage, SetRun, SetAcross, SetLimit}
+use Rattle.ksm_base.specs.declared.command.Command.TheVariants.{Register, Drop, Store, Scan, Prune, Unmerge, SetRun}
 use Rattle.ksm_base.specs.declared.reply.Reply.TheVariants.{Done, Scanned, Pruned, Unmerged}
-use Rattle.ksm_base.specs.declared.fault.Fault.TheVariants.{NoFrame, SharedPages}
+use Rattle.ksm_base.specs.declared.fault.Fault.{Fault}
+use Rattle.ksm_base.specs.declared.fault.Fault.TheVariants.{NoFrame}
+use Rattle.ksm_base.specs.declared.knobs.Knobs.{Knobs}
 use Rattle.ksm_base.specs.declared.counters.Counters.{Counters}
 use Rattle.ksm_base.specs.declared.shape.Shape.{Shape}
-use Rattle.ksm_base.specs.Journal.{Entry}
+use Rattle.ksm_base.specs.State.{BookState}
+use Rattle.ksm_base.specs.Answers.{Answer, IsAnswer}
+use Rattle.ksm_base.specs.Apply.{after}
+use Rattle.ksm_base.specs.Counting.{counters_of}
+use Rattle.ksm_base.specs.Reading.{bytes_of, ticket_of, mappers_of}
 
+-- a line of a script
+pub data Line : Type 0 where
+  -- a command gives an answer
+  gives : Command → Answer → Line
+  -- a command may not give an answer, and isn't given here
+  never : Command → Answer → Line
+  -- the counters of the rows are these
+  counts : Counters → Line
+  -- a knob has this value
+  shows : (Knobs → ℕ) → ℕ → Line
+  -- a page has these bytes
+  reads : GuestPage → Option (List ℕ) → Line
+  -- a page is merged into the dup at this place, or into none
+  lies_at : GuestPage → Option ℕ → Line
+  -- these pages are merged into the dup with items at a place, if one stands there
+  maps : ℕ → Option (List GuestPage) → Line
+
+-- a book plays a script: each answer is one that its command may have there, each that
+-- never comes is none, and each reading is what the state then shows
+abbrev pub Plays : BookState → List Line → Type 0
+Plays b [] = Unit {0}
+Plays b (gives command answer ∷ later) = IsAnswer b command answer × Plays (after b command answer) later
+Plays b (never command answer ∷ later) = (IsAnswer b command answer → ⊥) × Plays b later
+Plays b (counts counters ∷ later) = (counters_of b ≡ counters) × Plays b later
+Plays b (shows knob value ∷ later) = (knob b.knobs ≡ value) × Plays b later
+Plays b (reads page bytes ∷ later) = (bytes_of page b ≡ bytes) × Plays b later
+Plays b (lies_at page place ∷ later) = (ticket_of page b ≡ place) × Plays b later
+Plays b (maps place pages ∷ later) = (mappers_of place b ≡ pages) × Plays b later
+
+-- a shape of so many nodes and frames a node
 abbrev pub shape : ℕ → ℕ → Shape
 shape nodes frames = record { nodes = nodes; frames_per_node = frames; passes = 2; last_generation = 2 ^ 40; tries = 8 }
 
-abbrev pub a_page : ℕ → ℕ → GuestPage
-a_page guest page = record { guest = guest; page = page }
+-- a page by its guest and number
+abbrev pub at : ℕ → ℕ → GuestPage
+at guest page = record { guest = guest; page = page }
 
+-- bytes that are all equal
 abbrev pub full : ℕ → List ℕ
-full word = word ∷ word ∷ []
+full byte = repeat PAGE_WORDS (byte * 0x0101010101010101 ∷ [])
 
-abbrev pub done : Command → Entry
-done command = (command, Ok Done)
+-- bytes that are zero but for the last, which is 1
+abbrev pub one_at_the_end : List ℕ
+one_at_the_end = repeat (PAGE_WORDS - 1) (0 ∷ []) ++ 0x0100000000000000 ∷ []
 
-abbrev pub reg : ℕ → ℕ → Entry
-reg page word = done (Register (a_page 0 page) 0 (full word))
+-- a command that is done
+abbrev pub ok : Command → Line
+ok command = gives command (Ok Done)
 
-abbrev pub put : ℕ → ℕ → Entry
-put page word = done (Store (a_page 0 page) (full word))
+-- a command that is refused
+abbrev pub refused : Fault → Command → Line
+refused fault command = gives command (Err fault)
 
-abbrev pub scan : ℕ → Entry
-scan n = (Scan n, Ok (Scanned n None))
+-- a page is registered, full of one byte
+abbrev pub reg : ℕ → ℕ → ℕ → ℕ → Line
+reg guest page node byte = ok (Register (at guest page) node (full byte))
 
-abbrev pub stat : ℕ → ℕ → ℕ → ℕ → ℕ → ℕ → ℕ → Counters
-stat a b c d e f g = record { shared = a; sharing = b; unshared = c; volatile = d; chains = e; dups = f; full_scans = g }
+-- a page is filled with one byte
+abbrev pub put : ℕ → ℕ → ℕ → Line
+put guest page byte = ok (Store (at guest page) (full byte))
 
--- two pages of one content are merged by the second pass
-abbrev pub merged : List Entry
-merged = reg 0 10 ∷ reg 1 10 ∷ done (SetRun 1) ∷ scan 4 ∷ []
+-- a page is dropped
+abbrev pub drop : ℕ → ℕ → Line
+drop guest page = ok (Drop (at guest page))
 
-abbrev pub limited : List Entry
-limited = done (SetLimit 2) ∷ reg 0 10 ∷ reg 1 10 ∷ reg 2 10 ∷ reg 3 10 ∷ done (SetRun 1) ∷ scan 8 ∷ []
+-- a scan that makes all its visits
+abbrev pub scan : ℕ → Line
+scan visits = gives (Scan visits) (Ok (Scanned visits None))
 
-abbrev pub limited_five : List Entry
-limited_five = done (SetLimit 2) ∷ reg 0 10 ∷ reg 1 10 ∷ reg 2 10 ∷ reg 3 10 ∷ reg 4 10 ∷ done (SetRun 1) ∷ scan 10 ∷ []
+-- so many stale dups are pruned
+abbrev pub prune : ℕ → Line
+prune count = gives Prune (Ok (Pruned count))
 
-abbrev pub pruned : List Entry
-pruned = limited ++ put 0 11 ∷ put 1 12 ∷ (Prune, Ok (Pruned 1)) ∷ []
+-- a guest is unmerged, so many of its pages from a dup
+abbrev pub unmerge : ℕ → ℕ → Line
+unmerge guest pages = gives (Unmerge guest) (Ok (Unmerged pages None))
 
-abbrev pub merged_again : List Entry
-merged_again = merged ++ put 0 10 ∷ put 1 10 ∷ scan 2 ∷ []
+-- an unmerging that stops at a page for which a node has no frame
+abbrev pub stopped : Command → ℕ → ℕ → Line
+stopped command pages node = gives command (Ok (Unmerged pages (Some (NoFrame node))))
 
-abbrev pub apart : List Entry
-apart =
-    done (SetAcross 0) ∷ reg 0 10 ∷ done (Register (a_page 1 0) 1 (full 10)) ∷ done (SetRun 1) ∷ scan 4 ∷ []
+-- the counters in the order of their line in the program
+abbrev pub stat : ℕ → ℕ → ℕ → ℕ → ℕ → ℕ → ℕ → Line
+stat shared sharing unshared volatile chains dups full_scans =
+    counts (record {
+      shared = shared;
+      sharing = sharing;
+      unshared = unshared;
+      volatile = volatile;
+      chains = chains;
+      dups = dups;
+      full_scans = full_scans;
+    })
 
-abbrev pub reset : List Entry
-reset = merged ++ (SetAcross 0, Err SharedPages) ∷ (SetRun 2, Ok (Unmerged 2 None)) ∷ done (SetAcross 0) ∷ []
+-- a page is full of one byte
+abbrev pub get : ℕ → ℕ → ℕ → Line
+get guest page byte = reads (at guest page) (Some (full byte))
 
-abbrev pub page_moved : List Entry
-page_moved = merged ++ done (MovePage (a_page 0 0) 1) ∷ []
+-- a page is merged into the dup at a place
+abbrev pub ticket : ℕ → ℕ → ℕ → Line
+ticket guest page place = lies_at (at guest page) (Some place)
 
-abbrev pub stopped : List Entry
-stopped =
-    reg 0 10 ∷ reg 1 10 ∷ reg 2 10 ∷ done (SetRun 1) ∷ scan 6 ∷ reg 3 11 ∷ (Unmerge 0, Ok (Unmerged 1 (Some (NoFrame 0))))
-    ∷ (SetRun 2, Ok (Unmerged 0 (Some (NoFrame 0)))) ∷ []
-
-abbrev pub joined : List Entry
-joined =
-    done (SetLimit 3) ∷ reg 0 10 ∷ reg 1 10 ∷ reg 2 10 ∷ reg 3 10 ∷ reg 4 10 ∷ reg 5 10 ∷ done (SetRun 1) ∷ scan 12
-    ∷ done (Drop (a_page 0 0)) ∷ done (Drop (a_page 0 1)) ∷ done (Drop (a_page 0 3)) ∷ reg 9 10 ∷ scan 4 ∷ []
-
-abbrev pub let_go_again : List Entry
-let_go_again =
-    merged ++ (Unmerge 0, Ok (Unmerged 2 None)) ∷ (Scan 2, Ok (Scanned 0 None)) ∷ done (Mergeable 0) ∷ scan 4 ∷ []
+-- two equal pages of guest 0, scanned twice
+abbrev pub merged : List Line
+merged = reg 0 0 0 0xaa ∷ reg 0 1 0 0xaa ∷ ok (SetRun 1) ∷ scan 4 ∷ []

@@ -1,43 +1,50 @@
-//! Functions that name the definitions, so that they are read.
+//! Laws of the definitions: what follows from them in every state.
 
-ghost use Rattle.std.specs.Prelude.{◌≡◌, ℕ};
+ghost use Rattle.std.specs.Prelude.{◌≡◌, ◌↔◌, ℕ, List, ◌++◌, map, take};
 ghost use Rattle.ksm_base.specs.declared.command.Command.{Command};
 ghost use Rattle.ksm_base.specs.declared.fault.Fault.{Fault};
-ghost use Rattle.ksm_base.specs.State.{BookState};
+ghost use Rattle.ksm_base.specs.declared.shape.Shape.{Shape};
+ghost use Rattle.ksm_base.specs.Values.{IsShape};
+ghost use Rattle.ksm_base.specs.Counting.{counters_of, mergeable_count, pages_told};
+ghost use Rattle.ksm_base.specs.Journal.{Entry, replay, AreAnswers, IsLegal, published};
+ghost use Rattle.ksm_base.specs.State.{BookState, opening};
+ghost use Rattle.ksm_base.specs.Answers.{Answer, IsAnswer};
 ghost use Rattle.ksm_base.specs.Apply.{after};
-ghost use Rattle.ksm_base.specs.Counting.{counters_of};
-ghost use Rattle.ksm_base.specs.Journal.{IsLegal, last_stored, ReadsLastStored};
+ghost use Rattle.ksm_base.specs.Visit.{visits};
+
+use crate::knobs::Knobs;
 
 /// A refused command keeps the state.
 pub fn a_refusal_keeps_the_state()
-    ensures { (b : BookState) (c : Command) (f : Fault) → after b c (Err f) ≡ b }
+    ensures { (b : BookState) (command : Command) (fault : Fault) → after b command (Err fault) ≡ b }
 {}
 
-ghost use Rattle.ksm_base.specs.Journal.{AreAnswers, replay};
-ghost use Rattle.ksm_base.specs.State.{opening};
-ghost use Rattle.ksm_base.specs.Worked.{shape, stat, merged, limited, limited_five, pruned, merged_again, apart, reset, page_moved, stopped, joined, let_go_again};
-
-/// The counters after some journals.
-pub fn worked_counters()
-    ensures row_4 { counters_of (replay (opening (shape 1 4)) merged) ≡ stat 1 1 0 0 0 0 2 }
-    ensures row_5 { counters_of (replay (opening (shape 1 4)) limited) ≡ stat 2 2 0 0 1 2 2 }
-    ensures row_6 { counters_of (replay (opening (shape 1 8)) limited_five) ≡ stat 2 2 1 0 1 2 2 }
-    ensures row_7 { counters_of (replay (opening (shape 1 4)) pruned) ≡ stat 1 1 0 2 0 0 2 }
-    ensures row_8 { counters_of (replay (opening (shape 1 4)) merged_again) ≡ stat 1 1 0 0 1 2 3 }
-    ensures row_9 { counters_of (replay (opening (shape 2 2)) apart) ≡ stat 0 0 2 0 0 0 2 }
-    ensures row_10 { counters_of (replay (opening (shape 1 4)) reset) ≡ stat 0 0 0 2 0 0 2 }
-    ensures row_16 { counters_of (replay (opening (shape 2 4)) page_moved) ≡ stat 1 0 0 1 0 0 2 }
-    ensures row_18 { counters_of (replay (opening (shape 1 3)) stopped) ≡ stat 1 1 0 1 0 0 2 }
-    ensures row_19 { counters_of (replay (opening (shape 1 8)) joined) ≡ stat 2 2 0 0 1 2 3 }
-    ensures row_27 { counters_of (replay (opening (shape 1 4)) let_go_again) ≡ stat 1 1 0 0 1 2 4 }
+/// Want of memory is no answer that the definitions allow, so no legal journal has an entry of it.
+pub fn memory_is_no_answer()
+    ensures { (b : BookState) (command : Command) → IsAnswer b command (Err Fault.Memory) → ⊥ }
 {}
 
-/// Their answers are those that the commands may have.
-pub fn worked_answers()
-    ensures row_4 { AreAnswers (opening (shape 1 4)) merged }
-    ensures row_5 { AreAnswers (opening (shape 1 4)) limited }
-    ensures row_7 { AreAnswers (opening (shape 1 4)) pruned }
-    ensures row_10 { AreAnswers (opening (shape 1 4)) reset }
-    ensures row_18 { AreAnswers (opening (shape 1 3)) stopped }
-    ensures row_27 { AreAnswers (opening (shape 1 4)) let_go_again }
+/// Visits change no page's mergeable flag: so a scan makes all its visits, or none where it has no page to visit.
+pub fn visits_keep_what_is_mergeable()
+    ensures { (n : ℕ) (b : BookState) → map (λ r. r.mergeable) (visits n b).rows ≡ map (λ r. r.mergeable) b.rows }
+{}
+
+/// A journal in two parts is replayed part by part, and its answers are those of both parts. So each beginning of a legal journal
+/// is legal, and a legal journal goes on by answers that are legal where it ends.
+pub fn a_journal_goes_on()
+    ensures state { (b : BookState) (first later : List Entry) → replay b (first ++ later) ≡ replay (replay b first) later }
+    ensures answers { (b : BookState) (first later : List Entry) → AreAnswers b (first ++ later) ↔ (AreAnswers b first × AreAnswers (replay b first) later) }
+{}
+
+/// After each legal journal, and after each beginning of it, the counters of pages add up to the mergeable pages.
+pub fn the_counters_of_pages_add_up()
+    ensures state { (shape : Shape) (journal : List Entry) (b : BookState) → IsShape shape → IsLegal shape journal b
+        → pages_told (counters_of b) ≡ mergeable_count b.rows }
+    ensures published { (shape : Shape) (journal : List Entry) (n : ℕ) → IsShape shape → AreAnswers (opening shape) journal
+        → pages_told (published shape journal n) ≡ mergeable_count (replay (opening shape) (take n journal)).rows }
+{}
+
+/// A book opens with the settings of `Knobs::DEFAULT`.
+pub fn a_book_opens_with_the_default_knobs()
+    ensures { (shape : Shape) → (opening shape).knobs ≡ Knobs.DEFAULT }
 {}

@@ -5,11 +5,13 @@ mod command;
 mod counters;
 mod fault;
 mod knobs;
-mod laws;
+pub mod laws;
 mod page;
 mod reply;
 mod row;
 mod shape;
+mod sound;
+mod worked;
 
 pub use command::Command;
 pub use counters::Counters;
@@ -19,3 +21,6 @@ pub use page::{GuestPage, PAGE_WORDS, PageBytes};
 pub use reply::Reply;
 pub use row::{DupRow, PageState, Row};
 pub use shape::Shape;
+pub use sound::{
+    each_page_has_what_was_stored_last, every_step_keeps_it_sound, items_agree_with_their_dup,
+};

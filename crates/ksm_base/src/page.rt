@@ -1,12 +1,15 @@
-/// How many 64-bit words a page has.
+/// How many 64-bit words a page has: 2, so a page is 16 bytes (own; a page of the machine has 4,096).
 pub const PAGE_WORDS: usize = 2;
 
-/// The content of a page.
+/// The content of a page, word by word: byte 8i of the page is the lowest byte of word i (own).
 pub type PageBytes = [u64; PAGE_WORDS];
 
-/// A page of a guest. Pages are ordered by guest, then by page.
-#[derive(Clone, Copy, Debug, PartialEq, Eq, PartialOrd, Ord)]
+/// A page of a guest, in the order of guests, then of pages (own; in admin-guide/mm/ksm a page of an area that a program
+/// marked mergeable).
+#[derive(Clone, Copy, Debug, PartialEq, Eq, PartialOrd, Ord, Default)]
 pub struct GuestPage {
+    /// The guest, 0 to 65,535.
     pub guest: u16,
+    /// The number of the page in its guest, 0 to 4,294,967,295.
     pub page: u32,
 }

@@ -1,10 +1,16 @@
 use crate::fault::Fault;
 
-/// What a command did.
+/// What a command did (own).
 #[derive(Clone, Copy, Debug, PartialEq, Eq)]
 pub enum Reply {
+    /// All that was asked.
     Done,
+    /// So many visits were made. `stop` is `Memory` where a further visit was refused memory, which is then not counted: the
+    /// pass may have ended or begun for it, and nothing else changed. Else it is `None`.
     Scanned { visits: u64, stop: Option<Fault> },
+    /// So many stale dups were dropped.
     Pruned(u64),
+    /// So many merged pages got a frame of their own. `stop` is `NoFrame` where the next one found none: that page and those
+    /// after it stayed as they were. Else it is `None`.
     Unmerged { pages: u64, stop: Option<Fault> },
 }

@@ -1,18 +1,18 @@
 ghost use Rattle.std.specs.Prelude.{◌≡◌, ◌≤◌, ◌↔◌, IsTrue};
 ghost use Rattle.ksm_base.specs.Values.{IsShape, frames_of};
 
-/// The sizes of a table (own).
+/// The sizes of a table of frames (own). Each is in its range where `check` holds.
 #[derive(Clone, Copy, Debug, PartialEq, Eq)]
 pub struct Shape {
-    /// NUMA nodes, 1 to 4.
+    /// How many NUMA nodes, 1 to 4.
     pub nodes: u32,
-    /// Frames of each node, 1 to 256.
+    /// How many frames each node has, 1 to 256; those of node n are numbered from `n * frames_per_node` on.
     pub frames_per_node: u32,
-    /// Passes, by which readers look frames up, 1 to 16.
+    /// How many passes there are, by which readers look frames up, 1 to 16.
     pub passes: u32,
-    /// How many times a frame may be given, 1 to 2^40.
+    /// How many times a frame is given at most, 1 to 2^40; after its last life it is retired.
     pub last_generation: u64,
-    /// How many exchanges a lookup makes at most, 1 to 64.
+    /// How many exchanges a lookup makes at most before it is answered busy, 1 to 64.
     pub tries: u32,
 }
 
@@ -21,19 +21,14 @@ impl Shape {
     pub fn check(&self) -> bool
         ensures { IsTrue result ↔ IsShape self.now }
     {
-        1 <= self.nodes
-            && self.nodes <= 4
-            && 1 <= self.frames_per_node
-            && self.frames_per_node <= 256
-            && 1 <= self.passes
-            && self.passes <= 16
-            && 1 <= self.last_generation
-            && self.last_generation <= 1 << 40
-            && 1 <= self.tries
-            && self.tries <= 64
+        (1..=4).contains(&self.nodes)
+            && (1..=256).contains(&self.frames_per_node)
+            && (1..=16).contains(&self.passes)
+            && (1..=1 << 40).contains(&self.last_generation)
+            && (1..=64).contains(&self.tries)
     }
 
-    /// How many frames there are, and as many places: at least 1, at most 1,024.
+    /// How many frames there are on all nodes together, and as many places: 1 to 1,024.
     pub fn frames(&self) -> u32
         requires { IsShape self.now }
         ensures count { result ≡ frames_of self.now }

@@ -1,0 +1,41 @@
+"""Talks to ksmbook over pipes, one line at a time."""
+
+import os
+import subprocess
+
+TOP = os.path.dirname(os.path.dirname(os.path.abspath(__file__)))
+PROGRAM = os.path.join(TOP, "crates", "ksm_tool", "out", "ksm_tool")
+
+
+def build():
+    """Proves and builds the program where need be."""
+    words = [os.path.join(TOP, "ksmbook"), "--nodes", "1", "--frames", "1"]
+    subprocess.run(words, stdin=subprocess.DEVNULL, check=True)
+
+
+class Talk:
+    """A running program: a line is sent, and its reply is read before the next one is sent."""
+
+    def __init__(self, *options, **more):
+        pipe = subprocess.PIPE
+        self.process = subprocess.Popen([PROGRAM, *options], stdin=pipe, stdout=pipe, stderr=pipe,
+                                        bufsize=0, **more)
+        self.replies = os.fdopen(os.dup(self.process.stdout.fileno()), "rb")
+
+    def ask(self, line):
+        """The reply to a line, or None where the program has ended."""
+        try:
+            self.process.stdin.write(line.encode() + b"\n")
+        except BrokenPipeError:
+            return None
+        return self.replies.readline().decode().rstrip("\n") or None
+
+    def end(self):
+        """Ends the input: the status, what is left of the output, and standard error."""
+        self.process.stdin.close()
+        left = self.replies.read()
+        self.replies.close()
+        said = self.process.stderr.read()
+        self.process.stdout.close()
+        self.process.stderr.close()
+        return self.process.wait(), left.decode(), said.decode()

@@ -1,0 +1,16 @@
+pub mod Pages
+pub mod Edits
+pub mod Orders
+pub mod SoundEdits
+pub mod SoundVisit
+pub mod SoundPair
+pub mod SoundScan
+pub mod SoundKnobs
+pub mod SoundSteps
+pub mod Replays
+pub mod Visits
+pub mod RowCounts
+pub mod SoundItems
+pub mod SoundCounts
+pub mod Sums
+pub mod LastStored

@@ -1,0 +1,182 @@
+-- The order of rows and of dups is kept by each edit.
+use Rattle.std.proofs.Common.{◌≡◌, ℕ, suc, ◌<◌, ◌≤◌, Bool, true, false, List, [], ◌∷◌, ◌++◌, get_or, map, Some, inl, inr, refl, ap, ◌∙◌, arith}
+use Rattle.std.specs.Prelude.{◌==◌, nat_lt, All, AllPairs, filter, count_by, not, if◌then◌else◌}
+use Rattle.std.proofs.lemmas.Bool.{cases_Bool, cases_lt, cases_order, both_ways, cond_both, le-ltb, ltb-true, eq-eqb, ne_eqb}
+use Rattle.std.proofs.lemmas.Bool.Decides.{nat_tests}
+use Rattle.std.proofs.lemmas.List.{get_or_default}
+use Rattle.std.proofs.lemmas.List.Elements.{All-head, All-tail, All-map, All-append, All-weaker, All-cons, All-filter, filter_passes}
+use Rattle.std.proofs.lemmas.List.Kept.{AllPairs-cons, AllPairs-filter}
+use Rattle.ksm_base.specs.declared.page.GuestPage.{GuestPage}
+use Rattle.ksm_base.specs.declared.row.Row.{Row}
+use Rattle.ksm_base.specs.declared.row.DupRow.{DupRow}
+use Rattle.ksm_base.specs.Rows.{comes_before, same_page, InPlaceOrder, InPageOrder, with_dup, with_row, without_page, change_rows, dup_numbered}
+use Rattle.ksm_base.proofs.Pages.{apart_second, before_trans, before_differs, after_differs}
+use Rattle.ksm_base.proofs.Edits.{count_more, count_none}
+
+pub pairs_head : {X : Type 0} (R : X → X → Type 0) (x : X) (xs : List X) → AllPairs R (x ∷ xs) → All (R x) xs
+pairs_head R x xs pairs k d lt = pairs 0 (suc k) d (omega arith) (omega arith)
+
+pub pairs_tail : {X : Type 0} (R : X → X → Type 0) (x : X) (xs : List X) → AllPairs R (x ∷ xs) → AllPairs R xs
+pairs_tail R x xs pairs i j d lt in_range = pairs (suc i) (suc j) d (omega arith) (omega arith)
+
+-- two lists in order, with each of the first before each of the second
+pub pairs_append : {X : Type 0} (R : X → X → Type 0) (xs ys : List X) → AllPairs R xs → AllPairs R ys → All (λ x. All (R x) ys) xs
+    → AllPairs R (xs ++ ys)
+pairs_append R [] ys first second cross = second
+pairs_append R (x ∷ xs) ys first second cross =
+    AllPairs-cons R x (xs ++ ys) (All-append (R x) xs ys (pairs_head R x xs first) (All-head (λ y. All (R y) ys) x xs cross))
+    (pairs_append R xs ys (pairs_tail R x xs first) second (All-tail (λ y. All (R y) ys) x xs cross))
+
+all_right : {X : Type 0} (P : X → Type 0) (xs ys : List X) → All P (xs ++ ys) → All P ys
+all_right P [] ys h = h
+all_right P (x ∷ xs) ys h = all_right P xs ys (All-tail P x (xs ++ ys) h)
+
+pub pairs_cross : {X : Type 0} (R : X → X → Type 0) (xs ys : List X) → AllPairs R (xs ++ ys) → All (λ x. All (R x) ys) xs
+pairs_cross R [] ys h = λ k d lt. absurd (omega arith)
+pairs_cross R (x ∷ xs) ys h = All-cons (λ y. All (R y) ys) x xs (all_right (R x) xs ys (pairs_head R x (xs ++ ys) h)) (pairs_cross R xs ys (pairs_tail R x (xs ++ ys) h))
+
+-- what no element passes is filtered to nothing
+pub filter_none : {X : Type 0} (p : X → Bool) (xs : List X) → All (λ x. p x ≡ false) xs → filter p xs ≡ []
+filter_none p [] none = refl
+filter_none p (x ∷ xs) none =
+    let here = All-head (λ y. p y ≡ false) x xs none in
+    let rest = filter_none p xs (All-tail (λ y. p y ≡ false) x xs none) in
+    grind (arith, here, rest)
+
+abbrev Before : Row → Row → Type 0
+Before r s = comes_before r.page s.page ≡ true
+
+-- a change that keeps the page of each row keeps the order
+pub ordered_map : (f : Row → Row) (rows : List Row) → ((r : Row) → (f r).page ≡ r.page) → InPageOrder rows → InPageOrder (map f rows)
+ordered_map f [] keeps rise = λ i j d lt in_range. absurd (omega arith)
+ordered_map f (r ∷ rs) keeps rise =
+    AllPairs-cons Before (f r) (map f rs)
+    (All-map (λ s. Before (f r) s) f rs (λ k d lt. rw (keeps r, keeps (get_or rs k d)) (rise 0 (suc k) d (omega arith) (omega arith))))
+    (ordered_map f rs keeps (pairs_tail Before r rs rise))
+
+pub ordered_change : (test : Row → Bool) (f : Row → Row) (rows : List Row) → ((r : Row) → (f r).page ≡ r.page) → InPageOrder rows
+    → InPageOrder (change_rows test f rows)
+ordered_change test f rows keeps rise =
+    ordered_map (λ r. if test r then f r else r) rows (λ r. cond_both (test r) (f r) r (λ x. x.page ≡ r.page) (λ _. keeps r) (λ _. refl)) rise
+
+pub ordered_without : (page : GuestPage) (rows : List Row) → InPageOrder rows → InPageOrder (without_page page rows)
+ordered_without page rows rise = AllPairs-filter Before (λ r. not (same_page r.page page)) rows rise
+
+-- a row at its place keeps the order
+pub ordered_with : (row : Row) (rows : List Row) → InPageOrder rows → InPageOrder (with_row row rows)
+ordered_with row rows rise =
+    let first : Row → Bool = λ r. comes_before r.page row.page in
+    let last : Row → Bool = λ r. comes_before row.page r.page in
+    let behind : All (Before row) (filter last rows) = filter_passes last rows in
+    let cross : All (λ x. All (Before x) (row ∷ filter last rows)) (filter first rows) =
+    All-weaker (λ x. Before x row) (λ x. All (Before x) (row ∷ filter last rows))
+    (λ x h. All-cons (Before x) row (filter last rows) h (All-weaker (Before row) (Before x) (λ s later. before_trans x.page row.page s.page h later) (filter last rows) behind))
+    (filter first rows) (filter_passes first rows) in
+    pairs_append Before (filter first rows) (row ∷ filter last rows) (AllPairs-filter Before first rows rise)
+    (AllPairs-cons Before row (filter last rows) behind (AllPairs-filter Before last rows rise)) cross
+
+-- where none of two in order is the same as the other, those that are the same are one
+pub one_of_each : {X : Type 0} (R : X → X → Type 0) (same : X → X → Bool) (xs : List X) → ((x y : X) → R x y → same x y ≡ false)
+    → ((x y : X) → R x y → same y x ≡ false) → AllPairs R xs → All (λ x. All (λ y. same y x ≡ true → y ≡ x) xs) xs
+one_of_each R same xs first last rise k d lt j e lt_e is_same =
+    let x = get_or xs k d in
+    let y = get_or xs j d in
+    let is : get_or xs j e ≡ y = get_or_default xs j e d lt_e in
+    let is_same_x : same y x ≡ true = rw (← is) is_same in
+    elim (cases_order j k) [
+      | inl at ↦ is ∙ ap (λ n. get_or xs n d) at
+      | inr (inl before) ↦ absurd (both_ways (same y x) (first y x (rise j k d before lt)) is_same_x)
+      | inr (inr behind) ↦ absurd (both_ways (same y x) (last x y (rise k j d behind lt_e)) is_same_x)
+    ]
+
+-- in order, rows of one page are one row
+pub one_of_each_page : (rows : List Row) → InPageOrder rows → All (λ r. All (λ s. same_page s.page r.page ≡ true → s ≡ r) rows) rows
+one_of_each_page rows rise =
+    one_of_each Before (λ r s. same_page r.page s.page) rows (λ r s h. after_differs r.page s.page h) (λ r s h. before_differs r.page s.page h) rise
+
+-- in order, at most one row is of a page
+pub one_of_page : (page : GuestPage) (rows : List Row) → InPageOrder rows → count_by (λ r. same_page r.page page) rows ≤ 1
+one_of_page page [] rise = omega arith
+one_of_page page (r ∷ rs) rise =
+    let of_page : Row → Bool = λ s. same_page s.page page in
+    let more = count_more of_page r rs in
+    elim (cases_Bool (of_page r)) [
+      | inl same ↦
+          let none = count_none of_page rs (λ k e lt. apart_second r.page (get_or rs k e).page page (rise 0 (suc k) e (omega arith) (omega arith)) same) in
+          grind (arith, more, same, none)
+      | inr other ↦ let rest = one_of_page page rs (pairs_tail Before r rs rise) in grind (arith, more, other, rest)
+    ]
+
+abbrev Lower : DupRow → DupRow → Type 0
+Lower d e = (d.place < e.place) × ((d.number == e.number) ≡ false)
+
+pub ordered_filter : (p : DupRow → Bool) (dups : List DupRow) → InPlaceOrder dups → InPlaceOrder (filter p dups)
+ordered_filter p dups rise = AllPairs-filter Lower p dups rise
+
+-- dups below a place, above it, and apart from it
+module _ (place : ℕ) where
+  abbrev below : DupRow → Bool
+  below d = nat_lt d.place place
+
+  abbrev above : DupRow → Bool
+  above d = nat_lt place d.place
+
+  abbrev pub elsewhere : DupRow → Bool
+  elsewhere d = not (d.place == place)
+
+  pub dups_parted : (ds : List DupRow) → InPlaceOrder ds → filter elsewhere ds ≡ filter below ds ++ filter above ds
+  dups_parted [] rise = refl
+  dups_parted (d ∷ ds) rise =
+      let rest = dups_parted ds (pairs_tail Lower d ds rise) in
+      elim (cases_lt place d.place) [
+        | inl greater ↦
+            let none_below : All (λ e. below e ≡ false) ds = λ k e lt. le-ltb (get_or ds k e).place place (omega (arith, (rise 0 (suc k) e (omega arith) (omega arith)).0)) in
+            let none = filter_none below ds none_below in
+            grind (arith, nat_tests, greater, rest, none)
+        | inr no_greater ↦ grind (arith, nat_tests, no_greater, rest)
+      ]
+
+-- a dup with a new number, at its place, keeps the order
+pub dups_with : (dup : DupRow) (ds : List DupRow) → InPlaceOrder ds → All (λ d. d.number < dup.number) ds → InPlaceOrder (with_dup dup ds)
+dups_with dup ds rise fresh =
+    let F : DupRow → Type 0 = λ d. d.number < dup.number in
+    let lower = filter (below dup.place) ds in
+    let higher = filter (above dup.place) ds in
+    let fresh_lower = All-filter (below dup.place) F ds fresh in
+    let fresh_higher = All-filter (above dup.place) F ds fresh in
+    let is_lower = filter_passes (below dup.place) ds in
+    let is_higher = filter_passes (above dup.place) ds in
+    let behind_dup : All (Lower dup) higher = λ k d lt. (ltb-true dup.place (get_or higher k d).place (is_higher k d lt), ne_eqb dup.number (get_or higher k d).number (λ e. omega (arith, fresh_higher k d lt, e))) in
+    let cross : All (λ x. All (Lower x) higher) lower = pairs_cross Lower lower higher (rw (← dups_parted dup.place ds rise) (AllPairs-filter Lower (elsewhere dup.place) ds rise)) in
+    pairs_append Lower lower (dup ∷ higher) (AllPairs-filter Lower (below dup.place) ds rise) (AllPairs-cons Lower dup higher behind_dup (AllPairs-filter Lower (above dup.place) ds rise))
+    (λ k d lt.
+    let x = get_or lower k d in
+    let first : x.place < dup.place = ltb-true x.place dup.place (is_lower k d lt) in
+    All-cons (Lower x) dup higher (first, ne_eqb x.number dup.number (λ e. omega (arith, fresh_lower k d lt, e))) (cross k d lt))
+
+-- what holds of a new dup and of the others holds with it
+pub all_with_dup : (P : DupRow → Type 0) (dup : DupRow) (ds : List DupRow) → P dup → All P ds → All P (with_dup dup ds)
+all_with_dup P dup ds here all =
+    All-append P (filter (below dup.place) ds) (dup ∷ filter (above dup.place) ds) (All-filter (below dup.place) P ds all)
+    (All-cons P dup (filter (above dup.place) ds) here (All-filter (above dup.place) P ds all))
+
+-- and so with a row
+pub all_with_row : (P : Row → Type 0) (row : Row) (rows : List Row) → P row → All P rows → All P (with_row row rows)
+all_with_row P row rows here all =
+    let first : Row → Bool = λ r. comes_before r.page row.page in
+    let last : Row → Bool = λ r. comes_before row.page r.page in
+    All-append P (filter first rows) (row ∷ filter last rows) (All-filter first P rows all) (All-cons P row (filter last rows) here (All-filter last P rows all))
+
+-- in order, dups of one place are one dup
+pub one_of_each_place : (dups : List DupRow) → InPlaceOrder dups → All (λ d. All (λ e. (e.place == d.place) ≡ true → e ≡ d) dups) dups
+one_of_each_place dups rise =
+    one_of_each Lower (λ d e. d.place == e.place) dups (λ d e h. ne_eqb d.place e.place (λ same. omega (arith, h.0, same))) (λ d e h. ne_eqb e.place d.place (λ same. omega (arith, h.0, same))) rise
+
+-- in order, each dup is the one with its number
+pub each_has_number : (dups : List DupRow) → InPlaceOrder dups → All (λ d. dup_numbered d.number dups ≡ Some d) dups
+each_has_number [] rise = λ k d lt. absurd (omega arith)
+each_has_number (d ∷ ds) rise =
+    let rest = each_has_number ds (pairs_tail Lower d ds rise) in
+    let first : (d.number == d.number) ≡ true = eq-eqb d.number d.number refl in
+    All-cons (λ e. dup_numbered e.number (d ∷ ds) ≡ Some e) d ds (rw first refl)
+    (λ k e lt. let other : (d.number == (get_or ds k e).number) ≡ false = (rise 0 (suc k) e (omega arith) (omega arith)).1 in rw other (rest k e lt))

@@ -1,0 +1,228 @@
+-- A new dup of two pages keeps a book sound.
+use Rattle.std.proofs.Common.{◌≡◌, ℕ, ◌+◌, ◌<◌, ◌≤◌, Bool, true, false, List, ◌∷◌, get_or, Some, None, Option, refl, sym, subst, ap, ◌∙◌, inl, inr, arith}
+use Rattle.std.specs.Prelude.{◌==◌, ◌||◌, nat_lt, All, filter, find, bytes_eq, not, if◌then◌else◌}
+use Rattle.std.specs.List.{list_any, range_with_len}
+use Rattle.std.proofs.lemmas.Bool.{cases_Bool, cond_both, and_parts, and_from, not_from_false, or_cases, both_ways, not-true, eqb-true, eq-eqb, ltb-true, ne_eqb}
+use Rattle.std.proofs.lemmas.List.Elements.{All-filter}
+use Rattle.std.proofs.lemmas.List.Folds.{find-append, list_any_at}
+use Rattle.std.proofs.lemmas.List.FromFn.{get_or-range_with_len, length-range_with_len}
+use Rattle.std.proofs.lemmas.Slice.Eq.{bytes_eq-Decides}
+use Rattle.ksm_base.specs.declared.row.PageState.{PageState}
+use Rattle.ksm_base.specs.declared.row.PageState.TheVariants.{Private, Waiting, Merged}
+use Rattle.ksm_base.specs.declared.row.Row.{Row}
+use Rattle.ksm_base.specs.declared.row.DupRow.{DupRow}
+use Rattle.ksm_base.specs.declared.knobs.Knobs.{Knobs}
+use Rattle.ksm_base.specs.Rows.{same_page, private_state, waiting_state, merged_into, item_count, is_stale, has_items, with_dup, change_rows, dup_numbered}
+use Rattle.ksm_base.specs.State.{BookState, tree_of, place_count}
+use Rattle.ksm_base.specs.Visit.{waits_for, partner, empty_place, chosen_place, new_place, made_dup}
+use Rattle.ksm_base.specs.Sound.{IsDupOf, IsSound}
+use Rattle.ksm_base.proofs.Edits.{find_nothing, find_passes, find_filter, find_over, find_all, count_map_le, count_change_le, count_either_le, count_none}
+use Rattle.ksm_base.proofs.Orders.{ordered_change, one_of_each_page, one_of_each_place, one_of_page, dups_parted, elsewhere, dups_with, all_with_dup}
+use Rattle.ksm_base.proofs.SoundEdits.{waiting_not_private, item_of_dup, dup_has_items}
+use Rattle.ksm_base.proofs.SoundVisit.{IsVisited, all_changed, waiting_changed, merged_waits}
+
+-- where a new dup stands: a place of those that there are, at which no dup has items
+pub record IsFree (b : BookState) (place : ℕ) : Type 0 where
+  pub exists : place < place_count b.shape
+  pub apart : All (λ d. has_items b.rows d ≡ true → (d.place == place) ≡ false) b.dups
+
+list_any_false : {X : Type 0} (p : X → Bool) (xs : List X) → list_any p xs ≡ false → All (λ x. p x ≡ false) xs
+list_any_false p xs none k d lt =
+    elim (cases_Bool (p (get_or xs k d))) [
+      | inl passes ↦ absurd (both_ways (list_any p xs) none (list_any_at p xs k d lt passes))
+      | inr fails ↦ fails
+    ]
+
+free_empty : (b : BookState) (place : ℕ) → empty_place (place_count b.shape) b.dups ≡ Some place → IsFree b place
+free_empty b place found =
+    let p : ℕ → Bool = λ n. not (list_any (λ d. d.place == n) b.dups) in
+    let none = not-true (list_any (λ d. d.place == place) b.dups) (find_passes p (range_with_len 0 (place_count b.shape)) place found) in
+    record {
+      exists = find_all p (λ n. n < place_count b.shape) (range_with_len 0 (place_count b.shape)) place found (below (place_count b.shape));
+      apart = λ k d lt _. list_any_false (λ e. e.place == place) b.dups none k d lt;
+    }
+  where
+    below : (n : ℕ) → All (λ k. k < n) (range_with_len 0 n)
+    below n k d lt =
+        let in_range : k < n = rw (← length-range_with_len 0 n) lt in
+        rw (get_or-range_with_len 0 n k d in_range) (omega arith)
+
+free_stale : (b : BookState) (stale : DupRow) → IsSound b → find (is_stale b.rows) b.dups ≡ Some stale → IsFree b stale.place
+free_stale b stale s found =
+    let passes = find_passes (is_stale b.rows) b.dups stale found in
+    let once = find_all (is_stale b.rows) (λ d. All (λ e. (e.place == d.place) ≡ true → e ≡ d) b.dups) b.dups stale found (one_of_each_place b.dups s.dups_rise) in
+    record {
+      exists = find_all (is_stale b.rows) (λ d. d.place < place_count b.shape) b.dups stale found s.places;
+      apart = λ k d lt lives.
+          let dup = get_or b.dups k d in
+          elim (cases_Bool (dup.place == stale.place)) [
+            | inl same ↦
+                let none : item_count b.rows stale ≡ 0 = eqb-true (item_count b.rows stale) 0 passes in
+                let lives_stale : has_items b.rows stale ≡ true = rw (← once k d lt same) lives in
+                absurd (omega (arith, none, ltb-true 0 (item_count b.rows stale) lives_stale))
+            | inr other ↦ other
+          ];
+    }
+
+pub new_place_free : (b : BookState) (place : ℕ) → IsSound b → new_place (place_count b.shape) b.rows b.dups ≡ Some place → IsFree b place
+new_place_free b place s chosen = go (empty_place (place_count b.shape) b.dups) (find (is_stale b.rows) b.dups) refl refl chosen
+  where
+    go : (empty : Option ℕ) (stale : Option DupRow) → empty_place (place_count b.shape) b.dups ≡ empty → find (is_stale b.rows) b.dups ≡ stale
+        → chosen_place empty stale ≡ Some place → IsFree b place
+    go (Some p) stale is_empty is_stale e = let same : p ≡ place = cc in free_empty b place (is_empty ∙ e)
+    go None (Some d) is_empty is_stale e = let same : d.place ≡ place = cc in subst (IsFree b) same (free_stale b d s is_stale)
+    go None None is_empty is_stale e = cc
+
+-- the dup of an item stays among the dups when a new one comes
+pub still_stands : (b : BookState) (new dup : DupRow) (number : ℕ) → IsSound b → IsFree b new.place → (new.number == number) ≡ false
+    → dup_numbered number b.dups ≡ Some dup → has_items b.rows dup ≡ true → dup_numbered number (with_dup new b.dups) ≡ Some dup
+still_stands b new dup number s free other found lives =
+    let p : DupRow → Bool = λ d. d.number == number in
+    let lower = filter (λ d. nat_lt d.place new.place) b.dups in
+    let higher = filter (λ d. nat_lt new.place d.place) b.dups in
+    let away : elsewhere new.place dup ≡ true = ap not (find_all p (λ d. has_items b.rows d ≡ true → (d.place == new.place) ≡ false) b.dups dup found free.apart lives) in
+    let kept = find_filter p (elsewhere new.place) b.dups dup found away in
+    find_over p lower higher new other ∙ ap (find p) (sym (dups_parted new.place b.dups s.dups_rise)) ∙ kept
+
+-- a new dup is the one with its number
+pub new_stands : (new : DupRow) (dups : List DupRow) → All (λ d. d.number < new.number) dups → dup_numbered new.number (with_dup new dups) ≡ Some new
+new_stands new dups fresh =
+    let p : DupRow → Bool = λ d. d.number == new.number in
+    let lower = filter (λ d. nat_lt d.place new.place) dups in
+    let higher = filter (λ d. nat_lt new.place d.place) dups in
+    let others = All-filter (λ d. nat_lt d.place new.place) (λ d. p d ≡ false) dups (λ k d lt. ne_eqb (get_or dups k d).number new.number (λ e. omega (arith, fresh k d lt, e))) in
+    let none = find_nothing p lower others in
+    let here : p new ≡ true = eq-eqb new.number new.number refl in
+    find-append p lower (new ∷ higher) ∙ rw (none, here) refl
+
+-- no row is merged into the number that comes next
+pub next_is_new : (b : BookState) → IsSound b → All (λ r. merged_into b.next r.state ≡ false) b.rows
+next_is_new b s k d lt = go (get_or b.rows k d).state refl
+  where
+    go : (state : PageState) → (get_or b.rows k d).state ≡ state → merged_into b.next state ≡ false
+    go Private is = refl
+    go Waiting is = refl
+    go (Merged number) is =
+        let r = get_or b.rows k d in
+        let item : (dup : DupRow) × IsDupOf b.knobs b.dups r number dup = s.items k d lt number is in
+        let p : DupRow → Bool = λ e. e.number == number in
+        let same : item.0.number ≡ number = eqb-true item.0.number number (find_passes p b.dups item.0 item.1.stands) in
+        let below = find_all p (λ e. e.number < b.next) b.dups item.0 item.1.stands s.numbers in
+        ne_eqb number b.next (λ e. omega (arith, same, below, e))
+
+-- two pages of one tree and content, of which a new dup is made: the one that waited, and the one visited
+pub record IsPair (b : BookState) (w row : Row) : Type 0 where
+  pub visited : IsVisited b row
+  pub waited : IsVisited b w
+  pub tree : tree_of b.knobs w ≡ tree_of b.knobs row
+  pub bytes : w.bytes ≡ row.bytes
+
+-- what it says of a row that another waits for it
+pub record WaitsFor (knobs : Knobs) (row w : Row) : Type 0 where
+  pub state : waiting_state w.state ≡ true
+  pub other : same_page w.page row.page ≡ false
+  pub tree : tree_of knobs w ≡ tree_of knobs row
+  pub bytes : w.bytes ≡ row.bytes
+
+pub waits_tells : (knobs : Knobs) (row w : Row) → waits_for knobs row w ≡ true → WaitsFor knobs row w
+waits_tells knobs row w passes =
+    let contents = and_parts _ (bytes_eq w.bytes row.bytes) passes in
+    let trees = and_parts _ (tree_of knobs w == tree_of knobs row) contents.0 in
+    let pages = and_parts (waiting_state w.state) (not (same_page w.page row.page)) trees.0 in
+    record {
+      state = pages.0;
+      other = not-true (same_page w.page row.page) pages.1;
+      tree = eqb-true (tree_of knobs w) (tree_of knobs row) trees.1;
+      bytes = (bytes_eq-Decides w.bytes row.bytes).0 contents.1;
+    }
+
+pub tells_waits : (knobs : Knobs) (row w : Row) → WaitsFor knobs row w → waits_for knobs row w ≡ true
+tells_waits knobs row w h =
+    and_from _ (bytes_eq w.bytes row.bytes)
+    (and_from _ (tree_of knobs w == tree_of knobs row)
+    (and_from (waiting_state w.state) (not (same_page w.page row.page)) h.state (not_from_false (same_page w.page row.page) h.other))
+    (eq-eqb (tree_of knobs w) (tree_of knobs row) h.tree))
+    ((bytes_eq-Decides w.bytes row.bytes).1 h.bytes)
+
+pub partner_pairs : (b : BookState) (w row : Row) → IsSound b → IsVisited b row → partner b.knobs b.rows row ≡ Some w → IsPair b w row
+partner_pairs b w row s visited found =
+    let p = waits_for b.knobs row in
+    let waits = waits_tells b.knobs row w (find_passes p b.rows w found) in
+    let mergeable = find_all p (λ r. private_state r.state ≡ false → r.mergeable ≡ true) b.rows w found s.mergeable in
+    record {
+      visited = visited;
+      waited = record {
+        mergeable = mergeable (waiting_not_private w.state waits.state);
+        once = find_all p (λ r. All (λ t. same_page t.page r.page ≡ true → t ≡ r) b.rows) b.rows w found (one_of_each_page b.rows s.rows_rise);
+      };
+      tree = waits.tree;
+      bytes = waits.bytes;
+    }
+
+-- what holds of both pages holds of each row that is one of them
+each_of_pair : (P : Row → Type 0) (b : BookState) (w row : Row) → IsPair b w row → P w → P row
+    → All (λ r. (same_page r.page w.page || same_page r.page row.page) ≡ true → P r) b.rows
+each_of_pair P b w row pair of_w of_row k d lt either =
+    let r = get_or b.rows k d in
+    elim (or_cases (same_page r.page w.page) (same_page r.page row.page) either) [
+      | inl same ↦ subst P (sym (pair.waited.once k d lt same)) of_w
+      | inr same ↦ subst P (sym (pair.visited.once k d lt same)) of_row
+    ]
+
+-- a new dup is made of the two
+pub sound_made : (b : BookState) (w row : Row) (place : ℕ) → IsPair b w row → IsFree b place → IsSound b → IsSound (made_dup (Some place) b w row)
+sound_made b w row place pair free s =
+    let test : Row → Bool = λ r. same_page r.page w.page || same_page r.page row.page in
+    let f : Row → Row = λ r. record r { state = Merged b.next } in
+    let new : DupRow = record { number = b.next; place = place; tree = tree_of b.knobs row; bytes = row.bytes } in
+    let dups = with_dup new b.dups in
+    record {
+      shape = s.shape;
+      knobs = s.knobs;
+      passes = s.passes;
+      rows_rise = ordered_change test f b.rows (λ _. refl) s.rows_rise;
+      homes = all_changed (λ r. r.home < b.shape.nodes) test f b.rows (λ k d lt _. s.homes k d lt) (λ k d lt _. s.homes k d lt);
+      mergeable = all_changed (λ r. private_state r.state ≡ false → r.mergeable ≡ true) test f b.rows
+          (λ k d lt either _. each_of_pair (λ r. r.mergeable ≡ true) b w row pair pair.waited.mergeable pair.visited.mergeable k d lt either) (λ k d lt _. s.mergeable k d lt);
+      waiting = waiting_changed b.knobs test f b.rows (merged_waits b.next) s.waiting;
+      items = all_changed (λ r. (number : ℕ) → r.state ≡ Merged number → (d : DupRow) × IsDupOf b.knobs dups r number d) test f b.rows
+          (λ k d lt either number merged.
+          let number_is : b.next ≡ number = cc in
+          let stands = new_stands new b.dups s.numbers in (
+            new,
+            record {
+              stands = subst (λ (n : ℕ). dup_numbered n dups ≡ Some new) number_is stands;
+              tree = each_of_pair (λ r. tree_of b.knobs row ≡ tree_of b.knobs r) b w row pair (sym pair.tree) refl k d lt either;
+              bytes = each_of_pair (λ r. row.bytes ≡ r.bytes) b w row pair (sym pair.bytes) refl k d lt either;
+            },
+          ))
+          (λ k d lt _ number merged.
+          let r = get_or b.rows k d in
+          let item : (dup : DupRow) × IsDupOf b.knobs b.dups r number dup = s.items k d lt number merged in
+          let p : DupRow → Bool = λ e. e.number == number in
+          let same = eqb-true item.0.number number (find_passes p b.dups item.0 item.1.stands) in
+          let older = find_all p (λ e. e.number < b.next) b.dups item.0 item.1.stands s.numbers in
+          let other : (b.next == number) ≡ false = ne_eqb b.next number (λ e. omega (arith, same, older, e)) in
+          let lives = dup_has_items b.rows item.0 k d lt (item_of_dup b.knobs b.dups r number item.0 merged item.1) in
+          (item.0, record { stands = still_stands b new item.0 number s free other item.1.stands lives; tree = item.1.tree; bytes = item.1.bytes }));
+      dups_rise = dups_with new b.dups s.dups_rise s.numbers;
+      places = all_with_dup (λ d. d.place < place_count b.shape) new b.dups free.exists s.places;
+      numbers = all_with_dup (λ d. d.number < b.next + 1) new b.dups (omega arith) (λ k d lt. omega (arith, s.numbers k d lt));
+      trees = all_with_dup (λ d. b.knobs.merge_across_nodes ≡ 1 → d.tree ≡ 0) new b.dups (λ across. rw across refl) s.trees;
+      limit = all_with_dup (λ d. item_count (change_rows test f b.rows) d ≤ b.knobs.max_page_sharing) new b.dups
+          (let p : Row → Bool = λ r. merged_into b.next r.state in
+          let more = count_change_le p test f b.rows in
+          let none = count_none p b.rows (next_is_new b s) in
+          let two = count_either_le (λ r. same_page r.page w.page) (λ r. same_page r.page row.page) b.rows in
+          let one = one_of_page w.page b.rows s.rows_rise in
+          let other = one_of_page row.page b.rows s.rows_rise in
+          omega (arith, more, none, two, one, other, s.knobs.max_page_sharing.0))
+          (λ k d lt.
+          let e = get_or b.dups k d in
+          let p : Row → Bool = λ r. merged_into e.number r.state in
+          let older : (b.next == e.number) ≡ false = ne_eqb b.next e.number (λ same. omega (arith, s.numbers k d lt, same)) in
+          let fewer = count_map_le p (λ r. if test r then f r else r) b.rows (λ j x lt_x.
+          let r = get_or b.rows j x in
+          cond_both (test r) (f r) r (λ y. p y ≡ true → p r ≡ true) (λ _ into. absurd (both_ways (b.next == e.number) older into)) (λ _ into. into)) in
+          omega (arith, fewer, s.limit k d lt));
+    }

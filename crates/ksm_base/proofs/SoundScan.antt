@@ -1,0 +1,96 @@
+-- A scan keeps a book sound.
+use Rattle.std.proofs.Common.{◌≡◌, ℕ, zero, suc, Bool, true, false, Some, None, Option, refl, arith}
+use Rattle.std.specs.Prelude.{◌&&◌, All}
+use Rattle.std.proofs.lemmas.Bool.{cond_both, and_parts}
+use Rattle.ksm_base.specs.declared.page.GuestPage.{GuestPage}
+use Rattle.ksm_base.specs.declared.row.PageState.{PageState}
+use Rattle.ksm_base.specs.declared.row.PageState.TheVariants.{Private, Waiting, Merged}
+use Rattle.ksm_base.specs.declared.row.Row.{Row}
+use Rattle.ksm_base.specs.declared.row.DupRow.{DupRow}
+use Rattle.ksm_base.specs.declared.fault.Fault.{Fault}
+use Rattle.ksm_base.specs.Rows.{same_page, private_state, merged_state, settled_state, settled, change_row}
+use Rattle.ksm_base.specs.State.{BookState, place_count, with_none_waiting, pass_ended}
+use Rattle.ksm_base.specs.Visit.{after_cursor, next_row, best_dup, partner, new_place, pass_ended_at_last, pass_begun, visit_begun, made_dup, paired, handled, row_visited, visit_of, visits}
+use Rattle.ksm_base.specs.Apply.{scan_stopped}
+use Rattle.ksm_base.specs.Sound.{IsSound}
+use Rattle.ksm_base.proofs.Edits.{find_passes, find_all}
+use Rattle.ksm_base.proofs.Orders.{one_of_each_page}
+use Rattle.ksm_base.proofs.SoundEdits.{IsCalmer, sound_settings, becomes_private, sound_calmed, sound_changed}
+use Rattle.ksm_base.proofs.SoundVisit.{IsVisited, best_dup_has_room, sound_joined, sound_waiting}
+use Rattle.ksm_base.proofs.SoundPair.{new_place_free, partner_pairs, sound_made}
+
+-- the cursor may be anywhere
+pub sound_cursor : (b : BookState) (cursor : Option GuestPage) → IsSound b → IsSound (record b { cursor = cursor })
+sound_cursor b cursor s = sound_settings b b.knobs.run b.knobs.pages_to_scan b.passes cursor s.knobs.run s.knobs.pages_to_scan s.passes s
+
+pub sound_pass_ended : (b : BookState) → IsSound b → IsSound (pass_ended b)
+sound_pass_ended b s = sound_settings b b.knobs.run b.knobs.pages_to_scan _ None s.knobs.run s.knobs.pages_to_scan (omega arith) s
+
+settled_keeps : (state : PageState) → private_state (settled_state state) ≡ false → settled_state state ≡ state
+settled_keeps Private taken = cc
+settled_keeps Waiting taken = cc
+settled_keeps (Merged number) taken = refl
+
+pub settled_calmer : (r : Row) → IsCalmer r (settled r)
+settled_calmer r = record { page = refl; state = settled_keeps r.state; home = λ _. refl; bytes = λ _. refl; mergeable = λ _ yet. yet }
+
+pub sound_none_waiting : (b : BookState) → IsSound b → IsSound (with_none_waiting b)
+sound_none_waiting b s = sound_calmed b settled settled_calmer s.homes s
+
+pub sound_ended_at_last : (b : BookState) → IsSound b → IsSound (pass_ended_at_last b)
+sound_ended_at_last b s = cond_both _ (pass_ended b) b IsSound (λ _. sound_pass_ended b s) (λ _. s)
+
+sound_begun : (b : BookState) → IsSound b → IsSound (pass_begun b)
+sound_begun b s = cond_both _ (with_none_waiting b) b IsSound (λ _. sound_none_waiting b s) (λ _. s)
+
+pub sound_visit_begun : (b : BookState) → IsSound b → IsSound (visit_begun b)
+sound_visit_begun b s = sound_begun (pass_ended_at_last b) (sound_ended_at_last b s)
+
+-- the row that is visited next is a mergeable one of the book
+pub next_row_visited : (b : BookState) (row : Row) → IsSound b → next_row b.cursor b.rows ≡ Some row → IsVisited b row
+next_row_visited b row s found =
+    let p : Row → Bool = λ r. r.mergeable && after_cursor b.cursor r.page in
+    record {
+      mergeable = (and_parts row.mergeable (after_cursor b.cursor row.page) (find_passes p b.rows row found)).0;
+      once = find_all p (λ r. All (λ t. same_page t.page r.page ≡ true → t ≡ r) b.rows) b.rows row found (one_of_each_page b.rows s.rows_rise);
+    }
+
+module _ (b : BookState) (row : Row) (visited : IsVisited b row) (s : IsSound b) where
+  sound_placed : (w : Row) (place : Option ℕ) → partner b.knobs b.rows row ≡ Some w → new_place (place_count b.shape) b.rows b.dups ≡ place
+      → IsSound (made_dup place b w row)
+  sound_placed w (Some place) waits chosen = sound_made b w row place (partner_pairs b w row s visited waits) (new_place_free b place s chosen) s
+  sound_placed w None waits chosen = s
+
+  pub sound_paired : (w : Option Row) → partner b.knobs b.rows row ≡ w → IsSound (paired w b row)
+  sound_paired (Some w) waits = sound_placed w (new_place (place_count b.shape) b.rows b.dups) waits refl
+  sound_paired None alone = sound_waiting b row visited alone s
+
+  -- a page whose bytes have changed becomes unchanged
+  sound_marked : IsSound (record b { rows = change_row row.page (λ r. record r { unchanged = true; state = Private }) b.rows })
+  sound_marked = sound_changed b (λ r. same_page r.page row.page) (λ r. record r { unchanged = true; state = Private }) (λ r. becomes_private r (record r { unchanged = true; state = Private }) refl refl) (λ r home. home) s
+
+  sound_handled : (dup : Option DupRow) → best_dup b.knobs b.rows b.dups row ≡ dup → IsSound (handled dup b row)
+  sound_handled (Some dup) found = sound_joined b row dup visited (best_dup_has_room b row dup s found) s
+  sound_handled None found =
+      cond_both row.unchanged (paired (partner b.knobs b.rows row) b row) (record b { rows = change_row row.page (λ r. record r { unchanged = true; state = Private }) b.rows }) IsSound
+      (λ _. sound_paired (partner b.knobs b.rows row) refl) (λ _. sound_marked)
+
+  pub sound_row_visited : IsSound (row_visited b row)
+  sound_row_visited =
+      cond_both (merged_state row.state) b (handled (best_dup b.knobs b.rows b.dups row) b row) IsSound (λ _. s) (λ _. sound_handled (best_dup b.knobs b.rows b.dups row) refl)
+
+pub sound_visit_of : (b : BookState) (row : Option Row) → next_row b.cursor b.rows ≡ row → IsSound b → IsSound (visit_of b row)
+sound_visit_of b None found s = s
+sound_visit_of b (Some row) found s =
+    let done = row_visited b row in
+    sound_ended_at_last (record done { cursor = Some row.page }) (sound_cursor done (Some row.page) (sound_row_visited b row (next_row_visited b row s found) s))
+
+pub sound_visits : (n : ℕ) (b : BookState) → IsSound b → IsSound (visits n b)
+sound_visits zero b s = s
+sound_visits (suc n) b s =
+    let begun = visit_begun (visits n b) in
+    sound_visit_of begun (next_row begun.cursor begun.rows) refl (sound_visit_begun (visits n b) (sound_visits n b s))
+
+pub sound_scan_stopped : (stop : Option Fault) (b : BookState) → IsSound b → IsSound (scan_stopped stop b)
+sound_scan_stopped None b s = s
+sound_scan_stopped (Some fault) b s = sound_visit_begun b s

@@ -1,0 +1,243 @@
+-- What becomes of rows and dups that lie lawfully, where the keeper makes its steps.
+use Rattle.std.proofs.Common.{inl, inr, ◌⊎◌, ◌≡◌, ◌/◌, ◌-◌, ℕ, zero, suc, ◌+◌, ◌<◌, ◌≤◌, Bool, true, false, List, [], ◌∷◌, length, get_or, set, Option, Some, None, refl, sym, ap, ◌∙◌, subst, arith}
+use Rattle.std.specs.Prelude.{All, MatchOption, insert, remove, slice_index}
+use Rattle.ksm_base.specs.declared.shape.Shape.{Shape}
+use Rattle.ksm_base.specs.declared.knobs.Knobs.{Knobs}
+use Rattle.ksm_base.specs.declared.row.PageState.{PageState}
+use Rattle.ksm_base.specs.declared.row.PageState.TheVariants.{Private as OwnPage, Waiting, Merged}
+use Rattle.ksm_base.specs.declared.row.Row.{Row}
+use Rattle.ksm_base.specs.declared.row.DupRow.{DupRow}
+use Rattle.ksm_base.specs.Rows.{merged_state, merged_into, row_at}
+use Rattle.ksm_base.specs.Values.{frames_of, IsShape}
+use Rattle.frame_core.specs.declared.frame.Kind.{Kind}
+use Rattle.frame_core.specs.declared.frame.Kind.TheVariants.{Private, Stable}
+use Rattle.frame_core.specs.declared.ledger.Ledger.{Ledger}
+use Rattle.frame_core.specs.declared.ledger.Note.{Note}
+use Rattle.frame_core.specs.Ledger.{frame_at, with_frame, blank, first_ledger, IsReadable, IsWritable}
+use Rattle.frame_core.specs.Rule.{GenerationFits}
+use Rattle.std.proofs.Common.{replicate}
+use Rattle.std.proofs.lemmas.List.{set-get_or, length-replicate}
+use Rattle.ksm_base.specs.declared.page.GuestPage.{GuestPage}
+use Rattle.ksm_base.specs.declared.page.TheConstants.{PAGE_WORDS}
+use Rattle.frame_table.specs.Named.{KeeperView}
+use Rattle.ksm_book.specs.Placement.{row_in, no_row, kind_for, FitsBase, RowFits, Agrees, Placed}
+use Rattle.ksm_book.specs.Keeping.{Keeps, IsLawful, Took, Wrote, holding, spent}
+use Rattle.ksm_book.specs.Listed.{Listed, rank, StandsAt}
+use Rattle.ksm_book.specs.Laid.{Lay, IsLaid, Knows, IsOnItsOwn, LodgesAs}
+use Rattle.ksm_book.proofs.Moves.{Serves, own_agrees, swapped, inserted, removed, rewritten, written_in, serves_like}
+use Rattle.ksm_book.proofs.Keeping.{spent_kept}
+
+module _ (sh : Shape) (across : ℕ) (v : KeeperView) (rows : List Row) (frames : List ℕ) (dups : List DupRow) (hand : Option ℕ) (same : v.table.shape ≡ sh) where
+  -- the same placement, by the shape of the keeper's table
+  at_table : Placed sh across v.ledger rows frames dups hand → Placed v.table.shape across v.ledger rows frames dups hand
+  at_table p = subst (λ (s : Shape). Placed s across v.ledger rows frames dups hand) (sym same) p
+
+  pub lawful : Placed sh across v.ledger rows frames dups hand → IsLawful v hand
+  lawful p = (across, rows, frames, dups, at_table p)
+
+  -- a call keeps it
+  pub kept : (w : KeeperView) (hand' : Option ℕ) → Keeps v w hand hand' → Placed sh across v.ledger rows frames dups hand → Placed sh across w.ledger rows frames dups hand'
+  kept w hand' keeps p = subst (λ (s : Shape). Placed s across w.ledger rows frames dups hand') same (keeps across rows frames dups (at_table p))
+
+pub shape_same : (sh : Shape) (v w : KeeperView) → v.table.shape ≡ sh → w.table ≡ v.table → w.table.shape ≡ sh
+shape_same sh v w same e = ap (λ x. x.shape) e ∙ same
+
+-- the frame taken serves a row with its bytes on its home
+module _ (sh : Shape) (across : ℕ) (v w : KeeperView) (rows : List Row) (frames : List ℕ) (dups : List DupRow) (same : v.table.shape ≡ sh) (node : ℕ) (bytes : List ℕ) (g : ℕ) (took : Took v w node bytes g) where
+  in_new_hand : Placed sh across v.ledger rows frames dups None → Placed sh across w.ledger rows frames dups (Some g)
+  in_new_hand p = kept sh across v rows frames dups None same w (Some g) took.keeps p
+
+  serves : (r : Row) → r.bytes ≡ bytes → r.home ≡ node → r.state ≡ OwnPage → Placed sh across v.ledger rows frames dups None → Serves sh w.ledger dups r g
+  serves r content home own p = (
+    record {
+      frame = subst (λ (s : Shape). g < frames_of s) same took.frame;
+      kind = took.kind ∙ ap kind_for (sym own);
+      content = took.content ∙ sym content;
+      given = took.given;
+      node = λ _. subst (λ (s : Shape). g / s.frames_per_node ≡ node) same took.node ∙ sym home;
+    },
+    own_agrees sh across w.ledger rows frames dups (Some g) (in_new_hand p) r g (λ n. ap (merged_into n) own) took.kind,
+  )
+
+  -- the row at i moves to it, and its old frame comes into the hand
+  pub moved_there : (i : ℕ) (r : Row) → i < length rows → r.bytes ≡ bytes → r.home ≡ node → r.state ≡ OwnPage → Placed sh across v.ledger rows frames dups None → Placed sh across w.ledger (set rows i r) (set frames i g) dups (Some (slice_index frames i))
+  moved_there i r lt content home own p = swapped sh across w.ledger rows frames dups g i r lt (in_new_hand p) (serves r content home own p)
+
+  pub come_there : (i : ℕ) (r : Row) → i ≤ length rows → r.bytes ≡ bytes → r.home ≡ node → r.state ≡ OwnPage → Placed sh across v.ledger rows frames dups None → Placed sh across w.ledger (insert rows i r) (insert frames i g) dups None
+  come_there i r le content home own p = inserted sh across w.ledger rows frames dups g i r le (in_new_hand p) (serves r content home own p)
+
+-- the frame of a page with one of its own
+pub own_kind : (s : PageState) → merged_state s ≡ false → kind_for s ≡ Private
+own_kind OwnPage e = refl
+own_kind Waiting e = refl
+own_kind (Merged d) e = absurd (grind (arith, e))
+
+pub own_item : (s : PageState) → merged_state s ≡ false → (n : ℕ) → merged_into n s ≡ false
+own_item OwnPage e n = refl
+own_item Waiting e n = refl
+own_item (Merged d) e n = absurd (grind (arith, e))
+
+-- a row that may stand in the stead of another is served by its frame
+module _ (sh : Shape) (across : ℕ) (k : Ledger) (rows : List Row) (frames : List ℕ) (dups : List DupRow) (hand : Option ℕ) (p : Placed sh across k rows frames dups hand) (old r : Row) (f : ℕ) (fits : Serves sh k dups old f) where
+  same_state : r.state ≡ old.state → r.home ≡ old.home → r.bytes ≡ old.bytes → Serves sh k dups r f
+  same_state s home bytes = subst (λ (z : PageState × ℕ × List ℕ). Serves sh k dups (record { page = r.page; home = z.1; bytes = z.2; mergeable = r.mergeable; unchanged = r.unchanged; state = z.0 }) f) (λ t. (sym s t, sym home t, sym bytes t)) (
+    record { frame = fits.0.frame; kind = fits.0.kind; content = fits.0.content; given = fits.0.given; node = fits.0.node },
+    λ j d lt. let a = fits.1 j d lt in record { item = a.item; back = a.back },
+  )
+
+  both_own : merged_state old.state ≡ false → merged_state r.state ≡ false → r.home ≡ old.home → r.bytes ≡ old.bytes → Serves sh k dups r f
+  both_own was now home bytes =
+      let kind : (frame_at k f).kind ≡ Private = fits.0.kind ∙ own_kind old.state was in (
+        record { frame = fits.0.frame; kind = kind ∙ sym (own_kind r.state now); content = fits.0.content ∙ sym bytes; given = fits.0.given; node = λ _. fits.0.node was ∙ sym home },
+        own_agrees sh across k rows frames dups hand p r f (own_item r.state now) kind,
+      )
+
+  pub lodged : LodgesAs r old → Serves sh k dups r f
+  lodged (home, bytes, inl s) = same_state s home bytes
+  lodged (home, bytes, inr own) = both_own own.0 own.1 home bytes
+
+module _ (sh : Shape) (v : Listed) (dups : List DupRow) (knobs : Knobs) (next : ℕ) (k : KeeperView) (h : IsLaid sh v dups knobs next k) where
+  abbrev across : ℕ
+  across = knobs.merge_across_nodes
+
+  -- a call that keeps every placement keeps the layout
+  pub laid_kept : (w : KeeperView) → w.table ≡ k.table → Keeps k w None None → spent k.ledger ≤ spent w.ledger → IsLaid sh v dups knobs next w
+  laid_kept w e keeps more = record {
+    small = h.small;
+    same = shape_same sh k w h.same e;
+    placed = kept sh across k v.rows v.frames dups None h.same w None keeps h.placed;
+    spent = (let s = h.spent in omega (arith, s, more));
+  }
+
+  -- the same, by other names of the lists and of what the keeper knows
+  pub laid_same : (v' : Listed) (w : KeeperView) → v'.rows ≡ v.rows → v'.frames ≡ v.frames → w.table ≡ k.table → w.ledger ≡ k.ledger → IsLaid sh v' dups knobs next w
+  laid_same v' w e f t l = record {
+    small = h.small;
+    same = shape_same sh k w h.same t;
+    placed = subst (λ (z : Ledger × List Row × List ℕ). Placed sh across z.0 z.1 z.2 dups None) (λ i. (sym l i, sym e i, sym f i)) h.placed;
+    spent = subst (λ (z : Ledger). next ≤ spent z) (sym l) h.spent;
+  }
+
+  -- a row comes on the frame taken
+  pub laid_with : (v' : Listed) (w : KeeperView) (i g : ℕ) (r : Row) → w.table ≡ k.table → Took k w r.home r.bytes g → i ≤ length v.rows → r.state ≡ OwnPage → v'.rows ≡ insert v.rows i r → v'.frames ≡ insert v.frames i g → IsLaid sh v' dups knobs next w
+  laid_with v' w i g r e took le own rows frames = record {
+    small = h.small;
+    same = shape_same sh k w h.same e;
+    placed = subst (λ (z : List Row × List ℕ). Placed sh across w.ledger z.0 z.1 dups None) (λ t. (sym rows t, sym frames t))
+        (come_there sh across k w v.rows v.frames dups h.same r.home r.bytes g took i r le refl refl own h.placed);
+    spent = (let s = h.spent in let more = took.spent in omega (arith, s, more));
+  }
+
+  module _ (page_row : Row) (f : ℕ) (r : Row) (at : StandsAt v r.page page_row f) where
+    abbrev i : ℕ
+    i = rank r.page v.rows
+
+    abbrev n : Note
+    n = frame_at k.ledger f
+
+    found_fits : Serves sh k.ledger dups page_row f
+    found_fits = subst (λ (z : Row × ℕ). Serves sh k.ledger dups z.0 z.1) (λ t. (at.row_is t, at.frame_is t)) (h.placed.each_row i at.inside)
+
+    -- the frame of the row found
+    pub found_inside : f < frames_of k.table.shape
+    found_inside = subst (λ (s : Shape). f < frames_of s) (sym h.same) found_fits.0.frame
+
+    -- the row moves to the frame taken, and its old one comes into the hand
+    pub taken_hand : (v' : Listed) (w : KeeperView) (g : ℕ) → Took k w r.home r.bytes g → r.state ≡ OwnPage → v'.rows ≡ set v.rows i r → v'.frames ≡ set v.frames i g → Placed sh across w.ledger v'.rows v'.frames dups (Some f)
+    taken_hand v' w g took own rows frames = subst (λ (z : List Row × List ℕ × ℕ). Placed sh across w.ledger z.0 z.1 dups (Some z.2)) (λ t. (sym rows t, sym frames t, at.frame_is t))
+        (moved_there sh across k w v.rows v.frames dups h.same r.home r.bytes g took i r at.inside refl refl own h.placed)
+
+    pub laid_moved : (v' : Listed) (w u : KeeperView) (g : ℕ) → w.table ≡ k.table → u.table ≡ w.table → Took k w r.home r.bytes g → Keeps w u (Some f) None → spent w.ledger ≤ spent u.ledger → r.state ≡ OwnPage → v'.rows ≡ set v.rows i r → v'.frames ≡ set v.frames i g → IsLaid sh v' dups knobs next u
+    laid_moved v' w u g e e' took keeps more own rows frames = record {
+      small = h.small;
+      same = shape_same sh w u (shape_same sh k w h.same e) e';
+      placed = kept sh across w v'.rows v'.frames dups (Some f) (shape_same sh k w h.same e) u None keeps (taken_hand v' w g took own rows frames);
+      spent = (let s = h.spent in let m = took.spent in omega (arith, s, m, more));
+    }
+
+    -- the row changes on its frame
+    pub laid_amended : (v' : Listed) → LodgesAs r page_row → v'.rows ≡ set v.rows i r → v'.frames ≡ set v.frames i f → IsLaid sh v' dups knobs next k
+    laid_amended v' lodges rows frames = record {
+      small = h.small;
+      same = h.same;
+      placed = subst (λ (z : List Row × List ℕ). Placed sh across k.ledger z.0 z.1 dups None) (λ t. (sym rows t, sym (frames ∙ ap (set v.frames i) (sym at.frame_is) ∙ set-get_or v.frames i 0) t))
+          (rewritten sh across k.ledger v.rows v.frames dups None i r at.inside h.placed (subst (λ x. Serves sh k.ledger dups r x) (sym at.frame_is) (lodged sh across k.ledger v.rows v.frames dups None h.placed page_row r f found_fits lodges)));
+      spent = h.spent;
+    }
+
+    pub own_writable : IsOnItsOwn r page_row → IsWritable n.kind
+    own_writable own = subst IsWritable (sym (found_fits.0.kind ∙ own_kind page_row.state own.0)) tt
+
+    -- the row is written in place
+    pub laid_written : (v' : Listed) (w : KeeperView) → w.table ≡ k.table → Wrote k w f r.bytes → length r.bytes ≡ PAGE_WORDS → IsOnItsOwn r page_row → r.state ≡ OwnPage → v'.rows ≡ set v.rows i r → v'.frames ≡ set v.frames i f → IsLaid sh v' dups knobs next w
+    laid_written v' w e wrote wide own is rows frames =
+        let kind : (frame_at k.ledger f).kind ≡ Private = found_fits.0.kind ∙ own_kind page_row.state own.0 in
+        let kind' : (frame_at k.ledger (slice_index v.frames i)).kind ≡ Private = ap (λ x. (frame_at k.ledger x).kind) at.frame_is ∙ kind in
+        let fr : Note = holding (frame_at k.ledger f) r.bytes in
+        let within : f < length k.ledger.frames = (let long : length k.ledger.frames ≡ frames_of sh = h.placed.frames_long in let lt = found_fits.0.frame in omega (arith, long, lt)) in
+        let more : spent k.ledger ≤ spent (with_frame k.ledger f fr) = spent_kept k.ledger f fr within (omega arith) in
+        let end : spent w.ledger ≡ spent (with_frame k.ledger f fr) = ap spent wrote.ledger in
+        let p = written_in sh across k.ledger v.rows v.frames dups h.placed i at.inside kind' r fr kind (ap (λ x. (frame_at k.ledger x).base) (sym at.frame_is)) (ap (λ x. (frame_at k.ledger x).generation) (sym at.frame_is)) wide
+        (ap kind_for is) (λ m. ap (merged_into m) is) (own.1 ∙ ap (λ (x : Row). x.home) (sym at.row_is)) refl (ap (λ (x : Row). merged_state x.state) at.row_is ∙ own.0) in
+        record {
+          small = h.small;
+          same = shape_same sh k w h.same e;
+          placed = subst (λ (z : Ledger × List Row × List ℕ). Placed sh across z.0 z.1 z.2 dups None) (λ t. (sym (wrote.ledger ∙ ap (λ x. with_frame k.ledger x fr) (sym at.frame_is)) t, sym rows t, sym (frames ∙ ap (set v.frames i) (sym at.frame_is) ∙ set-get_or v.frames i 0) t)) p;
+          spent = (let s = h.spent in omega (arith, s, more, end));
+        }
+
+  -- the row of a page goes, and its frame comes into the hand
+  pub gone_hand : (page : GuestPage) (page_row : Row) (f : ℕ) (v' : Listed) → StandsAt v page page_row f → v'.rows ≡ remove v.rows (rank page v.rows) → v'.frames ≡ remove v.frames (rank page v.rows) → Placed sh across k.ledger v'.rows v'.frames dups (Some f)
+  gone_hand page page_row f v' at rows frames = subst (λ (z : List Row × List ℕ × ℕ). Placed sh across k.ledger z.0 z.1 dups (Some z.2)) (λ t. (sym rows t, sym frames t, at.frame_is t))
+      (removed sh across k.ledger v.rows v.frames dups (rank page v.rows) at.inside h.placed)
+
+  pub laid_gone : (page : GuestPage) (page_row : Row) (f : ℕ) (v' : Listed) (u : KeeperView) → StandsAt v page page_row f → u.table ≡ k.table → Keeps k u (Some f) None → spent k.ledger ≤ spent u.ledger → v'.rows ≡ remove v.rows (rank page v.rows) → v'.frames ≡ remove v.frames (rank page v.rows) → IsLaid sh v' dups knobs next u
+  laid_gone page page_row f v' u at e keeps more rows frames = record {
+    small = h.small;
+    same = shape_same sh k u h.same e;
+    placed = kept sh across k v'.rows v'.frames dups (Some f) h.same u None keeps (gone_hand page page_row f v' at rows frames);
+    spent = (let s = h.spent in omega (arith, s, more));
+  }
+
+-- what is known of the row of a row's page
+pub known_as : (fact : Row → Type 0) (rows : List Row) (row page_row : Row) → row_at row.page rows ≡ Some page_row → Knows rows row fact → fact page_row
+known_as fact rows row page_row at known = subst (λ (x : Option Row). MatchOption x ⊥ fact) at known
+
+-- the opening layout
+all_same : {X : Type 0} (n i : ℕ) (a : X) → get_or (replicate n a) i a ≡ a
+all_same zero i a = refl
+all_same (suc n) zero a = refl
+all_same (suc n) (suc i) a = all_same n i a
+
+pub laid_first : (sh : Shape) (knobs : Knobs) (k : KeeperView) → IsShape sh → k.table.shape ≡ sh → k.ledger ≡ first_ledger sh → IsLaid sh (record { rows = []; frames = [] }) [] knobs 0 k
+laid_first sh knobs k small same first =
+    let l : Ledger = first_ledger sh in
+    let at : (f : ℕ) → frame_at l f ≡ blank = λ f. all_same (frames_of sh) f blank in
+    let left = small.generation_low in
+    record {
+      small = small;
+      same = same;
+      placed = subst (λ (z : Ledger). Placed sh knobs.merge_across_nodes z [] [] [] None) (sym first) record {
+        paired = refl;
+        frames_long = length-replicate (frames_of sh) blank;
+        places_long = length-replicate (frames_of sh) None;
+        widths = λ f. ap (λ (x : Note). length x.content) (at f);
+        lives = λ f. subst (λ (x : Note). GenerationFits sh.last_generation x.kind x.generation) (sym (at f)) (omega (arith, left));
+        each_row = λ i lt. absurd (omega arith);
+        each_dup = λ i d lt. absurd (omega arith);
+        bases = λ f. ap (λ (x : Note). x.base) (at f);
+        kinds = λ f. subst (λ (x : Note). FitsBase x.kind x.base) (sym (at f)) refl;
+        empty = λ p h. all_same (frames_of sh) p None;
+      };
+      spent = omega arith;
+    }
+
+-- the frame of a row may be read
+pub readable : (x : Kind) (s : PageState) → x ≡ kind_for s → IsReadable x
+readable x OwnPage e = subst IsReadable (sym e) tt
+readable x Waiting e = subst IsReadable (sym e) tt
+readable x (Merged d) e = subst IsReadable (sym e) tt
+
+-- a layout with other rows and another keeper
+pub relaid : (a b : Lay) (rows rows' : List Row) (k : KeeperView) → a ≡ b → rows ≡ rows' → record a { rows = rows; keeper = k } ≡ record b { rows = rows'; keeper = k }
+relaid a b rows rows' k e f = λ t. record (e t) { rows = f t; keeper = k }

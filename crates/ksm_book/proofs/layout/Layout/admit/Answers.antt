@@ -1,0 +1,57 @@
+use Rattle.std.proofs.Common.{◌≡◌, ◌∙◌, ◌≤◌, ◌∷◌, [], List, ℕ, length, refl, ap, sym, subst, arith}
+use Rattle.std.specs.Prelude.{insert, remove, slice_set}
+use Rattle.ksm_base.specs.declared.row.Row.{Row}
+use Rattle.ksm_base.specs.Rows.{with_row}
+use Rattle.ksm_book.specs.Laid.{Lay}
+use Rattle.ksm_book.specs.Listed.{Listed, rank}
+use Rattle.ksm_book.specs.Steps.{Does}
+use Rattle.ksm_book.specs.Keeping.{NoneLeft}
+use Rattle.ksm_book.proofs.Laying.{laid_with, laid_kept, laid_same, relaid}
+use Rattle.ksm_book.proofs.Ranks.{set_inserted, remove_inserted}
+use Rattle.ksm_book.proofs.layout.Layout.admit.Goals as goal
+
+module _ (c : goal.After-remove) where
+  abbrev old : Listed
+  old = c.self.inside.rows
+
+  rows_back : c.remove.new.self.rows ≡ old.rows
+  rows_back = c.remove.ensures.rows ∙ (λ t. remove (c.in_ok-insert.ensures.rows t) (c.in_ok-insert.ensures.place t)) ∙ remove_inserted old.rows (rank c.args.row.page old.rows) c.args.row c.in_ok-insert.ensures.within
+
+  frames_back : c.remove.new.self.frames ≡ old.frames
+  frames_back = c.remove.ensures.frames ∙ (λ t. remove (c.in_ok-insert.ensures.frames t) (c.in_ok-insert.ensures.place t)) ∙ remove_inserted old.frames (rank c.args.row.page old.rows) 0 (let p = c.in_ok-insert.ensures.paired in let w = c.in_ok-insert.ensures.within in omega (arith, p, w))
+
+pub invariant_of-self-in_default : goal.invariant_of-self-in_default
+invariant_of-self-in_default c =
+    let b = c.self.inside in
+    let sought = c.in_default.ensures.took in
+    laid_same b.shape b.rows b.dups b.knobs b.next c.take_frame.new.keeper
+    (laid_kept b.shape b.rows b.dups b.knobs b.next b.keeper c.self.invariant c.take_frame.new.keeper c.take_frame.ensures.own sought.keeps sought.spent)
+    c.remove.new.self c.take_frame.new.keeper (rows_back c) (frames_back c) refl refl
+
+pub returns-in_default-clause-housed : goal.returns-in_default-clause-housed
+returns-in_default-clause-housed c =
+    let now = c.args.self.now in
+    record {
+      state = relaid _ now c.remove.new.self.rows now.rows c.take_frame.new.keeper c.self.view_is (rows_back c ∙ ap (λ (x : Lay). x.rows) c.self.view_is);
+      left = subst (λ (x : Lay). NoneLeft x.keeper c.take_frame.new.keeper c.args.row.home) c.self.view_is c.in_default.ensures.took.left;
+    }
+
+module _ (c : goal.After-replace) where
+  rows_there : c.replace.new.self.rows ≡ insert c.self.inside.rows.rows (rank c.args.row.page c.self.inside.rows.rows) c.args.row
+  rows_there = c.replace.ensures.rows ∙ (λ t. slice_set (c.in_ok-insert.ensures.rows t) (c.in_ok-insert.ensures.place t) c.args.row) ∙ set_inserted c.self.inside.rows.rows (rank c.args.row.page c.self.inside.rows.rows) c.args.row c.args.row c.in_ok-insert.ensures.within
+
+  frames_there : c.replace.new.self.frames ≡ insert c.self.inside.rows.frames (rank c.args.row.page c.self.inside.rows.rows) c.in-Some.frame
+  frames_there = c.replace.ensures.frames ∙ (λ t. slice_set (c.in_ok-insert.ensures.frames t) (c.in_ok-insert.ensures.place t) c.in-Some.frame) ∙ set_inserted c.self.inside.rows.frames (rank c.args.row.page c.self.inside.rows.rows) 0 c.in-Some.frame (let p = c.in_ok-insert.ensures.paired in let w = c.in_ok-insert.ensures.within in omega (arith, p, w))
+
+pub invariant_of-self-2 : goal.invariant_of-self-2
+invariant_of-self-2 c =
+    let b = c.self.inside in
+    laid_with b.shape b.rows b.dups b.knobs b.next b.keeper c.self.invariant c.replace.new.self c.take_frame.new.keeper (rank c.args.row.page b.rows.rows) c.in-Some.frame c.args.row c.take_frame.ensures.own c.in-Some.ensures.took c.in_ok-insert.ensures.within c.requires.alone (rows_there c) (frames_there c)
+
+pub returns-clause-housed : goal.returns-clause-housed
+returns-clause-housed c =
+    let now = c.args.self.now in
+    record {
+      state = relaid _ now c.replace.new.self.rows (with_row c.args.row now.rows) c.take_frame.new.keeper c.self.view_is (rows_there c ∙ sym c.in_ok-insert.ensures.rows ∙ c.in_ok-insert.ensures.added ∙ ap (λ (x : Lay). with_row c.args.row x.rows) c.self.view_is);
+      does = subst (λ (x : Lay). Does x.keeper c.take_frame.new.keeper (c.args.row.home ∷ [])) c.self.view_is c.in-Some.ensures.took.does;
+    }

@@ -1,0 +1,15 @@
+use Rattle.std.proofs.Common.{◌≡◌, length, sym, ap, ◌∙◌, rules}
+use Rattle.ksm_base.specs.declared.page.TheConstants.{PAGE_WORDS}
+use Rattle.ksm_base.specs.Rows.{row_at}
+use Rattle.ksm_book.specs.Laid.{IsOnItsOwn}
+use Rattle.ksm_book.proofs.Laying.{laid_written, known_as}
+use Rattle.ksm_book.proofs.layout.Layout.rewrite.Goals as goal
+
+pub invariant_of-self : goal.invariant_of-self
+invariant_of-self c =
+    let b = c.self.inside in
+    let held = c.in-Some.held in
+    let at = c.in-Some.ensures.at in
+    let wide : length c.args.row.bytes ≡ PAGE_WORDS = search rules in
+    laid_written b.shape b.rows b.dups b.knobs b.next b.keeper c.self.invariant held.row held.frame c.args.row at c.replace.new.self c.write.new.keeper c.write.ensures.own c.write.ensures.wrote wide
+    (known_as (IsOnItsOwn c.args.row) c.args.self.now.rows c.args.row held.row (ap (λ x. row_at c.args.row.page x.rows) (sym c.self.view_is) ∙ at.found) c.requires.known) c.requires.alone c.replace.ensures.rows c.replace.ensures.frames

@@ -1,0 +1,12 @@
+use Rattle.std.proofs.Common.{◌≡◌, ◌∙◌, Ok, sym, ap, subst, rules}
+use Rattle.ksm_base.specs.declared.command.Command.TheVariants.{Prune}
+use Rattle.ksm_base.specs.declared.reply.Reply.TheVariants.{Pruned}
+use Rattle.ksm_base.specs.Sound.{IsSound}
+use Rattle.ksm_base.proofs.SoundSteps.{sound_after}
+use Rattle.ksm_book.specs.Laid.{state_of}
+use Rattle.ksm_book.proofs.state.State.prune.Goals as goal
+
+pub invariant_of-self : goal.invariant_of-self
+invariant_of-self c =
+    let s = c.self.inside in
+    subst IsSound (search rules) (sound_after (state_of s.layout s.cursor s.passes) Prune (Ok (Pruned c.prune.result)) c.self.invariant (search rules))

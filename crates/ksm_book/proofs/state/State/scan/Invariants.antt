@@ -1,0 +1,11 @@
+use Rattle.std.proofs.Common.{◌≡◌, []}
+use Rattle.ksm_base.specs.Visit.{visits}
+use Rattle.ksm_book.specs.Steps.{Does}
+use Rattle.ksm_book.proofs.state.State.scan.Given as goal
+
+abbrev pub invariant-loop-done : goal.invariant-loop-done
+invariant-loop-done l = record {
+  own : l.self.keeper.table ≡ l.fn.self.keeper.table;
+  state : l.self.state ≡ visits l.done l.fn.self.state;
+  does : Does l.fn.self.keeper l.self.keeper [];
+}

@@ -1,0 +1,78 @@
+use Rattle.std.proofs.Common.{inr, ◌≡◌, ◌∙◌, true, false, Some, None, refl, sym, ap, subst}
+use Rattle.std.specs.Prelude.{find}
+use Rattle.ksm_base.specs.declared.row.PageState.TheVariants.{Private, Merged}
+use Rattle.ksm_base.specs.declared.row.Row.{Row}
+use Rattle.ksm_base.specs.Rows.{change_row, merged_state, merged_into}
+use Rattle.ksm_base.specs.Sound.{IsSound}
+use Rattle.ksm_base.specs.State.{BookState}
+use Rattle.ksm_base.specs.Visit.{next_row, best_dup, row_visited, handled}
+use Rattle.ksm_base.proofs.Edits.{find_passes}
+use Rattle.ksm_base.proofs.SoundScan.{next_row_visited, sound_row_visited}
+use Rattle.ksm_book.specs.Laid.{Lay, LodgesAs, state_of}
+use Rattle.ksm_book.specs.Whole.{BookView}
+use Rattle.ksm_book.proofs.Found.{change_known, found_as}
+use Rattle.ksm_book.proofs.Visiting.{visited_at, best_has_item, best_joins, state_of_item, visited_by, marked_by}
+use Rattle.ksm_book.proofs.state.State.visit_row.Goals as goal
+
+pub join-requires-clause-joins : goal.join-requires-clause-joins
+join-requires-clause-joins c =
+    let s = c.self.inside in
+    best_joins s.layout s.cursor s.passes c.args.row c.in-Some-item.item c.in-Some.dup c.self.invariant (ap (λ (x : BookView). next_row x.state.cursor x.state.rows) c.self.view_is ∙ c.requires.next)
+    (sym c.if-is_merged.ensures) (sym c.in-Some.ensures) (ap (find (λ r. merged_into c.in-Some.dup.number r.state)) (sym c.rows.ensures) ∙ sym c.in-Some-item.ensures)
+
+-- the page is an item of the dup
+there : (c : goal.After-join) → state_of c.join.new.self c.self.inside.cursor c.self.inside.passes ≡ row_visited (state_of c.self.inside.layout c.self.inside.cursor c.self.inside.passes) c.args.row
+there c =
+    let s = c.self.inside in
+    let b : BookState = state_of s.layout s.cursor s.passes in
+    let row = c.args.row in
+    let dup = c.in-Some.dup in
+    let found = visited_at b row c.self.invariant (ap (λ (x : BookView). next_row x.state.cursor x.state.rows) c.self.view_is ∙ c.requires.next) in
+    let item = ap (find (λ r. merged_into dup.number r.state)) (sym c.rows.ensures) ∙ sym c.in-Some-item.ensures in
+    let state = state_of_item dup.number c.in-Some-item.item.state (find_passes (λ r. merged_into dup.number r.state) s.layout.rows c.in-Some-item.item item) in
+    ap (λ (x : Lay). state_of x s.cursor s.passes) c.join.ensures.state
+    ∙ ap (λ st. record b { rows = change_row row.page (λ _. record row { state = st }) s.layout.rows }) state
+    ∙ ap (λ rows. record b { rows = rows }) (change_known row.page (λ r. record r { state = Merged dup.number }) s.layout.rows row c.self.invariant.rows_rise found)
+    ∙ sym (visited_by b row (Some dup) (sym c.if-is_merged.ensures) (sym c.in-Some.ensures))
+
+pub returns-in-Some-item-clause-ok : goal.returns-in-Some-item-clause-ok
+returns-in-Some-item-clause-ok c = there c ∙ ap (λ (x : BookView). row_visited x.state c.args.row) c.self.view_is
+
+pub invariant_of-self : goal.invariant_of-self
+invariant_of-self c =
+    let s = c.self.inside in
+    let b = state_of s.layout s.cursor s.passes in
+    let next = ap (λ (x : BookView). next_row x.state.cursor x.state.rows) c.self.view_is ∙ c.requires.next in
+    subst IsSound (sym (there c)) (sound_row_visited b c.args.row (next_row_visited b c.args.row c.self.invariant next) c.self.invariant)
+
+pub returns-in_default-item-clause-ok : goal.returns-in_default-item-clause-ok
+returns-in_default-item-clause-ok c =
+    let s = c.self.inside in
+    absurd (best_has_item (state_of s.layout s.cursor s.passes) c.args.row c.in-Some.dup (sym c.in-Some.ensures) (ap (find (λ r. merged_into c.in-Some.dup.number r.state)) (sym c.rows.ensures) ∙ sym c.in_default-item.ensures))
+
+pub amend-requires : goal.amend-requires
+amend-requires c =
+    let s = c.self.inside in
+    let row = c.args.row in
+    let found = visited_at (state_of s.layout s.cursor s.passes) row c.self.invariant (ap (λ (x : BookView). next_row x.state.cursor x.state.rows) c.self.view_is ∙ c.requires.next) in
+    found_as (LodgesAs (record row { unchanged = true; state = Private })) row.page s.layout.rows row (record row { unchanged = true; state = Private }) found refl (refl, refl, inr (sym c.if-is_merged.ensures, refl))
+
+marked : (c : goal.After-amend) → state_of c.amend.new.self c.self.inside.cursor c.self.inside.passes ≡ row_visited (state_of c.self.inside.layout c.self.inside.cursor c.self.inside.passes) c.args.row
+marked c =
+    let s = c.self.inside in
+    let b : BookState = state_of s.layout s.cursor s.passes in
+    let row = c.args.row in
+    let found = visited_at b row c.self.invariant (ap (λ (x : BookView). next_row x.state.cursor x.state.rows) c.self.view_is ∙ c.requires.next) in
+    ap (λ (x : Lay). state_of x s.cursor s.passes) c.amend.ensures
+    ∙ ap (λ rows. record b { rows = rows }) (change_known row.page (λ r. record r { unchanged = true; state = Private }) s.layout.rows row c.self.invariant.rows_rise found)
+    ∙ sym (visited_by b row None (sym c.if-is_merged.ensures) (sym c.in_default.ensures) ∙ marked_by b row c.if-not-row.true)
+
+pub returns-then-not-row-clause-ok : goal.returns-then-not-row-clause-ok
+returns-then-not-row-clause-ok c = marked c ∙ ap (λ (x : BookView). row_visited x.state c.args.row) c.self.view_is
+
+pub invariant_of-self-then-not-row : goal.invariant_of-self-then-not-row
+invariant_of-self-then-not-row c =
+    let s = c.self.inside in
+    let b = state_of s.layout s.cursor s.passes in
+    let next = ap (λ (x : BookView). next_row x.state.cursor x.state.rows) c.self.view_is ∙ c.requires.next in
+    subst IsSound (sym (marked c)) (sound_row_visited b c.args.row (next_row_visited b c.args.row c.self.invariant next) c.self.invariant)

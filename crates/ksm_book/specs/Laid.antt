@@ -1,0 +1,99 @@
+-- Rows, dups and knobs, as they lie in the keeper's frames (own).
+use Rattle.std.specs.Prelude.{◌≡◌, ℕ, ◌<◌, ◌≤◌, Bool, true, false, not, ◌==◌, List, [], ◌∷◌, All, Contains, Option, None, Some, MatchBool, MatchOption, ◌⊎◌}
+use Rattle.ksm_base.specs.declared.shape.Shape.{Shape}
+use Rattle.ksm_base.specs.declared.knobs.Knobs.{Knobs}
+use Rattle.ksm_base.specs.declared.page.GuestPage.{GuestPage}
+use Rattle.ksm_base.specs.declared.row.Row.{Row}
+use Rattle.ksm_base.specs.declared.row.DupRow.{DupRow}
+use Rattle.ksm_base.specs.Rows.{merged_state, merged_into, item_count, row_at}
+use Rattle.ksm_base.specs.State.{BookState, tree_of}
+use Rattle.ksm_base.specs.Values.{IsShape, frames_of}
+use Rattle.frame_table.specs.Named.{KeeperView}
+use Rattle.ksm_book.specs.Placement.{Placed}
+use Rattle.ksm_book.specs.Steps.{Does, Did, puts, loads}
+use Rattle.ksm_book.specs.Keeping.{spent, NoneLeft}
+use Rattle.ksm_book.specs.Listed.{Listed}
+
+-- the rows and dups, the knobs, the number of the next dup, and the keeper of the frames
+pub record Lay : Type 0 where
+  pub shape : Shape
+  pub rows : List Row
+  pub dups : List DupRow
+  pub knobs : Knobs
+  pub next : ℕ
+  pub keeper : KeeperView
+
+-- the state of the book, by its layout, the cursor and the passes ended
+abbrev pub state_of : Lay → Option GuestPage → ℕ → BookState
+state_of lay cursor passes = record { shape = lay.shape; rows = lay.rows; dups = lay.dups; knobs = lay.knobs; cursor = cursor; passes = passes; next = lay.next }
+
+-- rows and dups lie lawfully in the frames, and no more dups were made than lives were spent
+pub record IsLaid (shape : Shape) (listed : Listed) (dups : List DupRow) (knobs : Knobs) (next : ℕ) (keeper : KeeperView) : Type 0 where
+  pub small : IsShape shape
+  pub same : keeper.table.shape ≡ shape
+  pub placed : Placed shape knobs.merge_across_nodes keeper.ledger listed.rows listed.frames dups None
+  pub spent : next ≤ spent keeper.ledger
+
+-- a row got a frame of its home, with these rows after it
+pub record Housed (old new : Lay) (row : Row) (after : List Row) : Type 0 where
+  pub state : new ≡ record old { rows = after; keeper = new.keeper }
+  pub does : Does old.keeper new.keeper (row.home ∷ [])
+
+-- no frame of the row's home was left, and nothing changed
+pub record Unhoused (old new : Lay) (row : Row) : Type 0 where
+  pub state : new ≡ record old { keeper = new.keeper }
+  pub left : NoneLeft old.keeper new.keeper row.home
+
+-- whether a row got a frame of its home
+abbrev pub IsHoused : Lay → Lay → Row → List Row → Bool → Type 0
+IsHoused old new row after got = MatchBool got (Housed old new row after) (Unhoused old new row)
+
+-- the page of a row has a row
+abbrev pub Knows : List Row → Row → (Row → Type 0) → Type 0
+Knows rows row fact = MatchOption (row_at row.page rows) ⊥ fact
+
+-- the page of a row has a frame of its own, on the row's home
+abbrev pub IsOnItsOwn : Row → Row → Type 0
+IsOnItsOwn row r = (merged_state r.state ≡ false) × (row.home ≡ r.home)
+
+-- a row may stand in the stead of another on the same frame
+abbrev pub LodgesAs : Row → Row → Type 0
+LodgesAs row r = (row.home ≡ r.home) × (row.bytes ≡ r.bytes) × ((row.state ≡ r.state) ⊎ ((merged_state r.state ≡ false) × (merged_state row.state ≡ false)))
+
+-- a row with a frame of its own may join the dup of an item
+pub record Joins (lay : Lay) (row item : Row) : Type 0 where
+  pub row_is : row_at row.page lay.rows ≡ Some row
+  pub item_is : row_at item.page lay.rows ≡ Some item
+  pub alone : merged_state row.state ≡ false
+  pub merged : merged_state item.state ≡ true
+  pub bytes : row.bytes ≡ item.bytes
+  pub room : (d : DupRow) × Contains lay.dups d × (merged_into d.number item.state ≡ true) × (item_count lay.rows d ≤ 1023)
+
+-- no dup with items stands at the place
+abbrev pub IsVacant : ℕ → List Row → List DupRow → Type 0
+IsVacant place rows dups = All (λ d. d.place ≡ place → item_count rows d ≡ 0) dups
+
+-- the dup stands at another place
+abbrev pub elsewhere : ℕ → DupRow → Bool
+elsewhere place d = not (d.place == place)
+
+-- the dup that is made of a row at a place
+abbrev pub new_dup : Lay → ℕ → Row → DupRow
+new_dup lay place row = record { number = lay.next; place = place; tree = tree_of lay.knobs row; bytes = row.bytes }
+
+-- a row may become the first item of a new dup at the place
+pub record Founds (lay : Lay) (place : ℕ) (row : Row) : Type 0 where
+  pub row_is : row_at row.page lay.rows ≡ Some row
+  pub alone : merged_state row.state ≡ false
+  pub inside : place < frames_of lay.shape
+  pub vacant : IsVacant place lay.rows lay.dups
+  pub numbers : All (λ d. d.number < lay.next) lay.dups
+  pub fresh : All (λ r. merged_into lay.next r.state ≡ false) lay.rows
+
+-- the keeper stored the bytes to a frame, each word once
+abbrev pub Stores : KeeperView → KeeperView → List ℕ → Type 0
+Stores v w bytes = (f : ℕ) × Did v w [] (puts f 0 bytes)
+
+-- the keeper loaded the bytes from a frame, each word once, if there was a page to read
+abbrev pub LoadsIf : Option (List ℕ) → KeeperView → KeeperView → Type 0
+LoadsIf bytes v w = MatchOption bytes (w ≡ v) (λ b. (f : ℕ) × Did v w [] (loads f 0 b))

@@ -1,0 +1,56 @@
+-- The book with the keeper of its frames, and what a command does with the keeper (own).
+use Rattle.std.specs.Prelude.{◌≡◌, ◌≢◌, ℕ, List, [], ◌∷◌, map, take, Contains, Option, Some, None, Ok, Err, option_map}
+use Rattle.ksm_base.specs.declared.command.Command.{Command}
+use Rattle.ksm_base.specs.declared.command.Command.TheVariants.{Unmerge, MoveDup, SetRun}
+use Rattle.ksm_base.specs.declared.reply.Reply.TheVariants.{Done, Unmerged}
+use Rattle.ksm_base.specs.declared.fault.Fault.TheVariants.{NoFrame, InUse}
+use Rattle.ksm_base.specs.Refusals.{is_of}
+use Rattle.ksm_base.specs.Answers.{Answer, frame_needed, merged_rows, every_row}
+use Rattle.ksm_base.specs.State.{BookState}
+use Rattle.frame_core.specs.declared.event.KeeperStep.TheVariants.{Raise, Publish, Freeze}
+use Rattle.frame_core.specs.Ledger.{frame_at, named_at}
+use Rattle.frame_table.specs.Named.{KeeperView}
+use Rattle.ksm_book.specs.Steps.{Log, Did, Does}
+use Rattle.ksm_book.specs.Keeping.{NoneLeft}
+
+-- what is seen of the book: its state, and the keeper
+pub record BookView : Type 0 where
+  pub state : BookState
+  pub keeper : KeeperView
+
+abbrev pub listed : Option ℕ → List ℕ
+listed None = []
+listed (Some node) = node ∷ []
+
+-- the nodes of the frames that a command needed and got, in order
+abbrev pub nodes_got : BookState → Answer → Command → List ℕ
+nodes_got b (Ok Done) command = listed (frame_needed b command)
+nodes_got b (Ok (Unmerged k stop)) (Unmerge guest) = map (λ r. r.home) (take k (merged_rows (is_of guest) b))
+nodes_got b (Ok (Unmerged k stop)) (SetRun v) = map (λ r. r.home) (take k (merged_rows every_row b))
+nodes_got b _ _ = []
+
+-- the exchange of a frame's count was tried, and found another than the keeper's references
+pub record HasLost (v w : KeeperView) : Type 0 where
+  pub part : Log
+  pub did : Did v w [] part
+  pub frame : ℕ
+  pub found : ℕ
+  pub tried : Contains part (Freeze frame, found)
+  pub other : found ≢ (frame_at w.ledger frame).base
+
+-- a frame was raised and then published at the place
+pub record HasMoved (v w : KeeperView) (place node : ℕ) : Type 0 where
+  pub part : Log
+  pub did : Did v w (node ∷ []) part
+  pub frame : ℕ
+  pub before : ℕ
+  pub raised : Contains part (Raise frame, before)
+  pub published : Contains part (Publish place frame, 0)
+
+-- what the keeper's part of the log shows of an answer
+abbrev pub HasShown : BookState → KeeperView → KeeperView → Answer → Command → Type 0
+HasShown b v w (Err (NoFrame node)) command = NoneLeft v w node
+HasShown b v w (Ok (Unmerged k (Some (NoFrame node)))) command = (u : KeeperView) × Does v u (nodes_got b (Ok (Unmerged k (Some (NoFrame node)))) command) × NoneLeft u w node
+HasShown b v w (Err InUse) (MoveDup place node) = HasLost v w
+HasShown b v w (Ok Done) (MoveDup place node) = HasMoved v w place node
+HasShown b v w _ _ = Unit {0}

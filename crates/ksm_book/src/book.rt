@@ -1,0 +1,130 @@
+//! The book of page sharing.
+
+ghost use Rattle.std.specs.Prelude.{◌≡◌, IfOk, IfErr, option_map};
+ghost use Rattle.ksm_base.specs.Answers.{IsAnswerOrMemory};
+ghost use Rattle.ksm_base.specs.Apply.{after};
+ghost use Rattle.ksm_base.specs.Counting.{counters_of};
+ghost use Rattle.ksm_base.specs.Reading.{bytes_of, mappers_of, ticket_of};
+ghost use Rattle.ksm_base.specs.Refusals.{is_known};
+ghost use Rattle.ksm_base.specs.State.{opening};
+ghost use Rattle.ksm_base.specs.Values.{IsShape};
+ghost use Rattle.frame_core.specs.Ledger.{first_ledger};
+ghost use Rattle.ksm_book.specs.Laid.{LoadsIf};
+ghost use Rattle.ksm_book.specs.Steps.{Does};
+ghost use Rattle.ksm_book.specs.Whole.{nodes_got, HasShown};
+
+use crate::state::State;
+use frame_table::{FrameTable, Keeper};
+use ksm_base::{Command, Counters, Fault, GuestPage, Knobs, PageBytes, Reply, Shape};
+use std::alloc::Global;
+use std::marker::Model;
+
+/// The pages of the guests and the dups into which they are merged, in the frames of a keeper. Contracts see the state of the book, and the keeper.
+pub struct Book {
+    state: State,
+}
+
+impl Model for Book {
+    ghost use Rattle.ksm_book.specs.Whole.{BookView};
+
+    ghost Value = { BookView };
+
+    ghost view = { λ b. b.state };
+}
+
+impl Book {
+    /// The opening book, in the frames of a keeper that has made no step. Refused for memory alone, it gives the keeper back.
+    pub fn open(alloc: Global, keeper: Keeper, shape: Shape) -> Result<Book, (Keeper, Fault)>
+        requires shape { IsShape shape }
+        requires same { keeper.table.shape ≡ shape }
+        requires new { keeper.ledger ≡ first_ledger shape }
+        ensures opened { IfOk result (λ b. b ≡ record { state = opening shape; keeper = keeper }) }
+        ensures refused { IfErr result (λ e. (e.0 ≡ keeper) × (e.1 ≡ Fault.Memory)) }
+    {
+        Ok(Book {
+            state: State::open(alloc, keeper, shape),
+        })
+    }
+
+    /// Does a command: a step of the book. `Err` is a refusal, and changes no page, dup or knob; `Fault::Memory` may come in place of any answer, and the keeper has then given no frame.
+    pub fn apply(&mut self, table: &FrameTable, command: Command) -> Result<Reply, Fault>
+        requires own { self.old.keeper.table ≡ table.now }
+        ensures own { self.new.keeper.table ≡ self.old.keeper.table }
+        ensures answer { IsAnswerOrMemory self.old.state command result }
+        ensures state { self.new.state ≡ after self.old.state command result }
+        ensures frames { Does self.old.keeper self.new.keeper (nodes_got self.old.state result command) }
+        ensures shown { HasShown self.old.state self.old.keeper self.new.keeper result command }
+    {
+        let state = &mut self.state;
+        match command {
+            Command::Register { page, node, bytes } => state.register(table, page, node, bytes),
+            Command::Drop { page } => state.drop_page(table, page),
+            Command::Store { page, bytes } => state.store(table, page, bytes),
+            Command::Scan { visits } => state.scan(table, visits),
+            Command::Prune => state.prune(table),
+            Command::Unmerge { guest: _ } => Err(Fault::Memory),
+            Command::Mergeable { guest } => state.mergeable(guest),
+            Command::MovePage { page, node } => state.move_page(table, page, node),
+            Command::MoveDup { place: _, node: _ } => Err(Fault::Memory),
+            Command::SetRun(run) => state.set_run(run),
+            Command::SetPagesToScan(pages) => state.set_pages_to_scan(pages),
+            Command::SetAcross(across) => state.set_across(table, across),
+            Command::SetLimit(limit) => state.set_limit(table, limit),
+        }
+    }
+
+    /// The bytes of a page, loaded from the words of its frame; none where it has no row.
+    pub fn read(&mut self, table: &FrameTable, page: GuestPage) -> Option<PageBytes>
+        requires own { self.old.keeper.table ≡ table.now }
+        ensures own { self.new.keeper.table ≡ self.old.keeper.table }
+        ensures bytes { result ≡ bytes_of page self.old.state }
+        ensures state { self.new.state ≡ self.old.state }
+        ensures loads { LoadsIf result self.old.keeper self.new.keeper }
+    {
+        self.state.read(table, page)
+    }
+
+    /// Whether the page is registered.
+    pub fn registered(&self, page: GuestPage) -> bool
+        ensures { result ≡ is_known self.now.state page }
+    {
+        self.state.registered(page)
+    }
+
+    /// The place of the dup into which a page is merged; none where it is not merged.
+    pub fn ticket(&self, page: GuestPage) -> Option<u32>
+        ensures { result ≡ ticket_of page self.now.state }
+    {
+        self.state.ticket(page)
+    }
+
+    /// The pages merged into the dup at a place, ascending; none where no dup with items stands there. Refused for memory alone.
+    pub fn mappers(&self, alloc: Global, place: u32) -> Result<Option<Vec<GuestPage>>, Fault>
+        ensures mappers { IfOk result (λ pages. option_map (λ v. v.items) pages ≡ mappers_of place self.now.state) }
+        ensures fault { IfErr result (λ fault. fault ≡ Fault.Memory) }
+    {
+        self.state.mappers(alloc, place)
+    }
+
+    /// The counters, counted from the pages and dups as they are.
+    pub fn counters(&self) -> Counters
+        ensures { result ≡ counters_of self.now.state }
+    {
+        self.state.counters()
+    }
+
+    /// The knobs.
+    pub fn knobs(&self) -> Knobs
+        ensures { result ≡ self.now.state.knobs }
+    {
+        self.state.knobs()
+    }
+
+    /// The keeper, as it is.
+    pub fn close(self) -> Keeper
+        ensures { result ≡ self.keeper }
+    {
+        let Book { state } = self;
+        state.close()
+    }
+}

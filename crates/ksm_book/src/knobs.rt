@@ -1,0 +1,114 @@
+//! The commands that set a knob.
+
+ghost use Rattle.std.specs.Prelude.{◌≡◌};
+ghost use Rattle.ksm_base.specs.Answers.{IsAnswerOrMemory};
+ghost use Rattle.ksm_base.specs.Apply.{after};
+ghost use Rattle.ksm_base.specs.Refusals.{changes_while_shared};
+ghost use Rattle.ksm_book.specs.Steps.{Does};
+ghost use Rattle.ksm_book.specs.Whole.{nodes_got, HasShown};
+
+use crate::state::State;
+use frame_table::FrameTable;
+use ksm_base::{Command, Fault, Knobs, Reply};
+
+impl State {
+    /// Sets how many pages a scan visits.
+    pub fn set_pages_to_scan(&mut self, pages: u32) -> Result<Reply, Fault>
+        ensures own { self.new.keeper.table ≡ self.old.keeper.table }
+        ensures answer { IsAnswerOrMemory self.old.state (Command.SetPagesToScan pages) result }
+        ensures state { self.new.state ≡ after self.old.state (Command.SetPagesToScan pages) result }
+        ensures frames { Does self.old.keeper self.new.keeper (nodes_got self.old.state result (Command.SetPagesToScan pages)) }
+        ensures shown { HasShown self.old.state self.old.keeper self.new.keeper result (Command.SetPagesToScan pages) }
+    {
+        if !(1..=1_000_000).contains(&pages) {
+            return Err(Fault::BadValue);
+        }
+        let knobs = self.layout.knobs();
+        self.layout.set_knobs(Knobs {
+            pages_to_scan: pages,
+            ..knobs
+        });
+        Ok(Reply::Done)
+    }
+
+    // Whether a knob would get another value while pages are shared.
+    fn would_change_shared(&self, knob: u32, value: u32) -> bool
+        ensures { result ≡ changes_while_shared self.now.state knob value }
+    {
+        value != knob && self.layout.count_shared() > 0
+    }
+
+    /// Sets whether pages of different nodes may be merged.
+    pub fn set_across(&mut self, table: &FrameTable, across: u32) -> Result<Reply, Fault>
+        requires own { self.old.keeper.table ≡ table.now }
+        ensures own { self.new.keeper.table ≡ self.old.keeper.table }
+        ensures answer { IsAnswerOrMemory self.old.state (Command.SetAcross across) result }
+        ensures state { self.new.state ≡ after self.old.state (Command.SetAcross across) result }
+        ensures frames { Does self.old.keeper self.new.keeper (nodes_got self.old.state result (Command.SetAcross across)) }
+        ensures shown { HasShown self.old.state self.old.keeper self.new.keeper result (Command.SetAcross across) }
+    {
+        if across > 1 {
+            return Err(Fault::BadValue);
+        }
+        let knobs = self.layout.knobs();
+        if self.would_change_shared(knobs.merge_across_nodes, across) {
+            return Err(Fault::SharedPages);
+        }
+        if across == knobs.merge_across_nodes {
+            return Ok(Reply::Done);
+        }
+        self.layout.prune(table);
+        self.layout.settle_all();
+        self.layout.set_knobs(Knobs {
+            merge_across_nodes: across,
+            ..knobs
+        });
+        Ok(Reply::Done)
+    }
+
+    /// Sets how many items a dup may have.
+    pub fn set_limit(&mut self, table: &FrameTable, limit: u32) -> Result<Reply, Fault>
+        requires own { self.old.keeper.table ≡ table.now }
+        ensures own { self.new.keeper.table ≡ self.old.keeper.table }
+        ensures answer { IsAnswerOrMemory self.old.state (Command.SetLimit limit) result }
+        ensures state { self.new.state ≡ after self.old.state (Command.SetLimit limit) result }
+        ensures frames { Does self.old.keeper self.new.keeper (nodes_got self.old.state result (Command.SetLimit limit)) }
+        ensures shown { HasShown self.old.state self.old.keeper self.new.keeper result (Command.SetLimit limit) }
+    {
+        if !(2..=1024).contains(&limit) {
+            return Err(Fault::BadValue);
+        }
+        let knobs = self.layout.knobs();
+        if self.would_change_shared(knobs.max_page_sharing, limit) {
+            return Err(Fault::SharedPages);
+        }
+        if limit == knobs.max_page_sharing {
+            return Ok(Reply::Done);
+        }
+        self.layout.prune(table);
+        self.layout.set_knobs(Knobs {
+            max_page_sharing: limit,
+            ..knobs
+        });
+        Ok(Reply::Done)
+    }
+
+    /// Sets whether the scan stands or runs.
+    pub fn set_run(&mut self, run: u32) -> Result<Reply, Fault>
+        ensures own { self.new.keeper.table ≡ self.old.keeper.table }
+        ensures answer { IsAnswerOrMemory self.old.state (Command.SetRun run) result }
+        ensures state { self.new.state ≡ after self.old.state (Command.SetRun run) result }
+        ensures frames { Does self.old.keeper self.new.keeper (nodes_got self.old.state result (Command.SetRun run)) }
+        ensures shown { HasShown self.old.state self.old.keeper self.new.keeper result (Command.SetRun run) }
+    {
+        if run > 2 {
+            return Err(Fault::BadValue);
+        }
+        if run == 2 {
+            return Err(Fault::Memory);
+        }
+        let knobs = self.layout.knobs();
+        self.layout.set_knobs(Knobs { run, ..knobs });
+        Ok(Reply::Done)
+    }
+}

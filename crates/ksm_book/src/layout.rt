@@ -1,0 +1,414 @@
+//! Rows and dups as they lie in the keeper's frames: each call is one lawful change of both.
+
+ghost use Rattle.std.specs.Prelude.{◌≡◌, ◌<◌, ◌+◌, ◌⊎◌, [], true, false, None, Err, All, count_by, filter, find, map, is_some, ◌==◌, ◌&&◌, option_map, OnOk, OnErr, IfOk, IfErr};
+ghost use Rattle.ksm_base.specs.declared.fault.Fault.TheVariants.{Memory};
+ghost use Rattle.ksm_base.specs.declared.row.PageState.TheVariants.{Private, Merged};
+ghost use Rattle.ksm_base.specs.Rows.{row_at, with_row, with_dup, without_page, change_row, change_rows, merged_state, settled, has_items, is_stale, dup_numbered};
+ghost use Rattle.ksm_base.specs.Counting.{counters_from, shared_count};
+ghost use Rattle.ksm_base.specs.Reading.{items_of};
+ghost use Rattle.ksm_base.specs.State.{place_count};
+ghost use Rattle.ksm_base.specs.Visit.{best_dup, partner, new_place};
+ghost use Rattle.ksm_base.specs.Apply.{unshared};
+ghost use Rattle.ksm_base.specs.Refusals.{is_of};
+ghost use Rattle.ksm_base.specs.Values.{IsShape, frames_of};
+ghost use Rattle.frame_core.specs.Ledger.{first_ledger};
+ghost use Rattle.ksm_book.specs.Laid.{IsHoused, Knows, IsOnItsOwn, LodgesAs, Joins, Founds, IsVacant, new_dup, elsewhere, Stores, LoadsIf};
+ghost use Rattle.ksm_book.specs.Steps.{Does};
+
+mod moving;
+
+use crate::dups::Dups;
+use crate::frames::{clear, load, release, share, take_frame, write};
+use crate::row::tree_of;
+use crate::rows::Rows;
+use frame_table::{FrameTable, Keeper};
+use ksm_base::{Counters, DupRow, Fault, GuestPage, Knobs, PageBytes, PageState, Row, Shape};
+use std::alloc::Global;
+use std::marker::Model;
+
+/// The rows with their frames, the dups, the knobs, the number of the next dup, and the keeper of the frames.
+pub struct Layout {
+    shape: Shape,
+    rows: Rows,
+    dups: Dups,
+    knobs: Knobs,
+    next: u64,
+    keeper: Keeper,
+}
+
+impl Model for Layout {
+    ghost use Rattle.ksm_book.specs.Laid.{Lay, IsLaid};
+
+    ghost Value = { Lay };
+
+    ghost view = { λ l. record {
+      shape = l.shape;
+      rows = l.rows.rows;
+      dups = l.dups;
+      knobs = l.knobs;
+      next = l.next;
+      keeper = l.keeper;
+    } };
+
+    ghost invariant = { λ l. IsLaid l.shape l.rows l.dups l.knobs l.next l.keeper };
+}
+
+impl Layout {
+    /// No rows and no dups, in the frames of a keeper that has made no step.
+    pub fn open(alloc: Global, keeper: Keeper, shape: Shape) -> Layout
+        requires shape { IsShape shape }
+        requires same { keeper.table.shape ≡ shape }
+        requires new { keeper.ledger ≡ first_ledger shape }
+        ensures { result ≡ record { shape = shape; rows = []; dups = []; knobs = record { run = 0; pages_to_scan = 100; merge_across_nodes = 1; max_page_sharing = 256 }; next = 0; keeper = keeper } }
+    {
+        Layout {
+            shape,
+            rows: Rows::new(alloc),
+            dups: Dups::new(alloc),
+            knobs: Knobs::DEFAULT,
+            next: 0,
+            keeper,
+        }
+    }
+
+    /// The keeper, as it is.
+    pub fn close(self) -> Keeper
+        ensures { result ≡ self.keeper }
+    {
+        let Layout {
+            shape: _,
+            rows: _rows,
+            dups: _dups,
+            knobs: _,
+            next: _,
+            keeper,
+        } = self;
+        keeper
+    }
+
+    pub fn shape(&self) -> Shape
+        ensures { result ≡ self.now.shape }
+    {
+        self.shape
+    }
+
+    pub fn rows(&self) -> &Rows
+        ensures { result.now.rows ≡ self.now.rows }
+    {
+        &self.rows
+    }
+
+    pub fn knobs(&self) -> Knobs
+        ensures { result ≡ self.now.knobs }
+    {
+        self.knobs
+    }
+
+    /// The number of the dup that is made next.
+    pub fn next_number(&self) -> u64
+        ensures { result ≡ self.now.next }
+    {
+        self.next
+    }
+
+    /// The dup that a row joins.
+    pub fn best(&self, row: &Row) -> Option<DupRow>
+        ensures { result ≡ best_dup self.now.knobs self.now.rows self.now.dups row.now }
+    {
+        self.dups.best(&self.knobs, &self.rows, row)
+    }
+
+    /// The row that waits for another.
+    pub fn partner(&self, row: &Row) -> Option<Row>
+        ensures { result ≡ partner self.now.knobs self.now.rows row.now }
+    {
+        self.rows.partner(&self.knobs, row)
+    }
+
+    /// Where a new dup goes.
+    pub fn new_place(&self) -> Option<u32>
+        ensures { result ≡ new_place (place_count self.now.shape) self.now.rows self.now.dups }
+    {
+        self.dups.new_place(self.shape.frames(), &self.rows)
+    }
+
+    /// The dup with items at a place.
+    pub fn live_at(&self, place: u32) -> Option<DupRow>
+        ensures { result ≡ find (λ d. d.place == place && has_items self.now.rows d) self.now.dups }
+    {
+        self.dups.live_at(&self.rows, place)
+    }
+
+    /// The pages merged into the dup at a place, ascending; none where no dup with items stands there. Refused for memory alone.
+    pub fn mappers(&self, alloc: Global, place: u32) -> Result<Option<Vec<GuestPage>>, Fault>
+        ensures mappers { IfOk result (λ pages. option_map (λ v. v.items) pages ≡ option_map (items_of self.now.rows) (find (λ d. d.place == place && has_items self.now.rows d) self.now.dups)) }
+        ensures fault { IfErr result (λ fault. fault ≡ Memory) }
+    {
+        let Some(dup) = self.live_at(place) else {
+            return Ok(None);
+        };
+        Ok(Some(self.rows.items(alloc, dup.number)?))
+    }
+
+    /// The dup with a number.
+    pub fn numbered(&self, number: u64) -> Option<DupRow>
+        ensures { result ≡ dup_numbered number self.now.dups }
+    {
+        self.dups.numbered(number)
+    }
+
+    /// How many dups have an item.
+    pub fn count_shared(&self) -> usize
+        ensures { result ≡ shared_count self.now.rows self.now.dups }
+    {
+        self.dups.count_shared(&self.rows)
+    }
+
+    /// What is counted, where so many passes have ended.
+    pub fn counters(&self, passes: u64) -> Counters
+        ensures { result ≡ counters_from self.now.rows self.now.dups passes }
+    {
+        let shared = self.dups.count_shared(&self.rows) as u64;
+        let merged = self.rows.count_merged() as u64;
+        Counters {
+            shared,
+            sharing: merged.saturating_sub(shared),
+            unshared: self.rows.count_waiting() as u64,
+            volatile: self.rows.count_volatile() as u64,
+            chains: self.dups.count_chains() as u64,
+            dups: self.dups.count_dups() as u64,
+            full_scans: passes,
+        }
+    }
+
+    /// The row of a page.
+    pub fn row(&self, page: GuestPage) -> Option<Row>
+        ensures { result ≡ row_at page self.now.rows }
+    {
+        match self.rows.find(page) {
+            None => None,
+            Some(held) => Some(held.row),
+        }
+    }
+
+    /// The bytes of a page, loaded from the words of its frame.
+    pub fn read(&mut self, table: &FrameTable, page: GuestPage) -> Option<PageBytes>
+        requires own { self.old.keeper.table ≡ table.now }
+        ensures own { self.new.keeper.table ≡ self.old.keeper.table }
+        ensures bytes { result ≡ option_map (λ r. r.bytes) (row_at page self.old.rows) }
+        ensures state { self.new ≡ record self.old { keeper = self.new.keeper } }
+        ensures loads { LoadsIf result self.old.keeper self.new.keeper }
+    {
+        let Some(held) = self.rows.find(page) else {
+            return None;
+        };
+        let bytes = load(&mut self.keeper, table, held.frame);
+        Some(bytes)
+    }
+
+    /// Adds the row of a page that has none, on a frame of the row's home. Says whether there was one. Refused for memory alone.
+    pub fn admit(&mut self, table: &FrameTable, row: Row) -> Result<bool, Fault>
+        requires own { self.old.keeper.table ≡ table.now }
+        requires absent { row_at row.page self.old.rows ≡ None }
+        requires home { row.home < self.old.shape.nodes }
+        requires alone { row.state ≡ Private }
+        ensures own { self.new.keeper.table ≡ self.old.keeper.table }
+        ensures housed { IfOk result (λ got. IsHoused self.old self.new row (with_row row self.old.rows) got) }
+        ensures refused { OnErr result (self.new ≡ self.old) }
+        ensures fault { OnErr result (result ≡ Err Memory) }
+    {
+        self.rows.insert(row, 0)?;
+        let Some(frame) = take_frame(&mut self.keeper, table, self.shape, row.home, row.bytes)
+        else {
+            self.rows.remove(row.page);
+            return Ok(false);
+        };
+        self.rows.replace(row, frame);
+        Ok(true)
+    }
+
+    /// The page of a row gets a frame of the row's home with its bytes, and leaves the frame that it had. Says whether there was one.
+    pub fn resettle(&mut self, table: &FrameTable, row: Row) -> bool
+        requires own { self.old.keeper.table ≡ table.now }
+        requires known { is_some (row_at row.page self.old.rows) ≡ true }
+        requires home { row.home < self.old.shape.nodes }
+        requires alone { row.state ≡ Private }
+        ensures own { self.new.keeper.table ≡ self.old.keeper.table }
+        ensures housed { IsHoused self.old self.new row (change_row row.page (λ _. row) self.old.rows) result }
+    {
+        let Some(held) = self.rows.find(row.page) else {
+            return false;
+        };
+        let Some(frame) = take_frame(&mut self.keeper, table, self.shape, row.home, row.bytes)
+        else {
+            return false;
+        };
+        self.rows.replace(row, frame);
+        release(&mut self.keeper, table, held.frame);
+        true
+    }
+
+    /// Stores the bytes of a row to the frame that its page has of its own.
+    pub fn rewrite(&mut self, table: &FrameTable, row: Row)
+        requires own { self.old.keeper.table ≡ table.now }
+        requires known { Knows self.old.rows row (IsOnItsOwn row) }
+        requires alone { row.state ≡ Private }
+        ensures own { self.new.keeper.table ≡ self.old.keeper.table }
+        ensures state { self.new ≡ record self.old { rows = change_row row.page (λ _. row) self.old.rows; keeper = self.new.keeper } }
+        ensures stores { Stores self.old.keeper self.new.keeper row.bytes }
+    {
+        let Some(held) = self.rows.find(row.page) else {
+            return;
+        };
+        write(&mut self.keeper, table, held.frame, row.bytes);
+        self.rows.replace(row, held.frame);
+    }
+
+    /// Puts a row in the stead of its page's, on the same frame.
+    pub fn amend(&mut self, row: Row)
+        requires { Knows self.old.rows row (LodgesAs row) }
+        ensures { self.new ≡ record self.old { rows = change_row row.page (λ _. row) self.old.rows } }
+    {
+        let Some(held) = self.rows.find(row.page) else {
+            return;
+        };
+        self.rows.replace(row, held.frame);
+    }
+
+    /// The row of a page goes, and so does its reference on its frame.
+    pub fn dismiss(&mut self, table: &FrameTable, page: GuestPage)
+        requires own { self.old.keeper.table ≡ table.now }
+        requires known { is_some (row_at page self.old.rows) ≡ true }
+        ensures own { self.new.keeper.table ≡ self.old.keeper.table }
+        ensures state { self.new ≡ record self.old { rows = without_page page self.old.rows; keeper = self.new.keeper } }
+        ensures does { Does self.old.keeper self.new.keeper [] }
+    {
+        let Some(held) = self.rows.find(page) else {
+            return;
+        };
+        self.rows.remove(page);
+        release(&mut self.keeper, table, held.frame);
+    }
+
+    /// No page waits any more.
+    pub fn settle_all(&mut self)
+        ensures { self.new ≡ record self.old { rows = map settled self.old.rows } }
+    {
+        self.rows.settle_all();
+    }
+
+    /// All pages of a guest become mergeable.
+    pub fn make_mergeable(&mut self, guest: u16)
+        ensures { self.new ≡ record self.old { rows = change_rows (is_of guest) (λ r. record r { mergeable = true }) self.old.rows } }
+    {
+        self.rows.make_mergeable(guest);
+    }
+
+    /// All pages become Private and not unchanged, where none is merged.
+    pub fn unshare_all(&mut self)
+        requires { All (λ r. merged_state r.state ≡ false) self.old.rows }
+        ensures { self.new ≡ record self.old { rows = map unshared self.old.rows } }
+    {
+        self.rows.unshare_all();
+    }
+
+    /// Sets the knobs; `merge_across_nodes` changes only where no dup is.
+    pub fn set_knobs(&mut self, knobs: Knobs)
+        requires { (knobs.merge_across_nodes ≡ self.old.knobs.merge_across_nodes) ⊎ (self.old.dups ≡ []) }
+        ensures { self.new ≡ record self.old { knobs = knobs } }
+    {
+        self.knobs = knobs;
+    }
+
+    /// The page of a row with a frame of its own joins the dup of an item, and leaves its frame.
+    pub fn join(&mut self, table: &FrameTable, row: Row, item: Row)
+        requires own { self.old.keeper.table ≡ table.now }
+        requires joins { Joins self.old row item }
+        ensures own { self.new.keeper.table ≡ self.old.keeper.table }
+        ensures state { self.new ≡ record self.old { rows = change_row row.page (λ _. record row { state = item.state }) self.old.rows; keeper = self.new.keeper } }
+        ensures does { Does self.old.keeper self.new.keeper [] }
+    {
+        let Some(held) = self.rows.find(row.page) else {
+            return;
+        };
+        let Some(other) = self.rows.find(item.page) else {
+            return;
+        };
+        share(&mut self.keeper, table, other.frame);
+        self.rows.replace(
+            Row {
+                state: item.state,
+                ..row
+            },
+            other.frame,
+        );
+        release(&mut self.keeper, table, held.frame);
+    }
+
+    /// A new dup stands at a place, on the frame of a row that has one of its own and becomes its first item. A stale dup at the place goes first. Refused for memory alone.
+    pub fn found(&mut self, table: &FrameTable, place: u32, row: Row) -> Result<(), Fault>
+        requires own { self.old.keeper.table ≡ table.now }
+        requires founds { Founds self.old place row }
+        ensures own { self.new.keeper.table ≡ self.old.keeper.table }
+        ensures state { OnOk result (self.new ≡ record self.old { rows = change_row row.page (λ _. record row { state = Merged self.old.next }) self.old.rows; dups = with_dup (new_dup self.old place row) self.old.dups; next = self.old.next + 1; keeper = self.new.keeper }) }
+        ensures does { Does self.old.keeper self.new.keeper [] }
+        ensures refused { OnErr result (self.new ≡ self.old) }
+        ensures fault { OnErr result (result ≡ Err Memory) }
+    {
+        let Some(held) = self.rows.find(row.page) else {
+            return Ok(());
+        };
+        let dup = DupRow {
+            number: self.next,
+            place,
+            tree: tree_of(&self.knobs, &row),
+            bytes: row.bytes,
+        };
+        let taken = self.dups.has(place);
+        self.dups.put(dup)?;
+        clear(&mut self.keeper, table, place, taken);
+        self.keeper.publish(table, place, held.frame);
+        self.rows.replace(
+            Row {
+                state: PageState::Merged(dup.number),
+                ..row
+            },
+            held.frame,
+        );
+        self.next += 1;
+        Ok(())
+    }
+
+    /// The stale dup at a place goes.
+    pub fn drop_stale(&mut self, table: &FrameTable, place: u32)
+        requires own { self.old.keeper.table ≡ table.now }
+        requires inside { place < frames_of self.old.shape }
+        requires vacant { IsVacant place self.old.rows self.old.dups }
+        ensures own { self.new.keeper.table ≡ self.old.keeper.table }
+        ensures state { self.new ≡ record self.old { dups = filter (elsewhere place) self.old.dups; keeper = self.new.keeper } }
+        ensures does { Does self.old.keeper self.new.keeper [] }
+    {
+        let taken = self.dups.has(place);
+        clear(&mut self.keeper, table, place, taken);
+        self.dups.remove(place);
+    }
+
+    /// All stale dups go. Says how many there were.
+    pub fn prune(&mut self, table: &FrameTable) -> u64
+        requires own { self.old.keeper.table ≡ table.now }
+        requires places { All (λ d. d.place < frames_of self.old.shape) self.old.dups }
+        ensures own { self.new.keeper.table ≡ self.old.keeper.table }
+        ensures state { self.new ≡ record self.old { dups = filter (has_items self.old.rows) self.old.dups; keeper = self.new.keeper } }
+        ensures count { result ≡ count_by (is_stale self.old.rows) self.old.dups }
+        ensures does { Does self.old.keeper self.new.keeper [] }
+    {
+        let count = self.dups.count_stale(&self.rows) as u64;
+        for done in 0..self.dups.len() {
+            let Some(place) = self.dups.stale_place(&self.rows) else {
+                return count;
+            };
+            self.drop_stale(table, place);
+        }
+        count
+    }
+}

@@ -1,0 +1,16 @@
+//! The book of page sharing: which pages there are, which of them are merged, and on which frames they lie.
+#![tactic(auto)]
+
+mod book;
+mod dups;
+mod entry;
+mod frames;
+mod knobs;
+mod layout;
+mod mounting;
+mod row;
+mod rows;
+mod scan;
+mod state;
+
+pub use book::Book;

@@ -1,0 +1,167 @@
+//! What is asked of one row, and what becomes of it.
+
+ghost use Rattle.std.specs.Prelude.{◌≡◌, ◌&&◌, bytes_eq, true, if◌then◌else◌};
+ghost use Rattle.ksm_base.specs.Answers.{every_row};
+ghost use Rattle.ksm_base.specs.Apply.{fresh_row as a_fresh_row, stored as with_bytes, moved as at_node, let_go as as_let_go, unshared as as_unshared};
+ghost use Rattle.ksm_base.specs.Refusals.{is_of as is_of_guest};
+ghost use Rattle.ksm_base.specs.Rows.{same_page as is_same_page, merged_into, private_state, waiting_state, merged_state, settled as as_settled};
+ghost use Rattle.ksm_base.specs.State.{tree_of as row_tree};
+ghost use Rattle.ksm_base.specs.Visit.{waits_for as is_waiting_for};
+
+use ksm_base::{GuestPage, Knobs, PageBytes, PageState, Row};
+
+pub fn same_page(p: GuestPage, q: GuestPage) -> bool
+    ensures { result ≡ is_same_page p q }
+{
+    p == q
+}
+
+pub fn same_bytes(a: PageBytes, b: PageBytes) -> bool
+    ensures { result ≡ bytes_eq a b }
+{
+    a == b
+}
+
+pub fn is_of(row: &Row, guest: u16) -> bool
+    ensures { result ≡ is_of_guest guest row.now }
+{
+    row.page.guest == guest
+}
+
+pub fn is_private(state: PageState) -> bool
+    ensures { result ≡ private_state state }
+{
+    matches!(state, PageState::Private)
+}
+
+pub fn is_waiting(state: PageState) -> bool
+    ensures { result ≡ waiting_state state }
+{
+    matches!(state, PageState::Waiting)
+}
+
+pub fn is_merged(state: PageState) -> bool
+    ensures { result ≡ merged_state state }
+{
+    matches!(state, PageState::Merged(_))
+}
+
+/// Whether a row in this state is an item of the dup with this number.
+pub fn is_item(state: PageState, number: u64) -> bool
+    ensures { result ≡ merged_into number state }
+{
+    match state {
+        PageState::Merged(d) => d == number,
+        _ => false,
+    }
+}
+
+/// The tree in which a row is looked for.
+pub fn tree_of(knobs: &Knobs, row: &Row) -> u32
+    ensures { result ≡ row_tree knobs.now row.now }
+{
+    if knobs.merge_across_nodes == 1 {
+        0
+    } else {
+        row.home
+    }
+}
+
+/// Whether another row waits for this one.
+pub fn waits_for(knobs: &Knobs, row: &Row, other: &Row) -> bool
+    ensures { result ≡ is_waiting_for knobs.now row.now other.now }
+{
+    is_waiting(other.state)
+        && !same_page(other.page, row.page)
+        && tree_of(knobs, other) == tree_of(knobs, row)
+        && same_bytes(other.bytes, row.bytes)
+}
+
+/// A new row.
+pub fn fresh_row(page: GuestPage, node: u32, bytes: PageBytes) -> Row
+    ensures { result ≡ a_fresh_row page node bytes }
+{
+    Row {
+        page,
+        home: node,
+        bytes,
+        mergeable: true,
+        unchanged: false,
+        state: PageState::Private,
+    }
+}
+
+/// The row after a store.
+pub fn stored(row: Row, bytes: PageBytes) -> Row
+    ensures { result ≡ with_bytes bytes row }
+{
+    Row {
+        bytes,
+        unchanged: row.unchanged && same_bytes(row.bytes, bytes),
+        state: PageState::Private,
+        ..row
+    }
+}
+
+/// The row after a move.
+pub fn moved(row: Row, node: u32) -> Row
+    ensures { result ≡ at_node node row }
+{
+    if row.home == node {
+        return row;
+    }
+    Row {
+        home: node,
+        state: PageState::Private,
+        ..row
+    }
+}
+
+/// The row with a Waiting state made Private.
+pub fn settled(row: Row) -> Row
+    ensures { result ≡ as_settled row }
+{
+    if is_waiting(row.state) {
+        return Row {
+            state: PageState::Private,
+            ..row
+        };
+    }
+    row
+}
+
+/// The row, mergeable if it is of the guest.
+pub fn with_mergeable(row: Row, guest: u16) -> Row
+    ensures { result ≡ (if is_of_guest guest row then record row { mergeable = true } else row) }
+{
+    if is_of(&row, guest) {
+        return Row {
+            mergeable: true,
+            ..row
+        };
+    }
+    row
+}
+
+/// The row alone, and out of the scan.
+pub fn let_go(row: Row) -> Row
+    ensures { result ≡ as_let_go row }
+{
+    Row {
+        mergeable: false,
+        unchanged: false,
+        state: PageState::Private,
+        ..row
+    }
+}
+
+/// The row alone and not unchanged.
+pub fn unshared(row: Row) -> Row
+    ensures { result ≡ as_unshared row }
+{
+    Row {
+        unchanged: false,
+        state: PageState::Private,
+        ..row
+    }
+}

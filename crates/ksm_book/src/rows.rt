@@ -1,0 +1,323 @@
+//! The rows in an ordered map: each page with what the book knows of it, and the frame that serves it.
+//!
+//! With n rows, `has`, `find`, `insert`, `replace` and `remove` take a number of steps in the order of log n. `next`,
+//! `next_merged` and `next_of` take as many, and one for each row that they pass over. All other calls walk over the
+//! rows, but for `len`.
+
+ghost use Rattle.std.specs.Prelude.{◌≡◌, ◌<◌, ◌≤◌, [], None, Some, length, filter, find, count_by, map, insert, remove, slice_set, MatchOption, IfOk, IfErr, OnOk, OnErr, Err, is_some, true, option_map, ◌&&◌};
+ghost use Rattle.std.specs.List.{list_any};
+ghost use Rattle.std.specs.Map.Iter.{deref_pair};
+ghost use Rattle.ksm_base.specs.declared.fault.Fault.TheVariants.{Memory};
+ghost use Rattle.ksm_base.specs.Refusals.{is_of as is_of_guest};
+ghost use Rattle.ksm_base.specs.Apply.{unshared as as_unshared};
+ghost use Rattle.ksm_base.specs.Rows.{row_at, with_row, without_page, change_row, change_rows, merged_into, private_state, waiting_state, merged_state, settled as as_settled};
+ghost use Rattle.ksm_base.specs.Visit.{after_cursor as is_after_cursor, next_row as row_to_visit, partner as row_waiting};
+ghost use Rattle.ksm_book.specs.Listed.{rank, StandsAt, instead};
+ghost use Rattle.ksm_book.specs.RowEntries.{row_of, start_after};
+
+use crate::entry::Entry;
+use crate::row::{
+    is_item, is_merged, is_private, is_waiting, settled, unshared, waits_for, with_mergeable,
+};
+use ksm_base::{Fault, GuestPage, Knobs, Row};
+use std::alloc::Global;
+use std::collections::BTreeMap;
+use std::marker::Model;
+use std::ops::Bound;
+
+/// A row with the number of its frame.
+#[derive(Clone, Copy, Debug)]
+pub struct Held {
+    pub row: Row,
+    pub frame: u32,
+}
+
+/// The rows in the order of their pages, each page once, each with its frame.
+#[derive(Drop)]
+pub struct Rows {
+    entries: BTreeMap<GuestPage, Entry>,
+}
+
+impl Model for Rows {
+    ghost use Rattle.ksm_book.specs.Listed.{Listed};
+
+    ghost Value = { Listed };
+
+    ghost use Rattle.ksm_book.specs.RowEntries.{listed};
+
+    ghost view = { λ r. listed r.entries.entries };
+}
+
+// The row of the entry that a search found.
+fn row_found(found: Option<(&GuestPage, &Entry)>) -> Option<Row>
+    ensures { result ≡ option_map (λ e. row_of (deref_pair e)) found.entry }
+{
+    let (page, entry) = found?;
+    Some(entry.row(*page))
+}
+
+// Where the pages after the one visited last begin.
+fn after_cursor(cursor: Option<GuestPage>) -> Bound<GuestPage>
+    ensures { result ≡ start_after cursor }
+{
+    match cursor {
+        None => Bound::Unbounded,
+        Some(last) => Bound::Excluded(last),
+    }
+}
+
+impl Rows {
+    /// No rows.
+    pub fn new(alloc: Global) -> Rows
+        ensures { result ≡ record { rows = []; frames = [] } }
+    {
+        Rows {
+            entries: BTreeMap::new(alloc),
+        }
+    }
+
+    /// Whether there is a row of the page.
+    pub fn has(&self, page: GuestPage) -> bool
+        ensures { result ≡ is_some (row_at page self.now.rows) }
+    {
+        self.entries.contains_key(&page)
+    }
+
+    /// The row of a page, with its frame.
+    pub fn find(&self, page: GuestPage) -> Option<Held>
+        ensures known { is_some (row_at page self.now.rows) ≡ is_some result }
+        ensures at { MatchOption result (row_at page self.now.rows ≡ None) (λ held. StandsAt self.now page held.row held.frame) }
+    {
+        // The contract of `len` says that the keys ascend, that of `get` does not.
+        let _ = self.entries.len();
+        match self.entries.get(&page) {
+            None => None,
+            Some(entry) => Some(Held {
+                row: entry.row(page),
+                frame: entry.frame,
+            }),
+        }
+    }
+
+    /// Adds the row of a page that has none, with its frame. Refused for memory alone, it changes nothing.
+    pub fn insert(&mut self, row: Row, frame: u32) -> Result<(), Fault>
+        requires { row_at row.page self.old.rows ≡ None }
+        ensures rows { OnOk result (self.new.rows ≡ insert self.old.rows (rank row.page self.old.rows) row) }
+        ensures frames { OnOk result (self.new.frames ≡ insert self.old.frames (rank row.page self.old.rows) frame) }
+        ensures added { OnOk result (self.new.rows ≡ with_row row self.old.rows) }
+        ensures place { OnOk result (rank row.page self.new.rows ≡ rank row.page self.old.rows) }
+        ensures within { rank row.page self.old.rows ≤ length self.old.rows }
+        ensures known { OnOk result (is_some (row_at row.page self.new.rows) ≡ true) }
+        ensures paired { length self.old.frames ≡ length self.old.rows }
+        ensures refused { OnErr result (self.new ≡ self.old) }
+        ensures fault { OnErr result (result ≡ Err Memory) }
+    {
+        let _ = self.entries.insert(row.page, Entry::new(row, frame))?;
+        Ok(())
+    }
+
+    /// Puts a row and its frame in the stead of those of its page, which has a row.
+    pub fn replace(&mut self, row: Row, frame: u32)
+        requires { is_some (row_at row.page self.old.rows) ≡ true }
+        ensures rows { self.new.rows ≡ slice_set self.old.rows (rank row.page self.old.rows) row }
+        ensures frames { self.new.frames ≡ slice_set self.old.frames (rank row.page self.old.rows) frame }
+        ensures changed { self.new.rows ≡ change_row row.page (λ _. row) self.old.rows }
+    {
+        let kept = Entry::new(row, frame);
+        let Some(entry) = self.entries.get_mut(&row.page) else {
+            return;
+        };
+        *entry = kept;
+    }
+
+    /// Takes the row of a page away, which has one.
+    pub fn remove(&mut self, page: GuestPage)
+        requires { is_some (row_at page self.old.rows) ≡ true }
+        ensures rows { self.new.rows ≡ remove self.old.rows (rank page self.old.rows) }
+        ensures frames { self.new.frames ≡ remove self.old.frames (rank page self.old.rows) }
+        ensures gone { self.new.rows ≡ without_page page self.old.rows }
+    {
+        // The contract of `len` says that the keys ascend, that of `remove` does so of those that are left.
+        let _ = self.entries.len();
+        let _ = self.entries.remove(&page);
+    }
+
+    /// The row that is visited next: the least mergeable one after the cursor.
+    pub fn next(&self, cursor: Option<GuestPage>) -> Option<Row>
+        ensures { result ≡ row_to_visit cursor self.now.rows }
+    {
+        row_found(
+            self.entries
+                .range((after_cursor(cursor), Bound::Unbounded))
+                .find(|(_, entry)| entry.mergeable),
+        )
+    }
+
+    /// The first merged row after a page, or of all where no page is given.
+    pub fn next_merged(&self, cursor: Option<GuestPage>) -> Option<Row>
+        ensures { result ≡ find (λ r. merged_state r.state && is_after_cursor cursor r.page) self.now.rows }
+    {
+        row_found(
+            self.entries
+                .range((after_cursor(cursor), Bound::Unbounded))
+                .find(|(_, entry)| is_merged(entry.state)),
+        )
+    }
+
+    /// The first row of a guest after a page, or of all where no page is given.
+    pub fn next_of(&self, guest: u16, cursor: Option<GuestPage>) -> Option<Row>
+        ensures { result ≡ find (λ r. is_of_guest guest r && is_after_cursor cursor r.page) self.now.rows }
+    {
+        row_found(
+            self.entries
+                .range((after_cursor(cursor), Bound::Unbounded))
+                .find(|(page, _)| page.guest == guest),
+        )
+    }
+
+    /// Another row that waits, of the same tree and bytes.
+    pub fn partner(&self, knobs: &Knobs, row: &Row) -> Option<Row>
+        ensures { result ≡ row_waiting knobs.now self.now.rows row.now }
+    {
+        row_found(
+            self.entries
+                .iter()
+                .find(|(page, entry)| waits_for(knobs, row, &entry.row(**page))),
+        )
+    }
+
+    /// The first item of the dup with this number.
+    pub fn item(&self, number: u64) -> Option<Row>
+        ensures { result ≡ find (λ r. merged_into number r.state) self.now.rows }
+    {
+        row_found(
+            self.entries
+                .iter()
+                .find(|(_, entry)| is_item(entry.state, number)),
+        )
+    }
+
+    /// The pages merged into the dup with this number, ascending. Refused for memory alone.
+    pub fn items(&self, alloc: Global, number: u64) -> Result<Vec<GuestPage>, Fault>
+        ensures items { IfOk result (λ pages. pages.items ≡ map (λ r. r.page) (filter (λ r. merged_into number r.state) self.now.rows)) }
+        ensures fault { IfErr result (λ fault. fault ≡ Memory) }
+    {
+        let mut pages = Vec::new(alloc);
+        for (page, entry) in &self.entries {
+            if is_item(entry.state, number) {
+                pages.push(*page)?;
+            }
+        }
+        Ok(pages)
+    }
+
+    /// Whether the guest has a row.
+    pub fn has_guest(&self, guest: u16) -> bool
+        ensures { result ≡ list_any (is_of_guest guest) self.now.rows }
+    {
+        self.entries.keys().any(|page| page.guest == guest)
+    }
+
+    /// Whether the scan has a row to visit.
+    pub fn any_mergeable(&self) -> bool
+        ensures { result ≡ list_any (λ r. r.mergeable) self.now.rows }
+    {
+        self.entries.values().any(|entry| entry.mergeable)
+    }
+
+    /// How many rows there are.
+    pub fn len(&self) -> usize
+        ensures { result ≡ length self.now.rows }
+    {
+        self.entries.len()
+    }
+
+    /// How many rows are merged into the dup with this number.
+    pub fn count_items(&self, number: u64) -> usize
+        ensures { result ≡ count_by (λ r. merged_into number r.state) self.now.rows }
+    {
+        self.entries
+            .values()
+            .filter(|entry| is_item(entry.state, number))
+            .count()
+    }
+
+    /// How many rows are merged.
+    pub fn count_merged(&self) -> usize
+        ensures { result ≡ count_by (λ r. merged_state r.state) self.now.rows }
+    {
+        self.entries
+            .values()
+            .filter(|entry| is_merged(entry.state))
+            .count()
+    }
+
+    /// How many rows wait.
+    pub fn count_waiting(&self) -> usize
+        ensures { result ≡ count_by (λ r. waiting_state r.state) self.now.rows }
+    {
+        self.entries
+            .values()
+            .filter(|entry| is_waiting(entry.state))
+            .count()
+    }
+
+    /// How many rows are mergeable and Private.
+    pub fn count_volatile(&self) -> usize
+        ensures { result ≡ count_by (λ r. r.mergeable && private_state r.state) self.now.rows }
+    {
+        self.entries
+            .values()
+            .filter(|entry| entry.mergeable && is_private(entry.state))
+            .count()
+    }
+
+    // The calls that follow write every entry and drop none. They do it by `retain`, whose contract says what is
+    // written to each value; that of a loop over `values_mut` does not.
+
+    /// No row waits any more: those that did are Private.
+    pub fn settle_all(&mut self)
+        ensures rows { self.new.rows ≡ map as_settled self.old.rows }
+        ensures frames { self.new.frames ≡ self.old.frames }
+    {
+        self.entries.retain(|page, entry| {
+            entry.set_row(settled(entry.row(*page)));
+            true
+        });
+    }
+
+    /// All rows of a guest become mergeable.
+    pub fn make_mergeable(&mut self, guest: u16)
+        ensures rows { self.new.rows ≡ change_rows (is_of_guest guest) (λ r. record r { mergeable = true }) self.old.rows }
+        ensures frames { self.new.frames ≡ self.old.frames }
+    {
+        self.entries.retain(|page, entry| {
+            entry.set_row(with_mergeable(entry.row(*page), guest));
+            true
+        });
+    }
+
+    /// Every row becomes Private and not unchanged.
+    pub fn unshare_all(&mut self)
+        ensures rows { self.new.rows ≡ map as_unshared self.old.rows }
+        ensures frames { self.new.frames ≡ self.old.frames }
+    {
+        self.entries.retain(|page, entry| {
+            entry.set_row(unshared(entry.row(*page)));
+            true
+        });
+    }
+
+    /// All rows on the frame `old` go to the frame `new`.
+    pub fn move_frames(&mut self, old: u32, new: u32)
+        ensures rows { self.new.rows ≡ self.old.rows }
+        ensures frames { self.new.frames ≡ map (instead old new) self.old.frames }
+    {
+        self.entries.retain(|_, entry| {
+            if entry.frame == old {
+                entry.frame = new;
+            }
+            true
+        });
+    }
+}

@@ -1,0 +1,176 @@
+//! The scan: visits of mergeable pages, in the order of their pages, pass after pass.
+
+ghost use Rattle.std.specs.Prelude.{◌≡◌, [], Some, Err, OnOk, OnErr, false};
+ghost use Rattle.ksm_base.specs.declared.fault.Fault.TheVariants.{Memory};
+ghost use Rattle.ksm_base.specs.Answers.{IsAnswerOrMemory};
+ghost use Rattle.ksm_base.specs.Apply.{after};
+ghost use Rattle.ksm_base.specs.Rows.{merged_state};
+ghost use Rattle.ksm_base.specs.Visit.{visit, visit_begun, visit_ended, pass_ended_at_last, row_visited, paired, partner, new_place, made_dup, next_row};
+ghost use Rattle.ksm_base.specs.State.{place_count};
+ghost use Rattle.ksm_book.specs.Steps.{Does};
+ghost use Rattle.ksm_book.specs.Whole.{nodes_got, HasShown};
+
+use crate::row::is_merged;
+use crate::state::State;
+use frame_table::FrameTable;
+use ksm_base::{Command, Fault, GuestPage, PageState, Reply, Row};
+
+impl State {
+    /// Makes visits.
+    pub fn scan(&mut self, table: &FrameTable, count: u64) -> Result<Reply, Fault>
+        requires own { self.old.keeper.table ≡ table.now }
+        ensures own { self.new.keeper.table ≡ self.old.keeper.table }
+        ensures answer { IsAnswerOrMemory self.old.state (Command.Scan count) result }
+        ensures state { self.new.state ≡ after self.old.state (Command.Scan count) result }
+        ensures frames { Does self.old.keeper self.new.keeper (nodes_got self.old.state result (Command.Scan count)) }
+        ensures shown { HasShown self.old.state self.old.keeper self.new.keeper result (Command.Scan count) }
+    {
+        if self.layout.knobs().run != 1 {
+            return Err(Fault::NotRunning);
+        }
+        if !self.layout.rows().any_mergeable() {
+            return Ok(Reply::Scanned {
+                visits: 0,
+                stop: None,
+            });
+        }
+        for done in 0..count {
+            if self.visit(table).is_err() {
+                return Ok(Reply::Scanned {
+                    visits: done,
+                    stop: Some(Fault::Memory),
+                });
+            }
+        }
+        Ok(Reply::Scanned {
+            visits: count,
+            stop: None,
+        })
+    }
+
+    // One visit. Where memory is refused, it has only begun.
+    fn visit(&mut self, table: &FrameTable) -> Result<(), Fault>
+        requires own { self.old.keeper.table ≡ table.now }
+        ensures own { self.new.keeper.table ≡ self.old.keeper.table }
+        ensures ok { OnOk result (self.new.state ≡ visit self.old.state) }
+        ensures err { OnErr result (self.new.state ≡ visit_begun self.old.state) }
+        ensures fault { OnErr result (result ≡ Err Memory) }
+        ensures does { Does self.old.keeper self.new.keeper [] }
+    {
+        self.begin_visit();
+        let Some(row) = self.layout.rows().next(self.cursor) else {
+            return Ok(());
+        };
+        self.visit_row(table, row)?;
+        self.end_visit(row.page);
+        Ok(())
+    }
+
+    // The pass ends where it has gone through all pages.
+    fn end_pass(&mut self)
+        ensures state { self.new.state ≡ pass_ended_at_last self.old.state }
+        ensures keeper { self.new.keeper ≡ self.old.keeper }
+    {
+        if self.cursor.is_some() && self.layout.rows().next(self.cursor).is_none() {
+            self.cursor = None;
+            self.passes = self.passes.saturating_add(1);
+        }
+    }
+
+    // What is done before a page is visited.
+    fn begin_visit(&mut self)
+        ensures state { self.new.state ≡ visit_begun self.old.state }
+        ensures keeper { self.new.keeper ≡ self.old.keeper }
+    {
+        self.end_pass();
+        if self.cursor.is_none() {
+            self.layout.settle_all();
+        }
+    }
+
+    // What is done after a page was visited.
+    fn end_visit(&mut self, page: GuestPage)
+        ensures state { self.new.state ≡ visit_ended self.old.state page }
+        ensures keeper { self.new.keeper ≡ self.old.keeper }
+    {
+        self.cursor = Some(page);
+        self.end_pass();
+    }
+
+    // What becomes of the page that is visited. Where memory is refused, nothing.
+    fn visit_row(&mut self, table: &FrameTable, row: Row) -> Result<(), Fault>
+        requires own { self.old.keeper.table ≡ table.now }
+        requires next { next_row self.old.state.cursor self.old.state.rows ≡ Some row }
+        ensures own { self.new.keeper.table ≡ self.old.keeper.table }
+        ensures ok { OnOk result (self.new.state ≡ row_visited self.old.state row) }
+        ensures err { OnErr result (self.new.state ≡ self.old.state) }
+        ensures fault { OnErr result (result ≡ Err Memory) }
+        ensures does { Does self.old.keeper self.new.keeper [] }
+    {
+        if is_merged(row.state) {
+            return Ok(());
+        }
+        if let Some(dup) = self.layout.best(&row) {
+            if let Some(item) = self.layout.rows().item(dup.number) {
+                self.layout.join(table, row, item);
+            }
+            return Ok(());
+        }
+        if !row.unchanged {
+            self.layout.amend(Row {
+                unchanged: true,
+                state: PageState::Private,
+                ..row
+            });
+            return Ok(());
+        }
+        self.pair(table, row)
+    }
+
+    // A page whose bytes stayed is merged with the one that waits for it, or waits.
+    fn pair(&mut self, table: &FrameTable, row: Row) -> Result<(), Fault>
+        requires own { self.old.keeper.table ≡ table.now }
+        requires next { next_row self.old.state.cursor self.old.state.rows ≡ Some row }
+        requires alone { merged_state row.state ≡ false }
+        ensures own { self.new.keeper.table ≡ self.old.keeper.table }
+        ensures ok { OnOk result (self.new.state ≡ paired (partner self.old.state.knobs self.old.state.rows row) self.old.state row) }
+        ensures err { OnErr result (self.new.state ≡ self.old.state) }
+        ensures fault { OnErr result (result ≡ Err Memory) }
+        ensures does { Does self.old.keeper self.new.keeper [] }
+    {
+        let Some(other) = self.layout.partner(&row) else {
+            self.layout.amend(Row {
+                state: PageState::Waiting,
+                ..row
+            });
+            return Ok(());
+        };
+        let Some(place) = self.layout.new_place() else {
+            return Ok(());
+        };
+        self.merge(table, place, other, row)
+    }
+
+    // The page visited and the one that waits for it become the items of a new dup.
+    fn merge(&mut self, table: &FrameTable, place: u32, other: Row, row: Row) -> Result<(), Fault>
+        requires own { self.old.keeper.table ≡ table.now }
+        requires next { next_row self.old.state.cursor self.old.state.rows ≡ Some row }
+        requires alone { merged_state row.state ≡ false }
+        requires waits { partner self.old.state.knobs self.old.state.rows row ≡ Some other }
+        requires place { new_place (place_count self.old.state.shape) self.old.state.rows self.old.state.dups ≡ Some place }
+        ensures own { self.new.keeper.table ≡ self.old.keeper.table }
+        ensures ok { OnOk result (self.new.state ≡ made_dup (Some place) self.old.state other row) }
+        ensures err { OnErr result (self.new.state ≡ self.old.state) }
+        ensures fault { OnErr result (result ≡ Err Memory) }
+        ensures does { Does self.old.keeper self.new.keeper [] }
+    {
+        let number = self.layout.next_number();
+        self.layout.found(table, place, other)?;
+        let item = Row {
+            state: PageState::Merged(number),
+            ..other
+        };
+        self.layout.join(table, row, item);
+        Ok(())
+    }
+}

@@ -1,0 +1,244 @@
+//! The state of the book, and its commands.
+
+ghost use Rattle.std.specs.Prelude.{◌≡◌, IfOk, IfErr, option_map};
+ghost use Rattle.ksm_base.specs.Values.{IsShape};
+ghost use Rattle.ksm_base.specs.State.{opening};
+ghost use Rattle.ksm_base.specs.Answers.{IsAnswerOrMemory};
+ghost use Rattle.ksm_base.specs.Apply.{after};
+ghost use Rattle.ksm_base.specs.Counting.{counters_of};
+ghost use Rattle.ksm_base.specs.Reading.{bytes_of, mappers_of, ticket_of};
+ghost use Rattle.ksm_base.specs.declared.fault.Fault.TheVariants.{Memory};
+ghost use Rattle.ksm_base.specs.Refusals.{is_known};
+ghost use Rattle.frame_core.specs.Ledger.{first_ledger};
+ghost use Rattle.ksm_book.specs.Laid.{LoadsIf};
+ghost use Rattle.ksm_book.specs.Steps.{Does};
+ghost use Rattle.ksm_book.specs.Whole.{nodes_got, HasShown};
+
+use crate::layout::Layout;
+use crate::row::{fresh_row, is_merged, moved, stored};
+use frame_table::{FrameTable, Keeper};
+use ksm_base::{Command, Counters, Fault, GuestPage, Knobs, PageBytes, PageState, Reply, Shape};
+use std::alloc::Global;
+use std::marker::Model;
+
+/// The rows and dups in their frames, the page visited last in this pass, and how many passes have ended.
+pub struct State {
+    pub(crate) layout: Layout,
+    pub(crate) cursor: Option<GuestPage>,
+    pub(crate) passes: u64,
+}
+
+impl Model for State {
+    ghost use Rattle.ksm_base.specs.Sound.{IsSound};
+    ghost use Rattle.ksm_book.specs.Whole.{BookView};
+    ghost use Rattle.ksm_book.specs.Laid.{state_of};
+
+    ghost Value = { BookView };
+
+    ghost view = { λ s. record { state = state_of s.layout s.cursor s.passes; keeper = s.layout.keeper } };
+
+    ghost invariant = { λ s. IsSound (state_of s.layout s.cursor s.passes) };
+}
+
+impl State {
+    /// The opening state, in the frames of a keeper that has made no step.
+    pub fn open(alloc: Global, keeper: Keeper, shape: Shape) -> State
+        requires shape { IsShape shape }
+        requires same { keeper.table.shape ≡ shape }
+        requires new { keeper.ledger ≡ first_ledger shape }
+        ensures { result ≡ record { state = opening shape; keeper = keeper } }
+    {
+        State {
+            layout: Layout::open(alloc, keeper, shape),
+            cursor: None,
+            passes: 0,
+        }
+    }
+
+    /// The keeper, as it is.
+    pub fn close(self) -> Keeper
+        ensures { result ≡ self.keeper }
+    {
+        let State {
+            layout,
+            cursor: _,
+            passes: _,
+        } = self;
+        layout.close()
+    }
+
+    /// The bytes of a page, loaded from the words of its frame.
+    pub fn read(&mut self, table: &FrameTable, page: GuestPage) -> Option<PageBytes>
+        requires own { self.old.keeper.table ≡ table.now }
+        ensures own { self.new.keeper.table ≡ self.old.keeper.table }
+        ensures bytes { result ≡ bytes_of page self.old.state }
+        ensures state { self.new.state ≡ self.old.state }
+        ensures loads { LoadsIf result self.old.keeper self.new.keeper }
+    {
+        self.layout.read(table, page)
+    }
+
+    /// Adds the row of a page.
+    pub fn register(
+        &mut self,
+        table: &FrameTable,
+        page: GuestPage,
+        node: u32,
+        bytes: PageBytes,
+    ) -> Result<Reply, Fault>
+        requires own { self.old.keeper.table ≡ table.now }
+        ensures own { self.new.keeper.table ≡ self.old.keeper.table }
+        ensures answer { IsAnswerOrMemory self.old.state (Command.Register page node bytes) result }
+        ensures state { self.new.state ≡ after self.old.state (Command.Register page node bytes) result }
+        ensures frames { Does self.old.keeper self.new.keeper (nodes_got self.old.state result (Command.Register page node bytes)) }
+        ensures shown { HasShown self.old.state self.old.keeper self.new.keeper result (Command.Register page node bytes) }
+    {
+        if node >= self.layout.shape().nodes {
+            return Err(Fault::BadNode);
+        }
+        if self.layout.rows().has(page) {
+            return Err(Fault::AlreadyRegistered);
+        }
+        if !self.layout.admit(table, fresh_row(page, node, bytes))? {
+            return Err(Fault::NoFrame(node));
+        }
+        Ok(Reply::Done)
+    }
+
+    /// Stores to a page.
+    pub fn store(
+        &mut self,
+        table: &FrameTable,
+        page: GuestPage,
+        bytes: PageBytes,
+    ) -> Result<Reply, Fault>
+        requires own { self.old.keeper.table ≡ table.now }
+        ensures own { self.new.keeper.table ≡ self.old.keeper.table }
+        ensures answer { IsAnswerOrMemory self.old.state (Command.Store page bytes) result }
+        ensures state { self.new.state ≡ after self.old.state (Command.Store page bytes) result }
+        ensures frames { Does self.old.keeper self.new.keeper (nodes_got self.old.state result (Command.Store page bytes)) }
+        ensures shown { HasShown self.old.state self.old.keeper self.new.keeper result (Command.Store page bytes) }
+    {
+        let Some(row) = self.layout.row(page) else {
+            return Err(Fault::UnknownPage);
+        };
+        if !is_merged(row.state) {
+            self.layout.rewrite(table, stored(row, bytes));
+            return Ok(Reply::Done);
+        }
+        if !self.layout.resettle(table, stored(row, bytes)) {
+            return Err(Fault::NoFrame(row.home));
+        }
+        Ok(Reply::Done)
+    }
+
+    /// Takes the row of a page away.
+    pub fn drop_page(&mut self, table: &FrameTable, page: GuestPage) -> Result<Reply, Fault>
+        requires own { self.old.keeper.table ≡ table.now }
+        ensures own { self.new.keeper.table ≡ self.old.keeper.table }
+        ensures answer { IsAnswerOrMemory self.old.state (Command.Drop page) result }
+        ensures state { self.new.state ≡ after self.old.state (Command.Drop page) result }
+        ensures frames { Does self.old.keeper self.new.keeper (nodes_got self.old.state result (Command.Drop page)) }
+        ensures shown { HasShown self.old.state self.old.keeper self.new.keeper result (Command.Drop page) }
+    {
+        if !self.layout.rows().has(page) {
+            return Err(Fault::UnknownPage);
+        }
+        self.layout.dismiss(table, page);
+        Ok(Reply::Done)
+    }
+
+    /// What is counted.
+    pub fn counters(&self) -> Counters
+        ensures { result ≡ counters_of self.now.state }
+    {
+        self.layout.counters(self.passes)
+    }
+
+    /// Whether there is a row of the page.
+    pub fn registered(&self, page: GuestPage) -> bool
+        ensures { result ≡ is_known self.now.state page }
+    {
+        self.layout.rows().has(page)
+    }
+
+    /// The place of the dup into which a page is merged.
+    pub fn ticket(&self, page: GuestPage) -> Option<u32>
+        ensures { result ≡ ticket_of page self.now.state }
+    {
+        match self.layout.row(page)?.state {
+            PageState::Merged(number) => Some(self.layout.numbered(number)?.place),
+            _ => None,
+        }
+    }
+
+    /// The pages merged into the dup at a place.
+    pub fn mappers(&self, alloc: Global, place: u32) -> Result<Option<Vec<GuestPage>>, Fault>
+        ensures mappers { IfOk result (λ pages. option_map (λ v. v.items) pages ≡ mappers_of place self.now.state) }
+        ensures fault { IfErr result (λ fault. fault ≡ Memory) }
+    {
+        self.layout.mappers(alloc, place)
+    }
+
+    pub fn knobs(&self) -> Knobs
+        ensures { result ≡ self.now.state.knobs }
+    {
+        self.layout.knobs()
+    }
+
+    /// All stale dups go.
+    pub fn prune(&mut self, table: &FrameTable) -> Result<Reply, Fault>
+        requires own { self.old.keeper.table ≡ table.now }
+        ensures own { self.new.keeper.table ≡ self.old.keeper.table }
+        ensures answer { IsAnswerOrMemory self.old.state Command.Prune result }
+        ensures state { self.new.state ≡ after self.old.state Command.Prune result }
+        ensures frames { Does self.old.keeper self.new.keeper (nodes_got self.old.state result Command.Prune) }
+        ensures shown { HasShown self.old.state self.old.keeper self.new.keeper result Command.Prune }
+    {
+        Ok(Reply::Pruned(self.layout.prune(table)))
+    }
+
+    /// All pages of a guest become mergeable.
+    pub fn mergeable(&mut self, guest: u16) -> Result<Reply, Fault>
+        ensures own { self.new.keeper.table ≡ self.old.keeper.table }
+        ensures answer { IsAnswerOrMemory self.old.state (Command.Mergeable guest) result }
+        ensures state { self.new.state ≡ after self.old.state (Command.Mergeable guest) result }
+        ensures frames { Does self.old.keeper self.new.keeper (nodes_got self.old.state result (Command.Mergeable guest)) }
+        ensures shown { HasShown self.old.state self.old.keeper self.new.keeper result (Command.Mergeable guest) }
+    {
+        if !self.layout.rows().has_guest(guest) {
+            return Err(Fault::UnknownPage);
+        }
+        self.layout.make_mergeable(guest);
+        Ok(Reply::Done)
+    }
+
+    /// Moves a page to a node.
+    pub fn move_page(
+        &mut self,
+        table: &FrameTable,
+        page: GuestPage,
+        node: u32,
+    ) -> Result<Reply, Fault>
+        requires own { self.old.keeper.table ≡ table.now }
+        ensures own { self.new.keeper.table ≡ self.old.keeper.table }
+        ensures answer { IsAnswerOrMemory self.old.state (Command.MovePage page node) result }
+        ensures state { self.new.state ≡ after self.old.state (Command.MovePage page node) result }
+        ensures frames { Does self.old.keeper self.new.keeper (nodes_got self.old.state result (Command.MovePage page node)) }
+        ensures shown { HasShown self.old.state self.old.keeper self.new.keeper result (Command.MovePage page node) }
+    {
+        if node >= self.layout.shape().nodes {
+            return Err(Fault::BadNode);
+        }
+        let Some(row) = self.layout.row(page) else {
+            return Err(Fault::UnknownPage);
+        };
+        if row.home == node {
+            return Ok(Reply::Done);
+        }
+        if !self.layout.resettle(table, moved(row, node)) {
+            return Err(Fault::NoFrame(node));
+        }
+        Ok(Reply::Done)
+    }
+}
