@@ -69,10 +69,11 @@ module _ (v w w' : KeeperView) (g i : ℕ) (bytes : List ℕ) (within : g < leng
       → Did v w' [] (puts g 0 (take (i + 1) bytes)) × (w'.ledger ≡ with_frame v.ledger g (holding n (take (i + 1) bytes ++ drop (i + 1) n.content)))
   wrote_one so_far ledger is =
       let a : Note = holding n (take i bytes ++ drop i n.content) in
-      let x : ℕ = get_or bytes i 0 in
-      (subst (Did v w' []) (sym (puts_more g i bytes lt)) (chained v w w' [] [] _ _ so_far (one_step w w' (Put g i x) 0 [] tt refl is)),
-       ap (λ (z : KeeperView). z.ledger) is ∙ ap (λ z. ledger_after w.table.shape z (Put g i x) 0) ledger ∙ again v.ledger g within a (λ b. holding b (set b.content i x))
-       ∙ ap (λ c. with_frame v.ledger g (holding n c)) (word_written bytes n.content i wide lt))
+      let x : ℕ = get_or bytes i 0 in (
+        subst (Did v w' []) (sym (puts_more g i bytes lt)) (chained v w w' [] [] _ _ so_far (one_step w w' (Put g i x) 0 [] tt refl is)),
+        ap (λ (z : KeeperView). z.ledger) is ∙ ap (λ z. ledger_after w.table.shape z (Put g i x) 0) ledger ∙ again v.ledger g within a (λ b. holding b (set b.content i x))
+            ∙ ap (λ c. with_frame v.ledger g (holding n c)) (word_written bytes n.content i wide lt),
+      )
 
 pub wrote_all : (v w : KeeperView) (g i : ℕ) (bytes : List ℕ) → length (frame_at v.ledger g).content ≡ length bytes → length bytes ≤ i → Did v w [] (puts g 0 (take i bytes)) → w.ledger ≡ with_frame v.ledger g (holding (frame_at v.ledger g) (take i bytes ++ drop i (frame_at v.ledger g).content)) → Wrote v w g bytes
 wrote_all v w g i bytes wide le so_far ledger = record {
@@ -147,7 +148,7 @@ module _ (v w : KeeperView) (node : ℕ) (bytes : List ℕ) (g found : ℕ) (rea
         keeps = λ across rows frames dups p.
             let q : Placed sv across k rows frames dups None = reaped.keeps across rows frames dups p in
             subst (λ (z : Ledger). Placed sv across z rows frames dups (Some g)) (sym e3)
-              (filled sv across k rows frames dups q g inside lowest.free a3 refl refl refl long);
+            (filled sv across k rows frames dups q g inside lowest.free a3 refl refl refl long);
         spent = omega (arith, before, more, end);
         frame = inside;
         kind = ap (λ (z : Note). z.kind) now;

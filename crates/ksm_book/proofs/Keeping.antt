@@ -91,22 +91,22 @@ module _ (sh : Shape) (across : ℕ) (k : Ledger) (rows : List Row) (frames : Li
 
   pub reap_keeps : (found : ℕ) → here.kind ≡ Dying → Placed sh across (ledger_after sh k (Reap g) found) rows frames dups hand
   reap_keeps found dying = elim (found == 0) as (λ b. Placed sh across (cond b (with_frame k g (with_references (cond (here.generation == sh.last_generation) Retired Free) 0)) k) rows frames dups hand) [
-      true ↦
+    | true ↦
         let none : here.base ≡ 0 = subst (λ (x : Kind). FitsBase x here.base) dying (p.kinds g) in
         let is : here.base ≡ uses g frames + in_hand g hand = p.bases g in
         let c : Bool = here.generation == sh.last_generation in
         referenced sh across k rows frames dups hand p g inside (with_references (cond (here.generation == sh.last_generation) Retired Free) 0) refl refl hand
-          (λ some. absurd (omega arith)) (λ e. absurd (not_private (here.generation == sh.last_generation) e)) (omega arith) (λ f ne. refl) (fits_reaped (here.generation == sh.last_generation))
-          (lived_reaped sh.last_generation here.generation (here.generation == sh.last_generation) refl (subst (λ (x : Kind). GenerationFits sh.last_generation x here.generation) dying (p.lives g)))
+        (λ some. absurd (omega arith)) (λ e. absurd (not_private (here.generation == sh.last_generation) e)) (omega arith) (λ f ne. refl) (fits_reaped (here.generation == sh.last_generation))
+        (lived_reaped sh.last_generation here.generation (here.generation == sh.last_generation) refl (subst (λ (x : Kind). GenerationFits sh.last_generation x here.generation) dying (p.lives g)))
     | false ↦ p
-    ]
+  ]
 
 reap_spends : (sh : Shape) (k : Ledger) (g found : ℕ) → g < length k.frames → spent k ≤ spent (ledger_after sh k (Reap g) found)
 reap_spends sh k g found lt =
     let reaped : Note = record { kind = cond ((frame_at k g).generation == sh.last_generation) Retired Free; base = 0; generation = (frame_at k g).generation; content = (frame_at k g).content } in
     elim (found == 0) as (λ b. spent k ≤ spent (cond b (with_frame k g reaped) k)) [
-      true ↦ spent_kept k g reaped lt (let up = past_reaped ((frame_at k g).generation == sh.last_generation) (frame_at k g).generation in let le = past_le (frame_at k g).kind (frame_at k g).generation in omega (arith, up, le))
-    | false ↦ omega arith
+      | true ↦ spent_kept k g reaped lt (let up = past_reaped ((frame_at k g).generation == sh.last_generation) (frame_at k g).generation in let le = past_le (frame_at k g).kind (frame_at k g).generation in omega (arith, up, le))
+      | false ↦ omega arith
     ]
 
 fits_added : (kind : Kind) (n : ℕ) → kind ≡ Stable → FitsBase kind (n + 1)
@@ -144,7 +144,7 @@ module _ (sh : Shape) (across : ℕ) (k : Ledger) (rows : List Row) (frames : Li
       let is : at_g.base ≡ uses g frames + 0 = p.bases g in
       let o : one_at g g ≡ 1 = one_same g g refl in
       referenced sh across k rows frames dups None p g inside record { kind = at_g.kind; base = at_g.base + 1; generation = at_g.generation; content = at_g.content } refl refl (Some g)
-        (λ _. refl) (λ e. e) (omega arith) (λ f ne. one_other f g (λ e. ne (sym e))) (fits_added at_g.kind at_g.base stable) (p.lives g)
+      (λ _. refl) (λ e. e) (omega arith) (λ f ne. one_other f g (λ e. ne (sym e))) (fits_added at_g.kind at_g.base stable) (p.lives g)
 
   -- the reference in hand is given back
   pub sub_keeps : (found : ℕ) → Placed sh across k rows frames dups (Some g) → Placed sh across (ledger_after sh k (Sub g) found) rows frames dups None
@@ -153,16 +153,16 @@ module _ (sh : Shape) (across : ℕ) (k : Ledger) (rows : List Row) (frames : Li
       let is : at_g.base ≡ uses g frames + one_at g g = p.bases g in
       let b : Bool = at_g.base == 1 in
       referenced sh across k rows frames dups (Some g) p g inside record { kind = cond (at_g.base == 1) Dying at_g.kind; base = at_g.base - 1; generation = at_g.generation; content = at_g.content } refl refl None
-        (λ some. let e : (at_g.base == 1) ≡ false = ne_eqb at_g.base 1 (λ x. omega arith) in ap (λ (x : Bool). cond x Dying at_g.kind) e)
-        (taken_private (at_g.base == 1) at_g.kind) (omega arith) (λ f ne. sym (one_other f g (λ e. ne (sym e))))
-        (fits_taken at_g.kind at_g.base (omega arith) (p.kinds g) (at_g.base == 1) refl)
-        (lived_taken sh.last_generation at_g.generation at_g.base at_g.kind (at_g.base == 1) (omega arith) (p.kinds g) (p.lives g))
+      (λ some. let e : (at_g.base == 1) ≡ false = ne_eqb at_g.base 1 (λ x. omega arith) in ap (λ (x : Bool). cond x Dying at_g.kind) e)
+      (taken_private (at_g.base == 1) at_g.kind) (omega arith) (λ f ne. sym (one_other f g (λ e. ne (sym e))))
+      (fits_taken at_g.kind at_g.base (omega arith) (p.kinds g) (at_g.base == 1) refl)
+      (lived_taken sh.last_generation at_g.generation at_g.base at_g.kind (at_g.base == 1) (omega arith) (p.kinds g) (p.lives g))
 
 reap_other : (sh : Shape) (k : Ledger) (g f found : ℕ) → f ≢ g → frame_at (ledger_after sh k (Reap g) found) f ≡ frame_at k f
 reap_other sh k g f found ne = elim (found == 0) as (λ b. frame_at (cond b (with_frame k g record { kind = cond ((frame_at k g).generation == sh.last_generation) Retired Free; base = 0; generation = (frame_at k g).generation; content = (frame_at k g).content }) k) f ≡ frame_at k f) [
-    true ↦ get_or-set_other k.frames g f _ blank ne
+  | true ↦ get_or-set_other k.frames g f _ blank ne
   | false ↦ refl
-  ]
+]
 
 reap_still : (sh : Shape) (k : Ledger) (g found : ℕ) → g < length k.frames → (frame_at (ledger_after sh k (Reap g) found) g).kind ≡ Dying → 1 ≤ found
 reap_still sh k g zero lt e = absurd (not_dying ((frame_at k g).generation == sh.last_generation) (sym (ap (λ (x : Note). x.kind) (get_or-set_same k.frames g _ blank lt)) ∙ e))
@@ -190,10 +190,13 @@ module _ (v w w' : KeeperView) (low n : ℕ) (so_far : Reaped v w low n) where
         part = so_far.part ++ (Reap g, found) ∷ [];
         did = chained v w w' [] [] so_far.part ((Reap g, found) ∷ []) so_far.did step;
         waited = λ f ge lt still. dite (ℕ_discrete f g)
-            (λ e. (found, reap_still sh w.ledger g found within (ap (λ (x : Ledger). (frame_at x g).kind) (sym after) ∙ subst (λ x. (frame_at w'.ledger x).kind ≡ Dying) e still),
-                subst (λ x. Contains (so_far.part ++ (Reap g, found) ∷ []) (Reap x, found)) (sym e) (Contains-push so_far.part (Reap g, found))))
+            (λ e. (
+              found,
+              reap_still sh w.ledger g found within (ap (λ (x : Ledger). (frame_at x g).kind) (sym after) ∙ subst (λ x. (frame_at w'.ledger x).kind ≡ Dying) e still),
+              subst (λ x. Contains (so_far.part ++ (Reap g, found) ∷ []) (Reap x, found)) (sym e) (Contains-push so_far.part (Reap g, found)),
+            ))
             (λ ne. let before = so_far.waited f ge (omega arith) (ap (λ (x : Note). x.kind) (sym (reap_other sh w.ledger g f found ne)) ∙ ap (λ (x : Ledger). (frame_at x f).kind) (sym after) ∙ still) in
-                (before.0, before.1, contains_more so_far.part (Reap g, found) (Reap f, before.0) before.2));
+            (before.0, before.1, contains_more so_far.part (Reap g, found) (Reap f, before.0) before.2));
         keeps = λ across rows frames dups p.
             let q : Placed v.table.shape across w.ledger rows frames dups None = so_far.keeps across rows frames dups p in
             let q' : Placed v.table.shape across (ledger_after v.table.shape w.ledger (Reap g) found) rows frames dups None = reap_keeps v.table.shape across w.ledger rows frames dups None q g inside found dying in

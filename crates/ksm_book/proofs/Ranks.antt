@@ -113,10 +113,10 @@ module _ (rows : List Row) (r : Row) (rise : InPageOrder rows) (absent : row_at 
   pub known_inserted : is_some (row_at r.page (insert rows i r)) ≡ true
   known_inserted = let w = wide in let le = rank_within r.page rows in found_some (insert rows i r) i (omega (arith, w, le)) (there no_row)
     where
-    found_some : (xs : List Row) (j : ℕ) → j < length xs → same_page (get_or xs j no_row).page r.page ≡ true → is_some (row_at r.page xs) ≡ true
-    found_some [] j lt same = absurd (omega arith)
-    found_some (x ∷ xs) zero lt same = grind (arith, same)
-    found_some (x ∷ xs) (suc j) lt same = grind (arith, found_some xs j (omega arith) same)
+      found_some : (xs : List Row) (j : ℕ) → j < length xs → same_page (get_or xs j no_row).page r.page ≡ true → is_some (row_at r.page xs) ≡ true
+      found_some [] j lt same = absurd (omega arith)
+      found_some (x ∷ xs) zero lt same = grind (arith, same)
+      found_some (x ∷ xs) (suc j) lt same = grind (arith, found_some xs j (omega arith) same)
 
 -- what came is written over, or goes again
 pub set_inserted : {X : Type 0} (xs : List X) (i : ℕ) (x y : X) → i ≤ length xs → set (insert xs i x) i y ≡ insert xs i y

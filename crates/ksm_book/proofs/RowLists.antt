@@ -51,10 +51,10 @@ before_is k q less = sym (less_is k q) ∙ ap is_lt less
 less_so : (k q : GuestPage) → comes_before k q ≡ true → order k q ≡ Less
 less_so k q before = go (order k q) refl
   where
-  go : (o : Ordering) → order k q ≡ o → order k q ≡ Less
-  go Less is = is
-  go Equal is = absurd (grind (arith, (let x : comes_before k q ≡ false = sym (less_is k q) ∙ ap is_lt is in x), before))
-  go Greater is = absurd (grind (arith, (let x : comes_before k q ≡ false = sym (less_is k q) ∙ ap is_lt is in x), before))
+    go : (o : Ordering) → order k q ≡ o → order k q ≡ Less
+    go Less is = is
+    go Equal is = absurd (grind (arith, (let x : comes_before k q ≡ false = sym (less_is k q) ∙ ap is_lt is in x), before))
+    go Greater is = absurd (grind (arith, (let x : comes_before k q ≡ false = sym (less_is k q) ∙ ap is_lt is in x), before))
 
 -- ---------------------------------------------------------------- entries that all come after a page
 
@@ -116,19 +116,23 @@ pub beside : (X : Type 0) (k : GuestPage) (e : GuestPage × Entry) (es : Entries
     → (order k e.0 ≡ Less → After k (e ∷ es) → X) → (order k e.0 ≡ Equal → Hits k e es → X) → (order k e.0 ≡ Greater → Passes k e es → X) → X
 beside X k e es sorted below here above = go (order k e.0) refl
   where
-  go : (o : Ordering) → order k e.0 ≡ o → X
-  go Less is = below is (is, after_all k e.0 es (before_is k e.0 is) (sorted_head order e.0 (keys_of es) sorted))
-  go Equal is =
-      let asked : asks k e.0 ≡ true = ap is_eq is in
-      let same : same_page e.0 k ≡ true = sym (asks_is k e.0) ∙ asked in
-      let key : e.0 ≡ k = same_page_eq e.0 k same in
-      let rest : After k es = subst (λ q. After q es) key (sorted_head order e.0 (keys_of es) sorted) in
-      here is (record { key = key; same = same; asked = asked; first = rank_first k e es (sym (greater_is k e.0) ∙ ap is_gt is) rest; rest = rest })
-  go Greater is =
-      let before : comes_before e.0 k ≡ true = sym (greater_is k e.0) ∙ ap is_gt is in
-      let asked : asks k e.0 ≡ false = ap is_eq is in
-      above is (record { before = before; other = sym (asks_is k e.0) ∙ asked; asked = asked;
-        next = ap (λ (b : Bool). length (cond b (row_of e ∷ filter (λ r. comes_before r.page k) (rows_of es)) (filter (λ r. comes_before r.page k) (rows_of es)))) before })
+    go : (o : Ordering) → order k e.0 ≡ o → X
+    go Less is = below is (is, after_all k e.0 es (before_is k e.0 is) (sorted_head order e.0 (keys_of es) sorted))
+    go Equal is =
+        let asked : asks k e.0 ≡ true = ap is_eq is in
+        let same : same_page e.0 k ≡ true = sym (asks_is k e.0) ∙ asked in
+        let key : e.0 ≡ k = same_page_eq e.0 k same in
+        let rest : After k es = subst (λ q. After q es) key (sorted_head order e.0 (keys_of es) sorted) in
+        here is (record { key = key; same = same; asked = asked; first = rank_first k e es (sym (greater_is k e.0) ∙ ap is_gt is) rest; rest = rest })
+    go Greater is =
+        let before : comes_before e.0 k ≡ true = sym (greater_is k e.0) ∙ ap is_gt is in
+        let asked : asks k e.0 ≡ false = ap is_eq is in
+        above is (record {
+          before = before;
+          other = sym (asks_is k e.0) ∙ asked;
+          asked = asked;
+          next = ap (λ (b : Bool). length (cond b (row_of e ∷ filter (λ r. comes_before r.page k) (rows_of es)) (filter (λ r. comes_before r.page k) (rows_of es)))) before;
+        })
 
 -- ---------------------------------------------------------------- what the calls of the map do to the lists
 
@@ -138,16 +142,16 @@ known_by k [] = refl
 known_by k (e ∷ es) =
     ap (λ (b : Bool). is_some (cond b (Some (row_of e)) (row_at k (rows_of es)))) (sym (asks_is k e.0)) ∙ by (asks k e.0) (known_by k es)
   where
-  by : (b : Bool) → is_some (row_at k (rows_of es)) ≡ is_some (lookup (asks k) es) → is_some (cond b (Some (row_of e)) (row_at k (rows_of es))) ≡ is_some (cond b (Some e.1) (lookup (asks k) es))
-  by true rest = refl
-  by false rest = rest
+    by : (b : Bool) → is_some (row_at k (rows_of es)) ≡ is_some (lookup (asks k) es) → is_some (cond b (Some (row_of e)) (row_at k (rows_of es))) ≡ is_some (cond b (Some e.1) (lookup (asks k) es))
+    by true rest = refl
+    by false rest = rest
 
 pub none_by : (k : GuestPage) (es : Entries) → lookup (asks k) es ≡ None → row_at k (rows_of es) ≡ None
 none_by k es none = go (row_at k (rows_of es)) (known_by k es ∙ ap is_some none)
   where
-  go : (o : Option Row) → is_some o ≡ false → o ≡ None
-  go None e = refl
-  go (Some r) e = absurd (grind (arith, e))
+    go : (o : Option Row) → is_some o ≡ false → o ≡ None
+    go None e = refl
+    go (Some r) e = absurd (grind (arith, e))
 
 -- the page's row, with its frame, stands at place n
 abbrev Stands : Listed → GuestPage → Row → ℕ → ℕ → Type 0
@@ -158,14 +162,14 @@ stands k v [] sorted found = absurd (grind (arith, found))
 stands k v (e ∷ es) sorted found = beside (Stands (listed (e ∷ es)) k (row_of (k, v)) v.frame (rank k (rows_of (e ∷ es)))) k e es sorted
     (λ is after. absurd (grind (arith, found, ap is_some (sym (none_there k (e ∷ es) after)), known_by k (e ∷ es))))
     (λ is h.
-        let value : e.1 ≡ v = grind (arith, h.asked, found) in
-        let row : row_of e ≡ row_of (k, v) = λ t. row_of (h.key t, value t) in
-        subst (Stands (listed (e ∷ es)) k (row_of (k, v)) v.frame) (sym h.first)
-          (omega arith, row, ap (λ (x : Entry). x.frame) value, ap (λ (b : Bool). cond b (Some (row_of e)) (row_at k (rows_of es))) h.same ∙ ap Some row))
+    let value : e.1 ≡ v = grind (arith, h.asked, found) in
+    let row : row_of e ≡ row_of (k, v) = λ t. row_of (h.key t, value t) in
+    subst (Stands (listed (e ∷ es)) k (row_of (k, v)) v.frame) (sym h.first)
+    (omega arith, row, ap (λ (x : Entry). x.frame) value, ap (λ (b : Bool). cond b (Some (row_of e)) (row_at k (rows_of es))) h.same ∙ ap Some row))
     (λ is p.
-        let s : Stands (listed es) k (row_of (k, v)) v.frame (rank k (rows_of es)) = stands k v es (sorted_tail order e.0 (keys_of es) sorted) (grind (arith, p.asked, found)) in
-        subst (Stands (listed (e ∷ es)) k (row_of (k, v)) v.frame) (sym p.next)
-          (omega (arith, s.0), s.1, s.2, ap (λ (b : Bool). cond b (Some (row_of e)) (row_at k (rows_of es))) p.other ∙ s.3))
+    let s : Stands (listed es) k (row_of (k, v)) v.frame (rank k (rows_of es)) = stands k v es (sorted_tail order e.0 (keys_of es) sorted) (grind (arith, p.asked, found)) in
+    subst (Stands (listed (e ∷ es)) k (row_of (k, v)) v.frame) (sym p.next)
+    (omega (arith, s.0), s.1, s.2, ap (λ (b : Bool). cond b (Some (row_of e)) (row_at k (rows_of es))) p.other ∙ s.3))
 
 pub stands_at : (k : GuestPage) (v : Entry) (es : Entries) → Sorted es → lookup (asks k) es ≡ Some v → StandsAt (listed es) k (row_of (k, v)) v.frame
 stands_at k v es sorted found = let s = stands k v es sorted found in record { inside = s.0; row_is = s.1; frame_is = s.2; found = s.3 }
@@ -181,23 +185,23 @@ set_at k w [] sorted known = absurd (grind (arith, known))
 set_at k w (e ∷ es) sorted known = beside (SetAt k w (e ∷ es) (rank k (rows_of (e ∷ es)))) k e es sorted
     (λ is after. absurd (grind (arith, known, ap is_some (none_there k (e ∷ es) after))))
     (λ is h.
-        let hit : (g : Entries → List Row) → g (set_value (asks k) (e ∷ es) w) ≡ g ((e.0, w) ∷ es) = λ g. ap (λ (b : Bool). g (cond b ((e.0, w) ∷ es) (e ∷ set_value (asks k) es w))) h.asked in
-        let row : row_of (e.0, w) ≡ row_of (k, w) = ap (λ q. row_of (q, w)) h.key in
-        subst (SetAt k w (e ∷ es)) (sym h.first) (record {
-          rows = hit rows_of ∙ ap (λ r. r ∷ rows_of es) row;
-          frames = ap (λ (b : Bool). map frame_of (cond b ((e.0, w) ∷ es) (e ∷ set_value (asks k) es w))) h.asked;
-          changed = hit rows_of ∙ (λ t. row t ∷ sym (none_changed k (row_of (k, w)) es h.rest) t)
-              ∙ sym (ap (λ (b : Bool). cond b (row_of (k, w)) (row_of e) ∷ change_row k (λ _. row_of (k, w)) (rows_of es)) h.same);
-        }))
+    let hit : (g : Entries → List Row) → g (set_value (asks k) (e ∷ es) w) ≡ g ((e.0, w) ∷ es) = λ g. ap (λ (b : Bool). g (cond b ((e.0, w) ∷ es) (e ∷ set_value (asks k) es w))) h.asked in
+    let row : row_of (e.0, w) ≡ row_of (k, w) = ap (λ q. row_of (q, w)) h.key in
+    subst (SetAt k w (e ∷ es)) (sym h.first) (record {
+      rows = hit rows_of ∙ ap (λ r. r ∷ rows_of es) row;
+      frames = ap (λ (b : Bool). map frame_of (cond b ((e.0, w) ∷ es) (e ∷ set_value (asks k) es w))) h.asked;
+      changed = hit rows_of ∙ (λ t. row t ∷ sym (none_changed k (row_of (k, w)) es h.rest) t)
+          ∙ sym (ap (λ (b : Bool). cond b (row_of (k, w)) (row_of e) ∷ change_row k (λ _. row_of (k, w)) (rows_of es)) h.same);
+    }))
     (λ is p.
-        let tail : is_some (row_at k (rows_of es)) ≡ true = sym (ap (λ (b : Bool). is_some (cond b (Some (row_of e)) (row_at k (rows_of es)))) p.other) ∙ known in
-        let s : SetAt k w es (rank k (rows_of es)) = set_at k w es (sorted_tail order e.0 (keys_of es) sorted) tail in
-        subst (SetAt k w (e ∷ es)) (sym p.next) (record {
-          rows = ap (λ (b : Bool). rows_of (cond b ((e.0, w) ∷ es) (e ∷ set_value (asks k) es w))) p.asked ∙ ap (λ l. row_of e ∷ l) s.rows;
-          frames = ap (λ (b : Bool). map frame_of (cond b ((e.0, w) ∷ es) (e ∷ set_value (asks k) es w))) p.asked ∙ ap (λ l. frame_of e ∷ l) s.frames;
-          changed = ap (λ (b : Bool). rows_of (cond b ((e.0, w) ∷ es) (e ∷ set_value (asks k) es w))) p.asked ∙ ap (λ l. row_of e ∷ l) s.changed
-              ∙ sym (ap (λ (b : Bool). cond b (row_of (k, w)) (row_of e) ∷ change_row k (λ _. row_of (k, w)) (rows_of es)) p.other);
-        }))
+    let tail : is_some (row_at k (rows_of es)) ≡ true = sym (ap (λ (b : Bool). is_some (cond b (Some (row_of e)) (row_at k (rows_of es)))) p.other) ∙ known in
+    let s : SetAt k w es (rank k (rows_of es)) = set_at k w es (sorted_tail order e.0 (keys_of es) sorted) tail in
+    subst (SetAt k w (e ∷ es)) (sym p.next) (record {
+      rows = ap (λ (b : Bool). rows_of (cond b ((e.0, w) ∷ es) (e ∷ set_value (asks k) es w))) p.asked ∙ ap (λ l. row_of e ∷ l) s.rows;
+      frames = ap (λ (b : Bool). map frame_of (cond b ((e.0, w) ∷ es) (e ∷ set_value (asks k) es w))) p.asked ∙ ap (λ l. frame_of e ∷ l) s.frames;
+      changed = ap (λ (b : Bool). rows_of (cond b ((e.0, w) ∷ es) (e ∷ set_value (asks k) es w))) p.asked ∙ ap (λ l. row_of e ∷ l) s.changed
+          ∙ sym (ap (λ (b : Bool). cond b (row_of (k, w)) (row_of e) ∷ change_row k (λ _. row_of (k, w)) (rows_of es)) p.other);
+    }))
 
 -- the entry at place n went
 pub record RemovedAt (k : GuestPage) (es : Entries) (n : ℕ) : Type 0 where
@@ -210,20 +214,20 @@ removed_at k [] sorted known = absurd (grind (arith, known))
 removed_at k (e ∷ es) sorted known = beside (RemovedAt k (e ∷ es) (rank k (rows_of (e ∷ es)))) k e es sorted
     (λ is after. absurd (grind (arith, known, ap is_some (none_there k (e ∷ es) after))))
     (λ is h. subst (RemovedAt k (e ∷ es)) (sym h.first) (record {
-        rows = ap (λ (b : Bool). rows_of (cond b es (e ∷ remove_entry (asks k) es))) h.asked;
-        frames = ap (λ (b : Bool). map frame_of (cond b es (e ∷ remove_entry (asks k) es))) h.asked;
-        gone = ap (λ (b : Bool). rows_of (cond b es (e ∷ remove_entry (asks k) es))) h.asked ∙ sym (no_other k es h.rest)
-            ∙ sym (ap (λ (b : Bool). cond (not b) (row_of e ∷ without_page k (rows_of es)) (without_page k (rows_of es))) h.same);
-      }))
+      rows = ap (λ (b : Bool). rows_of (cond b es (e ∷ remove_entry (asks k) es))) h.asked;
+      frames = ap (λ (b : Bool). map frame_of (cond b es (e ∷ remove_entry (asks k) es))) h.asked;
+      gone = ap (λ (b : Bool). rows_of (cond b es (e ∷ remove_entry (asks k) es))) h.asked ∙ sym (no_other k es h.rest)
+          ∙ sym (ap (λ (b : Bool). cond (not b) (row_of e ∷ without_page k (rows_of es)) (without_page k (rows_of es))) h.same);
+    }))
     (λ is p.
-        let tail : is_some (row_at k (rows_of es)) ≡ true = sym (ap (λ (b : Bool). is_some (cond b (Some (row_of e)) (row_at k (rows_of es)))) p.other) ∙ known in
-        let s : RemovedAt k es (rank k (rows_of es)) = removed_at k es (sorted_tail order e.0 (keys_of es) sorted) tail in
-        subst (RemovedAt k (e ∷ es)) (sym p.next) (record {
-          rows = ap (λ (b : Bool). rows_of (cond b es (e ∷ remove_entry (asks k) es))) p.asked ∙ ap (λ l. row_of e ∷ l) s.rows;
-          frames = ap (λ (b : Bool). map frame_of (cond b es (e ∷ remove_entry (asks k) es))) p.asked ∙ ap (λ l. frame_of e ∷ l) s.frames;
-          gone = ap (λ (b : Bool). rows_of (cond b es (e ∷ remove_entry (asks k) es))) p.asked ∙ ap (λ l. row_of e ∷ l) s.gone
-              ∙ sym (ap (λ (b : Bool). cond (not b) (row_of e ∷ without_page k (rows_of es)) (without_page k (rows_of es))) p.other);
-        }))
+    let tail : is_some (row_at k (rows_of es)) ≡ true = sym (ap (λ (b : Bool). is_some (cond b (Some (row_of e)) (row_at k (rows_of es)))) p.other) ∙ known in
+    let s : RemovedAt k es (rank k (rows_of es)) = removed_at k es (sorted_tail order e.0 (keys_of es) sorted) tail in
+    subst (RemovedAt k (e ∷ es)) (sym p.next) (record {
+      rows = ap (λ (b : Bool). rows_of (cond b es (e ∷ remove_entry (asks k) es))) p.asked ∙ ap (λ l. row_of e ∷ l) s.rows;
+      frames = ap (λ (b : Bool). map frame_of (cond b es (e ∷ remove_entry (asks k) es))) p.asked ∙ ap (λ l. frame_of e ∷ l) s.frames;
+      gone = ap (λ (b : Bool). rows_of (cond b es (e ∷ remove_entry (asks k) es))) p.asked ∙ ap (λ l. row_of e ∷ l) s.gone
+          ∙ sym (ap (λ (b : Bool). cond (not b) (row_of e ∷ without_page k (rows_of es)) (without_page k (rows_of es))) p.other);
+    }))
 
 -- an entry came in at place n
 pub record CameAt (k : GuestPage) (w : Entry) (es : Entries) (n : ℕ) : Type 0 where
@@ -251,32 +255,32 @@ came_at k w [] sorted none = record {
 }
 came_at k w (e ∷ es) sorted none = beside (CameAt k w (e ∷ es) (rank k (rows_of (e ∷ es)))) k e es sorted
     (λ is after.
-        let zero' : rank k (rows_of (e ∷ es)) ≡ 0 = ap length (none_before k (e ∷ es) after) in
-        let made : insert_entry order (e ∷ es) k w ≡ (k, w) ∷ e ∷ es = ap (λ o. match_ordering o ((k, w) ∷ e ∷ es) ((e.0, w) ∷ es) (e ∷ insert_entry order es k w)) is in
-        subst (CameAt k w (e ∷ es)) (sym zero') (record {
-          within = omega arith;
-          rows = ap rows_of made;
-          frames = ap (map frame_of) made;
-          added = ap rows_of made ∙ (λ t. sym (none_before k (e ∷ es) after) t ++ row_of (k, w) ∷ sym (all_after k (e ∷ es) after) t);
-          known = ap (λ (x : Entries). is_some (row_at k (rows_of x))) made ∙ ap (λ (b : Bool). is_some (cond b (Some (row_of (k, w))) (row_at k (rows_of (e ∷ es))))) (self_page k);
-          place = ap (λ (x : Entries). rank k (rows_of x)) made ∙ ap (λ (b : Bool). length (cond b (row_of (k, w) ∷ filter (λ r. comes_before r.page k) (rows_of (e ∷ es))) (filter (λ r. comes_before r.page k) (rows_of (e ∷ es))))) (not_self k) ∙ zero';
-        }))
+    let zero' : rank k (rows_of (e ∷ es)) ≡ 0 = ap length (none_before k (e ∷ es) after) in
+    let made : insert_entry order (e ∷ es) k w ≡ (k, w) ∷ e ∷ es = ap (λ o. match_ordering o ((k, w) ∷ e ∷ es) ((e.0, w) ∷ es) (e ∷ insert_entry order es k w)) is in
+    subst (CameAt k w (e ∷ es)) (sym zero') (record {
+      within = omega arith;
+      rows = ap rows_of made;
+      frames = ap (map frame_of) made;
+      added = ap rows_of made ∙ (λ t. sym (none_before k (e ∷ es) after) t ++ row_of (k, w) ∷ sym (all_after k (e ∷ es) after) t);
+      known = ap (λ (x : Entries). is_some (row_at k (rows_of x))) made ∙ ap (λ (b : Bool). is_some (cond b (Some (row_of (k, w))) (row_at k (rows_of (e ∷ es))))) (self_page k);
+      place = ap (λ (x : Entries). rank k (rows_of x)) made ∙ ap (λ (b : Bool). length (cond b (row_of (k, w) ∷ filter (λ r. comes_before r.page k) (rows_of (e ∷ es))) (filter (λ r. comes_before r.page k) (rows_of (e ∷ es))))) (not_self k) ∙ zero';
+    }))
     (λ is h. absurd (grind (arith, none, ap (λ (b : Bool). is_some (cond b (Some (row_of e)) (row_at k (rows_of es)))) h.same)))
     (λ is p.
-        let off : comes_before k e.0 ≡ false = not_both e.0 k p.before in
-        let made : insert_entry order (e ∷ es) k w ≡ e ∷ insert_entry order es k w = ap (λ o. match_ordering o ((k, w) ∷ e ∷ es) ((e.0, w) ∷ es) (e ∷ insert_entry order es k w)) is in
-        let tail : row_at k (rows_of es) ≡ None = sym (ap (λ (b : Bool). cond b (Some (row_of e)) (row_at k (rows_of es))) p.other) ∙ none in
-        let s : CameAt k w es (rank k (rows_of es)) = came_at k w es (sorted_tail order e.0 (keys_of es) sorted) tail in
-        subst (CameAt k w (e ∷ es)) (sym p.next) (record {
-          within = omega (arith, s.within);
-          rows = ap rows_of made ∙ ap (λ l. row_of e ∷ l) s.rows;
-          frames = ap (map frame_of) made ∙ ap (λ l. frame_of e ∷ l) s.frames;
-          added = ap rows_of made ∙ ap (λ l. row_of e ∷ l) s.added ∙ (λ t.
-              sym (ap (λ (b : Bool). cond b (row_of e ∷ filter (λ r. comes_before r.page k) (rows_of es)) (filter (λ r. comes_before r.page k) (rows_of es))) p.before) t
-              ++ row_of (k, w) ∷ sym (ap (λ (b : Bool). cond b (row_of e ∷ filter (λ r. comes_before k r.page) (rows_of es)) (filter (λ r. comes_before k r.page) (rows_of es))) off) t);
-          known = ap (λ (x : Entries). is_some (row_at k (rows_of x))) made ∙ ap (λ (b : Bool). is_some (cond b (Some (row_of e)) (row_at k (rows_of (insert_entry order es k w))))) p.other ∙ s.known;
-          place = ap (λ (x : Entries). rank k (rows_of x)) made ∙ ap (λ (b : Bool). length (cond b (row_of e ∷ filter (λ r. comes_before r.page k) (rows_of (insert_entry order es k w))) (filter (λ r. comes_before r.page k) (rows_of (insert_entry order es k w))))) p.before ∙ ap suc s.place;
-        }))
+    let off : comes_before k e.0 ≡ false = not_both e.0 k p.before in
+    let made : insert_entry order (e ∷ es) k w ≡ e ∷ insert_entry order es k w = ap (λ o. match_ordering o ((k, w) ∷ e ∷ es) ((e.0, w) ∷ es) (e ∷ insert_entry order es k w)) is in
+    let tail : row_at k (rows_of es) ≡ None = sym (ap (λ (b : Bool). cond b (Some (row_of e)) (row_at k (rows_of es))) p.other) ∙ none in
+    let s : CameAt k w es (rank k (rows_of es)) = came_at k w es (sorted_tail order e.0 (keys_of es) sorted) tail in
+    subst (CameAt k w (e ∷ es)) (sym p.next) (record {
+      within = omega (arith, s.within);
+      rows = ap rows_of made ∙ ap (λ l. row_of e ∷ l) s.rows;
+      frames = ap (map frame_of) made ∙ ap (λ l. frame_of e ∷ l) s.frames;
+      added = ap rows_of made ∙ ap (λ l. row_of e ∷ l) s.added ∙ (λ t.
+          sym (ap (λ (b : Bool). cond b (row_of e ∷ filter (λ r. comes_before r.page k) (rows_of es)) (filter (λ r. comes_before r.page k) (rows_of es))) p.before) t
+          ++ row_of (k, w) ∷ sym (ap (λ (b : Bool). cond b (row_of e ∷ filter (λ r. comes_before k r.page) (rows_of es)) (filter (λ r. comes_before k r.page) (rows_of es))) off) t);
+      known = ap (λ (x : Entries). is_some (row_at k (rows_of x))) made ∙ ap (λ (b : Bool). is_some (cond b (Some (row_of e)) (row_at k (rows_of (insert_entry order es k w))))) p.other ∙ s.known;
+      place = ap (λ (x : Entries). rank k (rows_of x)) made ∙ ap (λ (b : Bool). length (cond b (row_of e ∷ filter (λ r. comes_before r.page k) (rows_of (insert_entry order es k w))) (filter (λ r. comes_before r.page k) (rows_of (insert_entry order es k w))))) p.before ∙ ap suc s.place;
+    }))
 
 -- ---------------------------------------------------------------- the same, said of the value of the rows
 
@@ -292,8 +296,8 @@ pub record Came (old new : Listed) (row : Row) (frame : ℕ) : Type 0 where
 pub came : (es fs : Entries) (l : Listed) (row : Row) (frame : ℕ) → listed es ≡ l → Sorted es → row_at row.page l.rows ≡ None → fs ≡ insert_entry order es row.page (entry_of row frame) → Came l (listed fs) row frame
 came es fs l row frame is sorted none made =
     subst (λ v. Came v (listed fs) row frame) is (subst (λ x. Came (listed es) (listed x) row frame) (sym made)
-      (let c = came_at row.page (entry_of row frame) es sorted (ap (λ (v : Listed). row_at row.page v.rows) is ∙ none) in
-       record { rows = c.rows; frames = c.frames; added = c.added; place = c.place; within = c.within; known = c.known }))
+    (let c = came_at row.page (entry_of row frame) es sorted (ap (λ (v : Listed). row_at row.page v.rows) is ∙ none) in
+    record { rows = c.rows; frames = c.frames; added = c.added; place = c.place; within = c.within; known = c.known }))
 
 -- the row at the rank of its page is another now
 pub record Replaced (old new : Listed) (row : Row) (frame : ℕ) : Type 0 where
@@ -304,8 +308,8 @@ pub record Replaced (old new : Listed) (row : Row) (frame : ℕ) : Type 0 where
 pub replaced : (es fs : Entries) (l : Listed) (row : Row) (frame : ℕ) → listed es ≡ l → Sorted es → is_some (row_at row.page l.rows) ≡ true → fs ≡ set_value (asks row.page) es (entry_of row frame) → Replaced l (listed fs) row frame
 replaced es fs l row frame is sorted known made =
     subst (λ v. Replaced v (listed fs) row frame) is (subst (λ x. Replaced (listed es) (listed x) row frame) (sym made)
-      (let c = set_at row.page (entry_of row frame) es sorted (ap (λ (v : Listed). is_some (row_at row.page v.rows)) is ∙ known) in
-       record { rows = c.rows; frames = c.frames; changed = c.changed }))
+    (let c = set_at row.page (entry_of row frame) es sorted (ap (λ (v : Listed). is_some (row_at row.page v.rows)) is ∙ known) in
+    record { rows = c.rows; frames = c.frames; changed = c.changed }))
 
 -- the row at the rank of a page went
 pub record Went (old new : Listed) (page : GuestPage) : Type 0 where
@@ -316,5 +320,5 @@ pub record Went (old new : Listed) (page : GuestPage) : Type 0 where
 pub went : (es fs : Entries) (l : Listed) (page : GuestPage) → listed es ≡ l → Sorted es → is_some (row_at page l.rows) ≡ true → fs ≡ remove_entry (asks page) es → Went l (listed fs) page
 went es fs l page is sorted known made =
     subst (λ v. Went v (listed fs) page) is (subst (λ x. Went (listed es) (listed x) page) (sym made)
-      (let c = removed_at page es sorted (ap (λ (v : Listed). is_some (row_at page v.rows)) is ∙ known) in
-       record { rows = c.rows; frames = c.frames; gone = c.gone }))
+    (let c = removed_at page es sorted (ap (λ (v : Listed). is_some (row_at page v.rows)) is ∙ known) in
+    record { rows = c.rows; frames = c.frames; gone = c.gone }))

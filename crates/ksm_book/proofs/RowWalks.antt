@@ -29,9 +29,9 @@ module _ (test : Row → Bool) (asked : Entry → Bool) (alike : (e : GuestPage 
   values_passing [] = refl
   values_passing (e ∷ es) = ap (λ (b : Bool). length (cond b (e.1 ∷ filter asked (values_of es)) (filter asked (values_of es)))) (alike e) ∙ by (test (row_of e)) (values_passing es)
     where
-    by : (b : Bool) → length (filter asked (values_of es)) ≡ length (filter test (rows_of es)) → length (cond b (e.1 ∷ filter asked (values_of es)) (filter asked (values_of es))) ≡ length (cond b (row_of e ∷ filter test (rows_of es)) (filter test (rows_of es)))
-    by true rest = ap suc rest
-    by false rest = rest
+      by : (b : Bool) → length (filter asked (values_of es)) ≡ length (filter test (rows_of es)) → length (cond b (e.1 ∷ filter asked (values_of es)) (filter asked (values_of es))) ≡ length (cond b (row_of e ∷ filter test (rows_of es)) (filter test (rows_of es)))
+      by true rest = ap suc rest
+      by false rest = rest
 
 -- a test of a page that answers as one of its row does
 module _ (test : Row → Bool) (asked : GuestPage → Bool) (alike : (e : GuestPage × Entry) → asked e.0 ≡ test (row_of e)) where
@@ -46,9 +46,9 @@ pub find_row : (test : Row → Bool) (es : Entries) → option_map row_of (find 
 find_row test [] = refl
 find_row test (e ∷ es) = by (test (row_of e)) (find_row test es)
   where
-  by : (b : Bool) → option_map row_of (find (λ x. test (row_of x)) es) ≡ find test (rows_of es) → option_map row_of (cond b (Some e) (find (λ x. test (row_of x)) es)) ≡ cond b (Some (row_of e)) (find test (rows_of es))
-  by true rest = refl
-  by false rest = rest
+    by : (b : Bool) → option_map row_of (find (λ x. test (row_of x)) es) ≡ find test (rows_of es) → option_map row_of (cond b (Some e) (find (λ x. test (row_of x)) es)) ≡ cond b (Some (row_of e)) (find test (rows_of es))
+    by true rest = refl
+    by false rest = rest
 
 -- the row of what a search lends
 abbrev pub row_lent : Bor GuestPage × Bor Entry → Row
@@ -66,20 +66,20 @@ find_filter : {X : Type 0} (p q : X → Bool) (xs : List X) → find p (filter q
 find_filter p q [] = refl
 find_filter {X} p q (x ∷ xs) = by (q x) (find_filter p q xs)
   where
-  rest : Option X
-  rest = find (λ y. p y && q y) xs
+    rest : Option X
+    rest = find (λ y. p y && q y) xs
 
-  kept : (a : Bool) → find p (filter q xs) ≡ rest → cond a (Some x) (find p (filter q xs)) ≡ cond (a && true) (Some x) rest
-  kept true e = refl
-  kept false e = e
+    kept : (a : Bool) → find p (filter q xs) ≡ rest → cond a (Some x) (find p (filter q xs)) ≡ cond (a && true) (Some x) rest
+    kept true e = refl
+    kept false e = e
 
-  dropped : (a : Bool) → find p (filter q xs) ≡ rest → find p (filter q xs) ≡ cond (a && false) (Some x) rest
-  dropped true e = e
-  dropped false e = e
+    dropped : (a : Bool) → find p (filter q xs) ≡ rest → find p (filter q xs) ≡ cond (a && false) (Some x) rest
+    dropped true e = e
+    dropped false e = e
 
-  by : (b : Bool) → find p (filter q xs) ≡ rest → find p (cond b (x ∷ filter q xs) (filter q xs)) ≡ cond (p x && b) (Some x) rest
-  by true e = kept (p x) e
-  by false e = dropped (p x) e
+    by : (b : Bool) → find p (filter q xs) ≡ rest → find p (cond b (x ∷ filter q xs) (filter q xs)) ≡ cond (p x && b) (Some x) rest
+    by true e = kept (p x) e
+    by false e = dropped (p x) e
 
 and_true : (b : Bool) → (b && true) ≡ b
 and_true true = refl

@@ -99,11 +99,11 @@ partner_founds lay cursor passes row w place s waits chosen =
       fresh = next_is_new b s;
     }
   where
-  vacant_at : (n : ℕ) → (nat_lt 0 n ≡ true → ⊥) → n ≡ 0
-  vacant_at n none = elim (cases_Bool (nat_lt 0 n)) [
+    vacant_at : (n : ℕ) → (nat_lt 0 n ≡ true → ⊥) → n ≡ 0
+    vacant_at n none = elim (cases_Bool (nat_lt 0 n)) [
       | inl some ↦ absurd (none some)
       | inr zero_is ↦ grind (arith, nat_tests, zero_is)
-      ]
+    ]
 
 -- rows of two pages get a state
 abbrev pub in_state : PageState → Row → Row
@@ -115,14 +115,14 @@ two_changes p q s (r ∷ rs) =
     let rest = two_changes p q s rs in
     elim (cases_Bool (same_page r.page p)) [
       | inl first ↦ elim (cases_Bool (same_page r.page q)) [
-          | inl second ↦ grind (arith, first, second, rest)
-          | inr second ↦ grind (arith, first, second, rest)
-          ]
-      | inr first ↦ elim (cases_Bool (same_page r.page q)) [
-          | inl second ↦ grind (arith, first, second, rest)
-          | inr second ↦ grind (arith, first, second, rest)
-          ]
+        | inl second ↦ grind (arith, first, second, rest)
+        | inr second ↦ grind (arith, first, second, rest)
       ]
+      | inr first ↦ elim (cases_Bool (same_page r.page q)) [
+        | inl second ↦ grind (arith, first, second, rest)
+        | inr second ↦ grind (arith, first, second, rest)
+      ]
+    ]
 
 -- the row of another page stays, that of the page is found changed
 pub row_elsewhere : (p q : GuestPage) (s : PageState) (rows : List Row) → same_page p q ≡ false → row_at q (change_row p (in_state s) rows) ≡ row_at q rows
@@ -134,26 +134,26 @@ row_elsewhere p q s (r ∷ rs) other =
           let not_q : same_page r.page q ≡ false = ap (λ x. same_page x q) (same_page_eq r.page p here) ∙ other in
           grind (arith, here, not_q, rest)
       | inr there ↦ grind (arith, there, rest)
-      ]
+    ]
 
 pub row_here : (p : GuestPage) (s : PageState) (rows : List Row) (r : Row) → row_at p rows ≡ Some r → row_at p (change_row p (in_state s) rows) ≡ Some (in_state s r)
 row_here p s [] r found = absurd (grind (arith, found))
 row_here p s (x ∷ xs) r found = elim (cases_Bool (same_page x.page p)) [
-    | inl here ↦
-        let is : x ≡ r = grind (arith, found, here) in
-        grind (arith, here, is)
-    | inr there ↦
-        let later : row_at p xs ≡ Some r = grind (arith, found, there) in
-        let rest = row_here p s xs r later in
-        grind (arith, there, rest)
-    ]
+  | inl here ↦
+      let is : x ≡ r = grind (arith, found, here) in
+      grind (arith, here, is)
+  | inr there ↦
+      let later : row_at p xs ≡ Some r = grind (arith, found, there) in
+      let rest = row_here p s xs r later in
+      grind (arith, there, rest)
+]
 
 contains_dup : (d : DupRow) (dups : List DupRow) → Contains (with_dup d dups) d
 contains_dup d dups = contains_middle (filter (λ e. nat_lt e.place d.place) dups) d (filter (λ e. nat_lt d.place e.place) dups)
   where
-  contains_middle : {X : Type 0} (xs : List X) (x : X) (ys : List X) → Contains (xs ++ x ∷ ys) x
-  contains_middle [] x ys = (0, omega arith, refl)
-  contains_middle (y ∷ xs) x ys = let rest = contains_middle xs x ys in (suc rest.0, (let lt = rest.1 in omega (arith, lt)), rest.2)
+    contains_middle : {X : Type 0} (xs : List X) (x : X) (ys : List X) → Contains (xs ++ x ∷ ys) x
+    contains_middle [] x ys = (0, omega arith, refl)
+    contains_middle (y ∷ xs) x ys = let rest = contains_middle xs x ys in (suc rest.0, (let lt = rest.1 in omega (arith, lt)), rest.2)
 
 -- a new dup was made of the waiting row: the visited one may join it
 module _ (lay : Lay) (cursor : Option GuestPage) (passes : ℕ) (row w : Row) (place : ℕ) (s : IsSound (state_of lay cursor passes)) (next : next_row cursor lay.rows ≡ Some row) (alone : merged_state row.state ≡ false) (waits : partner lay.knobs lay.rows row ≡ Some w) where

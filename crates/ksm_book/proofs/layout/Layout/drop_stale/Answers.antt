@@ -13,4 +13,4 @@ pub invariant_of-self : goal.invariant_of-self
 invariant_of-self c =
     let b = c.self.inside in
     subst (λ z. IsLaid b.shape b.rows z b.knobs b.next c.clear.new.keeper) (sym c.remove.ensures)
-      (laid_cleared b.shape b.rows b.dups b.knobs b.next b.keeper c.clear.new.keeper c.args.place c.self.invariant (subst (λ (x : Lay). c.args.place < frames_of x.shape) (sym c.self.view_is) c.requires.inside) c.clear.ensures.own c.clear.ensures.ledger)
+    (laid_cleared b.shape b.rows b.dups b.knobs b.next b.keeper c.clear.new.keeper c.args.place c.self.invariant (subst (λ (x : Lay). c.args.place < frames_of x.shape) (sym c.self.view_is) c.requires.inside) c.clear.ensures.own c.clear.ensures.ledger)

@@ -59,9 +59,9 @@ returns-clause-state c =
     let none : filter (has_items now.rows) l.dups ≡ l.dups = none_there (has_items now.rows) l.dups (omega (arith, few, past, long)) in
     i.state ∙ (λ t. record now { dups = (sym none ∙ i.live) t; keeper = l.keeper })
   where
-  none_there : (p : DupRow → Bool) (ds : List DupRow) → length ds ≡ 0 → filter p ds ≡ ds
-  none_there p [] e = refl
-  none_there p (d ∷ ds) e = absurd (omega arith)
+    none_there : (p : DupRow → Bool) (ds : List DupRow) → length ds ≡ 0 → filter p ds ≡ ds
+    none_there p [] e = refl
+    none_there p (d ∷ ds) e = absurd (omega arith)
 
 pub drop_stale-requires-clause-inside : goal.drop_stale-requires-clause-inside
 drop_stale-requires-clause-inside c =

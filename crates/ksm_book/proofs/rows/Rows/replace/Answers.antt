@@ -12,7 +12,7 @@ use Rattle.ksm_book.proofs.rows.Rows.replace.Goals as goal
 never : (c : goal.After-self-in_default-2-1) → ⊥
 never c =
     let none : is_some (row_at c.args.row.page c.args.self.now.rows) ≡ false = ap (λ (l : Listed). is_some (row_at c.args.row.page l.rows)) (sym c.self.view_is) ∙ known_by c.args.row.page c.self.inside.entries.entries
-        ∙ ap is_some (sym c.get_mut.ensures.value ∙ ap option_copied_mut c.in_default.is) in
+    ∙ ap is_some (sym c.get_mut.ensures.value ∙ ap option_copied_mut c.in_default.is) in
     grind (arith, none, c.requires)
 
 pub returns-in_default-clause-rows : goal.returns-in_default-clause-rows

@@ -16,7 +16,6 @@ returns-then-is_err-clause-frames c =
     let second = c.visit.ensures.does in
     (_, chained c.args.self.now.keeper c.loop-done.self.keeper c.visit.new.self.keeper [] [] first.0 second.0 first.1 second.1)
 
-
 pub loop-done-preserved : goal.loop-done-preserved
 loop-done-preserved c =
     let first = c.loop-done.invariant.does in

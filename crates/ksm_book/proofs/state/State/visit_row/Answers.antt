@@ -18,7 +18,7 @@ pub join-requires-clause-joins : goal.join-requires-clause-joins
 join-requires-clause-joins c =
     let s = c.self.inside in
     best_joins s.layout s.cursor s.passes c.args.row c.in-Some-item.item c.in-Some.dup c.self.invariant (ap (λ (x : BookView). next_row x.state.cursor x.state.rows) c.self.view_is ∙ c.requires.next)
-      (sym c.if-is_merged.ensures) (sym c.in-Some.ensures) (ap (find (λ r. merged_into c.in-Some.dup.number r.state)) (sym c.rows.ensures) ∙ sym c.in-Some-item.ensures)
+    (sym c.if-is_merged.ensures) (sym c.in-Some.ensures) (ap (find (λ r. merged_into c.in-Some.dup.number r.state)) (sym c.rows.ensures) ∙ sym c.in-Some-item.ensures)
 
 -- the page is an item of the dup
 there : (c : goal.After-join) → state_of c.join.new.self c.self.inside.cursor c.self.inside.passes ≡ row_visited (state_of c.self.inside.layout c.self.inside.cursor c.self.inside.passes) c.args.row
