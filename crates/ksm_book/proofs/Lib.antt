@@ -4,7 +4,6 @@ pub mod Logs
 pub mod Keeping
 pub mod Filling
 pub mod Lists
-pub mod Maps
 pub mod Taken
 pub mod Ranks
 pub mod Laying
@@ -15,3 +14,6 @@ pub mod Withdrawn
 pub mod Sharing
 pub mod Visiting
 pub mod Pruning
+pub mod Remounted
+pub mod Mounts
+pub mod Remounts

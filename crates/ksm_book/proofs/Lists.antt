@@ -1,14 +1,14 @@
 -- Rows in order: what a change at one place does.
-use Rattle.std.proofs.Common.{◌≡◌, ℕ, zero, suc, ◌+◌, ◌<◌, ◌≤◌, Bool, true, false, List, [], ◌∷◌, ◌++◌, length, get_or, set, map, Some, None, Option, refl, sym, ap, ◌∙◌, arith}
-use Rattle.std.specs.Prelude.{◌==◌, nat_lt, All, AllPairs, filter, insert, remove, position, not, if◌then◌else◌, MatchOption, slice_get, is_some}
+use Rattle.std.proofs.Common.{◌≡◌, ℕ, zero, suc, ◌+◌, ◌<◌, ◌≤◌, Bool, true, false, List, [], ◌∷◌, ◌++◌, length, get_or, set, Some, None, Option, refl, sym, ap, ◌∙◌, arith}
+use Rattle.std.specs.Prelude.{◌==◌, nat_lt, All, AllPairs, filter, insert, position, not, MatchOption, slice_get}
 use Rattle.std.specs.List.{position_or_len}
-use Rattle.std.proofs.lemmas.Bool.{cases_Bool, cond_both, cases_lt, le-ltb, ltb-true, ne_eqb}
+use Rattle.std.proofs.lemmas.Bool.{cases_lt, le-ltb, ltb-true, ne_eqb}
 use Rattle.std.proofs.Common.{inl, inr}
 use Rattle.std.proofs.lemmas.List.Quantifiers.{position-Some}
 use Rattle.std.proofs.lemmas.Option.{slice_get_past, slice_get-get_or, same_Some}
 use Rattle.std.proofs.lemmas.Bool.Decides.{nat_tests}
 use Rattle.std.proofs.lemmas.List.{take_at, drop_at}
-use Rattle.std.proofs.lemmas.List.Elements.{All-head, All-tail, All-map, All-append, All-weaker, All-cons, All-filter, filter_passes}
+use Rattle.std.proofs.lemmas.List.Elements.{All-head, All-tail, All-append, All-weaker, All-cons, All-filter, filter_passes}
 use Rattle.std.proofs.lemmas.List.Kept.{AllPairs-cons, AllPairs-filter}
 use Rattle.std.proofs.lemmas.List.Folds.{find_at}
 use Rattle.ksm_base.specs.declared.page.GuestPage.{GuestPage}
@@ -16,10 +16,8 @@ use Rattle.ksm_base.specs.declared.row.Row.{Row}
 use Rattle.ksm_base.specs.declared.row.PageState.TheVariants.{Private}
 use Rattle.ksm_book.specs.Plain.{IsAt}
 use Rattle.ksm_base.specs.declared.row.DupRow.{DupRow}
-use Rattle.ksm_base.specs.Apply.{unshared}
-use Rattle.ksm_base.specs.Refusals.{is_of}
-use Rattle.ksm_base.specs.Rows.{comes_before, settled, same_page, InPlaceOrder, InPageOrder, with_dup, row_at, with_row, without_page, change_rows, change_row}
-use Rattle.ksm_book.proofs.Pages.{apart_first, apart_second, before_trans, not_both, one_before}
+use Rattle.ksm_base.specs.Rows.{comes_before, same_page, InPlaceOrder, InPageOrder, with_dup, row_at, change_rows, change_row}
+use Rattle.ksm_book.proofs.Pages.{apart_first, apart_second}
 
 pub pairs_head : {X : Type 0} (R : X → X → Type 0) (x : X) (xs : List X) → AllPairs R (x ∷ xs) → All (R x) xs
 pairs_head R x xs pairs k d lt = pairs 0 (suc k) d (omega arith) (omega arith)
@@ -46,7 +44,7 @@ change_at page f (r ∷ rs) (suc i) d rise in_range same =
     let rest = change_at page f rs i d (pairs_tail (λ a b. comes_before a.page b.page ≡ true) r rs rise) (omega arith) same in
     grind (arith, other, rest)
 
--- what no row passes is filtered to nothing, and what each passes to all
+-- what no element passes is filtered to nothing
 pub filter_none : {X : Type 0} (p : X → Bool) (xs : List X) → All (λ x. p x ≡ false) xs → filter p xs ≡ []
 filter_none p [] none = refl
 filter_none p (x ∷ xs) none =
@@ -54,60 +52,9 @@ filter_none p (x ∷ xs) none =
     let rest = filter_none p xs (All-tail (λ y. p y ≡ false) x xs none) in
     grind (arith, here, rest)
 
-pub filter_all : {X : Type 0} (p : X → Bool) (xs : List X) → All (λ x. p x ≡ true) xs → filter p xs ≡ xs
-filter_all p [] none = refl
-filter_all p (x ∷ xs) none =
-    let here = All-head (λ y. p y ≡ true) x xs none in
-    let rest = filter_all p xs (All-tail (λ y. p y ≡ true) x xs none) in
-    grind (arith, here, rest)
-
 -- the place that a search gives is that of the first row that passes
 position_some_is : {X : Type 0} (p : X → Bool) (xs : List X) (i : ℕ) → position p xs ≡ Some i → position p xs ≡ Some (position_or_len p xs)
 position_some_is p xs i e = grind (arith, nat_tests, e)
-
--- where a row comes before a new one, so do those before it, and else it comes behind, as all after it do
-module _ (row : Row) where
-  abbrev before : Row → Bool
-  before r = comes_before r.page row.page
-
-  abbrev behind : Row → Bool
-  behind r = comes_before row.page r.page
-
-  -- in order, a new row goes in behind those that come before it
-  pub with_row_at : (rows : List Row) → InPageOrder rows → row_at row.page rows ≡ None → insert rows (length (filter before rows)) row ≡ with_row row rows
-  with_row_at [] rise absent = refl
-  with_row_at (r ∷ rs) rise absent =
-      let differ : same_page r.page row.page ≡ false = grind (arith, absent) in
-      elim (cases_Bool (before r)) [
-        | inl first ↦
-            let none : behind r ≡ false = not_both r.page row.page first in
-            let absent_rest : row_at row.page rs ≡ None = grind (arith, absent, differ) in
-            let rest = with_row_at rs (pairs_tail (λ a b. comes_before a.page b.page ≡ true) r rs rise) absent_rest in
-            grind (arith, first, none, rest)
-        | inr second ↦
-            let here : behind r ≡ true = one_before r.page row.page differ second in
-            let all_behind : All (λ s. behind s ≡ true) rs = λ k d lt. before_trans row.page r.page (get_or rs k d).page here (rise 0 (suc k) d (omega arith) (omega arith)) in
-            let none_before : All (λ s. before s ≡ false) rs = λ k d lt. not_both row.page (get_or rs k d).page (all_behind k d lt) in
-            let e = filter_none before rs none_before in
-            let f = filter_all behind rs all_behind in
-            grind (arith, second, here, e, f)
-      ]
-
--- a change that keeps the page of each row keeps the order
-module _ (g : Row → Row) (keeps : (r : Row) → (g r).page ≡ r.page) where
-  pub ordered_map : (rows : List Row) → InPageOrder rows → InPageOrder (map g rows)
-  ordered_map [] rise = λ i j d lt in_range. absurd (omega arith)
-  ordered_map (r ∷ rs) rise =
-      AllPairs-cons (λ a b. comes_before a.page b.page ≡ true) (g r) (map g rs)
-      (All-map (λ s. comes_before (g r).page s.page ≡ true) g rs (λ k d lt. rw (keeps r, keeps (get_or rs k d)) (rise 0 (suc k) d (omega arith) (omega arith))))
-      (ordered_map rs (pairs_tail (λ a b. comes_before a.page b.page ≡ true) r rs rise))
-
-pub ordered_change : (test : Row → Bool) (f : Row → Row) (rows : List Row) → ((r : Row) → (f r).page ≡ r.page) → InPageOrder rows → InPageOrder (change_rows test f rows)
-ordered_change test f rows keeps rise =
-    ordered_map (λ r. if test r then f r else r) (λ r. cond_both (test r) (f r) r (λ x. x.page ≡ r.page) (λ _. keeps r) (λ _. refl)) rows rise
-
-pub ordered_without : (page : GuestPage) (rows : List Row) → InPageOrder rows → InPageOrder (without_page page rows)
-ordered_without page rows rise = AllPairs-filter (λ a b. comes_before a.page b.page ≡ true) (λ r. not (same_page r.page page)) rows rise
 
 -- where a search by page ends
 pub index_facts : (page : GuestPage) (rows : List Row) (r : Option ℕ) → r ≡ position (λ s. same_page s.page page) rows → MatchOption r (row_at page rows ≡ None) (IsAt rows page)
@@ -126,32 +73,9 @@ index_facts page rows (Some i) e =
       found = λ d. find_at p rows ∙ ap (slice_get rows) (sym (same_Some _ _ (e ∙ position_some_is p rows i (sym e)))) ∙ slice_get-get_or rows i d (here d).0;
     }
 
-pub index_known : (page : GuestPage) (rows : List Row) (r : Option ℕ) → r ≡ position (λ s. same_page s.page page) rows → is_some (row_at page rows) ≡ is_some r
-index_known page rows None e = ap is_some (index_facts page rows None e)
-index_known page rows (Some i) e =
-    let d : Row = record { page = page; home = 0; bytes = []; mergeable = true; unchanged = true; state = Private } in
-    let facts : IsAt rows page i = index_facts page rows (Some i) e in
-    ap is_some (facts.found d)
-
 -- the same by the facts of a search
 pub change_found : (page : GuestPage) (f : Row → Row) (rows : List Row) (i : ℕ) (d : Row) → InPageOrder rows → IsAt rows page i → set rows i (f (get_or rows i d)) ≡ change_row page f rows
 change_found page f rows i d rise at = sym (change_at page f rows i d rise at.in_range (at.has_page d))
-
--- in order, taking a page's row away is a removal at its place
-pub without_at : (page : GuestPage) (rows : List Row) (i : ℕ) (d : Row) → InPageOrder rows → i < length rows → same_page (get_or rows i d).page page ≡ true → remove rows i ≡ without_page page rows
-without_at page [] i d rise in_range same = absurd (omega arith)
-without_at page (r ∷ rs) zero d rise in_range same =
-    let rest = filter_all (λ s. not (same_page s.page page)) rs (λ k e lt. ap not (apart_second r.page (get_or rs k e).page page (rise 0 (suc k) e (omega arith) (omega arith)) same)) in
-    grind (arith, same, rest)
-without_at page (r ∷ rs) (suc i) d rise in_range same =
-    let other = apart_first r.page (get_or rs i d).page page (rise 0 (suc i) d (omega arith) in_range) same in
-    let rest = without_at page rs i d (pairs_tail (λ a b. comes_before a.page b.page ≡ true) r rs rise) (omega arith) same in
-    grind (arith, other, rest)
-
-pub without_found : (page : GuestPage) (rows : List Row) (i : ℕ) → InPageOrder rows → IsAt rows page i → remove rows i ≡ without_page page rows
-without_found page rows i rise at =
-    let d : Row = record { page = page; home = 0; bytes = []; mergeable = true; unchanged = true; state = Private } in
-    without_at page rows i d rise at.in_range (at.has_page d)
 
 -- two lists in order, with each of the first before each of the second
 pub pairs_append : {X : Type 0} (R : X → X → Type 0) (xs ys : List X) → AllPairs R xs → AllPairs R ys → All (λ x. All (R x) ys) xs → AllPairs R (xs ++ ys)
@@ -160,25 +84,8 @@ pairs_append R (x ∷ xs) ys first second cross =
     AllPairs-cons R x (xs ++ ys) (All-append (R x) xs ys (pairs_head R x xs first) (All-head (λ y. All (R y) ys) x xs cross))
     (pairs_append R xs ys (pairs_tail R x xs first) second (All-tail (λ y. All (R y) ys) x xs cross))
 
--- a row at its place keeps the order
-pub ordered_with : (row : Row) (rows : List Row) → InPageOrder rows → InPageOrder (with_row row rows)
-ordered_with row rows rise =
-    let R : Row → Row → Type 0 = λ a b. comes_before a.page b.page ≡ true in
-    let below = filter (before row) rows in
-    let above = filter (behind row) rows in
-    let all_above : All (λ s. behind row s ≡ true) above = filter_passes (behind row) rows in
-    let cross : All (λ x. All (R x) (row ∷ above)) below = All-weaker (λ x. before row x ≡ true) (λ x. All (R x) (row ∷ above)) (λ x h. All-cons (R x) row above h (All-weaker (λ s. behind row s ≡ true) (R x) (λ s later. before_trans x.page row.page s.page h later) above all_above)) below (filter_passes (before row) rows) in
-    pairs_append R below (row ∷ above) (AllPairs-filter R (before row) rows rise)
-    (AllPairs-cons R row above all_above (AllPairs-filter R (behind row) rows rise)) cross
-
 pub ordered_filter : (p : DupRow → Bool) (dups : List DupRow) → InPlaceOrder dups → InPlaceOrder (filter p dups)
 ordered_filter p dups rise = AllPairs-filter (λ d e. (d.place < e.place) × ((d.number == e.number) ≡ false)) p dups rise
-
-pub ordered_settled : (rows : List Row) → InPageOrder rows → InPageOrder (map settled rows)
-ordered_settled rows rise = ordered_map settled (λ r. refl) rows rise
-
-pub ordered_mergeable : (guest : ℕ) (rows : List Row) → InPageOrder rows → InPageOrder (change_rows (is_of guest) (λ r. record r { mergeable = true }) rows)
-ordered_mergeable guest rows rise = ordered_change (is_of guest) (λ r. record r { mergeable = true }) rows (λ r. refl) rise
 
 -- dups below a place, apart from it, and above it
 module _ (place : ℕ) where
@@ -249,6 +156,3 @@ numbers_with dup ds fresh =
     All-append G (filter (below dup.place) ds) (dup ∷ filter (above dup.place) ds)
     (weaker (filter (below dup.place) ds) (All-filter (below dup.place) F ds fresh))
     (All-cons G dup (filter (above dup.place) ds) (omega arith) (weaker (filter (above dup.place) ds) (All-filter (above dup.place) F ds fresh)))
-
-pub ordered_unshared : (rows : List Row) → InPageOrder rows → InPageOrder (map unshared rows)
-ordered_unshared rows rise = ordered_map unshared (λ r. refl) rows rise

@@ -23,10 +23,6 @@ before_irrefl p = grind (arith, nat_tests)
 pub not_both : (p q : GuestPage) → comes_before p q ≡ true → comes_before q p ≡ false
 not_both p q before = grind (arith, nat_tests)
 
--- two pages are the same, or one comes before the other
-pub one_before : (p q : GuestPage) → same_page p q ≡ false → comes_before p q ≡ false → comes_before q p ≡ true
-one_before p q differ not_before = grind (arith, nat_tests)
-
 pub same_page_eq : (p q : GuestPage) → same_page p q ≡ true → p ≡ q
 same_page_eq p q same = grind (arith, nat_tests)
 
@@ -35,6 +31,3 @@ same_page_sym p q = grind (arith, nat_tests)
 
 pub before_differs : (p q : GuestPage) → comes_before p q ≡ true → same_page q p ≡ false
 before_differs p q before = grind (arith, nat_tests)
-
-pub after_differs : (p q : GuestPage) → comes_before p q ≡ true → same_page p q ≡ false
-after_differs p q before = grind (arith, nat_tests)

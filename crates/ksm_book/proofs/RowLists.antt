@@ -1,6 +1,6 @@
 -- Entries of the rows' map, and the rows that they stand for.
-use Rattle.std.proofs.Common.{inl, inr, ◌≡◌, ℕ, zero, suc, ◌+◌, ◌<◌, ◌≤◌, Bool, true, false, cond, List, [], ◌∷◌, ◌++◌, length, get_or, set, Option, Some, None, refl, sym, ap, ◌∙◌, subst, arith}
-use Rattle.std.specs.Prelude.{map, filter, find, insert, remove, not, slice_index, AllPairs, is_some}
+use Rattle.std.proofs.Common.{◌≡◌, ℕ, suc, ◌<◌, ◌≤◌, Bool, true, false, cond, List, [], ◌∷◌, ◌++◌, length, set, Option, Some, None, refl, sym, ap, ◌∙◌, subst, arith}
+use Rattle.std.specs.Prelude.{map, filter, insert, remove, not, slice_index, is_some}
 use Rattle.std.proofs.lemmas.Bool.Decides.{nat_tests}
 use Rattle.std.proofs.lemmas.Map.Keys.{sorted_head, sorted_tail}
 use Rattle.std.specs.List.{AllByRecursion}
@@ -18,7 +18,7 @@ use Rattle.ksm_book.specs.declared.entry.Entry.{Entry}
 use Rattle.ksm_book.specs.Placement.{row_in}
 use Rattle.ksm_book.specs.Listed.{Listed, rank, StandsAt}
 use Rattle.ksm_book.specs.RowEntries.{row_of, frame_of, entry_of, listed}
-use Rattle.ksm_book.proofs.Pages.{same_page_eq, not_both, before_differs, after_differs, before_trans}
+use Rattle.ksm_book.proofs.Pages.{same_page_eq, not_both, before_differs, before_trans}
 
 abbrev pub order : GuestPage → GuestPage → Ordering
 order = page_ord.ghosts.cmp

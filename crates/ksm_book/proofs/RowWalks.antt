@@ -1,7 +1,8 @@
 -- What is found, counted and changed in the entries of the rows' map, said of the rows.
-use Rattle.std.proofs.Common.{◌≡◌, Bool, true, false, cond, List, [], ◌∷◌, length, map, Option, Some, None, suc, refl, sym, ap, ◌∙◌, subst}
-use Rattle.std.specs.Prelude.{filter, find, option_map, ◌&&◌, ◌||◌}
+use Rattle.std.proofs.Common.{◌≡◌, ℕ, Bool, true, false, cond, List, [], ◌∷◌, length, map, Option, Some, None, suc, refl, sym, ap, ◌∙◌, subst}
+use Rattle.std.specs.Prelude.{filter, find, count_by, option_map, ◌&&◌, ◌||◌}
 use Rattle.std.specs.List.{list_any}
+use Rattle.std.proofs.lemmas.List.Sums.{length-filter}
 use Rattle.std.specs.Map.{keys_of, values_of}
 use Rattle.std.specs.Map.Iter.{deref_pair}
 use Rattle.std.specs.Map.Calls.{RetainsPairs}
@@ -11,7 +12,7 @@ use Rattle.std.specs.Ordering.{is_lt}
 use denote.Ref.{Bor}
 use Rattle.ksm_base.specs.declared.page.GuestPage.{GuestPage}
 use Rattle.ksm_base.specs.declared.row.Row.{Row}
-use Rattle.ksm_base.specs.Visit.{after_cursor, next_row}
+use Rattle.ksm_base.specs.Visit.{after_cursor}
 use Rattle.ksm_book.specs.declared.entry.Entry.{Entry}
 use Rattle.ksm_book.specs.Listed.{Listed}
 use Rattle.ksm_book.specs.RowEntries.{row_of, frame_of, entry_of, listed, start_after, page_order}
@@ -21,11 +22,14 @@ use Rattle.ksm_book.proofs.RowLists.{Entries, rows_of, less_is}
 
 -- a test of an entry that answers as one of its row does
 module _ (test : Row → Bool) (asked : Entry → Bool) (alike : (e : GuestPage × Entry) → asked e.1 ≡ test (row_of e)) where
-  pub any_value : (es : Entries) → list_any asked (values_of es) ≡ list_any test (rows_of es)
+  any_value : (es : Entries) → list_any asked (values_of es) ≡ list_any test (rows_of es)
   any_value [] = refl
   any_value (e ∷ es) = λ t. alike e t || any_value es t
 
-  pub values_passing : (es : Entries) → length (filter asked (values_of es)) ≡ length (filter test (rows_of es))
+  pub any_row : (es : Entries) (l : Listed) → listed es ≡ l → list_any asked (values_of es) ≡ list_any test l.rows
+  any_row es l is = any_value es ∙ ap (λ (v : Listed). list_any test v.rows) is
+
+  values_passing : (es : Entries) → length (filter asked (values_of es)) ≡ length (filter test (rows_of es))
   values_passing [] = refl
   values_passing (e ∷ es) = ap (λ (b : Bool). length (cond b (e.1 ∷ filter asked (values_of es)) (filter asked (values_of es)))) (alike e) ∙ by (test (row_of e)) (values_passing es)
     where
@@ -33,11 +37,17 @@ module _ (test : Row → Bool) (asked : Entry → Bool) (alike : (e : GuestPage 
       by true rest = ap suc rest
       by false rest = rest
 
+  pub rows_passing : (es : Entries) (l : Listed) → listed es ≡ l → length (filter asked (values_of es)) ≡ count_by test l.rows
+  rows_passing es l is = values_passing es ∙ length-filter test (rows_of es) ∙ ap (λ (v : Listed). count_by test v.rows) is
+
 -- a test of a page that answers as one of its row does
 module _ (test : Row → Bool) (asked : GuestPage → Bool) (alike : (e : GuestPage × Entry) → asked e.0 ≡ test (row_of e)) where
-  pub any_key : (es : Entries) → list_any asked (keys_of es) ≡ list_any test (rows_of es)
+  any_key : (es : Entries) → list_any asked (keys_of es) ≡ list_any test (rows_of es)
   any_key [] = refl
   any_key (e ∷ es) = λ t. alike e t || any_key es t
+
+  pub any_page : (es : Entries) (l : Listed) → listed es ≡ l → list_any asked (keys_of es) ≡ list_any test l.rows
+  any_page es l is = any_key es ∙ ap (λ (v : Listed). list_any test v.rows) is
 
 -- ---------------------------------------------------------------- searches
 
@@ -94,10 +104,22 @@ find_alike : {X : Type 0} (p q : X → Bool) (xs : List X) → ((x : X) → p x 
 find_alike p q [] alike = refl
 find_alike p q (x ∷ xs) alike = λ t. cond (alike x t) (Some x) (find_alike p q xs alike t)
 
-pub find_after : (cursor : Option GuestPage) (es : Entries) → find (λ e. e.1.mergeable) (entries_between page_order (start_after cursor) Unbounded es) ≡ find (λ e. (row_of e).mergeable && after_cursor cursor (row_of e).page) es
-find_after cursor es =
-    find_filter (λ e. e.1.mergeable) (λ e. range_contains page_order (start_after cursor) Unbounded e.0) es
-    ∙ find_alike _ _ es (λ e. ap (λ b. e.1.mergeable && b) (in_range cursor e.0))
+pub find_after : (test : Row → Bool) (cursor : Option GuestPage) (es : Entries) → find (λ e. test (row_of e)) (entries_between page_order (start_after cursor) Unbounded es) ≡ find (λ e. test (row_of e) && after_cursor cursor (row_of e).page) es
+find_after test cursor es =
+    find_filter (λ e. test (row_of e)) (λ e. range_contains page_order (start_after cursor) Unbounded e.0) es
+    ∙ find_alike _ _ es (λ e. ap (λ b. test (row_of e) && b) (in_range cursor e.0))
+
+-- the pages of the rows that pass
+pages_passing : (test : Row → Bool) (es : Entries) → map (λ e. e.0) (filter (λ e. test (row_of e)) es) ≡ map (λ r. r.page) (filter test (rows_of es))
+pages_passing test [] = refl
+pages_passing test (e ∷ es) = by (test (row_of e)) (pages_passing test es)
+  where
+    by : (b : Bool) → map (λ x. x.0) (filter (λ x. test (row_of x)) es) ≡ map (λ r. r.page) (filter test (rows_of es)) → map (λ x. x.0) (cond b (e ∷ filter (λ x. test (row_of x)) es) (filter (λ x. test (row_of x)) es)) ≡ map (λ r. r.page) (cond b (row_of e ∷ filter test (rows_of es)) (filter test (rows_of es)))
+    by true rest = ap (λ l. e.0 ∷ l) rest
+    by false rest = rest
+
+pub pages_of : (test : Row → Bool) (es : Entries) (l : Listed) → listed es ≡ l → map (λ e. e.0) (filter (λ e. test (row_of e)) es) ≡ map (λ r. r.page) (filter test l.rows)
+pages_of test es l is = pages_passing test es ∙ ap (λ (v : Listed). map (λ r. r.page) (filter test v.rows)) is
 
 -- ---------------------------------------------------------------- changes
 
@@ -114,10 +136,29 @@ abbrev pub changed : (Row → Row) → GuestPage → Entry → Entry
 changed change page e = entry_of (change (row_of (page, e))) e.frame
 
 module _ (change : Row → Row) (keeps : (r : Row) → (change r).page ≡ r.page) where
-  pub rows_changed : (es : Entries) → rows_of (map (λ e. (e.0, changed change e.0 e.1)) es) ≡ map change (rows_of es)
+  rows_changed : (es : Entries) → rows_of (map (λ e. (e.0, changed change e.0 e.1)) es) ≡ map change (rows_of es)
   rows_changed [] = refl
   rows_changed (e ∷ es) = λ t. row_of (sym (keeps (row_of e)) t, changed change e.0 e.1) ∷ rows_changed es t
 
-  pub frames_kept : (es : Entries) → map frame_of (map (λ e. (e.0, changed change e.0 e.1)) es) ≡ map frame_of es
+  frames_kept : (es : Entries) → map frame_of (map (λ e. (e.0, changed change e.0 e.1)) es) ≡ map frame_of es
   frames_kept [] = refl
   frames_kept (e ∷ es) = ap (λ l. frame_of e ∷ l) (frames_kept es)
+
+  pub all_changed : (es fs : Entries) (l : Listed) → listed es ≡ l → fs ≡ map (λ e. (e.0, changed change e.0 e.1)) es → listed fs ≡ record { rows = map change l.rows; frames = l.frames }
+  all_changed es fs l is made = ap listed made ∙ (λ t. record { rows = rows_changed es t; frames = frames_kept es t }) ∙ ap (λ (v : Listed). record { rows = map change v.rows; frames = v.frames }) is
+
+-- an entry with its frame changed
+abbrev pub moved : (ℕ → ℕ) → GuestPage → Entry → Entry
+moved change page e = record e { frame = change e.frame }
+
+module _ (change : ℕ → ℕ) where
+  rows_kept : (es : Entries) → rows_of (map (λ e. (e.0, moved change e.0 e.1)) es) ≡ rows_of es
+  rows_kept [] = refl
+  rows_kept (e ∷ es) = ap (λ l. row_of e ∷ l) (rows_kept es)
+
+  frames_moved : (es : Entries) → map frame_of (map (λ e. (e.0, moved change e.0 e.1)) es) ≡ map change (map frame_of es)
+  frames_moved [] = refl
+  frames_moved (e ∷ es) = ap (λ l. change (frame_of e) ∷ l) (frames_moved es)
+
+  pub all_moved : (es fs : Entries) (l : Listed) → listed es ≡ l → fs ≡ map (λ e. (e.0, moved change e.0 e.1)) es → listed fs ≡ record { rows = l.rows; frames = map change l.frames }
+  all_moved es fs l is made = ap listed made ∙ (λ t. record { rows = rows_kept es t; frames = frames_moved es t }) ∙ ap (λ (v : Listed). record { rows = v.rows; frames = map change v.frames }) is

@@ -1,19 +1,14 @@
 -- Rows in the order of their pages, each with its frame (own).
-use Rattle.std.specs.Prelude.{◌≡◌, ℕ, ◌<◌, List, length, filter, Option, Some, None, slice_index}
+use Rattle.std.specs.Prelude.{◌≡◌, ◌==◌, if◌then◌else◌, ℕ, ◌<◌, List, length, filter, Some, slice_index}
 use Rattle.ksm_base.specs.declared.page.GuestPage.{GuestPage}
 use Rattle.ksm_base.specs.declared.row.Row.{Row}
-use Rattle.ksm_base.specs.Rows.{comes_before, InPageOrder, row_at}
+use Rattle.ksm_base.specs.Rows.{comes_before, row_at}
 use Rattle.ksm_book.specs.Placement.{row_in}
 
 -- the rows in the order of their pages, and the frame of each, in the same order
 pub record Listed : Type 0 where
   pub rows : List Row
   pub frames : List ℕ
-
--- each page has one row, and each row a frame
-pub record IsListed (rows : List Row) (frames : List ℕ) : Type 0 where
-  pub rise : InPageOrder rows
-  pub paired : length frames ≡ length rows
 
 -- how many rows come before a page: where its row stands, or would stand
 abbrev pub rank : GuestPage → List Row → ℕ
@@ -25,3 +20,7 @@ pub record StandsAt (v : Listed) (page : GuestPage) (row : Row) (frame : ℕ) : 
   pub row_is : row_in v.rows (rank page v.rows) ≡ row
   pub frame_is : slice_index v.frames (rank page v.rows) ≡ frame
   pub found : row_at page v.rows ≡ Some row
+
+-- the frame g in the stead of f
+abbrev pub instead : ℕ → ℕ → ℕ → ℕ
+instead f g h = if h == f then g else h

@@ -15,6 +15,8 @@ ghost use Rattle.frame_core.specs.Ledger.{first_ledger};
 ghost use Rattle.ksm_book.specs.Laid.{IsHoused, Knows, IsOnItsOwn, LodgesAs, Joins, Founds, IsVacant, new_dup, elsewhere, Stores, LoadsIf};
 ghost use Rattle.ksm_book.specs.Steps.{Does};
 
+mod moving;
+
 use crate::dups::Dups;
 use crate::frames::{clear, load, release, share, take_frame, write};
 use crate::row::tree_of;

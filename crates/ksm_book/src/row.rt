@@ -4,17 +4,11 @@ ghost use Rattle.std.specs.Prelude.{◌≡◌, ◌&&◌, bytes_eq, true, if◌th
 ghost use Rattle.ksm_base.specs.Answers.{every_row};
 ghost use Rattle.ksm_base.specs.Apply.{fresh_row as a_fresh_row, stored as with_bytes, moved as at_node, let_go as as_let_go, unshared as as_unshared};
 ghost use Rattle.ksm_base.specs.Refusals.{is_of as is_of_guest};
-ghost use Rattle.ksm_base.specs.Rows.{comes_before as is_before, same_page as is_same_page, merged_into, private_state, waiting_state, merged_state, settled as as_settled};
+ghost use Rattle.ksm_base.specs.Rows.{same_page as is_same_page, merged_into, private_state, waiting_state, merged_state, settled as as_settled};
 ghost use Rattle.ksm_base.specs.State.{tree_of as row_tree};
-ghost use Rattle.ksm_base.specs.Visit.{after_cursor as is_after_cursor, waits_for as is_waiting_for};
+ghost use Rattle.ksm_base.specs.Visit.{waits_for as is_waiting_for};
 
 use ksm_base::{GuestPage, Knobs, PageBytes, PageState, Row};
-
-pub fn comes_before(p: GuestPage, q: GuestPage) -> bool
-    ensures { result ≡ is_before p q }
-{
-    p < q
-}
 
 pub fn same_page(p: GuestPage, q: GuestPage) -> bool
     ensures { result ≡ is_same_page p q }
@@ -26,16 +20,6 @@ pub fn same_bytes(a: PageBytes, b: PageBytes) -> bool
     ensures { result ≡ bytes_eq a b }
 {
     a == b
-}
-
-/// Whether a page comes after the one visited last.
-pub fn after_cursor(cursor: Option<GuestPage>, page: GuestPage) -> bool
-    ensures { result ≡ is_after_cursor cursor page }
-{
-    match cursor {
-        None => true,
-        Some(last) => comes_before(last, page),
-    }
 }
 
 pub fn is_of(row: &Row, guest: u16) -> bool

@@ -1,15 +1,19 @@
 //! The rows in an ordered map: each page with what the book knows of it, and the frame that serves it.
+//!
+//! With n rows, `has`, `find`, `insert`, `replace` and `remove` take a number of steps in the order of log n. `next`,
+//! `next_merged` and `next_of` take as many, and one for each row that they pass over. All other calls walk over the
+//! rows, but for `len`.
 
 ghost use Rattle.std.specs.Prelude.{◌≡◌, ◌<◌, ◌≤◌, [], None, Some, length, filter, find, count_by, map, insert, remove, slice_set, MatchOption, IfOk, IfErr, OnOk, OnErr, Err, is_some, true, option_map, ◌&&◌};
 ghost use Rattle.std.specs.List.{list_any};
+ghost use Rattle.std.specs.Map.Iter.{deref_pair};
 ghost use Rattle.ksm_base.specs.declared.fault.Fault.TheVariants.{Memory};
 ghost use Rattle.ksm_base.specs.Refusals.{is_of as is_of_guest};
 ghost use Rattle.ksm_base.specs.Apply.{unshared as as_unshared};
 ghost use Rattle.ksm_base.specs.Rows.{row_at, with_row, without_page, change_row, change_rows, merged_into, private_state, waiting_state, merged_state, settled as as_settled};
-ghost use Rattle.ksm_base.specs.Visit.{next_row as row_to_visit, partner as row_waiting};
-ghost use Rattle.ksm_book.specs.Listed.{rank, StandsAt};
+ghost use Rattle.ksm_base.specs.Visit.{after_cursor as is_after_cursor, next_row as row_to_visit, partner as row_waiting};
+ghost use Rattle.ksm_book.specs.Listed.{rank, StandsAt, instead};
 ghost use Rattle.ksm_book.specs.RowEntries.{row_of, start_after};
-ghost use Rattle.std.specs.Map.Iter.{deref_pair};
 
 use crate::entry::Entry;
 use crate::row::{
@@ -76,7 +80,6 @@ impl Rows {
     pub fn has(&self, page: GuestPage) -> bool
         ensures { result ≡ is_some (row_at page self.now.rows) }
     {
-        let _ = self.entries.len();
         self.entries.contains_key(&page)
     }
 
@@ -85,6 +88,7 @@ impl Rows {
         ensures known { is_some (row_at page self.now.rows) ≡ is_some result }
         ensures at { MatchOption result (row_at page self.now.rows ≡ None) (λ held. StandsAt self.now page held.row held.frame) }
     {
+        // The contract of `len` says that the keys ascend, that of `get` does not.
         let _ = self.entries.len();
         match self.entries.get(&page) {
             None => None,
@@ -112,14 +116,13 @@ impl Rows {
         Ok(())
     }
 
-    /// Puts a row and its frame in the stead of those of its page, if it has a row.
+    /// Puts a row and its frame in the stead of those of its page, which has a row.
     pub fn replace(&mut self, row: Row, frame: u32)
         requires { is_some (row_at row.page self.old.rows) ≡ true }
         ensures rows { self.new.rows ≡ slice_set self.old.rows (rank row.page self.old.rows) row }
         ensures frames { self.new.frames ≡ slice_set self.old.frames (rank row.page self.old.rows) frame }
         ensures changed { self.new.rows ≡ change_row row.page (λ _. row) self.old.rows }
     {
-        let _ = self.entries.len();
         let kept = Entry::new(row, frame);
         let Some(entry) = self.entries.get_mut(&row.page) else {
             return;
@@ -127,13 +130,14 @@ impl Rows {
         *entry = kept;
     }
 
-    /// Takes the row of a page away, if it has one.
+    /// Takes the row of a page away, which has one.
     pub fn remove(&mut self, page: GuestPage)
         requires { is_some (row_at page self.old.rows) ≡ true }
         ensures rows { self.new.rows ≡ remove self.old.rows (rank page self.old.rows) }
         ensures frames { self.new.frames ≡ remove self.old.frames (rank page self.old.rows) }
         ensures gone { self.new.rows ≡ without_page page self.old.rows }
     {
+        // The contract of `len` says that the keys ascend, that of `remove` does so of those that are left.
         let _ = self.entries.len();
         let _ = self.entries.remove(&page);
     }
@@ -149,7 +153,29 @@ impl Rows {
         )
     }
 
-    /// The row that waits for this one.
+    /// The first merged row after a page, or of all where no page is given.
+    pub fn next_merged(&self, cursor: Option<GuestPage>) -> Option<Row>
+        ensures { result ≡ find (λ r. merged_state r.state && is_after_cursor cursor r.page) self.now.rows }
+    {
+        row_found(
+            self.entries
+                .range((after_cursor(cursor), Bound::Unbounded))
+                .find(|(_, entry)| is_merged(entry.state)),
+        )
+    }
+
+    /// The first row of a guest after a page, or of all where no page is given.
+    pub fn next_of(&self, guest: u16, cursor: Option<GuestPage>) -> Option<Row>
+        ensures { result ≡ find (λ r. is_of_guest guest r && is_after_cursor cursor r.page) self.now.rows }
+    {
+        row_found(
+            self.entries
+                .range((after_cursor(cursor), Bound::Unbounded))
+                .find(|(page, _)| page.guest == guest),
+        )
+    }
+
+    /// Another row that waits, of the same tree and bytes.
     pub fn partner(&self, knobs: &Knobs, row: &Row) -> Option<Row>
         ensures { result ≡ row_waiting knobs.now self.now.rows row.now }
     {
@@ -185,16 +211,25 @@ impl Rows {
         Ok(pages)
     }
 
+    /// Whether the guest has a row.
     pub fn has_guest(&self, guest: u16) -> bool
         ensures { result ≡ list_any (is_of_guest guest) self.now.rows }
     {
         self.entries.keys().any(|page| page.guest == guest)
     }
 
+    /// Whether the scan has a row to visit.
     pub fn any_mergeable(&self) -> bool
         ensures { result ≡ list_any (λ r. r.mergeable) self.now.rows }
     {
         self.entries.values().any(|entry| entry.mergeable)
+    }
+
+    /// How many rows there are.
+    pub fn len(&self) -> usize
+        ensures { result ≡ length self.now.rows }
+    {
+        self.entries.len()
     }
 
     /// How many rows are merged into the dup with this number.
@@ -207,6 +242,7 @@ impl Rows {
             .count()
     }
 
+    /// How many rows are merged.
     pub fn count_merged(&self) -> usize
         ensures { result ≡ count_by (λ r. merged_state r.state) self.now.rows }
     {
@@ -216,6 +252,7 @@ impl Rows {
             .count()
     }
 
+    /// How many rows wait.
     pub fn count_waiting(&self) -> usize
         ensures { result ≡ count_by (λ r. waiting_state r.state) self.now.rows }
     {
@@ -235,7 +272,10 @@ impl Rows {
             .count()
     }
 
-    /// No row waits any more.
+    // The calls that follow write every entry and drop none. They do it by `retain`, whose contract says what is
+    // written to each value; that of a loop over `values_mut` does not.
+
+    /// No row waits any more: those that did are Private.
     pub fn settle_all(&mut self)
         ensures rows { self.new.rows ≡ map as_settled self.old.rows }
         ensures frames { self.new.frames ≡ self.old.frames }
@@ -264,6 +304,19 @@ impl Rows {
     {
         self.entries.retain(|page, entry| {
             entry.set_row(unshared(entry.row(*page)));
+            true
+        });
+    }
+
+    /// All rows on the frame `old` go to the frame `new`.
+    pub fn move_frames(&mut self, old: u32, new: u32)
+        ensures rows { self.new.rows ≡ self.old.rows }
+        ensures frames { self.new.frames ≡ map (instead old new) self.old.frames }
+    {
+        self.entries.retain(|_, entry| {
+            if entry.frame == old {
+                entry.frame = new;
+            }
             true
         });
     }

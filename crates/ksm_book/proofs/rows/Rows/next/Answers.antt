@@ -17,4 +17,4 @@ returns c =
     let es = c.self.inside.entries.entries in
     let lent = c.range.ensures.between tt ∙ ap (λ b. entries_between page_order b Unbounded es) c.after_cursor.ensures in
     let walked = find_from_yields_List (λ (e : GuestPage × Entry). e.1.mergeable) _ _ c.find.result c.find.ensures.ran (YieldsList-from_rest (entries_between page_order (start_after c.args.cursor) Unbounded es) lent) (λ x b q k. search (rules, tests)) in
-    c.row_found.ensures ∙ row_found (λ (r : Row). r.mergeable && after_cursor c.args.cursor r.page) es c.args.self.now c.find.result c.self.view_is (walked ∙ find_after c.args.cursor es)
+    c.row_found.ensures ∙ row_found (λ (r : Row). r.mergeable && after_cursor c.args.cursor r.page) es c.args.self.now c.find.result c.self.view_is (walked ∙ find_after (λ (r : Row). r.mergeable) c.args.cursor es)

@@ -1,4 +1,4 @@
-use Rattle.std.proofs.Common.{◌≡◌, sym, ◌∙◌, ap, true, false, arith}
+use Rattle.std.proofs.Common.{◌≡◌, sym, ◌∙◌, ap, false, arith}
 use Rattle.std.specs.Prelude.{is_some}
 use Rattle.std.specs.Option.{option_copied_mut}
 use Rattle.std.specs.Map.{set_value}
@@ -25,7 +25,7 @@ pub returns-in_default-clause-changed : goal.returns-in_default-clause-changed
 returns-in_default-clause-changed c = absurd (never c)
 
 written : (c : goal.After-self-2-1) → Replaced c.args.self.now (listed (c.get_mut.follows.lender c.new-kept.result).entries) c.args.row c.args.frame
-written c = replaced c.self.inside.entries.entries (c.get_mut.follows.lender c.new-kept.result).entries c.args.self.now c.args.row c.args.frame c.self.view_is c.len.ensures.ordered c.requires
+written c = replaced c.self.inside.entries.entries (c.get_mut.follows.lender c.new-kept.result).entries c.args.self.now c.args.row c.args.frame c.self.view_is c.get_mut.ensures.ordered c.requires
     ((c.get_mut.follows.holds c.new-kept.result).0 ∙ ap (set_value (asks c.args.row.page) c.self.inside.entries.entries) c.new-kept.ensures)
 
 pub returns-clause-rows : goal.returns-clause-rows
