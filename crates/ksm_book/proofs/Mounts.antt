@@ -119,9 +119,9 @@ module _ (v v1 v2 v3 v4 v5 v6 : KeeperView) (f g place count found : ℕ) (bytes
     raised = Contains-append_left ((Raise g, found) ∷ []) rest (Raise g, found) (Contains-push [] (Raise g, found));
     published =
         Contains-append_right ((Raise g, found) ∷ []) rest _
-          (Contains-append_right (loads f 0 bytes) _ _
-            (Contains-append_right (puts g 0 bytes) _ _
-              (Contains-append_right last _ _ (Contains-push adds.does.0 (Publish place g, 0)))));
+        (Contains-append_right (loads f 0 bytes) _ _
+        (Contains-append_right (puts g 0 bytes) _ _
+        (Contains-append_right last _ _ (Contains-push adds.does.0 (Publish place g, 0)))));
     ledger = after_show;
   }
 
@@ -129,9 +129,9 @@ module _ (v v1 v2 v3 v4 v5 v6 : KeeperView) (f g place count found : ℕ) (bytes
 free_not_dying : Free ≡ Dying → ⊥
 free_not_dying e = subst is_free e tt
   where
-  is_free : Kind → Type 0
-  is_free Free = Unit {0}
-  is_free _ = ⊥
+    is_free : Kind → Type 0
+    is_free Free = Unit {0}
+    is_free _ = ⊥
 
 pub other_frame : (k : Ledger) (f g : ℕ) → (frame_at k g).kind ≡ Free → (frame_at k f).kind ≡ Dying → f ≢ g
 other_frame k f g free dying same = free_not_dying (sym free ∙ ap (λ x. (frame_at k x).kind) (sym same) ∙ dying)
