@@ -17,3 +17,4 @@ pub mod Pruning
 pub mod Remounted
 pub mod Mounts
 pub mod Remounts
+pub mod Lawfulness
