@@ -18,3 +18,4 @@ pub mod Remounted
 pub mod Mounts
 pub mod Remounts
 pub mod Lawfulness
+pub mod DupMoves

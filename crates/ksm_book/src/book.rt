@@ -67,7 +67,7 @@ impl Book {
             Command::Unmerge { guest: _ } => Err(Fault::Memory),
             Command::Mergeable { guest } => state.mergeable(guest),
             Command::MovePage { page, node } => state.move_page(table, page, node),
-            Command::MoveDup { place: _, node: _ } => Err(Fault::Memory),
+            Command::MoveDup { place, node } => state.move_dup(table, place, node),
             Command::SetRun(run) => state.set_run(run),
             Command::SetPagesToScan(pages) => state.set_pages_to_scan(pages),
             Command::SetAcross(across) => state.set_across(table, across),

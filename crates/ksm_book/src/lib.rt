@@ -8,6 +8,7 @@ mod frames;
 mod knobs;
 mod layout;
 mod mounting;
+mod moving;
 mod row;
 mod rows;
 mod scan;

@@ -1,4 +1,4 @@
-use Rattle.std.proofs.Common.{◌≡◌, Some}
+use Rattle.std.proofs.Common.{Some}
 use Rattle.ksm_book.proofs.Laying.{lawful, gone_hand, laid_gone}
 use Rattle.ksm_book.proofs.layout.Layout.dismiss.Goals as goal
 

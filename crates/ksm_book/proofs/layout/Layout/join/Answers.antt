@@ -1,4 +1,4 @@
-use Rattle.std.proofs.Common.{◌≡◌, ◌∙◌, ◌<◌, ℕ, [], Some, sym, ap, subst}
+use Rattle.std.proofs.Common.{◌≡◌, [], Some, sym, ap, subst}
 use Rattle.ksm_base.specs.declared.row.DupRow.{DupRow}
 use Rattle.ksm_base.specs.Rows.{merged_into, item_count}
 use Rattle.std.proofs.Common.{◌≤◌, true}
