@@ -29,17 +29,17 @@ module _ (b : BookState) (place node : ℕ) (dup : DupRow) (found : Some dup ≡
   module _ (one_of : node < b.shape.nodes) (home : b.knobs.merge_across_nodes ≡ 0 → node ≡ dup.tree) where
     there_is : is_no_node b node ≡ false
     there_is = elim (cases_Bool (nat_le b.shape.nodes node)) [
-        | inl le ↦ absurd (let over = leb-true b.shape.nodes node le in omega (arith, over, one_of))
-        | inr fits ↦ fits
-      ]
+      | inl le ↦ absurd (let over = leb-true b.shape.nodes node le in omega (arith, over, one_of))
+      | inr fits ↦ fits
+    ]
 
     at_home : crosses b node (Some dup) ≡ false
     at_home = elim (cases_Bool (b.knobs.merge_across_nodes == 0)) [
-        | inl apart ↦
-            let same : (dup.tree == node) ≡ true = eq-eqb dup.tree node (sym (home (eqb-true b.knobs.merge_across_nodes 0 apart))) in
-            grind (arith, apart, same)
-        | inr across ↦ grind (arith, across)
-      ]
+      | inl apart ↦
+          let same : (dup.tree == node) ≡ true = eq-eqb dup.tree node (sym (home (eqb-true b.knobs.merge_across_nodes 0 apart))) in
+          grind (arith, apart, same)
+      | inr across ↦ grind (arith, across)
+    ]
 
     -- the state doesn't refuse it
     pub accepted : refusal b (MoveDup place node) ≡ None

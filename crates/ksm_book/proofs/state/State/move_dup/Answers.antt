@@ -18,24 +18,24 @@ returns-clause-answer c =
     let b = state_of c.self.inside.layout c.self.inside.cursor c.self.inside.passes in
     let less : c.args.node < b.shape.nodes = subst (λ s. c.args.node < s.nodes) c.shape.ensures c.if-node-shape.false in
     let home : b.knobs.merge_across_nodes ≡ 0 → c.args.node ≡ c.in-Some.dup.tree = elim c.else-knobs-eq0.either [
-        | inl both ↦ λ _. sym both.1
-        | inr differ ↦ λ none. absurd (differ (ap (λ (x : Knobs). x.merge_across_nodes) c.knobs.ensures ∙ none))
-      ] in
+      | inl both ↦ λ _. sym both.1
+      | inr differ ↦ λ none. absurd (differ (ap (λ (x : Knobs). x.merge_across_nodes) c.knobs.ensures ∙ none))
+    ] in
     subst (λ (x : BookView). IsAnswerOrMemory x.state (MoveDup c.args.place c.args.node) c.match-move_dup.result) c.self.view_is
-      (elim c.match-move_dup.branch [
-          in-Ok w ↦ subst (IsAnswerOrMemory b (MoveDup c.args.place c.args.node)) (sym w.result-is) (moved_done b c.args.place c.args.node c.in-Some.dup c.in-Some.ensures less home)
-        | in-Err w ↦ subst (IsAnswerOrMemory b (MoveDup c.args.place c.args.node)) (sym w.result-is)
-            (moved_answer b c.args.place c.args.node c.in-Some.dup c.in-Some.ensures less home (Unit {0}) c.self.inside.layout.keeper c.move_dup.new.self.keeper c.in-Some.dup.place w.in-Err.fault w.in-Err.ensures.moved)
-        ])
+    (elim c.match-move_dup.branch [
+      | in-Ok w ↦ subst (IsAnswerOrMemory b (MoveDup c.args.place c.args.node)) (sym w.result-is) (moved_done b c.args.place c.args.node c.in-Some.dup c.in-Some.ensures less home)
+      | in-Err w ↦ subst (IsAnswerOrMemory b (MoveDup c.args.place c.args.node)) (sym w.result-is)
+          (moved_answer b c.args.place c.args.node c.in-Some.dup c.in-Some.ensures less home (Unit {0}) c.self.inside.layout.keeper c.move_dup.new.self.keeper c.in-Some.dup.place w.in-Err.fault w.in-Err.ensures.moved)
+    ])
 
 pub returns-clause-shown : goal.returns-clause-shown
 returns-clause-shown c =
     let b = state_of c.self.inside.layout c.self.inside.cursor c.self.inside.passes in
     let at = place_is b c.args.place c.args.node c.in-Some.dup c.in-Some.ensures in
     subst (λ (x : BookView). HasShown x.state x.keeper c.move_dup.new.self.keeper c.match-move_dup.result (MoveDup c.args.place c.args.node)) c.self.view_is
-      (elim c.match-move_dup.branch [
-          in-Ok w ↦ subst (λ r. HasShown b c.self.inside.layout.keeper c.move_dup.new.self.keeper r (MoveDup c.args.place c.args.node)) (sym w.result-is)
-              (subst (λ q. HasMoved c.self.inside.layout.keeper c.move_dup.new.self.keeper q c.args.node) at w.in-Ok.ensures.moved)
-        | in-Err w ↦ subst (λ r. HasShown b c.self.inside.layout.keeper c.move_dup.new.self.keeper r (MoveDup c.args.place c.args.node)) (sym w.result-is)
-              (moved_shown (Unit {0}) b c.self.inside.layout.keeper c.move_dup.new.self.keeper c.args.place c.args.node c.in-Some.dup.place at w.in-Err.fault w.in-Err.ensures.moved)
-        ])
+    (elim c.match-move_dup.branch [
+      | in-Ok w ↦ subst (λ r. HasShown b c.self.inside.layout.keeper c.move_dup.new.self.keeper r (MoveDup c.args.place c.args.node)) (sym w.result-is)
+          (subst (λ q. HasMoved c.self.inside.layout.keeper c.move_dup.new.self.keeper q c.args.node) at w.in-Ok.ensures.moved)
+      | in-Err w ↦ subst (λ r. HasShown b c.self.inside.layout.keeper c.move_dup.new.self.keeper r (MoveDup c.args.place c.args.node)) (sym w.result-is)
+          (moved_shown (Unit {0}) b c.self.inside.layout.keeper c.move_dup.new.self.keeper c.args.place c.args.node c.in-Some.dup.place at w.in-Err.fault w.in-Err.ensures.moved)
+    ])
