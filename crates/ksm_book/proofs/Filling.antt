@@ -1,27 +1,25 @@
 -- Frames written, read, found and filled, given back and shared.
-use Rattle.std.proofs.Common.{◌≡◌, ◌≢◌, ℕ, zero, suc, ◌+◌, ◌-◌, ◌*◌, ◌/◌, ◌<◌, ◌≤◌, Bool, true, false, cond, List, [], ◌∷◌, ◌++◌, length, get_or, set, take, drop, replicate, Option, Some, None, refl, sym, ap, ◌∙◌, subst, arith, length-set, get_or-set_same, append-nil}
+use Rattle.std.proofs.Common.{◌≡◌, ℕ, zero, suc, ◌+◌, ◌-◌, ◌*◌, ◌/◌, ◌<◌, ◌≤◌, true, false, cond, List, [], ◌∷◌, ◌++◌, length, get_or, set, take, drop, Some, None, refl, sym, ap, ◌∙◌, subst, arith, length-set, get_or-set_same, append-nil}
 use Rattle.std.specs.Prelude.{◌==◌}
 use Rattle.std.proofs.lemmas.List.{set-get_or, take_all, drop_all}
 use Rattle.std.proofs.lemmas.Nat.{div-mul-add}
 use Rattle.ksm_base.specs.declared.page.TheConstants.{PAGE_WORDS}
 use Rattle.ksm_base.specs.declared.shape.Shape.{Shape}
-use Rattle.ksm_base.specs.declared.row.Row.{Row}
-use Rattle.ksm_base.specs.declared.row.DupRow.{DupRow}
 use Rattle.ksm_base.specs.Values.{frames_of}
-use Rattle.frame_core.specs.declared.event.KeeperStep.TheVariants.{Reap, Put, Raise, Open, Add, Sub, Word}
+use Rattle.frame_core.specs.declared.event.KeeperStep.TheVariants.{Put, Raise, Open, Add, Sub, Word}
 use Rattle.frame_core.specs.declared.frame.Kind.{Kind}
 use Rattle.frame_core.specs.declared.frame.Kind.TheVariants.{Free, Filling, Private, Stable, Dying, Retired}
 use Rattle.frame_core.specs.declared.ledger.Ledger.{Ledger}
 use Rattle.frame_core.specs.declared.ledger.Note.{Note}
-use Rattle.frame_core.specs.Ledger.{frame_at, blank, with_frame, ledger_after, IsWritable}
+use Rattle.frame_core.specs.Ledger.{frame_at, blank, with_frame, ledger_after}
 use Rattle.frame_table.specs.Named.{KeeperView}
 use Rattle.frame_table.specs.Kept.{did}
 use Rattle.ksm_book.specs.Placement.{Placed, FitsBase}
-use Rattle.ksm_book.specs.Steps.{free_kind, dying_kind, IsLowestFree, HasNoFree, Did, Does, puts, loads}
-use Rattle.ksm_book.specs.Keeping.{Keeps, IsLawful, spent_on, spent, holding, Wrote, Loaded, Reaped, NoneLeft, Sought, Took}
+use Rattle.ksm_book.specs.Steps.{dying_kind, IsLowestFree, HasNoFree, Did, puts, loads}
+use Rattle.ksm_book.specs.Keeping.{Keeps, IsLawful, spent_on, spent, holding, Wrote, Reaped, Sought, Took}
 use Rattle.ksm_book.proofs.Logs.{chained, one_step, puts_more, loads_more, word_written}
 use Rattle.ksm_book.proofs.Moves.{filled}
-use Rattle.ksm_book.proofs.Keeping.{spent_set, spent_kept, add_keeps, sub_keeps, past_taken}
+use Rattle.ksm_book.proofs.Keeping.{spent_kept, add_keeps, sub_keeps, past_taken}
 
 pub is_dying_kind : (x : Kind) → dying_kind x ≡ true → x ≡ Dying
 is_dying_kind Dying e = refl

@@ -1,34 +1,30 @@
 -- The keeper's steps as changes of a placement.
-use Rattle.std.proofs.Common.{inl, inr, ◌≡◌, ◌≢◌, ℕ, zero, suc, ◌+◌, ◌-◌, ◌*◌, ◌/◌, ◌<◌, ◌≤◌, Bool, true, false, cond, List, [], ◌∷◌, ◌++◌, length, get_or, set, take, drop, Option, Some, None, refl, sym, ap, ◌∙◌, subst, arith, length-set, get_or-set_same, get_or-set_other, eq-eqb}
-use Rattle.std.specs.Prelude.{All, Contains, ◌==◌}
-use Rattle.std.specs.List.{sum_by}
+use Rattle.std.proofs.Common.{◌≡◌, ◌≢◌, ℕ, zero, suc, ◌+◌, ◌-◌, ◌<◌, ◌≤◌, Bool, true, false, cond, List, [], ◌∷◌, ◌++◌, length, Option, Some, None, refl, sym, ap, ◌∙◌, subst, arith, get_or-set_same, get_or-set_other}
+use Rattle.std.specs.Prelude.{Contains, ◌==◌}
 use Rattle.std.proofs.lemmas.Bool.{ne_eqb}
 use Rattle.std.proofs.lemmas.Bool.Decides.{nat_tests}
-use Rattle.std.proofs.lemmas.List.{set-get_or}
 use Rattle.std.proofs.lemmas.List.Elements.{Contains-push}
 use Rattle.std.proofs.lemmas.List.Sums.{sum_by-set}
-use Rattle.std.proofs.lemmas.Nat.{div-mul-add}
 use mathlib.Core.Logic.{dite}
 use native.Mathlib.Decide.{ℕ_discrete}
-use Rattle.ksm_base.specs.declared.page.TheConstants.{PAGE_WORDS}
 use Rattle.ksm_base.specs.declared.shape.Shape.{Shape}
 use Rattle.ksm_base.specs.declared.row.Row.{Row}
 use Rattle.ksm_base.specs.declared.row.DupRow.{DupRow}
 use Rattle.ksm_base.specs.Values.{frames_of}
-use Rattle.frame_core.specs.declared.event.KeeperStep.TheVariants.{Reap, Put, Raise, Open, Add, Sub, Word}
+use Rattle.frame_core.specs.declared.event.KeeperStep.TheVariants.{Reap, Add, Sub}
 use Rattle.frame_core.specs.declared.frame.Kind.{Kind}
 use Rattle.frame_core.specs.declared.frame.Kind.TheVariants.{Free, Filling, Private, Stable, Dying, Retired}
 use Rattle.frame_core.specs.declared.ledger.Ledger.{Ledger}
 use Rattle.frame_core.specs.declared.ledger.Note.{Note}
-use Rattle.frame_core.specs.Ledger.{frame_at, blank, with_frame, ledger_after, IsWritable}
+use Rattle.frame_core.specs.Ledger.{frame_at, blank, with_frame, ledger_after}
 use Rattle.frame_core.specs.Rule.{GenerationFits}
 use Rattle.frame_table.specs.Named.{KeeperView}
 use Rattle.frame_table.specs.Kept.{did}
 use Rattle.ksm_book.specs.Placement.{uses, in_hand, FitsBase, Placed}
-use Rattle.ksm_book.specs.Steps.{free_kind, dying_kind, IsLowestFree, Did, Does, puts, loads}
-use Rattle.ksm_book.specs.Keeping.{Keeps, IsLawful, past_lives, spent_on, spent, holding, Wrote, Loaded, HasWaited, Reaped, Sought, Took}
-use Rattle.ksm_book.proofs.Logs.{chained, nothing_done, one_step, puts_more, loads_more, word_written, contains_more}
-use Rattle.ksm_book.proofs.Moves.{filled, referenced, one_at, one_same, one_other}
+use Rattle.ksm_book.specs.Steps.{Did}
+use Rattle.ksm_book.specs.Keeping.{IsLawful, past_lives, spent_on, spent, Reaped}
+use Rattle.ksm_book.proofs.Logs.{chained, nothing_done, one_step, contains_more}
+use Rattle.ksm_book.proofs.Moves.{referenced, one_at, one_same, one_other}
 
 abbrev private_kind : Kind → Type 0
 private_kind Private = Unit {0}

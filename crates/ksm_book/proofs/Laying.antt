@@ -1,6 +1,6 @@
 -- What becomes of rows and dups that lie lawfully, where the keeper makes its steps.
-use Rattle.std.proofs.Common.{inl, inr, ◌⊎◌, ◌≡◌, ◌/◌, ◌-◌, ℕ, zero, suc, ◌+◌, ◌<◌, ◌≤◌, Bool, true, false, List, [], ◌∷◌, length, get_or, set, Option, Some, None, refl, sym, ap, ◌∙◌, subst, arith}
-use Rattle.std.specs.Prelude.{All, MatchOption, insert, remove, slice_index}
+use Rattle.std.proofs.Common.{inl, inr, ◌≡◌, ◌/◌, ℕ, zero, suc, ◌<◌, ◌≤◌, false, List, [], length, get_or, set, Option, Some, None, refl, sym, ap, ◌∙◌, subst, arith}
+use Rattle.std.specs.Prelude.{MatchOption, insert, remove, slice_index}
 use Rattle.ksm_base.specs.declared.shape.Shape.{Shape}
 use Rattle.ksm_base.specs.declared.knobs.Knobs.{Knobs}
 use Rattle.ksm_base.specs.declared.row.PageState.{PageState}
@@ -10,7 +10,7 @@ use Rattle.ksm_base.specs.declared.row.DupRow.{DupRow}
 use Rattle.ksm_base.specs.Rows.{merged_state, merged_into, row_at}
 use Rattle.ksm_base.specs.Values.{frames_of, IsShape}
 use Rattle.frame_core.specs.declared.frame.Kind.{Kind}
-use Rattle.frame_core.specs.declared.frame.Kind.TheVariants.{Private, Stable}
+use Rattle.frame_core.specs.declared.frame.Kind.TheVariants.{Private}
 use Rattle.frame_core.specs.declared.ledger.Ledger.{Ledger}
 use Rattle.frame_core.specs.declared.ledger.Note.{Note}
 use Rattle.frame_core.specs.Ledger.{frame_at, with_frame, blank, first_ledger, IsReadable, IsWritable}
@@ -20,11 +20,11 @@ use Rattle.std.proofs.lemmas.List.{set-get_or, length-replicate}
 use Rattle.ksm_base.specs.declared.page.GuestPage.{GuestPage}
 use Rattle.ksm_base.specs.declared.page.TheConstants.{PAGE_WORDS}
 use Rattle.frame_table.specs.Named.{KeeperView}
-use Rattle.ksm_book.specs.Placement.{row_in, no_row, kind_for, FitsBase, RowFits, Agrees, Placed}
+use Rattle.ksm_book.specs.Placement.{kind_for, FitsBase, Placed}
 use Rattle.ksm_book.specs.Keeping.{Keeps, IsLawful, Took, Wrote, holding, spent}
 use Rattle.ksm_book.specs.Listed.{Listed, rank, StandsAt}
 use Rattle.ksm_book.specs.Laid.{Lay, IsLaid, Knows, IsOnItsOwn, LodgesAs}
-use Rattle.ksm_book.proofs.Moves.{Serves, own_agrees, swapped, inserted, removed, rewritten, written_in, serves_like}
+use Rattle.ksm_book.proofs.Moves.{Serves, own_agrees, swapped, inserted, removed, rewritten, written_in}
 use Rattle.ksm_book.proofs.Keeping.{spent_kept}
 
 module _ (sh : Shape) (across : ℕ) (v : KeeperView) (rows : List Row) (frames : List ℕ) (dups : List DupRow) (hand : Option ℕ) (same : v.table.shape ≡ sh) where

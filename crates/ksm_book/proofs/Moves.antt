@@ -1,7 +1,6 @@
 -- What each step of a command does to a placement.
-use Rattle.std.proofs.Common.{inl, inr, ◌≡◌, ◌≢◌, ℕ, suc, ◌+◌, ◌-◌, ◌*◌, ◌/◌, ◌%◌, ◌<◌, ◌≤◌, Bool, true, false, cond, eqb, List, length, get_or, set, Option, Some, None, refl, sym, ap, ◌∙◌, subst, arith, length-set, get_or-set_same, get_or-set_other, eq-eqb}
+use Rattle.std.proofs.Common.{inl, inr, ◌≡◌, ◌≢◌, ℕ, suc, ◌+◌, ◌-◌, ◌/◌, ◌<◌, ◌≤◌, Bool, true, false, cond, List, length, get_or, set, Option, Some, None, refl, sym, ap, ◌∙◌, subst, arith, length-set, get_or-set_same, get_or-set_other, eq-eqb}
 use Rattle.std.specs.Prelude.{All, insert, remove, ◌==◌, slice_index}
-use Rattle.std.specs.List.{list_any}
 use Rattle.std.proofs.lemmas.List.Sums.{sum_by-set, sum_by-insert, sum_by-remove}
 use Rattle.std.proofs.lemmas.List.Elements.{All-weaker, All-append, All-cons, All-filter, filter_passes}
 use Rattle.std.proofs.lemmas.Bool.{ne_eqb, cases_lt, ltb-true}
@@ -20,7 +19,7 @@ use mathlib.Core.Logic.{dite}
 use native.Mathlib.Decide.{ℕ_discrete}
 use Rattle.ksm_base.specs.declared.shape.Shape.{Shape}
 use Rattle.frame_core.specs.declared.frame.Kind.{Kind}
-use Rattle.frame_core.specs.declared.frame.Kind.TheVariants.{Free, Filling, Private, Stable, Dying, Retired}
+use Rattle.frame_core.specs.declared.frame.Kind.TheVariants.{Free, Private, Stable}
 use Rattle.frame_core.specs.declared.ledger.Note.{Note}
 use Rattle.frame_core.specs.declared.ledger.Ledger.{Ledger}
 use Rattle.ksm_base.specs.Values.{frames_of}
@@ -32,7 +31,7 @@ use Rattle.std.specs.Prelude.{is_some}
 use Rattle.ksm_base.specs.declared.row.Row.{Row}
 use Rattle.ksm_base.specs.declared.row.DupRow.{DupRow}
 use Rattle.ksm_base.specs.Rows.{merged_state, merged_into}
-use Rattle.ksm_book.specs.Placement.{row_in, no_row, node_of, uses, in_hand, kind_for, FitsBase, life_or, place_frame, place_life, IsInLife, RowFits, Agrees, DupFits, Placed}
+use Rattle.ksm_book.specs.Placement.{row_in, no_row, uses, in_hand, kind_for, FitsBase, life_or, place_frame, place_life, IsInLife, RowFits, Agrees, DupFits, Placed}
 
 abbrev pub one_at : ℕ → ℕ → ℕ
 one_at f g = cond (g == f) 1 0

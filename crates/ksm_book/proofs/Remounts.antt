@@ -1,8 +1,8 @@
 -- A dup with items, and the layout before and after it moves.
-use Rattle.std.proofs.Common.{inl, inr, ◌≡◌, ◌≢◌, ℕ, zero, suc, ◌+◌, ◌-◌, ◌*◌, ◌/◌, ◌<◌, ◌≤◌, Bool, true, false, cond, List, [], ◌∷◌, ◌++◌, length, map, get_or, set, Option, Some, None, refl, sym, ap, ◌∙◌, subst, arith, eq-eqb, length-set, get_or-set_same, get_or-set_other}
-use Rattle.std.specs.Prelude.{All, find, Contains, ◌==◌, ◌&&◌, nat_lt, slice_index}
+use Rattle.std.proofs.Common.{inl, inr, ◌≡◌, ◌≢◌, ℕ, suc, ◌+◌, ◌*◌, ◌<◌, ◌≤◌, Bool, true, cond, List, [], ◌∷◌, ◌++◌, length, map, get_or, set, Option, Some, None, refl, sym, ap, ◌∙◌, subst, arith, eq-eqb, length-set, get_or-set_other}
+use Rattle.std.specs.Prelude.{All, find, ◌==◌, ◌&&◌}
 use Rattle.std.proofs.lemmas.Bool.{cases_Bool, and_parts, eqb-true, ltb-true, ne_eqb}
-use Rattle.std.proofs.lemmas.List.Elements.{Contains-append_left, Contains-append_right, Contains-push}
+use Rattle.std.proofs.lemmas.List.Elements.{Contains-append_right, Contains-push}
 use Rattle.std.proofs.lemmas.Option.{same_Some}
 use mathlib.Core.Logic.{dite}
 use native.Mathlib.Decide.{ℕ_discrete}
@@ -13,7 +13,7 @@ use Rattle.ksm_base.specs.declared.row.PageState.{PageState}
 use Rattle.ksm_base.specs.declared.row.PageState.TheVariants.{Private as OwnPage, Waiting, Merged}
 use Rattle.ksm_base.specs.declared.row.Row.{Row}
 use Rattle.ksm_base.specs.declared.row.DupRow.{DupRow}
-use Rattle.ksm_base.specs.Rows.{has_items, item_count, merged_into, row_at, dup_numbered, InPageOrder}
+use Rattle.ksm_base.specs.Rows.{has_items, item_count, merged_into, row_at, dup_numbered}
 use Rattle.ksm_base.specs.Sound.{IsSound}
 use Rattle.ksm_base.specs.Values.{frames_of}
 use Rattle.ksm_base.proofs.Edits.{find_all, find_passes, find_none, count_none}
@@ -21,19 +21,19 @@ use Rattle.ksm_base.proofs.Orders.{each_has_number}
 use Rattle.ksm_base.proofs.RowCounts.{each_at_page}
 use Rattle.frame_core.specs.declared.event.KeeperStep.TheVariants.{Freeze}
 use Rattle.frame_core.specs.declared.frame.Kind.{Kind}
-use Rattle.frame_core.specs.declared.frame.Kind.TheVariants.{Free, Filling, Private, Stable, Dying, Retired}
+use Rattle.frame_core.specs.declared.frame.Kind.TheVariants.{Free, Stable, Dying}
 use Rattle.frame_core.specs.declared.ledger.Ledger.{Ledger}
 use Rattle.frame_core.specs.declared.ledger.Note.{Note}
 use Rattle.frame_core.specs.declared.seat.Life.{Life}
-use Rattle.frame_core.specs.Ledger.{frame_at, named_at, blank, IsLoose, with_frame, ledger_after}
+use Rattle.frame_core.specs.Ledger.{frame_at, named_at, blank, IsLoose, with_frame}
 use Rattle.frame_table.specs.Named.{KeeperView}
 use Rattle.frame_table.specs.Kept.{did}
-use Rattle.ksm_book.specs.Placement.{row_in, node_of, kind_for, life_or, place_frame, IsInLife, Agrees, DupFits, Placed}
-use Rattle.ksm_book.specs.Keeping.{past_lives, spent_on, spent, Sought}
+use Rattle.ksm_book.specs.Placement.{node_of, kind_for, life_or, place_frame, IsInLife, Agrees, DupFits, Placed}
+use Rattle.ksm_book.specs.Keeping.{past_lives, spent_on, spent}
 use Rattle.ksm_book.specs.Laid.{Lay, IsLaid, state_of}
 use Rattle.ksm_book.specs.Listed.{Listed, rank, StandsAt, instead}
-use Rattle.ksm_book.specs.Mounted.{FoundFree, Mounted, shown_on}
-use Rattle.ksm_book.specs.Steps.{Log, Did, Does, IsLowestFree, free_kind}
+use Rattle.ksm_book.specs.Mounted.{FoundFree, Mounted}
+use Rattle.ksm_book.specs.Steps.{Log, Did, IsLowestFree, free_kind}
 use Rattle.ksm_book.specs.Whole.{HasLost, HasMoved}
 use Rattle.ksm_book.proofs.Filling.{at_again, node_end, on_node}
 use Rattle.ksm_book.proofs.Keeping.{spent_set}

@@ -1,14 +1,12 @@
 -- What becomes of the layout where rows change together, join a dup, or make or lose one.
-use Rattle.std.proofs.Common.{inl, inr, ◌⊎◌, ◌≡◌, ◌≢◌, ◌/◌, ◌-◌, ◌*◌, ◌^◌, ℕ, zero, suc, ◌+◌, ◌<◌, ◌≤◌, Bool, true, false, List, [], ◌∷◌, ◌++◌, length, map, get_or, set, Option, Some, None, refl, sym, ap, ◌∙◌, subst, arith, eq-eqb}
-use Rattle.std.specs.Prelude.{All, Contains, filter, nat_lt, slice_index, is_some, if◌then◌else◌, ◌==◌}
+use Rattle.std.proofs.Common.{inl, inr, ◌⊎◌, ◌≡◌, ◌≢◌, ◌-◌, ◌*◌, ◌^◌, ℕ, zero, suc, ◌+◌, ◌<◌, ◌≤◌, Bool, true, false, List, [], ◌∷◌, ◌++◌, length, map, get_or, set, Option, Some, None, refl, sym, ap, ◌∙◌, subst, arith, eq-eqb}
+use Rattle.std.specs.Prelude.{All, Contains, filter, nat_lt, slice_index, if◌then◌else◌, ◌==◌}
 use Rattle.std.specs.List.{list_any, sum_by}
 use Rattle.std.proofs.lemmas.List.{length-map, get_or-map, set-get_or, get_or_default}
 use Rattle.std.proofs.lemmas.List.Sums.{sum_by-cons}
 use Rattle.std.proofs.lemmas.Bool.{cases_Bool, cond_both}
 use Rattle.std.proofs.lemmas.Bool.Decides.{nat_tests}
 use Rattle.std.proofs.lemmas.List.Elements.{All-filter}
-use mathlib.Core.Logic.{dite}
-use native.Mathlib.Decide.{ℕ_discrete}
 use Rattle.ksm_base.specs.declared.shape.Shape.{Shape}
 use Rattle.ksm_base.specs.declared.knobs.Knobs.{Knobs}
 use Rattle.ksm_base.specs.declared.row.PageState.{PageState}
@@ -17,7 +15,7 @@ use Rattle.ksm_base.specs.declared.row.Row.{Row}
 use Rattle.ksm_base.specs.declared.row.DupRow.{DupRow}
 use Rattle.ksm_base.specs.Rows.{merged_state, merged_into, item_count, with_dup, settled, settled_state}
 use Rattle.ksm_base.specs.State.{tree_of}
-use Rattle.ksm_base.specs.Values.{frames_of, IsShape}
+use Rattle.ksm_base.specs.Values.{frames_of}
 use Rattle.frame_core.specs.declared.event.KeeperStep.TheVariants.{Publish}
 use Rattle.frame_core.specs.declared.frame.Kind.{Kind}
 use Rattle.frame_core.specs.declared.frame.Kind.TheVariants.{Free, Filling, Private, Stable, Dying, Retired}
@@ -28,14 +26,14 @@ use Rattle.frame_core.specs.Ledger.{frame_at, named_at, with_frame, ledger_after
 use Rattle.frame_core.specs.Rule.{GenerationFits}
 use Rattle.frame_table.specs.Named.{KeeperView}
 use Rattle.frame_table.specs.Kept.{did}
-use Rattle.ksm_book.specs.Placement.{row_in, no_row, kind_for, life_or, place_frame, place_life, IsInLife, RowFits, Agrees, DupFits, Placed}
-use Rattle.ksm_book.specs.Keeping.{Keeps, IsLawful, past_lives, spent_on, spent}
+use Rattle.ksm_book.specs.Placement.{row_in, no_row, kind_for, life_or, place_frame, IsInLife, RowFits, DupFits, Placed}
+use Rattle.ksm_book.specs.Keeping.{Keeps, past_lives, spent_on, spent}
 use Rattle.ksm_book.specs.Listed.{Listed, rank, StandsAt}
-use Rattle.ksm_book.specs.Laid.{Lay, IsLaid, LodgesAs, IsVacant, elsewhere}
+use Rattle.ksm_book.specs.Laid.{IsLaid, LodgesAs, IsVacant, elsewhere}
 use Rattle.ksm_book.proofs.Moves.{Serves, joined, published, base_is_items, stale_is_loose}
 use Rattle.ksm_book.proofs.Laying.{lodged, kept, shape_same, own_kind, own_item}
 use Rattle.ksm_book.proofs.Keeping.{spent_set}
-use Rattle.ksm_book.proofs.Withdrawn.{withdrawn, elsewhere_is}
+use Rattle.ksm_book.proofs.Withdrawn.{withdrawn}
 
 module _ (sh : Shape) (v : Listed) (dups : List DupRow) (knobs : Knobs) (next : ℕ) (k : KeeperView) (h : IsLaid sh v dups knobs next k) where
   abbrev across : ℕ

@@ -1,7 +1,7 @@
 -- What a visit finds, and what becomes of the rows.
-use Rattle.std.proofs.Common.{inl, inr, ◌≡◌, ℕ, ◌+◌, ◌<◌, ◌≤◌, Bool, true, false, List, [], ◌∷◌, length, get_or, Option, Some, None, refl, sym, ap, ◌∙◌, subst, arith, eq-eqb}
-use Rattle.std.specs.Prelude.{All, Contains, find, count_by, not, ◌&&◌, ◌||◌, ◌==◌, nat_le, nat_lt}
-use Rattle.std.proofs.lemmas.Bool.{cases_Bool, and_parts, eqb-true, leb-true, ltb-true, lt-ltb, not-true}
+use Rattle.std.proofs.Common.{inl, inr, ◌≡◌, ℕ, ◌+◌, ◌≤◌, true, false, List, [], ◌∷◌, get_or, Option, Some, None, refl, sym, ap, ◌∙◌, subst, arith, eq-eqb}
+use Rattle.std.specs.Prelude.{All, Contains, find, ◌&&◌, ◌||◌, nat_le, nat_lt}
+use Rattle.std.proofs.lemmas.Bool.{cases_Bool, and_parts, eqb-true, leb-true}
 use Rattle.std.proofs.lemmas.Bool.Decides.{nat_tests}
 use Rattle.std.proofs.lemmas.List.{get_or_default}
 use Rattle.std.proofs.lemmas.Option.{same_Some}
@@ -10,7 +10,7 @@ use Rattle.ksm_base.specs.declared.row.PageState.{PageState}
 use Rattle.ksm_base.specs.declared.row.PageState.TheVariants.{Private, Waiting, Merged}
 use Rattle.ksm_base.specs.declared.row.Row.{Row}
 use Rattle.ksm_base.specs.declared.row.DupRow.{DupRow}
-use Rattle.ksm_base.specs.Rows.{same_page, row_at, InPageOrder, change_row, change_rows, merged_state, merged_into, waiting_state, item_count, has_items, with_dup, dup_numbered}
+use Rattle.ksm_base.specs.Rows.{same_page, row_at, InPageOrder, change_row, change_rows, merged_state, merged_into, waiting_state, item_count, with_dup}
 use Rattle.ksm_base.specs.State.{BookState, place_count, tree_of}
 use Rattle.ksm_base.specs.Sound.{IsSound, IsDupOf}
 use Rattle.ksm_base.specs.Visit.{after_cursor, next_row, may_join, is_best, best_dup, waits_for, partner, new_place, paired, handled, row_visited}
@@ -24,8 +24,8 @@ use Rattle.ksm_base.proofs.SoundVisit.{IsJoined, best_dup_has_room}
 use Rattle.ksm_base.proofs.SoundScan.{next_row_visited}
 use Rattle.ksm_base.proofs.SoundPair.{IsFree, new_place_free, next_is_new, IsPair, partner_pairs, WaitsFor, waits_tells}
 use Rattle.ksm_base.proofs.SoundCounts.{joined_count}
-use Rattle.ksm_base.proofs.Pages.{same_page_refl, same_page_eq, same_page_sym}
-use Rattle.ksm_book.specs.Laid.{Lay, Joins, Founds, IsVacant, new_dup, state_of}
+use Rattle.ksm_base.proofs.Pages.{same_page_eq}
+use Rattle.ksm_book.specs.Laid.{Lay, Joins, Founds, new_dup, state_of}
 use Rattle.ksm_book.proofs.Found.{change_known}
 
 pub state_of_item : (n : ℕ) (s : PageState) → merged_into n s ≡ true → s ≡ Merged n

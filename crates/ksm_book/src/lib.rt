@@ -15,3 +15,6 @@ mod scan;
 mod state;
 
 pub use book::Book;
+
+#[cfg(test)]
+mod tests;

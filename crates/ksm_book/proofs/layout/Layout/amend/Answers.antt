@@ -1,5 +1,4 @@
-use Rattle.std.proofs.Common.{◌≡◌, Some, sym, ap, ◌∙◌, subst}
-use Rattle.ksm_base.specs.declared.row.Row.{Row}
+use Rattle.std.proofs.Common.{sym, ap, ◌∙◌}
 use Rattle.ksm_base.specs.Rows.{row_at}
 use Rattle.ksm_book.specs.Laid.{LodgesAs}
 use Rattle.ksm_book.proofs.Laying.{laid_amended, known_as}

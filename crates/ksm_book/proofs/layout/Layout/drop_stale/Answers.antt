@@ -1,4 +1,4 @@
-use Rattle.std.proofs.Common.{◌≡◌, ◌<◌, ℕ, sym, ap, subst, rules}
+use Rattle.std.proofs.Common.{◌<◌, sym, subst}
 use Rattle.ksm_base.specs.Values.{frames_of}
 use Rattle.ksm_book.specs.Laid.{Lay, IsLaid, IsVacant}
 use Rattle.ksm_book.proofs.Sharing.{vacant_loose, laid_cleared}

@@ -1,7 +1,7 @@
-use Rattle.std.proofs.Common.{◌≡◌, ◌∙◌, ◌<◌, ◌≤◌, ◌^◌, ℕ, false, [], Some, refl, sym, ap, subst, arith}
+use Rattle.std.proofs.Common.{◌≡◌, ◌∙◌, ◌<◌, ◌≤◌, ◌^◌, false, [], refl, sym, ap, subst, arith}
 use Rattle.std.specs.Prelude.{All}
 use Rattle.ksm_base.specs.declared.row.DupRow.{DupRow}
-use Rattle.ksm_base.specs.Rows.{row_at, merged_into}
+use Rattle.ksm_base.specs.Rows.{merged_into}
 use Rattle.frame_core.specs.declared.event.KeeperStep.TheVariants.{Publish}
 use Rattle.ksm_base.specs.Values.{frames_of}
 use Rattle.ksm_book.specs.Laid.{Lay, Founds, IsVacant}

@@ -7,7 +7,6 @@ use Rattle.ksm_base.specs.declared.row.DupRow.{DupRow}
 use Rattle.ksm_base.specs.Rows.{has_items, is_stale}
 use Rattle.ksm_base.specs.Values.{frames_of}
 use Rattle.ksm_book.specs.Laid.{Lay, IsVacant, elsewhere}
-use Rattle.ksm_book.specs.Steps.{Does}
 use Rattle.ksm_book.proofs.Logs.{chained}
 use Rattle.ksm_book.proofs.Pruning.{none_stale, live_elsewhere, fewer_elsewhere, dup_at, no_dup_at}
 use Rattle.ksm_book.proofs.layout.Layout.prune.Goals as goal

@@ -1,4 +1,4 @@
-use Rattle.std.proofs.Common.{◌≡◌, ◌∙◌, ◌∷◌, [], Some, ap, subst}
+use Rattle.std.proofs.Common.{◌∙◌, ◌∷◌, [], Some, ap, subst}
 use Rattle.ksm_book.proofs.Laying.{lawful, shape_same, taken_hand, laid_moved, laid_kept, relaid}
 use Rattle.ksm_base.specs.Rows.{change_row}
 use Rattle.ksm_book.specs.Laid.{Lay}

@@ -1,7 +1,5 @@
-use Rattle.std.proofs.Common.{◌≡◌, ◌∙◌, ◌+◌, [], Some, sym, ap, subst}
-use Rattle.std.specs.Prelude.{◌||◌}
+use Rattle.std.proofs.Common.{◌≡◌, ◌∙◌, [], Some, sym, ap, subst}
 use Rattle.ksm_base.specs.declared.row.PageState.TheVariants.{Merged}
-use Rattle.ksm_base.specs.declared.row.Row.{Row}
 use Rattle.ksm_base.specs.Rows.{change_row, with_dup}
 use Rattle.ksm_base.specs.State.{place_count}
 use Rattle.ksm_base.specs.Sound.{IsSound}

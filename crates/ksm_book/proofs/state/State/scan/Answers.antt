@@ -2,7 +2,6 @@ use Rattle.std.proofs.Common.{◌≡◌, ◌∙◌, ◌+◌, suc, false, [], sym
 use Rattle.std.specs.Prelude.{Result, Ok, Err, OnOk, is_err}
 use Rattle.ksm_base.specs.declared.fault.Fault.{Fault}
 use Rattle.ksm_base.specs.Visit.{visit, visits}
-use Rattle.ksm_book.specs.Steps.{Does}
 use Rattle.ksm_book.proofs.Logs.{chained}
 use Rattle.ksm_book.proofs.state.State.scan.Goals as goal
 

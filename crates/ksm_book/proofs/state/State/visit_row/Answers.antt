@@ -1,11 +1,10 @@
-use Rattle.std.proofs.Common.{inr, ◌≡◌, ◌∙◌, true, false, Some, None, refl, sym, ap, subst}
+use Rattle.std.proofs.Common.{inr, ◌≡◌, ◌∙◌, true, Some, None, refl, sym, ap, subst}
 use Rattle.std.specs.Prelude.{find}
 use Rattle.ksm_base.specs.declared.row.PageState.TheVariants.{Private, Merged}
-use Rattle.ksm_base.specs.declared.row.Row.{Row}
-use Rattle.ksm_base.specs.Rows.{change_row, merged_state, merged_into}
+use Rattle.ksm_base.specs.Rows.{change_row, merged_into}
 use Rattle.ksm_base.specs.Sound.{IsSound}
 use Rattle.ksm_base.specs.State.{BookState}
-use Rattle.ksm_base.specs.Visit.{next_row, best_dup, row_visited, handled}
+use Rattle.ksm_base.specs.Visit.{next_row, row_visited}
 use Rattle.ksm_base.proofs.Edits.{find_passes}
 use Rattle.ksm_base.proofs.SoundScan.{next_row_visited, sound_row_visited}
 use Rattle.ksm_book.specs.Laid.{Lay, LodgesAs, state_of}
