@@ -17,4 +17,5 @@ pub mod Pruning
 pub mod Remounted
 pub mod Mounts
 pub mod Remounts
+pub mod Lawfulness
 pub mod DupMoves

@@ -10,6 +10,8 @@ ghost use Rattle.ksm_base.specs.State.{opening};
 ghost use Rattle.ksm_base.specs.Values.{IsShape};
 ghost use Rattle.frame_core.specs.Ledger.{first_ledger};
 ghost use Rattle.ksm_book.specs.Laid.{LoadsIf};
+ghost use Rattle.ksm_base.specs.Sound.{IsSound};
+ghost use Rattle.ksm_book.specs.Lawful.{LieLawfully, ShareLawfully};
 ghost use Rattle.ksm_book.specs.Steps.{Does};
 ghost use Rattle.ksm_book.specs.Whole.{nodes_got, HasShown};
 
@@ -71,6 +73,15 @@ impl Book {
             Command::SetAcross(across) => state.set_across(table, across),
             Command::SetLimit(limit) => state.set_limit(table, limit),
         }
+    }
+
+    /// A law, which costs nothing to call: what is true of the book and of its frames whenever no call is under way.
+    pub fn lies_lawfully(&self)
+        ensures sound { IsSound self.now.state }
+        ensures placed { LieLawfully self.now.state self.now.keeper }
+        ensures shared { ShareLawfully self.now.state self.now.keeper }
+    {
+        self.state.lies_lawfully();
     }
 
     /// The bytes of a page, loaded from the words of its frame; none where it has no row.

@@ -13,6 +13,8 @@ ghost use Rattle.ksm_base.specs.Refusals.{is_of};
 ghost use Rattle.ksm_base.specs.Values.{IsShape, frames_of};
 ghost use Rattle.frame_core.specs.Ledger.{first_ledger};
 ghost use Rattle.ksm_book.specs.Laid.{IsHoused, Knows, IsOnItsOwn, LodgesAs, Joins, Founds, IsVacant, new_dup, elsewhere, Stores, LoadsIf};
+ghost use Rattle.ksm_book.specs.Laid.{state_of};
+ghost use Rattle.ksm_book.specs.Lawful.{LieLawfully};
 ghost use Rattle.ksm_book.specs.Steps.{Does};
 
 mod moving;
@@ -84,6 +86,13 @@ impl Layout {
             keeper,
         } = self;
         keeper
+    }
+
+    /// A law: rows and dups lie lawfully in what the keeper knows.
+    pub fn lies_lawfully(&self)
+        ensures { LieLawfully (state_of self.now None 0) self.now.keeper }
+    {
+        let _ = &self.rows;
     }
 
     pub fn shape(&self) -> Shape

@@ -11,6 +11,8 @@ ghost use Rattle.ksm_base.specs.declared.fault.Fault.TheVariants.{Memory};
 ghost use Rattle.ksm_base.specs.Refusals.{is_known};
 ghost use Rattle.frame_core.specs.Ledger.{first_ledger};
 ghost use Rattle.ksm_book.specs.Laid.{LoadsIf};
+ghost use Rattle.ksm_base.specs.Sound.{IsSound};
+ghost use Rattle.ksm_book.specs.Lawful.{LieLawfully, ShareLawfully};
 ghost use Rattle.ksm_book.specs.Steps.{Does};
 ghost use Rattle.ksm_book.specs.Whole.{nodes_got, HasShown};
 
@@ -65,6 +67,15 @@ impl State {
             passes: _,
         } = self;
         layout.close()
+    }
+
+    /// A law: the facts of the book state, and how its rows and dups lie in the frames.
+    pub fn lies_lawfully(&self)
+        ensures sound { IsSound self.now.state }
+        ensures placed { LieLawfully self.now.state self.now.keeper }
+        ensures shared { ShareLawfully self.now.state self.now.keeper }
+    {
+        self.layout.lies_lawfully();
     }
 
     /// The bytes of a page, loaded from the words of its frame.
