@@ -6,3 +6,4 @@ pub mod RowEntries
 pub mod Plain
 pub mod Laid
 pub mod Whole
+pub mod Unmerged

@@ -1,0 +1,114 @@
+-- Rows that are changed one after another, in order.
+use Rattle.std.proofs.Common.{◌≡◌, ℕ, zero, suc, Bool, true, false, cond, List, [], ◌∷◌, get_or, Option, Some, None, refl, sym, ap, ◌∙◌, subst, arith}
+use Rattle.std.specs.Prelude.{All, filter, find, slice_get, ◌&&◌}
+use Rattle.std.proofs.lemmas.List.Elements.{All-head, All-tail}
+use Rattle.std.proofs.lemmas.Option.{same_Some}
+use Rattle.ksm_base.specs.declared.row.Row.{Row}
+use Rattle.ksm_base.specs.Apply.{is_before}
+use Rattle.ksm_base.specs.Rows.{comes_before, same_page, InPageOrder, change_row, change_rows}
+use Rattle.ksm_book.specs.Unmerged.{first_changed}
+use Rattle.ksm_book.proofs.Pages.{same_page_refl, before_irrefl, not_both, before_differs, after_differs}
+use Rattle.ksm_book.proofs.Lists.{pairs_head, pairs_tail, change_none}
+
+and_false : (b : Bool) → (b && false) ≡ false
+and_false true = refl
+and_false false = refl
+
+-- a row comes before all of these
+abbrev Behind : Row → List Row → Type 0
+Behind r rows = All (λ s. comes_before r.page s.page ≡ true) rows
+
+behind : (r : Row) (rows : List Row) → InPageOrder (r ∷ rows) → Behind r rows
+behind r rows rise = pairs_head (λ a b. comes_before a.page b.page ≡ true) r rows rise
+
+in_order : (r : Row) (rows : List Row) → InPageOrder (r ∷ rows) → InPageOrder rows
+in_order r rows rise = pairs_tail (λ a b. comes_before a.page b.page ≡ true) r rows rise
+
+-- a test, and a change that keeps the page and after which the test fails
+module _ (t : Row → Bool) (f : Row → Row) (keeps : (r : Row) → (f r).page ≡ r.page) (off : (r : Row) → t (f r) ≡ false) where
+  -- the first that is left is the next of those that passed
+  pub first_left : (n : ℕ) (rows : List Row) → find t (first_changed t f n rows) ≡ slice_get (filter t rows) n
+  first_left zero [] = refl
+  first_left zero (r ∷ rows) = by (t r) (first_left zero rows)
+    where
+    by : (b : Bool) → find t rows ≡ slice_get (filter t rows) 0 → cond b (Some r) (find t rows) ≡ slice_get (cond b (r ∷ filter t rows) (filter t rows)) 0
+    by true rest = refl
+    by false rest = rest
+  first_left (suc n) [] = refl
+  first_left (suc n) (r ∷ rows) = by (t r) refl (first_left n rows) (first_left (suc n) rows)
+    where
+    by : (b : Bool) → t r ≡ b → find t (first_changed t f n rows) ≡ slice_get (filter t rows) n → find t (first_changed t f (suc n) rows) ≡ slice_get (filter t rows) (suc n) → find t (cond b (f r ∷ first_changed t f n rows) (r ∷ first_changed t f (suc n) rows)) ≡ slice_get (cond b (r ∷ filter t rows) (filter t rows)) (suc n)
+    by true is there rest = ap (λ (b : Bool). cond b (Some (f r)) (find t (first_changed t f n rows))) (off r) ∙ there
+    by false is there rest = ap (λ (b : Bool). cond b (Some r) (find t (first_changed t f (suc n) rows))) is ∙ rest
+
+  -- a row comes before the stop where it comes before all
+  before_stop : (r : Row) (rows : List Row) → Behind r rows → (n : ℕ) → is_before (slice_get (filter t rows) n) r ≡ true
+  before_stop r [] after n = refl
+  before_stop r (s ∷ rows) after n = by (t s) n (before_stop r rows (All-tail (λ x. comes_before r.page x.page ≡ true) s rows after))
+    where
+    by : (b : Bool) (n : ℕ) → ((m : ℕ) → is_before (slice_get (filter t rows) m) r ≡ true) → is_before (slice_get (cond b (s ∷ filter t rows) (filter t rows)) n) r ≡ true
+    by true zero rest = All-head (λ x. comes_before r.page x.page ≡ true) s rows after
+    by true (suc m) rest = rest m
+    by false m rest = rest m
+
+  other_page : (r : Row) (rows : List Row) → Behind r rows → (n : ℕ) (row : Row) → find t (first_changed t f n rows) ≡ Some row → same_page r.page row.page ≡ false
+  other_page r rows after n row found = after_differs r.page row.page (ap (λ o. is_before o r) (sym found ∙ first_left n rows) ∙ before_stop r rows after n)
+
+  -- a change of the first that is left is a change of one more
+  pub one_more : (n : ℕ) (rows : List Row) (row : Row) → InPageOrder rows → find t (first_changed t f n rows) ≡ Some row → change_row row.page (λ _. f row) (first_changed t f n rows) ≡ first_changed t f (suc n) rows
+  one_more zero [] row rise found = refl
+  one_more (suc n) [] row rise found = refl
+  one_more zero (r ∷ rows) row rise found = by (t r) refl (one_more zero rows row (in_order r rows rise))
+    where
+    by : (b : Bool) → t r ≡ b → (find t rows ≡ Some row → change_row row.page (λ _. f row) rows ≡ first_changed t f 1 rows) → change_row row.page (λ _. f row) (r ∷ rows) ≡ cond b (f r ∷ rows) (r ∷ first_changed t f 1 rows)
+    by true is rest =
+        let e : r ≡ row = same_Some r row (sym (ap (λ (b : Bool). cond b (Some r) (find t rows)) is) ∙ found) in
+        subst (λ (x : Row). change_row x.page (λ _. f x) (r ∷ rows) ≡ f r ∷ rows) e
+          (ap (λ (b : Bool). cond b (f r) r ∷ change_row r.page (λ _. f r) rows) (same_page_refl r.page)
+          ∙ ap (λ l. f r ∷ l) (change_none (λ s. same_page s.page r.page) (λ _. f r) rows (λ k d lt. before_differs r.page (get_or rows k d).page (behind r rows rise k d lt))))
+    by false is rest =
+        let left : find t rows ≡ Some row = sym (ap (λ (b : Bool). cond b (Some r) (find t rows)) is) ∙ found in
+        ap (λ (b : Bool). cond b (f row) r ∷ change_row row.page (λ _. f row) rows) (other_page r rows (behind r rows rise) 0 row left)
+        ∙ ap (λ l. r ∷ l) (rest left)
+  one_more (suc n) (r ∷ rows) row rise found = by (t r) refl (one_more n rows row (in_order r rows rise)) (one_more (suc n) rows row (in_order r rows rise))
+    where
+    first : List Row
+    first = f r ∷ first_changed t f n rows
+
+    second : List Row
+    second = r ∷ first_changed t f (suc n) rows
+
+    by : (b : Bool) → t r ≡ b
+      → (find t (first_changed t f n rows) ≡ Some row → change_row row.page (λ _. f row) (first_changed t f n rows) ≡ first_changed t f (suc n) rows)
+      → (find t (first_changed t f (suc n) rows) ≡ Some row → change_row row.page (λ _. f row) (first_changed t f (suc n) rows) ≡ first_changed t f (suc (suc n)) rows)
+      → change_row row.page (λ _. f row) (cond b first second) ≡ cond b (f r ∷ first_changed t f (suc n) rows) (r ∷ first_changed t f (suc (suc n)) rows)
+    by true is there rest =
+        let left : find t (first_changed t f n rows) ≡ Some row = sym (ap (λ (b : Bool). cond b (Some (f r)) (find t (first_changed t f n rows))) (off r)) ∙ sym (ap (λ (b : Bool). find t (cond b first second)) is) ∙ found in
+        let other : same_page (f r).page row.page ≡ false = ap (λ p. same_page p row.page) (keeps r) ∙ other_page r rows (behind r rows rise) n row left in
+        ap (λ (b : Bool). cond b (f row) (f r) ∷ change_row row.page (λ _. f row) (first_changed t f n rows)) other
+        ∙ ap (λ l. f r ∷ l) (there left)
+    by false is there rest =
+        let left : find t (first_changed t f (suc n) rows) ≡ Some row = sym (ap (λ (b : Bool). cond b (Some r) (find t (first_changed t f (suc n) rows))) is) ∙ sym (ap (λ (b : Bool). find t (cond b first second)) is) ∙ found in
+        ap (λ (b : Bool). cond b (f row) r ∷ change_row row.page (λ _. f row) (first_changed t f (suc n) rows)) (other_page r rows (behind r rows rise) (suc n) row left)
+        ∙ ap (λ l. r ∷ l) (rest left)
+
+  -- what was changed is what passed and comes before the stop
+  pub all_before : (n : ℕ) (rows : List Row) → InPageOrder rows → first_changed t f n rows ≡ change_rows (λ r. t r && is_before (slice_get (filter t rows) n) r) f rows
+  all_before zero [] rise = refl
+  all_before (suc n) [] rise = refl
+  all_before zero (r ∷ rows) rise = by (t r) refl (all_before zero rows (in_order r rows rise))
+    where
+    by : (b : Bool) → t r ≡ b → rows ≡ change_rows (λ x. t x && is_before (slice_get (filter t rows) 0) x) f rows → (r ∷ rows) ≡ change_rows (λ x. t x && is_before (slice_get (cond b (r ∷ filter t rows) (filter t rows)) 0) x) f (r ∷ rows)
+    by true is rest =
+        let here : (t r && comes_before r.page r.page) ≡ false = ap (λ b. t r && b) (before_irrefl r.page) ∙ and_false (t r) in
+        let none : change_rows (λ x. t x && comes_before x.page r.page) f rows ≡ rows = change_none (λ x. t x && comes_before x.page r.page) f rows (λ k d lt. ap (λ b. t (get_or rows k d) && b) (not_both r.page (get_or rows k d).page (behind r rows rise k d lt)) ∙ and_false (t (get_or rows k d))) in
+        λ i. cond (sym here i) (f r) r ∷ sym none i
+    by false is rest = λ i. cond (sym is i && is_before (slice_get (filter t rows) 0) r) (f r) r ∷ rest i
+  all_before (suc n) (r ∷ rows) rise = by (t r) refl (all_before n rows (in_order r rows rise)) (all_before (suc n) rows (in_order r rows rise))
+    where
+    by : (b : Bool) → t r ≡ b
+      → first_changed t f n rows ≡ change_rows (λ x. t x && is_before (slice_get (filter t rows) n) x) f rows
+      → first_changed t f (suc n) rows ≡ change_rows (λ x. t x && is_before (slice_get (filter t rows) (suc n)) x) f rows
+      → cond b (f r ∷ first_changed t f n rows) (r ∷ first_changed t f (suc n) rows) ≡ change_rows (λ x. t x && is_before (slice_get (cond b (r ∷ filter t rows) (filter t rows)) (suc n)) x) f (r ∷ rows)
+    by true is there rest = λ i. cond (sym is i && sym (before_stop r rows (behind r rows rise) n) i) (f r) r ∷ there i
+    by false is there rest = λ i. cond (sym is i && is_before (slice_get (filter t rows) (suc n)) r) (f r) r ∷ rest i
