@@ -1,12 +1,13 @@
 -- Rows that are changed one after another, in order.
 use Rattle.std.proofs.Common.{◌≡◌, ℕ, zero, suc, Bool, true, false, cond, List, [], ◌∷◌, get_or, Option, Some, None, refl, sym, ap, ◌∙◌, subst, arith}
-use Rattle.std.specs.Prelude.{All, filter, find, slice_get, ◌&&◌}
+use Rattle.std.specs.Prelude.{All, filter, find, slice_get, ◌&&◌, if◌then◌else◌}
 use Rattle.std.proofs.lemmas.List.Elements.{All-head, All-tail}
 use Rattle.std.proofs.lemmas.Option.{same_Some}
 use Rattle.ksm_base.specs.declared.row.Row.{Row}
-use Rattle.ksm_base.specs.Apply.{is_before}
-use Rattle.ksm_base.specs.Rows.{comes_before, same_page, InPageOrder, change_row, change_rows}
-use Rattle.ksm_book.specs.Unmerged.{first_changed}
+use Rattle.ksm_base.specs.Apply.{is_before, let_go, unshared}
+use Rattle.ksm_base.specs.Refusals.{is_of}
+use Rattle.ksm_base.specs.Rows.{comes_before, same_page, InPageOrder, change_row, change_rows, merged_state}
+use Rattle.ksm_book.specs.Unmerged.{first_changed, is_merged_of}
 use Rattle.ksm_book.proofs.Pages.{same_page_refl, before_irrefl, not_both, before_differs, after_differs}
 use Rattle.ksm_book.proofs.Lists.{pairs_head, pairs_tail, change_none}
 
@@ -112,3 +113,35 @@ module _ (t : Row → Bool) (f : Row → Row) (keeps : (r : Row) → (f r).page 
       → cond b (f r ∷ first_changed t f n rows) (r ∷ first_changed t f (suc n) rows) ≡ change_rows (λ x. t x && is_before (slice_get (cond b (r ∷ filter t rows) (filter t rows)) (suc n)) x) f (r ∷ rows)
     by true is there rest = λ i. cond (sym is i && sym (before_stop r rows (behind r rows rise) n) i) (f r) r ∷ there i
     by false is there rest = λ i. cond (sym is i && is_before (slice_get (filter t rows) (suc n)) r) (f r) r ∷ rest i
+
+-- rows that were unshared on the way are let go as they would have been
+module _ (guest : ℕ) (stop : Option Row) where
+  abbrev reached : Row → Bool
+  reached r = is_of guest r && is_before stop r
+
+  abbrev met : Row → Bool
+  met r = is_merged_of (Some guest) r && is_before stop r
+
+  met_reached : (a b c : Bool) → ((a && c) && b) ≡ true → (a && b) ≡ true
+  met_reached true true c e = refl
+  met_reached true false true e = e
+  met_reached true false false e = e
+  met_reached false b c e = e
+
+  still_reached : (r : Row) → reached (unshared r) ≡ reached r
+  still_reached r = by stop
+    where
+    by : (s : Option Row) → (is_of guest (unshared r) && is_before s (unshared r)) ≡ (is_of guest r && is_before s r)
+    by None = refl
+    by (Some s) = refl
+
+  let_go_one : (r : Row) → (let x : Row = if met r then unshared r else r in if reached x then let_go x else x) ≡ (if reached r then let_go r else r)
+  let_go_one r = by (met r) (met_reached (is_of guest r) (is_before stop r) (merged_state r.state))
+    where
+    by : (m : Bool) → (m ≡ true → reached r ≡ true) → (let x : Row = cond m (unshared r) r in cond (reached x) (let_go x) x) ≡ cond (reached r) (let_go r) r
+    by true e = ap (λ (b : Bool). cond b (let_go r) (unshared r)) (still_reached r ∙ e refl) ∙ sym (ap (λ (b : Bool). cond b (let_go r) r) (e refl))
+    by false e = refl
+
+  pub let_go_all : (rows : List Row) → change_rows reached let_go (change_rows met unshared rows) ≡ change_rows reached let_go rows
+  let_go_all [] = refl
+  let_go_all (r ∷ rows) = λ i. let_go_one r i ∷ let_go_all rows i
