@@ -24,8 +24,15 @@ use Rattle.frame_table.specs.declared.view.View.TheVariants.{Keeper, Reader, Spe
 use Rattle.frame_table.specs.Views.{KeeperLog, keeps_ledger, phase_of}
 use Rattle.frame_table.specs.Rule.{Holds, Tied, is_out}
 use Rattle.frame_table.specs.Keeping.{Keeps, keeper_word, keeper_written, found_by, knows}
+use Rattle.frame_table.specs.Steps.{IsKeeperStep}
 use Rattle.frame_table.proofs.KeeperWords.{keeper_words}
 use Rattle.frame_table.proofs.ReaderMay.{St}
+
+pub keeper_step_is : (s : core.State) (e : KeeperStep) → core_rule.Rule s → MayStep s.shape (ledger_of s) e → IsKeeperStep s e
+keeper_step_is s e rule may =
+    let half = keeper_half s rule e may in
+    let one = keeper_words s rule e half.0 half.1 in
+    record { found = half.0.0; next = half.0.1; steps = half.1; word = one.1; words = one.0; shape = half.4; seats = half.3; ledger = half.2; told = one.2 }
 
 -- of a seat that is not the keeper's, what is said does not speak of the ledger
 pub still_tied : (sh : Shape) (k k' : Ledger) (tally tally' : Tally) (j : ℕ) (v : View) → j ≢ 0 → Tied sh k tally j v → Tied sh k' tally' j v
@@ -58,25 +65,24 @@ module _ (slots : ℕ) (e : KeeperStep) (f : ℕ → ℕ) (log : KeeperLog) wher
       let k = ledger_of s in
       let i : ℕ = keeper_word (frames_of sh) e in
       let n : ℕ = get_or t.words i 0 in
-      let half = keeper_half s rule e may in
-      let one = keeper_words s rule e half.0 half.1 in
+      let made = keeper_step_is s e rule may in
       let same : n ≡ get_or (words_of s) i 0 = ap (λ (l : List ℕ). get_or l i 0) words in
-      let found : found_by e n ≡ half.0.0 = ap (found_by e) same ∙ one.1 in
-      let told : knows k e (found_by e n) = subst (knows k e) (sym found) one.2 in
+      let found : found_by e n ≡ made.found = ap (found_by e) same ∙ made.word in
+      let told : knows k e (found_by e n) = subst (knows k e) (sym found) made.told in
       let k' : Ledger = ledger_after sh k e (found_by e n) in
-      let after : ledger_of half.0.1 ≡ k' = half.2 ∙ ap (ledger_after sh k e) (sym found) in
+      let after : ledger_of made.next ≡ k' = made.ledger ∙ ap (ledger_after sh k e) (sym found) in
       let log' : KeeperLog = log ++ (e, found_by e n) ∷ [] in (
         Keeper sh k' tally log',
         keeps,
         tt,
         record {
-          state = half.0.1;
+          state = made.next;
           tally = tally;
-          shape = half.4;
-          rule = step_keeps s (event.Keeper e) half.0 half.1 rule;
-          words = (λ j. set (words j) i (writes n small told j)) ∙ (ap (λ (m : ℕ). set (words_of s) i (keeper_written k e m)) same ∙ one.0);
-          seats = ap (λ (l : List Phase). l ++ replicate tally.unmade Idle) (phases_stay t.views sh sh k k' tally tally log log' at) ∙ (seats ∙ ap (λ (l : List Phase). spent_phase ∷ l) (sym half.3));
-          out = ap (count_by is_out) half.3 ∙ out;
+          shape = made.shape;
+          rule = step_keeps s (event.Keeper e) (made.found, made.next) made.steps rule;
+          words = (λ j. set (words j) i (writes n small told j)) ∙ (ap (λ (m : ℕ). set (words_of s) i (keeper_written k e m)) same ∙ made.words);
+          seats = ap (λ (l : List Phase). l ++ replicate tally.unmade Idle) (phases_stay t.views sh sh k k' tally tally log log' at) ∙ (seats ∙ ap (λ (l : List Phase). spent_phase ∷ l) (sym made.seats));
+          out = ap (count_by is_out) made.seats ∙ out;
           views = λ j v is. subst (λ (x : Ledger). Tied sh x tally j v) (sym after) (tied_again t.views sh k k' tally tally log' views j v is);
         },
         (refl, told),

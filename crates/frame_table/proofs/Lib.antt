@@ -10,3 +10,4 @@ pub mod Looks
 pub mod Compared
 pub mod Opening
 pub mod Seatings
+pub mod Elements

@@ -27,19 +27,8 @@ use Rattle.frame_core.proofs.Flat.{words_get, words_set}
 use Rattle.frame_core.proofs.Moves.LoadCount.{count_at_most}
 use Rattle.frame_table.specs.Seat.{MayRead, word_of, written, seat_after, aim_of, aim_at}
 use Rattle.frame_table.specs.Reading.{tells, NamesFrame}
+use Rattle.frame_table.specs.Steps.{IsReaderStep}
 use Rattle.frame_table.proofs.Looked.{there}
-
--- The core's step, the word that it finds and what is there after it: the words, the seats, and what the keeper knows
-pub record ReaderHalf (s : State) (q : ℕ) (e : ReaderStep) (phase : Phase) : Type 0 where
-  pub found : ℕ
-  pub next : State
-  pub steps : reader_step s q e ≡ Some (found, next)
-  pub word : get_or (words_of s) (word_of s.shape e phase) 0 ≡ found
-  pub words : set (words_of s) (word_of s.shape e phase) (written e phase found) ≡ words_of next
-  pub shape : next.shape ≡ s.shape
-  pub seats : next.seats ≡ slice_set s.seats q (seat_after s.shape e phase found)
-  pub ledger : ledger_of next ≡ ledger_of s
-  pub told : tells s.shape e phase found
 
 -- there are at most 1,024 frames
 pub frames_at_most : (sh : Shape) → IsShape sh → frames_of sh ≤ 1024
@@ -56,7 +45,7 @@ module _ (s : State) (rule : Rule s) (q : ℕ) where
   -- ---------------------------------------------------------------- steps that load
 
   seat_only : (e : ReaderStep) (phase new : Phase) (change : Phase → Option (ℕ × Phase)) (n : ℕ) → slice_get s.seats q ≡ Some phase → reader_step s q e ≡ at_seat s q change → change phase ≡ Some (n, new)
-      → get_or (words_of s) (word_of s.shape e phase) 0 ≡ n → written e phase n ≡ n → new ≡ seat_after s.shape e phase n → tells s.shape e phase n → ReaderHalf s q e phase
+      → get_or (words_of s) (word_of s.shape e phase) 0 ≡ n → written e phase n ≡ n → new ≡ seat_after s.shape e phase n → tells s.shape e phase n → IsReaderStep s q e phase
   seat_only e phase new change n at is gives word same after told = record {
     found = n;
     next = record s { seats = slice_set s.seats q new };
@@ -98,20 +87,20 @@ module _ (s : State) (rule : Rule s) (q : ℕ) where
   place_read p place at = get_or_append_left (map place_word s.places) (flat_map frame_words s.frames) 0 p (omega (arith, length-map s.places place_word, slice_get_within s.places p place at))
       ∙ get_or_from_slice_get (map place_word s.places) p (place_word place) 0 (slice_get-map place_word s.places p ∙ ap (option_map place_word) at)
 
-  loads_place : (p : ℕ) → slice_get s.seats q ≡ Some Idle → p < F → ReaderHalf s q (LoadPlace p) Idle
+  loads_place : (p : ℕ) → slice_get s.seats q ≡ Some Idle → p < F → IsReaderStep s q (LoadPlace p) Idle
   loads_place p at below =
       let here = get_inside s.places p (omega (arith, rule.place_count)) in
       seat_only (LoadPlace p) Idle (aimed_at p here.0) (load_place_step s.places p) (place_word here.0) at refl
       (ap (option_map (λ place. (place_word place, aimed_at p place))) here.1) (place_read p here.0 here.1) refl (aimed p here.0 here.1) (names_frame p here.0 here.1)
 
-  loads_count : (aim : Aim) (failures : ℕ) → slice_get s.seats q ≡ Some (Placed aim failures) → ReaderHalf s q LoadCount (Placed aim failures)
+  loads_count : (aim : Aim) (failures : ℕ) → slice_get s.seats q ≡ Some (Placed aim failures) → IsReaderStep s q LoadCount (Placed aim failures)
   loads_count aim failures at =
       let here = get_inside s.frames aim.life.frame (rule.seats q (Placed aim failures) at).0.inside in
       seat_only LoadCount (Placed aim failures) _ (load_count_step s.frames) here.0.count at refl
       (ap (option_map (λ fr. (fr.count, cond (fr.count == 0) Idle (Counted aim failures fr.count)))) here.1)
       (words_get s rule aim.life.frame 0 here.0 here.1 (omega arith)) refl refl (count_at_most s aim.life.frame here.0 here.1 rule)
 
-  loads_generation : (aim : Aim) → slice_get s.seats q ≡ Some (Doubt aim) → ReaderHalf s q LoadGeneration (Doubt aim)
+  loads_generation : (aim : Aim) → slice_get s.seats q ≡ Some (Doubt aim) → IsReaderStep s q LoadGeneration (Doubt aim)
   loads_generation aim at =
       let here = get_inside s.frames aim.life.frame (rule.seats q (Doubt aim) at).inside in
       seat_only LoadGeneration (Doubt aim) _ (load_generation_step s.frames) here.0.generation at refl
@@ -124,7 +113,7 @@ module _ (s : State) (rule : Rule s) (q : ℕ) where
       let next : 2 + i ≡ suc (suc i) = omega arith in
       words_get s rule f (2 + i) fr at (omega arith) ∙ (ap (λ (j : ℕ). get_or (frame_words fr) j 0) next ∙ get_or_from_slice_get fr.content i w 0 here)
 
-  loads_word : (i : ℕ) (aim : Aim) (known : List (Option ℕ)) → i < PAGE_WORDS → slice_get s.seats q ≡ Some (Held aim known) → ReaderHalf s q (LoadWord i) (Held aim known)
+  loads_word : (i : ℕ) (aim : Aim) (known : List (Option ℕ)) → i < PAGE_WORDS → slice_get s.seats q ≡ Some (Held aim known) → IsReaderStep s q (LoadWord i) (Held aim known)
   loads_word i aim known below at =
       let held = rule.seats q (Held aim known) at in
       let here = get_inside s.frames aim.life.frame held.0.inside in
@@ -161,7 +150,7 @@ module _ (s : State) (rule : Rule s) (q : ℕ) where
   abbrev tried : Aim → ℕ → ℕ → Frame → ℕ × List Frame × Phase
   tried aim failures count fr = (fr.count, frames_if (fr.count == count) aim.life.frame fr, cond (fr.count == count) (Doubt aim) (cond (nat_le s.shape.tries (failures + 1)) Idle (Placed aim (failures + 1))))
 
-  exchanges : (aim : Aim) (failures count : ℕ) → slice_get s.seats q ≡ Some (Counted aim failures count) → ReaderHalf s q Exchange (Counted aim failures count)
+  exchanges : (aim : Aim) (failures count : ℕ) → slice_get s.seats q ≡ Some (Counted aim failures count) → IsReaderStep s q Exchange (Counted aim failures count)
   exchanges aim failures count at =
       let f = aim.life.frame in
       let here = get_inside s.frames f (rule.seats q (Counted aim failures count) at).0.inside in
@@ -181,7 +170,7 @@ module _ (s : State) (rule : Rule s) (q : ℕ) where
   abbrev released : Aim → Frame → ℕ × List Frame × Phase
   released aim fr = (fr.count, slice_set s.frames aim.life.frame (record fr { count = fr.count - 1 }), Idle)
 
-  gives_back : (aim : Aim) (phase : Phase) → slice_get s.seats q ≡ Some phase → aim.life.frame < length s.frames → leave_step s.frames phase ≡ given_back s.frames aim → word_of s.shape Leave phase ≡ count_at F aim.life.frame → is_on aim.life.frame phase ≡ true → ReaderHalf s q Leave phase
+  gives_back : (aim : Aim) (phase : Phase) → slice_get s.seats q ≡ Some phase → aim.life.frame < length s.frames → leave_step s.frames phase ≡ given_back s.frames aim → word_of s.shape Leave phase ≡ count_at F aim.life.frame → is_on aim.life.frame phase ≡ true → IsReaderStep s q Leave phase
   gives_back aim phase at inside is word on =
       let f = aim.life.frame in
       let here = get_inside s.frames f inside in
@@ -200,7 +189,7 @@ module _ (s : State) (rule : Rule s) (q : ℕ) where
 
   -- ---------------------------------------------------------------- any of them
 
-  pub reader_half : (e : ReaderStep) (phase : Phase) → slice_get s.seats q ≡ Some phase → MayRead s.shape e phase → ReaderHalf s q e phase
+  pub reader_half : (e : ReaderStep) (phase : Phase) → slice_get s.seats q ≡ Some phase → MayRead s.shape e phase → IsReaderStep s q e phase
   reader_half (LoadPlace p) Idle at may = loads_place p at may
   reader_half LoadCount (Placed aim failures) at may = loads_count aim failures at
   reader_half Exchange (Counted aim failures count) at may = exchanges aim failures count at

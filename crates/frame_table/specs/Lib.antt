@@ -5,6 +5,7 @@ pub mod Views
 pub mod Rule
 pub mod Reading
 pub mod Keeping
+pub mod Steps
 pub mod Rounds
 pub mod Lookup
 pub mod Equal

@@ -37,7 +37,7 @@ not_dying_kind x e is = grind (arith, e, ap dying_kind is)
 pub node_end : (node nodes size : ℕ) → node < nodes → node * size + size ≤ nodes * size
 node_end node nodes size lt = grind arith
 
-on_node : (node size g : ℕ) → node * size ≤ g → g < node * size + size → g / size ≡ node
+pub on_node : (node size g : ℕ) → node * size ≤ g → g < node * size + size → g / size ≡ node
 on_node node size g low high =
     let b : ℕ = g - node * size in
     let e : g ≡ node * size + b = omega arith in

@@ -15,3 +15,6 @@ pub mod Withdrawn
 pub mod Sharing
 pub mod Visiting
 pub mod Pruning
+pub mod Remounted
+pub mod Mounts
+pub mod Remounts

@@ -7,3 +7,4 @@ pub mod Plain
 pub mod Laid
 pub mod Whole
 pub mod Unmerged
+pub mod Mounted

@@ -27,7 +27,7 @@ fn is_dying(kind: Kind) -> bool
 }
 
 /// Reaps each dying one of `count` frames, ascending.
-fn reap_node(keeper: &mut Keeper, table: &FrameTable, first: u32, count: u32)
+pub fn reap_node(keeper: &mut Keeper, table: &FrameTable, first: u32, count: u32)
     requires own { keeper.old.table ≡ table.now }
     requires inside { first + count ≤ frames_of keeper.old.table.shape }
     requires small { first + count < 1000000 }
@@ -44,7 +44,7 @@ fn reap_node(keeper: &mut Keeper, table: &FrameTable, first: u32, count: u32)
 }
 
 /// The lowest free one of the frames of a node.
-fn lowest_free(keeper: &Keeper, shape: Shape, node: u32) -> Option<u32>
+pub fn lowest_free(keeper: &Keeper, shape: Shape, node: u32) -> Option<u32>
     requires shape { shape ≡ keeper.now.table.shape }
     requires checked { IsShape shape }
     requires node { node < shape.nodes }

@@ -3,6 +3,7 @@
 ghost use Rattle.std.specs.Prelude.{◌≡◌};
 ghost use Rattle.ksm_base.specs.Answers.{IsAnswerOrMemory};
 ghost use Rattle.ksm_base.specs.Apply.{after};
+ghost use Rattle.ksm_base.specs.Refusals.{changes_while_shared};
 ghost use Rattle.ksm_book.specs.Steps.{Does};
 ghost use Rattle.ksm_book.specs.Whole.{nodes_got, HasShown};
 
@@ -19,7 +20,7 @@ impl State {
         ensures frames { Does self.old.keeper self.new.keeper (nodes_got self.old.state result (Command.SetPagesToScan pages)) }
         ensures shown { HasShown self.old.state self.old.keeper self.new.keeper result (Command.SetPagesToScan pages) }
     {
-        if pages < 1 || pages > 1_000_000 {
+        if !(1..=1_000_000).contains(&pages) {
             return Err(Fault::BadValue);
         }
         let knobs = self.layout.knobs();
@@ -28,6 +29,13 @@ impl State {
             ..knobs
         });
         Ok(Reply::Done)
+    }
+
+    // Whether a knob would get another value while pages are shared.
+    fn would_change_shared(&self, knob: u32, value: u32) -> bool
+        ensures { result ≡ changes_while_shared self.now.state knob value }
+    {
+        value != knob && self.layout.count_shared() > 0
     }
 
     /// Sets whether pages of different nodes may be merged.
@@ -43,13 +51,13 @@ impl State {
             return Err(Fault::BadValue);
         }
         let knobs = self.layout.knobs();
+        if self.would_change_shared(knobs.merge_across_nodes, across) {
+            return Err(Fault::SharedPages);
+        }
         if across == knobs.merge_across_nodes {
             return Ok(Reply::Done);
         }
-        if self.layout.count_shared() > 0 {
-            return Err(Fault::SharedPages);
-        }
-        let _ = self.layout.prune(table);
+        self.layout.prune(table);
         self.layout.settle_all();
         self.layout.set_knobs(Knobs {
             merge_across_nodes: across,
@@ -67,17 +75,17 @@ impl State {
         ensures frames { Does self.old.keeper self.new.keeper (nodes_got self.old.state result (Command.SetLimit limit)) }
         ensures shown { HasShown self.old.state self.old.keeper self.new.keeper result (Command.SetLimit limit) }
     {
-        if limit < 2 || limit > 1024 {
+        if !(2..=1024).contains(&limit) {
             return Err(Fault::BadValue);
         }
         let knobs = self.layout.knobs();
+        if self.would_change_shared(knobs.max_page_sharing, limit) {
+            return Err(Fault::SharedPages);
+        }
         if limit == knobs.max_page_sharing {
             return Ok(Reply::Done);
         }
-        if self.layout.count_shared() > 0 {
-            return Err(Fault::SharedPages);
-        }
-        let _ = self.layout.prune(table);
+        self.layout.prune(table);
         self.layout.set_knobs(Knobs {
             max_page_sharing: limit,
             ..knobs

@@ -1,10 +1,11 @@
 //! Rows and dups as they lie in the keeper's frames: each call is one lawful change of both.
 
-ghost use Rattle.std.specs.Prelude.{◌≡◌, ◌<◌, ◌+◌, ◌⊎◌, [], true, false, None, Err, All, count_by, filter, find, map, is_some, ◌==◌, ◌&&◌, option_map, OnOk, OnErr, IfOk};
+ghost use Rattle.std.specs.Prelude.{◌≡◌, ◌<◌, ◌+◌, ◌⊎◌, [], true, false, None, Err, All, count_by, filter, find, map, is_some, ◌==◌, ◌&&◌, option_map, OnOk, OnErr, IfOk, IfErr};
 ghost use Rattle.ksm_base.specs.declared.fault.Fault.TheVariants.{Memory};
 ghost use Rattle.ksm_base.specs.declared.row.PageState.TheVariants.{Private, Merged};
 ghost use Rattle.ksm_base.specs.Rows.{row_at, with_row, with_dup, without_page, change_row, change_rows, merged_state, settled, has_items, is_stale, dup_numbered};
 ghost use Rattle.ksm_base.specs.Counting.{counters_from, shared_count};
+ghost use Rattle.ksm_base.specs.Reading.{items_of};
 ghost use Rattle.ksm_base.specs.State.{place_count};
 ghost use Rattle.ksm_base.specs.Visit.{best_dup, partner, new_place};
 ghost use Rattle.ksm_base.specs.Apply.{unshared};
@@ -13,6 +14,8 @@ ghost use Rattle.ksm_base.specs.Values.{IsShape, frames_of};
 ghost use Rattle.frame_core.specs.Ledger.{first_ledger};
 ghost use Rattle.ksm_book.specs.Laid.{IsHoused, Knows, IsOnItsOwn, LodgesAs, Joins, Founds, IsVacant, new_dup, elsewhere, Stores, LoadsIf};
 ghost use Rattle.ksm_book.specs.Steps.{Does};
+
+mod moving;
 
 use crate::dups::Dups;
 use crate::frames::{clear, load, release, share, take_frame, write};
@@ -134,6 +137,17 @@ impl Layout {
         ensures { result ≡ find (λ d. d.place == place && has_items self.now.rows d) self.now.dups }
     {
         self.dups.live_at(&self.rows, place)
+    }
+
+    /// The pages merged into the dup at a place, ascending; none where no dup with items stands there. Refused for memory alone.
+    pub fn mappers(&self, alloc: Global, place: u32) -> Result<Option<Vec<GuestPage>>, Fault>
+        ensures mappers { IfOk result (λ pages. option_map (λ v. v.items) pages ≡ option_map (items_of self.now.rows) (find (λ d. d.place == place && has_items self.now.rows d) self.now.dups)) }
+        ensures fault { IfErr result (λ fault. fault ≡ Memory) }
+    {
+        let Some(dup) = self.live_at(place) else {
+            return Ok(None);
+        };
+        Ok(Some(self.rows.items(alloc, dup.number)?))
     }
 
     /// The dup with a number.

@@ -7,6 +7,7 @@ mod entry;
 mod frames;
 mod knobs;
 mod layout;
+mod mounting;
 mod row;
 mod rows;
 mod scan;

@@ -4,7 +4,7 @@
 //! `next_merged` and `next_of` take as many, and one for each row that they pass over. All other calls walk over the
 //! rows, but for `len`.
 
-ghost use Rattle.std.specs.Prelude.{◌≡◌, ◌<◌, ◌≤◌, [], None, Some, length, filter, find, count_by, map, insert, remove, slice_set, MatchOption, OnOk, OnErr, IfOk, IfErr, Err, is_some, true, option_map, ◌&&◌};
+ghost use Rattle.std.specs.Prelude.{◌≡◌, ◌<◌, ◌≤◌, [], None, Some, length, filter, find, count_by, map, insert, remove, slice_set, MatchOption, IfOk, IfErr, OnOk, OnErr, Err, is_some, true, option_map, ◌&&◌};
 ghost use Rattle.std.specs.List.{list_any};
 ghost use Rattle.std.specs.Map.Iter.{deref_pair};
 ghost use Rattle.ksm_base.specs.declared.fault.Fault.TheVariants.{Memory};
@@ -209,17 +209,17 @@ impl Rows {
         )
     }
 
-    /// The pages of the items of the dup with this number, ascending. Refused for memory alone.
+    /// The pages merged into the dup with this number, ascending. Refused for memory alone.
     pub fn items(&self, alloc: Global, number: u64) -> Result<Vec<GuestPage>, Fault>
-        ensures pages { IfOk result (λ pages. pages.items ≡ map (λ r. r.page) (filter (λ r. merged_into number r.state) self.now.rows)) }
-        ensures fault { IfErr result (λ e. e ≡ Memory) }
+        ensures items { IfOk result (λ pages. pages.items ≡ map (λ r. r.page) (filter (λ r. merged_into number r.state) self.now.rows)) }
+        ensures fault { IfErr result (λ fault. fault ≡ Memory) }
     {
-        let pages = self
-            .entries
-            .iter()
-            .filter(|(_, entry)| is_item(entry.state, number))
-            .map(|(page, _)| *page)
-            .collect(alloc)?;
+        let mut pages = Vec::new(alloc);
+        for (page, entry) in &self.entries {
+            if is_item(entry.state, number) {
+                pages.push(*page)?;
+            }
+        }
         Ok(pages)
     }
 

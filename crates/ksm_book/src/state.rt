@@ -1,12 +1,13 @@
 //! The state of the book, and its commands.
 
-ghost use Rattle.std.specs.Prelude.{◌≡◌, [], option_map};
+ghost use Rattle.std.specs.Prelude.{◌≡◌, IfOk, IfErr, option_map};
 ghost use Rattle.ksm_base.specs.Values.{IsShape};
 ghost use Rattle.ksm_base.specs.State.{opening};
 ghost use Rattle.ksm_base.specs.Answers.{IsAnswerOrMemory};
 ghost use Rattle.ksm_base.specs.Apply.{after};
 ghost use Rattle.ksm_base.specs.Counting.{counters_of};
-ghost use Rattle.ksm_base.specs.Reading.{bytes_of, ticket_of};
+ghost use Rattle.ksm_base.specs.Reading.{bytes_of, mappers_of, ticket_of};
+ghost use Rattle.ksm_base.specs.declared.fault.Fault.TheVariants.{Memory};
 ghost use Rattle.ksm_base.specs.Refusals.{is_known};
 ghost use Rattle.frame_core.specs.Ledger.{first_ledger};
 ghost use Rattle.ksm_book.specs.Laid.{LoadsIf};
@@ -164,6 +165,14 @@ impl State {
             PageState::Merged(number) => Some(self.layout.numbered(number)?.place),
             _ => None,
         }
+    }
+
+    /// The pages merged into the dup at a place.
+    pub fn mappers(&self, alloc: Global, place: u32) -> Result<Option<Vec<GuestPage>>, Fault>
+        ensures mappers { IfOk result (λ pages. option_map (λ v. v.items) pages ≡ mappers_of place self.now.state) }
+        ensures fault { IfErr result (λ fault. fault ≡ Memory) }
+    {
+        self.layout.mappers(alloc, place)
     }
 
     pub fn knobs(&self) -> Knobs

@@ -1,12 +1,19 @@
-use Rattle.std.proofs.Common.{◌≡◌, ◌∙◌, Ok, sym, ap, subst, rules}
+use Rattle.std.proofs.Common.{◌≡◌, ◌≤◌, None, false, subst, arith, rules}
+use Rattle.std.proofs.lemmas.Bool.Decides.{nat_tests}
 use Rattle.ksm_base.specs.declared.command.Command.TheVariants.{SetLimit}
 use Rattle.ksm_base.specs.declared.reply.Reply.TheVariants.{Done}
+use Rattle.ksm_base.specs.Refusals.{changes_while_shared, refusal}
 use Rattle.ksm_base.specs.Sound.{IsSound}
-use Rattle.ksm_base.proofs.SoundSteps.{sound_after}
+use Rattle.ksm_base.proofs.SoundKnobs.{sound_set_limit}
 use Rattle.ksm_book.specs.Laid.{state_of}
 use Rattle.ksm_book.proofs.state.State.set_limit.Goals as goal
 
 pub invariant_of-self : goal.invariant_of-self
 invariant_of-self c =
     let s = c.self.inside in
-    subst IsSound (search rules) (sound_after (state_of s.layout s.cursor s.passes) (SetLimit c.args.limit) (Ok Done) c.self.invariant (search rules))
+    let b = state_of s.layout s.cursor s.passes in
+    let inside = c.if-not-contains.ensures in
+    let within : (2 ≤ c.args.limit) × (c.args.limit ≤ 1024) = search rules in
+    let calm : changes_while_shared b b.knobs.max_page_sharing c.args.limit ≡ false = search rules in
+    let accepted : refusal b (SetLimit c.args.limit) ≡ None = grind (arith, nat_tests, within.0, within.1, calm) in
+    subst IsSound (search rules) (sound_set_limit b c.args.limit Done accepted c.self.invariant)

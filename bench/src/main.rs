@@ -1,0 +1,93 @@
+//! `lookups [ROUNDS [RUNS]]`: the processor time of a lookup (find, read all words, leave) on a table of 1,024 frames: of the table, by
+//! the program `lookup_times` of this repository, and of the same words in plain Rust, by this program. Both run as programs of their own,
+//! in turn; what a run with no lookup takes is taken off.
+//!
+//! `lookups plain PLACES THREADS ROUNDS` is the plain form alone.
+
+mod plain;
+
+use std::process::{Command, Output};
+
+/// The words of a page, as `PAGE_WORDS` of `ksm_base`.
+const PAGE_WORDS: usize = 2;
+
+const TABLE: &str = concat!(
+    env!("CARGO_MANIFEST_DIR"),
+    "/../crates/lookup_times/out/lookup_times"
+);
+
+#[repr(C)]
+#[derive(Default)]
+struct Usage {
+    user: [i64; 2],
+    system: [i64; 2],
+    other: [i64; 14],
+}
+
+unsafe extern "C" {
+    fn getrusage(who: i32, usage: *mut Usage) -> i32;
+}
+
+/// The nanoseconds that programs run by this one have been on a processor (Linux, 64 bits).
+fn children() -> f64 {
+    const CHILDREN: i32 = -1;
+    let mut usage = Usage::default();
+    // Safety: `usage` is room for what the call writes.
+    assert_eq!(unsafe { getrusage(CHILDREN, &mut usage) }, 0);
+    let nanoseconds = |time: [i64; 2]| time[0] as f64 * 1e9 + time[1] as f64 * 1e3;
+    nanoseconds(usage.user) + nanoseconds(usage.system)
+}
+
+/// What a program prints, and the processor time that it took.
+fn run(program: &str, first: &[&str], places: &str, threads: usize, rounds: u64) -> (String, f64) {
+    let before = children();
+    let Output { stdout, status, .. } = Command::new(program)
+        .args(first)
+        .args([places, &threads.to_string(), &rounds.to_string()])
+        .output()
+        .unwrap_or_else(|error| panic!("{program}: {error}; build it by `rt run` in crates/lookup_times"));
+    assert!(status.success(), "{program}: {status}");
+    (String::from_utf8(stdout).unwrap(), children() - before)
+}
+
+fn measure(rounds: u64, runs: u32) {
+    let this = std::env::current_exe().unwrap();
+    let subjects = [
+        ("plain Rust", this.to_str().unwrap(), &["plain"][..]),
+        ("the table", TABLE, &[][..]),
+    ];
+    println!("best of {runs}, {rounds} lookups a thread; processor ns of a lookup, {PAGE_WORDS} words");
+    for places in ["hot", "spread"] {
+        for threads in [1, 2, 4] {
+            let mut best = [f64::INFINITY; 2];
+            for _ in 0..runs {
+                let mut sums = Vec::new();
+                for (best, (_, program, first)) in best.iter_mut().zip(subjects) {
+                    let (_, idle) = run(program, first, places, threads, 0);
+                    let (sum, time) = run(program, first, places, threads, rounds);
+                    *best = best.min((time - idle) / (threads as u64 * rounds) as f64);
+                    sums.push(sum);
+                }
+                assert_eq!(sums[0], sums[1], "the words read");
+            }
+            println!(
+                "{places:6} {threads} threads: {:7.1} ns plain, {:7.1} ns table, {:5.2}x",
+                best[0],
+                best[1],
+                best[1] / best[0]
+            );
+        }
+    }
+}
+
+fn main() {
+    let words: Vec<String> = std::env::args().skip(1).collect();
+    let number = |at: usize| words.get(at).map(|word| word.parse().expect("a number"));
+    if words.first().is_some_and(|word| word == "plain") {
+        let threads = number(2).unwrap_or(1) as usize;
+        let spread = words.get(1).is_none_or(|word| word != "hot");
+        println!("{}", plain::run::<PAGE_WORDS>(spread, threads, number(3).unwrap_or(1)));
+    } else {
+        measure(number(0).unwrap_or(2_000_000), number(1).unwrap_or(5) as u32);
+    }
+}

@@ -1,0 +1,13 @@
+use Rattle.std.proofs.Common.{◌≡◌, length, Some}
+use Rattle.frame_core.specs.declared.frame.Kind.TheVariants.{Dying}
+use Rattle.frame_core.specs.declared.seat.Life.{Life}
+use Rattle.frame_core.specs.Ledger.{frame_at, named_at}
+use Rattle.frame_table.proofs.tests.free.Given as goal
+
+abbrev pub invariant-loop : goal.invariant-loop
+invariant-loop l = record {
+  own : l.keeper.table ≡ l.table;
+  width : length l.keeper.ledger.frames ≡ 1;
+  named : (life : Life) → named_at l.keeper.ledger 0 ≡ Some life → life.frame ≡ 0;
+  kind : (frame_at l.keeper.ledger 0).kind ≡ Dying;
+}

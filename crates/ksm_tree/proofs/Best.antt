@@ -1,0 +1,232 @@
+-- The best dup to join: a walk over a group, keeping the better of two, ends at the one that the definition chooses of all.
+use Rattle.std.proofs.Common.{◌≡◌, ◌∙◌, ℕ, suc, ◌<◌, ◌≤◌, Bool, true, false, List, [], ◌∷◌, ◌++◌, length, get_or, map, append_assoc, append-nil, Option, None, Some, refl, sym, ap, inl, inr, arith}
+use Rattle.std.specs.Prelude.{◌==◌, ◌&&◌, ◌||◌, not, nat_lt, nat_le, All, filter, find, option_map, bytes_eq, if◌then◌else◌}
+use Rattle.std.specs.List.{list_all}
+use Rattle.std.proofs.lemmas.Bool.{and_parts, cases_Bool, false≢true}
+use Rattle.std.proofs.lemmas.Bool.Decides.{nat_tests}
+use Rattle.std.proofs.lemmas.Option.{none-some, same_Some}
+use Rattle.std.proofs.lemmas.List.Elements.{All-head, All-tail, All-append, All-weaker, All-cons}
+use Rattle.ksm_base.specs.declared.row.DupRow.{DupRow}
+use Rattle.ksm_base.specs.Rows.{InPlaceOrder}
+use Rattle.ksm_rmap.proofs.Ordered.{pairs_head, pairs_tail}
+use Rattle.ksm_tree.specs.declared.dup.Dup.{Dup}
+use Rattle.ksm_tree.specs.Choosing.{may_join, is_no_worse, is_no_rival, is_best, best_of, has_room, better}
+use Rattle.ksm_tree.specs.Dups.{rows_of, stands_at, dup_at}
+use Rattle.ksm_tree.specs.Index.{in_group, group_places}
+use Rattle.ksm_tree.proofs.Changes.{all_rows}
+use Rattle.ksm_tree.proofs.Rows.{found_in, found_passes}
+
+-- the order of dups to join
+worse_refl : (d : Dup) → is_no_worse d d ≡ true
+worse_refl d = grind (arith, nat_tests)
+
+worse_trans : (d e f : Dup) → is_no_worse d e ≡ true → is_no_worse e f ≡ true → is_no_worse d f ≡ true
+worse_trans d e f first second = grind (arith, nat_tests)
+
+worse_total : (d e : Dup) → is_no_worse d e ≡ false → is_no_worse e d ≡ true
+worse_total d e not_first = grind (arith, nat_tests)
+
+-- a walk that keeps the better of two, over dups that pass a test
+module _ (may : Dup → Bool) where
+  abbrev rival : Dup → Dup → Bool
+  rival d e = not (may e) || is_no_worse d e
+
+  abbrev top : List Dup → Dup → Bool
+  top dups d = may d && list_all (rival d) dups
+
+  abbrev kept : Option Dup → Dup → Option Dup
+  kept None d = if may d then Some d else None
+  kept (Some best) d = if may d && not (is_no_worse best d) then Some d else Some best
+
+  abbrev walked : Option Dup → List Dup → Option Dup
+  walked acc [] = acc
+  walked acc (d ∷ dups) = walked (kept acc d) dups
+
+  -- what a walk over the first dups has found
+  record IsTop (dups : List Dup) (acc : Option Dup) : Type 0 where
+    first : acc ≡ find (top dups) dups
+    none : acc ≡ None → All (λ d. may d ≡ false) dups
+
+  all_of : (p : Dup → Bool) (dups : List Dup) → list_all p dups ≡ true → All (λ d. p d ≡ true) dups
+  all_of p [] each = λ k d lt. absurd (omega arith)
+  all_of p (d ∷ dups) each =
+      let here : p d ≡ true = grind (arith, each) in
+      let rest : list_all p dups ≡ true = grind (arith, each, here) in
+      All-cons (λ e. p e ≡ true) d dups here (all_of p dups rest)
+
+  of_all : (p : Dup → Bool) (dups : List Dup) → All (λ d. p d ≡ true) dups → list_all p dups ≡ true
+  of_all p [] each = refl
+  of_all p (d ∷ dups) each =
+      let here = All-head (λ e. p e ≡ true) d dups each in
+      let rest = of_all p dups (All-tail (λ e. p e ≡ true) d dups each) in
+      grind (arith, here, rest)
+
+  all_snoc : (p : Dup → Bool) (dups : List Dup) (d : Dup) → list_all p (dups ++ d ∷ []) ≡ (list_all p dups && p d)
+  all_snoc p [] d = grind arith
+  all_snoc p (e ∷ dups) d = let rest = all_snoc p dups d in grind (arith, rest)
+
+  find_none : (p : Dup → Bool) (dups : List Dup) (d : Dup) → All (λ e. p e ≡ false) dups → p d ≡ true → find p (dups ++ d ∷ []) ≡ Some d
+  find_none p [] d none passes = grind (arith, passes)
+  find_none p (e ∷ dups) d none passes =
+      let here = All-head (λ e. p e ≡ false) e dups none in
+      let rest = find_none p dups d (All-tail (λ e. p e ≡ false) e dups none) passes in
+      grind (arith, here, rest)
+
+  -- a search by a stronger test that the found one passes too
+  find_still : (p q : Dup → Bool) (dups : List Dup) (d b : Dup) → ((e : Dup) → p e ≡ false → q e ≡ false) → q b ≡ true → find p dups ≡ Some b → find q (dups ++ d ∷ []) ≡ Some b
+  find_still p q [] d b stronger passes found = absurd (none-some b found)
+  find_still p q (e ∷ dups) d b stronger passes found =
+      elim (cases_Bool (p e)) [
+        | inl here ↦
+            let same : e ≡ b = same_Some e b (grind (arith, here, found)) in
+            let now : q e ≡ true = rw same passes in
+            grind (arith, now, same)
+        | inr away ↦
+            let not_now = stronger e away in
+            let rest = find_still p q dups d b stronger passes (grind (arith, away, found)) in
+            grind (arith, not_now, rest)
+      ]
+
+  -- a search by the same test, which the last one fails
+  find_same : (p q : Dup → Bool) (dups : List Dup) (d : Dup) → ((e : Dup) → q e ≡ p e) → q d ≡ false → find q (dups ++ d ∷ []) ≡ find p dups
+  find_same p q [] d same fails = grind (arith, fails)
+  find_same p q (e ∷ dups) d same fails =
+      let here = same e in
+      let rest = find_same p q dups d same fails in
+      grind (arith, here, rest)
+
+  top_snoc : (dups : List Dup) (d e : Dup) → top (dups ++ d ∷ []) e ≡ (top dups e && rival e d)
+  top_snoc dups d e = let h = all_snoc (rival e) dups d in grind (arith, h)
+
+  -- one step more of the walk
+  passed_over : (dups : List Dup) (acc : Option Dup) (d : Dup) → IsTop dups acc → may d ≡ false → IsTop (dups ++ d ∷ []) acc
+  passed_over dups acc d h fails =
+      record {
+        first =
+            h.first
+            ∙ sym (find_same (top dups) (top (dups ++ d ∷ [])) dups d
+            (λ e. let s = top_snoc dups d e in grind (arith, s, fails))
+            (grind (arith, fails)));
+        none = λ is. All-append (λ e. may e ≡ false) dups (d ∷ []) (h.none is) (All-cons (λ e. may e ≡ false) d [] fails (λ k e lt. absurd (omega arith)));
+      }
+
+  started : (dups : List Dup) (d : Dup) → All (λ e. may e ≡ false) dups → may d ≡ true → IsTop (dups ++ d ∷ []) (Some d)
+  started dups d none passes =
+      let here : top (dups ++ d ∷ []) d ≡ true =
+      (let each = of_all (rival d) dups (All-weaker (λ e. may e ≡ false) (λ e. rival d e ≡ true) (λ e h. grind (arith, h)) dups none) in
+      let s = top_snoc dups d d in
+      let r = worse_refl d in
+      grind (arith, s, each, passes, r)) in
+      let others : All (λ e. top (dups ++ d ∷ []) e ≡ false) dups = All-weaker (λ e. may e ≡ false) (λ e. top (dups ++ d ∷ []) e ≡ false) (λ e h. grind (arith, h)) dups none in
+      record { first = sym (find_none (top (dups ++ d ∷ [])) dups d others here); none = λ is. absurd (none-some d (sym is)) }
+
+  held : (dups : List Dup) (b d : Dup) → IsTop dups (Some b) → is_no_worse b d ≡ true → IsTop (dups ++ d ∷ []) (Some b)
+  held dups b d h better_still =
+      let found = sym h.first in
+      let was = found_passes (top dups) dups b found in
+      let here : top (dups ++ d ∷ []) b ≡ true = (let s = top_snoc dups d b in grind (arith, s, was, better_still)) in
+      record {
+        first = sym (find_still (top dups) (top (dups ++ d ∷ [])) dups d b (λ e fails. let s = top_snoc dups d e in grind (arith, s, fails)) here found);
+        none = λ is. absurd (none-some b (sym is));
+      }
+
+  rival_through : (b d e : Dup) → is_no_worse d b ≡ true → rival b e ≡ true → rival d e ≡ true
+  rival_through b d e above r =
+      elim (cases_Bool (may e)) [
+        | inl passes ↦ let h : is_no_worse b e ≡ true = grind (arith, passes, r) in let t = worse_trans d b e above h in grind (arith, t)
+        | inr fails ↦ grind (arith, fails)
+      ]
+
+  outdone : (dups : List Dup) (b d e : Dup) → may d ≡ true → is_no_worse b d ≡ false → rival b e ≡ true → top (dups ++ d ∷ []) e ≡ false
+  outdone dups b d e passes worse r =
+      elim (cases_Bool (may e)) [
+        | inl also ↦ elim (cases_Bool (is_no_worse e d)) [
+          | inl no_worse ↦
+              let h : is_no_worse b e ≡ true = grind (arith, also, r) in
+              absurd (false≢true (sym worse ∙ worse_trans b e d h no_worse))
+          | inr e_worse ↦ let s = top_snoc dups d e in grind (arith, s, passes, e_worse)
+        ]
+        | inr fails ↦ grind (arith, fails)
+      ]
+
+  beaten : (dups : List Dup) (b d : Dup) → IsTop dups (Some b) → may d ≡ true → is_no_worse b d ≡ false → IsTop (dups ++ d ∷ []) (Some d)
+  beaten dups b d h passes worse =
+      let was = found_passes (top dups) dups b (sym h.first) in
+      let rivals : list_all (rival b) dups ≡ true = (and_parts (may b) (list_all (rival b) dups) was).1 in
+      let above : is_no_worse d b ≡ true = worse_total b d worse in
+      let each = all_of (rival b) dups rivals in
+      let here : top (dups ++ d ∷ []) d ≡ true =
+      (let all_rivals = of_all (rival d) dups (All-weaker (λ e. rival b e ≡ true) (λ e. rival d e ≡ true) (λ e r. rival_through b d e above r) dups each) in
+      let s = top_snoc dups d d in
+      let r = worse_refl d in
+      grind (arith, s, all_rivals, passes, r)) in
+      let others : All (λ e. top (dups ++ d ∷ []) e ≡ false) dups = All-weaker (λ e. rival b e ≡ true) (λ e. top (dups ++ d ∷ []) e ≡ false) (λ e r. outdone dups b d e passes worse r) dups each in
+      record { first = sym (find_none (top (dups ++ d ∷ [])) dups d others here); none = λ is. absurd (none-some d (sym is)) }
+
+  walk_step : (dups : List Dup) (acc : Option Dup) (d : Dup) → IsTop dups acc → IsTop (dups ++ d ∷ []) (kept acc d)
+  walk_step dups None d h =
+      elim (cases_Bool (may d)) [
+        | inl passes ↦ rw passes (started dups d (h.none refl) passes)
+        | inr fails ↦ rw fails (passed_over dups None d h fails)
+      ]
+  walk_step dups (Some b) d h =
+      elim (cases_Bool (may d)) [
+        | inl passes ↦ elim (cases_Bool (is_no_worse b d)) [
+          | inl better_still ↦ rw (passes, better_still) (held dups b d h better_still)
+          | inr worse ↦ rw (passes, worse) (beaten dups b d h passes worse)
+        ]
+        | inr fails ↦ rw fails (passed_over dups (Some b) d h fails)
+      ]
+
+  walk_from : (done : List Dup) (acc : Option Dup) (rest : List Dup) → IsTop done acc → IsTop (done ++ rest) (walked acc rest)
+  walk_from done acc [] h = rw append-nil h
+  walk_from done acc (d ∷ rest) h = rw (← append_assoc done (d ∷ []) rest) (walk_from (done ++ d ∷ []) (kept acc d) rest (walk_step done acc d h))
+
+  pub walk_top : (dups : List Dup) → walked None dups ≡ find (top dups) dups
+  walk_top dups = (walk_from [] None dups (record { first = refl; none = λ is k d lt. absurd (omega arith) })).first
+
+-- each dup is what is found at its place
+found_self : (dups : List Dup) → InPlaceOrder (rows_of dups) → All (λ d. dup_at d.row.place dups ≡ Some d) dups
+found_self [] rise = λ k d lt. absurd (omega arith)
+found_self (d ∷ dups) rise =
+    let first = pairs_head (λ a b. (a.place < b.place) × ((a.number == b.number) ≡ false)) d.row (rows_of dups) rise in
+    let rest = found_self dups (pairs_tail (λ a b. (a.place < b.place) × ((a.number == b.number) ≡ false)) d.row (rows_of dups) rise) in
+    All-cons (λ e. dup_at e.row.place (d ∷ dups) ≡ Some e) d dups (grind (arith, nat_tests))
+    (λ k e lt. let behind = (all_rows (λ r. d.row.place < r.place) dups (All-weaker (λ r. (d.row.place < r.place) × ((d.row.number == r.number) ≡ false)) (λ r. d.row.place < r.place) (λ r h. h.0) (rows_of dups) first)) k e lt in let found = rest k e lt in grind (arith, nat_tests, behind, found))
+
+-- what a walk over places keeps
+abbrev pub joined : ℕ → Option Dup → Option Dup → Option Dup
+joined limit acc None = acc
+joined limit acc (Some d) = better limit acc d
+
+abbrev pub folded : ℕ → List Dup → Option Dup → List ℕ → Option Dup
+folded limit dups acc [] = acc
+folded limit dups acc (p ∷ places) = folded limit dups (joined limit acc (dup_at p dups)) places
+
+better_kept : (t : ℕ) (b : List ℕ) (limit : ℕ) (acc : Option Dup) (d : Dup) → in_group t b d.row ≡ true → better limit acc d ≡ kept (may_join t b limit) acc d
+better_kept t b limit None d inside = grind (arith, inside)
+better_kept t b limit (Some best) d inside = grind (arith, inside)
+
+passed_group : (t : ℕ) (b : List ℕ) (limit : ℕ) (acc : Option Dup) (d : Dup) → in_group t b d.row ≡ false → acc ≡ kept (may_join t b limit) acc d
+passed_group t b limit None d outside = grind (arith, outside)
+passed_group t b limit (Some best) d outside = grind (arith, outside)
+
+fold_group : (t : ℕ) (b : List ℕ) (limit : ℕ) (all dups : List Dup) (acc : Option Dup) → All (λ d. dup_at d.row.place all ≡ Some d) dups → folded limit all acc (group_places t b (rows_of dups)) ≡ walked (may_join t b limit) acc dups
+fold_group t b limit all [] acc found = refl
+fold_group t b limit all (d ∷ dups) acc found =
+    let here = All-head (λ e. dup_at e.row.place all ≡ Some e) d dups found in
+    let rest = All-tail (λ e. dup_at e.row.place all ≡ Some e) d dups found in
+    elim (cases_Bool (in_group t b d.row)) [
+      | inl inside ↦
+          rw inside (ap (λ v. folded limit all (joined limit acc v) (group_places t b (rows_of dups))) here
+          ∙ ap (λ v. folded limit all v (group_places t b (rows_of dups))) (better_kept t b limit acc d inside)
+          ∙ fold_group t b limit all dups (kept (may_join t b limit) acc d) rest)
+      | inr outside ↦
+          rw outside (ap (λ v. folded limit all v (group_places t b (rows_of dups))) (passed_group t b limit acc d outside)
+          ∙ fold_group t b limit all dups (kept (may_join t b limit) acc d) rest)
+    ]
+
+-- the walk over a group's places ends at the best dup
+pub folded_best : (t : ℕ) (b : List ℕ) (limit : ℕ) (dups : List Dup) → InPlaceOrder (rows_of dups) → folded limit dups None (group_places t b (rows_of dups)) ≡ best_of t b limit dups
+folded_best t b limit dups rise =
+    fold_group t b limit dups dups None (found_self dups rise) ∙ walk_top (may_join t b limit) dups

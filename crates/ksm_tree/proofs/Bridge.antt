@@ -1,0 +1,86 @@
+-- Tests over dups with items are the book's tests over rows, where the items are counted.
+use Rattle.std.proofs.Common.{◌≡◌, ◌∙◌, ℕ, Bool, true, false, List, [], ◌∷◌, length, map, Option, None, Some, refl, sym, ap, inl, inr, arith}
+use Rattle.std.specs.Prelude.{◌&&◌, ◌||◌, ◌==◌, not, nat_lt, nat_le, All, filter, find, option_map, bytes_eq}
+use Rattle.std.specs.List.{list_all}
+use Rattle.std.proofs.lemmas.Bool.{cases_Bool}
+use Rattle.std.proofs.lemmas.List.Elements.{All-head, All-tail, All-weaker}
+use Rattle.ksm_base.specs.declared.knobs.Knobs.{Knobs}
+use Rattle.ksm_base.specs.declared.row.DupRow.{DupRow}
+use Rattle.ksm_base.specs.declared.row.Row.{Row}
+use Rattle.ksm_base.specs.Rows.{item_count, has_items, is_stale as is_stale_row}
+use Rattle.ksm_base.specs.State.{tree_of}
+use Rattle.ksm_base.specs.Visit.{best_dup, chosen_place, empty_place, new_place, may_join as row_may_join, is_no_rival as is_no_rival_row, is_no_worse as is_no_worse_row, is_best as is_best_row}
+use Rattle.ksm_tree.specs.declared.dup.Dup.{Dup}
+use Rattle.ksm_tree.specs.Bridge.{AreCounted, place_in}
+use Rattle.ksm_tree.specs.Choosing.{best_of, choice_of, chosen, is_best, is_no_rival, is_no_worse, may_join}
+use Rattle.ksm_tree.specs.Dups.{DupsState, is_live, is_stale, rows_of}
+
+-- two tests that agree on each dup find one row, and leave the same rows
+found_alike : (test : Dup → Bool) (by : DupRow → Bool) (dups : List Dup) → All (λ d. test d ≡ by d.row) dups → option_map (λ d. d.row) (find test dups) ≡ find by (rows_of dups)
+found_alike test by [] same = refl
+found_alike test by (d ∷ dups) same =
+    let here = All-head (λ e. test e ≡ by e.row) d dups same in
+    let rest = found_alike test by dups (All-tail (λ e. test e ≡ by e.row) d dups same) in
+    elim (cases_Bool (by d.row)) [
+      | inl passes ↦ grind (arith, here, passes, rest)
+      | inr fails ↦ grind (arith, here, fails, rest)
+    ]
+
+left_alike : (test : Dup → Bool) (by : DupRow → Bool) (dups : List Dup) → All (λ d. test d ≡ by d.row) dups → rows_of (filter test dups) ≡ filter by (rows_of dups)
+left_alike test by [] same = refl
+left_alike test by (d ∷ dups) same =
+    let here = All-head (λ e. test e ≡ by e.row) d dups same in
+    let rest = left_alike test by dups (All-tail (λ e. test e ≡ by e.row) d dups same) in
+    elim (cases_Bool (by d.row)) [
+      | inl passes ↦ grind (arith, here, passes, rest)
+      | inr fails ↦ grind (arith, here, fails, rest)
+    ]
+
+all_alike : (test : Dup → Bool) (by : DupRow → Bool) (dups : List Dup) → All (λ d. test d ≡ by d.row) dups → list_all test dups ≡ list_all by (rows_of dups)
+all_alike test by [] same = refl
+all_alike test by (d ∷ dups) same =
+    let here = All-head (λ e. test e ≡ by e.row) d dups same in
+    let rest = all_alike test by dups (All-tail (λ e. test e ≡ by e.row) d dups same) in
+    grind (arith, here, rest)
+
+module _ (rows : List Row) where
+  abbrev IsCounted : Dup → Type 0
+  IsCounted d = length d.items ≡ item_count rows d.row
+
+  pub stale_alike : (dups : List Dup) → AreCounted rows dups → option_map (λ d. d.row) (find is_stale dups) ≡ find (is_stale_row rows) (rows_of dups)
+  stale_alike dups counted = found_alike is_stale (is_stale_row rows) dups (All-weaker IsCounted (λ d. is_stale d ≡ is_stale_row rows d.row) (λ d n. ap (λ k. k == 0) n) dups counted)
+
+  pub live_alike : (dups : List Dup) → AreCounted rows dups → rows_of (filter is_live dups) ≡ filter (has_items rows) (rows_of dups)
+  live_alike dups counted = left_alike is_live (has_items rows) dups (All-weaker IsCounted (λ d. is_live d ≡ has_items rows d.row) (λ d n. ap (nat_lt 0) n) dups counted)
+
+  module _ (knobs : Knobs) (row : Row) where
+    joins_alike : (d : Dup) → IsCounted d → may_join (tree_of knobs row) row.bytes knobs.max_page_sharing d ≡ row_may_join knobs rows row d.row
+    joins_alike d n = ap (λ k. d.row.tree == tree_of knobs row && bytes_eq d.row.bytes row.bytes && nat_le 1 k && nat_lt k knobs.max_page_sharing) n
+
+    worse_alike : (d e : Dup) → IsCounted d → IsCounted e → is_no_worse d e ≡ is_no_worse_row rows d.row e.row
+    worse_alike d e n m = λ i. nat_lt (m i) (n i) || (m i == n i && nat_le d.row.number e.row.number)
+
+    rival_alike : (d e : Dup) → IsCounted d → IsCounted e → is_no_rival (tree_of knobs row) row.bytes knobs.max_page_sharing d e ≡ is_no_rival_row knobs rows row d.row e.row
+    rival_alike d e n m = λ i. not (joins_alike e m i) || worse_alike d e n m i
+
+    best_alike : (dups : List Dup) → AreCounted rows dups → (d : Dup) → IsCounted d → is_best (tree_of knobs row) row.bytes knobs.max_page_sharing dups d ≡ is_best_row knobs rows (rows_of dups) row d.row
+    best_alike dups counted d n =
+        let rivals = all_alike (is_no_rival (tree_of knobs row) row.bytes knobs.max_page_sharing d) (is_no_rival_row knobs rows row d.row) dups
+        (All-weaker IsCounted (λ e. is_no_rival (tree_of knobs row) row.bytes knobs.max_page_sharing d e ≡ is_no_rival_row knobs rows row d.row e.row) (λ e m. rival_alike d e n m) dups counted) in
+        λ i. joins_alike d n i && rivals i
+
+    pub best_found : (dups : List Dup) → AreCounted rows dups → option_map (λ d. d.row) (best_of (tree_of knobs row) row.bytes knobs.max_page_sharing dups) ≡ best_dup knobs rows (rows_of dups) row
+    best_found dups counted =
+        found_alike (is_best (tree_of knobs row) row.bytes knobs.max_page_sharing dups) (is_best_row knobs rows (rows_of dups) row) dups
+        (All-weaker IsCounted (λ d. is_best (tree_of knobs row) row.bytes knobs.max_page_sharing dups d ≡ is_best_row knobs rows (rows_of dups) row d.row) (best_alike dups counted) dups counted)
+
+  chosen_alike : (p : Option ℕ) (d : Option Dup) → option_map place_in (chosen p d) ≡ chosen_place p (option_map (λ e. e.row) d)
+  chosen_alike (Some p) None = refl
+  chosen_alike (Some p) (Some d) = refl
+  chosen_alike None None = refl
+  chosen_alike None (Some d) = refl
+
+  pub choice_alike : (s : DupsState) → AreCounted rows s.dups → option_map place_in (choice_of s) ≡ new_place s.places rows (rows_of s.dups)
+  choice_alike s counted =
+      chosen_alike (empty_place s.places (rows_of s.dups)) (find is_stale s.dups)
+      ∙ ap (chosen_place (empty_place s.places (rows_of s.dups))) (stale_alike s.dups counted)

@@ -1,0 +1,80 @@
+-- The chain of a group after its entry in the map has changed.
+use Rattle.std.proofs.Common.{◌≡◌, ◌∙◌, ℕ, List, [], ◌∷◌, Option, None, Some, Bool, true, false, cond, sym, ap, refl, arith}
+use Rattle.std.specs.Prelude.{◌&&◌, ◌==◌, bytes_eq, length, if◌then◌else◌}
+use Rattle.std.specs.BTreeMap.{BTreeMap, get, UpdatesBy}
+use Rattle.std.specs.Ordering.{is_eq}
+use Rattle.std.specs.Map.{lookup}
+use Rattle.std.proofs.lemmas.Bool.{and_parts}
+use Rattle.std.proofs.lemmas.Bool.Decides.{nat_tests}
+use Rattle.std.proofs.lemmas.Slice.Eq.{bytes_eq-Decides}
+use Rattle.ksm_tree.specs.declared.content.Content.{Content}
+use Rattle.ksm_tree.specs.declared.places.Places.{Places}
+use Rattle.ksm_tree.specs.contracts.content.ContentOrd.TheImpl as content_ord
+use Rattle.ksm_tree.specs.Groups.{chain_in}
+use Rattle.ksm_tree.proofs.Keys.{same_content}
+
+-- what a look-up of a chain shows
+abbrev pub listed : Option Places → List ℕ
+listed None = []
+listed (Some chain) = chain.list.items
+
+pub chain_found : (q : Content) (es : List (Content × Places)) → chain_in q.tree q.bytes es ≡ listed (lookup (λ k. is_eq (content_ord.ghosts.cmp q k)) es)
+chain_found q [] = refl
+chain_found q (e ∷ es) =
+    let rest = chain_found q es in
+    let here = same_content q e.0 in
+    grind (arith, rest, here)
+
+-- a choice, with what its test says known in the first case
+pub picked : {X : Type 0} (s : Bool) (x y z : X) → (s ≡ true → x ≡ y) → cond s x z ≡ cond s y z
+picked true x y z same = same refl
+picked false x y z same = refl
+
+listed_cond : (s : Bool) (v w : Option Places) → listed (cond s v w) ≡ cond s (listed v) (listed w)
+listed_cond true v w = refl
+listed_cond false v w = refl
+
+-- the chain of an equal key
+same_chain : (key : Content) (t : ℕ) (b : List ℕ) (es : List (Content × Places)) → (t == key.tree && bytes_eq b key.bytes) ≡ true → chain_in key.tree key.bytes es ≡ chain_in t b es
+same_chain key t b es here =
+    let parts = and_parts (t == key.tree) (bytes_eq b key.bytes) here in
+    let tree : t ≡ key.tree = grind (arith, nat_tests, parts.0) in
+    let bytes : b ≡ key.bytes = (bytes_eq-Decides b key.bytes).0 parts.1 in
+    λ i. chain_in (sym tree i) (sym bytes i) es
+
+-- one entry changed: its chain is a function of what it was, and the others stay
+pub chain_changed : (key : Content) (old new : BTreeMap Content Places) (w : Option Places) (f : List ℕ → List ℕ) → UpdatesBy content_ord.ghosts.cmp (content_ord.ghosts.cmp key) old new w → listed w ≡ f (chain_in key.tree key.bytes old.entries) → (t : ℕ) (b : List ℕ) → chain_in t b new.entries ≡ (if t == key.tree && bytes_eq b key.bytes then f (chain_in t b old.entries) else chain_in t b old.entries)
+chain_changed key old new w f updates is t b =
+    let q : Content = record { tree = t; bytes = b } in
+    let s = t == key.tree && bytes_eq b key.bytes in
+    chain_found q new.entries
+    ∙ ap listed (updates.0 q)
+    ∙ ap (λ s. listed (cond s w (get content_ord.ghosts.cmp old q))) (same_content key q)
+    ∙ listed_cond s w (get content_ord.ghosts.cmp old q)
+    ∙ (λ i. cond s (is i) (sym (chain_found q old.entries) i))
+    ∙ picked s (f (chain_in key.tree key.bytes old.entries)) (f (chain_in t b old.entries)) (chain_in t b old.entries) (λ here. ap f (same_chain key t b old.entries here))
+
+cond_same : {X : Type 0} (s : Bool) (x : X) → cond s x x ≡ x
+cond_same true x = refl
+cond_same false x = refl
+
+-- one entry changed, and its chain is what it was
+pub chain_same : (key : Content) (old new : BTreeMap Content Places) (w : Option Places) → UpdatesBy content_ord.ghosts.cmp (content_ord.ghosts.cmp key) old new w → listed w ≡ chain_in key.tree key.bytes old.entries → (t : ℕ) (b : List ℕ) → chain_in t b new.entries ≡ chain_in t b old.entries
+chain_same key old new w updates is t b =
+    chain_changed key old new w (λ chain. chain) updates is t b ∙ cond_same (t == key.tree && bytes_eq b key.bytes) (chain_in t b old.entries)
+
+-- an empty chain stays empty
+pub chain_empty : (key : Content) (es : List (Content × Places)) (f : List ℕ → List ℕ) → f [] ≡ [] → chain_in key.tree key.bytes es ≡ [] → (t : ℕ) (b : List ℕ) → chain_in t b es ≡ (if t == key.tree && bytes_eq b key.bytes then f (chain_in t b es) else chain_in t b es)
+chain_empty key es f keeps none t b =
+    let s = t == key.tree && bytes_eq b key.bytes in
+    sym (cond_same s (chain_in t b es))
+    ∙ picked s (chain_in t b es) (f (chain_in t b es)) (chain_in t b es) (λ here. let e = sym (same_chain key t b es here) ∙ none in e ∙ sym (ap f e ∙ keeps))
+
+-- at an entry that is there, and where there is none
+pub chain_here : (key : Content) (old : BTreeMap Content Places) (chain : Option Places) → chain ≡ get content_ord.ghosts.cmp old key → chain_in key.tree key.bytes old.entries ≡ listed chain
+chain_here key old chain is = chain_found key old.entries ∙ ap listed (sym is)
+
+-- a list of length 0
+pub none_of : (xs : List ℕ) → (length xs == 0) ≡ true → [] ≡ xs
+none_of [] none = refl
+none_of (x ∷ xs) none = grind (arith, nat_tests, none)

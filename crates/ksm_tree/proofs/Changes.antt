@@ -1,0 +1,121 @@
+-- Dups and their rows: what a dup that comes or goes and a change of items changes of the rows, and where a dup is found.
+use Rattle.std.proofs.Common.{◌≡◌, ◌∙◌, ℕ, suc, ◌<◌, Bool, true, false, List, [], ◌∷◌, ◌++◌, length, get_or, map, Option, None, Some, refl, sym, ap, inl, inr, arith}
+use Rattle.std.specs.Prelude.{◌==◌, not, nat_lt, All, filter, find, option_map, is_some, if◌then◌else◌}
+use Rattle.std.proofs.lemmas.Bool.{cases_Bool}
+use Rattle.std.proofs.lemmas.Bool.Decides.{nat_tests}
+use Rattle.std.proofs.lemmas.Option.{none-some, same_Some}
+use Rattle.std.proofs.lemmas.List.Elements.{All-head, All-tail, All-cons}
+use Rattle.ksm_base.specs.declared.page.GuestPage.{GuestPage}
+use Rattle.ksm_base.specs.declared.row.DupRow.{DupRow}
+use Rattle.ksm_base.specs.Rows.{InPlaceOrder, with_dup}
+use Rattle.ksm_tree.specs.declared.dup.Dup.{Dup}
+use Rattle.ksm_tree.specs.Dups.{rows_of, has_number, stands_at, dup_of, dup_at, with_new, without_place, change_items}
+use Rattle.ksm_tree.specs.Index.{row_place}
+use Rattle.ksm_tree.specs.Slots.{change_at}
+use Rattle.ksm_tree.proofs.Rows.{only_number, found_in, found_passes, IsThat}
+
+-- the rows of a filtered list
+rows_filtered : (test : Dup → Bool) (by : DupRow → Bool) → ((d : Dup) → test d ≡ by d.row) → (dups : List Dup) → rows_of (filter test dups) ≡ filter by (rows_of dups)
+rows_filtered test by same [] = refl
+rows_filtered test by same (d ∷ dups) =
+    let rest = rows_filtered test by same dups in
+    let here = same d in
+    elim (cases_Bool (by d.row)) [
+      | inl passes ↦ grind (arith, here, passes, rest)
+      | inr fails ↦ grind (arith, here, fails, rest)
+    ]
+
+rows_append : (xs ys : List Dup) → rows_of (xs ++ ys) ≡ rows_of xs ++ rows_of ys
+rows_append [] ys = refl
+rows_append (x ∷ xs) ys = ap (λ rows. x.row ∷ rows) (rows_append xs ys)
+
+pub rows_new : (dup : Dup) (dups : List Dup) → rows_of (with_new dup dups) ≡ with_dup dup.row (rows_of dups)
+rows_new dup dups =
+    let p = dup.row.place in
+    rows_append (filter (λ d. nat_lt d.row.place p) dups) (dup ∷ filter (λ d. nat_lt p d.row.place) dups)
+    ∙ (λ i. rows_filtered (λ d. nat_lt d.row.place p) (λ r. nat_lt r.place p) (λ d. refl) dups i ++ dup.row ∷ rows_filtered (λ d. nat_lt p d.row.place) (λ r. nat_lt p r.place) (λ d. refl) dups i)
+
+pub rows_without : (p : ℕ) (dups : List Dup) → rows_of (without_place p dups) ≡ filter (λ r. not (r.place == p)) (rows_of dups)
+rows_without p dups = rows_filtered (λ d. not (stands_at p d)) (λ r. not (r.place == p)) (λ d. refl) dups
+
+pub rows_changed : (p : ℕ) (f : List GuestPage → List GuestPage) (dups : List Dup) → rows_of (change_at p f dups) ≡ rows_of dups
+rows_changed p f [] = refl
+rows_changed p f (d ∷ dups) =
+    let rest = rows_changed p f dups in
+    elim (cases_Bool (stands_at p d)) [
+      | inl here ↦ grind (arith, here, rest)
+      | inr away ↦ grind (arith, away, rest)
+    ]
+
+-- a dup is found where its row is
+pub row_found : (test : Dup → Bool) (by : DupRow → Bool) → ((d : Dup) → test d ≡ by d.row) → (dups : List Dup) → option_map (λ d. d.row) (find test dups) ≡ find by (rows_of dups)
+row_found test by same [] = refl
+row_found test by same (d ∷ dups) =
+    let rest = row_found test by same dups in
+    let here = same d in
+    elim (cases_Bool (by d.row)) [
+      | inl passes ↦ grind (arith, here, passes, rest)
+      | inr fails ↦ grind (arith, here, fails, rest)
+    ]
+
+-- the row of a number that has a place
+row_there : (p : ℕ) (r : Option DupRow) → option_map (λ s. s.place) r ≡ Some p → (e : DupRow) × (r ≡ Some e) × (e.place ≡ p)
+row_there p None is = absurd (none-some p is)
+row_there p (Some e) is = (e, refl, same_Some e.place p is)
+
+-- two tests that agree on each dup find one dup and change one
+agree_found : (test by : Dup → Bool) (dups : List Dup) → All (λ d. test d ≡ by d) dups → find test dups ≡ find by dups
+agree_found test by [] same = refl
+agree_found test by (d ∷ dups) same =
+    let here = All-head (λ d. test d ≡ by d) d dups same in
+    let rest = agree_found test by dups (All-tail (λ d. test d ≡ by d) d dups same) in
+    grind (arith, here, rest)
+
+agree_changed : (test by : Dup → Bool) (f : List GuestPage → List GuestPage) (dups : List Dup) → All (λ d. test d ≡ by d) dups → map {B = Dup} (λ d. if test d then record d { items = f d.items } else d) dups ≡ map (λ d. if by d then record d { items = f d.items } else d) dups
+agree_changed test by f [] same = refl
+agree_changed test by f (d ∷ dups) same =
+    let here = All-head (λ d. test d ≡ by d) d dups same in
+    let rest = agree_changed test by f dups (All-tail (λ d. test d ≡ by d) d dups same) in
+    grind (arith, here, rest)
+
+pub all_rows : (P : DupRow → Type 0) (dups : List Dup) → All P (rows_of dups) → All (λ d. P d.row) dups
+all_rows P [] each = λ k d lt. absurd (omega arith)
+all_rows P (e ∷ dups) each = All-cons (λ d. P d.row) e dups (All-head P e.row (rows_of dups) each) (all_rows P dups (All-tail P e.row (rows_of dups) each))
+
+-- number and place tell one dup
+one_dup : (q p : ℕ) (dups : List Dup) → InPlaceOrder (rows_of dups) → row_place q (rows_of dups) ≡ Some p → All (λ d. has_number q d ≡ stands_at p d) dups
+one_dup q p dups rise is =
+    let there = row_there p (find (λ r. r.number == q) (rows_of dups)) is in
+    let only = only_number q (rows_of dups) there.0 rise there.1 in
+    all_rows (λ r. (r.number == q) ≡ (r.place == p)) dups (λ k d lt. only k d lt ∙ ap (λ n. (get_or (rows_of dups) k d).place == n) there.2)
+
+pub number_place_found : (q p : ℕ) (dups : List Dup) → InPlaceOrder (rows_of dups) → row_place q (rows_of dups) ≡ Some p → dup_of q dups ≡ dup_at p dups
+number_place_found q p dups rise is = agree_found (has_number q) (stands_at p) dups (one_dup q p dups rise is)
+
+pub number_place_changed : (q p : ℕ) (f : List GuestPage → List GuestPage) (dups : List Dup) → InPlaceOrder (rows_of dups) → row_place q (rows_of dups) ≡ Some p → change_items q f dups ≡ change_at p f dups
+number_place_changed q p f dups rise is = agree_changed (has_number q) (stands_at p) f dups (one_dup q p dups rise is)
+
+-- without a row of the number there is no such dup, and nothing is changed
+no_row : (r : Option DupRow) → option_map (λ s. s.place) r ≡ None → r ≡ None
+no_row None is = refl
+no_row (Some e) is = absurd (none-some e.place (sym is))
+
+no_dup : (d : Option Dup) → option_map (λ e. e.row) d ≡ None → d ≡ None
+no_dup None is = refl
+no_dup (Some e) is = absurd (none-some e.row (sym is))
+
+pub unknown_found : (q : ℕ) (dups : List Dup) → row_place q (rows_of dups) ≡ None → dup_of q dups ≡ None
+unknown_found q dups is = no_dup (dup_of q dups) (row_found (has_number q) (λ r. r.number == q) (λ d. refl) dups ∙ no_row (find (λ r. r.number == q) (rows_of dups)) is)
+
+unknown_changed_from : (q : ℕ) (f : List GuestPage → List GuestPage) (dups : List Dup) → dup_of q dups ≡ None → dups ≡ change_items q f dups
+unknown_changed_from q f [] is = refl
+unknown_changed_from q f (d ∷ dups) is =
+    elim (cases_Bool (has_number q d)) [
+      | inl here ↦ absurd (none-some d (sym is ∙ grind (arith, here)))
+      | inr away ↦
+          let rest = unknown_changed_from q f dups (grind (arith, away, is)) in
+          grind (arith, away, rest)
+    ]
+
+pub unknown_changed : (q : ℕ) (f : List GuestPage → List GuestPage) (dups : List Dup) → row_place q (rows_of dups) ≡ None → dups ≡ change_items q f dups
+unknown_changed q f dups is = unknown_changed_from q f dups (unknown_found q dups is)

@@ -1,0 +1,122 @@
+-- The index over dups: what it finds, and how it stays with a change of items and with a dup that goes.
+use Rattle.std.proofs.Common.{◌≡◌, ◌∙◌, ℕ, ◌+◌, ◌<◌, Bool, true, false, List, [], ◌∷◌, map, Option, None, Some, refl, sym, ap, inl, inr, cond, arith}
+use Rattle.std.specs.Prelude.{◌==◌, ◌&&◌, not, All, filter, find, option_map, is_some, bytes_eq, if◌then◌else◌}
+use Rattle.std.proofs.lemmas.Bool.{cases_Bool, eqb-true, false≢true}
+use Rattle.std.proofs.lemmas.Bool.Decides.{nat_tests}
+use Rattle.std.proofs.lemmas.Option.{none-some, same_Some}
+use Rattle.std.proofs.lemmas.List.Elements.{All-filter, All-weaker}
+use Rattle.std.proofs.lemmas.List.Kept.{AllPairs-filter}
+use Rattle.ksm_base.specs.declared.page.GuestPage.{GuestPage}
+use Rattle.ksm_base.specs.declared.row.DupRow.{DupRow}
+use Rattle.ksm_base.specs.Rows.{InPlaceOrder, with_dup}
+use Rattle.ksm_tree.specs.declared.dup.Dup.{Dup}
+use Rattle.ksm_tree.specs.declared.index.Index.{Index}
+use Rattle.ksm_tree.specs.Dups.{AreDups, rows_of, has_number, stands_at, dup_of, dup_at, with_new, without_place, change_items}
+use Rattle.ksm_tree.specs.Index.{AreIndexed, dups_seen, in_group, place_of, places_of, row_place, group_places}
+use Rattle.ksm_tree.specs.Places.{without}
+use Rattle.ksm_tree.specs.Slots.{SlotsState, change_at}
+use Rattle.ksm_tree.proofs.Keys.{eq_bytes}
+use Rattle.ksm_tree.proofs.Rows.{only_one, place_gone, group_elsewhere, group_unlike, found_passes, IsOne}
+use Rattle.ksm_tree.proofs.Changes.{rows_changed, rows_without, rows_new, row_found, number_place_found, number_place_changed, unknown_found, unknown_changed}
+
+row_some : {p : ℕ} (r : Option DupRow) → option_map (λ e. e.place) r ≡ Some p → is_some r ≡ true
+row_some {p} None is = absurd (none-some p is)
+row_some {p} (Some e) is = refl
+
+dup_some : (d : Option Dup) → is_some (option_map (λ e. e.row) d) ≡ true → is_some d ≡ true
+dup_some None is = is
+dup_some (Some e) is = refl
+
+module _ (s : SlotsState) (next : ℕ) (index : Index) (h : AreIndexed s next index) where
+  -- a number that the index has is that of the dup at its place
+  pub indexed_found : (q p : ℕ) → Some p ≡ place_of q index → dup_of q s.dups ≡ dup_at p s.dups
+  indexed_found q p is = number_place_found q p s.dups h.lawful.in_place_order (sym (h.numbered q) ∙ sym is)
+
+  pub indexed_changed : (q p : ℕ) (f : List GuestPage → List GuestPage) → Some p ≡ place_of q index → change_items q f s.dups ≡ change_at p f s.dups
+  indexed_changed q p f is = number_place_changed q p f s.dups h.lawful.in_place_order (sym (h.numbered q) ∙ sym is)
+
+  pub unindexed_found : (q : ℕ) → None ≡ place_of q index → dup_of q s.dups ≡ None
+  unindexed_found q is = unknown_found q s.dups (sym (h.numbered q) ∙ sym is)
+
+  pub unindexed_changed : (q : ℕ) (f : List GuestPage → List GuestPage) → None ≡ place_of q index → s.dups ≡ change_items q f s.dups
+  unindexed_changed q f is = unknown_changed q f s.dups (sym (h.numbered q) ∙ sym is)
+
+  pub indexed_there : (q p : ℕ) → Some p ≡ place_of q index → is_some (dup_at p s.dups) ≡ true
+  indexed_there q p is =
+      let there = row_some (find (λ r. r.number == q) (rows_of s.dups)) (sym (h.numbered q) ∙ sym is) in
+      let dup = dup_some (dup_of q s.dups) (ap is_some (row_found (has_number q) (λ r. r.number == q) (λ d. refl) s.dups) ∙ there) in
+      ap is_some (sym (indexed_found q p is)) ∙ dup
+
+  -- a change of items changes no row, and so nothing of the index
+  pub stays_indexed : (p : ℕ) (f : List GuestPage → List GuestPage) → AreIndexed (record { places = s.places; dups = change_at p f s.dups }) next index
+  stays_indexed p f =
+      let same = rows_changed p f s.dups in
+      record {
+        lawful = record {
+          in_place_order = rw same h.lawful.in_place_order;
+          places_below = rw same h.lawful.places_below;
+          numbers_below = rw same h.lawful.numbers_below;
+        };
+        numbered = λ q. h.numbered q ∙ ap (row_place q) (sym same);
+        grouped = λ t b. h.grouped t b ∙ ap (group_places t b) (sym same);
+      }
+
+-- whether a content is a row's
+pub own_group : (t : ℕ) (b : List ℕ) (row : DupRow) → in_group t b row ≡ (t == row.tree && bytes_eq b row.bytes)
+own_group t b row = let swapped = eq_bytes row.bytes b in grind (arith, nat_tests, swapped)
+
+-- the row of the dup at a place
+pub row_at_place : (p : ℕ) (dups : List Dup) (d : Option Dup) → dup_at p dups ≡ d → find (λ r. r.place == p) (rows_of dups) ≡ option_map (λ e. e.row) d
+row_at_place p dups d is = sym (row_found (stands_at p) (λ r. r.place == p) (λ e. refl) dups) ∙ ap (option_map (λ e. e.row)) is
+
+-- no row of another group stands where a dup stands
+pub not_in_group : (p t : ℕ) (b : List ℕ) (dups : List Dup) (d : Dup) → InPlaceOrder (rows_of dups) → dup_at p dups ≡ Some d → in_group t b d.row ≡ false → All (λ r. (r.place == p && in_group t b r) ≡ false) (rows_of dups)
+not_in_group p t b dups d rise found outside =
+    All-weaker (IsOne p d.row) (λ r. (r.place == p && in_group t b r) ≡ false)
+    (λ r h. elim (cases_Bool (r.place == p)) [
+      | inl here ↦ let same = h.1 here in let out : in_group t b r ≡ false = rw same outside in grind (arith, here, out)
+      | inr away ↦ grind (arith, away)
+    ])
+    (rows_of dups) (only_one p (rows_of dups) d.row rise (row_at_place p dups (Some d) found))
+
+pub cond_if : {X : Type 0} (s : Bool) (x y z : X) → (s ≡ true → z ≡ x) → (s ≡ false → z ≡ y) → z ≡ (if s then x else y)
+cond_if true x y z yes_case no_case = yes_case refl
+cond_if false x y z yes_case no_case = no_case refl
+
+-- a dup goes from its place and from the index
+pub gone_indexed : (s : SlotsState) (next : ℕ) (index new : Index) (p : ℕ) (d : Dup) → AreIndexed s next index → dup_at p s.dups ≡ Some d → d.row.place ≡ p → ((q : ℕ) → place_of q new ≡ (if q == d.row.number then None else place_of q index)) → ((t : ℕ) (b : List ℕ) → places_of t b new ≡ (if t == d.row.tree && bytes_eq b d.row.bytes then without d.row.place (places_of t b index) else places_of t b index)) → AreIndexed (record { places = s.places; dups = without_place p s.dups }) next new
+gone_indexed s next index new p d h found at numbers groups =
+    let rows = rows_of s.dups in
+    let left = rows_without p s.dups in
+    record {
+      lawful = record {
+        in_place_order = rw left (AllPairs-filter (λ a b. (a.place < b.place) × ((a.number == b.number) ≡ false)) (λ r. not (r.place == p)) rows h.lawful.in_place_order);
+        places_below = rw left (All-filter (λ r. not (r.place == p)) (λ r. r.place < s.places) rows h.lawful.places_below);
+        numbers_below = rw left (All-filter (λ r. not (r.place == p)) (λ r. r.number < next) rows h.lawful.numbers_below);
+      };
+      numbered = λ q.
+          numbers q
+          ∙ ap (λ v. if q == d.row.number then None else v) (h.numbered q)
+          ∙ sym (place_gone p q rows d.row h.lawful.in_place_order (row_at_place p s.dups (Some d) found))
+          ∙ ap (row_place q) (sym left);
+      grouped = λ t b.
+          groups t b
+          ∙ (λ i. if sym (own_group t b d.row) i then without (at i) (h.grouped t b i) else h.grouped t b i)
+          ∙ sym (cond_if (in_group t b d.row) (without p (group_places t b rows)) (group_places t b rows) (without p (group_places t b rows)) (λ _. refl)
+          (λ outside. group_unlike p t b rows (not_in_group p t b s.dups d h.lawful.in_place_order found outside)))
+          ∙ sym (group_elsewhere p t b rows)
+          ∙ ap (group_places t b) (sym left);
+    }
+
+-- the dup found at a place stands there
+pub found_stands : (p : ℕ) (dups : List Dup) (d : Dup) → dup_at p dups ≡ Some d → d.row.place ≡ p
+found_stands p dups d found = eqb-true d.row.place p (found_passes (stands_at p) dups d found)
+
+-- where nothing stands, nothing that passes a test stands
+pub none_there : (p : ℕ) (test : Dup → Bool) (dups : List Dup) → None ≡ dup_at p dups → is_some (find (λ d. stands_at p d && test d) dups) ≡ true → ⊥
+none_there p test [] none there = false≢true there
+none_there p test (d ∷ dups) none there =
+    elim (cases_Bool (stands_at p d)) [
+      | inl here ↦ none-some d (none ∙ grind (arith, here))
+      | inr away ↦ none_there p test dups (none ∙ grind (arith, away)) (grind (arith, away, there))
+    ]

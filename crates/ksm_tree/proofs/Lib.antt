@@ -1,0 +1,11 @@
+pub mod Best
+pub mod Bridge
+pub mod Chains
+pub mod Changes
+pub mod Indexed
+pub mod Keys
+pub mod Made
+pub mod Numbers
+pub mod OneSlot
+pub mod Opened
+pub mod Rows

@@ -1,0 +1,44 @@
+-- Places in order: what an insert or a removal where a search ends leaves.
+use Rattle.std.proofs.Common.{◌≡◌, ◌∙◌, ℕ, ◌<◌, List, true, false, length, get_or, sym, ap, arith}
+use Rattle.std.specs.Prelude.{◌==◌, nat_lt, filter, insert, remove, AllPairs, Result, Ok, Err, IsOk, OnOk, OnErr}
+use Rattle.std.specs.List.{list_any}
+use Rattle.std.proofs.lemmas.Bool.{false≢true}
+use Rattle.std.proofs.lemmas.Bool.Decides.{nat_tests}
+use Rattle.ksm_rmap.proofs.Ordered.{IsOrder, insert_at, with_found, remove_at, absent_kept}
+use Rattle.ksm_tree.specs.Places.{with_place, without}
+
+-- what holds of an `Ok`, where the result is one
+pub at_ok : {T E : Type 0} {P : Type 0} (r : Result T E) → IsOk r → OnOk r P → P
+at_ok (Ok x) good holds = holds
+at_ok (Err e) bad holds = absurd (false≢true bad)
+
+pub on_err : {T E : Type 0} {P : Type 0} (r : Result T E) → P → OnErr r P
+on_err (Ok x) holds = tt
+on_err (Err e) holds = holds
+
+pub places_ordered : IsOrder nat_lt (λ p q. p == q)
+places_ordered = record {
+  trans = λ p q r first second. grind (arith, nat_tests);
+  apart = λ p q before. grind (arith, nat_tests);
+  apart_back = λ p q before. grind (arith, nat_tests);
+  asym = λ p q before. grind (arith, nat_tests);
+  total = λ p q differ later. grind (arith, nat_tests);
+  same_refl = λ p. grind (arith, nat_tests);
+  same_eq = λ p q same. grind (arith, nat_tests);
+}
+
+module _ (place : ℕ) (places : List ℕ) (rise : AllPairs (λ p q. nat_lt p q ≡ true) places) (at : ℕ) (count : at ≡ length (filter (λ p. nat_lt p place) places)) where
+  pub put_in : false ≡ list_any (λ p. p == place) places → insert places at place ≡ with_place place places
+  put_in absent = ap (λ n. insert places n place) count ∙ insert_at nat_lt (λ p q. p == q) places_ordered place places rise (sym absent)
+
+  pub was_in : true ≡ list_any (λ p. p == place) places → places ≡ with_place place places
+  was_in found = with_found nat_lt (λ p q. p == q) places_ordered place places rise (sym found)
+
+  pub taken_out : at < length places → (get_or places at 0 == place) ≡ true → remove places at ≡ without place places
+  taken_out within here =
+      let within_count : length (filter (λ p. nat_lt p place) places) < length places = rw (← count) within in
+      let here_count : (get_or places (length (filter (λ p. nat_lt p place) places)) 0 == place) ≡ true = rw (← count) here in
+      ap (remove places) count ∙ remove_at nat_lt (λ p q. p == q) places_ordered place places 0 rise within_count here_count
+
+  pub was_out : false ≡ list_any (λ p. p == place) places → places ≡ without place places
+  was_out absent = absent_kept nat_lt (λ p q. p == q) places_ordered place places (sym absent)

@@ -1,0 +1,379 @@
+-- What a change of one slot does to the dups and to the places whose slots pass a test.
+use Rattle.std.proofs.Common.{◌≡◌, ◌∙◌, ℕ, zero, suc, ◌+◌, ◌<◌, ◌≤◌, Bool, true, false, List, [], ◌∷◌, ◌++◌, length, length-set, length-append, get_or, set, map, Option, None, Some, refl, sym, ap, arith}
+use Rattle.std.specs.Prelude.{◌==◌, not, nat_lt, All, filter, find, option_map, is_some, slice_get, if◌then◌else◌}
+use Rattle.std.specs.List.{list_any, range_with_len}
+use Rattle.std.proofs.lemmas.Bool.Decides.{nat_tests}
+use Rattle.std.proofs.lemmas.Bool.{false≢true}
+use Rattle.std.proofs.lemmas.List.{get_or_default}
+use Rattle.std.proofs.lemmas.Option.{none-some, same_Some}
+use Rattle.std.proofs.lemmas.List.Elements.{All-cons, All-weaker}
+use Rattle.ksm_base.specs.declared.page.GuestPage.{GuestPage}
+use Rattle.ksm_base.specs.Rows.{comes_before, same_page}
+use Rattle.ksm_base.specs.Visit.{empty_place}
+use Rattle.ksm_rmap.specs.Items.{has_item, with_item, without_item}
+use Rattle.smallvec.specs.SmallVec.{SmallVec}
+use Rattle.ksm_rmap.proofs.Ordered.{filter_none, filter_all, absent_kept}
+use Rattle.ksm_rmap.proofs.Pages.{pages_ordered}
+use Rattle.ksm_tree.specs.declared.dup.Dup.{Dup}
+use Rattle.ksm_tree.specs.Dups.{stands_at, dup_at, items_in, is_stale, is_live, rows_of, with_new, without_place}
+use Rattle.ksm_tree.specs.Places.{with_place, without}
+use Rattle.ksm_tree.specs.Slots.{SlotsState, slots_seen, present, is_empty_slot, is_stale_slot, places_where, ArePlaced, AreSlots, change_at}
+
+-- the dups of slots from k on stand at k or behind it
+pub placed_above : (k : ℕ) (slots : List (Option Dup)) → ArePlaced k slots → All (λ d. k ≤ d.row.place) (present slots)
+placed_above k [] placed = λ i d lt. absurd (omega arith)
+placed_above k (None ∷ slots) placed = All-weaker (λ d. suc k ≤ d.row.place) (λ d. k ≤ d.row.place) (λ d h. omega arith) (present slots) (placed_above (suc k) slots placed)
+placed_above k (Some e ∷ slots) placed =
+    All-cons (λ d. k ≤ d.row.place) e (present slots) (omega (arith, placed.0))
+    (All-weaker (λ d. suc k ≤ d.row.place) (λ d. k ≤ d.row.place) (λ d h. omega arith) (present slots) (placed_above (suc k) slots placed.1))
+
+-- from k on no dup stands below it
+none_below : (k p : ℕ) (slots : List (Option Dup)) → p < k → ArePlaced k slots → All (λ d. nat_lt d.row.place p ≡ false) (present slots)
+none_below k p slots below placed i d lt = let h = placed_above k slots placed i d lt in grind (arith, nat_tests, h)
+
+none_at : (k p : ℕ) (slots : List (Option Dup)) → p < k → ArePlaced k slots → All (λ d. (d.row.place == p) ≡ false) (present slots)
+none_at k p slots below placed i d lt = let h = placed_above k slots placed i d lt in grind (arith, nat_tests, h)
+
+all_above : (k p : ℕ) (slots : List (Option Dup)) → p < k → ArePlaced k slots → All (λ d. nat_lt p d.row.place ≡ true) (present slots)
+all_above k p slots below placed i d lt = let h = placed_above k slots placed i d lt in grind (arith, nat_tests, h)
+
+find_none : {X : Type 0} (test : X → Bool) (xs : List X) → All (λ x. test x ≡ false) xs → find test xs ≡ None
+find_none test [] none = refl
+find_none test (x ∷ xs) none =
+    let here : test x ≡ false = none 0 x (omega arith) in
+    let rest = find_none test xs (λ i d lt. none (suc i) d (omega arith)) in
+    grind (arith, here, rest)
+
+-- what stands at a place is what its slot holds
+pub slot_found : (k p i : ℕ) (slots : List (Option Dup)) → p ≡ k + i → ArePlaced k slots → dup_at p (present slots) ≡ get_or slots i None
+slot_found k p i [] is placed = refl
+slot_found k p zero (None ∷ slots) is placed = find_none (stands_at p) (present slots) (none_at (suc k) p slots (omega arith) placed)
+slot_found k p (suc i) (None ∷ slots) is placed = slot_found (suc k) p i slots (omega arith) placed
+slot_found k p zero (Some d ∷ slots) is placed = let h = placed.0 in grind (arith, nat_tests, h)
+slot_found k p (suc i) (Some d ∷ slots) is placed =
+    let h = placed.0 in
+    let rest = slot_found (suc k) p i slots (omega arith) placed.1 in
+    grind (arith, nat_tests, h, rest)
+
+-- a dup put into its slot
+pub slot_put : (k p i : ℕ) (slots : List (Option Dup)) (dup : Dup) → p ≡ k + i → dup.row.place ≡ p → i < length slots → ArePlaced k slots → present (set slots i (Some dup)) ≡ with_new dup (present slots)
+slot_put k p i [] dup is at within placed = absurd (omega arith)
+slot_put k p zero (None ∷ slots) dup is at within placed =
+    let none = filter_none (λ d. nat_lt d.row.place dup.row.place) (present slots) (none_below (suc k) dup.row.place slots (omega arith) placed) in
+    let each = filter_all (λ d. nat_lt dup.row.place d.row.place) (present slots) (all_above (suc k) dup.row.place slots (omega arith) placed) in
+    grind (arith, none, each)
+slot_put k p (suc i) (None ∷ slots) dup is at within placed = slot_put (suc k) p i slots dup (omega arith) at (omega arith) placed
+slot_put k p zero (Some d ∷ slots) dup is at within placed =
+    let h = placed.0 in
+    let none = filter_none (λ d. nat_lt d.row.place dup.row.place) (present slots) (none_below (suc k) dup.row.place slots (omega arith) placed.1) in
+    let each = filter_all (λ d. nat_lt dup.row.place d.row.place) (present slots) (all_above (suc k) dup.row.place slots (omega arith) placed.1) in
+    grind (arith, nat_tests, h, none, each)
+slot_put k p (suc i) (Some d ∷ slots) dup is at within placed =
+    let h = placed.0 in
+    let rest = slot_put (suc k) p i slots dup (omega arith) at (omega arith) placed.1 in
+    grind (arith, nat_tests, h, rest)
+
+-- a slot emptied
+pub slot_emptied : (k p i : ℕ) (slots : List (Option Dup)) → p ≡ k + i → ArePlaced k slots → present (set slots i None) ≡ without_place p (present slots)
+slot_emptied k p i [] is placed = refl
+slot_emptied k p zero (None ∷ slots) is placed =
+    sym (filter_all (λ d. not (stands_at p d)) (present slots) (λ j d lt. ap not (none_at (suc k) p slots (omega arith) placed j d lt)))
+slot_emptied k p (suc i) (None ∷ slots) is placed = slot_emptied (suc k) p i slots (omega arith) placed
+slot_emptied k p zero (Some d ∷ slots) is placed =
+    let h = placed.0 in
+    let each = filter_all (λ d. not (stands_at p d)) (present slots) (λ j d lt. ap not (none_at (suc k) p slots (omega arith) placed.1 j d lt)) in
+    grind (arith, nat_tests, h, each)
+slot_emptied k p (suc i) (Some d ∷ slots) is placed =
+    let h = placed.0 in
+    let rest = slot_emptied (suc k) p i slots (omega arith) placed.1 in
+    grind (arith, nat_tests, h, rest)
+
+change_none : (p : ℕ) (f : List GuestPage → List GuestPage) (dups : List Dup) → All (λ d. stands_at p d ≡ false) dups → change_at p f dups ≡ dups
+change_none p f [] none = refl
+change_none p f (d ∷ dups) none =
+    let here : stands_at p d ≡ false = none 0 d (omega arith) in
+    let rest = change_none p f dups (λ i e lt. none (suc i) e (omega arith)) in
+    grind (arith, here, rest)
+
+-- the items of a slot's dup changed
+pub slot_changed : (k p i : ℕ) (slots : List (Option Dup)) (dup : Dup) (f : List GuestPage → List GuestPage) → p ≡ k + i → get_or slots i None ≡ Some dup → ArePlaced k slots → present (set slots i (Some (record dup { items = f dup.items }))) ≡ change_at p f (present slots)
+slot_changed k p i [] dup f is here placed = absurd (none-some dup here)
+slot_changed k p zero (None ∷ slots) dup f is here placed = absurd (none-some dup here)
+slot_changed k p (suc i) (None ∷ slots) dup f is here placed = slot_changed (suc k) p i slots dup f (omega arith) here placed
+slot_changed k p zero (Some d ∷ slots) dup f is here placed =
+    let h = placed.0 in
+    let none = change_none p f (present slots) (none_at (suc k) p slots (omega arith) placed.1) in
+    let same : d ≡ dup = same_Some d dup here in
+    grind (arith, nat_tests, h, none, same)
+slot_changed k p (suc i) (Some d ∷ slots) dup f is here placed =
+    let h = placed.0 in
+    let rest = slot_changed (suc k) p i slots dup f (omega arith) here placed.1 in
+    grind (arith, nat_tests, h, rest)
+
+-- a slot that takes a dup of its place, or none
+pub placed_put : (k p i : ℕ) (slots : List (Option Dup)) (dup : Dup) → p ≡ k + i → dup.row.place ≡ p → ArePlaced k slots → ArePlaced k (set slots i (Some dup))
+placed_put k p i [] dup is at placed = tt
+placed_put k p zero (None ∷ slots) dup is at placed = (omega arith, placed)
+placed_put k p (suc i) (None ∷ slots) dup is at placed = placed_put (suc k) p i slots dup (omega arith) at placed
+placed_put k p zero (Some d ∷ slots) dup is at placed = (omega arith, placed.1)
+placed_put k p (suc i) (Some d ∷ slots) dup is at placed = (placed.0, placed_put (suc k) p i slots dup (omega arith) at placed.1)
+
+pub placed_emptied : (k i : ℕ) (slots : List (Option Dup)) → ArePlaced k slots → ArePlaced k (set slots i None)
+placed_emptied k i [] placed = tt
+placed_emptied k zero (None ∷ slots) placed = placed
+placed_emptied k (suc i) (None ∷ slots) placed = placed_emptied (suc k) i slots placed
+placed_emptied k zero (Some d ∷ slots) placed = placed.1
+placed_emptied k (suc i) (Some d ∷ slots) placed = (placed.0, placed_emptied (suc k) i slots placed.1)
+
+module _ (test : Option Dup → Bool) where
+  where_above : (k : ℕ) (slots : List (Option Dup)) → All (λ p. k ≤ p) (places_where test k slots)
+  where_above k [] = λ i d lt. absurd (omega arith)
+  where_above k (s ∷ slots) =
+      let rest = All-weaker (λ p. suc k ≤ p) (λ p. k ≤ p) (λ p h. omega arith) (places_where test (suc k) slots) (where_above (suc k) slots) in
+      elim (test s) as (λ b. All (λ p. k ≤ p) (if b then k ∷ places_where test (suc k) slots else places_where test (suc k) slots)) [
+        | true ↦ All-cons (λ p. k ≤ p) k (places_where test (suc k) slots) (omega arith) rest
+        | false ↦ rest
+      ]
+
+  where_not_below : (k p : ℕ) (slots : List (Option Dup)) → p < k → All (λ q. nat_lt q p ≡ false) (places_where test k slots)
+  where_not_below k p slots below i d lt = let h = where_above k slots i d lt in grind (arith, nat_tests, h)
+
+  where_behind : (k p : ℕ) (slots : List (Option Dup)) → p < k → All (λ q. nat_lt p q ≡ true) (places_where test k slots)
+  where_behind k p slots below i d lt = let h = where_above k slots i d lt in grind (arith, nat_tests, h)
+
+  where_apart : (k p : ℕ) (slots : List (Option Dup)) → p < k → All (λ q. not (q == p) ≡ true) (places_where test k slots)
+  where_apart k p slots below i d lt = let h = where_above k slots i d lt in grind (arith, nat_tests, h)
+
+  -- a slot that passes from now on
+  pub where_with : (k p i : ℕ) (slots : List (Option Dup)) (s : Option Dup) → p ≡ k + i → i < length slots → test s ≡ true → places_where test k (set slots i s) ≡ with_place p (places_where test k slots)
+  where_with k p i [] s is within passes = absurd (omega arith)
+  where_with k p zero (r ∷ slots) s is within passes =
+      let rest = places_where test (suc k) slots in
+      let none = filter_none (λ q. nat_lt q p) rest (where_not_below (suc k) p slots (omega arith)) in
+      let each = filter_all (λ q. nat_lt p q) rest (where_behind (suc k) p slots (omega arith)) in
+      elim (test r) as (λ b. (if test s then k ∷ rest else rest) ≡ with_place p (if b then k ∷ rest else rest)) [
+        | true ↦ grind (arith, nat_tests, none, each, passes)
+        | false ↦ grind (arith, nat_tests, none, each, passes)
+      ]
+  where_with k p (suc i) (r ∷ slots) s is within passes =
+      let rest = places_where test (suc k) slots in
+      let new = places_where test (suc k) (set slots i s) in
+      let so_far = where_with (suc k) p i slots s (omega arith) (omega arith) passes in
+      elim (test r) as (λ b. (if b then k ∷ new else new) ≡ with_place p (if b then k ∷ rest else rest)) [
+        | true ↦ grind (arith, nat_tests, so_far)
+        | false ↦ so_far
+      ]
+
+  -- a slot that fails from now on
+  pub where_without : (k p i : ℕ) (slots : List (Option Dup)) (s : Option Dup) → p ≡ k + i → i < length slots → test s ≡ false → places_where test k (set slots i s) ≡ without p (places_where test k slots)
+  where_without k p i [] s is within fails = absurd (omega arith)
+  where_without k p zero (r ∷ slots) s is within fails =
+      let rest = places_where test (suc k) slots in
+      let each = filter_all (λ q. not (q == p)) rest (where_apart (suc k) p slots (omega arith)) in
+      elim (test r) as (λ b. (if test s then k ∷ rest else rest) ≡ without p (if b then k ∷ rest else rest)) [
+        | true ↦ grind (arith, nat_tests, each, fails)
+        | false ↦ grind (arith, nat_tests, each, fails)
+      ]
+  where_without k p (suc i) (r ∷ slots) s is within fails =
+      let rest = places_where test (suc k) slots in
+      let new = places_where test (suc k) (set slots i s) in
+      let so_far = where_without (suc k) p i slots s (omega arith) (omega arith) fails in
+      elim (test r) as (λ b. (if b then k ∷ new else new) ≡ without p (if b then k ∷ rest else rest)) [
+        | true ↦ grind (arith, nat_tests, so_far)
+        | false ↦ so_far
+      ]
+
+  -- a slot that passes as it did
+  pub where_same : (k i : ℕ) (slots : List (Option Dup)) (s : Option Dup) → test s ≡ test (get_or slots i None) → places_where test k (set slots i s) ≡ places_where test k slots
+  where_same k i [] s same = refl
+  where_same k zero (r ∷ slots) s same = rw same refl
+  where_same k (suc i) (r ∷ slots) s same = let so_far = where_same (suc k) i slots s same in grind (arith, so_far)
+
+  where_short : (k : ℕ) (slots : List (Option Dup)) → length (places_where test k slots) ≤ length slots
+  where_short k [] = omega arith
+  where_short k (s ∷ slots) = let so_far = where_short (suc k) slots in grind (arith, so_far)
+
+  -- beside a slot that fails there is room for one more place
+  pub where_room : (k i : ℕ) (slots : List (Option Dup)) → i < length slots → test (get_or slots i None) ≡ false → length (places_where test k slots) + 1 ≤ length slots
+  where_room k i [] within fails = absurd (omega arith)
+  where_room k zero (s ∷ slots) within fails = let short = where_short (suc k) slots in grind (arith, fails, short)
+  where_room k (suc i) (s ∷ slots) within fails = let so_far = where_room (suc k) i slots (omega arith) fails in grind (arith, so_far)
+
+  -- the first place is what a search by the same test finds
+  pub where_first : (k : ℕ) (slots : List (Option Dup)) (by : ℕ → Bool) → ((i p : ℕ) → p ≡ k + i → i < length slots → by p ≡ test (get_or slots i None)) → slice_get (places_where test k slots) 0 ≡ find by (range_with_len k (length slots))
+  where_first k [] by same = refl
+  where_first k (s ∷ slots) by same =
+      let here : by k ≡ test s = same 0 k (omega arith) (omega arith) in
+      let rest = where_first (suc k) slots by (λ i p is lt. same (suc i) p (omega arith) (omega arith)) in
+      grind (arith, here, rest)
+
+-- the first stale place is that of the first stale dup
+pub stale_first : (k : ℕ) (slots : List (Option Dup)) → ArePlaced k slots → slice_get (places_where is_stale_slot k slots) 0 ≡ option_map (λ d. d.row.place) (find is_stale (present slots))
+stale_first k [] placed = refl
+stale_first k (None ∷ slots) placed = stale_first (suc k) slots placed
+stale_first k (Some d ∷ slots) placed =
+    let h = placed.0 in
+    let rest = stale_first (suc k) slots placed.1 in
+    grind (arith, h, rest)
+
+-- a row stands at a place where the slot holds a dup
+row_there : (p : ℕ) (dups : List Dup) → list_any (λ d. d.place == p) (rows_of dups) ≡ is_some (dup_at p dups)
+row_there p [] = refl
+row_there p (d ∷ dups) = let rest = row_there p dups in grind (arith, rest)
+
+empty_is : (s : Option Dup) → not (is_some s) ≡ is_empty_slot s
+empty_is None = refl
+empty_is (Some d) = refl
+
+-- the first empty place is the least place that no dup has
+pub empty_first : (slots : List (Option Dup)) → ArePlaced 0 slots → slice_get (places_where is_empty_slot 0 slots) 0 ≡ empty_place (length slots) (rows_of (present slots))
+empty_first slots placed =
+    where_first is_empty_slot 0 slots (λ p. not (list_any (λ d. d.place == p) (rows_of (present slots)))) (λ i p is within.
+    ap not (row_there p (present slots) ∙ ap is_some (slot_found 0 p i slots is placed)) ∙ empty_is (get_or slots i None))
+
+not_stale : (d : Dup) → is_live d ≡ true → is_stale d ≡ false
+not_stale d live = grind (arith, nat_tests, live)
+
+-- a dup with items put into its slot
+pub slots_put : (slots : List (Option Dup)) (empty stale empty' stale' : SmallVec ℕ) (dup : Dup) → dup.row.place < length slots → is_live dup ≡ true → AreSlots slots empty stale → empty'.items ≡ without dup.row.place empty.items → empty'.capacity ≡ empty.capacity → stale'.items ≡ without dup.row.place stale.items → stale'.capacity ≡ stale.capacity → AreSlots (set slots dup.row.place (Some dup)) empty' stale'
+slots_put slots empty stale empty' stale' dup within live h left room left_stale room_stale =
+    let p = dup.row.place in
+    record {
+      few = rw length-set h.few;
+      placed = placed_put 0 p p slots dup (omega arith) refl h.placed;
+      empties = left ∙ ap (without p) h.empties ∙ sym (where_without is_empty_slot 0 p p slots (Some dup) (omega arith) within refl);
+      stales = left_stale ∙ ap (without p) h.stales ∙ sym (where_without is_stale_slot 0 p p slots (Some dup) (omega arith) within (not_stale dup live));
+      empty_room = rw (length-set, room) h.empty_room;
+      stale_room = rw (length-set, room_stale) h.stale_room;
+    }
+
+filled_within : (p : ℕ) (slots : List (Option Dup)) → is_some (get_or slots p None) ≡ true → p < length slots
+filled_within p [] filled = absurd (false≢true filled)
+filled_within zero (s ∷ slots) filled = omega arith
+filled_within (suc p) (s ∷ slots) filled = let rest = filled_within p slots filled in omega (arith, rest)
+
+-- a place where a dup stands has a slot, and what a search read there is that dup
+pub known_within : (p : ℕ) (slots : List (Option Dup)) → ArePlaced 0 slots → is_some (dup_at p (present slots)) ≡ true → p < length slots
+known_within p slots placed known =
+    let here : is_some (get_or slots p None) ≡ true = rw (← slot_found 0 p p slots (omega arith) placed) known in
+    filled_within p slots here
+
+pub read_dup : (p : ℕ) (slots : List (Option Dup)) (r : Option Dup) → ArePlaced 0 slots → p < length slots → r ≡ get_or slots p r → dup_at p (present slots) ≡ r
+read_dup p slots r placed within read =
+    slot_found 0 p p slots (omega arith) placed ∙ get_or_default slots p None r within ∙ sym read
+
+-- the dup of a slot goes
+pub slots_cleared : (p : ℕ) (slots : List (Option Dup)) (empty stale empty' stale' : SmallVec ℕ) → p < length slots → AreSlots slots empty stale → empty'.items ≡ with_place p empty.items → empty'.capacity ≡ empty.capacity → stale'.items ≡ without p stale.items → stale'.capacity ≡ stale.capacity → AreSlots (set slots p None) empty' stale'
+slots_cleared p slots empty stale empty' stale' within h more room left room_stale =
+    record {
+      few = rw length-set h.few;
+      placed = placed_emptied 0 p slots h.placed;
+      empties = more ∙ ap (with_place p) h.empties ∙ sym (where_with is_empty_slot 0 p p slots None (omega arith) within refl);
+      stales = left ∙ ap (without p) h.stales ∙ sym (where_without is_stale_slot 0 p p slots None (omega arith) within refl);
+      empty_room = rw (length-set, room) h.empty_room;
+      stale_room = rw (length-set, room_stale) h.stale_room;
+    }
+
+filled_place : (k p i : ℕ) (slots : List (Option Dup)) (d : Dup) → p ≡ k + i → get_or slots i None ≡ Some d → ArePlaced k slots → d.row.place ≡ p
+filled_place k p i [] d is filled placed = absurd (none-some d filled)
+filled_place k p zero (None ∷ slots) d is filled placed = absurd (none-some d filled)
+filled_place k p (suc i) (None ∷ slots) d is filled placed = filled_place (suc k) p i slots d (omega arith) filled placed
+filled_place k p zero (Some e ∷ slots) d is filled placed = ap (λ x. x.row.place) (sym (same_Some e d filled)) ∙ placed.0 ∙ omega arith
+filled_place k p (suc i) (Some e ∷ slots) d is filled placed = filled_place (suc k) p i slots d (omega arith) filled placed.1
+
+-- the items of a slot's dup change: the stale places are those given
+pub slots_changed : (p : ℕ) (slots : List (Option Dup)) (empty stale stale' : SmallVec ℕ) (d e : Dup) → p < length slots → AreSlots slots empty stale → get_or slots p None ≡ Some d → e.row ≡ d.row → stale'.items ≡ places_where is_stale_slot 0 (set slots p (Some e)) → stale'.capacity ≡ stale.capacity → AreSlots (set slots p (Some e)) empty stale'
+slots_changed p slots empty stale stale' d e within h filled same_row stales room_stale =
+    let at : e.row.place ≡ p = ap (λ r. r.place) same_row ∙ filled_place 0 p p slots d (omega arith) filled h.placed in
+    record {
+      few = rw length-set h.few;
+      placed = placed_put 0 p p slots e (omega arith) at h.placed;
+      empties = h.empties ∙ sym (where_same is_empty_slot 0 p slots (Some e) (sym (ap is_empty_slot filled)));
+      stales = stales;
+      empty_room = rw length-set h.empty_room;
+      stale_room = rw (length-set, room_stale) h.stale_room;
+    }
+
+-- where a dup stands the slot is not empty
+pub full_slot : (p : ℕ) (slots : List (Option Dup)) → ArePlaced 0 slots → is_some (dup_at p (present slots)) ≡ true → is_empty_slot (get_or slots p None) ≡ false
+full_slot p slots placed known =
+    let here = slot_found 0 p p slots (omega arith) placed in
+    sym (empty_is (get_or slots p None)) ∙ ap not (ap is_some (sym here) ∙ known)
+
+-- the dup that a look into a slot found
+pub slot_read : (p : ℕ) (slots : List (Option Dup)) (r : Option Dup) (d : Dup) → ArePlaced 0 slots → is_some (dup_at p (present slots)) ≡ true → r ≡ get_or slots p r → r ≡ Some d → get_or slots p None ≡ Some d
+slot_read p slots r d placed known read is =
+    get_or_default slots p None r (known_within p slots placed known) ∙ sym read ∙ is
+
+pub slot_not_none : (p : ℕ) (slots : List (Option Dup)) (r : Option Dup) → ArePlaced 0 slots → is_some (dup_at p (present slots)) ≡ true → r ≡ get_or slots p r → r ≡ None → ⊥
+slot_not_none p slots r placed known read is =
+    let here = read_dup p slots r placed (known_within p slots placed known) read ∙ is in
+    false≢true (ap is_some (sym here) ∙ known)
+
+-- with an item more a dup is not stale
+pub grown_not_stale : (page : GuestPage) (pages : List GuestPage) → (length (with_item page pages) == 0) ≡ false
+grown_not_stale page pages =
+    let n = length-append (filter (λ p. comes_before p page) pages) (page ∷ filter (λ p. comes_before page p) pages) in
+    grind (arith, nat_tests, n)
+
+-- what is known of the dup at a place once its slot was read
+pub record HoldsDup (p : ℕ) (slots : List (Option Dup)) (s : SlotsState) (d : Dup) : Type 0 where
+  pub within : p < length slots
+  pub filled : get_or slots p None ≡ Some d
+  pub items : items_in (dup_at p s.dups) ≡ d.items
+
+pub holds_dup : (p : ℕ) (slots : List (Option Dup)) (s : SlotsState) (r : Option Dup) (d : Dup) → slots_seen slots ≡ s → ArePlaced 0 slots → is_some (dup_at p s.dups) ≡ true → r ≡ get_or slots p r → r ≡ Some d → HoldsDup p slots s d
+holds_dup p slots s r d view placed known read is =
+    let known_here : is_some (dup_at p (present slots)) ≡ true = rw (ap (λ t. t.dups) view) known in
+    let filled = slot_read p slots r d placed known_here read is in
+    record {
+      within = known_within p slots placed known_here;
+      filled = filled;
+      items = ap (λ t. items_in (dup_at p t.dups)) (sym view) ∙ ap items_in (slot_found 0 p p slots (omega arith) placed ∙ filled);
+    }
+
+-- with an item more in the dup of a slot, which is not stale then
+pub slots_grown : (p : ℕ) (slots : List (Option Dup)) (empty stale stale' : SmallVec ℕ) (d : Dup) (page : GuestPage) → p < length slots → AreSlots slots empty stale → get_or slots p None ≡ Some d → stale'.items ≡ without p stale.items → stale'.capacity ≡ stale.capacity → AreSlots (set slots p (Some (record d { items = with_item page d.items }))) empty stale'
+slots_grown p slots empty stale stale' d page within h filled left room =
+    let e : Dup = record d { items = with_item page d.items } in
+    slots_changed p slots empty stale stale' d e within h filled refl
+    (left ∙ ap (without p) h.stales ∙ sym (where_without is_stale_slot 0 p p slots (Some e) (omega arith) within (grown_not_stale page d.items))) room
+
+-- the view after a change of the items at a place
+pub view_changed : (p : ℕ) (slots : List (Option Dup)) (s : SlotsState) (d : Dup) (f : List GuestPage → List GuestPage) → slots_seen slots ≡ s → ArePlaced 0 slots → get_or slots p None ≡ Some d → slots_seen (set slots p (Some (record d { items = f d.items }))) ≡ record { places = s.places; dups = change_at p f s.dups }
+view_changed p slots s d f view placed filled =
+    (λ i. record { places = length-set slots p (Some (record d { items = f d.items })) i; dups = slot_changed 0 p p slots d f (omega arith) filled placed i })
+    ∙ ap (λ t. record { places = t.places; dups = change_at p f t.dups }) view
+
+items_not_none : (page : GuestPage) (pages : List GuestPage) → true ≡ has_item page pages → (length pages == 0) ≡ false
+items_not_none page [] found = absurd (false≢true (sym found))
+items_not_none page (p ∷ pages) found = grind (arith, nat_tests)
+
+-- a dup of which a page is an item is not stale
+pub had_item : (page : GuestPage) (d : Dup) → true ≡ has_item page d.items → is_stale d ≡ false
+had_item page d found = items_not_none page d.items found
+
+-- with an item less in the dup of a slot: one that was no item, the last one, and another
+pub slots_unlike : (p : ℕ) (slots : List (Option Dup)) (empty stale : SmallVec ℕ) (d : Dup) (page : GuestPage) → p < length slots → AreSlots slots empty stale → get_or slots p None ≡ Some d → false ≡ has_item page d.items → AreSlots (set slots p (Some (record d { items = without_item page d.items }))) empty stale
+slots_unlike p slots empty stale d page within h filled absent =
+    let e : Dup = record d { items = without_item page d.items } in
+    let same : is_stale e ≡ is_stale d = ap (λ ps. length ps == 0) (sym (absent_kept comes_before same_page pages_ordered page d.items (sym absent))) in
+    slots_changed p slots empty stale stale d e within h filled refl
+    (h.stales ∙ sym (where_same is_stale_slot 0 p slots (Some e) (same ∙ sym (ap is_stale_slot filled)))) refl
+
+pub slots_shrunk : (p : ℕ) (slots : List (Option Dup)) (empty stale : SmallVec ℕ) (d : Dup) (page : GuestPage) → p < length slots → AreSlots slots empty stale → get_or slots p None ≡ Some d → true ≡ has_item page d.items → (length (without_item page d.items) == 0) ≡ false → AreSlots (set slots p (Some (record d { items = without_item page d.items }))) empty stale
+slots_shrunk p slots empty stale d page within h filled found left =
+    let e : Dup = record d { items = without_item page d.items } in
+    slots_changed p slots empty stale stale d e within h filled refl
+    (h.stales ∙ sym (where_same is_stale_slot 0 p slots (Some e) (left ∙ sym (ap is_stale_slot filled ∙ had_item page d found)))) refl
+
+pub slots_staled : (p : ℕ) (slots : List (Option Dup)) (empty stale stale' : SmallVec ℕ) (d : Dup) (page : GuestPage) → p < length slots → AreSlots slots empty stale → get_or slots p None ≡ Some d → (length (without_item page d.items) == 0) ≡ true → stale'.items ≡ with_place p stale.items → stale'.capacity ≡ stale.capacity → AreSlots (set slots p (Some (record d { items = without_item page d.items }))) empty stale'
+slots_staled p slots empty stale stale' d page within h filled none more room =
+    let e : Dup = record d { items = without_item page d.items } in
+    slots_changed p slots empty stale stale' d e within h filled refl
+    (more ∙ ap (with_place p) h.stales ∙ sym (where_with is_stale_slot 0 p p slots (Some e) (omega arith) within none)) room
+
+pub stale_has_room : (p : ℕ) (slots : List (Option Dup)) (empty stale : SmallVec ℕ) (d : Dup) (page : GuestPage) → p < length slots → AreSlots slots empty stale → get_or slots p None ≡ Some d → true ≡ has_item page d.items → length stale.items + 1 ≤ stale.capacity
+stale_has_room p slots empty stale d page within h filled found =
+    let room = where_room is_stale_slot 0 p slots within (ap is_stale_slot filled ∙ had_item page d found) in
+    omega (arith, room, ap length h.stales, h.stale_room)

@@ -1,0 +1,61 @@
+-- Slots that are all empty.
+use Rattle.std.proofs.Common.{◌≡◌, ◌∙◌, ℕ, zero, suc, ◌+◌, ◌<◌, ◌≤◌, List, [], ◌∷◌, ◌++◌, length, replicate, None, Option, refl, sym, ap, add-one, arith}
+use Rattle.std.specs.Prelude.{nat_lt, filter}
+use Rattle.std.specs.List.{range_with_len}
+use Rattle.std.proofs.lemmas.Bool.Decides.{nat_tests}
+use Rattle.smallvec.specs.SmallVec.{SmallVec}
+use Rattle.ksm_tree.specs.declared.dup.Dup.{Dup}
+use Rattle.ksm_tree.specs.Places.{with_place}
+use Rattle.ksm_tree.specs.Slots.{SlotsState, slots_seen, present, is_empty_slot, is_stale_slot, places_where, ArePlaced, AreSlots}
+
+abbrev pub none_of : ℕ → List (Option Dup)
+none_of n = replicate n None
+
+-- the next place goes to the end
+range_next : (k p n : ℕ) → p ≡ k + n → with_place p (range_with_len k n) ≡ range_with_len k (suc n)
+range_next k p zero is = let e : p ≡ k = omega arith in grind (arith, e)
+range_next k p (suc n) is =
+    let rest = range_next (k + 1) p n (omega arith) in
+    let below : k < p = omega arith in
+    grind (arith, nat_tests, rest, below)
+
+pub range_more : (k p n : ℕ) → p ≡ k + n → with_place p (range_with_len k n) ≡ range_with_len k (n + 1)
+range_more k p n is = rw (add-one n) (range_next k p n is)
+
+pub none_present : (n : ℕ) → present (none_of n) ≡ []
+none_present zero = refl
+none_present (suc n) = none_present n
+
+none_placed : (k n : ℕ) → ArePlaced k (none_of n)
+none_placed k zero = tt
+none_placed k (suc n) = none_placed (suc k) n
+
+none_stale : (k n : ℕ) → [] ≡ places_where is_stale_slot k (none_of n)
+none_stale k zero = refl
+none_stale k (suc n) = none_stale (suc k) n
+
+none_empty : (k n : ℕ) → range_with_len k n ≡ places_where is_empty_slot k (none_of n)
+none_empty k zero = refl
+none_empty k (suc n) = let rest = none_empty (suc k) n in rw add-one (ap (λ ps. k ∷ ps) rest)
+
+length_none : (n : ℕ) → length (none_of n) ≡ n
+length_none zero = refl
+length_none (suc n) = ap suc (length_none n)
+
+pub none_seen : (n : ℕ) → slots_seen (none_of n) ≡ record { places = n; dups = [] }
+none_seen n i = record { places = length_none n i; dups = none_present n i }
+
+pub none_slots : (n : ℕ) (empty stale : SmallVec ℕ) → n ≤ 1024 → empty.items ≡ range_with_len 0 n → stale.items ≡ [] → n ≤ empty.capacity → n ≤ stale.capacity → AreSlots (none_of n) empty stale
+none_slots n empty stale few empties stales empty_room stale_room =
+    record {
+      few = rw length_none few;
+      placed = none_placed 0 n;
+      empties = empties ∙ none_empty 0 n;
+      stales = stales ∙ none_stale 0 n;
+      empty_room = rw length_none empty_room;
+      stale_room = rw length_none stale_room;
+    }
+
+pub length_range : (k n : ℕ) → length (range_with_len k n) ≡ n
+length_range k zero = refl
+length_range k (suc n) = ap suc (length_range (k + 1) n)

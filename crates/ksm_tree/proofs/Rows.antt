@@ -1,0 +1,290 @@
+-- Dup rows in the order of their places: what a new row and a row that goes change of what is found.
+use Rattle.std.proofs.Common.{◌≡◌, ◌∙◌, ℕ, suc, ◌+◌, ◌<◌, Bool, true, false, List, [], ◌∷◌, ◌++◌, length, get_or, map, Option, None, Some, refl, sym, ap, inl, inr, cond, arith}
+use Rattle.std.specs.Prelude.{◌==◌, ◌&&◌, not, nat_lt, All, AllPairs, filter, find, option_map, bytes_eq, if◌then◌else◌}
+use Rattle.std.proofs.lemmas.Bool.{cases_Bool, cases_lt, ltb-true, ne_eqb, false≢true}
+use Rattle.std.proofs.lemmas.Option.{none-some, same_Some}
+use Rattle.std.proofs.lemmas.Bool.Decides.{nat_tests}
+use Rattle.std.proofs.lemmas.List.Elements.{All-head, All-tail, All-append, All-weaker, All-cons, All-filter, filter_passes}
+use Rattle.std.proofs.lemmas.List.Kept.{AllPairs-cons, AllPairs-filter}
+use Rattle.ksm_base.specs.declared.row.DupRow.{DupRow}
+use Rattle.ksm_base.specs.Rows.{InPlaceOrder, with_dup}
+use Rattle.ksm_rmap.proofs.Ordered.{pairs_head, pairs_tail, pairs_append, filter_none, filter_all}
+use Rattle.ksm_tree.specs.Index.{in_group, row_place, group_places}
+use Rattle.ksm_tree.specs.Places.{with_place, without}
+
+abbrev Comes : DupRow → DupRow → Type 0
+Comes d e = (d.place < e.place) × ((d.number == e.number) ≡ false)
+
+abbrev numbered : ℕ → DupRow → Bool
+numbered q r = r.number == q
+
+-- the rows below a place, above it, and elsewhere
+module _ (p : ℕ) where
+  abbrev below : DupRow → Bool
+  below r = nat_lt r.place p
+
+  abbrev above : DupRow → Bool
+  above r = nat_lt p r.place
+
+  abbrev elsewhere : DupRow → Bool
+  elsewhere r = not (r.place == p)
+
+  pub rows_parted : (rows : List DupRow) → InPlaceOrder rows → filter elsewhere rows ≡ filter below rows ++ filter above rows
+  rows_parted [] rise = refl
+  rows_parted (r ∷ rows) rise =
+      let rest = rows_parted rows (pairs_tail (λ a b. (a.place < b.place) × ((a.number == b.number) ≡ false)) r rows rise) in
+      elim (cases_lt p r.place) [
+        | inl greater ↦
+            let none : All (λ s. below s ≡ false) rows = λ k d lt. (let h = (rise 0 (suc k) d (omega arith) (omega arith)).0 in grind (arith, nat_tests, h, greater)) in
+            let e = filter_none below rows none in
+            grind (arith, nat_tests, greater, rest, e)
+        | inr no_greater ↦ grind (arith, nat_tests, no_greater, rest)
+      ]
+
+  -- the places of a group, without one
+  pub group_elsewhere : (t : ℕ) (b : List ℕ) (rows : List DupRow) → group_places t b (filter elsewhere rows) ≡ without p (group_places t b rows)
+  group_elsewhere t b [] = refl
+  group_elsewhere t b (r ∷ rows) =
+      let rest = group_elsewhere t b rows in
+      elim (cases_Bool (in_group t b r)) [
+        | inl inside ↦ elim (cases_Bool (r.place == p)) [
+          | inl here ↦ grind (arith, inside, here, rest)
+          | inr away ↦ grind (arith, inside, away, rest)
+        ]
+        | inr outside ↦ elim (cases_Bool (r.place == p)) [
+          | inl here ↦ grind (arith, outside, here, rest)
+          | inr away ↦ grind (arith, outside, away, rest)
+        ]
+      ]
+
+  pub group_below : (t : ℕ) (b : List ℕ) (rows : List DupRow) → group_places t b (filter below rows) ≡ filter (λ q. nat_lt q p) (group_places t b rows)
+  group_below t b [] = refl
+  group_below t b (r ∷ rows) =
+      let rest = group_below t b rows in
+      elim (cases_Bool (in_group t b r)) [
+        | inl inside ↦ elim (cases_Bool (below r)) [
+          | inl here ↦ grind (arith, inside, here, rest)
+          | inr away ↦ grind (arith, inside, away, rest)
+        ]
+        | inr outside ↦ elim (cases_Bool (below r)) [
+          | inl here ↦ grind (arith, outside, here, rest)
+          | inr away ↦ grind (arith, outside, away, rest)
+        ]
+      ]
+
+  pub group_above : (t : ℕ) (b : List ℕ) (rows : List DupRow) → group_places t b (filter above rows) ≡ filter (λ q. nat_lt p q) (group_places t b rows)
+  group_above t b [] = refl
+  group_above t b (r ∷ rows) =
+      let rest = group_above t b rows in
+      elim (cases_Bool (in_group t b r)) [
+        | inl inside ↦ elim (cases_Bool (above r)) [
+          | inl here ↦ grind (arith, inside, here, rest)
+          | inr away ↦ grind (arith, inside, away, rest)
+        ]
+        | inr outside ↦ elim (cases_Bool (above r)) [
+          | inl here ↦ grind (arith, outside, here, rest)
+          | inr away ↦ grind (arith, outside, away, rest)
+        ]
+      ]
+
+  -- where no row of a group stands at the place, its places stay without it
+  pub group_unlike : (t : ℕ) (b : List ℕ) (rows : List DupRow) → All (λ r. (r.place == p && in_group t b r) ≡ false) rows → without p (group_places t b rows) ≡ group_places t b rows
+  group_unlike t b [] none = refl
+  group_unlike t b (r ∷ rows) none =
+      let rest = group_unlike t b rows (All-tail (λ s. (s.place == p && in_group t b s) ≡ false) r rows none) in
+      let here = All-head (λ s. (s.place == p && in_group t b s) ≡ false) r rows none in
+      elim (cases_Bool (in_group t b r)) [
+        | inl inside ↦ let away : (r.place == p) ≡ false = grind (arith, inside, here) in grind (arith, inside, away, rest)
+        | inr outside ↦ grind (arith, outside, rest)
+      ]
+
+-- a list of rows with one put in
+group_append : (t : ℕ) (b : List ℕ) (xs ys : List DupRow) → group_places t b (xs ++ ys) ≡ group_places t b xs ++ group_places t b ys
+group_append t b [] ys = refl
+group_append t b (x ∷ xs) ys =
+    let rest = group_append t b xs ys in
+    elim (cases_Bool (in_group t b x)) [
+      | inl inside ↦ grind (arith, inside, rest)
+      | inr outside ↦ grind (arith, outside, rest)
+    ]
+
+-- the places of a group with a new row
+pub group_joined : (t : ℕ) (b : List ℕ) (row : DupRow) (rows : List DupRow) → in_group t b row ≡ true → group_places t b (with_dup row rows) ≡ with_place row.place (group_places t b rows)
+group_joined t b row rows inside =
+    let lower = filter (below row.place) rows in
+    let higher = filter (above row.place) rows in
+    let front = group_append t b lower (row ∷ higher) in
+    let low = group_below row.place t b rows in
+    let high = group_above row.place t b rows in
+    let first : group_places t b (row ∷ higher) ≡ row.place ∷ group_places t b higher = grind (arith, inside) in
+    front ∙ (λ i. low i ++ (first ∙ ap (λ ps. row.place ∷ ps) high) i)
+
+pub group_passed : (t : ℕ) (b : List ℕ) (row : DupRow) (rows : List DupRow) → InPlaceOrder rows → in_group t b row ≡ false → group_places t b (with_dup row rows) ≡ without row.place (group_places t b rows)
+group_passed t b row rows rise outside =
+    let lower = filter (below row.place) rows in
+    let higher = filter (above row.place) rows in
+    let first : group_places t b (row ∷ higher) ≡ group_places t b higher = grind (arith, outside) in
+    group_append t b lower (row ∷ higher)
+    ∙ (λ i. group_places t b lower ++ first i)
+    ∙ sym (group_append t b lower higher)
+    ∙ ap (group_places t b) (sym (rows_parted row.place rows rise))
+    ∙ group_elsewhere row.place t b rows
+
+-- a search past one that fails, and up to one that passes
+find_past : {X : Type 0} (test : X → Bool) (x : X) (xs ys : List X) → test x ≡ false → find test (xs ++ x ∷ ys) ≡ find test (xs ++ ys)
+find_past test x [] ys fails = grind (arith, fails)
+find_past test x (z ∷ xs) ys fails = let rest = find_past test x xs ys fails in grind (arith, rest)
+
+find_to : {X : Type 0} (test : X → Bool) (x : X) (xs ys : List X) → All (λ z. test z ≡ false) xs → test x ≡ true → find test (xs ++ x ∷ ys) ≡ Some x
+find_to test x [] ys none passes = grind (arith, passes)
+find_to test x (z ∷ xs) ys none passes =
+    let here = All-head (λ w. test w ≡ false) z xs none in
+    let rest = find_to test x xs ys (All-tail (λ w. test w ≡ false) z xs none) passes in
+    grind (arith, here, rest)
+
+-- the place of a number with a new row
+pub place_new : (row : DupRow) (rows : List DupRow) → All (λ r. r.number < row.number) rows → row_place row.number (with_dup row rows) ≡ Some row.place
+place_new row rows fresh =
+    let F : DupRow → Type 0 = λ r. r.number < row.number in
+    let lower = filter (below row.place) rows in
+    let none = All-weaker F (λ r. numbered row.number r ≡ false) (λ r h. ne_eqb r.number row.number (λ e. omega (arith, h, e))) lower (All-filter (below row.place) F rows fresh) in
+    ap (option_map (λ r. r.place)) (find_to (numbered row.number) row lower (filter (above row.place) rows) none (grind (arith, nat_tests)))
+
+pub place_kept : (q : ℕ) (row : DupRow) (rows : List DupRow) → InPlaceOrder rows → (q == row.number) ≡ false → row_place q (with_dup row rows) ≡ row_place q (filter (elsewhere row.place) rows)
+place_kept q row rows rise other =
+    let lower = filter (below row.place) rows in
+    let higher = filter (above row.place) rows in
+    let fails : numbered q row ≡ false = grind (arith, nat_tests, other) in
+    ap (option_map (λ r. r.place)) (find_past (numbered q) row lower higher fails ∙ ap (find (numbered q)) (sym (rows_parted row.place rows rise)))
+
+-- what is found is one of the list, and passes
+pub found_in : {X : Type 0} (P : X → Type 0) (test : X → Bool) (xs : List X) (e : X) → All P xs → find test xs ≡ Some e → P e
+found_in P test [] e each found = absurd (none-some e found)
+found_in P test (x ∷ xs) e each found =
+    elim (cases_Bool (test x)) [
+      | inl passes ↦ let same : x ≡ e = same_Some x e (grind (arith, passes, found)) in rw (← same) (All-head P x xs each)
+      | inr fails ↦ found_in P test xs e (All-tail P x xs each) (grind (arith, fails, found))
+    ]
+
+pub found_passes : {X : Type 0} (test : X → Bool) (xs : List X) (e : X) → find test xs ≡ Some e → test e ≡ true
+found_passes test [] e found = absurd (none-some e found)
+found_passes test (x ∷ xs) e found =
+    elim (cases_Bool (test x)) [
+      | inl passes ↦ let same : x ≡ e = same_Some x e (grind (arith, passes, found)) in rw (← same) passes
+      | inr fails ↦ found_passes test xs e (grind (arith, fails, found))
+    ]
+
+-- the row that stands at a place is the only one there, and the only one of its number
+abbrev pub IsOne : ℕ → DupRow → DupRow → Type 0
+IsOne p e r = ((r.place == p) ≡ (r.number == e.number)) × ((r.place == p) ≡ true → r ≡ e)
+
+pub only_one : (p : ℕ) (rows : List DupRow) (e : DupRow) → InPlaceOrder rows → find (λ r. r.place == p) rows ≡ Some e → All (IsOne p e) rows
+only_one p [] e rise found = absurd (none-some e found)
+only_one p (r ∷ rows) e rise found =
+    let first = pairs_head Comes r rows rise in
+    elim (cases_Bool (r.place == p)) [
+      | inl here ↦
+          let same : r ≡ e = same_Some r e (grind (arith, here, found)) in
+          All-cons (IsOne p e) r rows (grind (arith, nat_tests, here, same), λ _. same)
+          (All-weaker (Comes r) (IsOne p e) (λ s h.
+          let away : (s.place == p) ≡ false = (let h_place = h.0 in grind (arith, nat_tests, here, h_place)) in
+          let other : (s.number == e.number) ≡ false = (let h_number = h.1 in grind (arith, nat_tests, same, h_number)) in
+          (away ∙ sym other, λ at. absurd (false≢true (sym away ∙ at)))) rows first)
+      | inr away ↦
+          let found_rest : find (λ s. s.place == p) rows ≡ Some e = grind (arith, away, found) in
+          let apart = found_in (Comes r) (λ s. s.place == p) rows e first found_rest in
+          let rest = only_one p rows e (pairs_tail Comes r rows rise) found_rest in
+          All-cons (IsOne p e) r rows (away ∙ sym apart.1, λ at. absurd (false≢true (sym away ∙ at))) rest
+    ]
+
+-- the row of a number is the only one of its number, and the only one at its place
+abbrev pub IsThat : ℕ → DupRow → DupRow → Type 0
+IsThat q e r = (r.number == q) ≡ (r.place == e.place)
+
+pub only_number : (q : ℕ) (rows : List DupRow) (e : DupRow) → InPlaceOrder rows → find (numbered q) rows ≡ Some e → All (IsThat q e) rows
+only_number q [] e rise found = absurd (none-some e found)
+only_number q (r ∷ rows) e rise found =
+    let first = pairs_head Comes r rows rise in
+    elim (cases_Bool (r.number == q)) [
+      | inl here ↦
+          let same : r ≡ e = same_Some r e (grind (arith, here, found)) in
+          All-cons (IsThat q e) r rows (grind (arith, nat_tests, here, same))
+          (All-weaker (Comes r) (IsThat q e) (λ s h.
+          let away : (s.place == e.place) ≡ false = (let h_place = h.0 in grind (arith, nat_tests, same, h_place)) in
+          let other : (s.number == q) ≡ false = (let h_number = h.1 in grind (arith, nat_tests, here, h_number)) in
+          other ∙ sym away) rows first)
+      | inr other ↦
+          let found_rest : find (numbered q) rows ≡ Some e = grind (arith, other, found) in
+          let apart = found_in (Comes r) (numbered q) rows e first found_rest in
+          let away : (r.place == e.place) ≡ false = (let h_place = apart.0 in grind (arith, nat_tests, h_place)) in
+          All-cons (IsThat q e) r rows (other ∙ sym away) (only_number q rows e (pairs_tail Comes r rows rise) found_rest)
+    ]
+
+-- the place of a number once the row at a place has gone
+gone : (p q : ℕ) (e : DupRow) (rows : List DupRow) → (q == e.number) ≡ true → All (IsOne p e) rows → row_place q (filter (elsewhere p) rows) ≡ None
+gone p q e [] this only = refl
+gone p q e (r ∷ rows) this only =
+    let rest = gone p q e rows this (All-tail (IsOne p e) r rows only) in
+    let here = (All-head (IsOne p e) r rows only).0 in
+    elim (cases_Bool (r.place == p)) [
+      | inl at ↦ grind (arith, nat_tests, this, here, at, rest)
+      | inr away ↦
+          let other : (r.number == q) ≡ false = (let h = sym here ∙ away in grind (arith, nat_tests, this, h)) in
+          grind (arith, nat_tests, away, other, rest)
+    ]
+
+stayed : (p q : ℕ) (e : DupRow) (rows : List DupRow) → (q == e.number) ≡ false → All (IsOne p e) rows → row_place q (filter (elsewhere p) rows) ≡ row_place q rows
+stayed p q e [] other only = refl
+stayed p q e (r ∷ rows) other only =
+    let rest = stayed p q e rows other (All-tail (IsOne p e) r rows only) in
+    let here = (All-head (IsOne p e) r rows only).0 in
+    elim (cases_Bool (r.place == p)) [
+      | inl at ↦
+          let unlike : (r.number == q) ≡ false = (let h = sym here ∙ at in grind (arith, nat_tests, other, h)) in
+          grind (arith, nat_tests, at, unlike, rest)
+      | inr away ↦ elim (cases_Bool (r.number == q)) [
+        | inl that ↦ grind (arith, away, that)
+        | inr unlike ↦ grind (arith, away, unlike, rest)
+      ]
+    ]
+
+pub place_gone : (p q : ℕ) (rows : List DupRow) (e : DupRow) → InPlaceOrder rows → find (λ r. r.place == p) rows ≡ Some e → row_place q (filter (elsewhere p) rows) ≡ (if q == e.number then None else row_place q rows)
+place_gone p q rows e rise found =
+    let only = only_one p rows e rise found in
+    elim (cases_Bool (q == e.number)) [
+      | inl this ↦ rw this (gone p q e rows this only)
+      | inr other ↦ rw other (stayed p q e rows other only)
+    ]
+
+all_right : {X : Type 0} (P : X → Type 0) (xs ys : List X) → All P (xs ++ ys) → All P ys
+all_right P [] ys h = h
+all_right P (x ∷ xs) ys h = all_right P xs ys (All-tail P x (xs ++ ys) h)
+
+pairs_cross : (xs ys : List DupRow) → AllPairs Comes (xs ++ ys) → All (λ x. All (Comes x) ys) xs
+pairs_cross [] ys h = λ k d lt. absurd (omega arith)
+pairs_cross (x ∷ xs) ys h = All-cons (λ y. All (Comes y) ys) x xs (all_right (Comes x) xs ys (pairs_head Comes x (xs ++ ys) h)) (pairs_cross xs ys (pairs_tail Comes x (xs ++ ys) h))
+
+-- the order of a list with a new row
+pub rows_with : (row : DupRow) (rows : List DupRow) → InPlaceOrder rows → All (λ r. r.number < row.number) rows → InPlaceOrder (with_dup row rows)
+rows_with row rows rise fresh =
+    let F : DupRow → Type 0 = λ d. d.number < row.number in
+    let lower = filter (below row.place) rows in
+    let higher = filter (above row.place) rows in
+    let fresh_lower = All-filter (below row.place) F rows fresh in
+    let fresh_higher = All-filter (above row.place) F rows fresh in
+    let is_lower = filter_passes (below row.place) rows in
+    let is_higher = filter_passes (above row.place) rows in
+    let behind : All (Comes row) higher = λ k d lt. (ltb-true row.place (get_or higher k d).place (is_higher k d lt), ne_eqb row.number (get_or higher k d).number (λ e. omega (arith, fresh_higher k d lt, e))) in
+    let cross : All (λ x. All (Comes x) (row ∷ higher)) lower = λ k d lt.
+    let x = get_or lower k d in
+    let first : x.place < row.place = ltb-true x.place row.place (is_lower k d lt) in
+    All-cons (Comes x) row higher (first, ne_eqb x.number row.number (λ e. omega (arith, fresh_lower k d lt, e)))
+    (pairs_cross lower higher (rw (← rows_parted row.place rows rise) (AllPairs-filter Comes (elsewhere row.place) rows rise)) k d lt) in
+    pairs_append Comes lower (row ∷ higher) (AllPairs-filter Comes (below row.place) rows rise)
+    (AllPairs-cons Comes row higher behind (AllPairs-filter Comes (above row.place) rows rise)) cross
+
+-- what holds of each row and of a new one holds of each with it
+pub all_with : (P : DupRow → Type 0) (row : DupRow) (rows : List DupRow) → All P rows → P row → All P (with_dup row rows)
+all_with P row rows each one =
+    All-append P (filter (below row.place) rows) (row ∷ filter (above row.place) rows)
+    (All-filter (below row.place) P rows each) (All-cons P row (filter (above row.place) rows) one (All-filter (above row.place) P rows each))

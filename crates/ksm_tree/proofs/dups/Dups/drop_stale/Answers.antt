@@ -1,0 +1,14 @@
+use Rattle.std.proofs.Common.{◌≡◌, ◌∙◌, None, Some, true, refl, sym, ap}
+use Rattle.std.specs.Prelude.{is_some, find, ◌&&◌}
+use Rattle.ksm_tree.specs.Dups.{dup_at, stands_at, is_stale}
+use Rattle.ksm_tree.proofs.Indexed.{gone_indexed, found_stands, none_there}
+use Rattle.ksm_tree.proofs.dups.Dups.drop_stale.Goals as goal
+
+pub unreachable-requires : goal.unreachable-requires
+unreachable-requires c = none_there c.args.place is_stale c.args.self.now.dups (c.in-None.ensures ∙ ap (λ s. dup_at c.args.place s.dups) c.self.view_is) c.requires
+
+pub invariant_of-self : goal.invariant_of-self
+invariant_of-self c =
+    let found = sym c.in-Some.ensures in
+    let at = found_stands c.args.place c.self.inside.slots.dups c.in-Some.dup.now found in
+    rw c.clear.ensures (gone_indexed c.self.inside.slots c.self.inside.next c.self.inside.index c.remove.new.self c.args.place c.in-Some.dup.now c.self.invariant found at c.remove.ensures.numbers c.remove.ensures.groups)

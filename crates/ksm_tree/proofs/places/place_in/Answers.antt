@@ -1,0 +1,14 @@
+use Rattle.std.proofs.Common.{rules}
+use Rattle.std.specs.Prelude.{◌==◌, nat_lt}
+use Rattle.std.proofs.lemmas.List.Sorted.{IsPartitionPoint-from_clause}
+use Rattle.ksm_rmap.proofs.Ordered.{parted, point_is_count}
+use Rattle.ksm_tree.proofs.Numbers.{places_ordered}
+use Rattle.ksm_tree.proofs.places.place_in.Goals as goal
+
+pub returns-clause-count : goal.returns-clause-count
+returns-clause-count c =
+    let place = c.args.place in
+    let places = c.args.places.now in
+    let split = parted nat_lt (λ p q. p == q) places_ordered place places c.requires in
+    let point = IsPartitionPoint-from_clause (λ p. nat_lt p place) places _ c.partition_point.ensures.partitioned split (λ a r q k. search rules) in
+    point_is_count (λ p. nat_lt p place) places _ c.partition_point.ensures.bound point.0 point.1

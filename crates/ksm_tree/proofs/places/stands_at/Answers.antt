@@ -1,0 +1,18 @@
+use Rattle.std.proofs.Common.{◌≡◌, ◌<◌, false, length, get_or, ◌∙◌, sym, ap, arith}
+use Rattle.std.specs.Prelude.{◌==◌, filter, nat_lt}
+use Rattle.std.proofs.lemmas.Bool.{le-ltb}
+use Rattle.ksm_rmap.proofs.Ordered.{found_at, absent_past}
+use Rattle.ksm_tree.proofs.Numbers.{places_ordered}
+use Rattle.ksm_tree.proofs.places.stands_at.Goals as goal
+
+pub returns-then-at-places-clause-found : goal.returns-then-at-places-clause-found
+returns-then-at-places-clause-found c =
+    let place = c.args.place in
+    let places = c.args.places.now in
+    let within : length (filter (λ p. nat_lt p place) places) < length places = omega (arith, c.requires.index) in
+    ap (λ n. get_or places n 0 == place) c.requires.index ∙ sym (found_at nat_lt (λ p q. p == q) places_ordered place places 0 c.requires.order within)
+
+pub returns-else-at-places-clause-found : goal.returns-else-at-places-clause-found
+returns-else-at-places-clause-found c =
+    let past : nat_lt c.args.at (length c.args.places.now) ≡ false = le-ltb _ _ (omega arith) in
+    past ∙ sym (absent_past nat_lt (λ p q. p == q) places_ordered c.args.place c.args.places.now c.requires.order (omega (arith, c.requires.index)))

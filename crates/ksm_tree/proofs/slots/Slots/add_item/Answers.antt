@@ -1,0 +1,42 @@
+use Rattle.std.proofs.Common.{◌≡◌, ◌∙◌, Some, true, set, ap, arith}
+use Rattle.std.specs.Prelude.{is_some}
+use Rattle.ksm_rmap.specs.Items.{with_item}
+use Rattle.ksm_tree.specs.Dups.{dup_at}
+use Rattle.ksm_tree.specs.Slots.{present, AreSlots}
+use Rattle.ksm_tree.proofs.OneSlot.{known_within, slot_not_none, holds_dup, slots_grown, view_changed}
+use Rattle.ksm_tree.proofs.slots.Slots.add_item.Goals as goal
+
+pub index_mut-requires : goal.index_mut-requires
+index_mut-requires c =
+    let known : is_some (dup_at c.args.place (present c.self.inside.dups.items)) ≡ true = rw (ap (λ s. s.dups) c.self.view_is) c.requires.known in
+    omega (arith, known_within c.args.place c.self.inside.dups.items c.self.invariant.placed known, c.self.inside.dups.ok.0)
+
+pub unreachable-requires : goal.unreachable-requires
+unreachable-requires c =
+    let known : is_some (dup_at c.args.place (present c.self.inside.dups.items)) ≡ true = rw (ap (λ s. s.dups) c.self.view_is) c.requires.known in
+    slot_not_none c.args.place c.self.inside.dups.items c.index_mut.result.now c.self.invariant.placed known c.index_mut.ensures.value c.in-None.is
+
+pub add-requires-clause-fewer : goal.add-requires-clause-fewer
+add-requires-clause-fewer c =
+    let here = holds_dup c.args.place c.self.inside.dups.items c.args.self.now c.index_mut.result.now c.in-Some.dup c.self.view_is c.self.invariant.placed c.requires.known c.index_mut.ensures.value c.in-Some.is in
+    rw (← here.items) c.requires.fewer
+
+pub add-requires-clause-absent : goal.add-requires-clause-absent
+add-requires-clause-absent c =
+    let here = holds_dup c.args.place c.self.inside.dups.items c.args.self.now c.index_mut.result.now c.in-Some.dup c.self.view_is c.self.invariant.placed c.requires.known c.index_mut.ensures.value c.in-Some.is in
+    rw (← here.items) c.requires.absent
+
+pub invariant_of-self-in-Some : goal.invariant_of-self-in-Some
+invariant_of-self-in-Some c =
+    let place = c.args.place in
+    let slots = c.self.inside.dups.items in
+    let here = holds_dup place slots c.args.self.now c.index_mut.result.now c.in-Some.dup c.self.view_is c.self.invariant.placed c.requires.known c.index_mut.ensures.value c.in-Some.is in
+    let grown = slots_grown place slots c.self.inside.empty.list c.self.inside.stale.list c.remove.new.self.list c.in-Some.dup c.args.page here.within c.self.invariant here.filled c.remove.ensures.without c.remove.ensures.capacity in
+    rw c.in_ok-add-in-Some.ensures.added grown
+
+pub returns-clause-added : goal.returns-clause-added
+returns-clause-added c =
+    let place = c.args.place in
+    let slots = c.self.inside.dups.items in
+    let here = holds_dup place slots c.args.self.now c.index_mut.result.now c.in-Some.dup c.self.view_is c.self.invariant.placed c.requires.known c.index_mut.ensures.value c.in-Some.is in
+    rw c.in_ok-add-in-Some.ensures.added (view_changed place slots c.args.self.now c.in-Some.dup (with_item c.args.page) c.self.view_is c.self.invariant.placed here.filled)

@@ -1,0 +1,32 @@
+use Rattle.std.proofs.Common.{◌≡◌, ◌∙◌, ◌<◌, ◌≤◌, ◌+◌, None, true, length, length-set, get_or, refl, sym, ap, arith}
+use Rattle.std.specs.Prelude.{is_some}
+use Rattle.ksm_tree.specs.Dups.{dup_at, without_place}
+use Rattle.ksm_tree.specs.Slots.{present, is_empty_slot, places_where}
+use Rattle.ksm_tree.proofs.OneSlot.{known_within, slot_found, slots_cleared, slot_emptied, where_room, full_slot}
+use Rattle.ksm_tree.proofs.slots.Slots.clear.Goals as goal
+
+pub index_mut-requires : goal.index_mut-requires
+index_mut-requires c =
+    let within = known_within c.args.place c.self.inside.dups.items c.self.invariant.placed (rw (ap (λ s. s.dups) c.self.view_is) c.requires) in
+    omega (arith, within, c.self.inside.dups.ok.0)
+
+pub insert-requires : goal.insert-requires
+insert-requires c =
+    let slots = c.self.inside.dups.items in
+    let known : is_some (dup_at c.args.place (present slots)) ≡ true = rw (ap (λ s. s.dups) c.self.view_is) c.requires in
+    let within = known_within c.args.place slots c.self.invariant.placed known in
+    let full = full_slot c.args.place slots c.self.invariant.placed known in
+    let room = where_room is_empty_slot 0 c.args.place slots within full in
+    omega (arith, room, ap length c.self.invariant.empties, c.self.invariant.empty_room)
+
+pub invariant_of-self : goal.invariant_of-self
+invariant_of-self c =
+    let within = known_within c.args.place c.self.inside.dups.items c.self.invariant.placed (rw (ap (λ s. s.dups) c.self.view_is) c.requires) in
+    slots_cleared c.args.place c.self.inside.dups.items c.self.inside.empty.list c.self.inside.stale.list c.insert.new.self.list c.remove.new.self.list within c.self.invariant c.insert.ensures.with c.insert.ensures.capacity c.remove.ensures.without c.remove.ensures.capacity
+
+pub returns : goal.returns
+returns c =
+    let old = c.self.inside.dups.items in
+    let place = c.args.place in
+    (λ i. record { places = length-set old place None i; dups = slot_emptied 0 place place old (omega arith) c.self.invariant.placed i })
+    ∙ ap (λ s. record { places = s.places; dups = without_place place s.dups }) c.self.view_is

@@ -1,0 +1,50 @@
+-- Which dup a page joins, and where a new dup goes: the book's own words, with the items of a dup in place of the rows merged into it.
+use Rattle.std.specs.Prelude.{ℕ, Bool, not, ◌&&◌, ◌||◌, ◌==◌, nat_lt, nat_le, List, length, find, Option, Some, None, bytes_eq, if◌then◌else◌}
+use Rattle.std.specs.List.{list_all}
+use Rattle.ksm_base.specs.Visit.{empty_place}
+use Rattle.ksm_tree.specs.declared.choice.Choice.{Choice}
+use Rattle.ksm_tree.specs.declared.choice.Choice.TheVariants.{Empty, Stale}
+use Rattle.ksm_tree.specs.declared.dup.Dup.{Dup}
+use Rattle.ksm_tree.specs.Dups.{DupsState, rows_of, is_stale}
+
+-- a dup of the tree and the bytes, with an item, and below the limit
+abbrev pub may_join : ℕ → List ℕ → ℕ → Dup → Bool
+may_join tree bytes limit d =
+    d.row.tree == tree && bytes_eq d.row.bytes bytes && nat_le 1 (length d.items) && nat_lt (length d.items) limit
+
+-- d has more items than e, or as many and no greater number
+abbrev pub is_no_worse : Dup → Dup → Bool
+is_no_worse d e =
+    nat_lt (length e.items) (length d.items)
+    || (length e.items == length d.items && nat_le d.row.number e.row.number)
+
+-- e is no better to join than d
+abbrev pub is_no_rival : ℕ → List ℕ → ℕ → Dup → Dup → Bool
+is_no_rival tree bytes limit d e = not (may_join tree bytes limit e) || is_no_worse d e
+
+-- d may be joined, and no other dup is better to join
+abbrev pub is_best : ℕ → List ℕ → ℕ → List Dup → Dup → Bool
+is_best tree bytes limit dups d = may_join tree bytes limit d && list_all (is_no_rival tree bytes limit d) dups
+
+-- the dup that a page of the tree and the bytes joins
+abbrev pub best_of : ℕ → List ℕ → ℕ → List Dup → Option Dup
+best_of tree bytes limit dups = find (is_best tree bytes limit dups) dups
+
+-- the least empty place, or where there is none that of the first stale dup
+abbrev pub chosen : Option ℕ → Option Dup → Option Choice
+chosen (Some place) stale = Some (Empty place)
+chosen None (Some d) = Some (Stale d.row.place)
+chosen None None = None
+
+-- where a new dup goes
+abbrev pub choice_of : DupsState → Option Choice
+choice_of s = chosen (empty_place s.places (rows_of s.dups)) (find is_stale s.dups)
+
+-- with an item, and below the limit
+abbrev pub has_room : ℕ → Dup → Bool
+has_room limit d = nat_le 1 (length d.items) && nat_lt (length d.items) limit
+
+-- the better of two dups to join, of which the second comes later
+abbrev pub better : ℕ → Option Dup → Dup → Option Dup
+better limit None d = if has_room limit d then Some d else None
+better limit (Some best) d = if has_room limit d && not (is_no_worse best d) then Some d else Some best

@@ -1,0 +1,62 @@
+-- Dups with their items, in the order of their places (mm/ksm: stable nodes, chains).
+use Rattle.std.specs.Prelude.{ℕ, ◌<◌, Bool, not, ◌==◌, nat_lt, List, [], ◌∷◌, ◌++◌, length, map, filter, find, Option, Some, None, All, if◌then◌else◌}
+use Rattle.ksm_base.specs.declared.page.GuestPage.{GuestPage}
+use Rattle.ksm_base.specs.declared.row.DupRow.{DupRow}
+use Rattle.ksm_base.specs.Rows.{InPlaceOrder}
+use Rattle.ksm_tree.specs.declared.dup.Dup.{Dup}
+
+-- how many places there are, the dups in the order of their places, and the number of the dup that is made next
+pub record DupsState : Type 0 where
+  pub places : ℕ
+  pub dups : List Dup
+  pub next : ℕ
+
+-- the dup rows alone
+abbrev pub rows_of : List Dup → List DupRow
+rows_of dups = map (λ d. d.row) dups
+
+abbrev pub has_number : ℕ → Dup → Bool
+has_number number d = d.row.number == number
+
+abbrev pub stands_at : ℕ → Dup → Bool
+stands_at place d = d.row.place == place
+
+-- a dup without items
+abbrev pub is_stale : Dup → Bool
+is_stale d = length d.items == 0
+
+-- a dup with an item
+abbrev pub is_live : Dup → Bool
+is_live d = nat_lt 0 (length d.items)
+
+abbrev pub dup_of : ℕ → List Dup → Option Dup
+dup_of number dups = find (has_number number) dups
+
+abbrev pub dup_at : ℕ → List Dup → Option Dup
+dup_at place dups = find (stands_at place) dups
+
+abbrev pub items_in : Option Dup → List GuestPage
+items_in None = []
+items_in (Some d) = d.items
+
+-- the items of the dup with a number, none where there is no such dup
+abbrev pub items_of : ℕ → List Dup → List GuestPage
+items_of number dups = items_in (dup_of number dups)
+
+-- with a dup at its place, in the stead of one that stood there
+abbrev pub with_new : Dup → List Dup → List Dup
+with_new dup dups = filter (λ d. nat_lt d.row.place dup.row.place) dups ++ dup ∷ filter (λ d. nat_lt dup.row.place d.row.place) dups
+
+-- without the dup at a place
+abbrev pub without_place : ℕ → List Dup → List Dup
+without_place place dups = filter (λ d. not (stands_at place d)) dups
+
+-- with a change made to the items of the dup with a number
+abbrev pub change_items : ℕ → (List GuestPage → List GuestPage) → List Dup → List Dup
+change_items number change dups = map (λ d. if has_number number d then record d { items = change d.items } else d) dups
+
+-- the dups stand in the order of their places, below how many there are; their numbers differ and are not still to be given
+pub record AreDups (s : DupsState) : Type 0 where
+  pub in_place_order : InPlaceOrder (rows_of s.dups)
+  pub places_below : All (λ r. r.place < s.places) (rows_of s.dups)
+  pub numbers_below : All (λ r. r.number < s.next) (rows_of s.dups)

@@ -1,0 +1,36 @@
+-- Where a dup of a number, and the dups of a tree and bytes, are found. (own)
+use Rattle.std.specs.Prelude.{◌≡◌, ℕ, Bool, ◌&&◌, ◌==◌, List, map, filter, find, option_map, Option, bytes_eq}
+use Rattle.std.specs.BTreeMap.{BTreeMap, get}
+use Rattle.std.specs.Ordering.{nat_cmp}
+use Rattle.ksm_base.specs.declared.row.DupRow.{DupRow}
+use Rattle.ksm_tree.specs.declared.index.Index.{Index}
+use Rattle.ksm_tree.specs.Dups.{DupsState, AreDups, rows_of}
+use Rattle.ksm_tree.specs.Groups.{chain_in}
+use Rattle.ksm_tree.specs.Slots.{SlotsState}
+
+-- the place that an index has for a number, and the places that it has for a tree and bytes
+abbrev pub place_of : ℕ → Index → Option ℕ
+place_of number index = get nat_cmp index.numbers number
+
+abbrev pub places_of : ℕ → List ℕ → Index → List ℕ
+places_of tree bytes index = chain_in tree bytes index.groups.chains.entries
+
+abbrev pub in_group : ℕ → List ℕ → DupRow → Bool
+in_group tree bytes r = r.tree == tree && bytes_eq r.bytes bytes
+
+-- the place of the row with a number
+abbrev pub row_place : ℕ → List DupRow → Option ℕ
+row_place number rows = option_map (λ r. r.place) (find (λ r. r.number == number) rows)
+
+-- the places of a group, in their order
+abbrev pub group_places : ℕ → List ℕ → List DupRow → List ℕ
+group_places tree bytes rows = map (λ r. r.place) (filter (in_group tree bytes) rows)
+
+abbrev pub dups_seen : SlotsState → ℕ → DupsState
+dups_seen s next = record { places = s.places; dups = s.dups; next = next }
+
+-- the dups are lawful, and the index finds just them
+pub record AreIndexed (s : SlotsState) (next : ℕ) (index : Index) : Type 0 where
+  pub lawful : AreDups (dups_seen s next)
+  pub numbered : (number : ℕ) → place_of number index ≡ row_place number (rows_of s.dups)
+  pub grouped : (tree : ℕ) (bytes : List ℕ) → places_of tree bytes index ≡ group_places tree bytes (rows_of s.dups)

@@ -1,0 +1,52 @@
+-- The dups by place: a slot for each place, and the places whose slots pass a test. (own)
+use Rattle.std.specs.Prelude.{◌≡◌, ℕ, suc, ◌≤◌, Bool, true, false, List, [], ◌∷◌, length, map, Option, Some, None, if◌then◌else◌}
+use Rattle.smallvec.specs.SmallVec.{SmallVec}
+use Rattle.ksm_base.specs.declared.page.GuestPage.{GuestPage}
+use Rattle.ksm_tree.specs.declared.dup.Dup.{Dup}
+use Rattle.ksm_tree.specs.Dups.{stands_at, is_stale}
+
+-- how many places there are, and the dups in the order of their places
+pub record SlotsState : Type 0 where
+  pub places : ℕ
+  pub dups : List Dup
+
+-- the dups of the slots
+abbrev pub present : List (Option Dup) → List Dup
+present [] = []
+present (None ∷ slots) = present slots
+present (Some d ∷ slots) = d ∷ present slots
+
+abbrev pub slots_seen : List (Option Dup) → SlotsState
+slots_seen slots = record { places = length slots; dups = present slots }
+
+abbrev pub is_empty_slot : Option Dup → Bool
+is_empty_slot None = true
+is_empty_slot (Some d) = false
+
+abbrev pub is_stale_slot : Option Dup → Bool
+is_stale_slot None = false
+is_stale_slot (Some d) = is_stale d
+
+-- the places from k on whose slots pass a test
+abbrev pub places_where : (Option Dup → Bool) → ℕ → List (Option Dup) → List ℕ
+places_where test k [] = []
+places_where test k (s ∷ slots) = if test s then k ∷ places_where test (suc k) slots else places_where test (suc k) slots
+
+-- each dup knows the place where it stands, from k on
+abbrev pub ArePlaced : ℕ → List (Option Dup) → Type 0
+ArePlaced k [] = Unit {0}
+ArePlaced k (None ∷ slots) = ArePlaced (suc k) slots
+ArePlaced k (Some d ∷ slots) = (d.row.place ≡ k) × ArePlaced (suc k) slots
+
+-- with a change made to the items of the dup at a place
+abbrev pub change_at : ℕ → (List GuestPage → List GuestPage) → List Dup → List Dup
+change_at place change dups = map (λ d. if stands_at place d then record d { items = change d.items } else d) dups
+
+-- the places of the empty slots and of the stale dups are known, and have room for all
+pub record AreSlots (slots : List (Option Dup)) (empty stale : SmallVec ℕ) : Type 0 where
+  pub few : length slots ≤ 1024
+  pub placed : ArePlaced 0 slots
+  pub empties : empty.items ≡ places_where is_empty_slot 0 slots
+  pub stales : stale.items ≡ places_where is_stale_slot 0 slots
+  pub empty_room : length slots ≤ empty.capacity
+  pub stale_room : length slots ≤ stale.capacity

@@ -1,0 +1,9 @@
+use ksm_base::DupRow;
+use ksm_rmap::Items;
+
+/// A dup with its items, the pages merged into it.
+#[derive(Drop)]
+pub struct Dup {
+    pub row: DupRow,
+    pub items: Items,
+}

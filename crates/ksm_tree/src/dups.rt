@@ -1,0 +1,252 @@
+ghost use Rattle.std.specs.Prelude.{◌≡◌, ℕ, ◌+◌, ◌^◌, ◌<◌, ◌≤◌, [], ◌∷◌, ◌&&◌, not, true, false, None, Some, filter, find, length, is_some, option_copied, option_map, slice_get, IfErr, IfOk, OnErr, OnOk};
+ghost use Rattle.ksm_base.specs.Rows.{same_page};
+ghost use Rattle.ksm_rmap.specs.Items.{has_item, with_item, without_item};
+ghost use Rattle.ksm_tree.specs.Choosing.{best_of, better as better_dup, choice_of, is_no_worse as no_worse_than};
+ghost use Rattle.ksm_tree.specs.Dups.{AreDups, change_items, dup_at, dup_of, is_live, is_stale, items_of, stands_at, with_new, without_place};
+
+use crate::choice::Choice;
+use crate::content::Content;
+use crate::dup::Dup;
+use crate::index::Index;
+use crate::slots::Slots;
+use ksm_base::{DupRow, Fault, GuestPage, PageBytes};
+use ksm_rmap::Items;
+use std::alloc::Global;
+use std::marker::Model;
+
+/// The dups with their items, by place, by number, and by tree and bytes.
+#[derive(Drop)]
+pub struct Dups {
+    alloc: Global,
+    slots: Slots,
+    index: Index,
+    next: u64,
+}
+
+impl Model for Dups {
+    ghost use Rattle.ksm_tree.specs.Dups.{DupsState};
+    ghost use Rattle.ksm_tree.specs.Index.{AreIndexed, dups_seen};
+
+    ghost Value = { DupsState };
+
+    ghost view = { λ d. dups_seen d.slots d.next };
+
+    ghost invariant = { λ d. AreIndexed d.slots d.next d.index };
+}
+
+impl Dups {
+    /// No dups, with room for one at each of so many places. The one fault is `Memory`.
+    pub fn open(alloc: Global, places: u32) -> Result<Dups, Fault>
+        requires least { 1 ≤ places }
+        requires most { places ≤ 1024 }
+        ensures opened { IfOk result (λ dups. dups ≡ record { places = places; dups = []; next = 0 }) }
+        ensures memory { IfErr result (λ fault. fault ≡ Fault.Memory) }
+    {
+        Ok(Dups {
+            alloc,
+            slots: Slots::open(alloc, places)?,
+            index: Index::new(alloc),
+            next: 0,
+        })
+    }
+
+    /// The dup that a page of a tree and these bytes joins: of those with an item and fewer than the limit the one with the most items, ties to the lowest number.
+    pub fn best(&self, tree: u32, bytes: &PageBytes, limit: u32) -> Option<u64>
+        ensures { result ≡ option_map (λ d. d.row.number) (best_of tree bytes.now limit self.now.dups) }
+    {
+        let mut best: Option<&Dup> = None;
+        let chain = self.index.places(tree, bytes);
+        for place in chain {
+            if let Some(dup) = self.slots.at(*place) {
+                best = better(best, dup, limit);
+            }
+        }
+        match best {
+            Some(dup) => Some(dup.row.number),
+            None => None,
+        }
+    }
+
+    /// Where a new dup goes: the least empty place, or where there is none that of the first stale dup.
+    pub fn choose_place(&self) -> Choice
+        requires { is_some (choice_of self.now) ≡ true }
+        ensures { choice_of self.now ≡ Some result }
+    {
+        if let Some(place) = self.slots.first_empty() {
+            return Choice::Empty(place);
+        }
+        match self.slots.first_stale() {
+            Some(place) => Choice::Stale(place),
+            None => unreachable!(),
+        }
+    }
+
+    /// A new dup of two pages at a place; a stale dup that stood there goes. Its number is the next one. The one fault is `Memory`, and then nothing changes.
+    pub fn new_dup(
+        &mut self,
+        place: u32,
+        tree: u32,
+        bytes: &PageBytes,
+        first: GuestPage,
+        second: GuestPage,
+    ) -> Result<u64, Fault>
+        requires place { place < self.old.places }
+        requires free { find (λ d. stands_at place d && is_live d) self.old.dups ≡ None }
+        requires apart { same_page first second ≡ false }
+        requires number { self.old.next + 1 < 2 ^ 64 }
+        ensures number { IfOk result (λ number. number ≡ self.old.next) }
+        ensures made { OnOk result (self.new ≡ record {
+          places = self.old.places;
+          dups = with_new (record { row = record { number = self.old.next; place = place; tree = tree; bytes = bytes.now }; items = with_item second (first ∷ []) }) self.old.dups;
+          next = self.old.next + 1;
+        }) }
+        ensures kept { OnErr result (self.new ≡ self.old) }
+        ensures memory { IfErr result (λ fault. fault ≡ Fault.Memory) }
+    {
+        let number = self.next;
+        let row = DupRow {
+            number,
+            place,
+            tree,
+            bytes: *bytes,
+        };
+        let items = pair(self.alloc, first, second)?;
+        self.index.add(self.alloc, &row)?;
+        match self.slots.at(place) {
+            Some(old) => self.index.replace(&old.row, &row),
+            None => {}
+        }
+        self.slots.put(Dup { row, items });
+        self.next += 1;
+        Ok(number)
+    }
+
+    /// A page becomes an item of a dup. The one fault is `Memory`, and then nothing changes.
+    pub fn join(&mut self, dup: u64, page: GuestPage) -> Result<(), Fault>
+        requires known { is_some (dup_of dup self.old.dups) ≡ true }
+        requires fewer { length (items_of dup self.old.dups) < 1024 }
+        requires absent { has_item page (items_of dup self.old.dups) ≡ false }
+        ensures joined { OnOk result (self.new ≡ record { places = self.old.places; dups = change_items dup (with_item page) self.old.dups; next = self.old.next }) }
+        ensures kept { OnErr result (self.new ≡ self.old) }
+        ensures memory { IfErr result (λ fault. fault ≡ Fault.Memory) }
+    {
+        match self.index.place(dup) {
+            Some(place) => {
+                self.slots.add_item(place, page)?;
+                Ok(())
+            }
+            None => unreachable!(),
+        }
+    }
+
+    /// A page is no item of a dup any more. Where there is no such dup or item, nothing changes.
+    pub fn leave(&mut self, dup: u64, page: GuestPage)
+        ensures { self.new ≡ record { places = self.old.places; dups = change_items dup (without_item page) self.old.dups; next = self.old.next } }
+    {
+        match self.index.place(dup) {
+            Some(place) => self.slots.remove_item(place, page),
+            None => {}
+        }
+    }
+
+    /// The number of the dup at a place.
+    pub fn at(&self, place: u32) -> Option<u64>
+        ensures number { result ≡ option_map (λ d. d.row.number) (dup_at place self.now.dups) }
+        ensures lawful { AreDups self.now }
+    {
+        self.slots.at(place).map(|dup| dup.row.number)
+    }
+
+    /// The row of a dup.
+    pub fn row(&self, dup: u64) -> Option<DupRow>
+        ensures { result ≡ option_map (λ d. d.row) (dup_of dup self.now.dups) }
+    {
+        self.find(dup).map(|dup| dup.row)
+    }
+
+    /// How many items a dup has: none where there is no such dup.
+    pub fn items(&self, dup: u64) -> u32
+        ensures { result ≡ length (items_of dup self.now.dups) }
+    {
+        self.find(dup).map_or(0, |dup| dup.items.len() as u32)
+    }
+
+    /// The item of a dup at `i`, in ascending order from 0 on.
+    pub fn item(&self, dup: u64, i: u32) -> GuestPage
+        requires { i < length (items_of dup self.now.dups) }
+        ensures { slice_get (items_of dup self.now.dups) i ≡ Some result }
+    {
+        match self.find(dup) {
+            Some(dup) => dup.items.at(i as usize),
+            None => unreachable!(),
+        }
+    }
+
+    /// The least place of a stale dup.
+    pub fn stale(&self) -> Option<u32>
+        ensures { result ≡ option_map (λ d. d.row.place) (find is_stale self.now.dups) }
+    {
+        self.slots.first_stale()
+    }
+
+    /// The stale dup at a place goes.
+    pub fn drop_stale(&mut self, place: u32)
+        requires { is_some (find (λ d. stands_at place d && is_stale d) self.old.dups) ≡ true }
+        ensures { self.new ≡ record { places = self.old.places; dups = without_place place self.old.dups; next = self.old.next } }
+    {
+        match self.slots.at(place) {
+            Some(dup) => self.index.remove(&dup.row),
+            None => unreachable!(),
+        }
+        self.slots.clear(place);
+    }
+
+    fn find(&self, number: u64) -> Option<&Dup>
+        ensures { option_copied result ≡ dup_of number self.now.dups }
+    {
+        match self.index.place(number) {
+            Some(place) => self.slots.at(place),
+            None => None,
+        }
+    }
+}
+
+/// The items of a new dup. The one fault is `Memory`.
+fn pair(alloc: Global, first: GuestPage, second: GuestPage) -> Result<Items, Fault>
+    requires { same_page first second ≡ false }
+    ensures both { IfOk result (λ items. items ≡ with_item second (first ∷ [])) }
+    ensures memory { IfErr result (λ fault. fault ≡ Fault.Memory) }
+{
+    let mut items = Items::new(alloc);
+    items.add(first)?;
+    items.add(second)?;
+    Ok(items)
+}
+
+/// The better of two dups to join, of which the second comes later.
+fn better<'a>(best: Option<&'a Dup>, dup: &'a Dup, limit: u32) -> Option<&'a Dup>
+    ensures { option_copied result ≡ better_dup limit (option_copied best.entry) dup.entry.now }
+{
+    let items = dup.items.len();
+    if items < 1 || limit as usize <= items {
+        return best;
+    }
+    match best {
+        Some(best) => {
+            if is_no_worse(best, dup) {
+                Some(best)
+            } else {
+                Some(dup)
+            }
+        }
+        None => Some(dup),
+    }
+}
+
+fn is_no_worse(dup: &Dup, other: &Dup) -> bool
+    ensures { result ≡ no_worse_than dup.now other.now }
+{
+    let items = dup.items.len();
+    let others = other.items.len();
+    others < items || others == items && dup.row.number <= other.row.number
+}

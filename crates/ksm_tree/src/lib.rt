@@ -1,0 +1,20 @@
+//! The trees of the book: groups of dups with their items, and the pages that wait.
+#![tactic(auto)]
+
+mod choice;
+mod content;
+mod dup;
+mod dups;
+mod groups;
+mod index;
+pub mod laws;
+mod places;
+mod slots;
+mod waiting;
+
+pub use choice::Choice;
+pub use dups::Dups;
+pub use waiting::Waiting;
+
+#[cfg(test)]
+mod tests;

@@ -1,0 +1,131 @@
+ghost use Rattle.std.specs.Prelude.{◌≡◌, ◌<◌, ◌≤◌, [], true, false, None, Some, find, length, option_copied, option_map, is_some, IfErr, IfOk, OnErr, OnOk};
+ghost use Rattle.ksm_base.specs.Visit.{empty_place};
+ghost use Rattle.ksm_rmap.specs.Items.{has_item, with_item, without_item};
+ghost use Rattle.ksm_tree.specs.Dups.{dup_at, items_in, is_live, is_stale, rows_of, with_new, without_place};
+ghost use Rattle.ksm_tree.specs.Slots.{change_at};
+
+use crate::dup::Dup;
+use crate::places::Places;
+use ksm_base::{Fault, GuestPage};
+use std::alloc::Global;
+use std::marker::Model;
+
+/// The dups by place, with the places that no dup has and those of the stale dups.
+#[derive(Drop)]
+pub struct Slots {
+    dups: Vec<Option<Dup>>,
+    empty: Places,
+    stale: Places,
+}
+
+impl Model for Slots {
+    ghost use Rattle.ksm_tree.specs.Slots.{SlotsState, AreSlots, slots_seen};
+
+    ghost Value = { SlotsState };
+
+    ghost view = { λ s. slots_seen s.dups.items };
+
+    ghost invariant = { λ s. AreSlots s.dups.items s.empty.list s.stale.list };
+}
+
+impl Slots {
+    /// So many empty places. The one fault is `Memory`.
+    pub fn open(alloc: Global, places: u32) -> Result<Slots, Fault>
+        requires { places ≤ 1024 }
+        ensures opened { IfOk result (λ slots. slots ≡ record { places = places; dups = [] }) }
+        ensures memory { IfErr result (λ fault. fault ≡ Fault.Memory) }
+    {
+        let room = places as usize;
+        let mut dups = Vec::with_capacity(alloc, room)?;
+        let mut empty = Places::with_room(alloc, room)?;
+        for place in 0..places {
+            dups.push(None)?;
+            empty.insert(place);
+        }
+        let stale = Places::with_room(alloc, room)?;
+        Ok(Slots { dups, empty, stale })
+    }
+
+    /// The dup at a place.
+    pub fn at(&self, place: u32) -> Option<&Dup>
+        ensures { option_copied result ≡ dup_at place self.now.dups }
+    {
+        match self.dups.get(place as usize) {
+            Some(slot) => slot.as_ref(),
+            None => None,
+        }
+    }
+
+    /// The least place that no dup has.
+    pub fn first_empty(&self) -> Option<u32>
+        ensures { result ≡ empty_place self.now.places (rows_of self.now.dups) }
+    {
+        self.empty.first()
+    }
+
+    /// The least place of a stale dup.
+    pub fn first_stale(&self) -> Option<u32>
+        ensures { result ≡ option_map (λ d. d.row.place) (find is_stale self.now.dups) }
+    {
+        self.stale.first()
+    }
+
+    /// A dup with items takes its place, in the stead of one that stood there.
+    pub fn put(&mut self, dup: Dup)
+        requires place { dup.row.place < self.old.places }
+        requires live { is_live dup ≡ true }
+        ensures { self.new ≡ record { places = self.old.places; dups = with_new dup self.old.dups } }
+    {
+        let place = dup.row.place;
+        self.dups[place as usize] = Some(dup);
+        self.empty.remove(place);
+        self.stale.remove(place);
+    }
+
+    /// The dup at a place goes.
+    pub fn clear(&mut self, place: u32)
+        requires { is_some (dup_at place self.old.dups) ≡ true }
+        ensures { self.new ≡ record { places = self.old.places; dups = without_place place self.old.dups } }
+    {
+        self.dups[place as usize] = None;
+        self.stale.remove(place);
+        self.empty.insert(place);
+    }
+
+    /// A page becomes an item of the dup at a place. The one fault is `Memory`, and then nothing changes.
+    pub fn add_item(&mut self, place: u32, page: GuestPage) -> Result<(), Fault>
+        requires known { is_some (dup_at place self.old.dups) ≡ true }
+        requires fewer { length (items_in (dup_at place self.old.dups)) < 1024 }
+        requires absent { has_item page (items_in (dup_at place self.old.dups)) ≡ false }
+        ensures added { OnOk result (self.new ≡ record { places = self.old.places; dups = change_at place (with_item page) self.old.dups }) }
+        ensures kept { OnErr result (self.new ≡ self.old) }
+        ensures memory { IfErr result (λ fault. fault ≡ Fault.Memory) }
+    {
+        match &mut self.dups[place as usize] {
+            Some(dup) => {
+                dup.items.add(page)?;
+                self.stale.remove(place);
+                Ok(())
+            }
+            None => unreachable!(),
+        }
+    }
+
+    /// A page is no item of the dup at a place any more.
+    pub fn remove_item(&mut self, place: u32, page: GuestPage)
+        requires { is_some (dup_at place self.old.dups) ≡ true }
+        ensures { self.new ≡ record { places = self.old.places; dups = change_at place (without_item page) self.old.dups } }
+    {
+        match &mut self.dups[place as usize] {
+            Some(dup) => {
+                if !dup.items.remove(page) {
+                    return;
+                }
+                if dup.items.len() == 0 {
+                    self.stale.insert(place);
+                }
+            }
+            None => unreachable!(),
+        }
+    }
+}

@@ -1,0 +1,70 @@
+ghost use Rattle.std.specs.Prelude.{◌≡◌, ℕ, List, [], ◌&&◌, ◌==◌, Some, None, IfErr, OnOk, OnErr, bytes_eq, if◌then◌else◌};
+ghost use Rattle.ksm_tree.specs.Waits.{waiting_page};
+
+use crate::content::Content;
+use ksm_base::{Fault, GuestPage, PageBytes};
+use std::alloc::Global;
+use std::collections::BTreeMap;
+use std::marker::Model;
+
+/// The pages that wait for an equal one: at most one of each tree and bytes.
+///
+/// Each call costs the logarithm of their number, but `clear`, which costs their number.
+#[derive(Drop)]
+pub struct Waiting {
+    pages: BTreeMap<Content, GuestPage>,
+}
+
+impl Model for Waiting {
+    ghost use Rattle.std.specs.Prelude.{List, map};
+    ghost use Rattle.ksm_tree.specs.Waits.{WaitingPage, waiting_at};
+
+    ghost Value = { List WaitingPage };
+
+    ghost view = { λ w. map waiting_at w.pages.entries };
+}
+
+impl Waiting {
+    /// No page waits.
+    pub fn new(alloc: Global) -> Waiting
+        ensures { result ≡ [] }
+    {
+        Waiting {
+            pages: BTreeMap::new(alloc),
+        }
+    }
+
+    /// The page that waits in a tree with these bytes.
+    pub fn find(&self, tree: u32, bytes: &PageBytes) -> Option<GuestPage>
+        ensures { result ≡ waiting_page tree bytes.now self.now }
+    {
+        self.pages.get(&Content::of(tree, bytes)).copied()
+    }
+
+    /// A page waits from now on. The one fault is `Memory`, and then nothing changes.
+    pub fn add(&mut self, tree: u32, bytes: &PageBytes, page: GuestPage) -> Result<(), Fault>
+        requires { waiting_page tree bytes.now self.old ≡ None }
+        ensures added { OnOk result ((t : ℕ) (b : List ℕ) → waiting_page t b self.new
+            ≡ (if t == tree && bytes_eq b bytes.now then Some page else waiting_page t b self.old)) }
+        ensures kept { OnErr result (self.new ≡ self.old) }
+        ensures memory { IfErr result (λ fault. fault ≡ Fault.Memory) }
+    {
+        self.pages.insert(Content::of(tree, bytes), page)?;
+        Ok(())
+    }
+
+    /// The page that waits in a tree with these bytes waits no more, if there is one.
+    pub fn remove(&mut self, tree: u32, bytes: &PageBytes)
+        ensures { (t : ℕ) (b : List ℕ) → waiting_page t b self.new
+            ≡ (if t == tree && bytes_eq b bytes.now then None else waiting_page t b self.old) }
+    {
+        self.pages.remove(&Content::of(tree, bytes));
+    }
+
+    /// No page waits any more.
+    pub fn clear(&mut self)
+        ensures { self.new ≡ [] }
+    {
+        self.pages.clear();
+    }
+}

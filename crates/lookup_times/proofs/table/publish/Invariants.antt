@@ -1,0 +1,13 @@
+use Rattle.std.proofs.Common.{◌≡◌, ℕ, length, Some}
+use Rattle.frame_core.specs.declared.frame.Kind.TheVariants.{Filling}
+use Rattle.frame_core.specs.declared.seat.Life.{Life}
+use Rattle.frame_core.specs.Ledger.{frame_at, named_at}
+use Rattle.lookup_times.proofs.table.publish.Given as goal
+
+abbrev pub invariant-loop-i : goal.invariant-loop-i
+invariant-loop-i l = record {
+  own : l.keeper.table ≡ l.table;
+  frames : length l.keeper.ledger.frames ≡ 1024;
+  places : l.keeper.ledger.places ≡ l.fn.keeper.ledger.places;
+  kind : (frame_at l.keeper.ledger l.frame).kind ≡ Filling;
+}

@@ -1,0 +1,48 @@
+//! Lookups on a table of 1,024 frames, in threads: what `bench/` measures.
+//!
+//! `lookup_times PLACES THREADS ROUNDS`. Every place is published on the frame of its number, word i of its page being 16 times that number,
+//! and i + 1. Each of 1 to 4 threads makes so many lookups, each a find, a read of all words and a leave: of the place 0 where PLACES is
+//! `hot`, else of a place far from the one before. What it prints is the wrapping sum of all words read.
+#![tactic(auto)]
+
+mod table;
+mod worker;
+
+use std::env;
+use std::io;
+use table::run;
+
+/// Where lookups go, in how many threads, and how many each makes.
+#[derive(Clone, Copy)]
+struct Asked {
+    spread: bool,
+    threads: usize,
+    rounds: u64,
+}
+
+fn read_words(words: &[String]) -> Asked {
+    Asked {
+        spread: match words.get(1) {
+            Some(word) => word.as_str() != "hot",
+            None => true,
+        },
+        threads: number(words.get(2)) as usize % 5,
+        rounds: number(words.get(3)),
+    }
+}
+
+fn number(word: Option<&String>) -> u64 {
+    match word {
+        Some(word) => word.parse().unwrap_or(1),
+        None => 1,
+    }
+}
+
+fn main(rt: HostRuntime) -> io::Result<()> {
+    let words = env::args(&rt)?.collect::<Vec<String>>(rt.alloc())?;
+    let asked = read_words(words.as_slice());
+    match run(&rt, rt.alloc(), asked.spread, asked.threads, asked.rounds) {
+        Ok(sum) => println!(rt; "{sum}"),
+        Err(fault) => println!(rt; "refused {}", fault.number()),
+    }
+}

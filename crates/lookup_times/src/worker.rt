@@ -1,0 +1,76 @@
+ghost use Rattle.std.specs.Prelude.{◌≡◌, ◌<◌, IsSomeAnd};
+ghost use Rattle.ksm_base.specs.Values.{frames_of};
+
+use frame_table::{Found, FrameTable, Held, Pass};
+use ksm_base::PAGE_WORDS;
+
+/// From one place to the next, where lookups are spread.
+const STRIDE: u32 = 619;
+
+/// A pass with the lookups that it is to make.
+pub struct Worker {
+    pub pass: Option<Pass>,
+    /// The first place.
+    pub first: u32,
+    /// Whether further lookups go elsewhere.
+    pub spread: bool,
+    pub rounds: u64,
+    /// The sum of all words read.
+    pub sum: u64,
+}
+
+// The sum of the words of the page.
+fn read(table: &FrameTable, held: &mut Held) -> u64
+    requires own { held.old.table ≡ table.now }
+    ensures own { held.new.table ≡ table.now }
+{
+    let mut sum = 0u64;
+    for i in 0..PAGE_WORDS {
+        sum = sum.wrapping_add(held.word(table, i));
+    }
+    sum
+}
+
+// One lookup that is held. One that is busy is made again.
+fn look(table: &FrameTable, pass: Pass, place: u32) -> (u64, Pass)
+    requires own { pass.table ≡ table.now }
+    requires inside { place < frames_of table.now.shape }
+    ensures own { result.1.table ≡ table.now }
+{
+    let mut pass = pass;
+    for _ in 0..u64::MAX {
+        match pass.find(table, place) {
+            Found::Held(mut held) => {
+                let sum = read(table, &mut held);
+                return (sum, held.leave(table));
+            }
+            Found::Gone(back, _) => return (0, back),
+            Found::Busy(back) => pass = back,
+        }
+    }
+    (0, pass)
+}
+
+/// Makes the lookups of a worker.
+pub fn work(table: &FrameTable, worker: &mut Worker)
+    requires own { IsSomeAnd worker.old.pass (λ p. p.table ≡ table.now) }
+    requires shape { frames_of table.now.shape ≡ 1024 }
+    ensures own { IsSomeAnd worker.new.pass (λ p. p.table ≡ table.now) }
+{
+    let Some(pass) = worker.pass.take() else {
+        unreachable!()
+    };
+    let mut pass = pass;
+    let mut place = worker.first % 1024;
+    let mut sum = 0u64;
+    let step = if worker.spread { STRIDE } else { 0 };
+    for _ in 0..worker.rounds {
+        let (words, back) = look(table, pass, place);
+        pass = back;
+        sum = sum.wrapping_add(words);
+        place = (place + step) % 1024;
+    }
+    worker.sum = sum;
+    let old = worker.pass.replace(pass);
+    let None = old else { unreachable!() };
+}
