@@ -1,12 +1,13 @@
 -- Rows that are changed one after another, in order.
-use Rattle.std.proofs.Common.{◌≡◌, ℕ, zero, suc, Bool, true, false, cond, List, [], ◌∷◌, get_or, Option, Some, None, refl, sym, ap, ◌∙◌, subst, arith}
-use Rattle.std.specs.Prelude.{All, filter, find, slice_get, ◌&&◌, if◌then◌else◌}
+use Rattle.std.proofs.Common.{◌≡◌, ℕ, zero, suc, ◌+◌, ◌<◌, ◌≤◌, Bool, true, false, cond, List, [], ◌∷◌, ◌++◌, length, map, take, get_or, Option, Some, None, refl, sym, ap, ◌∙◌, subst, arith}
+use Rattle.std.specs.Prelude.{All, filter, find, slice_get, is_some, ◌&&◌, if◌then◌else◌}
+use Rattle.std.proofs.lemmas.List.Sums.{length-filter, count_by-le-length}
 use Rattle.std.proofs.lemmas.List.Elements.{All-head, All-tail}
 use Rattle.std.proofs.lemmas.Option.{same_Some}
 use Rattle.ksm_base.specs.declared.row.Row.{Row}
 use Rattle.ksm_base.specs.Apply.{is_before, let_go, unshared}
 use Rattle.ksm_base.specs.Refusals.{is_of}
-use Rattle.ksm_base.specs.Rows.{comes_before, same_page, InPageOrder, change_row, change_rows, merged_state}
+use Rattle.ksm_base.specs.Rows.{comes_before, same_page, InPageOrder, row_at, change_row, change_rows, merged_state}
 use Rattle.ksm_book.specs.Unmerged.{first_changed, is_merged_of}
 use Rattle.ksm_book.proofs.Pages.{same_page_refl, before_irrefl, not_both, before_differs, after_differs}
 use Rattle.ksm_book.proofs.Lists.{pairs_head, pairs_tail, change_none}
@@ -145,3 +146,60 @@ module _ (guest : ℕ) (stop : Option Row) where
   pub let_go_all : (rows : List Row) → change_rows reached let_go (change_rows met unshared rows) ≡ change_rows reached let_go rows
   let_go_all [] = refl
   let_go_all (r ∷ rows) = λ i. let_go_one r i ∷ let_go_all rows i
+
+-- ---------------------------------------------------------------- merged rows that get frames of their own
+
+pub unshared_off : (guest : Option ℕ) (r : Row) → is_merged_of guest (unshared r) ≡ false
+unshared_off None r = refl
+unshared_off (Some g) r = and_false (is_of g r)
+
+-- what a search finds after n of them
+pub next_is : (guest : Option ℕ) (n : ℕ) (rows now seen : List Row) (o : Option Row) → now ≡ first_changed (is_merged_of guest) unshared n rows → seen ≡ now → o ≡ find (is_merged_of guest) seen → slice_get (filter (is_merged_of guest) rows) n ≡ o
+next_is guest n rows now seen o made same found = sym (found ∙ ap (find (is_merged_of guest)) (same ∙ made) ∙ first_left (is_merged_of guest) unshared (λ r. refl) (unshared_off guest) n rows)
+
+pub one_unshared : (guest : Option ℕ) (n : ℕ) (rows now : List Row) (row new : Row) → InPageOrder rows → now ≡ first_changed (is_merged_of guest) unshared n rows → new ≡ unshared row → find (is_merged_of guest) now ≡ Some row → change_row new.page (λ _. new) now ≡ first_changed (is_merged_of guest) unshared (n + 1) rows
+one_unshared guest n rows now row new rise made is found =
+    (λ i. change_row (is i).page (λ _. is i) (made i))
+    ∙ one_more (is_merged_of guest) unshared (λ r. refl) (unshared_off guest) n rows row rise (sym (ap (find (is_merged_of guest)) made) ∙ found)
+    ∙ (let e : suc n ≡ n + 1 = omega arith in ap (λ k. first_changed (is_merged_of guest) unshared k rows) e)
+
+pub none_past : {X : Type 0} (xs : List X) (n : ℕ) → slice_get xs n ≡ None → length xs ≤ n
+none_past [] n none = omega arith
+none_past (x ∷ xs) zero none = absurd (grind (arith, none))
+none_past (x ∷ xs) (suc n) none = omega (arith, none_past xs n none)
+
+pub some_within : {X : Type 0} (xs : List X) (n : ℕ) (x : X) → slice_get xs n ≡ Some x → n < length xs
+some_within [] n x some = absurd (grind (arith, some))
+some_within (y ∷ ys) zero x some = omega arith
+some_within (y ∷ ys) (suc n) x some = omega (arith, some_within ys n x some)
+
+pub all_some : {X : Type 0} (P : X → Type 0) (xs : List X) (n : ℕ) (x : X) → All P xs → slice_get xs n ≡ Some x → P x
+all_some P [] n x all some = absurd (grind (arith, some))
+all_some P (y ∷ ys) zero x all some = subst P (same_Some y x some) (All-head P y ys all)
+all_some P (y ∷ ys) (suc n) x all some = all_some P ys n x (All-tail P y ys all) some
+
+homes_suc : (rows : List Row) (n : ℕ) (row : Row) → slice_get rows n ≡ Some row → map (λ r. r.home) (take (suc n) rows) ≡ map (λ r. r.home) (take n rows) ++ row.home ∷ []
+homes_suc [] n row some = absurd (grind (arith, some))
+homes_suc (r ∷ rows) zero row some = ap (λ (x : Row). x.home ∷ []) (same_Some r row some)
+homes_suc (r ∷ rows) (suc n) row some = ap (λ l. r.home ∷ l) (homes_suc rows n row some)
+
+pub homes_more : (rows : List Row) (n : ℕ) (row : Row) → slice_get rows n ≡ Some row → map (λ r. r.home) (take (n + 1) rows) ≡ map (λ r. r.home) (take n rows) ++ row.home ∷ []
+homes_more rows n row some = (let e : n + 1 ≡ suc n = omega arith in ap (λ k. map (λ (r : Row). r.home) (take k rows)) e) ∙ homes_suc rows n row some
+
+-- a row found by a test is known by its page
+pub find_known : (t : Row → Bool) (rows : List Row) (row : Row) → find t rows ≡ Some row → is_some (row_at row.page rows) ≡ true
+find_known t [] row found = absurd (grind (arith, found))
+find_known t (r ∷ rows) row found = by (t r) refl (find_known t rows row)
+  where
+  either : (b : Bool) → is_some (row_at row.page rows) ≡ true → is_some (cond b (Some r) (row_at row.page rows)) ≡ true
+  either true h = refl
+  either false h = h
+
+  by : (b : Bool) → t r ≡ b → (find t rows ≡ Some row → is_some (row_at row.page rows) ≡ true) → is_some (row_at row.page (r ∷ rows)) ≡ true
+  by true is rest =
+      let e : r ≡ row = same_Some r row (sym (ap (λ (b : Bool). cond b (Some r) (find t rows)) is) ∙ found) in
+      subst (λ (x : Row). is_some (row_at x.page (r ∷ rows)) ≡ true) e (ap (λ (b : Bool). is_some (cond b (Some r) (row_at r.page rows))) (same_page_refl r.page))
+  by false is rest = either (same_page r.page row.page) (rest (sym (ap (λ (b : Bool). cond b (Some r) (find t rows)) is) ∙ found))
+
+pub filter_fits : (t : Row → Bool) (rows : List Row) → length (filter t rows) ≤ length rows
+filter_fits t rows = omega (arith, length-filter t rows, count_by-le-length t rows)

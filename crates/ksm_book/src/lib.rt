@@ -14,3 +14,4 @@ mod scan;
 mod state;
 
 pub use book::Book;
+mod unmerging;
