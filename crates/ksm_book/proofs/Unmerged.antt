@@ -1,20 +1,35 @@
 -- Rows that are changed one after another, in order.
-use Rattle.std.proofs.Common.{◌≡◌, ℕ, zero, suc, ◌+◌, ◌<◌, ◌≤◌, Bool, true, false, cond, List, [], ◌∷◌, ◌++◌, length, map, take, get_or, Option, Some, None, refl, sym, ap, ◌∙◌, subst, arith}
-use Rattle.std.specs.Prelude.{All, filter, find, slice_get, is_some, ◌&&◌, if◌then◌else◌}
+use Rattle.std.proofs.Common.{inl, inr, ◌≡◌, ℕ, zero, suc, ◌+◌, ◌<◌, ◌≤◌, Bool, true, false, cond, List, [], ◌∷◌, ◌++◌, length, map, take, get_or, Option, Some, None, Ok, append-nil, refl, sym, ap, ◌∙◌, subst, arith}
+use Rattle.std.specs.Prelude.{All, filter, find, slice_get, is_some, not, option_map, MatchOption, ◌&&◌, if◌then◌else◌}
 use Rattle.std.proofs.lemmas.List.Sums.{length-filter, count_by-le-length}
-use Rattle.std.proofs.lemmas.List.Elements.{All-head, All-tail}
-use Rattle.std.proofs.lemmas.Option.{same_Some}
+use Rattle.std.proofs.lemmas.List.Elements.{All-head, All-tail, All-map}
+use Rattle.std.proofs.lemmas.Option.{same_Some, slice_get_past}
 use Rattle.ksm_base.specs.declared.row.Row.{Row}
 use Rattle.ksm_base.specs.Apply.{is_before, let_go, unshared}
-use Rattle.ksm_base.specs.Refusals.{is_of}
+use Rattle.ksm_base.specs.Refusals.{is_of, has_guest, refused_if}
 use Rattle.ksm_base.specs.Rows.{comes_before, same_page, InPageOrder, row_at, change_row, change_rows, merged_state}
-use Rattle.ksm_book.specs.Unmerged.{first_changed, is_merged_of}
+use Rattle.ksm_base.specs.declared.page.GuestPage.{GuestPage}
+use Rattle.ksm_base.specs.declared.command.Command.TheVariants.{Unmerge}
+use Rattle.ksm_base.specs.declared.reply.Reply.TheVariants.{Unmerged}
+use Rattle.ksm_base.specs.declared.fault.Fault.{Fault}
+use Rattle.ksm_base.specs.declared.fault.Fault.TheVariants.{NoFrame, UnknownPage}
+use Rattle.ksm_base.specs.Answers.{IsUnmerged, IsAnswerUnless, IsAnswerOrMemory, merged_rows}
+use Rattle.ksm_base.specs.State.{BookState}
+use Rattle.frame_table.specs.Named.{KeeperView}
+use Rattle.ksm_book.specs.Laid.{Lay, LodgesAs, state_of}
+use Rattle.ksm_book.specs.Steps.{Does}
+use Rattle.ksm_book.specs.Unmerged.{first_changed, is_merged_of, IsStop, Gave}
+use Rattle.ksm_book.proofs.Logs.{chained}
 use Rattle.ksm_book.proofs.Pages.{same_page_refl, before_irrefl, not_both, before_differs, after_differs}
 use Rattle.ksm_book.proofs.Lists.{pairs_head, pairs_tail, change_none}
 
 and_false : (b : Bool) → (b && false) ≡ false
 and_false true = refl
 and_false false = refl
+
+and_true : (b : Bool) → (b && true) ≡ b
+and_true true = refl
+and_true false = refl
 
 -- a row comes before all of these
 abbrev Behind : Row → List Row → Type 0
@@ -117,10 +132,10 @@ module _ (t : Row → Bool) (f : Row → Row) (keeps : (r : Row) → (f r).page 
 
 -- rows that were unshared on the way are let go as they would have been
 module _ (guest : ℕ) (stop : Option Row) where
-  abbrev reached : Row → Bool
+  abbrev pub reached : Row → Bool
   reached r = is_of guest r && is_before stop r
 
-  abbrev met : Row → Bool
+  abbrev pub met : Row → Bool
   met r = is_merged_of (Some guest) r && is_before stop r
 
   met_reached : (a b c : Bool) → ((a && c) && b) ≡ true → (a && b) ≡ true
@@ -203,3 +218,66 @@ find_known t (r ∷ rows) row found = by (t r) refl (find_known t rows row)
 
 pub filter_fits : (t : Row → Bool) (rows : List Row) → length (filter t rows) ≤ length rows
 filter_fits t rows = omega (arith, length-filter t rows, count_by-le-length t rows)
+
+-- a row let go may stand in the stead of one that isn't merged
+pub gone_lodges : (b : Bool) (r : Row) → (b ≡ true → merged_state r.state ≡ false) → LodgesAs (if b then let_go r else r) r
+gone_lodges true r alone = (refl, refl, inr (alone refl, refl))
+gone_lodges false r alone = (refl, refl, inl refl)
+
+-- ---------------------------------------------------------------- the commands
+
+stop_is : (rows : List Row) (k : ℕ) (stop : Option Row) → IsStop rows k stop → slice_get rows k ≡ stop
+stop_is rows k None h = slice_get_past rows k (omega (arith, h))
+stop_is rows k (Some row) h = h
+
+-- the rows after n were unshared, said by the stop
+pub met_rows : (guest : ℕ) (rows now : List Row) (k : ℕ) (stop : Option Row) → InPageOrder rows → now ≡ first_changed (is_merged_of (Some guest)) unshared k rows → IsStop (filter (is_merged_of (Some guest)) rows) k stop → now ≡ change_rows (met guest stop) unshared rows
+met_rows guest rows now k stop rise made at =
+    made ∙ all_before (is_merged_of (Some guest)) unshared (λ r. refl) (unshared_off (Some guest)) k rows rise
+    ∙ ap (λ o. change_rows (met guest o) unshared rows) (stop_is (filter (is_merged_of (Some guest)) rows) k stop at)
+
+not_merged : (a b c : Bool) → ((a && c) && b) ≡ false → (a && b) ≡ true → c ≡ false
+not_merged true true c e h = sym (and_true c) ∙ e
+not_merged true false c e h = absurd (grind (arith, h))
+not_merged false b c e h = absurd (grind (arith, h))
+
+-- none that is let go is merged
+pub none_left : (guest : ℕ) (stop : Option Row) (rows now : List Row) → now ≡ change_rows (met guest stop) unshared rows → All (λ r. reached guest stop r ≡ true → merged_state r.state ≡ false) now
+none_left guest stop rows now made = subst (All (λ r. reached guest stop r ≡ true → merged_state r.state ≡ false)) (sym made)
+    (All-map (λ r. reached guest stop r ≡ true → merged_state r.state ≡ false) (λ r. if met guest stop r then unshared r else r) rows (λ k d lt. one (get_or rows k d)))
+  where
+  one : (r : Row) → (let x : Row = if met guest stop r then unshared r else r in reached guest stop x ≡ true → merged_state x.state ≡ false)
+  one r = by (met guest stop r) (not_merged (is_of guest r) (is_before stop r) (merged_state r.state))
+    where
+    by : (m : Bool) → (m ≡ false → reached guest stop r ≡ true → merged_state r.state ≡ false) → (let x : Row = cond m (unshared r) r in reached guest stop x ≡ true → merged_state x.state ≡ false)
+    by true h = λ there. refl
+    by false h = h refl
+
+pub unmerged_state : (guest : ℕ) (lay mid new : Lay) (k : ℕ) (stop : Option Row) (cursor : Option GuestPage) (passes : ℕ) → InPageOrder lay.rows
+    → mid ≡ record lay { rows = first_changed (is_merged_of (Some guest)) unshared k lay.rows; keeper = mid.keeper }
+    → IsStop (filter (is_merged_of (Some guest)) lay.rows) k stop
+    → new ≡ record mid { rows = change_rows (reached guest stop) let_go mid.rows }
+    → state_of new cursor passes ≡ record (state_of lay cursor passes) { rows = change_rows (λ r. is_of guest r && is_before (slice_get (filter (is_merged_of (Some guest)) lay.rows) k) r) let_go lay.rows }
+unmerged_state guest lay mid new k stop cursor passes rise made at gone =
+    let rows : change_rows (reached guest stop) let_go mid.rows ≡ change_rows (λ r. is_of guest r && is_before (slice_get (filter (is_merged_of (Some guest)) lay.rows) k) r) let_go lay.rows =
+      ap (change_rows (reached guest stop) let_go) (met_rows guest lay.rows mid.rows k stop rise (ap (λ (x : Lay). x.rows) made) at)
+      ∙ let_go_all guest stop lay.rows
+      ∙ ap (λ o. change_rows (λ r. is_of guest r && is_before o r) let_go lay.rows) (sym (stop_is (filter (is_merged_of (Some guest)) lay.rows) k stop at)) in
+    ap (λ (x : Lay). state_of x cursor passes) gone ∙ (λ i. record (state_of (made i) cursor passes) { rows = rows i })
+
+-- the answer of an unmerging
+abbrev pub fault_of : Option Row → Option Fault
+fault_of stop = option_map (λ r. NoFrame r.home) stop
+
+pub is_unmerged : (rows : List Row) (k : ℕ) (stop : Option Row) → IsStop rows k stop → IsUnmerged rows (Ok (Unmerged k (fault_of stop)))
+is_unmerged rows k None at = at
+is_unmerged rows k (Some row) at = subst (λ o. MatchOption o ⊥ (λ r. row.home ≡ r.home)) (sym at) refl
+
+pub unmerge_answer : (b : BookState) (guest k : ℕ) (stop : Option Row) → has_guest b guest ≡ true → IsStop (merged_rows (is_of guest) b) k stop → IsAnswerOrMemory b (Unmerge guest) (Ok (Unmerged k (fault_of stop)))
+unmerge_answer b guest k stop has at = subst (λ (h : Bool). IsAnswerUnless (refused_if (not h) UnknownPage None) b (Unmerge guest) (Ok (Unmerged k (fault_of stop)))) (sym has) (is_unmerged (merged_rows (is_of guest) b) k stop at)
+
+-- the frames that it gave
+pub gave_does : (v w : KeeperView) (nodes : List ℕ) (stop : Option Row) → Gave v w nodes stop → Does v w nodes
+gave_does v w nodes None h = h
+gave_does v w nodes (Some row) h = let u = h.0 in let first = h.1 in let left = h.2 in
+    subst (λ ns. Does v w ns) (append-nil nodes) (_, chained v u w nodes [] first.0 left.part first.1 left.did)

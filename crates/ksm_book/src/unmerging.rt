@@ -1,14 +1,19 @@
 //! How merged pages get frames of their own again.
 
-ghost use Rattle.std.specs.Prelude.{◌≡◌, ◌<◌, All, filter, map, take};
-ghost use Rattle.ksm_base.specs.Apply.{unshared as as_unshared};
+ghost use Rattle.std.specs.Prelude.{◌≡◌, ◌<◌, All, filter, map, take, option_map};
+ghost use Rattle.ksm_base.specs.declared.fault.Fault.TheVariants.{NoFrame};
+ghost use Rattle.ksm_base.specs.Answers.{IsAnswerOrMemory};
+ghost use Rattle.ksm_base.specs.Apply.{after, unshared as as_unshared};
 ghost use Rattle.ksm_base.specs.Rows.{InPageOrder};
+ghost use Rattle.ksm_book.specs.Steps.{Does};
+ghost use Rattle.ksm_book.specs.Whole.{nodes_got, HasShown};
 ghost use Rattle.ksm_book.specs.Unmerged.{is_merged_of, first_changed, IsStop, Gave};
 
 use crate::layout::Layout;
 use crate::row::unshared;
+use crate::state::State;
 use frame_table::FrameTable;
-use ksm_base::Row;
+use ksm_base::{Command, Fault, Reply, Row};
 
 /// The merged pages of a guest, or all of them, get frames of their own in order, until one finds none on its home.
 /// Says how many did, and the row that did not. Each of them is looked for from the first row on.
@@ -35,4 +40,36 @@ pub fn unshare_merged(
         }
     }
     (count, None)
+}
+
+// The fault of a stop.
+fn no_frame(stop: Option<Row>) -> Option<Fault>
+    ensures { result ≡ option_map (λ r. NoFrame r.home) stop }
+{
+    match stop {
+        None => None,
+        Some(row) => Some(Fault::NoFrame(row.home)),
+    }
+}
+
+impl State {
+    /// The merged pages of a guest get frames of their own, in order, until one finds none; the guest's pages up to there leave the scan.
+    pub fn unmerge(&mut self, table: &FrameTable, guest: u16) -> Result<Reply, Fault>
+        requires own { self.old.keeper.table ≡ table.now }
+        ensures own { self.new.keeper.table ≡ self.old.keeper.table }
+        ensures answer { IsAnswerOrMemory self.old.state (Command.Unmerge guest) result }
+        ensures state { self.new.state ≡ after self.old.state (Command.Unmerge guest) result }
+        ensures frames { Does self.old.keeper self.new.keeper (nodes_got self.old.state result (Command.Unmerge guest)) }
+        ensures shown { HasShown self.old.state self.old.keeper self.new.keeper result (Command.Unmerge guest) }
+    {
+        if !self.layout.rows().has_guest(guest) {
+            return Err(Fault::UnknownPage);
+        }
+        let (pages, stop) = unshare_merged(&mut self.layout, table, Some(guest));
+        self.layout.let_go(guest, stop);
+        Ok(Reply::Unmerged {
+            pages,
+            stop: no_frame(stop),
+        })
+    }
 }
