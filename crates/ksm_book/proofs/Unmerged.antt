@@ -9,6 +9,7 @@ use Rattle.ksm_base.specs.Apply.{is_before, let_go, unshared}
 use Rattle.ksm_base.specs.Refusals.{is_of, has_guest, refused_if}
 use Rattle.ksm_base.specs.Rows.{comes_before, same_page, InPageOrder, row_at, change_row, change_rows, merged_state}
 use Rattle.ksm_base.specs.declared.page.GuestPage.{GuestPage}
+use Rattle.ksm_base.specs.declared.knobs.Knobs.{Knobs}
 use Rattle.ksm_base.specs.declared.command.Command.TheVariants.{Unmerge}
 use Rattle.ksm_base.specs.declared.reply.Reply.TheVariants.{Unmerged}
 use Rattle.ksm_base.specs.declared.fault.Fault.{Fault}
@@ -281,3 +282,58 @@ pub gave_does : (v w : KeeperView) (nodes : List ℕ) (stop : Option Row) → Ga
 gave_does v w nodes None h = h
 gave_does v w nodes (Some row) h = let u = h.0 in let first = h.1 in let left = h.2 in
     subst (λ ns. Does v w ns) (append-nil nodes) (_, chained v u w nodes [] first.0 left.part first.1 left.did)
+
+-- ---------------------------------------------------------------- all pages
+
+abbrev pub merged_at : List Row → List Row
+merged_at rows = filter (is_merged_of None) rows
+
+abbrev pub unshared_before : ℕ → List Row → List Row
+unshared_before k rows = change_rows (λ r. merged_state r.state && is_before (slice_get (merged_at rows) k) r) unshared rows
+
+all_unshared : (rows now : List Row) (k : ℕ) → InPageOrder rows → now ≡ first_changed (is_merged_of None) unshared k rows → now ≡ unshared_before k rows
+all_unshared rows now k rise made = made ∙ all_before (is_merged_of None) unshared (λ r. refl) (unshared_off None) k rows rise
+
+-- where it stopped
+pub stopped_state : (lay mid new : Lay) (k : ℕ) (knobs : Knobs) (cursor : Option GuestPage) (passes : ℕ) → InPageOrder lay.rows
+    → mid ≡ record lay { rows = first_changed (is_merged_of None) unshared k lay.rows; keeper = mid.keeper }
+    → knobs ≡ mid.knobs → new ≡ record mid { knobs = record knobs { run = 0 } }
+    → state_of new cursor passes ≡ record (state_of lay cursor passes) { rows = unshared_before k lay.rows; knobs = record lay.knobs { run = 0 } }
+stopped_state lay mid new k knobs cursor passes rise made same set =
+    let kept : knobs ≡ lay.knobs = same ∙ ap (λ (x : Lay). x.knobs) made in
+    let rows : mid.rows ≡ unshared_before k lay.rows = all_unshared lay.rows mid.rows k rise (ap (λ (x : Lay). x.rows) made) in
+    ap (λ (x : Lay). state_of x cursor passes) set
+    ∙ (λ i. record (state_of (made i) cursor passes) { rows = rows i; knobs = record (kept i) { run = 0 } })
+
+unshared_twice : (test : Row → Bool) (rows : List Row) → map unshared (change_rows test unshared rows) ≡ map unshared rows
+unshared_twice test [] = refl
+unshared_twice test (r ∷ rows) = by (test r) (unshared_twice test rows)
+  where
+  by : (b : Bool) → map unshared (change_rows test unshared rows) ≡ map unshared rows → map unshared (cond b (unshared r) r ∷ change_rows test unshared rows) ≡ map unshared (r ∷ rows)
+  by true rest = ap (λ l. unshared r ∷ l) rest
+  by false rest = ap (λ l. unshared r ∷ l) rest
+
+-- where it went through
+pub ended_state : (lay mid wide new : Lay) (k : ℕ) (knobs : Knobs) (cursor : Option GuestPage) (passes : ℕ) → InPageOrder lay.rows
+    → mid ≡ record lay { rows = first_changed (is_merged_of None) unshared k lay.rows; keeper = mid.keeper }
+    → knobs ≡ mid.knobs → wide ≡ record mid { rows = map unshared mid.rows } → new ≡ record wide { knobs = record knobs { run = 2 } }
+    → state_of new None passes ≡ record (state_of lay cursor passes) { rows = map unshared lay.rows; cursor = None; knobs = record lay.knobs { run = 2 } }
+ended_state lay mid wide new k knobs cursor passes rise made same alone set =
+    let kept : knobs ≡ lay.knobs = same ∙ ap (λ (x : Lay). x.knobs) made in
+    let rows : map unshared mid.rows ≡ map unshared lay.rows = ap (map unshared) (all_unshared lay.rows mid.rows k rise (ap (λ (x : Lay). x.rows) made)) ∙ unshared_twice (λ r. merged_state r.state && is_before (slice_get (merged_at lay.rows) k) r) lay.rows in
+    ap (λ (x : Lay). state_of x None passes) set
+    ∙ (λ i. record (state_of (alone i) None passes) { knobs = record knobs { run = 2 } })
+    ∙ (λ i. record (state_of (made i) None passes) { rows = rows i; knobs = record (kept i) { run = 2 } })
+
+-- then none is merged
+pub none_merged : (rows now : List Row) (k : ℕ) (stop : Option Row) → InPageOrder rows → now ≡ first_changed (is_merged_of None) unshared k rows → IsStop (merged_at rows) k stop → stop ≡ None → All (λ r. merged_state r.state ≡ false) now
+none_merged rows now k stop rise made at ended =
+    let still : now ≡ change_rows (λ r. merged_state r.state && true) unshared rows = all_unshared rows now k rise made ∙ ap (λ o. change_rows (λ r. merged_state r.state && is_before o r) unshared rows) (stop_is (merged_at rows) k stop at ∙ ended) in
+    subst (All (λ r. merged_state r.state ≡ false)) (sym still) (All-map (λ r. merged_state r.state ≡ false) (λ r. if merged_state r.state && true then unshared r else r) rows (λ i d lt. one (get_or rows i d)))
+  where
+  one : (r : Row) → (let x : Row = if merged_state r.state && true then unshared r else r in merged_state x.state ≡ false)
+  one r = by (merged_state r.state && true) (λ e. sym (and_true (merged_state r.state)) ∙ e)
+    where
+    by : (m : Bool) → (m ≡ false → merged_state r.state ≡ false) → (let x : Row = cond m (unshared r) r in merged_state x.state ≡ false)
+    by true h = refl
+    by false h = h refl

@@ -13,7 +13,7 @@ use crate::layout::Layout;
 use crate::row::unshared;
 use crate::state::State;
 use frame_table::FrameTable;
-use ksm_base::{Command, Fault, Reply, Row};
+use ksm_base::{Command, Fault, Knobs, Reply, Row};
 
 /// The merged pages of a guest, or all of them, get frames of their own in order, until one finds none on its home.
 /// Says how many did, and the row that did not. Each of them is looked for from the first row on.
@@ -71,5 +71,29 @@ impl State {
             pages,
             stop: no_frame(stop),
         })
+    }
+
+    /// All merged pages get frames of their own, in order, until one finds none. If none is left merged, all pages are Private and not unchanged, and the next scan begins a pass; else the scan stands.
+    pub fn unshare(&mut self, table: &FrameTable) -> Result<Reply, Fault>
+        requires own { self.old.keeper.table ≡ table.now }
+        ensures own { self.new.keeper.table ≡ self.old.keeper.table }
+        ensures answer { IsAnswerOrMemory self.old.state (Command.SetRun 2) result }
+        ensures state { self.new.state ≡ after self.old.state (Command.SetRun 2) result }
+        ensures frames { Does self.old.keeper self.new.keeper (nodes_got self.old.state result (Command.SetRun 2)) }
+        ensures shown { HasShown self.old.state self.old.keeper self.new.keeper result (Command.SetRun 2) }
+    {
+        let (pages, stop) = unshare_merged(&mut self.layout, table, None);
+        let knobs = self.layout.knobs();
+        if let Some(row) = stop {
+            self.layout.set_knobs(Knobs { run: 0, ..knobs });
+            return Ok(Reply::Unmerged {
+                pages,
+                stop: Some(Fault::NoFrame(row.home)),
+            });
+        }
+        self.layout.unshare_all();
+        self.layout.set_knobs(Knobs { run: 2, ..knobs });
+        self.cursor = None;
+        Ok(Reply::Unmerged { pages, stop: None })
     }
 }
