@@ -1,5 +1,5 @@
 -- What a call on the table asks, by the operation on the word and by what the step tells its seat.
-use Rattle.std.proofs.Common.{◌≡◌, ℕ, ◌+◌, ◌-◌, ◌%◌, ◌^◌, eqb, sym, subst}
+use Rattle.std.proofs.Common.{◌≡◌, ℕ, ◌+◌, ◌-◌, ◌%◌, ◌^◌, ◌<◌, ◌≤◌, eqb, sym, subst, arith}
 use mathlib.Core.Option.{none}
 use prog.Atomic.{either}
 use Rattle.atomic_table.specs.Table.{Step, step, Allows}
@@ -29,3 +29,7 @@ module _ (then : Tells) (slots id : ℕ) where
 -- what is allowed at a key, a word and a seat written out, is allowed where they are given by equations
 pub turned : (Q : Shape → ℕ → Sat → Type 0) (key sh : Shape) (i j : ℕ) (me at : Sat) → key ≡ sh → i ≡ j → me ≡ at → Q sh j at → Q key i me
 turned Q key sh i j me at e f h q = subst (λ (x : Shape × ℕ × Sat). Q x.0 x.1 x.2) (λ t. (sym e t, sym f t, sym h t)) q
+
+-- one less, as the machine takes it
+pub lowered : (n : ℕ) → 1 ≤ n → n < 18446744073709551616 → (n + 18446744073709551615) % 18446744073709551616 ≡ n - 1
+lowered n low small = omega arith

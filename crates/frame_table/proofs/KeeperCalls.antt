@@ -12,14 +12,11 @@ use Rattle.frame_core.specs.Ledger.{frame_at, MayStep}
 use Rattle.frame_table.specs.declared.view.Tally.{Tally}
 use Rattle.frame_table.specs.Views.{KeeperLog, Sat, keeps_ledger}
 use Rattle.frame_table.specs.Keeping.{Keeps, reaps, puts, raises, opens, adds, subs, publishes, withdraws, freezes, shows}
-use Rattle.frame_table.proofs.Allowed.{MayLoad, MayStore, MayExchange, MayAddOne, MaySubOne}
+use Rattle.frame_table.proofs.Allowed.{MayLoad, MayStore, MayExchange, MayAddOne, MaySubOne, lowered}
 use Rattle.frame_table.proofs.KeeperMay.{keeper_may}
 
 raised : (n : ℕ) → n < 18446744073709551615 → (n + 1) % 18446744073709551616 ≡ n + 1
 raised n small = omega arith
-
-lowered : (n : ℕ) → 1 ≤ n → n < 18446744073709551616 → (n + 18446744073709551615) % 18446744073709551616 ≡ n - 1
-lowered n low small = omega arith
 
 named : (g f w : ℕ) → f < 1024 → g ≤ 1099511627776 → w ≡ (g * 1024 + f) % 18446744073709551616 → w ≡ g * 1024 + f
 named g f w low few is = omega arith

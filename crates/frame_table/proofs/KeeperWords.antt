@@ -1,8 +1,8 @@
 -- A step of the keeper changes one word of the table, and is told what it found there.
-use Rattle.std.proofs.Common.{◌≡◌, ℕ, zero, suc, ◌+◌, ◌*◌, ◌<◌, ◌≤◌, ◌==◌, ◌&&◌, ◌||◌, Bool, true, false, not, cond, nat_le, nat_lt, List, [], ◌∷◌, ◌++◌, map, length, set, get_or, slice_get, slice_set, Option, Some, None, option_map, option_and_then, refl, ap, sym, subst, ◌∙◌, arith}
+use Rattle.std.proofs.Common.{◌≡◌, ℕ, zero, suc, ◌+◌, ◌*◌, ◌<◌, ◌≤◌, ◌==◌, ◌&&◌, ◌||◌, Bool, true, false, not, cond, nat_le, nat_lt, List, [], ◌∷◌, ◌++◌, map, length, set, get_or, slice_get, slice_set, Option, Some, None, option_and_then, refl, ap, sym, subst, ◌∙◌, arith}
 use Rattle.std.proofs.lemmas.List.{set-get_or}
 use Rattle.std.proofs.lemmas.Bool.{ltb-true}
-use Rattle.std.proofs.lemmas.Option.{same_Some, slice_get-map, slice_get_within, get_or_from_slice_get}
+use Rattle.std.proofs.lemmas.Option.{same_Some, slice_get_within, get_or_from_slice_get}
 use Rattle.std.specs.List.{flat_map}
 use Rattle.ksm_base.specs.declared.page.TheConstants.{PAGE_WORDS}
 use Rattle.ksm_base.specs.Values.{frames_of}
@@ -16,11 +16,12 @@ use Rattle.frame_core.specs.declared.ledger.Note.{Note}
 use Rattle.frame_core.specs.declared.seat.Life.{Life}
 use Rattle.frame_core.specs.State.{State, place_word}
 use Rattle.frame_core.specs.Words.{words_of, frame_words, frame_offset}
-use Rattle.frame_core.specs.Ledger.{ledger_of, note_of, frame_at, blank}
+use Rattle.frame_core.specs.Ledger.{ledger_of, note_of, frame_at}
 use Rattle.frame_core.specs.KeeperSteps.{keeper_step, at_frame, only_if, reap_step, put_step, raise_step, open_step, add_step, sub_step, freeze_step, word_step, publish_step, withdraw_step, is_live, is_free, is_filling, is_private, is_stable, is_dying}
 use Rattle.frame_core.specs.Rule.{Rule, GenerationFits}
 use Rattle.frame_core.proofs.Parts.{parts, map_parts, then_parts, only_if_parts}
 use Rattle.frame_core.proofs.Frames.{free_is}
+use Rattle.frame_core.proofs.Notes.{note_at}
 use Rattle.frame_core.proofs.Made.{sub_made}
 use Rattle.frame_core.proofs.Moves.LoadCount.{count_at_most}
 use Rattle.frame_core.proofs.Fitting.{generation_at_most}
@@ -30,10 +31,6 @@ use Rattle.frame_table.specs.Keeping.{keeper_word, keeper_written, found_by, kno
 second_test : (a b : Bool) → (a && b) ≡ true → b ≡ true
 second_test true b both = both
 second_test false b both = absurd (cc (both))
-
--- what the keeper knows of a frame is of that frame
-pub note_there : (s : State) (f : ℕ) (fr : Frame) → slice_get s.frames f ≡ Some fr → frame_at (ledger_of s) f ≡ note_of fr
-note_there s f fr at = get_or_from_slice_get (map note_of s.frames) f (note_of fr) blank (slice_get-map note_of s.frames f ∙ ap (option_map note_of) at)
 
 -- the word that a step leaves, what it is told, and what it knew of that
 abbrev pub OneWord : State → KeeperStep → ℕ × State → Type 0
@@ -53,7 +50,7 @@ module _ (s : State) (rule : Rule s) where
       → (r : ℕ × State) → at_frame s f change ≡ Some r → OneWord s e r
   at_one_frame e f j change below word leaves r is =
       let P = parts (slice_get s.frames f) change (λ (x : ℕ × Frame). (x.0, record s { frames = slice_set s.frames f x.1 })) r is in
-      let here = leaves P.old P.new (note_there s f P.old P.at) P.at P.gives in
+      let here = leaves P.old P.new (note_at s f P.old P.at) P.at P.gives in
       let n : ℕ = get_or (frame_words P.old) j 0 in
       let i : ℕ = frame_offset (frames_of s.shape) f + j in
       let found : get_or (words_of s) i 0 ≡ n = words_get s rule f j P.old P.at (below P.old P.new P.at P.gives) in
@@ -144,10 +141,10 @@ module _ (s : State) (rule : Rule s) where
       let life : Option Life = Some (record { frame = f; generation = fr.generation }) in
       let within : p < frames_of s.shape = omega (arith, slice_get_within s.places p P.0 P.1, rule.place_count) in
       subst (OneWord s (Publish p f)) last.1 (
-        ap (λ (x : Note). set (words_of s) p (x.generation * 1024 + f)) (note_there s f fr Q.1) ∙ (words_set_place s rule p life within
+        ap (λ (x : Note). set (words_of s) p (x.generation * 1024 + f)) (note_at s f fr Q.1) ∙ (words_set_place s rule p life within
             ∙ ap (λ (w : List ℕ). map place_word (slice_set s.places p life) ++ w) (sym (flat_same frame_words s.frames f fr (record fr { kind = Stable }) Q.1 refl))),
         refl,
-        subst (λ (x : Note). x.generation ≤ 1099511627776) (sym (note_there s f fr Q.1))
+        subst (λ (x : Note). x.generation ≤ 1099511627776) (sym (note_at s f fr Q.1))
             (omega (arith, generation_at_most s.shape.last_generation fr.kind fr.generation (rule.frames f fr Q.1).generation, rule.shape.generation_high)),
       )
 

@@ -1,5 +1,5 @@
 -- What each step of a reader asks of the table.
-use Rattle.std.proofs.Common.{◌≡◌, ℕ, ◌+◌, ◌-◌, ◌%◌, ◌^◌, ◌<◌, ◌≤◌, Bool, true, false, cond, eqb, List, [], get_or, Option, refl, ap, sym, subst, arith}
+use Rattle.std.proofs.Common.{◌≡◌, ℕ, ◌+◌, ◌-◌, ◌%◌, ◌^◌, ◌<◌, Bool, true, false, cond, eqb, List, [], get_or, Option, refl, ap, sym, subst, arith}
 use Rattle.std.proofs.lemmas.Bool.{eqb-true}
 use prog.Atomic.{either}
 use Rattle.atomic_table.specs.Table.{carried_after}
@@ -14,7 +14,7 @@ use Rattle.frame_core.specs.Words.{count_at, generation_at, content_at}
 use Rattle.frame_table.specs.Seat.{MayRead, word_of}
 use Rattle.frame_table.specs.Views.{Log, sits}
 use Rattle.frame_table.specs.Reading.{Makes, loads_place, loads_count, exchanges, loads_generation, leaves, loads_word}
-use Rattle.frame_table.proofs.Allowed.{MayLoad, MayExchange, MaySubOne}
+use Rattle.frame_table.proofs.Allowed.{MayLoad, MayExchange, MaySubOne, lowered}
 use Rattle.frame_table.proofs.ReaderMay.{reader_may}
 
 module _ (slots id : ℕ) (sh : Shape) (log : Log) where
@@ -33,9 +33,6 @@ module _ (slots id : ℕ) (sh : Shape) (log : Log) where
 
   pub may_load_generation : (aim : Aim) → MayLoad loads_generation slots id sh (generation_at (frames_of sh) aim.life.frame) (sits sh (Doubt aim) log)
   may_load_generation aim = reader_may slots LoadGeneration (Doubt aim) log (λ n. n) sh id tt (λ n small told. refl)
-
-  lowered : (n : ℕ) → 1 ≤ n → n < 18446744073709551616 → (n + 18446744073709551615) % 18446744073709551616 ≡ n - 1
-  lowered n low small = omega arith
 
   pub may_leave : (aim : Aim) (phase : Phase) → MayRead sh Leave phase → word_of sh Leave phase ≡ count_at (frames_of sh) aim.life.frame → MaySubOne leaves slots id sh (count_at (frames_of sh) aim.life.frame) (sits sh phase log)
   may_leave aim phase may word = subst (λ (i : ℕ). MaySubOne leaves slots id sh i (sits sh phase log)) word (reader_may slots Leave phase log (λ n. (n + (2 ^ 64 - 1)) % 2 ^ 64) sh id may (λ n small told. lowered n told small))

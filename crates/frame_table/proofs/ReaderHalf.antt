@@ -1,6 +1,6 @@
 -- A step of a reader, as its seat sees it, is the core's step of the same name.
 use Rattle.std.proofs.Common.{◌≡◌, ℕ, suc, ◌+◌, ◌-◌, ◌*◌, ◌/◌, ◌%◌, ◌<◌, ◌≤◌, ◌==◌, Bool, true, false, cond, eqb, nat_le, List, replicate, map, length, set, get_or, slice_get, slice_set, Option, Some, None, option_map, option_and_then, refl, ap, sym, ◌∙◌, arith, eq-eqb, ne_eqb}
-use Rattle.std.proofs.lemmas.List.{map-set, length-map, set-get_or, get_or_append_left}
+use Rattle.std.proofs.lemmas.List.{length-map, set-get_or, get_or_append_left}
 use Rattle.std.proofs.lemmas.Option.{same_Some, slice_get-map, slice_get_within, get_or_from_slice_get}
 use Rattle.std.proofs.Math.Nat.{mul-le-mul_right}
 use Rattle.std.specs.List.{flat_map}
@@ -10,19 +10,17 @@ use Rattle.ksm_base.specs.Values.{IsShape, frames_of}
 use Rattle.frame_core.specs.declared.event.ReaderStep.{ReaderStep}
 use Rattle.frame_core.specs.declared.event.ReaderStep.TheVariants.{LoadPlace, LoadCount, Exchange, LoadGeneration, Leave, LoadWord}
 use Rattle.frame_core.specs.declared.frame.Frame.{Frame}
-use Rattle.frame_core.specs.declared.ledger.Note.{Note}
-use Rattle.frame_core.specs.declared.ledger.Ledger.{Ledger}
 use Rattle.frame_core.specs.declared.seat.Life.{Life}
 use Rattle.frame_core.specs.declared.seat.Aim.{Aim}
 use Rattle.frame_core.specs.declared.seat.Phase.{Phase}
 use Rattle.frame_core.specs.declared.seat.Phase.TheVariants.{Idle, Placed, Counted, Doubt, Held}
 use Rattle.frame_core.specs.State.{State, place_word}
 use Rattle.frame_core.specs.Words.{words_of, frame_words, count_at, content_at}
-use Rattle.frame_core.specs.Ledger.{ledger_of, note_of}
 use Rattle.frame_core.specs.ReaderSteps.{reader_step, at_seat, aimed_at, load_place_step, load_count_step, load_generation_step, load_word_step, exchange_step, leave_step, given_back}
 use Rattle.frame_core.specs.Rule.{Rule, is_on}
 use Rattle.frame_core.proofs.Fitting.{get_inside}
-use Rattle.frame_core.proofs.Lists.{set_self, count_one}
+use Rattle.frame_core.proofs.Lists.{count_one}
+use Rattle.frame_core.proofs.Ledgers.{reader_ledger}
 use Rattle.frame_core.proofs.Flat.{words_get, words_set}
 use Rattle.frame_core.proofs.Moves.LoadCount.{count_at_most}
 use Rattle.frame_table.specs.Seat.{MayRead, word_of, written, seat_after, aim_of, aim_at}
@@ -125,10 +123,6 @@ module _ (s : State) (rule : Rule s) (q : ℕ) where
 
   -- ---------------------------------------------------------------- steps that change a count
 
-  same_notes : (f : ℕ) (fr next : Frame) → slice_get s.frames f ≡ Some fr → note_of next ≡ note_of fr → map note_of (slice_set s.frames f next) ≡ map note_of s.frames
-  same_notes f fr next at same = map-set note_of s.frames f next
-      ∙ (ap (λ (n : Note). slice_set (map note_of s.frames) f n) same ∙ set_self (map note_of s.frames) f (note_of fr) (slice_get-map note_of s.frames f ∙ ap (option_map note_of) at))
-
   counted : (f c : ℕ) (fr : Frame) → slice_get s.frames f ≡ Some fr → set (words_of s) (count_at F f) c ≡ words_of (record s { frames = slice_set s.frames f (record fr { count = c }) })
   counted f c fr at = words_set s rule f 0 c fr (record fr { count = c }) at (omega arith) refl
 
@@ -139,10 +133,6 @@ module _ (s : State) (rule : Rule s) (q : ℕ) where
   words_if : (b : Bool) (f : ℕ) (fr : Frame) → slice_get s.frames f ≡ Some fr → set (words_of s) (count_at F f) (cond b (fr.count + 1) fr.count) ≡ words_of (record s { frames = frames_if b f fr })
   words_if true f fr at = counted f (fr.count + 1) fr at
   words_if false f fr at = ap (λ (m : ℕ). set (words_of s) (count_at F f) m) (sym (words_get s rule f 0 fr at (omega arith))) ∙ set-get_or (words_of s) (count_at F f) 0
-
-  ledger_if : (b : Bool) (f : ℕ) (fr : Frame) → slice_get s.frames f ≡ Some fr → ledger_of (record s { frames = frames_if b f fr }) ≡ ledger_of s
-  ledger_if true f fr at = ap (λ (l : List Note). let k : Ledger = record { frames = l; places = s.places } in k) (same_notes f fr (record fr { count = fr.count + 1 }) at refl)
-  ledger_if false f fr at = refl
 
   abbrev build : ℕ × List Frame × Phase → ℕ × State
   build r = (r.0, record s { frames = r.1; seats = slice_set s.seats q r.2 })
@@ -155,15 +145,16 @@ module _ (s : State) (rule : Rule s) (q : ℕ) where
       let f = aim.life.frame in
       let here = get_inside s.frames f (rule.seats q (Counted aim failures count) at).0.inside in
       let fr = here.0 in
+      let made : reader_step s q Exchange ≡ Some (build (tried aim failures count fr)) = ap (option_and_then (λ p. option_map build (exchange_step s.shape.tries s.frames p))) at ∙ ap (λ (o : Option Frame). option_map build (option_map (tried aim failures count) o)) here.1 in
       record {
         found = fr.count;
         next = (build (tried aim failures count fr)).1;
-        steps = ap (option_and_then (λ p. option_map build (exchange_step s.shape.tries s.frames p))) at ∙ ap (λ (o : Option Frame). option_map build (option_map (tried aim failures count) o)) here.1;
+        steps = made;
         word = words_get s rule f 0 fr here.1 (omega arith);
         words = words_if (fr.count == count) f fr here.1;
         shape = refl;
         seats = refl;
-        ledger = ledger_if (fr.count == count) f fr here.1;
+        ledger = reader_ledger s q Exchange (build (tried aim failures count fr)) made;
         told = tt;
       }
 
@@ -175,15 +166,16 @@ module _ (s : State) (rule : Rule s) (q : ℕ) where
       let f = aim.life.frame in
       let here = get_inside s.frames f inside in
       let fr = here.0 in
+      let made : reader_step s q Leave ≡ Some (build (released aim fr)) = ap (option_and_then (λ p. option_map build (leave_step s.frames p))) at ∙ (ap (option_map build) is ∙ ap (λ (o : Option Frame). option_map build (option_map (released aim) o)) here.1) in
       record {
         found = fr.count;
         next = (build (released aim fr)).1;
-        steps = ap (option_and_then (λ p. option_map build (leave_step s.frames p))) at ∙ (ap (option_map build) is ∙ ap (λ (o : Option Frame). option_map build (option_map (released aim) o)) here.1);
+        steps = made;
         word = ap (λ (i : ℕ). get_or (words_of s) i 0) word ∙ words_get s rule f 0 fr here.1 (omega arith);
         words = ap (λ (i : ℕ). set (words_of s) i (fr.count - 1)) word ∙ counted f (fr.count - 1) fr here.1;
         shape = refl;
         seats = refl;
-        ledger = ap (λ (l : List Note). let k : Ledger = record { frames = l; places = s.places } in k) (same_notes f fr (record fr { count = fr.count - 1 }) here.1 refl);
+        ledger = reader_ledger s q Leave (build (released aim fr)) made;
         told = omega (arith, (rule.frames f fr here.1).counted, count_one (is_on f) s.seats q phase at on);
       }
 

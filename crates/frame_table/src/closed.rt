@@ -105,7 +105,11 @@ impl FrameTable {
             self.take_back(&mut seat, pass);
         }
         passes.destroy_empty();
-        let FrameTable { table, shape } = self;
+        let FrameTable {
+            table,
+            shape,
+            places: _,
+        } = self;
         ClosedTable {
             closed: table.close_with(seat),
             shape,

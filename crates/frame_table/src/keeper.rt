@@ -1,4 +1,4 @@
-//! The keeper gives frames, names them at places, and takes them back.
+//! The keeper gives frames, names them at places, and takes them back. Each call that changes something is one atomic step (own).
 ghost use Rattle.std.specs.Prelude.{◌≡◌, ◌<◌, ℕ, ◌↔◌, IsTrue, slice_index};
 ghost use Rattle.frame_core.specs.declared.event.KeeperStep.TheVariants.{Reap, Put, Raise, Open, Add, Sub, Publish, Withdraw, Freeze, Word};
 ghost use Rattle.frame_core.specs.Ledger.{frame_at};
@@ -33,6 +33,7 @@ impl Model for Keeper {
 }
 
 impl Keeper {
+    /// What the keeper uses a frame for.
     pub fn kind(&self, frame: u32) -> Kind
         requires { frame < frames_of self.now.table.shape }
         ensures { result ≡ (frame_at self.now.ledger frame).kind }
@@ -40,6 +41,7 @@ impl Keeper {
         self.frames[frame as usize].kind
     }
 
+    /// How many references on a frame are the keeper's own: 0 to 1,024.
     pub fn base(&self, frame: u32) -> u64
         requires { frame < frames_of self.now.table.shape }
         ensures { result ≡ (frame_at self.now.ledger frame).base }
@@ -47,7 +49,7 @@ impl Keeper {
         self.frames[frame as usize].base
     }
 
-    /// One more reference of the keeper on the frame.
+    /// Takes one reference more on a frame on which the keeper has 1 to 1,023.
     pub fn add(&mut self, table: &FrameTable, frame: u32)
         requires own { self.old.table ≡ table.now }
         requires may { May self.old (Add frame) }
@@ -59,7 +61,7 @@ impl Keeper {
         self.frames[frame as usize] = note;
     }
 
-    /// Gives one reference back. The last one leaves the frame dying.
+    /// Gives one of its references back. With the last one the frame is Dying.
     pub fn sub(&mut self, table: &FrameTable, frame: u32)
         requires own { self.old.table ≡ table.now }
         requires may { May self.old (Sub frame) }
@@ -74,7 +76,8 @@ impl Keeper {
         self.frames[frame as usize] = note;
     }
 
-    /// Whether the count of a dying frame is zero. It is free then, or retired.
+    /// Loads the count of a dying frame, and answers whether it was 0. If so, the frame is Free, or Retired after its last life; else it
+    /// stays Dying, since a reader still has a reference.
     pub fn reap(&mut self, table: &FrameTable, frame: u32) -> bool
         requires own { self.old.table ≡ table.now }
         requires may { May self.old (Reap frame) }
@@ -94,7 +97,7 @@ impl Keeper {
         true
     }
 
-    /// A new life of a free frame.
+    /// Gives a free frame its next life. It is Filling then, and its words may be stored.
     pub fn raise(&mut self, table: &FrameTable, frame: u32)
         requires own { self.old.table ≡ table.now }
         requires may { May self.old (Raise frame) }
@@ -107,6 +110,7 @@ impl Keeper {
         self.frames[frame as usize] = note;
     }
 
+    /// Stores the word `i` of a frame that is Filling or Private.
     pub fn put(&mut self, table: &FrameTable, frame: u32, i: usize, word: u64)
         requires own { self.old.table ≡ table.now }
         requires may { May self.old (Put frame i word) }
@@ -118,6 +122,7 @@ impl Keeper {
         self.frames[frame as usize] = note;
     }
 
+    /// Opens a frame that was filled: it is Private, with one reference of the keeper.
     pub fn open(&mut self, table: &FrameTable, frame: u32)
         requires own { self.old.table ≡ table.now }
         requires may { May self.old (Open frame) }
@@ -130,6 +135,8 @@ impl Keeper {
         self.frames[frame as usize] = note;
     }
 
+    /// Names a private frame, in its life, at a place that is empty or names a frame that is not Stable in the life named. The frame is
+    /// Stable then: lookups of the place may hold it, and its words stay as they are until its life ends.
     pub fn publish(&mut self, table: &FrameTable, place: u32, frame: u32)
         requires own { self.old.table ≡ table.now }
         requires may { May self.old (Publish place frame) }
@@ -145,6 +152,7 @@ impl Keeper {
         self.frames[frame as usize] = note;
     }
 
+    /// Empties a place that is empty or names a frame that is not Stable in the life named.
     pub fn withdraw(&mut self, table: &FrameTable, place: u32)
         requires own { self.old.table ≡ table.now }
         requires may { May self.old (Withdraw place) }
@@ -153,7 +161,8 @@ impl Keeper {
         table.withdraw_at(&mut self.seat, place);
     }
 
-    /// Takes all of the keeper's references back, if nobody else has one. Says whether it did.
+    /// Takes all of the keeper's references on a stable frame back, if nobody else has one, and answers whether it did. If so, the frame is
+    /// Dying; else nothing has changed.
     pub fn freeze(&mut self, table: &FrameTable, frame: u32) -> bool
         requires own { self.old.table ≡ table.now }
         requires may { May self.old (Freeze frame) }
@@ -169,6 +178,7 @@ impl Keeper {
         true
     }
 
+    /// Loads the word `i` of a frame that is Private, Stable or Dying.
     pub fn word(&mut self, table: &FrameTable, frame: u32, i: usize) -> u64
         requires own { self.old.table ≡ table.now }
         requires may { May self.old (Word frame i) }

@@ -45,7 +45,8 @@ impl FrameTable {
         ensures opened { IfOk result (λ t. Opened shape t.0 t.1 t.2.items) }
         ensures memory { IfErr result (λ fault. fault ≡ Fault.Memory) }
     {
-        let count = shape.frames() as usize;
+        let places = shape.frames();
+        let count = places as usize;
         let blank = Note {
             kind: Kind::Free,
             base: 0,
@@ -59,7 +60,11 @@ impl FrameTable {
             passes.destroy_empty();
             return Err(Fault::Memory);
         };
-        let table = FrameTable { table, shape };
+        let table = FrameTable {
+            table,
+            shape,
+            places,
+        };
         'seats: for i in 0..shape.passes {
             passes.push_reserved(table.make_pass(&mut seat));
         }

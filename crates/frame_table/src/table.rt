@@ -9,15 +9,17 @@ use ksm_base::{PAGE_WORDS, Shape};
 use std::alloc::Global;
 use std::marker::Model;
 
-/// The table. Contracts see which one it is, and its shape.
+/// The table, which threads share by reference. Contracts see which one it is, and its shape.
 #[derive(Drop)]
 pub struct FrameTable {
     pub(crate) table: Table<(), View, Shape, FrameRule, Global>,
     pub(crate) shape: Shape,
+    // How many places there are, for the words behind them.
+    pub(crate) places: u32,
 }
 
 impl Model for FrameTable {
-    ghost use Rattle.std.specs.Prelude.{◌≡◌, ◌+◌, ◌*◌};
+    ghost use Rattle.std.specs.Prelude.{◌≡◌, ◌+◌, ◌*◌, ◌≤◌};
     ghost use Rattle.ksm_base.specs.declared.page.TheConstants.{PAGE_WORDS as words_of_page};
     ghost use Rattle.ksm_base.specs.Values.{IsShape, frames_of};
     ghost use Rattle.frame_table.specs.Named.{TableName};
@@ -26,7 +28,7 @@ impl Model for FrameTable {
 
     ghost view = { λ t. record { id = t.table.shared.table_id; shape = t.shape } };
 
-    ghost invariant = { λ t. (t.table.shared.key ≡ t.shape) × (t.table.shared.table_id.words ≡ frames_of t.shape * (3 + words_of_page)) × (t.table.shared.table_id.slots ≡ 0) × IsShape t.shape };
+    ghost invariant = { λ t. (t.table.shared.key ≡ t.shape) × (t.table.shared.table_id.words ≡ frames_of t.shape * (3 + words_of_page)) × (t.table.shared.table_id.slots ≡ 0) × IsShape t.shape × (t.places ≡ frames_of t.shape) × (t.places ≤ 1024) };
 }
 
 impl FrameTable {
@@ -34,7 +36,7 @@ impl FrameTable {
     pub fn places(&self) -> u32
         ensures { result ≡ frames_of self.now.shape }
     {
-        self.shape.frames()
+        self.places
     }
 
     pub(crate) fn tries(&self) -> u32
@@ -50,7 +52,7 @@ impl FrameTable {
         ensures within { result + (1 + words_of_page) < self.now.id.words }
         ensures small { result ≤ 1024 * (3 + words_of_page) }
     {
-        self.shape.frames() as usize + frame as usize * (2 + PAGE_WORDS)
+        self.places as usize + frame as usize * (2 + PAGE_WORDS)
     }
 
     pub(crate) fn count_word(&self, frame: u32) -> usize

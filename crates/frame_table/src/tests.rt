@@ -13,7 +13,6 @@ use frame_core::Kind;
 use ksm_base::{Fault, PAGE_WORDS, PageBytes, Shape};
 use std::alloc::Global;
 use std::test::Fail;
-
 use std::thread::{Threads, for_each_mut, join_mut, yield_now};
 
 // One node with two frames, and two passes.
@@ -156,7 +155,6 @@ struct Endings {
     differs: Ending,
 }
 
-
 // A frame that is gone from the first place, and nothing at the second.
 fn gone(why: Why) -> Endings {
     Endings {
@@ -253,11 +251,20 @@ fn lookups_on_three_tables_in_threads(rt: HostRuntime) -> Result<(), Fail> {
     let mut one = Some(one);
     let mut two = Some(two);
     first_table(&table, &mut keeper);
-    assert_eq!(rt; look_both(&rt, &table, &mut one, &mut two), (named(), named()));
+    assert_eq!(rt;
+        look_both(&rt, &table, &mut one, &mut two),
+        (named(), named())
+    );
     second_table(&table, &mut keeper);
-    assert_eq!(rt; look_both(&rt, &table, &mut one, &mut two), (gone(Why::Zero), gone(Why::Zero)));
+    assert_eq!(rt;
+        look_both(&rt, &table, &mut one, &mut two),
+        (gone(Why::Zero), gone(Why::Zero))
+    );
     assert!(rt; third_table(&table, &mut keeper));
-    assert_eq!(rt; look_both(&rt, &table, &mut one, &mut two), (gone(Why::Generation), gone(Why::Generation)));
+    assert_eq!(rt;
+        look_both(&rt, &table, &mut one, &mut two),
+        (gone(Why::Generation), gone(Why::Generation))
+    );
     let Some(one) = one else { unreachable!() };
     let Some(two) = two else { unreachable!() };
     passes.push_reserved(one);

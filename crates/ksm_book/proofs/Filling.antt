@@ -1,27 +1,25 @@
 -- Frames written, read, found and filled, given back and shared.
-use Rattle.std.proofs.Common.{◌≡◌, ◌≢◌, ℕ, zero, suc, ◌+◌, ◌-◌, ◌*◌, ◌/◌, ◌<◌, ◌≤◌, Bool, true, false, cond, List, [], ◌∷◌, ◌++◌, length, get_or, set, take, drop, replicate, Option, Some, None, refl, sym, ap, ◌∙◌, subst, arith, length-set, get_or-set_same, append-nil}
+use Rattle.std.proofs.Common.{◌≡◌, ℕ, zero, suc, ◌+◌, ◌-◌, ◌*◌, ◌/◌, ◌<◌, ◌≤◌, true, false, cond, List, [], ◌∷◌, ◌++◌, length, get_or, set, take, drop, Some, None, refl, sym, ap, ◌∙◌, subst, arith, length-set, get_or-set_same, append-nil}
 use Rattle.std.specs.Prelude.{◌==◌}
 use Rattle.std.proofs.lemmas.List.{set-get_or, take_all, drop_all}
 use Rattle.std.proofs.lemmas.Nat.{div-mul-add}
 use Rattle.ksm_base.specs.declared.page.TheConstants.{PAGE_WORDS}
 use Rattle.ksm_base.specs.declared.shape.Shape.{Shape}
-use Rattle.ksm_base.specs.declared.row.Row.{Row}
-use Rattle.ksm_base.specs.declared.row.DupRow.{DupRow}
 use Rattle.ksm_base.specs.Values.{frames_of}
-use Rattle.frame_core.specs.declared.event.KeeperStep.TheVariants.{Reap, Put, Raise, Open, Add, Sub, Word}
+use Rattle.frame_core.specs.declared.event.KeeperStep.TheVariants.{Put, Raise, Open, Add, Sub, Word}
 use Rattle.frame_core.specs.declared.frame.Kind.{Kind}
 use Rattle.frame_core.specs.declared.frame.Kind.TheVariants.{Free, Filling, Private, Stable, Dying, Retired}
 use Rattle.frame_core.specs.declared.ledger.Ledger.{Ledger}
 use Rattle.frame_core.specs.declared.ledger.Note.{Note}
-use Rattle.frame_core.specs.Ledger.{frame_at, blank, with_frame, ledger_after, IsWritable}
+use Rattle.frame_core.specs.Ledger.{frame_at, blank, with_frame, ledger_after}
 use Rattle.frame_table.specs.Named.{KeeperView}
 use Rattle.frame_table.specs.Kept.{did}
 use Rattle.ksm_book.specs.Placement.{Placed, FitsBase}
-use Rattle.ksm_book.specs.Steps.{free_kind, dying_kind, IsLowestFree, HasNoFree, Did, Does, puts, loads}
-use Rattle.ksm_book.specs.Keeping.{Keeps, IsLawful, spent_on, spent, holding, Wrote, Loaded, Reaped, NoneLeft, Sought, Took}
+use Rattle.ksm_book.specs.Steps.{dying_kind, IsLowestFree, HasNoFree, Did, puts, loads}
+use Rattle.ksm_book.specs.Keeping.{Keeps, IsLawful, spent_on, spent, holding, Wrote, Reaped, Sought, Took}
 use Rattle.ksm_book.proofs.Logs.{chained, one_step, puts_more, loads_more, word_written}
 use Rattle.ksm_book.proofs.Moves.{filled}
-use Rattle.ksm_book.proofs.Keeping.{spent_set, spent_kept, add_keeps, sub_keeps, past_taken}
+use Rattle.ksm_book.proofs.Keeping.{spent_kept, add_keeps, sub_keeps, past_taken}
 
 pub is_dying_kind : (x : Kind) → dying_kind x ≡ true → x ≡ Dying
 is_dying_kind Dying e = refl
@@ -69,10 +67,11 @@ module _ (v w w' : KeeperView) (g i : ℕ) (bytes : List ℕ) (within : g < leng
       → Did v w' [] (puts g 0 (take (i + 1) bytes)) × (w'.ledger ≡ with_frame v.ledger g (holding n (take (i + 1) bytes ++ drop (i + 1) n.content)))
   wrote_one so_far ledger is =
       let a : Note = holding n (take i bytes ++ drop i n.content) in
-      let x : ℕ = get_or bytes i 0 in
-      (subst (Did v w' []) (sym (puts_more g i bytes lt)) (chained v w w' [] [] _ _ so_far (one_step w w' (Put g i x) 0 [] tt refl is)),
-       ap (λ (z : KeeperView). z.ledger) is ∙ ap (λ z. ledger_after w.table.shape z (Put g i x) 0) ledger ∙ again v.ledger g within a (λ b. holding b (set b.content i x))
-       ∙ ap (λ c. with_frame v.ledger g (holding n c)) (word_written bytes n.content i wide lt))
+      let x : ℕ = get_or bytes i 0 in (
+        subst (Did v w' []) (sym (puts_more g i bytes lt)) (chained v w w' [] [] _ _ so_far (one_step w w' (Put g i x) 0 [] tt refl is)),
+        ap (λ (z : KeeperView). z.ledger) is ∙ ap (λ z. ledger_after w.table.shape z (Put g i x) 0) ledger ∙ again v.ledger g within a (λ b. holding b (set b.content i x))
+            ∙ ap (λ c. with_frame v.ledger g (holding n c)) (word_written bytes n.content i wide lt),
+      )
 
 pub wrote_all : (v w : KeeperView) (g i : ℕ) (bytes : List ℕ) → length (frame_at v.ledger g).content ≡ length bytes → length bytes ≤ i → Did v w [] (puts g 0 (take i bytes)) → w.ledger ≡ with_frame v.ledger g (holding (frame_at v.ledger g) (take i bytes ++ drop i (frame_at v.ledger g).content)) → Wrote v w g bytes
 wrote_all v w g i bytes wide le so_far ledger = record {
@@ -147,7 +146,7 @@ module _ (v w : KeeperView) (node : ℕ) (bytes : List ℕ) (g found : ℕ) (rea
         keeps = λ across rows frames dups p.
             let q : Placed sv across k rows frames dups None = reaped.keeps across rows frames dups p in
             subst (λ (z : Ledger). Placed sv across z rows frames dups (Some g)) (sym e3)
-              (filled sv across k rows frames dups q g inside lowest.free a3 refl refl refl long);
+            (filled sv across k rows frames dups q g inside lowest.free a3 refl refl refl long);
         spent = omega (arith, before, more, end);
         frame = inside;
         kind = ap (λ (z : Note). z.kind) now;

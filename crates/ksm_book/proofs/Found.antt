@@ -1,5 +1,5 @@
 -- The row that a search by page finds.
-use Rattle.std.proofs.Common.{◌≡◌, ℕ, ◌<◌, Bool, true, false, List, [], ◌∷◌, length, get_or, set, Option, Some, None, refl, sym, ap, ◌∙◌, subst, arith}
+use Rattle.std.proofs.Common.{◌≡◌, ℕ, true, List, get_or, set, Option, Some, None, refl, sym, ap, ◌∙◌, subst, arith}
 use Rattle.std.specs.Prelude.{All, position, is_some, MatchOption}
 use Rattle.std.proofs.lemmas.Option.{same_Some}
 use Rattle.std.proofs.lemmas.List.{set-get_or}
@@ -19,9 +19,9 @@ use Rattle.ksm_book.proofs.Lists.{index_facts, change_found}
 pub found_at : (page : GuestPage) (rows : List Row) (row : Row) → row_at page rows ≡ Some row → (i : ℕ) × IsAt rows page i × (get_or rows i row ≡ row)
 found_at page rows row found = by (position (λ s. same_page s.page page) rows) refl
   where
-  by : (o : Option ℕ) → o ≡ position (λ s. same_page s.page page) rows → (i : ℕ) × IsAt rows page i × (get_or rows i row ≡ row)
-  by None e = absurd (let none : row_at page rows ≡ None = index_facts page rows None e in grind (arith, none, found))
-  by (Some i) e = let at : IsAt rows page i = index_facts page rows (Some i) e in (i, at, same_Some _ _ (sym (at.found row) ∙ found))
+    by : (o : Option ℕ) → o ≡ position (λ s. same_page s.page page) rows → (i : ℕ) × IsAt rows page i × (get_or rows i row ≡ row)
+    by None e = absurd (let none : row_at page rows ≡ None = index_facts page rows None e in grind (arith, none, found))
+    by (Some i) e = let at : IsAt rows page i = index_facts page rows (Some i) e in (i, at, same_Some _ _ (sym (at.found row) ∙ found))
 
 -- it is of the page
 pub found_page : (page : GuestPage) (rows : List Row) (row : Row) → row_at page rows ≡ Some row → row.page ≡ page
@@ -60,4 +60,3 @@ moved_page node r = cond_both (r.home == node) r (record r { home = node; state 
 
 pub moved_home : (node : ℕ) (r : Row) → r.home ≡ node → moved node r ≡ r
 moved_home node r same = ap (λ b. if b then r else record r { home = node; state = Private }) (eq-eqb r.home node same)
-

@@ -1,34 +1,30 @@
 -- The keeper's steps as changes of a placement.
-use Rattle.std.proofs.Common.{inl, inr, ◌≡◌, ◌≢◌, ℕ, zero, suc, ◌+◌, ◌-◌, ◌*◌, ◌/◌, ◌<◌, ◌≤◌, Bool, true, false, cond, List, [], ◌∷◌, ◌++◌, length, get_or, set, take, drop, Option, Some, None, refl, sym, ap, ◌∙◌, subst, arith, length-set, get_or-set_same, get_or-set_other, eq-eqb}
-use Rattle.std.specs.Prelude.{All, Contains, ◌==◌}
-use Rattle.std.specs.List.{sum_by}
+use Rattle.std.proofs.Common.{◌≡◌, ◌≢◌, ℕ, zero, suc, ◌+◌, ◌-◌, ◌<◌, ◌≤◌, Bool, true, false, cond, List, [], ◌∷◌, ◌++◌, length, Option, Some, None, refl, sym, ap, ◌∙◌, subst, arith, get_or-set_same, get_or-set_other}
+use Rattle.std.specs.Prelude.{Contains, ◌==◌}
 use Rattle.std.proofs.lemmas.Bool.{ne_eqb}
 use Rattle.std.proofs.lemmas.Bool.Decides.{nat_tests}
-use Rattle.std.proofs.lemmas.List.{set-get_or}
 use Rattle.std.proofs.lemmas.List.Elements.{Contains-push}
 use Rattle.std.proofs.lemmas.List.Sums.{sum_by-set}
-use Rattle.std.proofs.lemmas.Nat.{div-mul-add}
 use mathlib.Core.Logic.{dite}
 use native.Mathlib.Decide.{ℕ_discrete}
-use Rattle.ksm_base.specs.declared.page.TheConstants.{PAGE_WORDS}
 use Rattle.ksm_base.specs.declared.shape.Shape.{Shape}
 use Rattle.ksm_base.specs.declared.row.Row.{Row}
 use Rattle.ksm_base.specs.declared.row.DupRow.{DupRow}
 use Rattle.ksm_base.specs.Values.{frames_of}
-use Rattle.frame_core.specs.declared.event.KeeperStep.TheVariants.{Reap, Put, Raise, Open, Add, Sub, Word}
+use Rattle.frame_core.specs.declared.event.KeeperStep.TheVariants.{Reap, Add, Sub}
 use Rattle.frame_core.specs.declared.frame.Kind.{Kind}
 use Rattle.frame_core.specs.declared.frame.Kind.TheVariants.{Free, Filling, Private, Stable, Dying, Retired}
 use Rattle.frame_core.specs.declared.ledger.Ledger.{Ledger}
 use Rattle.frame_core.specs.declared.ledger.Note.{Note}
-use Rattle.frame_core.specs.Ledger.{frame_at, blank, with_frame, ledger_after, IsWritable}
+use Rattle.frame_core.specs.Ledger.{frame_at, blank, with_frame, ledger_after}
 use Rattle.frame_core.specs.Rule.{GenerationFits}
 use Rattle.frame_table.specs.Named.{KeeperView}
 use Rattle.frame_table.specs.Kept.{did}
 use Rattle.ksm_book.specs.Placement.{uses, in_hand, FitsBase, Placed}
-use Rattle.ksm_book.specs.Steps.{free_kind, dying_kind, IsLowestFree, Did, Does, puts, loads}
-use Rattle.ksm_book.specs.Keeping.{Keeps, IsLawful, past_lives, spent_on, spent, holding, Wrote, Loaded, HasWaited, Reaped, Sought, Took}
-use Rattle.ksm_book.proofs.Logs.{chained, nothing_done, one_step, puts_more, loads_more, word_written, contains_more}
-use Rattle.ksm_book.proofs.Moves.{filled, referenced, one_at, one_same, one_other}
+use Rattle.ksm_book.specs.Steps.{Did}
+use Rattle.ksm_book.specs.Keeping.{IsLawful, past_lives, spent_on, spent, Reaped}
+use Rattle.ksm_book.proofs.Logs.{chained, nothing_done, one_step, contains_more}
+use Rattle.ksm_book.proofs.Moves.{referenced, one_at, one_same, one_other}
 
 abbrev private_kind : Kind → Type 0
 private_kind Private = Unit {0}
@@ -91,22 +87,22 @@ module _ (sh : Shape) (across : ℕ) (k : Ledger) (rows : List Row) (frames : Li
 
   pub reap_keeps : (found : ℕ) → here.kind ≡ Dying → Placed sh across (ledger_after sh k (Reap g) found) rows frames dups hand
   reap_keeps found dying = elim (found == 0) as (λ b. Placed sh across (cond b (with_frame k g (with_references (cond (here.generation == sh.last_generation) Retired Free) 0)) k) rows frames dups hand) [
-      true ↦
+    | true ↦
         let none : here.base ≡ 0 = subst (λ (x : Kind). FitsBase x here.base) dying (p.kinds g) in
         let is : here.base ≡ uses g frames + in_hand g hand = p.bases g in
         let c : Bool = here.generation == sh.last_generation in
         referenced sh across k rows frames dups hand p g inside (with_references (cond (here.generation == sh.last_generation) Retired Free) 0) refl refl hand
-          (λ some. absurd (omega arith)) (λ e. absurd (not_private (here.generation == sh.last_generation) e)) (omega arith) (λ f ne. refl) (fits_reaped (here.generation == sh.last_generation))
-          (lived_reaped sh.last_generation here.generation (here.generation == sh.last_generation) refl (subst (λ (x : Kind). GenerationFits sh.last_generation x here.generation) dying (p.lives g)))
+        (λ some. absurd (omega arith)) (λ e. absurd (not_private (here.generation == sh.last_generation) e)) (omega arith) (λ f ne. refl) (fits_reaped (here.generation == sh.last_generation))
+        (lived_reaped sh.last_generation here.generation (here.generation == sh.last_generation) refl (subst (λ (x : Kind). GenerationFits sh.last_generation x here.generation) dying (p.lives g)))
     | false ↦ p
-    ]
+  ]
 
 reap_spends : (sh : Shape) (k : Ledger) (g found : ℕ) → g < length k.frames → spent k ≤ spent (ledger_after sh k (Reap g) found)
 reap_spends sh k g found lt =
     let reaped : Note = record { kind = cond ((frame_at k g).generation == sh.last_generation) Retired Free; base = 0; generation = (frame_at k g).generation; content = (frame_at k g).content } in
     elim (found == 0) as (λ b. spent k ≤ spent (cond b (with_frame k g reaped) k)) [
-      true ↦ spent_kept k g reaped lt (let up = past_reaped ((frame_at k g).generation == sh.last_generation) (frame_at k g).generation in let le = past_le (frame_at k g).kind (frame_at k g).generation in omega (arith, up, le))
-    | false ↦ omega arith
+      | true ↦ spent_kept k g reaped lt (let up = past_reaped ((frame_at k g).generation == sh.last_generation) (frame_at k g).generation in let le = past_le (frame_at k g).kind (frame_at k g).generation in omega (arith, up, le))
+      | false ↦ omega arith
     ]
 
 fits_added : (kind : Kind) (n : ℕ) → kind ≡ Stable → FitsBase kind (n + 1)
@@ -144,7 +140,7 @@ module _ (sh : Shape) (across : ℕ) (k : Ledger) (rows : List Row) (frames : Li
       let is : at_g.base ≡ uses g frames + 0 = p.bases g in
       let o : one_at g g ≡ 1 = one_same g g refl in
       referenced sh across k rows frames dups None p g inside record { kind = at_g.kind; base = at_g.base + 1; generation = at_g.generation; content = at_g.content } refl refl (Some g)
-        (λ _. refl) (λ e. e) (omega arith) (λ f ne. one_other f g (λ e. ne (sym e))) (fits_added at_g.kind at_g.base stable) (p.lives g)
+      (λ _. refl) (λ e. e) (omega arith) (λ f ne. one_other f g (λ e. ne (sym e))) (fits_added at_g.kind at_g.base stable) (p.lives g)
 
   -- the reference in hand is given back
   pub sub_keeps : (found : ℕ) → Placed sh across k rows frames dups (Some g) → Placed sh across (ledger_after sh k (Sub g) found) rows frames dups None
@@ -153,16 +149,16 @@ module _ (sh : Shape) (across : ℕ) (k : Ledger) (rows : List Row) (frames : Li
       let is : at_g.base ≡ uses g frames + one_at g g = p.bases g in
       let b : Bool = at_g.base == 1 in
       referenced sh across k rows frames dups (Some g) p g inside record { kind = cond (at_g.base == 1) Dying at_g.kind; base = at_g.base - 1; generation = at_g.generation; content = at_g.content } refl refl None
-        (λ some. let e : (at_g.base == 1) ≡ false = ne_eqb at_g.base 1 (λ x. omega arith) in ap (λ (x : Bool). cond x Dying at_g.kind) e)
-        (taken_private (at_g.base == 1) at_g.kind) (omega arith) (λ f ne. sym (one_other f g (λ e. ne (sym e))))
-        (fits_taken at_g.kind at_g.base (omega arith) (p.kinds g) (at_g.base == 1) refl)
-        (lived_taken sh.last_generation at_g.generation at_g.base at_g.kind (at_g.base == 1) (omega arith) (p.kinds g) (p.lives g))
+      (λ some. let e : (at_g.base == 1) ≡ false = ne_eqb at_g.base 1 (λ x. omega arith) in ap (λ (x : Bool). cond x Dying at_g.kind) e)
+      (taken_private (at_g.base == 1) at_g.kind) (omega arith) (λ f ne. sym (one_other f g (λ e. ne (sym e))))
+      (fits_taken at_g.kind at_g.base (omega arith) (p.kinds g) (at_g.base == 1) refl)
+      (lived_taken sh.last_generation at_g.generation at_g.base at_g.kind (at_g.base == 1) (omega arith) (p.kinds g) (p.lives g))
 
 reap_other : (sh : Shape) (k : Ledger) (g f found : ℕ) → f ≢ g → frame_at (ledger_after sh k (Reap g) found) f ≡ frame_at k f
 reap_other sh k g f found ne = elim (found == 0) as (λ b. frame_at (cond b (with_frame k g record { kind = cond ((frame_at k g).generation == sh.last_generation) Retired Free; base = 0; generation = (frame_at k g).generation; content = (frame_at k g).content }) k) f ≡ frame_at k f) [
-    true ↦ get_or-set_other k.frames g f _ blank ne
+  | true ↦ get_or-set_other k.frames g f _ blank ne
   | false ↦ refl
-  ]
+]
 
 reap_still : (sh : Shape) (k : Ledger) (g found : ℕ) → g < length k.frames → (frame_at (ledger_after sh k (Reap g) found) g).kind ≡ Dying → 1 ≤ found
 reap_still sh k g zero lt e = absurd (not_dying ((frame_at k g).generation == sh.last_generation) (sym (ap (λ (x : Note). x.kind) (get_or-set_same k.frames g _ blank lt)) ∙ e))
@@ -190,10 +186,13 @@ module _ (v w w' : KeeperView) (low n : ℕ) (so_far : Reaped v w low n) where
         part = so_far.part ++ (Reap g, found) ∷ [];
         did = chained v w w' [] [] so_far.part ((Reap g, found) ∷ []) so_far.did step;
         waited = λ f ge lt still. dite (ℕ_discrete f g)
-            (λ e. (found, reap_still sh w.ledger g found within (ap (λ (x : Ledger). (frame_at x g).kind) (sym after) ∙ subst (λ x. (frame_at w'.ledger x).kind ≡ Dying) e still),
-                subst (λ x. Contains (so_far.part ++ (Reap g, found) ∷ []) (Reap x, found)) (sym e) (Contains-push so_far.part (Reap g, found))))
+            (λ e. (
+              found,
+              reap_still sh w.ledger g found within (ap (λ (x : Ledger). (frame_at x g).kind) (sym after) ∙ subst (λ x. (frame_at w'.ledger x).kind ≡ Dying) e still),
+              subst (λ x. Contains (so_far.part ++ (Reap g, found) ∷ []) (Reap x, found)) (sym e) (Contains-push so_far.part (Reap g, found)),
+            ))
             (λ ne. let before = so_far.waited f ge (omega arith) (ap (λ (x : Note). x.kind) (sym (reap_other sh w.ledger g f found ne)) ∙ ap (λ (x : Ledger). (frame_at x f).kind) (sym after) ∙ still) in
-                (before.0, before.1, contains_more so_far.part (Reap g, found) (Reap f, before.0) before.2));
+            (before.0, before.1, contains_more so_far.part (Reap g, found) (Reap f, before.0) before.2));
         keeps = λ across rows frames dups p.
             let q : Placed v.table.shape across w.ledger rows frames dups None = so_far.keeps across rows frames dups p in
             let q' : Placed v.table.shape across (ledger_after v.table.shape w.ledger (Reap g) found) rows frames dups None = reap_keeps v.table.shape across w.ledger rows frames dups None q g inside found dying in

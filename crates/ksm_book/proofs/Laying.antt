@@ -1,6 +1,6 @@
 -- What becomes of rows and dups that lie lawfully, where the keeper makes its steps.
-use Rattle.std.proofs.Common.{inl, inr, ◌⊎◌, ◌≡◌, ◌/◌, ◌-◌, ℕ, zero, suc, ◌+◌, ◌<◌, ◌≤◌, Bool, true, false, List, [], ◌∷◌, length, get_or, set, Option, Some, None, refl, sym, ap, ◌∙◌, subst, arith}
-use Rattle.std.specs.Prelude.{All, MatchOption, insert, remove, slice_index}
+use Rattle.std.proofs.Common.{inl, inr, ◌≡◌, ◌/◌, ℕ, zero, suc, ◌<◌, ◌≤◌, false, List, [], length, get_or, set, Option, Some, None, refl, sym, ap, ◌∙◌, subst, arith}
+use Rattle.std.specs.Prelude.{MatchOption, insert, remove, slice_index}
 use Rattle.ksm_base.specs.declared.shape.Shape.{Shape}
 use Rattle.ksm_base.specs.declared.knobs.Knobs.{Knobs}
 use Rattle.ksm_base.specs.declared.row.PageState.{PageState}
@@ -10,7 +10,7 @@ use Rattle.ksm_base.specs.declared.row.DupRow.{DupRow}
 use Rattle.ksm_base.specs.Rows.{merged_state, merged_into, row_at}
 use Rattle.ksm_base.specs.Values.{frames_of, IsShape}
 use Rattle.frame_core.specs.declared.frame.Kind.{Kind}
-use Rattle.frame_core.specs.declared.frame.Kind.TheVariants.{Private, Stable}
+use Rattle.frame_core.specs.declared.frame.Kind.TheVariants.{Private}
 use Rattle.frame_core.specs.declared.ledger.Ledger.{Ledger}
 use Rattle.frame_core.specs.declared.ledger.Note.{Note}
 use Rattle.frame_core.specs.Ledger.{frame_at, with_frame, blank, first_ledger, IsReadable, IsWritable}
@@ -20,11 +20,11 @@ use Rattle.std.proofs.lemmas.List.{set-get_or, length-replicate}
 use Rattle.ksm_base.specs.declared.page.GuestPage.{GuestPage}
 use Rattle.ksm_base.specs.declared.page.TheConstants.{PAGE_WORDS}
 use Rattle.frame_table.specs.Named.{KeeperView}
-use Rattle.ksm_book.specs.Placement.{row_in, no_row, kind_for, FitsBase, RowFits, Agrees, Placed}
+use Rattle.ksm_book.specs.Placement.{kind_for, FitsBase, Placed}
 use Rattle.ksm_book.specs.Keeping.{Keeps, IsLawful, Took, Wrote, holding, spent}
 use Rattle.ksm_book.specs.Listed.{Listed, rank, StandsAt}
 use Rattle.ksm_book.specs.Laid.{Lay, IsLaid, Knows, IsOnItsOwn, LodgesAs}
-use Rattle.ksm_book.proofs.Moves.{Serves, own_agrees, swapped, inserted, removed, rewritten, written_in, serves_like}
+use Rattle.ksm_book.proofs.Moves.{Serves, own_agrees, swapped, inserted, removed, rewritten, written_in}
 use Rattle.ksm_book.proofs.Keeping.{spent_kept}
 
 module _ (sh : Shape) (across : ℕ) (v : KeeperView) (rows : List Row) (frames : List ℕ) (dups : List DupRow) (hand : Option ℕ) (same : v.table.shape ≡ sh) where
@@ -48,14 +48,16 @@ module _ (sh : Shape) (across : ℕ) (v w : KeeperView) (rows : List Row) (frame
   in_new_hand p = kept sh across v rows frames dups None same w (Some g) took.keeps p
 
   serves : (r : Row) → r.bytes ≡ bytes → r.home ≡ node → r.state ≡ OwnPage → Placed sh across v.ledger rows frames dups None → Serves sh w.ledger dups r g
-  serves r content home own p =
-      (record {
-        frame = subst (λ (s : Shape). g < frames_of s) same took.frame;
-        kind = took.kind ∙ ap kind_for (sym own);
-        content = took.content ∙ sym content;
-        given = took.given;
-        node = λ _. subst (λ (s : Shape). g / s.frames_per_node ≡ node) same took.node ∙ sym home;
-      }, own_agrees sh across w.ledger rows frames dups (Some g) (in_new_hand p) r g (λ n. ap (merged_into n) own) took.kind)
+  serves r content home own p = (
+    record {
+      frame = subst (λ (s : Shape). g < frames_of s) same took.frame;
+      kind = took.kind ∙ ap kind_for (sym own);
+      content = took.content ∙ sym content;
+      given = took.given;
+      node = λ _. subst (λ (s : Shape). g / s.frames_per_node ≡ node) same took.node ∙ sym home;
+    },
+    own_agrees sh across w.ledger rows frames dups (Some g) (in_new_hand p) r g (λ n. ap (merged_into n) own) took.kind,
+  )
 
   -- the row at i moves to it, and its old frame comes into the hand
   pub moved_there : (i : ℕ) (r : Row) → i < length rows → r.bytes ≡ bytes → r.home ≡ node → r.state ≡ OwnPage → Placed sh across v.ledger rows frames dups None → Placed sh across w.ledger (set rows i r) (set frames i g) dups (Some (slice_index frames i))
@@ -78,15 +80,17 @@ own_item (Merged d) e n = absurd (grind (arith, e))
 -- a row that may stand in the stead of another is served by its frame
 module _ (sh : Shape) (across : ℕ) (k : Ledger) (rows : List Row) (frames : List ℕ) (dups : List DupRow) (hand : Option ℕ) (p : Placed sh across k rows frames dups hand) (old r : Row) (f : ℕ) (fits : Serves sh k dups old f) where
   same_state : r.state ≡ old.state → r.home ≡ old.home → r.bytes ≡ old.bytes → Serves sh k dups r f
-  same_state s home bytes = subst (λ (z : PageState × ℕ × List ℕ). Serves sh k dups (record { page = r.page; home = z.1; bytes = z.2; mergeable = r.mergeable; unchanged = r.unchanged; state = z.0 }) f) (λ t. (sym s t, sym home t, sym bytes t))
-      (record { frame = fits.0.frame; kind = fits.0.kind; content = fits.0.content; given = fits.0.given; node = fits.0.node },
-       λ j d lt. let a = fits.1 j d lt in record { item = a.item; back = a.back })
+  same_state s home bytes = subst (λ (z : PageState × ℕ × List ℕ). Serves sh k dups (record { page = r.page; home = z.1; bytes = z.2; mergeable = r.mergeable; unchanged = r.unchanged; state = z.0 }) f) (λ t. (sym s t, sym home t, sym bytes t)) (
+    record { frame = fits.0.frame; kind = fits.0.kind; content = fits.0.content; given = fits.0.given; node = fits.0.node },
+    λ j d lt. let a = fits.1 j d lt in record { item = a.item; back = a.back },
+  )
 
   both_own : merged_state old.state ≡ false → merged_state r.state ≡ false → r.home ≡ old.home → r.bytes ≡ old.bytes → Serves sh k dups r f
   both_own was now home bytes =
-      let kind : (frame_at k f).kind ≡ Private = fits.0.kind ∙ own_kind old.state was in
-      (record { frame = fits.0.frame; kind = kind ∙ sym (own_kind r.state now); content = fits.0.content ∙ sym bytes; given = fits.0.given; node = λ _. fits.0.node was ∙ sym home },
-       own_agrees sh across k rows frames dups hand p r f (own_item r.state now) kind)
+      let kind : (frame_at k f).kind ≡ Private = fits.0.kind ∙ own_kind old.state was in (
+        record { frame = fits.0.frame; kind = kind ∙ sym (own_kind r.state now); content = fits.0.content ∙ sym bytes; given = fits.0.given; node = λ _. fits.0.node was ∙ sym home },
+        own_agrees sh across k rows frames dups hand p r f (own_item r.state now) kind,
+      )
 
   pub lodged : LodgesAs r old → Serves sh k dups r f
   lodged (home, bytes, inl s) = same_state s home bytes
@@ -120,7 +124,7 @@ module _ (sh : Shape) (v : Listed) (dups : List DupRow) (knobs : Knobs) (next : 
     small = h.small;
     same = shape_same sh k w h.same e;
     placed = subst (λ (z : List Row × List ℕ). Placed sh across w.ledger z.0 z.1 dups None) (λ t. (sym rows t, sym frames t))
-      (come_there sh across k w v.rows v.frames dups h.same r.home r.bytes g took i r le refl refl own h.placed);
+        (come_there sh across k w v.rows v.frames dups h.same r.home r.bytes g took i r le refl refl own h.placed);
     spent = (let s = h.spent in let more = took.spent in omega (arith, s, more));
   }
 
@@ -157,9 +161,10 @@ module _ (sh : Shape) (v : Listed) (dups : List DupRow) (knobs : Knobs) (next : 
       small = h.small;
       same = h.same;
       placed = subst (λ (z : List Row × List ℕ). Placed sh across k.ledger z.0 z.1 dups None) (λ t. (sym rows t, sym (frames ∙ ap (set v.frames i) (sym at.frame_is) ∙ set-get_or v.frames i 0) t))
-        (rewritten sh across k.ledger v.rows v.frames dups None i r at.inside h.placed (subst (λ x. Serves sh k.ledger dups r x) (sym at.frame_is) (lodged sh across k.ledger v.rows v.frames dups None h.placed page_row r f found_fits lodges)));
+          (rewritten sh across k.ledger v.rows v.frames dups None i r at.inside h.placed (subst (λ x. Serves sh k.ledger dups r x) (sym at.frame_is) (lodged sh across k.ledger v.rows v.frames dups None h.placed page_row r f found_fits lodges)));
       spent = h.spent;
     }
+
     pub own_writable : IsOnItsOwn r page_row → IsWritable n.kind
     own_writable own = subst IsWritable (sym (found_fits.0.kind ∙ own_kind page_row.state own.0)) tt
 
@@ -173,7 +178,7 @@ module _ (sh : Shape) (v : Listed) (dups : List DupRow) (knobs : Knobs) (next : 
         let more : spent k.ledger ≤ spent (with_frame k.ledger f fr) = spent_kept k.ledger f fr within (omega arith) in
         let end : spent w.ledger ≡ spent (with_frame k.ledger f fr) = ap spent wrote.ledger in
         let p = written_in sh across k.ledger v.rows v.frames dups h.placed i at.inside kind' r fr kind (ap (λ x. (frame_at k.ledger x).base) (sym at.frame_is)) (ap (λ x. (frame_at k.ledger x).generation) (sym at.frame_is)) wide
-            (ap kind_for is) (λ m. ap (merged_into m) is) (own.1 ∙ ap (λ (x : Row). x.home) (sym at.row_is)) refl (ap (λ (x : Row). merged_state x.state) at.row_is ∙ own.0) in
+        (ap kind_for is) (λ m. ap (merged_into m) is) (own.1 ∙ ap (λ (x : Row). x.home) (sym at.row_is)) refl (ap (λ (x : Row). merged_state x.state) at.row_is ∙ own.0) in
         record {
           small = h.small;
           same = shape_same sh k w h.same e;

@@ -18,3 +18,4 @@ pub mod Pruning
 pub mod Remounted
 pub mod Mounts
 pub mod Remounts
+pub mod DupMoves

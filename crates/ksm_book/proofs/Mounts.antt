@@ -1,24 +1,18 @@
 -- A dup moves to another frame.
-use Rattle.std.proofs.Common.{◌≡◌, ◌≢◌, ℕ, zero, suc, ◌+◌, ◌-◌, ◌*◌, ◌<◌, ◌≤◌, Bool, true, false, cond, List, [], ◌∷◌, ◌++◌, length, get_or, set, Option, Some, None, refl, sym, ap, ◌∙◌, subst, arith, length-set, get_or-set_same, get_or-set_other, append_assoc}
-use Rattle.std.specs.Prelude.{◌==◌, Contains}
+use Rattle.std.proofs.Common.{◌≡◌, ◌≢◌, ℕ, ◌+◌, ◌-◌, ◌<◌, ◌≤◌, List, [], ◌∷◌, ◌++◌, length, set, Some, refl, sym, ap, ◌∙◌, subst, arith, get_or-set_other}
 use Rattle.std.proofs.lemmas.List.Elements.{Contains-append_left, Contains-append_right, Contains-push}
-use mathlib.Core.Logic.{dite}
-use native.Mathlib.Decide.{ℕ_discrete}
-use Rattle.ksm_base.specs.declared.page.TheConstants.{PAGE_WORDS}
-use Rattle.ksm_base.specs.declared.shape.Shape.{Shape}
 use Rattle.ksm_base.specs.Values.{frames_of}
 use Rattle.frame_core.specs.declared.event.KeeperStep.TheVariants.{Raise, Open, Add, Publish}
 use Rattle.frame_core.specs.declared.frame.Kind.{Kind}
-use Rattle.frame_core.specs.declared.frame.Kind.TheVariants.{Free, Filling, Private, Stable, Dying, Retired}
+use Rattle.frame_core.specs.declared.frame.Kind.TheVariants.{Free, Filling, Private, Stable, Dying}
 use Rattle.frame_core.specs.declared.ledger.Ledger.{Ledger}
 use Rattle.frame_core.specs.declared.ledger.Note.{Note}
-use Rattle.frame_core.specs.declared.seat.Life.{Life}
-use Rattle.frame_core.specs.Ledger.{frame_at, named_at, blank, IsLoose, IsReadable, with_frame, ledger_after}
+use Rattle.frame_core.specs.Ledger.{frame_at, blank, with_frame, ledger_after}
 use Rattle.frame_table.specs.Named.{KeeperView}
 use Rattle.frame_table.specs.Kept.{did}
 use Rattle.ksm_book.specs.Keeping.{Wrote, Loaded, holding}
 use Rattle.ksm_book.specs.Mounted.{Added, Mounted, referring, shown_on}
-use Rattle.ksm_book.specs.Steps.{Log, Did, Does, IsLowestFree, puts, loads}
+use Rattle.ksm_book.specs.Steps.{Log, Did, puts, loads}
 use Rattle.ksm_book.proofs.Filling.{again, at_again, as_it_was}
 use Rattle.ksm_book.proofs.Logs.{chained, one_step, nothing_done}
 
@@ -119,9 +113,9 @@ module _ (v v1 v2 v3 v4 v5 v6 : KeeperView) (f g place count found : ℕ) (bytes
     raised = Contains-append_left ((Raise g, found) ∷ []) rest (Raise g, found) (Contains-push [] (Raise g, found));
     published =
         Contains-append_right ((Raise g, found) ∷ []) rest _
-          (Contains-append_right (loads f 0 bytes) _ _
-            (Contains-append_right (puts g 0 bytes) _ _
-              (Contains-append_right last _ _ (Contains-push adds.does.0 (Publish place g, 0)))));
+        (Contains-append_right (loads f 0 bytes) _ _
+        (Contains-append_right (puts g 0 bytes) _ _
+        (Contains-append_right last _ _ (Contains-push adds.does.0 (Publish place g, 0)))));
     ledger = after_show;
   }
 
@@ -129,9 +123,9 @@ module _ (v v1 v2 v3 v4 v5 v6 : KeeperView) (f g place count found : ℕ) (bytes
 free_not_dying : Free ≡ Dying → ⊥
 free_not_dying e = subst is_free e tt
   where
-  is_free : Kind → Type 0
-  is_free Free = Unit {0}
-  is_free _ = ⊥
+    is_free : Kind → Type 0
+    is_free Free = Unit {0}
+    is_free _ = ⊥
 
 pub other_frame : (k : Ledger) (f g : ℕ) → (frame_at k g).kind ≡ Free → (frame_at k f).kind ≡ Dying → f ≢ g
 other_frame k f g free dying same = free_not_dying (sym free ∙ ap (λ x. (frame_at k x).kind) (sym same) ∙ dying)

@@ -1,7 +1,6 @@
 -- What each step of a command does to a placement.
-use Rattle.std.proofs.Common.{inl, inr, ◌≡◌, ◌≢◌, ℕ, suc, ◌+◌, ◌-◌, ◌*◌, ◌/◌, ◌%◌, ◌<◌, ◌≤◌, Bool, true, false, cond, eqb, List, length, get_or, set, Option, Some, None, refl, sym, ap, ◌∙◌, subst, arith, length-set, get_or-set_same, get_or-set_other, eq-eqb}
+use Rattle.std.proofs.Common.{inl, inr, ◌≡◌, ◌≢◌, ℕ, suc, ◌+◌, ◌-◌, ◌/◌, ◌<◌, ◌≤◌, Bool, true, false, cond, List, length, get_or, set, Option, Some, None, refl, sym, ap, ◌∙◌, subst, arith, length-set, get_or-set_same, get_or-set_other, eq-eqb}
 use Rattle.std.specs.Prelude.{All, insert, remove, ◌==◌, slice_index}
-use Rattle.std.specs.List.{list_any}
 use Rattle.std.proofs.lemmas.List.Sums.{sum_by-set, sum_by-insert, sum_by-remove}
 use Rattle.std.proofs.lemmas.List.Elements.{All-weaker, All-append, All-cons, All-filter, filter_passes}
 use Rattle.std.proofs.lemmas.Bool.{ne_eqb, cases_lt, ltb-true}
@@ -20,7 +19,7 @@ use mathlib.Core.Logic.{dite}
 use native.Mathlib.Decide.{ℕ_discrete}
 use Rattle.ksm_base.specs.declared.shape.Shape.{Shape}
 use Rattle.frame_core.specs.declared.frame.Kind.{Kind}
-use Rattle.frame_core.specs.declared.frame.Kind.TheVariants.{Free, Filling, Private, Stable, Dying, Retired}
+use Rattle.frame_core.specs.declared.frame.Kind.TheVariants.{Free, Private, Stable}
 use Rattle.frame_core.specs.declared.ledger.Note.{Note}
 use Rattle.frame_core.specs.declared.ledger.Ledger.{Ledger}
 use Rattle.ksm_base.specs.Values.{frames_of}
@@ -32,7 +31,7 @@ use Rattle.std.specs.Prelude.{is_some}
 use Rattle.ksm_base.specs.declared.row.Row.{Row}
 use Rattle.ksm_base.specs.declared.row.DupRow.{DupRow}
 use Rattle.ksm_base.specs.Rows.{merged_state, merged_into}
-use Rattle.ksm_book.specs.Placement.{row_in, no_row, node_of, uses, in_hand, kind_for, FitsBase, life_or, place_frame, place_life, IsInLife, RowFits, Agrees, DupFits, Placed}
+use Rattle.ksm_book.specs.Placement.{row_in, no_row, uses, in_hand, kind_for, FitsBase, life_or, place_frame, place_life, IsInLife, RowFits, Agrees, DupFits, Placed}
 
 abbrev pub one_at : ℕ → ℕ → ℕ
 one_at f g = cond (g == f) 1 0
@@ -62,16 +61,15 @@ uses_once frames i j f lt lt' once e e' = dite (ℕ_discrete j i) (λ same. same
     absurd (omega arith))
 
 module _ (sh : Shape) (across : ℕ) (k : Ledger) (rows : List Row) (frames : List ℕ) (dups : List DupRow) (hand : Option ℕ) (p : Placed sh across k rows frames dups hand) where
-
   -- a row with a frame of its own agrees with each dup
   pub own_agrees : (r : Row) (g : ℕ) → ((n : ℕ) → merged_into n r.state ≡ false) → (frame_at k g).kind ≡ Private → All (Agrees k r g) dups
   own_agrees r g alone kind = All-weaker (DupFits sh across k) (Agrees k r g) (λ d fits. record {
-      item = λ m. absurd (true_false _ m (alone d.number));
-      back = λ life e. absurd (fits.shown life (ap (λ h. (frame_at k h).kind) (sym e) ∙ kind));
-    }) dups p.each_dup
+    item = λ m. absurd (true_false _ m (alone d.number));
+    back = λ life e. absurd (fits.shown life (ap (λ h. (frame_at k h).kind) (sym e) ∙ kind));
+  }) dups p.each_dup
     where
-    true_false : (b : Bool) → b ≡ true → b ≡ false → ⊥
-    true_false b e f = grind (arith, e, f)
+      true_false : (b : Bool) → b ≡ true → b ≡ false → ⊥
+      true_false b e f = grind (arith, e, f)
 
   -- the ledger changes at one frame
   module _ (g : ℕ) (inside : g < frames_of sh) (fr : Note) where
@@ -134,18 +132,19 @@ module _ (sh : Shape) (across : ℕ) (k : Ledger) (rows : List Row) (frames : Li
             let f : ℕ = slice_index frames i in
             let paired : length frames ≡ length rows = p.paired in
             let same : f ≡ g → (fr.kind ≡ (frame_at k f).kind) × (fr.content ≡ (frame_at k f).content) × (fr.generation ≡ (frame_at k f).generation) = λ e.
-                (kind (uses_some frames i g (omega arith) e) ∙ ap (λ y. (frame_at k y).kind) (sym e), words ∙ ap (λ y. (frame_at k y).content) (sym e), gens ∙ ap (λ y. (frame_at k y).generation) (sym e)) in
-            (row_still (row_in rows i) f same (p.each_row i lt).0,
-             All-weaker (Agrees k (row_in rows i) f) (Agrees next (row_in rows i) f) (λ d a. agrees_still (row_in rows i) f d (λ _ life. gen_same _ ∙ life) (λ life. sym (gen_same _) ∙ life) a) dups (p.each_row i lt).1);
+            (kind (uses_some frames i g (omega arith) e) ∙ ap (λ y. (frame_at k y).kind) (sym e), words ∙ ap (λ y. (frame_at k y).content) (sym e), gens ∙ ap (λ y. (frame_at k y).generation) (sym e)) in (
+              row_still (row_in rows i) f same (p.each_row i lt).0,
+              All-weaker (Agrees k (row_in rows i) f) (Agrees next (row_in rows i) f) (λ d a. agrees_still (row_in rows i) f d (λ _ life. gen_same _ ∙ life) (λ life. sym (gen_same _) ∙ life) a) dups (p.each_row i lt).1,
+            );
         each_dup = All-weaker (DupFits sh across k) (DupFits sh across next) (λ d n. record {
-            place = n.place;
-            named = n.named;
-            frame = n.frame;
-            life = subst (λ x. place_life k d.place ≤ x) (sym (gen_same _)) n.life;
-            content = λ life. by_frame (λ x. x.content ≡ d.bytes) (place_frame k d.place) (λ e. words ∙ ap (λ y. (frame_at k y).content) (sym e) ∙ n.content (sym (gen_same _) ∙ life)) (λ _. n.content (sym (gen_same _) ∙ life));
-            shown = λ life. by_frame (λ x. ¬ (x.kind ≡ Private)) (place_frame k d.place) (λ e own. n.shown (sym (gen_same _) ∙ life) (ap (λ y. (frame_at k y).kind) e ∙ shown own)) (λ _. n.shown (sym (gen_same _) ∙ life));
-            node = n.node;
-          }) dups p.each_dup;
+          place = n.place;
+          named = n.named;
+          frame = n.frame;
+          life = subst (λ x. place_life k d.place ≤ x) (sym (gen_same _)) n.life;
+          content = λ life. by_frame (λ x. x.content ≡ d.bytes) (place_frame k d.place) (λ e. words ∙ ap (λ y. (frame_at k y).content) (sym e) ∙ n.content (sym (gen_same _) ∙ life)) (λ _. n.content (sym (gen_same _) ∙ life));
+          shown = λ life. by_frame (λ x. ¬ (x.kind ≡ Private)) (place_frame k d.place) (λ e own. n.shown (sym (gen_same _) ∙ life) (ap (λ y. (frame_at k y).kind) e ∙ shown own)) (λ _. n.shown (sym (gen_same _) ∙ life));
+          node = n.node;
+        }) dups p.each_dup;
         bases = bases_still frames hand' base (λ f ne. ap (λ x. uses f frames + x) (other f ne));
         kinds = kinds_still fits;
         empty = p.empty;
@@ -176,27 +175,28 @@ module _ (sh : Shape) (across : ℕ) (k : Ledger) (rows : List Row) (frames : Li
     widths = λ f. by_frame sh across k rows frames dups None p g inside fr (λ x. length x.content ≡ PAGE_WORDS) f (λ _. wide) (λ _. p.widths f);
     lives = λ f. by_frame sh across k rows frames dups None p g inside fr (λ x. GenerationFits sh.last_generation x.kind x.generation) f
         (λ _. let left : (frame_at k g).generation < sh.last_generation = subst (λ (x : Kind). GenerationFits sh.last_generation x (frame_at k g).generation) free (p.lives g) in
-            subst (λ (x : Kind). GenerationFits sh.last_generation x fr.generation) (sym kind) (omega (arith, life), omega (arith, life, left))) (λ _. p.lives f);
+        subst (λ (x : Kind). GenerationFits sh.last_generation x fr.generation) (sym kind) (omega (arith, life), omega (arith, life, left))) (λ _. p.lives f);
     each_row = λ i lt.
         let f : ℕ = slice_index frames i in
         let r : Row = row_in rows i in
-        let ne : f ≢ g = not_listed i lt in
-        (row_still sh across k rows frames dups None p g inside fr r f (λ e. absurd (ne e)) (p.each_row i lt).0,
-         λ j d lt'. let e : DupRow = get_or dups j d in let n : DupFits sh across k e = p.each_dup j d lt' in
-            agrees_still sh across k rows frames dups None p g inside fr r f e
-            (λ same l. by_frame sh across k rows frames dups None p g inside fr (λ x. x.generation ≡ place_life k e.place) (place_frame k e.place) (λ there. absurd (ne (same ∙ there))) (λ _. l))
-            (λ l. by_frame sh across k rows frames dups None p g inside fr (λ x. x.generation ≡ place_life k e.place → IsInLife k e.place) (place_frame k e.place) (λ there l'. absurd (over e n there l')) (λ _ l'. l') l)
-            ((p.each_row i lt).1 j d lt'));
+        let ne : f ≢ g = not_listed i lt in (
+          row_still sh across k rows frames dups None p g inside fr r f (λ e. absurd (ne e)) (p.each_row i lt).0,
+          λ j d lt'. let e : DupRow = get_or dups j d in let n : DupFits sh across k e = p.each_dup j d lt' in
+              agrees_still sh across k rows frames dups None p g inside fr r f e
+              (λ same l. by_frame sh across k rows frames dups None p g inside fr (λ x. x.generation ≡ place_life k e.place) (place_frame k e.place) (λ there. absurd (ne (same ∙ there))) (λ _. l))
+              (λ l. by_frame sh across k rows frames dups None p g inside fr (λ x. x.generation ≡ place_life k e.place → IsInLife k e.place) (place_frame k e.place) (λ there l'. absurd (over e n there l')) (λ _ l'. l') l)
+              ((p.each_row i lt).1 j d lt'),
+        );
     each_dup = All-weaker (DupFits sh across k) (DupFits sh across filled_next) (λ d n. record {
-        place = n.place;
-        named = n.named;
-        frame = n.frame;
-        life = by_frame sh across k rows frames dups None p g inside fr (λ x. place_life k d.place ≤ x.generation) (place_frame k d.place)
-            (λ e. let low : place_life k d.place ≤ (frame_at k g).generation = subst (λ x. place_life k d.place ≤ (frame_at k x).generation) e n.life in omega (arith, life)) (λ _. n.life);
-        content = in_old_life d n (λ x. x.content ≡ d.bytes) n.content;
-        shown = in_old_life d n (λ x. ¬ (x.kind ≡ Private)) n.shown;
-        node = n.node;
-      }) dups p.each_dup;
+      place = n.place;
+      named = n.named;
+      frame = n.frame;
+      life = by_frame sh across k rows frames dups None p g inside fr (λ x. place_life k d.place ≤ x.generation) (place_frame k d.place)
+          (λ e. let low : place_life k d.place ≤ (frame_at k g).generation = subst (λ x. place_life k d.place ≤ (frame_at k x).generation) e n.life in omega (arith, life)) (λ _. n.life);
+      content = in_old_life d n (λ x. x.content ≡ d.bytes) n.content;
+      shown = in_old_life d n (λ x. ¬ (x.kind ≡ Private)) n.shown;
+      node = n.node;
+    }) dups p.each_dup;
     bases = bases_still sh across k rows frames dups None p g inside fr frames (Some g) (let o : one_at g g ≡ 1 = one_same g g refl in omega (arith, base, unused)) (λ f ne. let o : one_at f g ≡ 0 = one_other f g (λ e. ne (sym e)) in omega arith);
     kinds = kinds_still sh across k rows frames dups None p g inside fr (subst (λ (x : Kind). FitsBase x fr.base) (sym kind) base);
     empty = p.empty;
@@ -223,7 +223,7 @@ module _ (sh : Shape) (across : ℕ) (k : Ledger) (rows : List Row) (frames : Li
         lives = p.lives;
         each_row = λ j lt'. dite (ℕ_discrete j i)
             (λ e. subst (λ x. Good (row_in (set rows i r) x, slice_index (set frames i g) x)) (sym e)
-                (subst Good (λ t. (sym (get_or-set_same rows i r no_row lt) t, sym (get_or-set_same frames i g 0 (omega arith)) t)) new))
+            (subst Good (λ t. (sym (get_or-set_same rows i r no_row lt) t, sym (get_or-set_same frames i g 0 (omega arith)) t)) new))
             (λ ne. subst Good (λ t. (sym (get_or-set_other rows i j r no_row ne) t, sym (get_or-set_other frames i j g 0 ne) t)) (p.each_row j (omega arith)));
         each_dup = p.each_dup;
         bases = λ f. p.bases f ∙ sym (uses_set f frames i g (omega arith));
@@ -243,7 +243,7 @@ module _ (sh : Shape) (across : ℕ) (k : Ledger) (rows : List Row) (frames : Li
         lives = p.lives;
         each_row = λ j lt'. dite (ℕ_discrete j i)
             (λ e. subst (λ x. Good (row_in (set rows i r) x, slice_index frames x)) (sym e)
-                (subst (λ x. Good (x, slice_index frames i)) (sym (get_or-set_same rows i r no_row lt)) new))
+            (subst (λ x. Good (x, slice_index frames i)) (sym (get_or-set_same rows i r no_row lt)) new))
             (λ ne. subst (λ x. Good (x, slice_index frames j)) (sym (get_or-set_other rows i j r no_row ne)) (p.each_row j (omega arith)));
         each_dup = p.each_dup;
         bases = p.bases;
@@ -265,14 +265,14 @@ module _ (sh : Shape) (across : ℕ) (k : Ledger) (rows : List Row) (frames : Li
         lives = p.lives;
         each_row = λ j lt'. dite (ℕ_discrete j i)
             (λ e. subst (λ x. Good (row_in (insert rows i r) x, slice_index (insert frames i g) x)) (sym e)
-                (subst Good (λ t. (sym (get_or-insert_at rows i r no_row le) t, sym (get_or-insert_at frames i g 0 (omega arith)) t)) new))
+            (subst Good (λ t. (sym (get_or-insert_at rows i r no_row le) t, sym (get_or-insert_at frames i g 0 (omega arith)) t)) new))
             (λ ne. elim (cases_lt j i) [
               | inl below ↦ subst Good (λ t. (sym (get_or-insert_below rows i r no_row j below le) t, sym (get_or-insert_below frames i g 0 j below (omega arith)) t)) (p.each_row j (omega arith))
               | inr above ↦
                   let m : ℕ = j - 1 in
                   let e : m + 1 ≡ j = omega arith in
                   subst (λ x. Good (row_in (insert rows i r) x, slice_index (insert frames i g) x)) e
-                    (subst Good (λ t. (sym (get_or-insert_above rows i r no_row m (omega arith) le) t, sym (get_or-insert_above frames i g 0 m (omega arith) (omega arith)) t)) (p.each_row m (omega arith)))
+                  (subst Good (λ t. (sym (get_or-insert_above rows i r no_row m (omega arith) le) t, sym (get_or-insert_above frames i g 0 m (omega arith) (omega arith)) t)) (p.each_row m (omega arith)))
             ]);
         each_dup = p.each_dup;
         bases = λ f. let s : uses f (insert frames i g) ≡ uses f frames + one_at f g = sum_by-insert (one_at f) frames i g in p.bases f ∙ omega arith;
@@ -293,9 +293,9 @@ module _ (sh : Shape) (across : ℕ) (k : Ledger) (rows : List Row) (frames : Li
         widths = p.widths;
         lives = p.lives;
         each_row = λ j lt'. elim (cases_lt j i) [
-              | inl below ↦ subst Good (λ t. (sym (get_or-remove_below rows i no_row j below lt) t, sym (get_or-remove_below frames i 0 j below (omega arith)) t)) (p.each_row j (omega arith))
-              | inr above ↦ subst Good (λ t. (sym (get_or-remove_above rows i no_row j (omega arith) lt) t, sym (get_or-remove_above frames i 0 j (omega arith) (omega arith)) t)) (p.each_row (j + 1) (omega arith))
-            ];
+          | inl below ↦ subst Good (λ t. (sym (get_or-remove_below rows i no_row j below lt) t, sym (get_or-remove_below frames i 0 j below (omega arith)) t)) (p.each_row j (omega arith))
+          | inr above ↦ subst Good (λ t. (sym (get_or-remove_above rows i no_row j (omega arith) lt) t, sym (get_or-remove_above frames i 0 j (omega arith) (omega arith)) t)) (p.each_row (j + 1) (omega arith))
+        ];
         each_dup = p.each_dup;
         bases = λ f. let s : uses f (remove frames i) + one_at f (get_or frames i 0) ≡ uses f frames = sum_by-remove (one_at f) frames i 0 (omega arith) in p.bases f ∙ omega arith;
         kinds = p.kinds;
@@ -315,14 +315,14 @@ module _ (sh : Shape) (across : ℕ) (k : Ledger) (rows : List Row) (frames : Li
       let apart : (d : DupRow) → DupFits sh across k d → IsInLife k d.place → place_frame k d.place ≢ g = λ d n l e. n.shown l (ap (λ h. (frame_at k h).kind) e ∙ own) in
       let here : frame_at (with_frame k g fr) g ≡ fr = by_frame sh across k rows frames dups None p g inside fr (λ x. x ≡ fr) g (λ _. refl) (λ ne. absurd (ne refl)) in
       let each : All (DupFits sh across (with_frame k g fr)) dups = All-weaker (DupFits sh across k) (DupFits sh across (with_frame k g fr)) (λ d n. record {
-          place = n.place;
-          named = n.named;
-          frame = n.frame;
-          life = subst (λ x. place_life k d.place ≤ x) (sym (same _)) n.life;
-          content = λ l. let l' = sym (same _) ∙ l in by_frame sh across k rows frames dups None p g inside fr (λ x. x.content ≡ d.bytes) (place_frame k d.place) (λ e. absurd (apart d n l' e)) (λ _. n.content l');
-          shown = λ l. let l' = sym (same _) ∙ l in by_frame sh across k rows frames dups None p g inside fr (λ x. ¬ (x.kind ≡ Private)) (place_frame k d.place) (λ e. absurd (apart d n l' e)) (λ _. n.shown l');
-          node = n.node;
-        }) dups p.each_dup in
+        place = n.place;
+        named = n.named;
+        frame = n.frame;
+        life = subst (λ x. place_life k d.place ≤ x) (sym (same _)) n.life;
+        content = λ l. let l' = sym (same _) ∙ l in by_frame sh across k rows frames dups None p g inside fr (λ x. x.content ≡ d.bytes) (place_frame k d.place) (λ e. absurd (apart d n l' e)) (λ _. n.content l');
+        shown = λ l. let l' = sym (same _) ∙ l in by_frame sh across k rows frames dups None p g inside fr (λ x. ¬ (x.kind ≡ Private)) (place_frame k d.place) (λ e. absurd (apart d n l' e)) (λ _. n.shown l');
+        node = n.node;
+      }) dups p.each_dup in
       record {
         paired = p.paired ∙ sym wide';
         frames_long = long_still sh across k rows frames dups None p g inside fr;
@@ -332,15 +332,17 @@ module _ (sh : Shape) (across : ℕ) (k : Ledger) (rows : List Row) (frames : Li
             (λ _. subst (λ (x : Kind × ℕ). GenerationFits sh.last_generation x.0 x.1) (λ t. ((own ∙ sym kind) t, sym life t)) (p.lives g)) (λ _. p.lives f);
         each_row = λ j lt'. dite (ℕ_discrete j i)
             (λ e. subst (λ x. Serves sh (with_frame k g fr) dups (row_in (set rows i r) x) (slice_index frames x)) (sym e)
-                (subst (λ x. Serves sh (with_frame k g fr) dups x g) (sym (get_or-set_same rows i r no_row lt))
-                  (record { frame = inside; kind = ap (λ (x : Note). x.kind) here ∙ kind ∙ sym is; content = ap (λ (x : Note). x.content) here ∙ sym bytes; given = subst (λ y. 1 ≤ y) (sym (same g)) (p.each_row i lt).0.given; node = λ _. (p.each_row i lt).0.node was ∙ sym home },
-                   All-weaker (DupFits sh across k) (Agrees (with_frame k g fr) r g) (λ d n. record {
-                      item = λ m. absurd (grind (arith, m, alone d.number));
-                      back = λ l e. absurd (apart d n (sym (same _) ∙ l) (sym e));
-                    }) dups p.each_dup)))
-            (λ ne. let lt2 : j < length rows = omega arith in subst (λ x. Serves sh (with_frame k g fr) dups x (slice_index frames j)) (sym (get_or-set_other rows i j r no_row ne))
-                (row_still sh across k rows frames dups None p g inside fr (row_in rows j) (slice_index frames j) (λ e. absurd (ne (uses_once frames i j g (omega arith) (omega arith) once refl e))) (p.each_row j lt2).0,
-                 All-weaker (Agrees k (row_in rows j) (slice_index frames j)) (Agrees (with_frame k g fr) (row_in rows j) (slice_index frames j)) (λ d a. agrees_still sh across k rows frames dups None p g inside fr (row_in rows j) (slice_index frames j) d (λ _ l. same _ ∙ l) (λ l. sym (same _) ∙ l) a) dups (p.each_row j lt2).1));
+            (subst (λ x. Serves sh (with_frame k g fr) dups x g) (sym (get_or-set_same rows i r no_row lt)) (
+              record { frame = inside; kind = ap (λ (x : Note). x.kind) here ∙ kind ∙ sym is; content = ap (λ (x : Note). x.content) here ∙ sym bytes; given = subst (λ y. 1 ≤ y) (sym (same g)) (p.each_row i lt).0.given; node = λ _. (p.each_row i lt).0.node was ∙ sym home },
+              All-weaker (DupFits sh across k) (Agrees (with_frame k g fr) r g) (λ d n. record {
+                item = λ m. absurd (grind (arith, m, alone d.number));
+                back = λ l e. absurd (apart d n (sym (same _) ∙ l) (sym e));
+              }) dups p.each_dup,
+            )))
+            (λ ne. let lt2 : j < length rows = omega arith in subst (λ x. Serves sh (with_frame k g fr) dups x (slice_index frames j)) (sym (get_or-set_other rows i j r no_row ne)) (
+              row_still sh across k rows frames dups None p g inside fr (row_in rows j) (slice_index frames j) (λ e. absurd (ne (uses_once frames i j g (omega arith) (omega arith) once refl e))) (p.each_row j lt2).0,
+              All-weaker (Agrees k (row_in rows j) (slice_index frames j)) (Agrees (with_frame k g fr) (row_in rows j) (slice_index frames j)) (λ d a. agrees_still sh across k rows frames dups None p g inside fr (row_in rows j) (slice_index frames j) d (λ _ l. same _ ∙ l) (λ l. sym (same _) ∙ l) a) dups (p.each_row j lt2).1,
+            ));
         each_dup = each;
         bases = bases_still sh across k rows frames dups None p g inside fr frames None (base ∙ p.bases g) (λ f ne. refl);
         kinds = kinds_still sh across k rows frames dups None p g inside fr (subst (λ (x : Kind × ℕ). FitsBase x.0 x.1) (λ t. ((own ∙ sym kind) t, sym base t)) (p.kinds g));
@@ -353,9 +355,9 @@ all_with P d dups here there =
     let higher = filter (λ e. nat_lt d.place e.place) dups in
     let Q : DupRow → Type 0 = λ e. e.place ≢ d.place → P e in
     All-append P lower (d ∷ higher)
-      (λ k x lt. (All-filter (λ e. nat_lt e.place d.place) Q dups there k x lt) (λ e. let l : (get_or lower k x).place < d.place = ltb-true _ _ (filter_passes (λ e. nat_lt e.place d.place) dups k x lt) in omega arith))
-      (All-cons P d higher here
-        (λ k x lt. (All-filter (λ e. nat_lt d.place e.place) Q dups there k x lt) (λ e. let l : d.place < (get_or higher k x).place = ltb-true _ _ (filter_passes (λ e. nat_lt d.place e.place) dups k x lt) in omega arith)))
+    (λ k x lt. (All-filter (λ e. nat_lt e.place d.place) Q dups there k x lt) (λ e. let l : (get_or lower k x).place < d.place = ltb-true _ _ (filter_passes (λ e. nat_lt e.place d.place) dups k x lt) in omega arith))
+    (All-cons P d higher here
+    (λ k x lt. (All-filter (λ e. nat_lt d.place e.place) Q dups there k x lt) (λ e. let l : d.place < (get_or higher k x).place = ltb-true _ _ (filter_passes (λ e. nat_lt d.place e.place) dups k x lt) in omega arith)))
 
 pub filter_back : (t : DupRow → Bool) (P : DupRow → Type 0) (xs : List DupRow) → All P (filter t xs) → All (λ x. t x ≡ true → P x) xs
 filter_back t P [] h = λ k x lt. absurd (omega arith)
@@ -367,7 +369,7 @@ filter_back t P (x ∷ xs) h = elim (cases_Bool (t x)) [
   | inr no' ↦
       let e : filter t (x ∷ xs) ≡ filter t xs = grind (arith, no') in
       All-cons (λ y. t y ≡ true → P y) x xs (λ m. absurd (grind (arith, m, no'))) (filter_back t P xs (subst (All P) e h))
-  ]
+]
 
 all_first : (P : DupRow → Type 0) (xs ys : List DupRow) → All P (xs ++ ys) → All P xs
 all_first P [] ys h = λ k x lt. absurd (omega arith)
@@ -384,11 +386,13 @@ all_without P d dups h =
     let higher = filter (λ e. nat_lt d.place e.place) dups in
     let low = filter_back (λ e. nat_lt e.place d.place) P dups (all_first P lower (d ∷ higher) h) in
     let rest : All P (d ∷ higher) = all_second P lower (d ∷ higher) h in
-    let high = filter_back (λ e. nat_lt d.place e.place) P dups (All-tail P d higher rest) in
-    (All-head P d higher rest, λ k x lt ne. elim (cases_lt (get_or dups k x).place d.place) [
-      | inl below ↦ low k x lt (lt-ltb _ _ below)
-      | inr above ↦ high k x lt (lt-ltb _ _ (omega arith))
-    ])
+    let high = filter_back (λ e. nat_lt d.place e.place) P dups (All-tail P d higher rest) in (
+      All-head P d higher rest,
+      λ k x lt ne. elim (cases_lt (get_or dups k x).place d.place) [
+        | inl below ↦ low k x lt (lt-ltb _ _ below)
+        | inr above ↦ high k x lt (lt-ltb _ _ (omega arith))
+      ],
+    )
 
 abbrev is_stable : Kind → Type 0
 is_stable Stable = Unit {0}
@@ -438,24 +442,26 @@ module _ (sh : Shape) (across : ℕ) (k : Ledger) (rows : List Row) (frames : Li
         lives = λ f. at (λ x. GenerationFits sh.last_generation x.kind x.generation) f (λ _. subst (λ (x : Kind). GenerationFits sh.last_generation x (frame_at k g).generation) own (p.lives g)) (λ _. p.lives f);
         each_row = λ j lt'. dite (ℕ_discrete j i)
             (λ e. subst (λ x. Serves sh shown_next (with_dup d dups) (row_in (set rows i r) x) (slice_index frames x)) (sym e)
-                (subst (λ x. Serves sh shown_next (with_dup d dups) x g) (sym (get_or-set_same rows i r no_row lt))
-                  (record { frame = inside'; kind = ap (λ (x : Note). x.kind) here ∙ sym stable'; content = words g ∙ (p.each_row i lt).0.content ∙ sym same; given = subst (λ y. 1 ≤ y) (sym (gens g)) (p.each_row i lt).0.given; node = λ m. absurd (grind (arith, m, merged)) },
-                   all_with (Agrees shown_next r g) d dups
-                     (record { item = λ _. (sym frame_is, in_life); back = λ _ _. item })
-                     (λ n x l ne. let e2 : DupRow = get_or dups n x in record {
-                        item = λ m. absurd (numbers n x l (only e2.number m));
-                        back = λ life e3. absurd (apart e2 (p.each_dup n x l) (off e2 ne life) (sym (e3 ∙ frame_off e2 ne)));
-                     }))))
+            (subst (λ x. Serves sh shown_next (with_dup d dups) x g) (sym (get_or-set_same rows i r no_row lt)) (
+              record { frame = inside'; kind = ap (λ (x : Note). x.kind) here ∙ sym stable'; content = words g ∙ (p.each_row i lt).0.content ∙ sym same; given = subst (λ y. 1 ≤ y) (sym (gens g)) (p.each_row i lt).0.given; node = λ m. absurd (grind (arith, m, merged)) },
+              all_with (Agrees shown_next r g) d dups
+                  (record { item = λ _. (sym frame_is, in_life); back = λ _ _. item })
+                  (λ n x l ne. let e2 : DupRow = get_or dups n x in record {
+                    item = λ m. absurd (numbers n x l (only e2.number m));
+                    back = λ life e3. absurd (apart e2 (p.each_dup n x l) (off e2 ne life) (sym (e3 ∙ frame_off e2 ne)));
+                  }),
+            )))
             (λ ne. let lt2 : j < length rows = omega arith in
-              let far : slice_index frames j ≢ g = λ e. ne (uses_once frames i j g (omega arith) (omega arith) once refl e) in
-              subst (λ x. Serves sh shown_next (with_dup d dups) x (slice_index frames j)) (sym (get_or-set_other rows i j r no_row ne))
-                ((let n = row_still sh across k rows frames dups None p g inside' stable (row_in rows j) (slice_index frames j) (λ e. absurd (far e)) (p.each_row j lt2).0 in record { frame = n.frame; kind = n.kind; content = n.content; given = n.given; node = n.node }),
-                 all_with (Agrees shown_next (row_in rows j) (slice_index frames j)) d dups
-                   (record { item = λ m. absurd (grind (arith, m, fresh j lt2)); back = λ _ e. absurd (far (e ∙ frame_is)) })
-                   (λ n x l ne2. let e2 : DupRow = get_or dups n x in let a = (p.each_row j lt2).1 n x l in record {
-                      item = λ m. let y = a.item m in (y.0 ∙ sym (frame_off e2 ne2), on e2 ne2 y.1);
-                      back = λ life e3. a.back (off e2 ne2 life) (e3 ∙ frame_off e2 ne2);
-                   })));
+            let far : slice_index frames j ≢ g = λ e. ne (uses_once frames i j g (omega arith) (omega arith) once refl e) in
+            subst (λ x. Serves sh shown_next (with_dup d dups) x (slice_index frames j)) (sym (get_or-set_other rows i j r no_row ne)) (
+              (let n = row_still sh across k rows frames dups None p g inside' stable (row_in rows j) (slice_index frames j) (λ e. absurd (far e)) (p.each_row j lt2).0 in record { frame = n.frame; kind = n.kind; content = n.content; given = n.given; node = n.node }),
+              all_with (Agrees shown_next (row_in rows j) (slice_index frames j)) d dups
+                  (record { item = λ m. absurd (grind (arith, m, fresh j lt2)); back = λ _ e. absurd (far (e ∙ frame_is)) })
+                  (λ n x l ne2. let e2 : DupRow = get_or dups n x in let a = (p.each_row j lt2).1 n x l in record {
+                    item = λ m. let y = a.item m in (y.0 ∙ sym (frame_off e2 ne2), on e2 ne2 y.1);
+                    back = λ life e3. a.back (off e2 ne2 life) (e3 ∙ frame_off e2 ne2);
+                  }),
+            ));
         each_dup = all_with (DupFits sh across shown_next) d dups
             (record {
               place = inside;
@@ -481,17 +487,18 @@ module _ (sh : Shape) (across : ℕ) (k : Ledger) (rows : List Row) (frames : Li
             named_off q (λ e. w.0 (sym e)) ∙ p.empty q (λ n x l. dite (ℕ_discrete (get_or dups n x).place d.place) (λ e e2. w.0 (sym e ∙ e2)) (λ ne. w.1 n x l ne)));
       }
     where
-    not_own : Stable ≡ Private → ⊥
-    not_own e = subst is_stable e tt
+      not_own : Stable ≡ Private → ⊥
+      not_own e = subst is_stable e tt
 
 -- a row in the state of another that is served by a frame, with the frame's bytes, is served by it too
 pub serves_like : (sh : Shape) (k : Ledger) (dups : List DupRow) (s r : Row) (f : ℕ) → Serves sh k dups s f → r.state ≡ s.state → (frame_at k f).content ≡ r.bytes → merged_state r.state ≡ true → Serves sh k dups r f
-serves_like sh k dups s r f h same content merged =
-    (record { frame = h.0.frame; kind = h.0.kind ∙ ap kind_for (sym same); content = content; given = h.0.given; node = λ m. absurd (grind (arith, m, merged)) },
-     All-weaker (Agrees k s f) (Agrees k r f) (λ d a. record {
-        item = λ m. a.item (sym (ap (merged_into d.number) same) ∙ m);
-        back = λ life e. ap (merged_into d.number) same ∙ a.back life e;
-      }) dups h.1)
+serves_like sh k dups s r f h same content merged = (
+  record { frame = h.0.frame; kind = h.0.kind ∙ ap kind_for (sym same); content = content; given = h.0.given; node = λ m. absurd (grind (arith, m, merged)) },
+  All-weaker (Agrees k s f) (Agrees k r f) (λ d a. record {
+    item = λ m. a.item (sym (ap (merged_into d.number) same) ∙ m);
+    back = λ life e. ap (merged_into d.number) same ∙ a.back life e;
+  }) dups h.1,
+)
 
 -- where the tests agree from place to place, so do the numbers
 pub counts_agree : (f : ℕ) (test : Row → Bool) (rows : List Row) (frames : List ℕ) → length frames ≡ length rows → ((i : ℕ) → i < length rows → (get_or frames i 0 == f) ≡ test (get_or rows i no_row)) → uses f frames ≡ count_by test rows
@@ -511,16 +518,17 @@ base_is_items sh across k rows frames dups p n d lt life =
     let f : ℕ = place_frame k e.place in
     let b : (frame_at k f).base ≡ uses f frames + 0 = p.bases f in
     let c : uses f frames ≡ item_count rows e = counts_agree f (λ r. merged_into e.number r.state) rows frames p.paired (λ i l.
-      let a = (p.each_row i l).1 n d lt in
-      same_tests (get_or frames i 0 == f) (merged_into e.number (get_or rows i no_row).state) (λ t. a.back life (eqb-eq' _ _ t)) (λ m. eq-eqb _ _ (a.item m).0)) in
+    let a = (p.each_row i l).1 n d lt in
+    same_tests (get_or frames i 0 == f) (merged_into e.number (get_or rows i no_row).state) (λ t. a.back life (eqb-eq' _ _ t)) (λ m. eq-eqb _ _ (a.item m).0)) in
     omega (arith, b, c)
   where
-  same_tests : (x y : Bool) → (x ≡ true → y ≡ true) → (y ≡ true → x ≡ true) → x ≡ y
-  same_tests true y f g = sym (f refl)
-  same_tests false true f g = g refl
-  same_tests false false f g = refl
-  eqb-eq' : (x y : ℕ) → (x == y) ≡ true → x ≡ y
-  eqb-eq' x y t = grind (arith, nat_tests, t)
+    same_tests : (x y : Bool) → (x ≡ true → y ≡ true) → (y ≡ true → x ≡ true) → x ≡ y
+    same_tests true y f g = sym (f refl)
+    same_tests false true f g = g refl
+    same_tests false false f g = refl
+
+    eqb-eq' : (x y : ℕ) → (x == y) ≡ true → x ≡ y
+    eqb-eq' x y t = grind (arith, nat_tests, t)
 
 -- above the limit stands no frame, and a stale dup's frame is not stable in its life
 pub stale_is_loose : (sh : Shape) (across : ℕ) (k : Ledger) (rows : List Row) (frames : List ℕ) (dups : List DupRow) (p : Placed sh across k rows frames dups None) (n : ℕ) (d : DupRow) → n < length dups → item_count rows (get_or dups n d) ≡ 0 → IsInLife k (get_or dups n d).place

@@ -1,5 +1,5 @@
 -- A dup moves to another frame, with all of its items.
-use Rattle.std.proofs.Common.{inl, inr, ◌≡◌, ◌≢◌, ℕ, zero, suc, ◌+◌, ◌<◌, ◌≤◌, ◌/◌, Bool, true, false, cond, eqb, List, [], ◌∷◌, length, map, get_or, set, Option, Some, None, refl, sym, ap, ◌∙◌, subst, arith, length-set, get_or-set_same, get_or-set_other, eq-eqb}
+use Rattle.std.proofs.Common.{◌≡◌, ◌≢◌, ℕ, ◌+◌, ◌<◌, ◌≤◌, Bool, true, cond, List, [], ◌∷◌, length, map, get_or, set, Option, Some, None, refl, sym, ap, ◌∙◌, subst, arith, length-set, get_or-set_same, get_or-set_other, eq-eqb}
 use Rattle.std.specs.Prelude.{All, ◌==◌, is_some, slice_index}
 use Rattle.std.proofs.lemmas.List.{length-map, get_or-map}
 use Rattle.std.proofs.lemmas.List.Sums.{sum_by-cons}
@@ -15,7 +15,7 @@ use Rattle.ksm_base.specs.declared.row.PageState.TheVariants.{Private as OwnPage
 use Rattle.ksm_base.specs.Values.{frames_of}
 use Rattle.ksm_base.specs.Rows.{merged_state, merged_into}
 use Rattle.frame_core.specs.declared.frame.Kind.{Kind}
-use Rattle.frame_core.specs.declared.frame.Kind.TheVariants.{Free, Filling, Private, Stable, Dying, Retired}
+use Rattle.frame_core.specs.declared.frame.Kind.TheVariants.{Free, Private, Stable, Dying}
 use Rattle.frame_core.specs.declared.ledger.Note.{Note}
 use Rattle.frame_core.specs.declared.ledger.Ledger.{Ledger}
 use Rattle.frame_core.specs.declared.seat.Life.{Life}
@@ -47,8 +47,8 @@ one_number OwnPage m n a b = absurd (grind (arith, a))
 one_number Waiting m n a b = absurd (grind (arith, a))
 one_number (Merged d) m n a b = sym (is_same d n b) ∙ is_same d m a
   where
-  is_same : (x y : ℕ) → (x == y) ≡ true → x ≡ y
-  is_same x y t = grind (arith, t)
+    is_same : (x y : ℕ) → (x == y) ≡ true → x ≡ y
+    is_same x y t = grind (arith, t)
 
 instead_here : (f g h : ℕ) → h ≡ f → instead f g h ≡ g
 instead_here f g h e = ap (λ (b : Bool). cond b g h) (eq-eqb h f e)
@@ -65,8 +65,8 @@ uses_new f g (h ∷ hs) none =
     let new : uses g (map (instead f g) (h ∷ hs)) ≡ one_at g (instead f g h) + uses g (map (instead f g) hs) = sum_by-cons (one_at g) (instead f g h) (map (instead f g) hs) in
     let old : uses f (h ∷ hs) ≡ one_at f h + uses f hs = sum_by-cons (one_at f) h hs in
     let here : one_at g (instead f g h) ≡ one_at f h = dite (ℕ_discrete h f)
-        (λ e. one_same g _ (instead_here f g h e) ∙ sym (one_same f h e))
-        (λ ne. ap (one_at g) (instead_there f g h ne) ∙ (let z : one_at g h ≡ 0 = omega (arith, was, none) in z) ∙ sym (one_other f h ne)) in
+    (λ e. one_same g _ (instead_here f g h e) ∙ sym (one_same f h e))
+    (λ ne. ap (one_at g) (instead_there f g h ne) ∙ (let z : one_at g h ≡ 0 = omega (arith, was, none) in z) ∙ sym (one_other f h ne)) in
     omega (arith, new, old, here, rest)
 
 uses_old : (f g : ℕ) (frames : List ℕ) → g ≢ f → uses f (map (instead f g) frames) ≡ 0
@@ -75,8 +75,8 @@ uses_old f g (h ∷ hs) ne =
     let rest : uses f (map (instead f g) hs) ≡ 0 = uses_old f g hs ne in
     let new : uses f (map (instead f g) (h ∷ hs)) ≡ one_at f (instead f g h) + uses f (map (instead f g) hs) = sum_by-cons (one_at f) (instead f g h) (map (instead f g) hs) in
     let here : one_at f (instead f g h) ≡ 0 = dite (ℕ_discrete h f)
-        (λ e. one_other f _ (λ x. ne (sym (instead_here f g h e) ∙ x)))
-        (λ off. ap (one_at f) (instead_there f g h off) ∙ one_other f h off) in
+    (λ e. one_other f _ (λ x. ne (sym (instead_here f g h e) ∙ x)))
+    (λ off. ap (one_at f) (instead_there f g h off) ∙ one_other f h off) in
     omega (arith, new, here, rest)
 
 uses_still : (f g x : ℕ) (frames : List ℕ) → x ≢ f → x ≢ g → uses x (map (instead f g) frames) ≡ uses x frames
@@ -86,8 +86,8 @@ uses_still f g x (h ∷ hs) nf ng =
     let new : uses x (map (instead f g) (h ∷ hs)) ≡ one_at x (instead f g h) + uses x (map (instead f g) hs) = sum_by-cons (one_at x) (instead f g h) (map (instead f g) hs) in
     let old : uses x (h ∷ hs) ≡ one_at x h + uses x hs = sum_by-cons (one_at x) h hs in
     let here : one_at x (instead f g h) ≡ one_at x h = dite (ℕ_discrete h f)
-        (λ e. ap (one_at x) (instead_here f g h e) ∙ one_other x g (λ y. ng (sym y)) ∙ sym (one_other x h (λ y. nf (sym y ∙ e))))
-        (λ off. ap (one_at x) (instead_there f g h off)) in
+    (λ e. ap (one_at x) (instead_here f g h e) ∙ one_other x g (λ y. ng (sym y)) ∙ sym (one_other x h (λ y. nf (sym y ∙ e))))
+    (λ off. ap (one_at x) (instead_there f g h off)) in
     omega (arith, new, old, here, rest)
 
 module _ (sh : Shape) (across : ℕ) (k : Ledger) (rows : List Row) (frames : List ℕ) (dups : List DupRow) (p : Placed sh across k rows frames dups None) (n : ℕ) (d : DupRow) (lt : n < length dups) (g : ℕ) where
@@ -135,8 +135,8 @@ module _ (sh : Shape) (across : ℕ) (k : Ledger) (rows : List Row) (frames : Li
         dite (ℕ_discrete h g)
         (λ e. subst P (sym (ap (frame_at next) e ∙ get_or-set_same (set k.frames left dead) g mounted blank (omega (arith, long, long', inside)))) (here e))
         (λ ne. subst P (sym (get_or-set_other (set k.frames left dead) g h mounted blank ne)) (dite (ℕ_discrete h left)
-            (λ e. subst P (sym (ap (λ x. get_or (set k.frames left dead) x blank) e ∙ get_or-set_same k.frames left dead blank (omega (arith, long, low)))) (there e))
-            (λ off. subst P (sym (get_or-set_other k.frames left h dead blank off)) (else' ne off))))
+        (λ e. subst P (sym (ap (λ x. get_or (set k.frames left dead) x blank) e ∙ get_or-set_same k.frames left dead blank (omega (arith, long, low)))) (there e))
+        (λ off. subst P (sym (get_or-set_other k.frames left h dead blank off)) (else' ne off))))
 
     named : named_at next q ≡ Some life
     named = let pl : length k.places ≡ frames_of sh = p.places_long in let low : q < frames_of sh = fits.place in get_or-set_same k.places q (Some life) None (omega (arith, pl, low))
@@ -198,23 +198,23 @@ module _ (sh : Shape) (across : ℕ) (k : Ledger) (rows : List Row) (frames : Li
 
       moved_row : f ≡ left → RowFits sh next r g
       moved_row e = record {
-          frame = inside;
-          kind = at_g (λ x. x.kind ≡ kind_for r.state) (sym stable ∙ ap (λ h. (frame_at k h).kind) (sym e) ∙ was.kind);
-          content = at_g (λ x. x.content ≡ r.bytes) (ap (λ h. (frame_at k h).content) (sym e) ∙ was.content);
-          given = at_g (λ x. 1 ≤ x.generation) (omega arith);
-          node = λ alone. absurd (grind (arith, alone, shared_state r.state (sym was.kind ∙ ap (λ h. (frame_at k h).kind) e ∙ stable)));
-        }
+        frame = inside;
+        kind = at_g (λ x. x.kind ≡ kind_for r.state) (sym stable ∙ ap (λ h. (frame_at k h).kind) (sym e) ∙ was.kind);
+        content = at_g (λ x. x.content ≡ r.bytes) (ap (λ h. (frame_at k h).content) (sym e) ∙ was.content);
+        given = at_g (λ x. 1 ≤ x.generation) (omega arith);
+        node = λ alone. absurd (grind (arith, alone, shared_state r.state (sym was.kind ∙ ap (λ h. (frame_at k h).kind) e ∙ stable)));
+      }
 
       moved_agrees : f ≡ left → (e : DupRow) → DupFits sh across k e → (e.place ≢ q → e.number ≢ moving.number) → Agrees k r f e → Agrees next r g e
       moved_agrees is e m others a = dite (ℕ_discrete e.place q)
           (λ same. record {
-              item = λ _. (sym (frame_is e.place same), is_in_life e.place same);
-              back = λ _ _. a.back (subst (λ x. IsInLife k x) (sym same) in_life) (is ∙ ap (place_frame k) (sym same));
-            })
+            item = λ _. (sym (frame_is e.place same), is_in_life e.place same);
+            back = λ _ _. a.back (subst (λ x. IsInLife k x) (sym same) in_life) (is ∙ ap (place_frame k) (sym same));
+          })
           (λ ne. record {
-              item = λ t. absurd (others ne (one_number r.state moving.number e.number (item_of is) t));
-              back = λ l t. absurd ((off e m ne l).1 (sym (frame_off e.place ne) ∙ sym t));
-            })
+            item = λ t. absurd (others ne (one_number r.state moving.number e.number (item_of is) t));
+            back = λ l t. absurd ((off e m ne l).1 (sym (frame_off e.place ne) ∙ sym t));
+          })
 
       still_row : f ≢ left → RowFits sh next r f
       still_row ne =
@@ -230,20 +230,20 @@ module _ (sh : Shape) (across : ℕ) (k : Ledger) (rows : List Row) (frames : Li
       still_agrees : f ≢ left → (e : DupRow) → DupFits sh across k e → Agrees k r f e → Agrees next r f e
       still_agrees not' e m a = dite (ℕ_discrete e.place q)
           (λ same. record {
-              item = λ t. absurd (not' ((a.item t).0 ∙ ap (place_frame k) same));
-              back = λ _ t. absurd (far (t ∙ frame_is e.place same));
-            })
+            item = λ t. absurd (not' ((a.item t).0 ∙ ap (place_frame k) same));
+            back = λ _ t. absurd (far (t ∙ frame_is e.place same));
+          })
           (λ ne. record {
-              item = λ t. let y = a.item t in (y.0 ∙ sym (frame_off e.place ne), ap (λ h. (frame_at next h).generation) (frame_off e.place ne ∙ sym y.0) ∙ same_life f far ∙ ap (λ h. (frame_at k h).generation) y.0 ∙ y.1 ∙ sym (life_off e.place ne));
-              back = λ l t. a.back (off e m ne l).0 (t ∙ frame_off e.place ne);
-            })
+            item = λ t. let y = a.item t in (y.0 ∙ sym (frame_off e.place ne), ap (λ h. (frame_at next h).generation) (frame_off e.place ne ∙ sym y.0) ∙ same_life f far ∙ ap (λ h. (frame_at k h).generation) y.0 ∙ y.1 ∙ sym (life_off e.place ne));
+            back = λ l t. a.back (off e m ne l).0 (t ∙ frame_off e.place ne);
+          })
 
       served : RowFits sh next r (instead left g f) × All (Agrees next r (instead left g f)) dups
       served = dite (ℕ_discrete f left)
           (λ e. subst (λ x. RowFits sh next r x × All (Agrees next r x) dups) (sym (instead_here left g f e))
-              (moved_row e, λ m x l. moved_agrees e (get_or dups m x) (p.each_dup m x l) (numbers m x l) ((p.each_row i low).1 m x l)))
+          (moved_row e, λ m x l. moved_agrees e (get_or dups m x) (p.each_dup m x l) (numbers m x l) ((p.each_row i low).1 m x l)))
           (λ ne. subst (λ x. RowFits sh next r x × All (Agrees next r x) dups) (sym (instead_there left g f ne))
-              (still_row ne, λ m x l. still_agrees ne (get_or dups m x) (p.each_dup m x l) ((p.each_row i low).1 m x l)))
+          (still_row ne, λ m x l. still_agrees ne (get_or dups m x) (p.each_dup m x l) ((p.each_row i low).1 m x l)))
 
     dup_here : (e : DupRow) → e.place ≡ q → DupFits sh across k e → DupFits sh across next e
     dup_here e same m =
@@ -268,9 +268,9 @@ module _ (sh : Shape) (across : ℕ) (k : Ledger) (rows : List Row) (frames : Li
           frame = subst (λ x. x < frames_of sh) (sym fo) m.frame;
           life = subst (λ (x : ℕ × ℕ). x.0 ≤ x.1) (λ t. (sym (life_off e.place ne) t, ap (λ y. (frame_at next y).generation) (sym fo) t))
               (at (λ x. place_life k e.place ≤ x.generation) h
-                (λ same. let old : place_life k e.place ≤ (frame_at k g).generation = subst (λ y. place_life k e.place ≤ (frame_at k y).generation) same m.life in omega (arith, old))
-                (λ same. subst (λ y. place_life k e.place ≤ (frame_at k y).generation) same m.life)
-                (λ _ _. m.life));
+              (λ same. let old : place_life k e.place ≤ (frame_at k g).generation = subst (λ y. place_life k e.place ≤ (frame_at k y).generation) same m.life in omega (arith, old))
+              (λ same. subst (λ y. place_life k e.place ≤ (frame_at k y).generation) same m.life)
+              (λ _ _. m.life));
           content = λ l. let o = off e m ne l in ap (λ y. (frame_at next y).content) fo ∙ at (λ x. x.content ≡ e.bytes) h (λ same. absurd (o.1 same)) (λ same. ap (λ y. (frame_at k y).content) (sym same) ∙ m.content o.0) (λ _ _. m.content o.0);
           shown = λ l own. let o = off e m ne l in at (λ x. x.kind ≡ Private → ⊥) h (λ same. absurd (o.1 same)) (λ _ bad. subst is_dying bad tt) (λ _ _. m.shown o.0) (ap (λ y. (frame_at next y).kind) (sym fo) ∙ own);
           node = λ z. ap (node_of sh) fo ∙ m.node z;

@@ -1,8 +1,8 @@
 -- A dup with items, and the layout before and after it moves.
-use Rattle.std.proofs.Common.{inl, inr, ◌≡◌, ◌≢◌, ℕ, zero, suc, ◌+◌, ◌-◌, ◌*◌, ◌/◌, ◌<◌, ◌≤◌, Bool, true, false, cond, List, [], ◌∷◌, ◌++◌, length, map, get_or, set, Option, Some, None, refl, sym, ap, ◌∙◌, subst, arith, eq-eqb, length-set, get_or-set_same, get_or-set_other}
-use Rattle.std.specs.Prelude.{All, find, Contains, ◌==◌, ◌&&◌, nat_lt, slice_index}
+use Rattle.std.proofs.Common.{inl, inr, ◌≡◌, ◌≢◌, ℕ, suc, ◌+◌, ◌*◌, ◌<◌, ◌≤◌, Bool, true, cond, List, [], ◌∷◌, ◌++◌, length, map, get_or, set, Option, Some, None, refl, sym, ap, ◌∙◌, subst, arith, eq-eqb, length-set, get_or-set_other}
+use Rattle.std.specs.Prelude.{All, find, ◌==◌, ◌&&◌}
 use Rattle.std.proofs.lemmas.Bool.{cases_Bool, and_parts, eqb-true, ltb-true, ne_eqb}
-use Rattle.std.proofs.lemmas.List.Elements.{Contains-append_left, Contains-append_right, Contains-push}
+use Rattle.std.proofs.lemmas.List.Elements.{Contains-append_right, Contains-push}
 use Rattle.std.proofs.lemmas.Option.{same_Some}
 use mathlib.Core.Logic.{dite}
 use native.Mathlib.Decide.{ℕ_discrete}
@@ -13,7 +13,7 @@ use Rattle.ksm_base.specs.declared.row.PageState.{PageState}
 use Rattle.ksm_base.specs.declared.row.PageState.TheVariants.{Private as OwnPage, Waiting, Merged}
 use Rattle.ksm_base.specs.declared.row.Row.{Row}
 use Rattle.ksm_base.specs.declared.row.DupRow.{DupRow}
-use Rattle.ksm_base.specs.Rows.{has_items, item_count, merged_into, row_at, dup_numbered, InPageOrder}
+use Rattle.ksm_base.specs.Rows.{has_items, item_count, merged_into, row_at, dup_numbered}
 use Rattle.ksm_base.specs.Sound.{IsSound}
 use Rattle.ksm_base.specs.Values.{frames_of}
 use Rattle.ksm_base.proofs.Edits.{find_all, find_passes, find_none, count_none}
@@ -21,19 +21,19 @@ use Rattle.ksm_base.proofs.Orders.{each_has_number}
 use Rattle.ksm_base.proofs.RowCounts.{each_at_page}
 use Rattle.frame_core.specs.declared.event.KeeperStep.TheVariants.{Freeze}
 use Rattle.frame_core.specs.declared.frame.Kind.{Kind}
-use Rattle.frame_core.specs.declared.frame.Kind.TheVariants.{Free, Filling, Private, Stable, Dying, Retired}
+use Rattle.frame_core.specs.declared.frame.Kind.TheVariants.{Free, Stable, Dying}
 use Rattle.frame_core.specs.declared.ledger.Ledger.{Ledger}
 use Rattle.frame_core.specs.declared.ledger.Note.{Note}
 use Rattle.frame_core.specs.declared.seat.Life.{Life}
-use Rattle.frame_core.specs.Ledger.{frame_at, named_at, blank, IsLoose, with_frame, ledger_after}
+use Rattle.frame_core.specs.Ledger.{frame_at, named_at, blank, IsLoose, with_frame}
 use Rattle.frame_table.specs.Named.{KeeperView}
 use Rattle.frame_table.specs.Kept.{did}
-use Rattle.ksm_book.specs.Placement.{row_in, node_of, kind_for, life_or, place_frame, IsInLife, Agrees, DupFits, Placed}
-use Rattle.ksm_book.specs.Keeping.{past_lives, spent_on, spent, Sought}
+use Rattle.ksm_book.specs.Placement.{node_of, kind_for, life_or, place_frame, IsInLife, Agrees, DupFits, Placed}
+use Rattle.ksm_book.specs.Keeping.{past_lives, spent_on, spent}
 use Rattle.ksm_book.specs.Laid.{Lay, IsLaid, state_of}
 use Rattle.ksm_book.specs.Listed.{Listed, rank, StandsAt, instead}
-use Rattle.ksm_book.specs.Mounted.{FoundFree, Mounted, shown_on}
-use Rattle.ksm_book.specs.Steps.{Log, Did, Does, IsLowestFree, free_kind}
+use Rattle.ksm_book.specs.Mounted.{FoundFree, Mounted}
+use Rattle.ksm_book.specs.Steps.{Log, Did, IsLowestFree, free_kind}
 use Rattle.ksm_book.specs.Whole.{HasLost, HasMoved}
 use Rattle.ksm_book.proofs.Filling.{at_again, node_end, on_node}
 use Rattle.ksm_book.proofs.Keeping.{spent_set}
@@ -61,9 +61,9 @@ merged_is (Merged d) n e = ap Merged (eqb-true d n e)
 index_found : {X : Type 0} (t : X → Bool) (xs : List X) (x : X) → find t xs ≡ Some x → (n : ℕ) × (n < length xs) × ((d : X) → get_or xs n d ≡ x)
 index_found t [] x found = absurd (grind (arith, found))
 index_found t (y ∷ ys) x found = elim (cases_Bool (t y)) [
-    | inl passes ↦ (0, (omega arith), λ d. (let is : y ≡ x = grind (arith, passes, found) in is))
-    | inr fails ↦ (let later = index_found t ys x (grind (arith, fails, found)) in (suc later.0, (let lt = later.1 in omega (arith, lt)), later.2))
-    ]
+  | inl passes ↦ (0, (omega arith), λ d. (let is : y ≡ x = grind (arith, passes, found) in is))
+  | inr fails ↦ (let later = index_found t ys x (grind (arith, fails, found)) in (suc later.0, (let lt = later.1 in omega (arith, lt)), later.2))
+]
 
 -- the dup that moves, and its first item
 module _ (sh : Shape) (v : Listed) (dups : List DupRow) (knobs : Knobs) (next : ℕ) (k : KeeperView) (h : IsLaid sh v dups knobs next k)
@@ -147,7 +147,7 @@ module _ (sh : Shape) (v : Listed) (dups : List DupRow) (knobs : Knobs) (next : 
         base : n.base ≡ item_count v.rows dup
         base = ap (λ x. (frame_at w.ledger x).base) on_frame.0
             ∙ find_all test (λ d. IsInLife w.ledger d.place → (frame_at w.ledger (place_frame w.ledger d.place)).base ≡ item_count v.rows d) dups dup live
-                (λ i d lt. base_is_items sh across w.ledger v.rows v.frames dups p i d lt) on_frame.1
+            (λ i d lt. base_is_items sh across w.ledger v.rows v.frames dups p i d lt) on_frame.1
 
         shape_is : w.table.shape ≡ sh
         shape_is = shape_same sh k w h.same same
@@ -191,13 +191,13 @@ module _ (sh : Shape) (v : Listed) (dups : List DupRow) (knobs : Knobs) (next : 
 
             pub lost : HasLost now.keeper u
             lost = subst (λ (x : Lay). HasLost x.keeper u) is (record {
-                part = part;
-                did = so_far;
-                frame = g;
-                found = found;
-                tried = Contains-push free.reaped.part (Freeze g, found);
-                other = λ e. other (e ∙ ap (λ (z : Ledger). (frame_at z g).base) still);
-              })
+              part = part;
+              did = so_far;
+              frame = g;
+              found = found;
+              tried = Contains-push free.reaped.part (Freeze g, found);
+              other = λ e. other (e ∙ ap (λ (z : Ledger). (frame_at z g).base) still);
+            })
 
             pub laid_lost : IsLaid sh v dups knobs next u
             laid_lost = record {
@@ -283,9 +283,9 @@ module _ (sh : Shape) (v : Listed) (dups : List DupRow) (knobs : Knobs) (next : 
 
               ledger_is : x.ledger ≡ record { frames = set (set w.ledger.frames g dead) f full; places = set w.ledger.places dup.place (Some life) }
               ledger_is = mounted.ledger ∙ (λ t. record {
-                  frames = set (frozen t).frames f (record { kind = Stable; base = n.base; generation = (at_other f apart t).generation + 1; content = (at_g t).content });
-                  places = set (frozen t).places dup.place (Some (record { frame = f; generation = (at_other f apart t).generation + 1 }));
-                })
+                frames = set (frozen t).frames f (record { kind = Stable; base = n.base; generation = (at_other f apart t).generation + 1; content = (at_g t).content });
+                places = set (frozen t).places dup.place (Some (record { frame = f; generation = (at_other f apart t).generation + 1 }));
+              })
 
               -- by the dup's index the same
               left_is : g ≡ place_frame w.ledger m.place
@@ -294,32 +294,36 @@ module _ (sh : Shape) (v : Listed) (dups : List DupRow) (knobs : Knobs) (next : 
               pub laid_moved_dup : (v' : Listed) → v'.rows ≡ v.rows → v'.frames ≡ map (instead g f) v.frames → IsLaid sh v' dups knobs next x
               laid_moved_dup v' rows frames =
                   let q = remounted sh across w.ledger v.rows v.frames dups p index.0 dup index.1 f inside lowest.free
-                        (subst (λ (y : DupRow). IsInLife w.ledger y.place) (sym m_is) on_frame.1)
-                        (ap (λ y. (frame_at w.ledger y).kind) (sym left_is) ∙ stable)
-                        (λ z. on_node node sh.frames_per_node f lowest.low lowest.high ∙ home z ∙ sym ((find_all test (DupFits sh across w.ledger) dups dup live p.each_dup).node z) ∙ ap (node_of sh) (sym on_frame.0 ∙ left_is))
-                        numbers in
+                  (subst (λ (y : DupRow). IsInLife w.ledger y.place) (sym m_is) on_frame.1)
+                  (ap (λ y. (frame_at w.ledger y).kind) (sym left_is) ∙ stable)
+                  (λ z. on_node node sh.frames_per_node f lowest.low lowest.high ∙ home z ∙ sym ((find_all test (DupFits sh across w.ledger) dups dup live p.each_dup).node z) ∙ ap (node_of sh) (sym on_frame.0 ∙ left_is))
+                  numbers in
                   record {
                     small = h.small;
                     same = shape_same sh u x (shape_same sh w u shape_is table_is) onward;
                     placed = subst (λ (z : Ledger × List Row × List ℕ). Placed sh across z.0 z.1 z.2 dups None)
-                        (λ t. (((λ i. record {
-                              frames = set (set w.ledger.frames (sym left_is i) (record { kind = Dying; base = 0; generation = (frame_at w.ledger (sym left_is i)).generation; content = (frame_at w.ledger (sym left_is i)).content })) f
-                                  (record { kind = Stable; base = (frame_at w.ledger (sym left_is i)).base; generation = (frame_at w.ledger f).generation + 1; content = (frame_at w.ledger (sym left_is i)).content });
-                              places = set w.ledger.places (m_is i).place (Some life);
-                            }) ∙ sym ledger_is) t, sym rows t, (ap (λ y. map (instead y f) v.frames) (sym left_is) ∙ sym frames) t)) q;
+                        (λ t. (
+                          ((λ i. record {
+                            frames = set (set w.ledger.frames (sym left_is i) (record { kind = Dying; base = 0; generation = (frame_at w.ledger (sym left_is i)).generation; content = (frame_at w.ledger (sym left_is i)).content })) f
+                                (record { kind = Stable; base = (frame_at w.ledger (sym left_is i)).base; generation = (frame_at w.ledger f).generation + 1; content = (frame_at w.ledger (sym left_is i)).content });
+                            places = set w.ledger.places (m_is i).place (Some life);
+                          }) ∙ sym ledger_is) t,
+                          sym rows t,
+                          (ap (λ y. map (instead y f) v.frames) (sym left_is) ∙ sym frames) t,
+                        )) q;
                     spent = spent_still;
                   }
                 where
-                spent_still : next ≤ spent x.ledger
-                spent_still =
-                    let k1 : Ledger = with_frame w.ledger g dead in
-                    let in1 : f < length k1.frames = (let e : length k1.frames ≡ length w.ledger.frames = length-set w.ledger.frames g dead in let lt = within in omega (arith, e, lt)) in
-                    let one : spent k1 + spent_on n ≡ spent w.ledger + n.generation = spent_set w.ledger g dead within_g in
-                    let was : spent_on n ≡ n.generation = ap (λ (y : Kind). past_lives y n.generation) stable in
-                    let two : spent (with_frame k1 f full) + spent_on (frame_at k1 f) ≡ spent k1 + ((frame_at w.ledger f).generation + 1) = spent_set k1 f full in1 in
-                    let here : frame_at k1 f ≡ frame_at w.ledger f = get_or-set_other w.ledger.frames g f dead blank apart in
-                    let was_free : spent_on (frame_at k1 f) ≡ (frame_at w.ledger f).generation = ap spent_on here ∙ ap (λ (y : Kind). past_lives y (frame_at w.ledger f).generation) lowest.free in
-                    let end : spent x.ledger ≡ spent (with_frame k1 f full) = ap spent ledger_is in
-                    let before = h.spent in
-                    let more = free.reaped.spent in
-                    omega (arith, one, was, two, was_free, end, before, more)
+                  spent_still : next ≤ spent x.ledger
+                  spent_still =
+                      let k1 : Ledger = with_frame w.ledger g dead in
+                      let in1 : f < length k1.frames = (let e : length k1.frames ≡ length w.ledger.frames = length-set w.ledger.frames g dead in let lt = within in omega (arith, e, lt)) in
+                      let one : spent k1 + spent_on n ≡ spent w.ledger + n.generation = spent_set w.ledger g dead within_g in
+                      let was : spent_on n ≡ n.generation = ap (λ (y : Kind). past_lives y n.generation) stable in
+                      let two : spent (with_frame k1 f full) + spent_on (frame_at k1 f) ≡ spent k1 + ((frame_at w.ledger f).generation + 1) = spent_set k1 f full in1 in
+                      let here : frame_at k1 f ≡ frame_at w.ledger f = get_or-set_other w.ledger.frames g f dead blank apart in
+                      let was_free : spent_on (frame_at k1 f) ≡ (frame_at w.ledger f).generation = ap spent_on here ∙ ap (λ (y : Kind). past_lives y (frame_at w.ledger f).generation) lowest.free in
+                      let end : spent x.ledger ≡ spent (with_frame k1 f full) = ap spent ledger_is in
+                      let before = h.spent in
+                      let more = free.reaped.spent in
+                      omega (arith, one, was, two, was_free, end, before, more)

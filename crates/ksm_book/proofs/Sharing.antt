@@ -1,14 +1,12 @@
 -- What becomes of the layout where rows change together, join a dup, or make or lose one.
-use Rattle.std.proofs.Common.{inl, inr, ◌⊎◌, ◌≡◌, ◌≢◌, ◌/◌, ◌-◌, ◌*◌, ◌^◌, ℕ, zero, suc, ◌+◌, ◌<◌, ◌≤◌, Bool, true, false, List, [], ◌∷◌, ◌++◌, length, map, get_or, set, Option, Some, None, refl, sym, ap, ◌∙◌, subst, arith, eq-eqb}
-use Rattle.std.specs.Prelude.{All, Contains, filter, nat_lt, slice_index, is_some, if◌then◌else◌, ◌==◌}
+use Rattle.std.proofs.Common.{inl, inr, ◌⊎◌, ◌≡◌, ◌≢◌, ◌-◌, ◌*◌, ◌^◌, ℕ, zero, suc, ◌+◌, ◌<◌, ◌≤◌, Bool, true, false, List, [], ◌∷◌, ◌++◌, length, map, get_or, set, Option, Some, None, refl, sym, ap, ◌∙◌, subst, arith, eq-eqb}
+use Rattle.std.specs.Prelude.{All, Contains, filter, nat_lt, slice_index, if◌then◌else◌, ◌==◌}
 use Rattle.std.specs.List.{list_any, sum_by}
 use Rattle.std.proofs.lemmas.List.{length-map, get_or-map, set-get_or, get_or_default}
 use Rattle.std.proofs.lemmas.List.Sums.{sum_by-cons}
 use Rattle.std.proofs.lemmas.Bool.{cases_Bool, cond_both}
 use Rattle.std.proofs.lemmas.Bool.Decides.{nat_tests}
 use Rattle.std.proofs.lemmas.List.Elements.{All-filter}
-use mathlib.Core.Logic.{dite}
-use native.Mathlib.Decide.{ℕ_discrete}
 use Rattle.ksm_base.specs.declared.shape.Shape.{Shape}
 use Rattle.ksm_base.specs.declared.knobs.Knobs.{Knobs}
 use Rattle.ksm_base.specs.declared.row.PageState.{PageState}
@@ -17,7 +15,7 @@ use Rattle.ksm_base.specs.declared.row.Row.{Row}
 use Rattle.ksm_base.specs.declared.row.DupRow.{DupRow}
 use Rattle.ksm_base.specs.Rows.{merged_state, merged_into, item_count, with_dup, settled, settled_state}
 use Rattle.ksm_base.specs.State.{tree_of}
-use Rattle.ksm_base.specs.Values.{frames_of, IsShape}
+use Rattle.ksm_base.specs.Values.{frames_of}
 use Rattle.frame_core.specs.declared.event.KeeperStep.TheVariants.{Publish}
 use Rattle.frame_core.specs.declared.frame.Kind.{Kind}
 use Rattle.frame_core.specs.declared.frame.Kind.TheVariants.{Free, Filling, Private, Stable, Dying, Retired}
@@ -28,14 +26,14 @@ use Rattle.frame_core.specs.Ledger.{frame_at, named_at, with_frame, ledger_after
 use Rattle.frame_core.specs.Rule.{GenerationFits}
 use Rattle.frame_table.specs.Named.{KeeperView}
 use Rattle.frame_table.specs.Kept.{did}
-use Rattle.ksm_book.specs.Placement.{row_in, no_row, kind_for, life_or, place_frame, place_life, IsInLife, RowFits, Agrees, DupFits, Placed}
-use Rattle.ksm_book.specs.Keeping.{Keeps, IsLawful, past_lives, spent_on, spent}
+use Rattle.ksm_book.specs.Placement.{row_in, no_row, kind_for, life_or, place_frame, IsInLife, RowFits, DupFits, Placed}
+use Rattle.ksm_book.specs.Keeping.{Keeps, past_lives, spent_on, spent}
 use Rattle.ksm_book.specs.Listed.{Listed, rank, StandsAt}
-use Rattle.ksm_book.specs.Laid.{Lay, IsLaid, LodgesAs, IsVacant, elsewhere}
+use Rattle.ksm_book.specs.Laid.{IsLaid, LodgesAs, IsVacant, elsewhere}
 use Rattle.ksm_book.proofs.Moves.{Serves, joined, published, base_is_items, stale_is_loose}
 use Rattle.ksm_book.proofs.Laying.{lodged, kept, shape_same, own_kind, own_item}
 use Rattle.ksm_book.proofs.Keeping.{spent_set}
-use Rattle.ksm_book.proofs.Withdrawn.{withdrawn, elsewhere_is}
+use Rattle.ksm_book.proofs.Withdrawn.{withdrawn}
 
 module _ (sh : Shape) (v : Listed) (dups : List DupRow) (knobs : Knobs) (next : ℕ) (k : KeeperView) (h : IsLaid sh v dups knobs next k) where
   abbrev across : ℕ
@@ -47,19 +45,19 @@ module _ (sh : Shape) (v : Listed) (dups : List DupRow) (knobs : Knobs) (next : 
     small = h.small;
     same = h.same;
     placed = subst (λ (z : List Row × List ℕ). Placed sh across k.ledger z.0 z.1 dups None) (λ t. (sym rows t, sym frames t)) (let p = h.placed in record {
-        paired = p.paired ∙ sym (length-map v.rows g);
-        frames_long = p.frames_long;
-        places_long = p.places_long;
-        widths = p.widths;
-        lives = p.lives;
-        each_row = λ i lt. let low : i < length v.rows = (let e : length (map g v.rows) ≡ length v.rows = length-map v.rows g in omega (arith, lt, e)) in
-            subst (λ x. Serves sh k.ledger dups x (slice_index v.frames i)) (sym (get_or-map g v.rows i no_row no_row low))
-              (lodged sh across k.ledger v.rows v.frames dups None p (row_in v.rows i) (g (row_in v.rows i)) (slice_index v.frames i) (p.each_row i low) (lodges i no_row low));
-        each_dup = p.each_dup;
-        bases = p.bases;
-        kinds = p.kinds;
-        empty = p.empty;
-      });
+      paired = p.paired ∙ sym (length-map v.rows g);
+      frames_long = p.frames_long;
+      places_long = p.places_long;
+      widths = p.widths;
+      lives = p.lives;
+      each_row = λ i lt. let low : i < length v.rows = (let e : length (map g v.rows) ≡ length v.rows = length-map v.rows g in omega (arith, lt, e)) in
+          subst (λ x. Serves sh k.ledger dups x (slice_index v.frames i)) (sym (get_or-map g v.rows i no_row no_row low))
+          (lodged sh across k.ledger v.rows v.frames dups None p (row_in v.rows i) (g (row_in v.rows i)) (slice_index v.frames i) (p.each_row i low) (lodges i no_row low));
+      each_dup = p.each_dup;
+      bases = p.bases;
+      kinds = p.kinds;
+      empty = p.empty;
+    });
     spent = h.spent;
   }
 
@@ -77,10 +75,10 @@ module _ (sh : Shape) (v : Listed) (dups : List DupRow) (knobs : Knobs) (next : 
     pub item_stable : (frame_at k.ledger g).kind ≡ Stable
     item_stable = item_fits.0.kind ∙ shared_kind item.state merged
       where
-      shared_kind : (s : PageState) → merged_state s ≡ true → kind_for s ≡ Stable
-      shared_kind OwnPage e = absurd (grind (arith, e))
-      shared_kind Waiting e = absurd (grind (arith, e))
-      shared_kind (Merged d) e = refl
+        shared_kind : (s : PageState) → merged_state s ≡ true → kind_for s ≡ Stable
+        shared_kind OwnPage e = absurd (grind (arith, e))
+        shared_kind Waiting e = absurd (grind (arith, e))
+        shared_kind (Merged d) e = refl
 
     pub item_inside : g < frames_of k.table.shape
     item_inside = subst (λ (s : Shape). g < frames_of s) (sym h.same) item_fits.0.frame
@@ -99,7 +97,7 @@ module _ (sh : Shape) (v : Listed) (dups : List DupRow) (knobs : Knobs) (next : 
     joined_hand v' w keeps bytes rows frames =
         let p : Placed sh across w.ledger v.rows v.frames dups (Some g) = kept sh across k v.rows v.frames dups None h.same w (Some g) keeps h.placed in
         let p' = joined sh across w.ledger v.rows v.frames dups i j (record row { state = item.state }) at.inside there.inside (ap (λ (x : Row). x.state) (sym there.row_is)) (bytes ∙ ap (λ (x : Row). x.bytes) (sym there.row_is)) merged
-            (subst (λ x. Placed sh across w.ledger v.rows v.frames dups (Some x)) (sym there.frame_is) p) in
+        (subst (λ x. Placed sh across w.ledger v.rows v.frames dups (Some x)) (sym there.frame_is) p) in
         subst (λ (z : List Row × List ℕ × ℕ). Placed sh across w.ledger z.0 z.1 dups (Some z.2)) (λ t. (sym rows t, (ap (set v.frames i) there.frame_is ∙ sym frames) t, at.frame_is t)) p'
 
     pub laid_joined : (v' : Listed) (w u : KeeperView) → w.table ≡ k.table → u.table ≡ w.table → Keeps k w None (Some g) → Keeps w u (Some f) None → spent k.ledger ≤ spent w.ledger → spent w.ledger ≤ spent u.ledger → row.bytes ≡ item.bytes → v'.rows ≡ set v.rows i (record row { state = item.state }) → v'.frames ≡ set v.frames i g → IsLaid sh v' dups knobs next u
@@ -117,10 +115,17 @@ laid_knobs sh v dups knobs knobs' next k h (inr none) = record {
   small = h.small;
   same = h.same;
   placed = (let p = h.placed in record {
-      paired = p.paired; frames_long = p.frames_long; places_long = p.places_long; widths = p.widths; lives = p.lives; each_row = p.each_row;
-      each_dup = subst (All (DupFits sh knobs'.merge_across_nodes k.ledger)) (sym none) (λ n d lt. absurd (omega arith));
-      bases = p.bases; kinds = p.kinds; empty = p.empty;
-    });
+    paired = p.paired;
+    frames_long = p.frames_long;
+    places_long = p.places_long;
+    widths = p.widths;
+    lives = p.lives;
+    each_row = p.each_row;
+    each_dup = subst (All (DupFits sh knobs'.merge_across_nodes k.ledger)) (sym none) (λ n d lt. absurd (omega arith));
+    bases = p.bases;
+    kinds = p.kinds;
+    empty = p.empty;
+  });
   spent = h.spent;
 }
 
@@ -133,9 +138,9 @@ module _ (k : Ledger) where
 has_some : (place : ℕ) (dups : List DupRow) → list_any (λ d. d.place == place) dups ≡ true → (n : ℕ) × (n < length dups) × ((d : DupRow) → (get_or dups n d).place ≡ place)
 has_some place [] e = absurd (grind (arith, e))
 has_some place (d ∷ ds) e = elim (cases_Bool (d.place == place)) [
-    | inl here ↦ (0, omega arith, λ x. grind (arith, nat_tests, here))
-    | inr there ↦ let rest = has_some place ds (grind (arith, e, there)) in (suc rest.0, (let lt = rest.1 in omega (arith, lt)), rest.2)
-    ]
+  | inl here ↦ (0, omega arith, λ x. grind (arith, nat_tests, here))
+  | inr there ↦ let rest = has_some place ds (grind (arith, e, there)) in (suc rest.0, (let lt = rest.1 in omega (arith, lt)), rest.2)
+]
 
 has_none : (place : ℕ) (dups : List DupRow) → list_any (λ d. d.place == place) dups ≡ false → All (λ d. d.place ≢ place) dups
 has_none place [] e k x lt same = absurd (omega arith)
@@ -147,14 +152,14 @@ not_taken sh a k rows frames dups place p none = p.empty place (has_none place d
 
 pub vacant_loose : (sh : Shape) (across : ℕ) (k : Ledger) (rows : List Row) (frames : List ℕ) (dups : List DupRow) (place : ℕ) → Placed sh across k rows frames dups None → IsVacant place rows dups → IsLoose k (named_at k place)
 vacant_loose sh a k rows frames dups place p vacant = elim (cases_Bool (list_any (λ d. d.place == place) dups)) [
-    | inl taken ↦
-        let some = has_some place dups taken in
-        let d : DupRow = record { number = 0; place = 0; tree = 0; bytes = [] } in
-        let at : (get_or dups some.0 d).place ≡ place = some.2 d in
-        loose_named k (named_at k place) (subst (λ q. IsInLife k q → ¬ ((frame_at k (place_frame k q)).kind ≡ Stable)) at
-          (stale_is_loose sh a k rows frames dups p some.0 d some.1 (vacant some.0 d some.1 at)))
-    | inr none ↦ subst (IsLoose k) (sym (not_taken sh a k rows frames dups place p none)) tt
-    ]
+  | inl taken ↦
+      let some = has_some place dups taken in
+      let d : DupRow = record { number = 0; place = 0; tree = 0; bytes = [] } in
+      let at : (get_or dups some.0 d).place ≡ place = some.2 d in
+      loose_named k (named_at k place) (subst (λ q. IsInLife k q → ¬ ((frame_at k (place_frame k q)).kind ≡ Stable)) at
+      (stale_is_loose sh a k rows frames dups p some.0 d some.1 (vacant some.0 d some.1 at)))
+  | inr none ↦ subst (IsLoose k) (sym (not_taken sh a k rows frames dups place p none)) tt
+]
 
 -- a stale dup goes
 pub laid_cleared : (sh : Shape) (v : Listed) (dups : List DupRow) (knobs : Knobs) (next : ℕ) (k w : KeeperView) (place : ℕ) → IsLaid sh v dups knobs next k → place < frames_of sh → w.table ≡ k.table → w.ledger ≡ record { frames = k.ledger.frames; places = set k.ledger.places place None } → IsLaid sh v (filter (elsewhere place) dups) knobs next w
@@ -207,17 +212,17 @@ spent_most sh v dups knobs next k h =
     let s = h.spent in
     omega (arith, s, most, short)
   where
-  product_most : (a b m n : ℕ) → a ≤ m → b ≤ n → a * b ≤ m * n
-  product_most a b m n le le' = grind (arith, le, le')
+    product_most : (a b m n : ℕ) → a ≤ m → b ≤ n → a * b ≤ m * n
+    product_most a b m n le le' = grind (arith, le, le')
 
 -- a row that waits no more, or is mergeable again, lodges as before
 pub settled_lodges : (r : Row) → LodgesAs (settled r) r
 settled_lodges r = (refl, refl, by r.state)
   where
-  by : (s : PageState) → (settled_state s ≡ s) ⊎ ((merged_state s ≡ false) × (merged_state (settled_state s) ≡ false))
-  by OwnPage = inl refl
-  by Waiting = inr (refl, refl)
-  by (Merged d) = inl refl
+    by : (s : PageState) → (settled_state s ≡ s) ⊎ ((merged_state s ≡ false) × (merged_state (settled_state s) ≡ false))
+    by OwnPage = inl refl
+    by Waiting = inr (refl, refl)
+    by (Merged d) = inl refl
 
 pub flagged_lodges : (test : Row → Bool) (r : Row) → LodgesAs (if test r then record r { mergeable = true } else r) r
 flagged_lodges test r = cond_both (test r) (record r { mergeable = true }) r (λ x. LodgesAs x r) (λ _. (refl, refl, inl refl)) (λ _. (refl, refl, inl refl))
@@ -254,10 +259,10 @@ module _ (sh : Shape) (v : Listed) (dups : List DupRow) (knobs : Knobs) (next : 
       let p : Placed sh knobs.merge_across_nodes cleared v.rows v.frames (filter (elsewhere d.place) dups) None = withdrawn sh knobs.merge_across_nodes k.ledger v.rows v.frames dups None d.place inside h.placed in
       let same_number : (n : ℕ) → n ≡ next → n ≡ d.number = λ n e. e ∙ sym number in
       let q = published sh knobs.merge_across_nodes cleared v.rows v.frames (filter (elsewhere d.place) dups) p spot at.inside d inside first own
-          (eq-eqb next d.number (sym number)) (λ n m. item_number n m ∙ sym number) refl refl (ap (λ (x : Row). x.bytes) (sym at.row_is)) bytes (λ z. ap (λ (x : Row). x.home) at.row_is ∙ tree z)
-          (λ n. ap (λ (x : Row). merged_into n x.state) at.row_is ∙ own_item row.state alone n) (ap (λ (x : Row). merged_state x.state) at.row_is ∙ alone)
-          (λ j lt. ap (λ n. merged_into n (row_in v.rows j).state) number ∙ fresh j no_row lt)
-          (All-filter (elsewhere d.place) (λ e. ¬ (e.number ≡ d.number)) dups (λ n x lt same. (let below = numbers n x lt in omega (arith, below, same, number)))) in
+      (eq-eqb next d.number (sym number)) (λ n m. item_number n m ∙ sym number) refl refl (ap (λ (x : Row). x.bytes) (sym at.row_is)) bytes (λ z. ap (λ (x : Row). x.home) at.row_is ∙ tree z)
+      (λ n. ap (λ (x : Row). merged_into n x.state) at.row_is ∙ own_item row.state alone n) (ap (λ (x : Row). merged_state x.state) at.row_is ∙ alone)
+      (λ j lt. ap (λ n. merged_into n (row_in v.rows j).state) number ∙ fresh j no_row lt)
+      (All-filter (elsewhere d.place) (λ e. ¬ (e.number ≡ d.number)) dups (λ n x lt same. (let below = numbers n x lt in omega (arith, below, same, number)))) in
       let ledger : w.ledger ≡ ledger_after w1.table.shape cleared (Publish d.place g) 0 = ap (λ (z : KeeperView). z.ledger) is ∙ (λ t. ledger_after w1.table.shape (empty t) (Publish d.place (sym at.frame_is t)) 0) in
       let within : g < length k.ledger.frames = (let long : length k.ledger.frames ≡ frames_of sh = h.placed.frames_long in let lt = fits.frame in omega (arith, long, lt)) in
       let more : spent (with_frame k.ledger g stable) + spent_on o ≡ spent k.ledger + o.generation = spent_set k.ledger g stable within in
@@ -267,12 +272,12 @@ module _ (sh : Shape) (v : Listed) (dups : List DupRow) (knobs : Knobs) (next : 
         small = h.small;
         same = ap (λ (z : KeeperView). z.table.shape) is ∙ ap (λ x. x.shape) table ∙ h.same;
         placed = subst (λ (z : Ledger × List Row × List ℕ × List DupRow). Placed sh knobs.merge_across_nodes z.0 z.1 z.2 z.3 None)
-          (λ t. (sym ledger t, sym rows t, sym (frames ∙ ap (set v.frames spot) (sym at.frame_is) ∙ set-get_or v.frames spot 0) t, (with_elsewhere d dups ∙ sym dups_are) t)) q;
+            (λ t. (sym ledger t, sym rows t, sym (frames ∙ ap (set v.frames spot) (sym at.frame_is) ∙ set-get_or v.frames spot 0) t, (with_elsewhere d dups ∙ sym dups_are) t)) q;
         spent = (let s = h.spent in let given = fits.given in omega (arith, s, more, was, now, given));
       }
     where
-    item_number : (n : ℕ) → merged_into n (Merged next) ≡ true → n ≡ next
-    item_number n m = grind (arith, nat_tests, m)
+      item_number : (n : ℕ) → merged_into n (Merged next) ≡ true → n ≡ next
+      item_number n m = grind (arith, nat_tests, m)
 
 -- where pages merge on their nodes alone, a row's tree is its home
 pub tree_is_home : (knobs : Knobs) (r : Row) → knobs.merge_across_nodes ≡ 0 → r.home ≡ tree_of knobs r

@@ -1,7 +1,7 @@
 -- What a visit finds, and what becomes of the rows.
-use Rattle.std.proofs.Common.{inl, inr, ◌≡◌, ℕ, ◌+◌, ◌<◌, ◌≤◌, Bool, true, false, List, [], ◌∷◌, length, get_or, Option, Some, None, refl, sym, ap, ◌∙◌, subst, arith, eq-eqb}
-use Rattle.std.specs.Prelude.{All, Contains, find, count_by, not, ◌&&◌, ◌||◌, ◌==◌, nat_le, nat_lt}
-use Rattle.std.proofs.lemmas.Bool.{cases_Bool, and_parts, eqb-true, leb-true, ltb-true, lt-ltb, not-true}
+use Rattle.std.proofs.Common.{inl, inr, ◌≡◌, ℕ, ◌+◌, ◌≤◌, true, false, List, [], ◌∷◌, get_or, Option, Some, None, refl, sym, ap, ◌∙◌, subst, arith, eq-eqb}
+use Rattle.std.specs.Prelude.{All, Contains, find, ◌&&◌, ◌||◌, nat_le, nat_lt}
+use Rattle.std.proofs.lemmas.Bool.{cases_Bool, and_parts, eqb-true, leb-true}
 use Rattle.std.proofs.lemmas.Bool.Decides.{nat_tests}
 use Rattle.std.proofs.lemmas.List.{get_or_default}
 use Rattle.std.proofs.lemmas.Option.{same_Some}
@@ -10,7 +10,7 @@ use Rattle.ksm_base.specs.declared.row.PageState.{PageState}
 use Rattle.ksm_base.specs.declared.row.PageState.TheVariants.{Private, Waiting, Merged}
 use Rattle.ksm_base.specs.declared.row.Row.{Row}
 use Rattle.ksm_base.specs.declared.row.DupRow.{DupRow}
-use Rattle.ksm_base.specs.Rows.{same_page, row_at, InPageOrder, change_row, change_rows, merged_state, merged_into, waiting_state, item_count, has_items, with_dup, dup_numbered}
+use Rattle.ksm_base.specs.Rows.{same_page, row_at, InPageOrder, change_row, change_rows, merged_state, merged_into, waiting_state, item_count, with_dup}
 use Rattle.ksm_base.specs.State.{BookState, place_count, tree_of}
 use Rattle.ksm_base.specs.Sound.{IsSound, IsDupOf}
 use Rattle.ksm_base.specs.Visit.{after_cursor, next_row, may_join, is_best, best_dup, waits_for, partner, new_place, paired, handled, row_visited}
@@ -24,8 +24,8 @@ use Rattle.ksm_base.proofs.SoundVisit.{IsJoined, best_dup_has_room}
 use Rattle.ksm_base.proofs.SoundScan.{next_row_visited}
 use Rattle.ksm_base.proofs.SoundPair.{IsFree, new_place_free, next_is_new, IsPair, partner_pairs, WaitsFor, waits_tells}
 use Rattle.ksm_base.proofs.SoundCounts.{joined_count}
-use Rattle.ksm_base.proofs.Pages.{same_page_refl, same_page_eq, same_page_sym}
-use Rattle.ksm_book.specs.Laid.{Lay, Joins, Founds, IsVacant, new_dup, state_of}
+use Rattle.ksm_base.proofs.Pages.{same_page_eq}
+use Rattle.ksm_book.specs.Laid.{Lay, Joins, Founds, new_dup, state_of}
 use Rattle.ksm_book.proofs.Found.{change_known}
 
 pub state_of_item : (n : ℕ) (s : PageState) → merged_into n s ≡ true → s ≡ Merged n
@@ -99,11 +99,11 @@ partner_founds lay cursor passes row w place s waits chosen =
       fresh = next_is_new b s;
     }
   where
-  vacant_at : (n : ℕ) → (nat_lt 0 n ≡ true → ⊥) → n ≡ 0
-  vacant_at n none = elim (cases_Bool (nat_lt 0 n)) [
+    vacant_at : (n : ℕ) → (nat_lt 0 n ≡ true → ⊥) → n ≡ 0
+    vacant_at n none = elim (cases_Bool (nat_lt 0 n)) [
       | inl some ↦ absurd (none some)
       | inr zero_is ↦ grind (arith, nat_tests, zero_is)
-      ]
+    ]
 
 -- rows of two pages get a state
 abbrev pub in_state : PageState → Row → Row
@@ -115,14 +115,14 @@ two_changes p q s (r ∷ rs) =
     let rest = two_changes p q s rs in
     elim (cases_Bool (same_page r.page p)) [
       | inl first ↦ elim (cases_Bool (same_page r.page q)) [
-          | inl second ↦ grind (arith, first, second, rest)
-          | inr second ↦ grind (arith, first, second, rest)
-          ]
-      | inr first ↦ elim (cases_Bool (same_page r.page q)) [
-          | inl second ↦ grind (arith, first, second, rest)
-          | inr second ↦ grind (arith, first, second, rest)
-          ]
+        | inl second ↦ grind (arith, first, second, rest)
+        | inr second ↦ grind (arith, first, second, rest)
       ]
+      | inr first ↦ elim (cases_Bool (same_page r.page q)) [
+        | inl second ↦ grind (arith, first, second, rest)
+        | inr second ↦ grind (arith, first, second, rest)
+      ]
+    ]
 
 -- the row of another page stays, that of the page is found changed
 pub row_elsewhere : (p q : GuestPage) (s : PageState) (rows : List Row) → same_page p q ≡ false → row_at q (change_row p (in_state s) rows) ≡ row_at q rows
@@ -134,26 +134,26 @@ row_elsewhere p q s (r ∷ rs) other =
           let not_q : same_page r.page q ≡ false = ap (λ x. same_page x q) (same_page_eq r.page p here) ∙ other in
           grind (arith, here, not_q, rest)
       | inr there ↦ grind (arith, there, rest)
-      ]
+    ]
 
 pub row_here : (p : GuestPage) (s : PageState) (rows : List Row) (r : Row) → row_at p rows ≡ Some r → row_at p (change_row p (in_state s) rows) ≡ Some (in_state s r)
 row_here p s [] r found = absurd (grind (arith, found))
 row_here p s (x ∷ xs) r found = elim (cases_Bool (same_page x.page p)) [
-    | inl here ↦
-        let is : x ≡ r = grind (arith, found, here) in
-        grind (arith, here, is)
-    | inr there ↦
-        let later : row_at p xs ≡ Some r = grind (arith, found, there) in
-        let rest = row_here p s xs r later in
-        grind (arith, there, rest)
-    ]
+  | inl here ↦
+      let is : x ≡ r = grind (arith, found, here) in
+      grind (arith, here, is)
+  | inr there ↦
+      let later : row_at p xs ≡ Some r = grind (arith, found, there) in
+      let rest = row_here p s xs r later in
+      grind (arith, there, rest)
+]
 
 contains_dup : (d : DupRow) (dups : List DupRow) → Contains (with_dup d dups) d
 contains_dup d dups = contains_middle (filter (λ e. nat_lt e.place d.place) dups) d (filter (λ e. nat_lt d.place e.place) dups)
   where
-  contains_middle : {X : Type 0} (xs : List X) (x : X) (ys : List X) → Contains (xs ++ x ∷ ys) x
-  contains_middle [] x ys = (0, omega arith, refl)
-  contains_middle (y ∷ xs) x ys = let rest = contains_middle xs x ys in (suc rest.0, (let lt = rest.1 in omega (arith, lt)), rest.2)
+    contains_middle : {X : Type 0} (xs : List X) (x : X) (ys : List X) → Contains (xs ++ x ∷ ys) x
+    contains_middle [] x ys = (0, omega arith, refl)
+    contains_middle (y ∷ xs) x ys = let rest = contains_middle xs x ys in (suc rest.0, (let lt = rest.1 in omega (arith, lt)), rest.2)
 
 -- a new dup was made of the waiting row: the visited one may join it
 module _ (lay : Lay) (cursor : Option GuestPage) (passes : ℕ) (row w : Row) (place : ℕ) (s : IsSound (state_of lay cursor passes)) (next : next_row cursor lay.rows ≡ Some row) (alone : merged_state row.state ≡ false) (waits : partner lay.knobs lay.rows row ≡ Some w) where

@@ -1,7 +1,7 @@
 -- A place is emptied, and the dup that stood there goes.
-use Rattle.std.proofs.Common.{inl, inr, ◌≡◌, ◌≢◌, ℕ, ◌<◌, ◌≤◌, ◌/◌, Bool, true, false, eqb, not, List, length, get_or, set, Option, Some, None, refl, sym, ap, ◌∙◌, subst, arith, length-set, get_or-set_same, get_or-set_other, eq-eqb}
+use Rattle.std.proofs.Common.{◌≡◌, ◌≢◌, ℕ, ◌<◌, ◌≤◌, ◌/◌, Bool, true, not, List, length, get_or, set, Option, None, sym, ap, ◌∙◌, subst, arith, length-set, get_or-set_same, get_or-set_other, eq-eqb}
 use Rattle.std.specs.Prelude.{All, filter, ◌==◌, is_some, slice_index}
-use Rattle.std.proofs.lemmas.List.Elements.{All-weaker, All-filter, filter_passes}
+use Rattle.std.proofs.lemmas.List.Elements.{All-filter, filter_passes}
 use Rattle.std.proofs.lemmas.Bool.{ne_eqb}
 use mathlib.Core.Logic.{dite}
 use native.Mathlib.Decide.{ℕ_discrete}
@@ -11,15 +11,15 @@ use Rattle.ksm_base.specs.declared.row.DupRow.{DupRow}
 use Rattle.ksm_base.specs.Values.{frames_of}
 use Rattle.frame_core.specs.declared.ledger.Ledger.{Ledger}
 use Rattle.frame_core.specs.Ledger.{frame_at, named_at}
-use Rattle.ksm_book.specs.Placement.{row_in, life_or, place_frame, place_life, IsInLife, RowFits, Agrees, DupFits, Placed}
+use Rattle.ksm_book.specs.Placement.{row_in, life_or, place_frame, IsInLife, RowFits, Agrees, DupFits, Placed}
 use Rattle.ksm_book.specs.Laid.{elsewhere}
 use Rattle.ksm_book.proofs.Moves.{filter_back}
 
 pub elsewhere_is : (q : ℕ) (d : DupRow) → elsewhere q d ≡ true → d.place ≢ q
 elsewhere_is q d e same = differ (d.place == q) e (eq-eqb d.place q same)
   where
-  differ : (b : Bool) → not b ≡ true → b ≡ true → ⊥
-  differ b e f = grind (arith, e, f)
+    differ : (b : Bool) → not b ≡ true → b ≡ true → ⊥
+    differ b e f = grind (arith, e, f)
 
 pub elsewhere_so : (q : ℕ) (d : DupRow) → d.place ≢ q → elsewhere q d ≡ true
 elsewhere_so q d ne = ap not (ne_eqb d.place q ne)
@@ -54,21 +54,22 @@ module _ (sh : Shape) (across : ℕ) (k : Ledger) (rows : List Row) (frames : Li
     each_row = λ i lt.
         let r : Row = row_in rows i in
         let f : ℕ = slice_index frames i in
-        let n : RowFits sh k r f = (p.each_row i lt).0 in
-        (record { frame = n.frame; kind = n.kind; content = n.content; given = n.given; node = n.node },
-         staying (Agrees k r f) (Agrees emptied r f) (λ e ne a. record {
+        let n : RowFits sh k r f = (p.each_row i lt).0 in (
+          record { frame = n.frame; kind = n.kind; content = n.content; given = n.given; node = n.node },
+          staying (Agrees k r f) (Agrees emptied r f) (λ e ne a. record {
             item = λ m. let y = a.item m in (y.0 ∙ sym (frame_off e ne), on e ne y.1);
             back = λ life same. a.back (off e ne life) (same ∙ frame_off e ne);
-          }) (p.each_row i lt).1);
+          }) (p.each_row i lt).1,
+        );
     each_dup = staying (DupFits sh across k) (DupFits sh across emptied) (λ e ne m. record {
-        place = m.place;
-        named = ap is_some (named_off e.place ne) ∙ m.named;
-        frame = subst (λ y. y < frames_of sh) (sym (frame_off e ne)) m.frame;
-        life = subst (λ (y : Option _). (life_or y).generation ≤ (frame_at k (life_or y).frame).generation) (sym (named_off e.place ne)) m.life;
-        content = λ life. ap (λ h. (frame_at k h).content) (frame_off e ne) ∙ m.content (off e ne life);
-        shown = λ life own. m.shown (off e ne life) (ap (λ h. (frame_at k h).kind) (sym (frame_off e ne)) ∙ own);
-        node = λ z. ap (λ h. h / sh.frames_per_node) (frame_off e ne) ∙ m.node z;
-      }) p.each_dup;
+      place = m.place;
+      named = ap is_some (named_off e.place ne) ∙ m.named;
+      frame = subst (λ y. y < frames_of sh) (sym (frame_off e ne)) m.frame;
+      life = subst (λ (y : Option _). (life_or y).generation ≤ (frame_at k (life_or y).frame).generation) (sym (named_off e.place ne)) m.life;
+      content = λ life. ap (λ h. (frame_at k h).content) (frame_off e ne) ∙ m.content (off e ne life);
+      shown = λ life own. m.shown (off e ne life) (ap (λ h. (frame_at k h).kind) (sym (frame_off e ne)) ∙ own);
+      node = λ z. ap (λ h. h / sh.frames_per_node) (frame_off e ne) ∙ m.node z;
+    }) p.each_dup;
     bases = p.bases;
     kinds = p.kinds;
     empty = λ r h. dite (ℕ_discrete r q)

@@ -1,5 +1,5 @@
 -- What the keeper does where a dup moves to another frame (own).
-use Rattle.std.specs.Prelude.{◌≡◌, ℕ, ◌+◌, ◌*◌, [], ◌∷◌, slice_set, Contains, Option, Some, Result, Ok, Err}
+use Rattle.std.specs.Prelude.{◌≡◌, ℕ, ◌+◌, ◌*◌, [], ◌∷◌, slice_set, Contains, Some, Result, Ok, Err}
 use Rattle.ksm_base.specs.declared.fault.Fault.{Fault}
 use Rattle.ksm_base.specs.declared.fault.Fault.TheVariants.{NoFrame, InUse}
 use Rattle.frame_core.specs.declared.event.KeeperStep.TheVariants.{Raise, Publish}

@@ -6,7 +6,6 @@ ghost use Rattle.ksm_base.specs.declared.fault.Fault.TheVariants.{Memory};
 ghost use Rattle.ksm_base.specs.Counting.{group_size as size_of_group, in_chain as is_in_chain, leads_group as is_leading};
 ghost use Rattle.ksm_base.specs.Rows.{item_count as items_of, has_items as is_live, is_stale as stale, same_group as in_same_group, InPlaceOrder, with_dup, dup_numbered};
 ghost use Rattle.ksm_base.specs.Visit.{may_join as is_candidate, is_no_worse as no_worse_than, best_dup as the_best, is_no_rival as no_rival, is_best as best_one, empty_place as an_empty_place, new_place as a_new_place};
-
 ghost use Rattle.ksm_book.specs.Laid.{IsVacant};
 
 use crate::row::{same_bytes, tree_of};

@@ -218,7 +218,8 @@ impl Layout {
         ensures fault { OnErr result (result ≡ Err Memory) }
     {
         self.rows.insert(row, 0)?;
-        let Some(frame) = take_frame(&mut self.keeper, table, self.shape, row.home, row.bytes) else {
+        let Some(frame) = take_frame(&mut self.keeper, table, self.shape, row.home, row.bytes)
+        else {
             self.rows.remove(row.page);
             return Ok(false);
         };
@@ -238,7 +239,8 @@ impl Layout {
         let Some(held) = self.rows.find(row.page) else {
             return false;
         };
-        let Some(frame) = take_frame(&mut self.keeper, table, self.shape, row.home, row.bytes) else {
+        let Some(frame) = take_frame(&mut self.keeper, table, self.shape, row.home, row.bytes)
+        else {
             return false;
         };
         self.rows.replace(row, frame);
@@ -281,11 +283,11 @@ impl Layout {
         ensures state { self.new ≡ record self.old { rows = without_page page self.old.rows; keeper = self.new.keeper } }
         ensures does { Does self.old.keeper self.new.keeper [] }
     {
-        let Some(held) = self.rows.find(page) else {
+        let Some(gone) = self.rows.find(page) else {
             return;
         };
         self.rows.remove(page);
-        release(&mut self.keeper, table, held.frame);
+        release(&mut self.keeper, table, gone.frame);
     }
 
     /// No page waits any more.
@@ -334,7 +336,7 @@ impl Layout {
         ensures state { self.new ≡ record self.old { rows = change_row row.page (λ _. record row { state = item.state }) self.old.rows; keeper = self.new.keeper } }
         ensures does { Does self.old.keeper self.new.keeper [] }
     {
-        let Some(held) = self.rows.find(row.page) else {
+        let Some(lone) = self.rows.find(row.page) else {
             return;
         };
         let Some(other) = self.rows.find(item.page) else {
@@ -348,7 +350,7 @@ impl Layout {
             },
             other.frame,
         );
-        release(&mut self.keeper, table, held.frame);
+        release(&mut self.keeper, table, lone.frame);
     }
 
     /// A new dup stands at a place, on the frame of a row that has one of its own and becomes its first item. A stale dup at the place goes first. Refused for memory alone.

@@ -8,10 +8,14 @@ mod frames;
 mod knobs;
 mod layout;
 mod mounting;
+mod moving;
 mod row;
 mod rows;
 mod scan;
 mod state;
+mod unmerging;
 
 pub use book::Book;
-mod unmerging;
+
+#[cfg(test)]
+mod tests;

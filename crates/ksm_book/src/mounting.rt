@@ -47,14 +47,7 @@ fn add_times(keeper: &mut Keeper, table: &FrameTable, frame: u32, count: u64)
 }
 
 /// A free frame gets the bytes of a dying one and so many references, and the place names it.
-pub fn mount(
-    keeper: &mut Keeper,
-    table: &FrameTable,
-    left: u32,
-    frame: u32,
-    place: u32,
-    count: u64,
-)
+pub fn mount(keeper: &mut Keeper, table: &FrameTable, left: u32, frame: u32, place: u32, count: u64)
     requires own { keeper.old.table ≡ table.now }
     requires inside { frame < frames_of keeper.old.table.shape }
     requires within { frame < length keeper.old.ledger.frames }

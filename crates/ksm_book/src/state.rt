@@ -106,7 +106,12 @@ impl State {
     }
 
     /// Stores to a page.
-    pub fn store(&mut self, table: &FrameTable, page: GuestPage, bytes: PageBytes) -> Result<Reply, Fault>
+    pub fn store(
+        &mut self,
+        table: &FrameTable,
+        page: GuestPage,
+        bytes: PageBytes,
+    ) -> Result<Reply, Fault>
         requires own { self.old.keeper.table ≡ table.now }
         ensures own { self.new.keeper.table ≡ self.old.keeper.table }
         ensures answer { IsAnswerOrMemory self.old.state (Command.Store page bytes) result }
@@ -209,7 +214,12 @@ impl State {
     }
 
     /// Moves a page to a node.
-    pub fn move_page(&mut self, table: &FrameTable, page: GuestPage, node: u32) -> Result<Reply, Fault>
+    pub fn move_page(
+        &mut self,
+        table: &FrameTable,
+        page: GuestPage,
+        node: u32,
+    ) -> Result<Reply, Fault>
         requires own { self.old.keeper.table ≡ table.now }
         ensures own { self.new.keeper.table ≡ self.old.keeper.table }
         ensures answer { IsAnswerOrMemory self.old.state (Command.MovePage page node) result }

@@ -8,7 +8,9 @@ use smallvec::SmallVec;
 use std::alloc::Global;
 use std::marker::Model;
 
-/// The pages that are mapped to one merged page, in ascending order, each once and at most 1,024.
+/// The pages that are mapped to one merged page, in ascending order, each once and at most 1,024 (mm/ksm, the reverse map).
+///
+/// `add` and `remove` cost the logarithm of the number of pages, and a move of those behind.
 #[derive(Drop)]
 pub struct Items {
     pages: SmallVec<GuestPage, 8>,

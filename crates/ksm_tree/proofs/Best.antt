@@ -1,20 +1,19 @@
 -- The best dup to join: a walk over a group, keeping the better of two, ends at the one that the definition chooses of all.
-use Rattle.std.proofs.Common.{◌≡◌, ◌∙◌, ℕ, suc, ◌<◌, ◌≤◌, Bool, true, false, List, [], ◌∷◌, ◌++◌, length, get_or, map, append_assoc, append-nil, Option, None, Some, refl, sym, ap, inl, inr, arith}
-use Rattle.std.specs.Prelude.{◌==◌, ◌&&◌, ◌||◌, not, nat_lt, nat_le, All, filter, find, option_map, bytes_eq, if◌then◌else◌}
+use Rattle.std.proofs.Common.{◌≡◌, ◌∙◌, ℕ, ◌<◌, Bool, true, false, List, [], ◌∷◌, ◌++◌, append_assoc, append-nil, Option, None, Some, refl, sym, ap, inl, inr, arith}
+use Rattle.std.specs.Prelude.{◌==◌, ◌&&◌, ◌||◌, not, All, find, if◌then◌else◌}
 use Rattle.std.specs.List.{list_all}
 use Rattle.std.proofs.lemmas.Bool.{and_parts, cases_Bool, false≢true}
 use Rattle.std.proofs.lemmas.Bool.Decides.{nat_tests}
 use Rattle.std.proofs.lemmas.Option.{none-some, same_Some}
 use Rattle.std.proofs.lemmas.List.Elements.{All-head, All-tail, All-append, All-weaker, All-cons}
-use Rattle.ksm_base.specs.declared.row.DupRow.{DupRow}
 use Rattle.ksm_base.specs.Rows.{InPlaceOrder}
 use Rattle.ksm_rmap.proofs.Ordered.{pairs_head, pairs_tail}
 use Rattle.ksm_tree.specs.declared.dup.Dup.{Dup}
-use Rattle.ksm_tree.specs.Choosing.{may_join, is_no_worse, is_no_rival, is_best, best_of, has_room, better}
-use Rattle.ksm_tree.specs.Dups.{rows_of, stands_at, dup_at}
+use Rattle.ksm_tree.specs.Choosing.{may_join, is_no_worse, best_of, better}
+use Rattle.ksm_tree.specs.Dups.{rows_of, dup_at}
 use Rattle.ksm_tree.specs.Index.{in_group, group_places}
 use Rattle.ksm_tree.proofs.Changes.{all_rows}
-use Rattle.ksm_tree.proofs.Rows.{found_in, found_passes}
+use Rattle.ksm_tree.proofs.Rows.{found_passes}
 
 -- the order of dups to join
 worse_refl : (d : Dup) → is_no_worse d d ≡ true

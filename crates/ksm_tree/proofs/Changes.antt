@@ -1,8 +1,7 @@
 -- Dups and their rows: what a dup that comes or goes and a change of items changes of the rows, and where a dup is found.
-use Rattle.std.proofs.Common.{◌≡◌, ◌∙◌, ℕ, suc, ◌<◌, Bool, true, false, List, [], ◌∷◌, ◌++◌, length, get_or, map, Option, None, Some, refl, sym, ap, inl, inr, arith}
-use Rattle.std.specs.Prelude.{◌==◌, not, nat_lt, All, filter, find, option_map, is_some, if◌then◌else◌}
+use Rattle.std.proofs.Common.{◌≡◌, ◌∙◌, ℕ, Bool, List, [], ◌∷◌, ◌++◌, get_or, map, Option, None, Some, refl, sym, ap, inl, inr, arith}
+use Rattle.std.specs.Prelude.{◌==◌, not, nat_lt, All, filter, find, option_map, if◌then◌else◌}
 use Rattle.std.proofs.lemmas.Bool.{cases_Bool}
-use Rattle.std.proofs.lemmas.Bool.Decides.{nat_tests}
 use Rattle.std.proofs.lemmas.Option.{none-some, same_Some}
 use Rattle.std.proofs.lemmas.List.Elements.{All-head, All-tail, All-cons}
 use Rattle.ksm_base.specs.declared.page.GuestPage.{GuestPage}
@@ -12,7 +11,7 @@ use Rattle.ksm_tree.specs.declared.dup.Dup.{Dup}
 use Rattle.ksm_tree.specs.Dups.{rows_of, has_number, stands_at, dup_of, dup_at, with_new, without_place, change_items}
 use Rattle.ksm_tree.specs.Index.{row_place}
 use Rattle.ksm_tree.specs.Slots.{change_at}
-use Rattle.ksm_tree.proofs.Rows.{only_number, found_in, found_passes, IsThat}
+use Rattle.ksm_tree.proofs.Rows.{only_number}
 
 -- the rows of a filtered list
 rows_filtered : (test : Dup → Bool) (by : DupRow → Bool) → ((d : Dup) → test d ≡ by d.row) → (dups : List Dup) → rows_of (filter test dups) ≡ filter by (rows_of dups)

@@ -1,23 +1,23 @@
 -- The index over dups: what it finds, and how it stays with a change of items and with a dup that goes.
-use Rattle.std.proofs.Common.{◌≡◌, ◌∙◌, ℕ, ◌+◌, ◌<◌, Bool, true, false, List, [], ◌∷◌, map, Option, None, Some, refl, sym, ap, inl, inr, cond, arith}
-use Rattle.std.specs.Prelude.{◌==◌, ◌&&◌, not, All, filter, find, option_map, is_some, bytes_eq, if◌then◌else◌}
+use Rattle.std.proofs.Common.{◌≡◌, ◌∙◌, ℕ, ◌<◌, Bool, true, false, List, [], ◌∷◌, Option, None, Some, refl, sym, ap, inl, inr, arith}
+use Rattle.std.specs.Prelude.{◌==◌, ◌&&◌, not, All, find, option_map, is_some, bytes_eq, if◌then◌else◌}
 use Rattle.std.proofs.lemmas.Bool.{cases_Bool, eqb-true, false≢true}
 use Rattle.std.proofs.lemmas.Bool.Decides.{nat_tests}
-use Rattle.std.proofs.lemmas.Option.{none-some, same_Some}
+use Rattle.std.proofs.lemmas.Option.{none-some}
 use Rattle.std.proofs.lemmas.List.Elements.{All-filter, All-weaker}
 use Rattle.std.proofs.lemmas.List.Kept.{AllPairs-filter}
 use Rattle.ksm_base.specs.declared.page.GuestPage.{GuestPage}
 use Rattle.ksm_base.specs.declared.row.DupRow.{DupRow}
-use Rattle.ksm_base.specs.Rows.{InPlaceOrder, with_dup}
+use Rattle.ksm_base.specs.Rows.{InPlaceOrder}
 use Rattle.ksm_tree.specs.declared.dup.Dup.{Dup}
 use Rattle.ksm_tree.specs.declared.index.Index.{Index}
-use Rattle.ksm_tree.specs.Dups.{AreDups, rows_of, has_number, stands_at, dup_of, dup_at, with_new, without_place, change_items}
-use Rattle.ksm_tree.specs.Index.{AreIndexed, dups_seen, in_group, place_of, places_of, row_place, group_places}
+use Rattle.ksm_tree.specs.Dups.{rows_of, has_number, stands_at, dup_of, dup_at, without_place, change_items}
+use Rattle.ksm_tree.specs.Index.{AreIndexed, in_group, place_of, places_of, row_place, group_places}
 use Rattle.ksm_tree.specs.Places.{without}
 use Rattle.ksm_tree.specs.Slots.{SlotsState, change_at}
 use Rattle.ksm_tree.proofs.Keys.{eq_bytes}
 use Rattle.ksm_tree.proofs.Rows.{only_one, place_gone, group_elsewhere, group_unlike, found_passes, IsOne}
-use Rattle.ksm_tree.proofs.Changes.{rows_changed, rows_without, rows_new, row_found, number_place_found, number_place_changed, unknown_found, unknown_changed}
+use Rattle.ksm_tree.proofs.Changes.{rows_changed, rows_without, row_found, number_place_found, number_place_changed, unknown_found, unknown_changed}
 
 row_some : {p : ℕ} (r : Option DupRow) → option_map (λ e. e.place) r ≡ Some p → is_some r ≡ true
 row_some {p} None is = absurd (none-some p is)

@@ -1,5 +1,5 @@
 -- The keys of the maps: equal where tree and bytes are.
-use Rattle.std.proofs.Common.{◌≡◌, ◌∙◌, ℕ, List, [], ◌∷◌, Bool, nat_cmp, Less, Equal, Greater, refl, arith}
+use Rattle.std.proofs.Common.{◌≡◌, ◌∙◌, ℕ, List, [], ◌∷◌, nat_cmp, Less, Equal, Greater, refl, arith}
 use Rattle.std.specs.Prelude.{map, ◌&&◌, ◌==◌, bytes_eq}
 use Rattle.std.specs.Ordering.{is_eq, ordering_then}
 use Rattle.std.specs.declared.cmp.Ordering.{Ordering}

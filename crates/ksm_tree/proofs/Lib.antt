@@ -9,3 +9,4 @@ pub mod Numbers
 pub mod OneSlot
 pub mod Opened
 pub mod Rows
+pub mod Tied

@@ -1,12 +1,11 @@
 -- Slots that are all empty.
-use Rattle.std.proofs.Common.{◌≡◌, ◌∙◌, ℕ, zero, suc, ◌+◌, ◌<◌, ◌≤◌, List, [], ◌∷◌, ◌++◌, length, replicate, None, Option, refl, sym, ap, add-one, arith}
-use Rattle.std.specs.Prelude.{nat_lt, filter}
+use Rattle.std.proofs.Common.{◌≡◌, ◌∙◌, ℕ, zero, suc, ◌+◌, ◌<◌, ◌≤◌, List, [], ◌∷◌, length, replicate, None, Option, refl, ap, add-one, arith}
 use Rattle.std.specs.List.{range_with_len}
 use Rattle.std.proofs.lemmas.Bool.Decides.{nat_tests}
 use Rattle.smallvec.specs.SmallVec.{SmallVec}
 use Rattle.ksm_tree.specs.declared.dup.Dup.{Dup}
 use Rattle.ksm_tree.specs.Places.{with_place}
-use Rattle.ksm_tree.specs.Slots.{SlotsState, slots_seen, present, is_empty_slot, is_stale_slot, places_where, ArePlaced, AreSlots}
+use Rattle.ksm_tree.specs.Slots.{slots_seen, present, is_empty_slot, is_stale_slot, places_where, ArePlaced, AreSlots}
 
 abbrev pub none_of : ℕ → List (Option Dup)
 none_of n = replicate n None

@@ -1,5 +1,5 @@
 -- The groups: the dups of one tree and one content (mm/ksm: a chain links the copies of one content).
-use Rattle.std.specs.Prelude.{ℕ, Bool, ◌&&◌, ◌==◌, List, [], bytes_eq, option_map, find, Option, Some, None}
+use Rattle.std.specs.Prelude.{ℕ, Bool, ◌&&◌, ◌==◌, List, [], bytes_eq, find, Option, Some, None}
 use Rattle.ksm_tree.specs.declared.content.Content.{Content}
 use Rattle.ksm_tree.specs.declared.places.Places.{Places}
 

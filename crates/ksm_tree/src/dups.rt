@@ -14,7 +14,9 @@ use ksm_rmap::Items;
 use std::alloc::Global;
 use std::marker::Model;
 
-/// The dups with their items, by place, by number, and by tree and bytes.
+/// The dups with their items, by place, by number, and by tree and bytes (mm/ksm, stable nodes and their chains).
+///
+/// A look-up by number or by content costs the logarithm of how many there are, and `best` the length of the chain too. Room for every place is taken at the start, so only a new dup and a new item may want memory.
 #[derive(Drop)]
 pub struct Dups {
     alloc: Global,

@@ -7,7 +7,7 @@ use std::alloc::Global;
 use std::collections::BTreeMap;
 use std::marker::Model;
 
-/// The pages that wait for an equal one: at most one of each tree and bytes.
+/// The pages that wait for an equal one: at most one of each tree and bytes (mm/ksm, the unstable tree).
 ///
 /// Each call costs the logarithm of their number, but `clear`, which costs their number.
 #[derive(Drop)]

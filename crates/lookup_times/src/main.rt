@@ -8,8 +8,7 @@
 mod table;
 mod worker;
 
-use std::env;
-use std::io;
+use std::{env, io};
 use table::run;
 
 /// Where lookups go, in how many threads, and how many each makes.

@@ -36,14 +36,7 @@ impl Layout {
         if !self.keeper.freeze(table, held.frame) {
             return Err(Fault::InUse);
         }
-        mount(
-            &mut self.keeper,
-            table,
-            held.frame,
-            frame,
-            dup.place,
-            items,
-        );
+        mount(&mut self.keeper, table, held.frame, frame, dup.place, items);
         self.rows.move_frames(held.frame, frame);
         Ok(())
     }

@@ -15,5 +15,5 @@ loop-i-preserved c = record {
 pub returns-then-word-page : goal.returns-then-word-page
 returns-then-word-page c = (
   reads_more c.args.held.now c.loop-i.held c.word.new.self c.loop-i.i c.word.result c.loop-i.invariant.hold c.word.ensures,
-  (c.loop-i.i, c.word.result, c.loop-i-test.true, c.word.ensures.2, c.if-word-page.true),
+  (c.loop-i.i, c.word.result, omega arith, c.word.ensures.2, c.if-word-page.true),
 )

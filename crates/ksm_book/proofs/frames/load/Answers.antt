@@ -1,4 +1,4 @@
-use Rattle.std.proofs.Common.{◌≡◌, ◌∙◌, ◌<◌, ℕ, List, length, get_or, set, replicate, sym, ap, subst, arith}
+use Rattle.std.proofs.Common.{◌≡◌, ◌∙◌, ◌<◌, ℕ, List, length, get_or, set, replicate, sym, ap, arith}
 use Rattle.std.specs.Prelude.{slice_index}
 use Rattle.ksm_base.specs.declared.page.TheConstants.{PAGE_WORDS}
 use Rattle.frame_core.specs.Ledger.{frame_at}

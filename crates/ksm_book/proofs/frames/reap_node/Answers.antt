@@ -1,4 +1,4 @@
-use Rattle.std.proofs.Common.{◌≡◌, ◌<◌, ◌≤◌, ◌+◌, ℕ, length, sym, ap, ◌∙◌, subst, arith}
+use Rattle.std.proofs.Common.{◌≡◌, ◌<◌, ◌+◌, ℕ, length, sym, ap, ◌∙◌, subst, arith}
 use Rattle.ksm_base.specs.Values.{frames_of}
 use Rattle.frame_core.specs.declared.frame.Kind.TheVariants.{Dying}
 use Rattle.frame_core.specs.Ledger.{frame_at}
@@ -23,16 +23,16 @@ loop-i-preserved c =
     let within : low + n < length w.ledger.frames = omega arith in
     let kind : c.is_dying.result ≡ dying_kind (frame_at w.ledger (low + n)).kind = c.is_dying.ensures ∙ ap dying_kind c.kind.ensures in
     elim c.if-is_dying.branch [
-      then-is_dying b ↦
-        let dying : (frame_at w.ledger (low + n)).kind ≡ Dying = is_dying_kind _ (sym kind ∙ b.if-is_dying.true) in
-        let is = b.reap.ensures in
-        record {
-          own = ap (λ x. x.table) (b.keeper-is ∙ is.1) ∙ c.loop-i.invariant.own;
-          reaped = reaped_one v w c.if-is_dying.keeper low n so_far is.0 inside within dying (b.keeper-is ∙ is.1);
-        }
-    | else-is_dying b ↦
-        record {
-          own = ap (λ x. x.table) b.keeper-is ∙ c.loop-i.invariant.own;
-          reaped = subst (λ (x : KeeperView). Reaped v x low (n + 1)) (sym b.keeper-is) (reaped_none v w w low n so_far (not_dying_kind _ (sym kind ∙ b.if-is_dying.false)));
-        }
+      | then-is_dying b ↦
+          let dying : (frame_at w.ledger (low + n)).kind ≡ Dying = is_dying_kind _ (sym kind ∙ b.if-is_dying.true) in
+          let is = b.reap.ensures in
+          record {
+            own = ap (λ x. x.table) (b.keeper-is ∙ is.1) ∙ c.loop-i.invariant.own;
+            reaped = reaped_one v w c.if-is_dying.keeper low n so_far is.0 inside within dying (b.keeper-is ∙ is.1);
+          }
+      | else-is_dying b ↦
+          record {
+            own = ap (λ x. x.table) b.keeper-is ∙ c.loop-i.invariant.own;
+            reaped = subst (λ (x : KeeperView). Reaped v x low (n + 1)) (sym b.keeper-is) (reaped_none v w w low n so_far (not_dying_kind _ (sym kind ∙ b.if-is_dying.false)));
+          }
     ]

@@ -1,5 +1,5 @@
 use Rattle.std.proofs.Common.{None}
-use Rattle.ksm_book.proofs.Filling.{shared, shared_spends, some_base}
+use Rattle.ksm_book.proofs.Filling.{shared, shared_spends}
 use Rattle.ksm_book.proofs.Keeping.{known_frame}
 use Rattle.ksm_book.proofs.frames.share.Goals as goal
 

@@ -1,8 +1,7 @@
-use Rattle.std.proofs.Common.{◌≡◌, ◌<◌, ◌*◌, ◌∙◌, ℕ, length, sym, ap, subst, rules, arith}
+use Rattle.std.proofs.Common.{◌≡◌, ◌<◌, ◌*◌, ◌∙◌, ℕ, length, sym, ap, subst, rules}
 use Rattle.ksm_base.specs.declared.page.TheConstants.{PAGE_WORDS}
 use Rattle.ksm_base.specs.declared.shape.Shape.{Shape}
 use Rattle.ksm_base.specs.Values.{frames_of}
-use Rattle.frame_core.specs.declared.frame.Kind.TheVariants.{Filling}
 use Rattle.frame_core.specs.Ledger.{frame_at, IsWritable}
 use Rattle.frame_table.specs.Named.{KeeperView}
 use Rattle.ksm_book.specs.Steps.{IsLowestFree, HasNoFree}
@@ -58,9 +57,10 @@ open-requires-clause-may c =
     let less = less_there v c.args.shape c.args.node c.requires.shape c.requires.node in
     let table : c.write.new.keeper.table ≡ v.table = c.write.ensures.own ∙ ap (λ (x : KeeperView). x.table) c.raise.ensures.1 ∙ c.reap_node.ensures.own in
     let frame = inside v w c.args.node c.args.bytes c.in-Some.frame c.raise.ensures.0 reaped low c.reap_node.ensures.own less c.requires.lawful in
-    let wrote = subst (λ (x : KeeperView). Wrote x c.write.new.keeper c.in-Some.frame c.args.bytes) c.raise.ensures.1 c.write.ensures.wrote in
-    (subst (λ x. c.in-Some.frame < frames_of x.shape) (sym table) frame,
-     written_kind v w c.args.node c.args.bytes c.in-Some.frame c.raise.ensures.0 reaped low c.reap_node.ensures.own less c.requires.lawful c.write.new.keeper wrote)
+    let wrote = subst (λ (x : KeeperView). Wrote x c.write.new.keeper c.in-Some.frame c.args.bytes) c.raise.ensures.1 c.write.ensures.wrote in (
+      subst (λ x. c.in-Some.frame < frames_of x.shape) (sym table) frame,
+      written_kind v w c.args.node c.args.bytes c.in-Some.frame c.raise.ensures.0 reaped low c.reap_node.ensures.own less c.requires.lawful c.write.new.keeper wrote,
+    )
 
 pub returns-clause-took : goal.returns-clause-took
 returns-clause-took c =

@@ -1,6 +1,6 @@
-use Rattle.std.proofs.Common.{◌≡◌, ◌∙◌, ◌<◌, ℕ, length, sym, ap, rules, arith}
+use Rattle.std.proofs.Common.{◌≡◌, ◌∙◌, length, sym, ap, rules, arith}
 use Rattle.ksm_base.specs.declared.page.TheConstants.{PAGE_WORDS}
-use Rattle.ksm_book.proofs.Filling.{wrote_one, wrote_all}
+use Rattle.ksm_book.proofs.Filling.{wrote_one}
 use Rattle.ksm_book.proofs.frames.write.Goals as goal
 
 pub loop-i-preserved : goal.loop-i-preserved

@@ -1,7 +1,6 @@
 use Rattle.std.proofs.Common.{◌≡◌, ◌∙◌, ap, rules}
 use Rattle.std.specs.Prelude.{filter, not, ◌==◌}
 use Rattle.std.proofs.lemmas.Fn.{filter_same}
-use Rattle.ksm_base.specs.declared.row.DupRow.{DupRow}
 use Rattle.ksm_book.proofs.Lists.{ordered_filter}
 use Rattle.ksm_book.proofs.dups.Dups.remove.Goals as goal
 

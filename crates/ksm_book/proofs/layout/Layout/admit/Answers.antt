@@ -1,6 +1,5 @@
-use Rattle.std.proofs.Common.{◌≡◌, ◌∙◌, ◌≤◌, ◌∷◌, [], List, ℕ, length, refl, ap, sym, subst, arith}
+use Rattle.std.proofs.Common.{◌≡◌, ◌∙◌, ◌∷◌, [], refl, ap, sym, subst, arith}
 use Rattle.std.specs.Prelude.{insert, remove, slice_set}
-use Rattle.ksm_base.specs.declared.row.Row.{Row}
 use Rattle.ksm_base.specs.Rows.{with_row}
 use Rattle.ksm_book.specs.Laid.{Lay}
 use Rattle.ksm_book.specs.Listed.{Listed, rank}
@@ -25,8 +24,8 @@ invariant_of-self-in_default c =
     let b = c.self.inside in
     let sought = c.in_default.ensures.took in
     laid_same b.shape b.rows b.dups b.knobs b.next c.take_frame.new.keeper
-      (laid_kept b.shape b.rows b.dups b.knobs b.next b.keeper c.self.invariant c.take_frame.new.keeper c.take_frame.ensures.own sought.keeps sought.spent)
-      c.remove.new.self c.take_frame.new.keeper (rows_back c) (frames_back c) refl refl
+    (laid_kept b.shape b.rows b.dups b.knobs b.next b.keeper c.self.invariant c.take_frame.new.keeper c.take_frame.ensures.own sought.keeps sought.spent)
+    c.remove.new.self c.take_frame.new.keeper (rows_back c) (frames_back c) refl refl
 
 pub returns-in_default-clause-housed : goal.returns-in_default-clause-housed
 returns-in_default-clause-housed c =

@@ -1,5 +1,4 @@
-use Rattle.std.proofs.Common.{◌≡◌, Some, sym, ap, ◌∙◌, subst}
-use Rattle.ksm_base.specs.declared.row.Row.{Row}
+use Rattle.std.proofs.Common.{sym, ap, ◌∙◌}
 use Rattle.ksm_base.specs.Rows.{row_at}
 use Rattle.ksm_book.specs.Laid.{LodgesAs}
 use Rattle.ksm_book.proofs.Laying.{laid_amended, known_as}
@@ -11,4 +10,4 @@ invariant_of-self c =
     let held = c.in-Some.held in
     let at = c.in-Some.ensures.at in
     laid_amended b.shape b.rows b.dups b.knobs b.next b.keeper c.self.invariant held.row held.frame c.args.row at c.replace.new.self
-      (known_as (LodgesAs c.args.row) c.args.self.now.rows c.args.row held.row (ap (λ x. row_at c.args.row.page x.rows) (sym c.self.view_is) ∙ at.found) c.requires) c.replace.ensures.rows c.replace.ensures.frames
+    (known_as (LodgesAs c.args.row) c.args.self.now.rows c.args.row held.row (ap (λ x. row_at c.args.row.page x.rows) (sym c.self.view_is) ∙ at.found) c.requires) c.replace.ensures.rows c.replace.ensures.frames

@@ -1,4 +1,4 @@
-use Rattle.std.proofs.Common.{◌≡◌, ◌<◌, ℕ, sym, ap, subst, rules}
+use Rattle.std.proofs.Common.{◌<◌, sym, subst}
 use Rattle.ksm_base.specs.Values.{frames_of}
 use Rattle.ksm_book.specs.Laid.{Lay, IsLaid, IsVacant}
 use Rattle.ksm_book.proofs.Sharing.{vacant_loose, laid_cleared}
@@ -13,4 +13,4 @@ pub invariant_of-self : goal.invariant_of-self
 invariant_of-self c =
     let b = c.self.inside in
     subst (λ z. IsLaid b.shape b.rows z b.knobs b.next c.clear.new.keeper) (sym c.remove.ensures)
-      (laid_cleared b.shape b.rows b.dups b.knobs b.next b.keeper c.clear.new.keeper c.args.place c.self.invariant (subst (λ (x : Lay). c.args.place < frames_of x.shape) (sym c.self.view_is) c.requires.inside) c.clear.ensures.own c.clear.ensures.ledger)
+    (laid_cleared b.shape b.rows b.dups b.knobs b.next b.keeper c.clear.new.keeper c.args.place c.self.invariant (subst (λ (x : Lay). c.args.place < frames_of x.shape) (sym c.self.view_is) c.requires.inside) c.clear.ensures.own c.clear.ensures.ledger)

@@ -1,7 +1,7 @@
-use Rattle.std.proofs.Common.{◌≡◌, ◌∙◌, ◌<◌, ◌≤◌, ◌^◌, ℕ, false, [], Some, refl, sym, ap, subst, arith}
+use Rattle.std.proofs.Common.{◌≡◌, ◌∙◌, ◌<◌, ◌≤◌, ◌^◌, false, [], refl, sym, ap, subst, arith}
 use Rattle.std.specs.Prelude.{All}
 use Rattle.ksm_base.specs.declared.row.DupRow.{DupRow}
-use Rattle.ksm_base.specs.Rows.{row_at, merged_into}
+use Rattle.ksm_base.specs.Rows.{merged_into}
 use Rattle.frame_core.specs.declared.event.KeeperStep.TheVariants.{Publish}
 use Rattle.ksm_base.specs.Values.{frames_of}
 use Rattle.ksm_book.specs.Laid.{Lay, Founds, IsVacant}
@@ -30,8 +30,8 @@ invariant_of-self-2 c =
     let at : StandsAt b.rows c.args.row.page c.args.row c.in-Some.held.frame = stands_as b.rows c.args.self.now.rows c.args.row.page c.in-Some.held.row c.args.row c.in-Some.held.frame c.in-Some.ensures.at (ap (λ (x : Lay). x.rows) c.self.view_is) founds.row_is in
     let d : DupRow = record { number = b.next; place = c.args.place; tree = c.tree_of.result; bytes = c.args.row.bytes } in
     laid_found b.shape b.rows b.dups b.knobs b.next b.keeper c.self.invariant c.args.row c.in-Some.held.frame at founds.alone d refl (subst (λ (x : Lay). c.args.place < frames_of x.shape) (sym c.self.view_is) founds.inside)
-      c.replace.new.self c.put.new.self c.clear.new.keeper c.publish.new.self c.clear.ensures.own c.clear.ensures.ledger c.publish.ensures c.in_ok-put.ensures.ok refl (λ z. tree_is_home b.knobs c.args.row z ∙ sym c.tree_of.ensures)
-      (subst (λ (x : Lay). All (λ d. d.number < x.next) x.dups) (sym c.self.view_is) founds.numbers) (subst (λ (x : Lay). All (λ r. merged_into x.next r.state ≡ false) x.rows) (sym c.self.view_is) founds.fresh) c.replace.ensures.rows c.replace.ensures.frames
+    c.replace.new.self c.put.new.self c.clear.new.keeper c.publish.new.self c.clear.ensures.own c.clear.ensures.ledger c.publish.ensures c.in_ok-put.ensures.ok refl (λ z. tree_is_home b.knobs c.args.row z ∙ sym c.tree_of.ensures)
+    (subst (λ (x : Lay). All (λ d. d.number < x.next) x.dups) (sym c.self.view_is) founds.numbers) (subst (λ (x : Lay). All (λ r. merged_into x.next r.state ≡ false) x.rows) (sym c.self.view_is) founds.fresh) c.replace.ensures.rows c.replace.ensures.frames
 
 pub returns-clause-does : goal.returns-clause-does
 returns-clause-does c =

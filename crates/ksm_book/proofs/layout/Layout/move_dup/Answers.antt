@@ -1,5 +1,5 @@
-use Rattle.std.proofs.Common.{◌≡◌, ◌∙◌, ◌<◌, ◌≤◌, ℕ, refl, sym, ap, subst, arith}
-use Rattle.ksm_book.specs.Laid.{Lay, IsLaid}
+use Rattle.std.proofs.Common.{◌≡◌, ◌<◌, ◌≤◌, sym, subst, arith}
+use Rattle.ksm_book.specs.Laid.{Lay}
 use Rattle.ksm_book.specs.Mounted.{Mounted}
 use Rattle.ksm_book.proofs.Laying.{laid_kept}
 use Rattle.ksm_book.proofs.Remounts.{some_item, first_known, may_freeze, lost, laid_lost, mount_within, mount_place, mount_free, mount_dying, mount_wide, mount_some, mount_few, mount_loose, has_moved, laid_moved_dup}

@@ -7,7 +7,6 @@ use Rattle.ksm_base.specs.declared.row.DupRow.{DupRow}
 use Rattle.ksm_base.specs.Rows.{has_items, is_stale}
 use Rattle.ksm_base.specs.Values.{frames_of}
 use Rattle.ksm_book.specs.Laid.{Lay, IsVacant, elsewhere}
-use Rattle.ksm_book.specs.Steps.{Does}
 use Rattle.ksm_book.proofs.Logs.{chained}
 use Rattle.ksm_book.proofs.Pruning.{none_stale, live_elsewhere, fewer_elsewhere, dup_at, no_dup_at}
 use Rattle.ksm_book.proofs.layout.Layout.prune.Goals as goal
@@ -59,9 +58,9 @@ returns-clause-state c =
     let none : filter (has_items now.rows) l.dups ≡ l.dups = none_there (has_items now.rows) l.dups (omega (arith, few, past, long)) in
     i.state ∙ (λ t. record now { dups = (sym none ∙ i.live) t; keeper = l.keeper })
   where
-  none_there : (p : DupRow → Bool) (ds : List DupRow) → length ds ≡ 0 → filter p ds ≡ ds
-  none_there p [] e = refl
-  none_there p (d ∷ ds) e = absurd (omega arith)
+    none_there : (p : DupRow → Bool) (ds : List DupRow) → length ds ≡ 0 → filter p ds ≡ ds
+    none_there p [] e = refl
+    none_there p (d ∷ ds) e = absurd (omega arith)
 
 pub drop_stale-requires-clause-inside : goal.drop_stale-requires-clause-inside
 drop_stale-requires-clause-inside c =

@@ -1,4 +1,4 @@
-use Rattle.std.proofs.Common.{◌≡◌, ◌∙◌, ◌∷◌, [], Some, ap, subst}
+use Rattle.std.proofs.Common.{◌∙◌, ◌∷◌, [], Some, ap, subst}
 use Rattle.ksm_book.proofs.Laying.{lawful, shape_same, taken_hand, laid_moved, laid_kept, relaid}
 use Rattle.ksm_base.specs.Rows.{change_row}
 use Rattle.ksm_book.specs.Laid.{Lay}
@@ -18,7 +18,7 @@ release-requires-clause-lawful c =
     let held = c.in-Some.held in
     let took = c.in-Some-take_frame.ensures.took in
     lawful b.shape b.knobs.merge_across_nodes c.take_frame.new.keeper _ _ b.dups (Some held.frame) (shape_same b.shape b.keeper c.take_frame.new.keeper c.self.invariant.same c.take_frame.ensures.own)
-      (taken_hand b.shape b.rows b.dups b.knobs b.next b.keeper c.self.invariant held.row held.frame c.args.row c.in-Some.ensures.at c.replace.new.self c.take_frame.new.keeper c.in-Some-take_frame.frame took c.requires.alone c.replace.ensures.rows c.replace.ensures.frames)
+    (taken_hand b.shape b.rows b.dups b.knobs b.next b.keeper c.self.invariant held.row held.frame c.args.row c.in-Some.ensures.at c.replace.new.self c.take_frame.new.keeper c.in-Some-take_frame.frame took c.requires.alone c.replace.ensures.rows c.replace.ensures.frames)
 
 pub invariant_of-self-2 : goal.invariant_of-self-2
 invariant_of-self-2 c =

@@ -12,4 +12,4 @@ invariant_of-self c =
     let at = c.in-Some.ensures.at in
     let wide : length c.args.row.bytes ≡ PAGE_WORDS = search rules in
     laid_written b.shape b.rows b.dups b.knobs b.next b.keeper c.self.invariant held.row held.frame c.args.row at c.replace.new.self c.write.new.keeper c.write.ensures.own c.write.ensures.wrote wide
-      (known_as (IsOnItsOwn c.args.row) c.args.self.now.rows c.args.row held.row (ap (λ x. row_at c.args.row.page x.rows) (sym c.self.view_is) ∙ at.found) c.requires.known) c.requires.alone c.replace.ensures.rows c.replace.ensures.frames
+    (known_as (IsOnItsOwn c.args.row) c.args.self.now.rows c.args.row held.row (ap (λ x. row_at c.args.row.page x.rows) (sym c.self.view_is) ∙ at.found) c.requires.known) c.requires.alone c.replace.ensures.rows c.replace.ensures.frames

@@ -1,4 +1,4 @@
-use Rattle.std.proofs.Common.{◌≡◌, refl, sym, ap, subst, inr, false}
+use Rattle.std.proofs.Common.{◌≡◌, refl, sym, subst, inr, false}
 use Rattle.std.specs.Prelude.{All}
 use Rattle.ksm_base.specs.Rows.{merged_state}
 use Rattle.ksm_base.specs.Apply.{unshared}

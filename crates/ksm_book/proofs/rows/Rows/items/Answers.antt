@@ -17,6 +17,6 @@ returns-clause-items c =
     c.loop-page.invariant ∙ ap (λ es. map (λ (r : Row). r.page) (filter (λ r. merged_into c.args.number r.state) es)) (rows_walked c.loop-page.yielded ∙ ap (map row_of) walked)
     ∙ ap (λ (l : Listed). map (λ (r : Row). r.page) (filter (λ r. merged_into c.args.number r.state) l.rows)) c.self.view_is
   where
-  rows_walked : (xs : List (Bor GuestPage × Bor Entry)) → map (λ e. row_of (deref_pair e)) xs ≡ map row_of (map deref_pair xs)
-  rows_walked [] = refl
-  rows_walked (x ∷ xs) = ap (λ l. row_of (deref_pair x) ∷ l) (rows_walked xs)
+    rows_walked : (xs : List (Bor GuestPage × Bor Entry)) → map (λ e. row_of (deref_pair e)) xs ≡ map row_of (map deref_pair xs)
+    rows_walked [] = refl
+    rows_walked (x ∷ xs) = ap (λ l. row_of (deref_pair x) ∷ l) (rows_walked xs)

@@ -1,4 +1,4 @@
-use Rattle.std.proofs.Common.{◌≡◌, sym, ap, subst}
+use Rattle.std.proofs.Common.{sym, ap, subst}
 use Rattle.std.specs.Prelude.{not}
 use Rattle.ksm_base.specs.Rows.{same_page}
 use Rattle.ksm_base.specs.Sound.{IsSound}

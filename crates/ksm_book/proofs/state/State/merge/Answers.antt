@@ -1,7 +1,5 @@
-use Rattle.std.proofs.Common.{◌≡◌, ◌∙◌, ◌+◌, [], Some, sym, ap, subst}
-use Rattle.std.specs.Prelude.{◌||◌}
+use Rattle.std.proofs.Common.{◌≡◌, ◌∙◌, [], Some, sym, ap, subst}
 use Rattle.ksm_base.specs.declared.row.PageState.TheVariants.{Merged}
-use Rattle.ksm_base.specs.declared.row.Row.{Row}
 use Rattle.ksm_base.specs.Rows.{change_row, with_dup}
 use Rattle.ksm_base.specs.State.{place_count}
 use Rattle.ksm_base.specs.Sound.{IsSound}
@@ -19,17 +17,17 @@ pub found-requires-clause-founds : goal.found-requires-clause-founds
 found-requires-clause-founds c =
     let s = c.self.inside in
     partner_founds s.layout s.cursor s.passes c.args.row c.args.other c.args.place c.self.invariant
-      (ap (λ (x : BookView). partner x.state.knobs x.state.rows c.args.row) c.self.view_is ∙ c.requires.waits)
-      (ap (λ (x : BookView). new_place (place_count x.state.shape) x.state.rows x.state.dups) c.self.view_is ∙ c.requires.place)
+    (ap (λ (x : BookView). partner x.state.knobs x.state.rows c.args.row) c.self.view_is ∙ c.requires.waits)
+    (ap (λ (x : BookView). new_place (place_count x.state.shape) x.state.rows x.state.dups) c.self.view_is ∙ c.requires.place)
 
 pub join-requires-clause-joins : goal.join-requires-clause-joins
 join-requires-clause-joins c =
     let s = c.self.inside in
     subst (λ n. Joins c.found.new.self c.args.row (record c.args.other { state = Merged n })) (sym c.next_number-number.ensures)
-      (joins_new s.layout s.cursor s.passes c.args.row c.args.other c.args.place c.self.invariant
-        (ap (λ (x : BookView). next_row x.state.cursor x.state.rows) c.self.view_is ∙ c.requires.next) c.requires.alone
-        (ap (λ (x : BookView). partner x.state.knobs x.state.rows c.args.row) c.self.view_is ∙ c.requires.waits)
-        c.found.new.self (ap (λ (x : Lay). x.rows) c.in_ok-found.ensures.state) (ap (λ (x : Lay). x.dups) c.in_ok-found.ensures.state))
+    (joins_new s.layout s.cursor s.passes c.args.row c.args.other c.args.place c.self.invariant
+    (ap (λ (x : BookView). next_row x.state.cursor x.state.rows) c.self.view_is ∙ c.requires.next) c.requires.alone
+    (ap (λ (x : BookView). partner x.state.knobs x.state.rows c.args.row) c.self.view_is ∙ c.requires.waits)
+    c.found.new.self (ap (λ (x : Lay). x.rows) c.in_ok-found.ensures.state) (ap (λ (x : Lay). x.dups) c.in_ok-found.ensures.state))
 
 there : (c : goal.After-join) → state_of c.join.new.self c.self.inside.cursor c.self.inside.passes ≡ made_dup (Some c.args.place) (state_of c.self.inside.layout c.self.inside.cursor c.self.inside.passes) c.args.other c.args.row
 there c =
@@ -39,7 +37,7 @@ there c =
     let first = c.in_ok-found.ensures.state in
     let second = c.join.ensures.state in
     let rows = both_joined s.layout s.cursor s.passes c.args.row c.args.other c.args.place c.self.invariant next c.requires.alone waits c.found.new.self.rows c.join.new.self.rows
-        (ap (λ (x : Lay). x.rows) first) (ap (λ (x : Lay). x.rows) second ∙ ap (λ n. change_row c.args.row.page (λ _. record c.args.row { state = Merged n }) c.found.new.self.rows) c.next_number-number.ensures) in
+    (ap (λ (x : Lay). x.rows) first) (ap (λ (x : Lay). x.rows) second ∙ ap (λ n. change_row c.args.row.page (λ _. record c.args.row { state = Merged n }) c.found.new.self.rows) c.next_number-number.ensures) in
     let dup = same_dup s.layout s.cursor s.passes c.args.row c.args.other c.args.place c.self.invariant next c.requires.alone waits in
     λ t. record {
       shape = (ap (λ (x : Lay). x.shape) second ∙ ap (λ (x : Lay). x.shape) first) t;

@@ -1,7 +1,5 @@
-use Rattle.std.proofs.Common.{inr, ◌≡◌, ◌∙◌, None, refl, sym, ap, subst}
+use Rattle.std.proofs.Common.{inr, ◌≡◌, ◌∙◌, refl, sym, ap, subst}
 use Rattle.ksm_base.specs.declared.row.PageState.TheVariants.{Waiting}
-use Rattle.ksm_base.specs.declared.row.Row.{Row}
-use Rattle.ksm_base.specs.Rows.{change_row}
 use Rattle.ksm_base.specs.Sound.{IsSound}
 use Rattle.ksm_base.specs.Visit.{next_row, partner, paired}
 use Rattle.ksm_base.proofs.SoundScan.{next_row_visited, sound_paired}

@@ -2,7 +2,6 @@ use Rattle.std.proofs.Common.{◌≡◌, ◌∙◌, ◌+◌, suc, false, [], sym
 use Rattle.std.specs.Prelude.{Result, Ok, Err, OnOk, is_err}
 use Rattle.ksm_base.specs.declared.fault.Fault.{Fault}
 use Rattle.ksm_base.specs.Visit.{visit, visits}
-use Rattle.ksm_book.specs.Steps.{Does}
 use Rattle.ksm_book.proofs.Logs.{chained}
 use Rattle.ksm_book.proofs.state.State.scan.Goals as goal
 
@@ -15,7 +14,6 @@ returns-then-is_err-clause-frames c =
     let first = c.loop-done.invariant.does in
     let second = c.visit.ensures.does in
     (_, chained c.args.self.now.keeper c.loop-done.self.keeper c.visit.new.self.keeper [] [] first.0 second.0 first.1 second.1)
-
 
 pub loop-done-preserved : goal.loop-done-preserved
 loop-done-preserved c =

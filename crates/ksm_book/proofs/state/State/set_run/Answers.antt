@@ -1,4 +1,4 @@
-use Rattle.std.proofs.Common.{◌≡◌, ◌∙◌, Ok, sym, ap, subst, rules}
+use Rattle.std.proofs.Common.{Ok, subst, rules}
 use Rattle.ksm_base.specs.declared.command.Command.TheVariants.{SetRun}
 use Rattle.ksm_base.specs.declared.reply.Reply.TheVariants.{Done}
 use Rattle.ksm_base.specs.Sound.{IsSound}

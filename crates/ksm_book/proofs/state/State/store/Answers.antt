@@ -1,14 +1,12 @@
-use Rattle.std.proofs.Common.{◌≡◌, ◌∙◌, ◌<◌, ℕ, List, true, false, Some, refl, sym, ap, subst}
-use Rattle.std.specs.Prelude.{MatchBool}
+use Rattle.std.proofs.Common.{◌≡◌, ◌∙◌, ◌<◌, ℕ, List, Some, refl, sym, ap, subst}
 use Rattle.ksm_base.specs.declared.page.GuestPage.{GuestPage}
 use Rattle.ksm_base.specs.declared.row.Row.{Row}
-use Rattle.ksm_base.specs.declared.command.Command.TheVariants.{Store}
 use Rattle.ksm_base.specs.Apply.{stored}
-use Rattle.ksm_base.specs.Rows.{change_row, merged_state, row_at, same_page, InPageOrder}
+use Rattle.ksm_base.specs.Rows.{change_row, row_at, same_page, InPageOrder}
 use Rattle.ksm_base.specs.Sound.{IsSound}
 use Rattle.ksm_base.proofs.SoundEdits.{sound_changed, becomes_private}
 use Rattle.ksm_book.specs.Whole.{BookView}
-use Rattle.ksm_book.specs.Laid.{Lay, Housed, Unhoused, IsOnItsOwn, Knows, state_of}
+use Rattle.ksm_book.specs.Laid.{Lay, IsOnItsOwn, Knows, state_of}
 use Rattle.ksm_book.proofs.Found.{change_own, found_known, found_as, found_all}
 use Rattle.ksm_book.proofs.state.State.store.Goals as goal
 

@@ -1,11 +1,10 @@
-use Rattle.std.proofs.Common.{inr, ◌≡◌, ◌∙◌, true, false, Some, None, refl, sym, ap, subst}
+use Rattle.std.proofs.Common.{inr, ◌≡◌, ◌∙◌, true, Some, None, refl, sym, ap, subst}
 use Rattle.std.specs.Prelude.{find}
 use Rattle.ksm_base.specs.declared.row.PageState.TheVariants.{Private, Merged}
-use Rattle.ksm_base.specs.declared.row.Row.{Row}
-use Rattle.ksm_base.specs.Rows.{change_row, merged_state, merged_into}
+use Rattle.ksm_base.specs.Rows.{change_row, merged_into}
 use Rattle.ksm_base.specs.Sound.{IsSound}
 use Rattle.ksm_base.specs.State.{BookState}
-use Rattle.ksm_base.specs.Visit.{next_row, best_dup, row_visited, handled}
+use Rattle.ksm_base.specs.Visit.{next_row, row_visited}
 use Rattle.ksm_base.proofs.Edits.{find_passes}
 use Rattle.ksm_base.proofs.SoundScan.{next_row_visited, sound_row_visited}
 use Rattle.ksm_book.specs.Laid.{Lay, LodgesAs, state_of}
@@ -18,7 +17,7 @@ pub join-requires-clause-joins : goal.join-requires-clause-joins
 join-requires-clause-joins c =
     let s = c.self.inside in
     best_joins s.layout s.cursor s.passes c.args.row c.in-Some-item.item c.in-Some.dup c.self.invariant (ap (λ (x : BookView). next_row x.state.cursor x.state.rows) c.self.view_is ∙ c.requires.next)
-      (sym c.if-is_merged.ensures) (sym c.in-Some.ensures) (ap (find (λ r. merged_into c.in-Some.dup.number r.state)) (sym c.rows.ensures) ∙ sym c.in-Some-item.ensures)
+    (sym c.if-is_merged.ensures) (sym c.in-Some.ensures) (ap (find (λ r. merged_into c.in-Some.dup.number r.state)) (sym c.rows.ensures) ∙ sym c.in-Some-item.ensures)
 
 -- the page is an item of the dup
 there : (c : goal.After-join) → state_of c.join.new.self c.self.inside.cursor c.self.inside.passes ≡ row_visited (state_of c.self.inside.layout c.self.inside.cursor c.self.inside.passes) c.args.row

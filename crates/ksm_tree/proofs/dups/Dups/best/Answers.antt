@@ -1,7 +1,6 @@
-use Rattle.std.proofs.Common.{◌≡◌, ◌∙◌, [], ℕ, List, None, Some, Option, length, drop, sym, ap, arith}
+use Rattle.std.proofs.Common.{◌∙◌, None, sym, ap, arith}
 use Rattle.std.specs.Prelude.{option_copied, option_map}
 use Rattle.std.proofs.Math.ListN.{drop_of_length-le}
-use Rattle.ksm_tree.specs.declared.dup.Dup.{Dup}
 use Rattle.ksm_tree.specs.Choosing.{best_of}
 use Rattle.ksm_tree.proofs.Best.{folded, folded_best}
 use Rattle.ksm_tree.proofs.dups.Dups.best.Goals as goal

@@ -1,6 +1,5 @@
-use Rattle.std.proofs.Common.{◌≡◌, ◌∙◌, None, Some, true, refl, sym, ap}
-use Rattle.std.specs.Prelude.{is_some, find, ◌&&◌}
-use Rattle.ksm_tree.specs.Dups.{dup_at, stands_at, is_stale}
+use Rattle.std.proofs.Common.{◌∙◌, sym, ap}
+use Rattle.ksm_tree.specs.Dups.{dup_at, is_stale}
 use Rattle.ksm_tree.proofs.Indexed.{gone_indexed, found_stands, none_there}
 use Rattle.ksm_tree.proofs.dups.Dups.drop_stale.Goals as goal
 

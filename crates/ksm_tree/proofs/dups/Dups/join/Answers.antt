@@ -1,9 +1,9 @@
-use Rattle.std.proofs.Common.{◌≡◌, ◌∙◌, ◌<◌, length, true, false, sym, ap}
+use Rattle.std.proofs.Common.{◌∙◌, sym, ap}
 use Rattle.std.specs.Prelude.{is_some}
 use Rattle.std.proofs.lemmas.Bool.{false≢true}
-use Rattle.ksm_rmap.specs.Items.{has_item, with_item}
-use Rattle.ksm_tree.specs.Dups.{change_items, dup_of, items_in}
-use Rattle.ksm_tree.specs.Index.{AreIndexed, dups_seen}
+use Rattle.ksm_rmap.specs.Items.{with_item}
+use Rattle.ksm_tree.specs.Dups.{change_items, dup_of}
+use Rattle.ksm_tree.specs.Index.{dups_seen}
 use Rattle.ksm_tree.proofs.Indexed.{indexed_found, indexed_changed, indexed_there, stays_indexed, unindexed_found}
 use Rattle.ksm_tree.proofs.dups.Dups.join.Goals as goal
 

@@ -1,7 +1,7 @@
-use Rattle.std.proofs.Common.{◌≡◌, ◌∙◌, sym, ap}
+use Rattle.std.proofs.Common.{◌∙◌, sym, ap}
 use Rattle.ksm_rmap.specs.Items.{without_item}
 use Rattle.ksm_tree.specs.Dups.{change_items}
-use Rattle.ksm_tree.specs.Index.{AreIndexed, dups_seen}
+use Rattle.ksm_tree.specs.Index.{dups_seen}
 use Rattle.ksm_tree.proofs.Indexed.{indexed_changed, indexed_there, stays_indexed, unindexed_changed}
 use Rattle.ksm_tree.proofs.dups.Dups.leave.Goals as goal
 

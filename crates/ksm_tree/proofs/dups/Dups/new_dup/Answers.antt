@@ -1,6 +1,5 @@
-use Rattle.std.proofs.Common.{◌≡◌, ◌∙◌, ◌<◌, ◌+◌, refl, sym, ap, arith}
+use Rattle.std.proofs.Common.{◌<◌, refl, ap, arith}
 use Rattle.ksm_tree.specs.declared.dup.Dup.{Dup}
-use Rattle.ksm_tree.specs.Index.{AreIndexed}
 use Rattle.ksm_tree.proofs.Made.{fresh_indexed, taken_indexed, next_unused}
 use Rattle.ksm_tree.proofs.dups.Dups.new_dup.Goals as goal
 use Rattle.ksm_tree.proofs.dups.Dups.new_dup.Goals.{in-Some, in-None}

@@ -1,5 +1,4 @@
 use Rattle.std.proofs.Common.{◌∙◌, Some, None, refl, sym, ap}
-use Rattle.std.specs.Prelude.{List, [], ℕ}
 use Rattle.ksm_tree.specs.Groups.{chain_in}
 use Rattle.ksm_tree.specs.Places.{with_place}
 use Rattle.ksm_tree.proofs.Chains.{chain_here, chain_changed, chain_same}

@@ -1,6 +1,4 @@
-use Rattle.std.proofs.Common.{◌∙◌, ◌≡◌, Some, None, refl, sym, ap}
-use Rattle.std.specs.Prelude.{ℕ, List, [], ◌∷◌, ◌&&◌, ◌==◌, bytes_eq, is_none, slice_get, cond, true}
-use Rattle.ksm_tree.specs.Groups.{chain_in}
+use Rattle.std.proofs.Common.{◌∙◌, Some, None, refl, sym, ap}
 use Rattle.ksm_tree.specs.Places.{without}
 use Rattle.ksm_tree.proofs.Chains.{chain_here, chain_changed, chain_same, chain_empty, none_of}
 use Rattle.ksm_tree.proofs.groups.Groups.remove.Goals as goal

@@ -1,8 +1,7 @@
-use Rattle.std.proofs.Common.{◌≡◌, ◌∙◌, length, sym, ap, arith}
+use Rattle.std.proofs.Common.{◌∙◌, length, ap}
 use Rattle.std.specs.Prelude.{◌==◌, nat_lt, filter}
 use Rattle.std.specs.List.{list_any}
 use Rattle.ksm_rmap.proofs.Ordered.{with_rises}
-use Rattle.ksm_tree.specs.Places.{with_place}
 use Rattle.ksm_tree.proofs.Numbers.{places_ordered, at_ok, put_in, was_in}
 use Rattle.ksm_tree.proofs.places.Places.insert.Goals as goal
 

@@ -1,5 +1,5 @@
-use Rattle.std.proofs.Common.{◌≡◌, ◌∙◌, ◌<◌, true, refl, get_or, length, sym, ap, arith}
-use Rattle.std.specs.Prelude.{◌==◌, nat_lt, filter, remove}
+use Rattle.std.proofs.Common.{◌≡◌, ◌∙◌, ◌<◌, true, refl, get_or, length, ap}
+use Rattle.std.specs.Prelude.{◌==◌, nat_lt, filter}
 use Rattle.std.specs.List.{list_any}
 use Rattle.ksm_rmap.proofs.Ordered.{without_rises}
 use Rattle.ksm_tree.specs.Places.{without}

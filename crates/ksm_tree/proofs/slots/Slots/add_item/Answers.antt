@@ -1,8 +1,8 @@
-use Rattle.std.proofs.Common.{◌≡◌, ◌∙◌, Some, true, set, ap, arith}
+use Rattle.std.proofs.Common.{◌≡◌, true, ap, arith}
 use Rattle.std.specs.Prelude.{is_some}
 use Rattle.ksm_rmap.specs.Items.{with_item}
 use Rattle.ksm_tree.specs.Dups.{dup_at}
-use Rattle.ksm_tree.specs.Slots.{present, AreSlots}
+use Rattle.ksm_tree.specs.Slots.{present}
 use Rattle.ksm_tree.proofs.OneSlot.{known_within, slot_not_none, holds_dup, slots_grown, view_changed}
 use Rattle.ksm_tree.proofs.slots.Slots.add_item.Goals as goal
 

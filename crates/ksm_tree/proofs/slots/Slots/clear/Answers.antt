@@ -1,8 +1,8 @@
-use Rattle.std.proofs.Common.{◌≡◌, ◌∙◌, ◌<◌, ◌≤◌, ◌+◌, None, true, length, length-set, get_or, refl, sym, ap, arith}
+use Rattle.std.proofs.Common.{◌≡◌, ◌∙◌, None, true, length, length-set, ap, arith}
 use Rattle.std.specs.Prelude.{is_some}
 use Rattle.ksm_tree.specs.Dups.{dup_at, without_place}
-use Rattle.ksm_tree.specs.Slots.{present, is_empty_slot, places_where}
-use Rattle.ksm_tree.proofs.OneSlot.{known_within, slot_found, slots_cleared, slot_emptied, where_room, full_slot}
+use Rattle.ksm_tree.specs.Slots.{present, is_empty_slot}
+use Rattle.ksm_tree.proofs.OneSlot.{known_within, slots_cleared, slot_emptied, where_room, full_slot}
 use Rattle.ksm_tree.proofs.slots.Slots.clear.Goals as goal
 
 pub index_mut-requires : goal.index_mut-requires

@@ -1,9 +1,7 @@
-use Rattle.std.proofs.Common.{◌≡◌, ◌∙◌, ◌+◌, ◌≤◌, ◌++◌, ◌∷◌, [], List, length, replicate, None, Some, Option, sym, ap, arith}
-use Rattle.std.specs.List.{range_with_len}
+use Rattle.std.proofs.Common.{◌≡◌, ◌∙◌, ◌++◌, ◌∷◌, [], length, None, ap, arith}
 use Rattle.std.proofs.lemmas.List.{replicate-append-replicate}
-use Rattle.ksm_tree.specs.declared.dup.Dup.{Dup}
 use Rattle.ksm_tree.specs.Places.{with_place}
-use Rattle.ksm_tree.specs.Slots.{AreSlots, slots_seen}
+use Rattle.ksm_tree.specs.Slots.{slots_seen}
 use Rattle.ksm_tree.proofs.Opened.{none_of, none_slots, none_seen, range_more, length_range}
 use Rattle.ksm_tree.proofs.slots.Slots.open.Goals as goal
 

@@ -1,8 +1,6 @@
-use Rattle.std.proofs.Common.{◌≡◌, ◌∙◌, ◌<◌, length, refl, sym, ap, set, arith}
+use Rattle.std.proofs.Common.{◌∙◌, ◌<◌, length, refl, ap, arith}
 use Rattle.std.proofs.lemmas.List.{length-set}
 use Rattle.std.specs.Prelude.{Some}
-use Rattle.ksm_tree.specs.Slots.{present, AreSlots}
-use Rattle.ksm_tree.specs.Places.{without}
 use Rattle.ksm_tree.specs.Dups.{with_new}
 use Rattle.ksm_tree.proofs.OneSlot.{slots_put, slot_put}
 use Rattle.ksm_tree.proofs.slots.Slots.put.Goals as goal

@@ -1,0 +1,78 @@
+-- What is answered where a dup is to move.
+use Rattle.std.proofs.Common.{inl, inr, ◌≡◌, ℕ, ◌<◌, ◌≤◌, Bool, true, false, Option, Some, None, refl, sym, ap, ◌∙◌, subst, arith, eq-eqb}
+use Rattle.std.specs.Prelude.{find, ◌==◌, ◌&&◌, not, nat_le, is_none, Result, Ok, Err}
+use Rattle.std.proofs.lemmas.Bool.{cases_Bool, and_parts, eqb-true, leb-true, both_ways}
+use Rattle.ksm_base.specs.declared.row.Row.{Row}
+use Rattle.ksm_base.specs.declared.row.DupRow.{DupRow}
+use Rattle.ksm_base.specs.declared.command.Command.TheVariants.{MoveDup}
+use Rattle.ksm_base.specs.declared.fault.Fault.{Fault}
+use Rattle.ksm_base.specs.declared.fault.Fault.TheVariants.{Memory, UnknownPage, AlreadyRegistered, NoFrame, NotRunning, SharedPages, BadValue, InUse, CrossesNodes, UnknownPlace, BadNode}
+use Rattle.ksm_base.specs.Answers.{IsAnswerUnless, IsAnswerOrMemory}
+use Rattle.ksm_base.specs.Refusals.{refusal, refused_if, crosses, is_no_node, live_dup_at}
+use Rattle.ksm_base.specs.Rows.{has_items}
+use Rattle.ksm_base.specs.State.{BookState}
+use Rattle.ksm_base.proofs.Edits.{find_passes}
+use Rattle.frame_table.specs.Named.{KeeperView}
+use Rattle.ksm_base.specs.declared.reply.Reply.TheVariants.{Done}
+use Rattle.ksm_book.specs.Keeping.{NoneLeft}
+use Rattle.ksm_book.specs.Mounted.{IsMoved}
+use Rattle.ksm_book.specs.Whole.{HasShown}
+
+module _ (b : BookState) (place node : ℕ) (dup : DupRow) (found : Some dup ≡ live_dup_at b place) where
+  pub place_is : dup.place ≡ place
+  place_is = eqb-true dup.place place (and_parts (dup.place == place) (has_items b.rows dup) (find_passes (λ d. d.place == place && has_items b.rows d) b.dups dup (sym found))).0
+
+  -- the dup with items at its place is the dup
+  pub live_there : find (λ d. d.place == dup.place && has_items b.rows d) b.dups ≡ Some dup
+  live_there = subst (λ x. find (λ d. d.place == x && has_items b.rows d) b.dups ≡ Some dup) (sym place_is) (sym found)
+
+  module _ (one_of : node < b.shape.nodes) (home : b.knobs.merge_across_nodes ≡ 0 → node ≡ dup.tree) where
+    there_is : is_no_node b node ≡ false
+    there_is = elim (cases_Bool (nat_le b.shape.nodes node)) [
+      | inl le ↦ absurd (let over = leb-true b.shape.nodes node le in omega (arith, over, one_of))
+      | inr fits ↦ fits
+    ]
+
+    at_home : crosses b node (Some dup) ≡ false
+    at_home = elim (cases_Bool (b.knobs.merge_across_nodes == 0)) [
+      | inl apart ↦
+          let same : (dup.tree == node) ≡ true = eq-eqb dup.tree node (sym (home (eqb-true b.knobs.merge_across_nodes 0 apart))) in
+          grind (arith, apart, same)
+      | inr across ↦ grind (arith, across)
+    ]
+
+    -- the state doesn't refuse it
+    pub accepted : refusal b (MoveDup place node) ≡ None
+    accepted =
+        (λ t. refused_if (there_is t) BadNode (refused_if (is_none (sym found t)) UnknownPlace (refused_if (crosses b node (sym found t)) CrossesNodes None)))
+        ∙ ap (λ x. refused_if x CrossesNodes None) at_home
+
+    pub moved_answer : (X : Type 0) (v w : KeeperView) (q : ℕ) (f : Fault) → IsMoved {X = X} v w q node (Err f) → IsAnswerOrMemory b (MoveDup place node) (Err f)
+    moved_answer X v w q Memory h = absurd h
+    moved_answer X v w q UnknownPage h = absurd h
+    moved_answer X v w q AlreadyRegistered h = absurd h
+    moved_answer X v w q (NoFrame n) h = subst (λ o. IsAnswerUnless o b (MoveDup place node) (Err (NoFrame n))) (sym accepted) h.0
+    moved_answer X v w q NotRunning h = absurd h
+    moved_answer X v w q SharedPages h = absurd h
+    moved_answer X v w q BadValue h = absurd h
+    moved_answer X v w q InUse h = subst (λ o. IsAnswerUnless o b (MoveDup place node) (Err InUse)) (sym accepted) tt
+    moved_answer X v w q CrossesNodes h = absurd h
+    moved_answer X v w q UnknownPlace h = absurd h
+    moved_answer X v w q BadNode h = absurd h
+
+    pub moved_done : IsAnswerOrMemory b (MoveDup place node) (Ok Done)
+    moved_done = subst (λ o. IsAnswerUnless o b (MoveDup place node) (Ok Done)) (sym accepted) tt
+
+-- what is shown of an answer
+pub moved_shown : (X : Type 0) (b : BookState) (v w : KeeperView) (place node q : ℕ) → q ≡ place → (f : Fault) → IsMoved {X = X} v w q node (Err f) → HasShown b v w (Err f) (MoveDup place node)
+moved_shown X b v w place node q same Memory h = absurd h
+moved_shown X b v w place node q same UnknownPage h = absurd h
+moved_shown X b v w place node q same AlreadyRegistered h = absurd h
+moved_shown X b v w place node q same (NoFrame n) h = subst (NoneLeft v w) (sym h.0) h.1
+moved_shown X b v w place node q same NotRunning h = absurd h
+moved_shown X b v w place node q same SharedPages h = absurd h
+moved_shown X b v w place node q same BadValue h = absurd h
+moved_shown X b v w place node q same InUse h = h
+moved_shown X b v w place node q same CrossesNodes h = absurd h
+moved_shown X b v w place node q same UnknownPlace h = absurd h
+moved_shown X b v w place node q same BadNode h = absurd h

@@ -1,0 +1,22 @@
+-- What tests say of their parts.
+use Rattle.std.proofs.Common.{◌≡◌, Bool, true, false, ◌&&◌, cond, Option, Some, None, refl}
+
+-- a value under a test
+abbrev pub chosen : {A : Type 0} → Bool → A → Option A
+chosen b n = cond b (Some n) None
+
+pub is_chosen : {A : Type 0} (b : Bool) (n i : A) → chosen b n ≡ Some i → (b ≡ true) × (i ≡ n)
+is_chosen true n i e = (refl, cc)
+is_chosen false n i e = absurd cc
+
+pub not_chosen : {A : Type 0} (b : Bool) (n : A) → chosen b n ≡ None → b ≡ false
+not_chosen true n e = absurd cc
+not_chosen false n e = refl
+
+pub first_true : (a b : Bool) → (a && b) ≡ true → a ≡ true
+first_true true b e = refl
+first_true false b e = absurd cc
+
+pub second_true : (a b : Bool) → (a && b) ≡ true → b ≡ true
+second_true true b e = e
+second_true false b e = absurd cc

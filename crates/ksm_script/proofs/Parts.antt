@@ -1,0 +1,67 @@
+-- A text that is written in parts.
+use Rattle.std.proofs.Common.{ℕ, ◌+◌, ◌-◌, List, length, Option, take, drop, sym, subst, take-append-drop, get_or, ◌<◌, ◌++◌, ◌≡◌, ap, ◌∙◌, append_assoc, ◌∷◌, [], Result, Ok, Err}
+use Rattle.std.proofs.lemmas.List.{take_rest, take_more, append-nil}
+use Rattle.std.proofs.lemmas.List.Concat.{flat_map-append}
+use Rattle.std.proofs.Math.Seq.{take-add}
+use Rattle.std.specs.List.{flat_map}
+use Rattle.std.specs.Io.KnownBytes.{Appends, Keeps}
+use Rattle.std.proofs.KnownBytes.{Appends-trans, Appends-kept}
+use Rattle.std.specs.Prelude.{IfErr, IsErrAnd}
+use Rattle.ksm_script.specs.declared.script.RunFault.{RunFault}
+use Rattle.ksm_script.specs.declared.script.RunFault.TheVariants.{Write}
+use Rattle.ksm_script.specs.Texts.{AppendsPart}
+
+pub one_more : (a b c : Option (List ℕ)) (text : List ℕ) (n m : ℕ)
+    → Appends a b (take n text) → Appends b c (take m (take (length text - n) (drop n text))) → Appends a c (take (n + m) text)
+one_more a b c text n m p q =
+    let rest = subst (λ (t : List ℕ). Appends b c (take m t)) (take_rest text n) q in
+    subst (Appends a c) (sym (take-add n m text)) (Appends-trans a b c _ _ p rest)
+
+pub part_of : (a b : Option (List ℕ)) (text : List ℕ) (n : ℕ) → Appends a b (take n text) → AppendsPart a b text
+part_of a b text n p = (take n text, drop n text, take-append-drop n text, p)
+
+pub part_kept : (a b c : Option (List ℕ)) (text : List ℕ) (n : ℕ)
+    → Appends a b (take n text) → Keeps b c → AppendsPart a c text
+part_kept a b c text n p q = part_of a c text n (Appends-kept a b c _ p q)
+
+-- a text after another one
+pub part_after : (a b c : Option (List ℕ)) (text next : List ℕ)
+    → Appends a b text → AppendsPart b c next → AppendsPart a c (text ++ next)
+part_after a b c text next p q =
+    (text ++ q.0, q.1, append_assoc text q.0 q.1 ∙ ap (λ (t : List ℕ). text ++ t) q.2, Appends-trans a b c _ _ p q.3)
+
+-- what is a beginning of a text is one of a longer text
+pub part_longer : (a b : Option (List ℕ)) (text next : List ℕ) → AppendsPart a b text → AppendsPart a b (text ++ next)
+part_longer a b text next q = (q.0, q.1 ++ next, sym (append_assoc q.0 q.1 next) ∙ ap (λ (t : List ℕ). t ++ next) q.2, q.3)
+
+-- the texts of a list up to one of its elements, and with it
+pub pieces_more : {X : Type 0} (f : X → List ℕ) (xs : List X) (i : ℕ) (d : X) → i < length xs
+    → flat_map f (take (i + 1) xs) ≡ flat_map f (take i xs) ++ f (get_or xs i d)
+pieces_more f xs i d lt =
+    ap (flat_map f) (take_more xs i d lt) ∙ flat_map-append f (take i xs) (get_or xs i d ∷ [])
+    ∙ ap (λ (t : List ℕ). flat_map f (take i xs) ++ t) (append-nil (f (get_or xs i d)))
+
+pub pieces_whole : {X : Type 0} (f : X → List ℕ) (xs : List X) (i : ℕ) (d : X) (text : List ℕ) (a b c : Option (List ℕ)) → i < length xs → text ≡ f (get_or xs i d)
+    → Appends a b (flat_map f (take i xs)) → Appends b c text → Appends a c (flat_map f (take (i + 1) xs))
+pieces_whole f xs i d text a b c lt is p q =
+    subst (Appends a c) (sym (pieces_more f xs i d lt)) (Appends-trans a b c _ _ p (subst (Appends b c) is q))
+
+-- the texts up to one of the elements, and a part of its own
+pub pieces_part : {X : Type 0} (f : X → List ℕ) (xs : List X) (i : ℕ) (d : X) (text : List ℕ) (a b c : Option (List ℕ)) → i < length xs → text ≡ f (get_or xs i d)
+    → Appends a b (flat_map f (take i xs)) → AppendsPart b c text → AppendsPart a c (flat_map f xs)
+pieces_part f xs i d text a b c lt is p q =
+    let one = part_after a b c _ (f (get_or xs i d)) p (subst (AppendsPart b c) is q) in
+    let front : AppendsPart a c (flat_map f (take (i + 1) xs)) = subst (AppendsPart a c) (sym (pieces_more f xs i d lt)) one in
+    subst (AppendsPart a c) (sym (flat_map-append f (take (i + 1) xs) (drop (i + 1) xs)) ∙ ap (flat_map f) (take-append-drop (i + 1) xs))
+    (part_longer a c _ (flat_map f (drop (i + 1) xs)) front)
+
+-- the exit of a `?` behind which a part was written
+pub broken_off : {A : Type 0} (r : Result A RunFault) (f : RunFault) (P : Type 0) → IsErrAnd r (λ e. e ≡ f) → f ≡ Write → P → IfErr r (λ e. (e ≡ Write) × P)
+broken_off (Ok x) f P e is p = tt
+broken_off (Err d) f P e is p = (e ∙ is, p)
+
+-- a text was written before, and then a text whole or in part
+pub fault_after : {A : Type 0} (r : Result A RunFault) (a b c : Option (List ℕ)) (text next : List ℕ) → Appends a b text
+    → IfErr r (λ e. (e ≡ Write) × AppendsPart b c next) → IfErr r (λ e. (e ≡ Write) × AppendsPart a c (text ++ next))
+fault_after (Ok x) a b c text next p h = tt
+fault_after (Err e) a b c text next p h = (h.0, part_after a b c text next p h.1)

@@ -1,0 +1,115 @@
+-- A run goes on by one line.
+use Rattle.std.proofs.Common.{◌≡◌, ◌≢◌, ℕ, ◌+◌, ◌≤◌, List, [], ◌∷◌, ◌++◌, length, Option, Result, Ok, Err, ap, ◌∙◌, sym, subst, append_assoc, inl, inr, refl}
+use Rattle.std.specs.Io.KnownBytes.{Appends, Consumes, IsAtEnd}
+use Rattle.std.proofs.KnownBytes.{Appends-nil, Appends-trans, Consumes-nil, Consumes-trans}
+use Rattle.ksm_base.specs.State.{BookState}
+use Rattle.ksm_script.specs.declared.line.Line.{Line}
+use Rattle.ksm_script.specs.declared.line.LineFault.{LineFault}
+use Rattle.ksm_script.specs.declared.reply.LineReply.{LineReply}
+use Rattle.ksm_script.specs.declared.script.End.{End}
+use Rattle.ksm_script.specs.declared.script.End.TheVariants.{BadLine}
+use Rattle.ksm_script.specs.declared.script.RunFault.{RunFault}
+use Rattle.ksm_script.specs.declared.input.LineEnd.{LineEnd}
+use Rattle.ksm_script.specs.declared.input.LineEnd.TheVariants.{Newline, Input, TooLong}
+use Rattle.ksm_script.specs.Grammar.{Writes}
+use Rattle.ksm_script.specs.Input.{EndsAs, IsPlain}
+use Rattle.ksm_script.specs.Answering.{Answers, reply_text}
+use Rattle.ksm_script.specs.Script.{Answered, none, more, ReadFor, AnsweredAll, IsNoLine, IsBad, IsReadAs, AnsweredToBad}
+
+abbrev pub ended : End → Result End RunFault
+ended end = Ok end
+
+-- what a run read, did and wrote before the line of a number
+pub record IsSoFar (first now : Option (List ℕ)) (begun written : Option (List ℕ)) (from state : BookState) (number : ℕ) : Type 0 where
+  pub lines : List ℕ
+  pub text : List ℕ
+  pub count : ℕ
+  pub counted : count + 1 ≡ number
+  pub answered : Answered from lines text count state
+  pub consumed : Consumes first now lines
+  pub appended : Appends begun written text
+
+pub nothing_yet : (reader writer : Option (List ℕ)) (state : BookState) → IsSoFar reader reader writer writer state state 1
+nothing_yet reader writer state =
+    record { lines = []; text = []; count = 0; counted = refl; answered = none; consumed = Consumes-nil reader; appended = Appends-nil writer }
+
+pub in_state : (first now : Option (List ℕ)) (begun written : Option (List ℕ)) (from state same : BookState) (number : ℕ) → same ≡ state
+    → IsSoFar first now begun written from state number → IsSoFar first now begun written from same number
+in_state first now begun written from state same number e s = subst (λ (b : BookState). IsSoFar first now begun written from b number) (sym e) s
+
+-- a line as it was read, which ended so
+pub record IsRead (now next : Option (List ℕ)) (line : List ℕ) (end : LineEnd) : Type 0 where
+  pub bytes : List ℕ
+  pub ends : EndsAs end line bytes
+  pub consumed : Consumes now next bytes
+  pub plain : IsPlain line
+  pub last : end ≡ Input → IsAtEnd next
+
+abbrev found : LineEnd → Result LineEnd RunFault
+found end = Ok end
+
+pub read_as : (now next : Option (List ℕ)) (line : List ℕ) (end : LineEnd) → ((bytes : List ℕ) × EndsAs end line bytes × Consumes now next bytes) → IsPlain line
+    → (found end ≡ found Input → IsAtEnd next) → IsRead now next line end
+read_as now next line end read plain last =
+    record { bytes = read.0; ends = read.1; consumed = read.2; plain = plain; last = λ e. last (ap (λ (x : LineEnd). found x) e) }
+
+-- a line that was carried out
+pub record IsDone (state next : BookState) (line : List ℕ) (end : LineEnd) (form : Line) (reply : Option LineReply) : Type 0 where
+  pub short : end ≢ TooLong
+  pub written : Writes form line
+  pub answers : Answers form state reply next
+
+not_long : (end : LineEnd) (line bytes : List ℕ) → end ≢ TooLong → EndsAs end line bytes → length line ≤ 256
+not_long Newline line bytes h e = e.1
+not_long Input line bytes h e = e.1
+not_long TooLong line bytes h e = absurd (h refl)
+
+read_for : (left : Option (List ℕ)) (end : LineEnd) (lines line bytes : List ℕ) → end ≢ TooLong → EndsAs end line bytes → (end ≡ Input → IsAtEnd left)
+    → ReadFor (lines ++ (line ++ 10 ∷ [])) (lines ++ bytes) left
+read_for left Newline lines line bytes h e last = inl (ap (λ (t : List ℕ). lines ++ t) e.0)
+read_for left Input lines line bytes h e last =
+    inr (append_assoc lines bytes (10 ∷ []) ∙ ap (λ (t : List ℕ). lines ++ (t ++ 10 ∷ [])) e.0, last refl)
+read_for left TooLong lines line bytes h e last = absurd (h refl)
+
+whole_line : (end : LineEnd) (line bytes : List ℕ) → end ≢ TooLong → end ≢ Input → EndsAs end line bytes → bytes ≡ line ++ 10 ∷ []
+whole_line Newline line bytes h i e = e.0
+whole_line Input line bytes h i e = absurd (i refl)
+whole_line TooLong line bytes h i e = absurd (h refl)
+
+bad_of : (left : Option (List ℕ)) (end : LineEnd) (line : List ℕ) → (end ≢ TooLong → IsNoLine line) → (end ≡ Input → IsAtEnd left) → IsBad end line left
+bad_of left Newline line bad last = bad (λ e. absurd cc)
+bad_of left Input line bad last = (bad (λ e. absurd cc), last refl)
+bad_of left TooLong line bad last = tt
+
+-- the number of a bad line
+pub number_is : (number told : ℕ) → ended (BadLine number) ≡ ended (BadLine told) → number ≡ told
+number_is number told e = cc
+
+module _ (first now later : Option (List ℕ)) (begun written : Option (List ℕ)) (from state : BookState) (number : ℕ) (line : List ℕ) (end : LineEnd)
+    (so : IsSoFar first now begun written from state number) (read : IsRead now later line end) where
+  consumed_then : Consumes first later (so.lines ++ read.bytes)
+  consumed_then = Consumes-trans first now later so.lines read.bytes so.consumed read.consumed
+
+  module _ (next : BookState) (form : Line) (reply : Option LineReply) (did : IsDone state next line end form reply) where
+    pub turned : Answered from (so.lines ++ (line ++ 10 ∷ [])) (so.text ++ reply_text reply) (so.count + 1) next
+    turned = more so.answered line form reply next read.plain (not_long end line read.bytes did.short read.ends) did.written did.answers
+
+    pub answered_all : AnsweredAll first later from next (so.text ++ reply_text reply)
+    answered_all =
+        (so.lines ++ (line ++ 10 ∷ []), so.lines ++ read.bytes, so.count + 1, turned, read_for later end so.lines line read.bytes did.short read.ends read.last, consumed_then)
+
+    pub goes_on : (wrote : Option (List ℕ)) → end ≢ Input → Appends written wrote (reply_text reply) → IsSoFar first later begun wrote from next (number + 1)
+    goes_on wrote open_end appended =
+        record {
+          lines = so.lines ++ (line ++ 10 ∷ []);
+          text = so.text ++ reply_text reply;
+          count = so.count + 1;
+          counted = ap (λ n. n + 1) so.counted;
+          answered = turned;
+          consumed = subst (λ (t : List ℕ). Consumes first later (so.lines ++ t)) (whole_line end line read.bytes did.short open_end read.ends) consumed_then;
+          appended = Appends-trans begun written wrote so.text (reply_text reply) so.appended appended;
+        }
+
+  pub answered_to_bad : (fault : LineFault) → IsReadAs (Err fault) end line → AnsweredToBad first later from state so.text so.count
+  answered_to_bad fault bad =
+      (line, read.bytes, end, (so.lines, so.answered, consumed_then), read.plain, read.ends, bad_of later end line bad read.last)

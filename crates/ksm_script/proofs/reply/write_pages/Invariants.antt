@@ -1,0 +1,8 @@
+use Rattle.std.proofs.Common.{take}
+use Rattle.std.specs.List.{flat_map}
+use Rattle.std.specs.Io.KnownBytes.{Appends}
+use Rattle.ksm_script.specs.Replies.{mapper_text}
+use Rattle.ksm_script.proofs.reply.write_pages.Given as goal
+
+abbrev pub invariant-loop-page : goal.invariant-loop-page
+invariant-loop-page g l = Appends (g.W.Write.contents l.fn.writer) (g.W.Write.contents l.writer) (flat_map mapper_text (take l.page-index l.pages))

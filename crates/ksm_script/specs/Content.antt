@@ -1,0 +1,30 @@
+-- The hexadecimal texts of a page's content (own).
+use Rattle.std.specs.Prelude.{ℕ, ◌+◌, ◌*◌, not, ◌==◌, nat_lt, List, length, map, Option, Some, None, slice_index, if◌then◌else◌}
+use Rattle.std.specs.Char.{digit_value, is_ascii_hexdigit}
+use Rattle.std.specs.Int.{w64, from_le_bytes}
+use Rattle.std.specs.List.{list_all, range_with_len}
+use Rattle.ksm_base.specs.declared.page.TheConstants.{PAGE_WORDS}
+
+-- the value of a hexadecimal digit, 0 of any other byte
+abbrev pub hex_value : ℕ → ℕ
+hex_value byte = if nat_lt (digit_value byte) 16 then digit_value byte else 0
+
+-- the byte that the digits 2k and 2k + 1 of a text write
+abbrev pub byte_at : List ℕ → ℕ → ℕ
+byte_at text k = hex_value (slice_index text (2 * k)) * 16 + hex_value (slice_index text (2 * k + 1))
+
+-- word i of a page of such bytes: eight bytes, the first in the lowest eight bits
+abbrev pub word_at : (ℕ → ℕ) → ℕ → ℕ
+word_at byte i = from_le_bytes w64 (map (λ j. byte (8 * i + j)) (range_with_len 0 8))
+
+-- the page of such bytes
+abbrev pub page_of : (ℕ → ℕ) → List ℕ
+page_of byte = map (word_at byte) (range_with_len 0 PAGE_WORDS)
+
+-- the page that digits of either case write: two of them fill all its bytes, or there are two for each byte
+abbrev pub content_of : List ℕ → Option (List ℕ)
+content_of text =
+    if not (list_all is_ascii_hexdigit text) then None
+    else if length text == 2 then Some (page_of (λ k. byte_at text 0))
+    else if length text == 16 * PAGE_WORDS then Some (page_of (byte_at text))
+    else None

@@ -1,0 +1,57 @@
+-- The lines of the language (own).
+use Rattle.std.specs.Prelude.{◌≡◌, ℕ, ◌^◌, ◌<◌, ◌==◌, List, [], ◌∷◌, Some, codes, decimal}
+use Rattle.std.specs.List.{slice_split}
+use Rattle.ksm_script.specs.declared.line.Line.{Line}
+use Rattle.ksm_script.specs.declared.line.Line.TheVariants.{Empty, Register, Drop, Store, Get, Ticket, Mappers, ScanPages, Scan, Prune, Mergeable, MovePage, Set, Show, Stat}
+use Rattle.ksm_script.specs.Content.{content_of}
+use Rattle.ksm_script.specs.declared.knob.Knob.{Knob}
+use Rattle.ksm_script.specs.Knobs.{knob_name, setting_limit}
+
+-- the words of a line: its bytes, parted at each space
+abbrev pub words_of : List ℕ → List (List ℕ)
+words_of line = slice_split (λ byte. byte == 32) line
+
+-- what a word of a line stands for
+pub data Part : Type 0 where
+  name : List ℕ → Part
+  guest : ℕ → Part
+  number : ℕ → Part
+  content : List ℕ → Part
+  setting : Knob → ℕ → Part
+
+-- A name is written by its own bytes, a number by its decimal digits without leading zeros, a page's content in hexadecimal.
+abbrev pub IsWritten : Part → List ℕ → Type 0
+IsWritten (name text) word = word ≡ text
+IsWritten (guest n) word = (n < 2 ^ 16) × (word ≡ decimal n)
+IsWritten (number n) word = (n < 2 ^ 32) × (word ≡ decimal n)
+IsWritten (content page) word = content_of word ≡ Some page
+IsWritten (setting knob n) word = (n < setting_limit knob) × (word ≡ decimal n)
+
+-- as many words as parts, each written by the word at its place
+abbrev pub AreWritten : List Part → List (List ℕ) → Type 0
+AreWritten [] [] = Unit {0}
+AreWritten (part ∷ parts) (word ∷ words) = IsWritten part word × AreWritten parts words
+AreWritten [] (word ∷ words) = ⊥
+AreWritten (part ∷ parts) [] = ⊥
+
+-- what each line is made of; no bytes are one empty word
+abbrev pub parts_of : Line → List Part
+parts_of Empty = name [] ∷ []
+parts_of (Register page node bytes) = name (codes "reg") ∷ guest page.guest ∷ number page.page ∷ number node ∷ content bytes ∷ []
+parts_of (Drop page) = name (codes "drop") ∷ guest page.guest ∷ number page.page ∷ []
+parts_of (Store page bytes) = name (codes "put") ∷ guest page.guest ∷ number page.page ∷ content bytes ∷ []
+parts_of (Get page) = name (codes "get") ∷ guest page.guest ∷ number page.page ∷ []
+parts_of (Ticket page) = name (codes "ticket") ∷ guest page.guest ∷ number page.page ∷ []
+parts_of (Mappers place) = name (codes "rmap") ∷ number place ∷ []
+parts_of ScanPages = name (codes "scan") ∷ []
+parts_of (Scan visits) = name (codes "scan") ∷ number visits ∷ []
+parts_of Prune = name (codes "prune") ∷ []
+parts_of (Mergeable owner) = name (codes "mergeable") ∷ guest owner ∷ []
+parts_of (MovePage page node) = name (codes "move") ∷ guest page.guest ∷ number page.page ∷ number node ∷ []
+parts_of (Set knob value) = name (codes "set") ∷ name (knob_name knob) ∷ setting knob value ∷ []
+parts_of (Show knob) = name (codes "show") ∷ name (knob_name knob) ∷ []
+parts_of Stat = name (codes "stat") ∷ []
+
+-- the bytes are the line: single spaces stand between its words, and none at the ends
+abbrev pub Writes : Line → List ℕ → Type 0
+Writes line bytes = AreWritten (parts_of line) (words_of bytes)

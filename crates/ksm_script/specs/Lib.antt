@@ -1,0 +1,11 @@
+pub mod Content
+pub mod Knobs
+pub mod Grammar
+pub mod Reading
+pub mod Texts
+pub mod Pieces
+pub mod Replies
+pub mod Input
+pub mod Answering
+pub mod Script
+pub mod Seen

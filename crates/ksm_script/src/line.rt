@@ -1,0 +1,183 @@
+//! The lines of the language.
+ghost use Rattle.std.specs.Prelude.{◌≡◌, IfOk, Ok};
+ghost use Rattle.ksm_script.specs.declared.line.Line.{Line};
+ghost use Rattle.ksm_script.specs.Grammar.{Writes};
+ghost use Rattle.ksm_script.specs.Reading.{Gives, words_left, forms, named_line, name_alone, register_at, store_at, scan_at, move_page_at, set_at};
+
+use crate::field::{
+    content_alone, cut, ended, guest_alone, is, knob, knob_alone, number, number_alone, page,
+    page_alone,
+};
+use crate::knob::Knob;
+use ksm_base::{GuestPage, PageBytes};
+use thiserror::Error;
+
+/// A line of a script, one variant for each form (own).
+#[derive(Clone, Copy, Debug, PartialEq, Eq)]
+pub enum Line {
+    /// No bytes: nothing is done, and there is no reply.
+    Empty,
+    /// `reg G P NODE HEX`
+    Register {
+        page: GuestPage,
+        node: u32,
+        bytes: PageBytes,
+    },
+    /// `drop G P`
+    Drop {
+        page: GuestPage,
+    },
+    /// `put G P HEX`
+    Store {
+        page: GuestPage,
+        bytes: PageBytes,
+    },
+    /// `get G P`
+    Get {
+        page: GuestPage,
+    },
+    /// `ticket G P`
+    Ticket {
+        page: GuestPage,
+    },
+    /// `rmap PLACE`
+    Mappers {
+        place: u32,
+    },
+    /// `scan`: as many visits as the knob `pages_to_scan` says.
+    ScanPages,
+    /// `scan N`
+    Scan {
+        visits: u32,
+    },
+    /// `prune`
+    Prune,
+    /// `mergeable G`
+    Mergeable {
+        guest: u16,
+    },
+    /// `move G P NODE`
+    MovePage {
+        page: GuestPage,
+        node: u32,
+    },
+    /// `set KNOB V`
+    Set {
+        knob: Knob,
+        value: u32,
+    },
+    /// `show KNOB`
+    Show {
+        knob: Knob,
+    },
+    /// `stat`
+    Stat,
+}
+
+/// Why bytes are no line.
+#[derive(Clone, Copy, Debug, PartialEq, Eq, Error)]
+pub enum LineFault {
+    /// The bytes are none of the forms.
+    #[error("the bytes are no line of the language")]
+    Bad,
+}
+
+/// The line that the bytes are.
+pub fn read_line(bytes: &[u8]) -> Result<Line, LineFault>
+    ensures written { IfOk result (λ line. Writes line bytes.now) }
+    ensures read { (line : Line) → Writes line bytes.now → result ≡ Ok line }
+{
+    let (name, left) = cut(bytes);
+    named(name, left)
+}
+
+/// The line that begins with a name.
+fn named(name: &[u8], left: Option<&[u8]>) -> Result<Line, LineFault>
+    ensures { Gives result (named_line forms name.now (words_left left.entry)) }
+{
+    if is(name, "") {
+        alone(Line::Empty, left)
+    } else if is(name, "reg") {
+        register(left)
+    } else if is(name, "drop") {
+        page_alone(left).map(|page| Line::Drop { page })
+    } else if is(name, "put") {
+        store(left)
+    } else if is(name, "get") {
+        page_alone(left).map(|page| Line::Get { page })
+    } else if is(name, "ticket") {
+        page_alone(left).map(|page| Line::Ticket { page })
+    } else if is(name, "rmap") {
+        number_alone(left).map(|place| Line::Mappers { place })
+    } else if is(name, "scan") {
+        scan(left)
+    } else if is(name, "prune") {
+        alone(Line::Prune, left)
+    } else if is(name, "mergeable") {
+        guest_alone(left).map(|guest| Line::Mergeable { guest })
+    } else if is(name, "move") {
+        move_page(left)
+    } else if is(name, "set") {
+        set(left)
+    } else if is(name, "show") {
+        knob_alone(left).map(|knob| Line::Show { knob })
+    } else if is(name, "stat") {
+        alone(Line::Stat, left)
+    } else {
+        Err(LineFault::Bad)
+    }
+}
+
+/// A line that is its name alone.
+fn alone(line: Line, left: Option<&[u8]>) -> Result<Line, LineFault>
+    ensures { Gives result (name_alone line (words_left left.entry)) }
+{
+    ended(left)?;
+    Ok(line)
+}
+
+fn register(left: Option<&[u8]>) -> Result<Line, LineFault>
+    ensures { Gives result (register_at (words_left left.entry)) }
+{
+    let (page, left) = page(left)?;
+    let (node, left) = number(left)?;
+    let bytes = content_alone(left)?;
+    Ok(Line::Register { page, node, bytes })
+}
+
+fn store(left: Option<&[u8]>) -> Result<Line, LineFault>
+    ensures { Gives result (store_at (words_left left.entry)) }
+{
+    let (page, left) = page(left)?;
+    let bytes = content_alone(left)?;
+    Ok(Line::Store { page, bytes })
+}
+
+fn scan(left: Option<&[u8]>) -> Result<Line, LineFault>
+    ensures { Gives result (scan_at (words_left left.entry)) }
+{
+    match ended(left) {
+        Ok(()) => Ok(Line::ScanPages),
+        Err(_) => number_alone(left).map(|visits| Line::Scan { visits }),
+    }
+}
+
+fn move_page(left: Option<&[u8]>) -> Result<Line, LineFault>
+    ensures { Gives result (move_page_at (words_left left.entry)) }
+{
+    let (page, left) = page(left)?;
+    let node = number_alone(left)?;
+    Ok(Line::MovePage { page, node })
+}
+
+fn set(left: Option<&[u8]>) -> Result<Line, LineFault>
+    ensures { Gives result (set_at (words_left left.entry)) }
+{
+    let (knob, left) = knob(left)?;
+    let value = number_alone(left)?;
+    if u64::from(value) < knob.setting_limit() {
+        Ok(Line::Set { knob, value })
+    } else {
+        Err(LineFault::Bad)
+    }
+}

@@ -1,0 +1,171 @@
+//! The replies of the language.
+ghost use Rattle.std.specs.Prelude.{◌≡◌, OnOk, IfErr};
+ghost use Rattle.std.specs.List.{concat, flat_map};
+ghost use Rattle.std.specs.Io.KnownBytes.{Appends};
+ghost use Rattle.ksm_script.specs.Texts.{AppendsPart};
+ghost use Rattle.ksm_script.specs.Replies.{text_of, counted_text, stopped_text, counters_text, mapper_text, mappers_text};
+
+use crate::output::{Piece, write_pieces, write_text};
+use crate::script::RunFault;
+use ksm_base::{Counters, Fault, GuestPage, PageBytes};
+use std::io::Write;
+
+/// A reply line, one variant for each form (own).
+#[derive(Debug, Drop)]
+pub enum LineReply {
+    /// `ok`
+    Done,
+    /// The digits of a page, lower case.
+    Content(PageBytes),
+    /// `place PLACE`: where the shared page is found.
+    Place(u32),
+    /// `private`: the page is not merged.
+    Private,
+    /// `rmap G:P G:P ..`: the pages that are merged into one, in order.
+    Mappers(Vec<GuestPage>),
+    /// `scanned VISITS`, with the refusal that stopped it.
+    Scanned { visits: u64, stop: Option<Fault> },
+    /// `pruned COUNT`
+    Pruned(u64),
+    /// `unmerged PAGES`, with the refusal that stopped it.
+    Unmerged { pages: u64, stop: Option<Fault> },
+    /// The value of a knob.
+    Value(u32),
+    /// `stat shared=..`
+    Counters(Counters),
+    /// `refused NUMBER`
+    Refused(Fault),
+    /// `bad line NUMBER`, lines being numbered from 1.
+    BadLine(u64),
+}
+
+/// Writes the line of a reply, its newline included.
+///
+/// At a fault of the writer, or where it takes no byte, the answer is `RunFault::Write`, and a beginning of the line is written.
+pub fn write_reply<W: Write>(writer: &mut W, reply: &LineReply) -> Result<(), RunFault>
+    ensures whole { OnOk result (Appends (W.contents writer.old) (W.contents writer.new) (text_of reply.now)) }
+    ensures fault { IfErr result (λ e. (e ≡ RunFault.Write)
+        × AppendsPart (W.contents writer.old) (W.contents writer.new) (text_of reply.now)) }
+{
+    const END: Piece<'static> = Piece::Text("\n");
+    match reply {
+        LineReply::Done => write_text(writer, b"ok\n"),
+        LineReply::Content(content) => write_pieces(writer, &[Piece::Content(*content), END]),
+        LineReply::Place(place) => write_count(writer, "place ", u64::from(*place)),
+        LineReply::Private => write_text(writer, b"private\n"),
+        LineReply::Mappers(pages) => write_mappers(writer, pages.as_slice()),
+        LineReply::Scanned { visits, stop } => write_stopped(writer, "scanned ", *visits, *stop),
+        LineReply::Pruned(count) => write_count(writer, "pruned ", *count),
+        LineReply::Unmerged { pages, stop } => write_stopped(writer, "unmerged ", *pages, *stop),
+        LineReply::Value(value) => write_count(writer, "", u64::from(*value)),
+        LineReply::Counters(counters) => write_counters(writer, counters),
+        LineReply::Refused(fault) => write_count(writer, "refused ", u64::from(fault.number())),
+        LineReply::BadLine(number) => write_count(writer, "bad line ", *number),
+    }
+}
+
+/// Writes a name and a number.
+fn write_count<W: Write>(writer: &mut W, name: &str, count: u64) -> Result<(), RunFault>
+    ensures whole { OnOk result (Appends (W.contents writer.old) (W.contents writer.new) (counted_text name.now count)) }
+    ensures fault { IfErr result (λ e. (e ≡ RunFault.Write)
+        × AppendsPart (W.contents writer.old) (W.contents writer.new) (counted_text name.now count)) }
+{
+    write_pieces(
+        writer,
+        &[Piece::Text(name), Piece::Number(count), Piece::Text("\n")],
+    )
+}
+
+/// Writes a name, a number, and the refusal that stopped the command, if one did.
+fn write_stopped<W: Write>(
+    writer: &mut W,
+    name: &str,
+    count: u64,
+    stop: Option<Fault>,
+) -> Result<(), RunFault>
+    ensures whole { OnOk result (Appends (W.contents writer.old) (W.contents writer.new) (stopped_text name.now count stop)) }
+    ensures fault { IfErr result (λ e. (e ≡ RunFault.Write)
+        × AppendsPart (W.contents writer.old) (W.contents writer.new) (stopped_text name.now count stop)) }
+{
+    match stop {
+        None => write_count(writer, name, count),
+        Some(fault) => write_pieces(
+            writer,
+            &[
+                Piece::Text(name),
+                Piece::Number(count),
+                Piece::Text(" refused "),
+                Piece::Number(u64::from(fault.number())),
+                Piece::Text("\n"),
+            ],
+        ),
+    }
+}
+
+/// Writes the counters, each behind its name.
+fn write_counters<W: Write>(writer: &mut W, counters: &Counters) -> Result<(), RunFault>
+    ensures whole { OnOk result (Appends (W.contents writer.old) (W.contents writer.new) (counters_text counters.now)) }
+    ensures fault { IfErr result (λ e. (e ≡ RunFault.Write)
+        × AppendsPart (W.contents writer.old) (W.contents writer.new) (counters_text counters.now)) }
+{
+    write_pieces(
+        writer,
+        &[
+            Piece::Text("stat shared="),
+            Piece::Number(counters.shared),
+            Piece::Text(" sharing="),
+            Piece::Number(counters.sharing),
+            Piece::Text(" unshared="),
+            Piece::Number(counters.unshared),
+            Piece::Text(" volatile="),
+            Piece::Number(counters.volatile),
+            Piece::Text(" chains="),
+            Piece::Number(counters.chains),
+            Piece::Text(" dups="),
+            Piece::Number(counters.dups),
+            Piece::Text(" full_scans="),
+            Piece::Number(counters.full_scans),
+            Piece::Text("\n"),
+        ],
+    )
+}
+
+/// Writes one page of a dup.
+fn write_mapper<W: Write>(writer: &mut W, page: GuestPage) -> Result<(), RunFault>
+    ensures whole { OnOk result (Appends (W.contents writer.old) (W.contents writer.new) (mapper_text page)) }
+    ensures fault { IfErr result (λ e. (e ≡ RunFault.Write)
+        × AppendsPart (W.contents writer.old) (W.contents writer.new) (mapper_text page)) }
+{
+    write_pieces(
+        writer,
+        &[
+            Piece::Text(" "),
+            Piece::Number(u64::from(page.guest)),
+            Piece::Text(":"),
+            Piece::Number(u64::from(page.page)),
+        ],
+    )
+}
+
+/// Writes the pages of a dup, each behind a space.
+fn write_pages<W: Write>(writer: &mut W, pages: &[GuestPage]) -> Result<(), RunFault>
+    ensures whole { OnOk result (Appends (W.contents writer.old) (W.contents writer.new) (flat_map mapper_text pages.now)) }
+    ensures fault { IfErr result (λ e. (e ≡ RunFault.Write)
+        × AppendsPart (W.contents writer.old) (W.contents writer.new) (flat_map mapper_text pages.now)) }
+{
+    for page in pages {
+        write_mapper(writer, *page)?;
+    }
+    Ok(())
+}
+
+/// Writes the line of the pages of a dup.
+fn write_mappers<W: Write>(writer: &mut W, pages: &[GuestPage]) -> Result<(), RunFault>
+    ensures whole { OnOk result (Appends (W.contents writer.old) (W.contents writer.new) (mappers_text pages.now)) }
+    ensures fault { IfErr result (λ e. (e ≡ RunFault.Write)
+        × AppendsPart (W.contents writer.old) (W.contents writer.new) (mappers_text pages.now)) }
+{
+    write_text(writer, b"rmap")?;
+    write_pages(writer, pages)?;
+    write_text(writer, b"\n")
+}

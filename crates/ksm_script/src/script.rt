@@ -1,0 +1,103 @@
+//! Runs of a session over a reader and a writer.
+ghost use Rattle.std.specs.Prelude.{◌≡◌, ◌+◌, ◌≤◌, ◌++◌, ◌⊎◌, ℕ, List, length, Ok, Err, OnOk, IfErr};
+ghost use Rattle.std.specs.Io.KnownBytes.{Appends, IsAtEnd};
+ghost use Rattle.ksm_script.specs.declared.reply.LineReply.TheVariants.{BadLine as bad_line};
+ghost use Rattle.ksm_script.specs.Answering.{reply_text};
+ghost use Rattle.ksm_script.specs.Input.{IsPlain};
+ghost use Rattle.ksm_script.specs.Replies.{text_of};
+ghost use Rattle.ksm_script.specs.Script.{AnsweredAll, AnsweredBefore, AnsweredToBad, IsReadAs};
+ghost use Rattle.ksm_script.specs.Texts.{AppendsPart};
+
+use crate::input::LineEnd;
+use crate::line::{Line, LineFault, read_line};
+use crate::reply::{LineReply, write_reply};
+use crate::session::Session;
+use std::io::{Read, Write};
+use thiserror::Error;
+
+/// Why a run broke off.
+#[derive(Clone, Copy, Debug, PartialEq, Eq, Error)]
+pub enum RunFault {
+    /// The reader failed.
+    #[error("the input cannot be read")]
+    Read,
+    /// The writer failed, or took no byte.
+    #[error("the output cannot be written")]
+    Write,
+}
+
+/// How a run ended.
+#[derive(Clone, Copy, Debug, PartialEq, Eq)]
+pub enum End {
+    /// All lines were read and answered.
+    AllRead,
+    /// The line of this number is bad, and nothing behind it was read.
+    BadLine(u64),
+}
+
+/// Answers each line of the reader, up to the end of the input or to a bad line.
+///
+/// Lines are numbered from 1; those of no bytes count, and have no reply. Each fault of a read or a write ends the run, an
+/// interrupted one too. At `RunFault::Read` the replies to the whole lines read are written. At `RunFault::Write` a beginning of
+/// the replies is written, and the lines read were all carried out.
+pub fn run<R: Read, W: Write>(
+    reader: &mut R,
+    writer: &mut W,
+    session: &mut Session,
+) -> Result<End, RunFault>
+    ensures all { result ≡ Ok End.AllRead → (text : List ℕ)
+        × AnsweredAll (R.remaining reader.old) (R.remaining reader.new) session.old.state session.new.state text
+        × Appends (W.contents writer.old) (W.contents writer.new) text
+        × IsAtEnd (R.remaining reader.new) }
+    ensures bad { (number : ℕ) → result ≡ Ok (End.BadLine number) → (text : List ℕ) × (count : ℕ) × (number ≡ count + 1)
+        × AnsweredToBad (R.remaining reader.old) (R.remaining reader.new) session.old.state session.new.state text count
+        × Appends (W.contents writer.old) (W.contents writer.new) (text ++ text_of (bad_line number)) }
+    ensures read_fault { result ≡ Err RunFault.Read → (text : List ℕ) × (count : ℕ) × (rest : List ℕ) × IsPlain rest × (length rest ≤ 256)
+        × AnsweredBefore (R.remaining reader.old) (R.remaining reader.new) session.old.state session.new.state text count rest
+        × Appends (W.contents writer.old) (W.contents writer.new) text }
+    ensures write_fault { result ≡ Err RunFault.Write → ((text : List ℕ)
+        × AnsweredAll (R.remaining reader.old) (R.remaining reader.new) session.old.state session.new.state text
+        × AppendsPart (W.contents writer.old) (W.contents writer.new) text)
+        ⊎ ((text : List ℕ) × (count : ℕ)
+        × AnsweredToBad (R.remaining reader.old) (R.remaining reader.new) session.old.state session.new.state text count
+        × AppendsPart (W.contents writer.old) (W.contents writer.new) (text ++ text_of (bad_line (count + 1)))) }
+    ensures table { session.new.keeper.table ≡ session.old.keeper.table }
+{
+    'lines: for number in 1..u64::MAX {
+        let end = session.read_next(reader)?;
+        if end == LineEnd::Input && session.line().is_empty() {
+            return Ok(End::AllRead);
+        }
+        let Ok(line) = line_of(session, end) else {
+            write_reply(writer, &LineReply::BadLine(number))?;
+            return Ok(End::BadLine(number));
+        };
+        write_answer(writer, session.answer(line))?;
+        if end == LineEnd::Input {
+            return Ok(End::AllRead);
+        }
+    }
+    Err(RunFault::Read)
+}
+
+/// The line that was read last, if it is not too long and one of the forms.
+fn line_of(session: &Session, end: LineEnd) -> Result<Line, LineFault>
+    ensures { IsReadAs result end session.now.line }
+{
+    if end == LineEnd::TooLong {
+        return Err(LineFault::Bad);
+    }
+    read_line(session.line())
+}
+
+/// Writes the reply to a line, if it has one.
+fn write_answer<W: Write>(writer: &mut W, reply: Option<LineReply>) -> Result<(), RunFault>
+    ensures whole { OnOk result (Appends (W.contents writer.old) (W.contents writer.new) (reply_text reply)) }
+    ensures fault { IfErr result (λ e. (e ≡ RunFault.Write)
+        × AppendsPart (W.contents writer.old) (W.contents writer.new) (reply_text reply)) }
+{
+    match reply {
+        None => Ok(()),
+        Some(reply) => write_reply(writer, &reply),
+    }
+}

@@ -1,0 +1,208 @@
+//! A table with its passes, and the book on it.
+ghost use Rattle.std.specs.Prelude.{◌≡◌, ◌≤◌, ℕ, List, length, Ok, Some, IfOk, IfErr};
+ghost use Rattle.std.specs.Io.KnownBytes.{Consumes, IsAtEnd};
+ghost use Rattle.ksm_base.specs.State.{opening};
+ghost use Rattle.ksm_base.specs.Values.{IsShape};
+ghost use Rattle.ksm_base.specs.Reading.{bytes_of, ticket_of, mappers_of};
+ghost use Rattle.ksm_base.specs.Refusals.{is_known};
+ghost use Rattle.ksm_base.specs.declared.command.Command.TheVariants.{Scan as scan};
+ghost use Rattle.ksm_script.specs.Knobs.{value_in};
+ghost use Rattle.ksm_base.specs.Counting.{counters_of};
+ghost use Rattle.ksm_script.specs.declared.reply.LineReply.TheVariants.{Counters as counters_reply, Value as value_reply};
+ghost use Rattle.frame_table.specs.Seats.{Ends};
+ghost use Rattle.ksm_script.specs.Answering.{Answers, Commands, IsMappers, reply_to, content_reply, ticket_reply};
+ghost use Rattle.ksm_script.specs.Input.{EndsAs, IsPlain};
+
+use crate::input::{LineBuffer, LineEnd, next_line};
+use crate::knob::Knob;
+use crate::line::Line;
+use crate::reply::LineReply;
+use crate::script::RunFault;
+use frame_table::{ClosedTable, FrameTable, Pass};
+use ksm_base::{Command, Fault, GuestPage, Reply, Shape};
+use ksm_book::Book;
+use std::alloc::Global;
+use std::io::Read;
+use std::marker::Model;
+
+/// What a run works on. It must be closed.
+pub struct Session {
+    alloc: Global,
+    table: FrameTable,
+    passes: Vec<Pass>,
+    book: Book,
+    line: LineBuffer,
+}
+
+impl Model for Session {
+    ghost use Rattle.std.specs.Prelude.{◌≡◌, All, vec_len};
+    ghost use Rattle.ksm_script.specs.Seen.{SessionView};
+
+    ghost Value = { SessionView };
+
+    ghost view = { λ s. record { state = s.book.state; keeper = s.book.keeper; line = s.line } };
+
+    ghost invariant = { λ s. (s.book.keeper.table ≡ s.table) × (vec_len s.passes ≡ s.table.shape.passes) × All (λ p. p.table ≡ s.table) s.passes.items };
+}
+
+impl Session {
+    /// A session whose book has no pages. Refused for memory alone; what was opened by then is closed.
+    pub fn open(alloc: Global, shape: Shape) -> Result<Session, Fault>
+        requires { IsShape shape }
+        ensures state { IfOk result (λ s. s.state ≡ opening shape) }
+        ensures shape { IfOk result (λ s. s.keeper.table.shape ≡ shape) }
+        ensures memory { IfErr result (λ fault. fault ≡ Fault.Memory) }
+    {
+        let (table, keeper, passes) = FrameTable::open(alloc, shape)?;
+        match Book::open(alloc, keeper, shape) {
+            Ok(book) => Ok(Session {
+                alloc,
+                table,
+                passes,
+                book,
+                line: LineBuffer::new(),
+            }),
+            Err((keeper, fault)) => {
+                drop(table.close(keeper, passes));
+                Err(fault)
+            }
+        }
+    }
+
+    /// The table of the session, as its keeper left it.
+    pub fn close(self) -> ClosedTable
+        ensures shape { result.shape ≡ self.keeper.table.shape }
+        ensures ends { Ends self.keeper.ledger result }
+    {
+        let Session {
+            alloc: _,
+            table,
+            passes,
+            book,
+            line: _,
+        } = self;
+        table.close(book.close(), passes)
+    }
+
+    /// Reads the next line. It takes no memory.
+    pub(crate) fn read_next<R: Read>(&mut self, reader: &mut R) -> Result<LineEnd, RunFault>
+        ensures state { self.new.state ≡ self.old.state }
+        ensures keeper { self.new.keeper ≡ self.old.keeper }
+        ensures read { IfOk result (λ end. (bytes : List ℕ) × EndsAs end self.new.line bytes
+            × Consumes (R.remaining reader.old) (R.remaining reader.new) bytes) }
+        ensures plain { IsPlain self.new.line }
+        ensures end { result ≡ Ok LineEnd.Input → IsAtEnd (R.remaining reader.new) }
+        ensures fault { IfErr result (λ e. (e ≡ RunFault.Read) × (length self.new.line ≤ 256)
+            × Consumes (R.remaining reader.old) (R.remaining reader.new) self.new.line) }
+    {
+        next_line(reader, &mut self.line)
+    }
+
+    /// The bytes of the line that was read last.
+    pub(crate) fn line(&self) -> &[u8]
+        ensures { result.now ≡ self.now.line }
+    {
+        self.line.as_slice()
+    }
+
+    /// Does what a line says.
+    pub(crate) fn answer(&mut self, line: Line) -> Option<LineReply>
+        ensures answers { Answers line self.old.state result self.new.state }
+        ensures table { self.new.keeper.table ≡ self.old.keeper.table }
+    {
+        match line {
+            Line::Empty => None,
+            Line::Register { page, node, bytes } => {
+                Some(self.command(Command::Register { page, node, bytes }))
+            }
+            Line::Drop { page } => Some(self.command(Command::Drop { page })),
+            Line::Store { page, bytes } => Some(self.command(Command::Store { page, bytes })),
+            Line::Get { page } => Some(self.content(page)),
+            Line::Ticket { page } => Some(self.ticket(page)),
+            Line::Mappers { place } => Some(self.mappers(place)),
+            Line::ScanPages => Some(self.scan_pages()),
+            Line::Scan { visits } => Some(self.command(Command::Scan {
+                visits: u64::from(visits),
+            })),
+            Line::Prune => Some(self.command(Command::Prune)),
+            Line::Mergeable { guest } => Some(self.command(Command::Mergeable { guest })),
+            Line::MovePage { page, node } => Some(self.command(Command::MovePage { page, node })),
+            Line::Set { knob, value } => Some(self.command(knob.setting(value))),
+            Line::Show { knob } => Some(self.value(knob)),
+            Line::Stat => Some(self.counters()),
+        }
+    }
+
+    fn scan_pages(&mut self) -> LineReply
+        ensures answers { Commands (scan self.old.state.knobs.pages_to_scan) self.old.state (Some result) self.new.state }
+        ensures table { self.new.keeper.table ≡ self.old.keeper.table }
+    {
+        let visits = u64::from(self.book.knobs().pages_to_scan);
+        self.command(Command::Scan { visits })
+    }
+
+    fn ticket(&self, page: GuestPage) -> LineReply
+        ensures { result ≡ ticket_reply (is_known self.now.state page) (ticket_of page self.now.state) }
+    {
+        if !self.book.registered(page) {
+            return LineReply::Refused(Fault::UnknownPage);
+        }
+        match self.book.ticket(page) {
+            None => LineReply::Private,
+            Some(place) => LineReply::Place(place),
+        }
+    }
+
+    fn mappers(&self, place: u32) -> LineReply
+        ensures { IsMappers (mappers_of place self.now.state) result }
+    {
+        match self.book.mappers(self.alloc, place) {
+            Ok(Some(pages)) => LineReply::Mappers(pages),
+            Ok(None) => LineReply::Refused(Fault::UnknownPlace),
+            Err(fault) => LineReply::Refused(fault),
+        }
+    }
+
+    fn value(&self, knob: Knob) -> LineReply
+        ensures { result ≡ value_reply (value_in knob self.now.state.knobs) }
+    {
+        LineReply::Value(knob.value_in(&self.book.knobs()))
+    }
+
+    fn command(&mut self, command: Command) -> LineReply
+        ensures answers { Commands command self.old.state (Some result) self.new.state }
+        ensures table { self.new.keeper.table ≡ self.old.keeper.table }
+    {
+        reply_to(self.book.apply(&self.table, command))
+    }
+
+    fn counters(&self) -> LineReply
+        ensures { result ≡ counters_reply (counters_of self.now.state) }
+    {
+        LineReply::Counters(self.book.counters())
+    }
+
+    fn content(&mut self, page: GuestPage) -> LineReply
+        ensures reply { result ≡ content_reply (bytes_of page self.old.state) }
+        ensures state { self.new.state ≡ self.old.state }
+        ensures table { self.new.keeper.table ≡ self.old.keeper.table }
+    {
+        match self.book.read(&self.table, page) {
+            None => LineReply::Refused(Fault::UnknownPage),
+            Some(content) => LineReply::Content(content),
+        }
+    }
+}
+
+/// The reply to the answer of a command.
+fn reply_to(answer: Result<Reply, Fault>) -> LineReply
+    ensures { result ≡ reply_to answer }
+{
+    match answer {
+        Ok(Reply::Done) => LineReply::Done,
+        Ok(Reply::Scanned { visits, stop }) => LineReply::Scanned { visits, stop },
+        Ok(Reply::Pruned(count)) => LineReply::Pruned(count),
+        Ok(Reply::Unmerged { pages, stop }) => LineReply::Unmerged { pages, stop },
+        Err(fault) => LineReply::Refused(fault),
+    }
+}

@@ -1,0 +1,458 @@
+//! Runs over memory, by worked scripts.
+use super::*;
+use ksm_base::{Fault, Shape};
+use std::alloc::Global;
+use std::io::{self, Read, Write};
+use std::test::Fail;
+
+/// A script, the sizes of its table, what it writes and how it ends.
+#[derive(Clone, Copy, Debug)]
+struct Row<'a> {
+    name: &'a str,
+    nodes: u32,
+    frames: u32,
+    last_generation: u64,
+    input: &'a [u8],
+    output: &'a [u8],
+    end: End,
+}
+
+/// A session of these sizes.
+fn open(alloc: Global, nodes: u32, frames: u32, last_generation: u64) -> Result<Session, Fault> {
+    let shape = Shape {
+        nodes,
+        frames_per_node: frames,
+        passes: 2,
+        last_generation,
+        tries: 8,
+    };
+    if !shape.check() {
+        return Err(Fault::BadValue);
+    }
+    Session::open(alloc, shape)
+}
+
+impl Row<'_> {
+    /// What a new session writes, and how the run ends.
+    fn play(&self, alloc: Global) -> Result<(Vec<u8>, Result<End, RunFault>), Fault> {
+        let mut session = open(alloc, self.nodes, self.frames, self.last_generation)?;
+        let mut reader = self.input;
+        let mut written = Vec::new(alloc);
+        let outcome = run(&mut reader, &mut written, &mut session);
+        drop(session.close());
+        Ok((written, outcome))
+    }
+}
+
+/// Register, store, read and count.
+#[test]
+fn first_rows(rt: HostRuntime) -> Result<(), Fail> {
+    let rows = [
+        Row {
+            name: "first_run",
+            nodes: 1,
+            frames: 4,
+            last_generation: 1 << 40,
+            input: b"reg 0 0 0 aa\nput 0 0 bb\nget 0 0\nstat\n",
+            output: b"ok\nok\nbbbbbbbbbbbbbbbbbbbbbbbbbbbbbbbb\nstat shared=0 sharing=0 unshared=0 volatile=1 chains=0 dups=0 full_scans=0\n",
+            end: End::AllRead,
+        },
+        Row {
+            name: "empty_input",
+            nodes: 1,
+            frames: 4,
+            last_generation: 1 << 40,
+            input: b"",
+            output: b"",
+            end: End::AllRead,
+        },
+        Row {
+            name: "counters_at_opening",
+            nodes: 1,
+            frames: 4,
+            last_generation: 1 << 40,
+            input: b"stat\n",
+            output: b"stat shared=0 sharing=0 unshared=0 volatile=0 chains=0 dups=0 full_scans=0\n",
+            end: End::AllRead,
+        },
+        Row {
+            name: "bad_line_without_newline",
+            nodes: 1,
+            frames: 4,
+            last_generation: 1 << 40,
+            input: b"reg 0 0 0 aa\nput 0 0 b",
+            output: b"ok\nbad line 2\n",
+            end: End::BadLine(2),
+        },
+        Row {
+            name: "byte_order_of_sixteen",
+            nodes: 1,
+            frames: 4,
+            last_generation: 1 << 40,
+            input: b"reg 0 0 0 000102030405060708090a0b0c0d0e0f\nget 0 0\n",
+            output: b"ok\n000102030405060708090a0b0c0d0e0f\n",
+            end: End::AllRead,
+        },
+    ];
+    for row in rows.iter() {
+        let (written, outcome) = row.play(rt.alloc())?;
+        assert_eq!(rt; outcome, Ok(row.end), "{}", row.name);
+        assert_eq!(rt; written.as_slice(), row.output, "{}", row.name);
+    }
+    Ok(())
+}
+
+/// Scans merge equal pages.
+#[test]
+fn merging_rows(rt: HostRuntime) -> Result<(), Fail> {
+    let rows = [
+        Row {
+            name: "one_pass_merges_nothing",
+            nodes: 1,
+            frames: 4,
+            last_generation: 1 << 40,
+            input: b"reg 0 0 0 aa\nreg 0 1 0 aa\nset run 1\nscan 2\nstat\n",
+            output: b"ok\nok\nok\nscanned 2\nstat shared=0 sharing=0 unshared=0 volatile=2 chains=0 dups=0 full_scans=1\n",
+            end: End::AllRead,
+        },
+        Row {
+            name: "two_equal_pages_merge",
+            nodes: 1,
+            frames: 4,
+            last_generation: 1 << 40,
+            input: b"reg 0 0 0 aa\nreg 0 1 0 aa\nset run 1\nscan 2\nstat\nscan 2\nstat\nget 0 1\n",
+            output: b"ok\nok\nok\nscanned 2\nstat shared=0 sharing=0 unshared=0 volatile=2 chains=0 dups=0 full_scans=1\nscanned 2\nstat shared=1 sharing=1 unshared=0 volatile=0 chains=0 dups=0 full_scans=2\naaaaaaaaaaaaaaaaaaaaaaaaaaaaaaaa\n",
+            end: End::AllRead,
+        },
+        Row {
+            name: "equal_store_still_copies",
+            nodes: 1,
+            frames: 4,
+            last_generation: 1 << 40,
+            input: b"reg 0 0 0 aa\nreg 0 1 0 aa\nset run 1\nscan 4\nput 0 0 aa\nput 0 1 aa\nstat\nscan 2\nstat\nticket 0 0\n",
+            output: b"ok\nok\nok\nscanned 4\nok\nok\nstat shared=0 sharing=0 unshared=0 volatile=2 chains=0 dups=0 full_scans=2\nscanned 2\nstat shared=1 sharing=1 unshared=0 volatile=0 chains=1 dups=2 full_scans=3\nplace 1\n",
+            end: End::AllRead,
+        },
+        Row {
+            name: "frame_retires",
+            nodes: 1,
+            frames: 1,
+            last_generation: 2,
+            input: b"reg 0 0 0 aa\ndrop 0 0\nreg 0 0 0 aa\ndrop 0 0\nreg 0 0 0 aa\n",
+            output: b"ok\nok\nok\nok\nrefused 4\n",
+            end: End::AllRead,
+        },
+        Row {
+            name: "stale_dup_makes_room",
+            nodes: 1,
+            frames: 3,
+            last_generation: 1 << 40,
+            input: b"reg 0 0 0 aa\nreg 0 1 0 aa\nset run 1\nscan 4\nput 0 0 a1\nput 0 1 a1\nscan 4\nput 0 0 a2\nput 0 1 a2\nscan 4\nput 0 0 a3\nput 0 1 a3\nscan 4\nstat\n",
+            output: b"ok\nok\nok\nscanned 4\nok\nok\nscanned 4\nok\nok\nscanned 4\nok\nok\nscanned 4\nstat shared=1 sharing=1 unshared=0 volatile=0 chains=0 dups=0 full_scans=8\n",
+            end: End::AllRead,
+        },
+    ];
+    for row in rows.iter() {
+        let (written, outcome) = row.play(rt.alloc())?;
+        assert_eq!(rt; outcome, Ok(row.end), "{}", row.name);
+        assert_eq!(rt; written.as_slice(), row.output, "{}", row.name);
+    }
+    Ok(())
+}
+
+/// The limit, chains and the reverse map.
+#[test]
+fn chain_rows(rt: HostRuntime) -> Result<(), Fail> {
+    let rows = [
+        Row {
+            name: "limit_boundary",
+            nodes: 1,
+            frames: 4,
+            last_generation: 1 << 40,
+            input: b"set max_page_sharing 2\nreg 0 0 0 aa\nreg 0 1 0 aa\nreg 0 2 0 aa\nreg 0 3 0 aa\nset run 1\nscan 8\nstat\n",
+            output: b"ok\nok\nok\nok\nok\nok\nscanned 8\nstat shared=2 sharing=2 unshared=0 volatile=0 chains=1 dups=2 full_scans=2\n",
+            end: End::AllRead,
+        },
+        Row {
+            name: "fifth_page_waits",
+            nodes: 1,
+            frames: 8,
+            last_generation: 1 << 40,
+            input: b"set max_page_sharing 2\nreg 0 0 0 aa\nreg 0 1 0 aa\nreg 0 2 0 aa\nreg 0 3 0 aa\nreg 0 4 0 aa\nset run 1\nscan 10\nstat\n",
+            output: b"ok\nok\nok\nok\nok\nok\nok\nscanned 10\nstat shared=2 sharing=2 unshared=1 volatile=0 chains=1 dups=2 full_scans=2\n",
+            end: End::AllRead,
+        },
+        Row {
+            name: "chain_after_two_writes",
+            nodes: 1,
+            frames: 4,
+            last_generation: 1 << 40,
+            input: b"set max_page_sharing 2\nreg 0 0 0 aa\nreg 0 1 0 aa\nreg 0 2 0 aa\nreg 0 3 0 aa\nset run 1\nscan 8\nstat\nput 0 0 bb\nput 0 1 cc\nstat\nprune\nstat\n",
+            output: b"ok\nok\nok\nok\nok\nok\nscanned 8\nstat shared=2 sharing=2 unshared=0 volatile=0 chains=1 dups=2 full_scans=2\nok\nok\nstat shared=1 sharing=1 unshared=0 volatile=2 chains=1 dups=2 full_scans=2\npruned 1\nstat shared=1 sharing=1 unshared=0 volatile=2 chains=0 dups=0 full_scans=2\n",
+            end: End::AllRead,
+        },
+        Row {
+            name: "fullest_dup_is_joined",
+            nodes: 1,
+            frames: 8,
+            last_generation: 1 << 40,
+            input: b"set max_page_sharing 3\nreg 0 0 0 aa\nreg 0 1 0 aa\nreg 0 2 0 aa\nreg 0 3 0 aa\nreg 0 4 0 aa\nreg 0 5 0 aa\nset run 1\nscan 12\ndrop 0 0\ndrop 0 1\ndrop 0 3\nreg 0 9 0 aa\nscan 4\nticket 0 9\nstat\nrmap 0\nrmap 1\nrmap 2\n",
+            output: b"ok\nok\nok\nok\nok\nok\nok\nok\nscanned 12\nok\nok\nok\nok\nscanned 4\nplace 1\nstat shared=2 sharing=2 unshared=0 volatile=0 chains=1 dups=2 full_scans=3\nrmap 0:2\nrmap 0:4 0:5 0:9\nrefused 10\n",
+            end: End::AllRead,
+        },
+    ];
+    for row in rows.iter() {
+        let (written, outcome) = row.play(rt.alloc())?;
+        assert_eq!(rt; outcome, Ok(row.end), "{}", row.name);
+        assert_eq!(rt; written.as_slice(), row.output, "{}", row.name);
+    }
+    Ok(())
+}
+
+/// Knobs, trees by node, unmerging.
+#[test]
+fn knob_rows(rt: HostRuntime) -> Result<(), Fail> {
+    let rows = [
+        Row {
+            name: "nodes_kept_apart",
+            nodes: 2,
+            frames: 2,
+            last_generation: 1 << 40,
+            input: b"set merge_across_nodes 0\nreg 0 0 0 aa\nreg 1 0 1 aa\nset run 1\nscan 4\nstat\n",
+            output: b"ok\nok\nok\nok\nscanned 4\nstat shared=0 sharing=0 unshared=2 volatile=0 chains=0 dups=0 full_scans=2\n",
+            end: End::AllRead,
+        },
+        Row {
+            name: "refusals_of_commands",
+            nodes: 1,
+            frames: 4,
+            last_generation: 1 << 40,
+            input: b"set max_page_sharing 1\nscan 1\nput 5 5 aa\nreg 0 0 1 aa\nreg 0 0 0 aa\nreg 0 0 0 bb\n",
+            output: b"refused 7\nrefused 5\nrefused 2\nrefused 11\nok\nrefused 3\n",
+            end: End::AllRead,
+        },
+        Row {
+            name: "scan_of_pages_to_scan",
+            nodes: 1,
+            frames: 4,
+            last_generation: 1 << 40,
+            input: b"reg 0 0 0 aa\nreg 0 1 0 aa\nset run 1\nscan 4\nset pages_to_scan 0\nset pages_to_scan 3\nscan\nshow pages_to_scan\nstat\n",
+            output: b"ok\nok\nok\nscanned 4\nrefused 7\nok\nscanned 3\n3\nstat shared=1 sharing=1 unshared=0 volatile=0 chains=0 dups=0 full_scans=3\n",
+            end: End::AllRead,
+        },
+    ];
+    for row in rows.iter() {
+        let (written, outcome) = row.play(rt.alloc())?;
+        assert_eq!(rt; outcome, Ok(row.end), "{}", row.name);
+        assert_eq!(rt; written.as_slice(), row.output, "{}", row.name);
+    }
+    Ok(())
+}
+
+/// Pages and dups move.
+#[test]
+fn moving_rows(rt: HostRuntime) -> Result<(), Fail> {
+    let rows = [Row {
+        name: "moved_page_leaves_its_dup",
+        nodes: 2,
+        frames: 4,
+        last_generation: 1 << 40,
+        input: b"reg 0 0 0 aa\nreg 0 1 0 aa\nset run 1\nscan 4\nmove 0 0 1\nticket 0 0\nticket 0 1\nstat\nget 0 0\n",
+        output: b"ok\nok\nok\nscanned 4\nok\nprivate\nplace 0\nstat shared=1 sharing=0 unshared=0 volatile=1 chains=0 dups=0 full_scans=2\naaaaaaaaaaaaaaaaaaaaaaaaaaaaaaaa\n",
+        end: End::AllRead,
+    }];
+    for row in rows.iter() {
+        let (written, outcome) = row.play(rt.alloc())?;
+        assert_eq!(rt; outcome, Ok(row.end), "{}", row.name);
+        assert_eq!(rt; written.as_slice(), row.output, "{}", row.name);
+    }
+    Ok(())
+}
+
+/// Each of these lines is bad, and no reply comes before.
+#[test]
+fn every_bad_line(rt: HostRuntime) -> Result<(), Fail> {
+    let lines: [&[u8]; 43] = [
+        b"reg 0 0 0",
+        b"reg 00 0 0 aa",
+        b"reg 0 01 0 aa",
+        b"reg 65536 0 0 aa",
+        b"reg 0 4294967296 0 aa",
+        b"reg 0 0 4294967296 aa",
+        b"reg 0 0 0 aaa",
+        b"reg 0 0 0 a",
+        b"reg 0 0 0 ag",
+        b"reg 0 0 0 0x",
+        b"reg 0 0 0 000102030405060708090a0b0c0d0e0",
+        b"reg 0 0 0 000102030405060708090a0b0c0d0e0f0",
+        b"reg 0 0 0 aa aa",
+        b"reg 0 0 aa",
+        b"reg\t0 0 0 aa",
+        b"reg 0 0 0\taa",
+        b" stat",
+        b"stat ",
+        b"get  0 0",
+        b"get 0 0 ",
+        b"get 0 +0",
+        b"get 0 -1",
+        b"get 0 0x1",
+        b"get 0",
+        b"get 0 0 0",
+        b"STAT",
+        b"stat\r",
+        b"stats",
+        b"sta",
+        b" ",
+        b"put 0 0",
+        b"put 0 b",
+        b"scan -1",
+        b"scan 1 2",
+        b"scan 01",
+        b"set foo 1",
+        b"set run",
+        b"set run 1 1",
+        b"show",
+        b"show run 1",
+        b"unmerge 0",
+        b"movedup 0 0",
+        b"set run 2",
+    ];
+    for line in lines {
+        assert_eq!(rt; read_line(line), Err(LineFault::Bad), "{line:?}");
+        let mut session = open(rt.alloc(), 1, 4, 1 << 40)?;
+        let mut reader = line;
+        let mut written = Vec::new(rt.alloc());
+        let outcome = run(&mut reader, &mut written, &mut session);
+        drop(session.close());
+        assert_eq!(rt; outcome, Ok(End::BadLine(1)), "{line:?}");
+        assert_eq!(rt; written.as_slice(), b"bad line 1\n".as_slice(), "{line:?}");
+    }
+    Ok(())
+}
+
+/// Empty lines count and have no reply; nothing behind the newline of a bad line is read; of a long one 257 bytes are.
+#[test]
+fn lines_are_counted(rt: HostRuntime) -> Result<(), Fail> {
+    let mut session = open(rt.alloc(), 1, 4, 1 << 40)?;
+    let mut reader: &[u8] = b"\n\nreg 0 0 0 AA\nget 0 0\n\nSTAT\nget 0 0\n";
+    let mut written = Vec::new(rt.alloc());
+    let outcome = run(&mut reader, &mut written, &mut session);
+    assert_eq!(rt; outcome, Ok(End::BadLine(6)));
+    assert_eq!(rt; reader, b"get 0 0\n".as_slice());
+    assert_eq!(rt;
+        run(&mut reader, &mut written, &mut session),
+        Ok(End::AllRead)
+    );
+    let long = [b'a'; 300];
+    let mut reader: &[u8] = &long;
+    assert_eq!(rt;
+        run(&mut reader, &mut written, &mut session),
+        Ok(End::BadLine(1))
+    );
+    assert_eq!(rt; reader.len(), 43);
+    drop(session.close());
+    let page = "aaaaaaaaaaaaaaaaaaaaaaaaaaaaaaaa";
+    let wanted = format!(in rt.alloc(); "ok\n{page}\nbad line 6\n{page}\nbad line 1\n")?;
+    assert_eq!(rt; written.as_slice(), wanted.as_bytes());
+    Ok(())
+}
+
+/// A writer that takes `left` bytes, one a call, and then fails or takes none.
+#[derive(Drop)]
+struct Narrow {
+    taken: Vec<u8>,
+    left: usize,
+    fails: bool,
+}
+
+impl Write for Narrow {
+    fn write(&mut self, buf: &[u8]) -> io::Result<usize> {
+        if self.left == 0 || buf.is_empty() {
+            if self.fails {
+                return Err(io::Error::from(io::ErrorKind::Interrupted));
+            }
+            return Ok(0);
+        }
+        self.taken.push(buf[0])?;
+        self.left -= 1;
+        Ok(1)
+    }
+
+    fn flush(&mut self) -> io::Result<()> {
+        Ok(())
+    }
+}
+
+/// A reader that gives `left` bytes, one a call, and then fails.
+#[derive(Drop)]
+struct Broken<'a> {
+    bytes: &'a [u8],
+    left: usize,
+}
+
+impl Read for Broken<'_> {
+    fn read(&mut self, buf: &mut [u8]) -> io::Result<usize> {
+        if self.left == 0 || self.bytes.is_empty() || buf.is_empty() {
+            return Err(io::Error::from(io::ErrorKind::Interrupted));
+        }
+        buf[0] = self.bytes[0];
+        self.bytes = &self.bytes[1..];
+        self.left -= 1;
+        Ok(1)
+    }
+}
+
+const LINES: &[u8] = b"reg 0 0 0 aa\nput 0 0 bb\nget 0 0\nstat\n";
+
+const REPLIES: &[u8] =
+    b"ok\nok\nbbbbbbbbbbbbbbbbbbbbbbbbbbbbbbbb\nstat shared=0 sharing=0 unshared=0 volatile=1 chains=0 dups=0 full_scans=0\n";
+
+/// At each byte at which a write fails, just the bytes before it stand, and the line was carried out.
+#[test]
+fn a_writer_that_fails_at_each_byte(rt: HostRuntime) -> Result<(), Fail> {
+    for fails in [false, true] {
+        for left in 0..REPLIES.len() {
+            let mut session = open(rt.alloc(), 1, 4, 1 << 40)?;
+            let mut reader = LINES;
+            let mut writer = Narrow {
+                taken: Vec::new(rt.alloc()),
+                left,
+                fails,
+            };
+            let outcome = run(&mut reader, &mut writer, &mut session);
+            assert_eq!(rt; outcome, Err(RunFault::Write));
+            assert!(rt; REPLIES.starts_with(writer.taken.as_slice()));
+            assert_eq!(rt; writer.taken.len(), left);
+            let mut again: &[u8] = b"reg 0 0 0 aa\n";
+            let mut written = Vec::new(rt.alloc());
+            let outcome = run(&mut again, &mut written, &mut session);
+            drop(session.close());
+            assert_eq!(rt; outcome, Ok(End::AllRead));
+            assert_eq!(rt; written.as_slice(), b"refused 3\n".as_slice());
+        }
+    }
+    Ok(())
+}
+
+/// At each byte at which a read fails, the replies to the whole lines before it stand.
+#[test]
+fn a_reader_that_fails_at_each_byte(rt: HostRuntime) -> Result<(), Fail> {
+    for left in 0..LINES.len() {
+        let mut session = open(rt.alloc(), 1, 4, 1 << 40)?;
+        let mut reader = Broken { bytes: LINES, left };
+        let mut written = Vec::new(rt.alloc());
+        let outcome = run(&mut reader, &mut written, &mut session);
+        drop(session.close());
+        assert_eq!(rt; outcome, Err(RunFault::Read));
+        let lines = LINES
+            .iter()
+            .take(left)
+            .filter(|byte| **byte == b'\n')
+            .count();
+        let replies = written.iter().filter(|byte| **byte == b'\n').count();
+        assert_eq!(rt; replies, lines);
+        assert!(rt; REPLIES.starts_with(written.as_slice()));
+        assert!(rt; written.is_empty() || written.last() == Some(&b'\n'));
+    }
+    Ok(())
+}

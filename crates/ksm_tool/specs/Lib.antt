@@ -1,0 +1,5 @@
+pub mod CommandLine
+pub mod Plain
+pub mod Settings
+pub mod Statuses
+pub mod Told

@@ -1,0 +1,21 @@
+-- The exit statuses of the program (own).
+use Rattle.std.specs.Prelude.{ℕ, Bool, true, false, Result, Ok, Err}
+use Rattle.ksm_script.specs.declared.script.End.{End}
+use Rattle.ksm_script.specs.declared.script.End.TheVariants.{AllRead, BadLine}
+use Rattle.ksm_script.specs.declared.script.RunFault.{RunFault}
+use Rattle.ksm_tool.specs.declared.status.Status.{Status}
+use Rattle.ksm_tool.specs.declared.status.Status.TheVariants.{Done, NotUnderstood, Broken, NoMemory}
+
+-- the number of a status
+abbrev pub code_of : Status → ℕ
+code_of Done = 0
+code_of NotUnderstood = 2
+code_of Broken = 3
+code_of NoMemory = 4
+
+-- the status after a run, whose last replies are sent or not
+abbrev pub status_after : Result End RunFault → Bool → Status
+status_after (Err fault) sent = Broken
+status_after (Ok end) false = Broken
+status_after (Ok AllRead) true = Done
+status_after (Ok (BadLine line)) true = NotUnderstood

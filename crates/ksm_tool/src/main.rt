@@ -1,0 +1,93 @@
+//! The program `ksmbook`: its words tell the shape of the table, commands come on standard input,
+//! and a reply to each goes to standard output.
+#![tactic(auto)]
+
+ghost use Rattle.std.specs.Prelude.{IfOk};
+ghost use Rattle.ksm_base.specs.Values.{IsShape};
+
+mod console;
+mod options;
+mod status;
+
+use clap::error::ErrorKind;
+use console::{BLOCK, Console, Replies, Requests};
+use ksm_base::Shape;
+use ksm_script::{Session, run};
+use status::Status;
+use std::alloc::Global;
+use std::fmt::Display;
+use std::io::{self, BufReader};
+use std::process::ExitCode;
+use std::rt::Env;
+
+fn main(rt: HostRuntime) -> ExitCode {
+    let status = match shape(&rt) {
+        Ok(shape) => serve(&rt, shape),
+        Err(status) => status,
+    };
+    ExitCode::from(status)
+}
+
+/// The shape that the program's words tell. What is said in place of one goes to standard error.
+fn shape<R: Env + Eprint + AllocGlobal>(rt: &R) -> Result<Shape, Status>
+    ensures { IfOk result (λ shape. IsShape shape) }
+{
+    let words = words(rt)?;
+    options::options(rt.alloc(), words.as_slice()).map_err(|error| match error.kind() {
+        ErrorKind::OutOfMemory => Status::NoMemory,
+        _ => not_understood(rt, error),
+    })
+}
+
+/// The program's words, its name first.
+fn words<R: Env + Eprint + AllocGlobal>(rt: &R) -> Result<Vec<String>, Status> {
+    let words = std::env::args(rt).map_err(|error| match error.kind() {
+        io::ErrorKind::OutOfMemory => Status::NoMemory,
+        _ => not_understood(rt, "error: an argument is not valid UTF-8\n"),
+    })?;
+    words
+        .collect::<Vec<String>>(rt.alloc())
+        .map_err(|_| Status::NoMemory)
+}
+
+/// Says on standard error why the words are no options. Where that takes no text, the status says
+/// it all.
+fn not_understood<R: Eprint, T: Display + Drop>(rt: &R, why: T) -> Status {
+    let _ = eprint!(rt; "{why}");
+    Status::NotUnderstood
+}
+
+/// Answers the script on standard input over a table of this shape.
+fn serve<R: Input + Print + AllocGlobal>(rt: &R, shape: Shape) -> Status
+    requires { IsShape shape }
+{
+    let Ok(mut session) = Session::open(rt.alloc(), shape) else {
+        return Status::NoMemory;
+    };
+    let status = match Console::new(rt.alloc(), io::writer(rt)) {
+        Ok(console) => {
+            let status = answer(rt.alloc(), rt.reader(), &console, &mut session);
+            console.close();
+            status
+        }
+        Err(_) => Status::NoMemory,
+    };
+    let _ = session.close();
+    status
+}
+
+/// Answers the script that `input` holds.
+fn answer<I: io::Read + Drop, O: io::Write + Drop>(
+    alloc: Global,
+    input: I,
+    console: &Console<O>,
+    session: &mut Session,
+) -> Status {
+    let Ok(input) = BufReader::with_capacity(alloc, BLOCK, input) else {
+        return Status::NoMemory;
+    };
+    let mut requests = Requests { input, console };
+    let ended = run(&mut requests, &mut Replies(console), session);
+    let are_sent = ended.is_ok() && console.send().is_ok();
+    Status::after(ended, are_sent)
+}

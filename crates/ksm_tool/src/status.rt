@@ -1,0 +1,45 @@
+//! The exit status of the program.
+ghost use Rattle.std.specs.Prelude.{◌≡◌};
+ghost use Rattle.ksm_tool.specs.Statuses.{status_after};
+
+use ksm_script::{End, RunFault};
+use std::process::ExitCode;
+
+/// How the program ends.
+#[derive(Clone, Copy, Debug, PartialEq, Eq)]
+pub enum Status {
+    /// Every line was read and has its reply.
+    Done = 0,
+    /// The program's words are no options, or a line is bad.
+    NotUnderstood = 2,
+    /// A read or a write failed.
+    Broken = 3,
+    /// Memory was refused before the first line.
+    NoMemory = 4,
+}
+
+impl Status {
+    /// The status after a run of the script, whose last replies `are_sent` or not.
+    pub fn after(ended: Result<End, RunFault>, are_sent: bool) -> Status
+        ensures { result ≡ status_after ended are_sent }
+    {
+        match ended {
+            Ok(_) if !are_sent => Status::Broken,
+            Ok(End::AllRead) => Status::Done,
+            Ok(End::BadLine(_)) => Status::NotUnderstood,
+            Err(_) => Status::Broken,
+        }
+    }
+}
+
+impl From<Status> for ExitCode {
+    ghost use Rattle.std.specs.Prelude.{◌≡◌};
+    ghost use Rattle.std.specs.Process.{exit_status};
+    ghost use Rattle.ksm_tool.specs.Statuses.{code_of};
+
+    ghost from_gives = { λ status code. exit_status code ≡ code_of status };
+
+    fn from(status: Status) -> ExitCode {
+        ExitCode::from(status as u8)
+    }
+}
