@@ -2,7 +2,7 @@
 use Rattle.std.specs.Prelude.{◌≡◌, ℕ, ◌^◌, ◌<◌, ◌==◌, List, [], ◌∷◌, Some, codes, decimal}
 use Rattle.std.specs.List.{slice_split}
 use Rattle.ksm_script.specs.declared.line.Line.{Line}
-use Rattle.ksm_script.specs.declared.line.Line.TheVariants.{Empty, Register, Drop, Store, Get, Ticket, Mappers, ScanPages, Scan, Prune, Mergeable, MovePage, Set, Show, Stat}
+use Rattle.ksm_script.specs.declared.line.Line.TheVariants.{Empty, Register, Drop, Store, Get, Ticket, Mappers, ScanPages, Scan, Prune, Mergeable, MovePage, MoveDup, Set, Show, Stat}
 use Rattle.ksm_script.specs.Content.{content_of}
 use Rattle.ksm_script.specs.declared.knob.Knob.{Knob}
 use Rattle.ksm_script.specs.Knobs.{knob_name, setting_limit}
@@ -48,6 +48,7 @@ parts_of (Scan visits) = name (codes "scan") ∷ number visits ∷ []
 parts_of Prune = name (codes "prune") ∷ []
 parts_of (Mergeable owner) = name (codes "mergeable") ∷ guest owner ∷ []
 parts_of (MovePage page node) = name (codes "move") ∷ guest page.guest ∷ number page.page ∷ number node ∷ []
+parts_of (MoveDup place node) = name (codes "movedup") ∷ number place ∷ number node ∷ []
 parts_of (Set knob value) = name (codes "set") ∷ name (knob_name knob) ∷ setting knob value ∷ []
 parts_of (Show knob) = name (codes "show") ∷ name (knob_name knob) ∷ []
 parts_of Stat = name (codes "stat") ∷ []

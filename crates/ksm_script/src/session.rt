@@ -127,6 +127,7 @@ impl Session {
             Line::Prune => Some(self.command(Command::Prune)),
             Line::Mergeable { guest } => Some(self.command(Command::Mergeable { guest })),
             Line::MovePage { page, node } => Some(self.command(Command::MovePage { page, node })),
+            Line::MoveDup { place, node } => Some(self.command(Command::MoveDup { place, node })),
             Line::Set { knob, value } => Some(self.command(knob.setting(value))),
             Line::Show { knob } => Some(self.value(knob)),
             Line::Stat => Some(self.counters()),

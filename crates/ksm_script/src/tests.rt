@@ -252,15 +252,26 @@ fn knob_rows(rt: HostRuntime) -> Result<(), Fail> {
 /// Pages and dups move.
 #[test]
 fn moving_rows(rt: HostRuntime) -> Result<(), Fail> {
-    let rows = [Row {
-        name: "moved_page_leaves_its_dup",
-        nodes: 2,
-        frames: 4,
-        last_generation: 1 << 40,
-        input: b"reg 0 0 0 aa\nreg 0 1 0 aa\nset run 1\nscan 4\nmove 0 0 1\nticket 0 0\nticket 0 1\nstat\nget 0 0\n",
-        output: b"ok\nok\nok\nscanned 4\nok\nprivate\nplace 0\nstat shared=1 sharing=0 unshared=0 volatile=1 chains=0 dups=0 full_scans=2\naaaaaaaaaaaaaaaaaaaaaaaaaaaaaaaa\n",
-        end: End::AllRead,
-    }];
+    let rows = [
+        Row {
+            name: "moved_page_leaves_its_dup",
+            nodes: 2,
+            frames: 4,
+            last_generation: 1 << 40,
+            input: b"reg 0 0 0 aa\nreg 0 1 0 aa\nset run 1\nscan 4\nmove 0 0 1\nticket 0 0\nticket 0 1\nstat\nget 0 0\n",
+            output: b"ok\nok\nok\nscanned 4\nok\nprivate\nplace 0\nstat shared=1 sharing=0 unshared=0 volatile=1 chains=0 dups=0 full_scans=2\naaaaaaaaaaaaaaaaaaaaaaaaaaaaaaaa\n",
+            end: End::AllRead,
+        },
+        Row {
+            name: "dup_moves_within_its_node",
+            nodes: 2,
+            frames: 4,
+            last_generation: 1 << 40,
+            input: b"set merge_across_nodes 0\nreg 0 0 0 aa\nreg 0 1 0 aa\nset run 1\nscan 4\nmovedup 0 1\nmovedup 0 0\nget 0 0\nmovedup 3 0\nmovedup 0 9\n",
+            output: b"ok\nok\nok\nok\nscanned 4\nrefused 9\nok\naaaaaaaaaaaaaaaaaaaaaaaaaaaaaaaa\nrefused 10\nrefused 11\n",
+            end: End::AllRead,
+        },
+    ];
     for row in rows.iter() {
         let (written, outcome) = row.play(rt.alloc())?;
         assert_eq!(rt; outcome, Ok(row.end), "{}", row.name);
@@ -272,7 +283,7 @@ fn moving_rows(rt: HostRuntime) -> Result<(), Fail> {
 /// Each of these lines is bad, and no reply comes before.
 #[test]
 fn every_bad_line(rt: HostRuntime) -> Result<(), Fail> {
-    let lines: [&[u8]; 43] = [
+    let lines: [&[u8]; 42] = [
         b"reg 0 0 0",
         b"reg 00 0 0 aa",
         b"reg 0 01 0 aa",
@@ -314,7 +325,6 @@ fn every_bad_line(rt: HostRuntime) -> Result<(), Fail> {
         b"show",
         b"show run 1",
         b"unmerge 0",
-        b"movedup 0 0",
         b"set run 2",
     ];
     for line in lines {
