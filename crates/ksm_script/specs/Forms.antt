@@ -1,9 +1,8 @@
 -- Reading a line, by its first word.
-use Rattle.std.specs.Prelude.{nat_lt, List, ℕ, [], ◌∷◌, Option, Some, None, option_map, codes, bytes_eq, if◌then◌else◌}
+use Rattle.std.specs.Prelude.{List, ℕ, [], ◌∷◌, Option, Some, None, option_map, codes, bytes_eq, if◌then◌else◌}
 use Rattle.ksm_script.specs.declared.line.Line.{Line}
-use Rattle.ksm_script.specs.declared.line.Line.TheVariants.{Empty, Register, Drop, Store, Get, Ticket, Mappers, ScanPages, Scan, Prune, Mergeable, MovePage, MoveDup, Set, Show, Stat}
+use Rattle.ksm_script.specs.declared.line.Line.TheVariants.{Empty, Register, Drop, Store, Get, Ticket, Mappers, ScanPages, Scan, Prune, Unmerge, Mergeable, MovePage, MoveDup, Set, Show, Stat}
 use Rattle.ksm_script.specs.Content.{content_of}
-use Rattle.ksm_script.specs.Knobs.{setting_limit}
 use Rattle.ksm_script.specs.Reading.{◌>>=◌, field, guest_of, number_of, page_at, ended, alone, page_alone, knob_of}
 
 abbrev pub register_at : List (List ℕ) → Option Line
@@ -35,7 +34,7 @@ abbrev pub set_at : List (List ℕ) → Option Line
 set_at words = do
   knob ← field knob_of words
   value ← alone number_of knob.1
-  if nat_lt value (setting_limit knob.0) then Some (Set knob.0 value) else None
+  Some (Set knob.0 value)
 
 -- with a number of visits, or without one
 abbrev pub scan_when : Option (Unit {0}) → List (List ℕ) → Option Line
@@ -66,6 +65,7 @@ forms =
     ∷ (codes "rmap", λ words. option_map Mappers (alone number_of words))
     ∷ (codes "scan", scan_at)
     ∷ (codes "prune", name_alone Prune)
+    ∷ (codes "unmerge", λ words. option_map Unmerge (alone guest_of words))
     ∷ (codes "mergeable", λ words. option_map Mergeable (alone guest_of words))
     ∷ (codes "move", move_page_at)
     ∷ (codes "movedup", move_dup_at)

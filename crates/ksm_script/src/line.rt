@@ -53,6 +53,10 @@ pub enum Line {
     },
     /// `prune`
     Prune,
+    /// `unmerge G`
+    Unmerge {
+        guest: u16,
+    },
     /// `mergeable G`
     Mergeable {
         guest: u16,
@@ -119,6 +123,8 @@ fn named(name: &[u8], left: Option<&[u8]>) -> Result<Line, LineFault>
         scan(left)
     } else if is(name, "prune") {
         alone(Line::Prune, left)
+    } else if is(name, "unmerge") {
+        guest_alone(left).map(|guest| Line::Unmerge { guest })
     } else if is(name, "mergeable") {
         guest_alone(left).map(|guest| Line::Mergeable { guest })
     } else if is(name, "move") {
@@ -191,9 +197,5 @@ fn set(left: Option<&[u8]>) -> Result<Line, LineFault>
 {
     let (knob, left) = knob(left)?;
     let value = number_alone(left)?;
-    if u64::from(value) < knob.setting_limit() {
-        Ok(Line::Set { knob, value })
-    } else {
-        Err(LineFault::Bad)
-    }
+    Ok(Line::Set { knob, value })
 }

@@ -125,6 +125,7 @@ impl Session {
                 visits: u64::from(visits),
             })),
             Line::Prune => Some(self.command(Command::Prune)),
+            Line::Unmerge { guest } => Some(self.command(Command::Unmerge { guest })),
             Line::Mergeable { guest } => Some(self.command(Command::Mergeable { guest })),
             Line::MovePage { page, node } => Some(self.command(Command::MovePage { page, node })),
             Line::MoveDup { place, node } => Some(self.command(Command::MoveDup { place, node })),
