@@ -49,25 +49,25 @@ module _ (t : Row → Bool) (f : Row → Row) (keeps : (r : Row) → (f r).page 
   first_left zero [] = refl
   first_left zero (r ∷ rows) = by (t r) (first_left zero rows)
     where
-    by : (b : Bool) → find t rows ≡ slice_get (filter t rows) 0 → cond b (Some r) (find t rows) ≡ slice_get (cond b (r ∷ filter t rows) (filter t rows)) 0
-    by true rest = refl
-    by false rest = rest
+      by : (b : Bool) → find t rows ≡ slice_get (filter t rows) 0 → cond b (Some r) (find t rows) ≡ slice_get (cond b (r ∷ filter t rows) (filter t rows)) 0
+      by true rest = refl
+      by false rest = rest
   first_left (suc n) [] = refl
   first_left (suc n) (r ∷ rows) = by (t r) refl (first_left n rows) (first_left (suc n) rows)
     where
-    by : (b : Bool) → t r ≡ b → find t (first_changed t f n rows) ≡ slice_get (filter t rows) n → find t (first_changed t f (suc n) rows) ≡ slice_get (filter t rows) (suc n) → find t (cond b (f r ∷ first_changed t f n rows) (r ∷ first_changed t f (suc n) rows)) ≡ slice_get (cond b (r ∷ filter t rows) (filter t rows)) (suc n)
-    by true is there rest = ap (λ (b : Bool). cond b (Some (f r)) (find t (first_changed t f n rows))) (off r) ∙ there
-    by false is there rest = ap (λ (b : Bool). cond b (Some r) (find t (first_changed t f (suc n) rows))) is ∙ rest
+      by : (b : Bool) → t r ≡ b → find t (first_changed t f n rows) ≡ slice_get (filter t rows) n → find t (first_changed t f (suc n) rows) ≡ slice_get (filter t rows) (suc n) → find t (cond b (f r ∷ first_changed t f n rows) (r ∷ first_changed t f (suc n) rows)) ≡ slice_get (cond b (r ∷ filter t rows) (filter t rows)) (suc n)
+      by true is there rest = ap (λ (b : Bool). cond b (Some (f r)) (find t (first_changed t f n rows))) (off r) ∙ there
+      by false is there rest = ap (λ (b : Bool). cond b (Some r) (find t (first_changed t f (suc n) rows))) is ∙ rest
 
   -- a row comes before the stop where it comes before all
   before_stop : (r : Row) (rows : List Row) → Behind r rows → (n : ℕ) → is_before (slice_get (filter t rows) n) r ≡ true
   before_stop r [] after n = refl
   before_stop r (s ∷ rows) after n = by (t s) n (before_stop r rows (All-tail (λ x. comes_before r.page x.page ≡ true) s rows after))
     where
-    by : (b : Bool) (n : ℕ) → ((m : ℕ) → is_before (slice_get (filter t rows) m) r ≡ true) → is_before (slice_get (cond b (s ∷ filter t rows) (filter t rows)) n) r ≡ true
-    by true zero rest = All-head (λ x. comes_before r.page x.page ≡ true) s rows after
-    by true (suc m) rest = rest m
-    by false m rest = rest m
+      by : (b : Bool) (n : ℕ) → ((m : ℕ) → is_before (slice_get (filter t rows) m) r ≡ true) → is_before (slice_get (cond b (s ∷ filter t rows) (filter t rows)) n) r ≡ true
+      by true zero rest = All-head (λ x. comes_before r.page x.page ≡ true) s rows after
+      by true (suc m) rest = rest m
+      by false m rest = rest m
 
   other_page : (r : Row) (rows : List Row) → Behind r rows → (n : ℕ) (row : Row) → find t (first_changed t f n rows) ≡ Some row → same_page r.page row.page ≡ false
   other_page r rows after n row found = after_differs r.page row.page (ap (λ o. is_before o r) (sym found ∙ first_left n rows) ∙ before_stop r rows after n)
@@ -78,37 +78,37 @@ module _ (t : Row → Bool) (f : Row → Row) (keeps : (r : Row) → (f r).page 
   one_more (suc n) [] row rise found = refl
   one_more zero (r ∷ rows) row rise found = by (t r) refl (one_more zero rows row (in_order r rows rise))
     where
-    by : (b : Bool) → t r ≡ b → (find t rows ≡ Some row → change_row row.page (λ _. f row) rows ≡ first_changed t f 1 rows) → change_row row.page (λ _. f row) (r ∷ rows) ≡ cond b (f r ∷ rows) (r ∷ first_changed t f 1 rows)
-    by true is rest =
-        let e : r ≡ row = same_Some r row (sym (ap (λ (b : Bool). cond b (Some r) (find t rows)) is) ∙ found) in
-        subst (λ (x : Row). change_row x.page (λ _. f x) (r ∷ rows) ≡ f r ∷ rows) e
+      by : (b : Bool) → t r ≡ b → (find t rows ≡ Some row → change_row row.page (λ _. f row) rows ≡ first_changed t f 1 rows) → change_row row.page (λ _. f row) (r ∷ rows) ≡ cond b (f r ∷ rows) (r ∷ first_changed t f 1 rows)
+      by true is rest =
+          let e : r ≡ row = same_Some r row (sym (ap (λ (b : Bool). cond b (Some r) (find t rows)) is) ∙ found) in
+          subst (λ (x : Row). change_row x.page (λ _. f x) (r ∷ rows) ≡ f r ∷ rows) e
           (ap (λ (b : Bool). cond b (f r) r ∷ change_row r.page (λ _. f r) rows) (same_page_refl r.page)
           ∙ ap (λ l. f r ∷ l) (change_none (λ s. same_page s.page r.page) (λ _. f r) rows (λ k d lt. before_differs r.page (get_or rows k d).page (behind r rows rise k d lt))))
-    by false is rest =
-        let left : find t rows ≡ Some row = sym (ap (λ (b : Bool). cond b (Some r) (find t rows)) is) ∙ found in
-        ap (λ (b : Bool). cond b (f row) r ∷ change_row row.page (λ _. f row) rows) (other_page r rows (behind r rows rise) 0 row left)
-        ∙ ap (λ l. r ∷ l) (rest left)
+      by false is rest =
+          let left : find t rows ≡ Some row = sym (ap (λ (b : Bool). cond b (Some r) (find t rows)) is) ∙ found in
+          ap (λ (b : Bool). cond b (f row) r ∷ change_row row.page (λ _. f row) rows) (other_page r rows (behind r rows rise) 0 row left)
+          ∙ ap (λ l. r ∷ l) (rest left)
   one_more (suc n) (r ∷ rows) row rise found = by (t r) refl (one_more n rows row (in_order r rows rise)) (one_more (suc n) rows row (in_order r rows rise))
     where
-    first : List Row
-    first = f r ∷ first_changed t f n rows
+      first : List Row
+      first = f r ∷ first_changed t f n rows
 
-    second : List Row
-    second = r ∷ first_changed t f (suc n) rows
+      second : List Row
+      second = r ∷ first_changed t f (suc n) rows
 
-    by : (b : Bool) → t r ≡ b
-      → (find t (first_changed t f n rows) ≡ Some row → change_row row.page (λ _. f row) (first_changed t f n rows) ≡ first_changed t f (suc n) rows)
-      → (find t (first_changed t f (suc n) rows) ≡ Some row → change_row row.page (λ _. f row) (first_changed t f (suc n) rows) ≡ first_changed t f (suc (suc n)) rows)
-      → change_row row.page (λ _. f row) (cond b first second) ≡ cond b (f r ∷ first_changed t f (suc n) rows) (r ∷ first_changed t f (suc (suc n)) rows)
-    by true is there rest =
-        let left : find t (first_changed t f n rows) ≡ Some row = sym (ap (λ (b : Bool). cond b (Some (f r)) (find t (first_changed t f n rows))) (off r)) ∙ sym (ap (λ (b : Bool). find t (cond b first second)) is) ∙ found in
-        let other : same_page (f r).page row.page ≡ false = ap (λ p. same_page p row.page) (keeps r) ∙ other_page r rows (behind r rows rise) n row left in
-        ap (λ (b : Bool). cond b (f row) (f r) ∷ change_row row.page (λ _. f row) (first_changed t f n rows)) other
-        ∙ ap (λ l. f r ∷ l) (there left)
-    by false is there rest =
-        let left : find t (first_changed t f (suc n) rows) ≡ Some row = sym (ap (λ (b : Bool). cond b (Some r) (find t (first_changed t f (suc n) rows))) is) ∙ sym (ap (λ (b : Bool). find t (cond b first second)) is) ∙ found in
-        ap (λ (b : Bool). cond b (f row) r ∷ change_row row.page (λ _. f row) (first_changed t f (suc n) rows)) (other_page r rows (behind r rows rise) (suc n) row left)
-        ∙ ap (λ l. r ∷ l) (rest left)
+      by : (b : Bool) → t r ≡ b
+          → (find t (first_changed t f n rows) ≡ Some row → change_row row.page (λ _. f row) (first_changed t f n rows) ≡ first_changed t f (suc n) rows)
+          → (find t (first_changed t f (suc n) rows) ≡ Some row → change_row row.page (λ _. f row) (first_changed t f (suc n) rows) ≡ first_changed t f (suc (suc n)) rows)
+          → change_row row.page (λ _. f row) (cond b first second) ≡ cond b (f r ∷ first_changed t f (suc n) rows) (r ∷ first_changed t f (suc (suc n)) rows)
+      by true is there rest =
+          let left : find t (first_changed t f n rows) ≡ Some row = sym (ap (λ (b : Bool). cond b (Some (f r)) (find t (first_changed t f n rows))) (off r)) ∙ sym (ap (λ (b : Bool). find t (cond b first second)) is) ∙ found in
+          let other : same_page (f r).page row.page ≡ false = ap (λ p. same_page p row.page) (keeps r) ∙ other_page r rows (behind r rows rise) n row left in
+          ap (λ (b : Bool). cond b (f row) (f r) ∷ change_row row.page (λ _. f row) (first_changed t f n rows)) other
+          ∙ ap (λ l. f r ∷ l) (there left)
+      by false is there rest =
+          let left : find t (first_changed t f (suc n) rows) ≡ Some row = sym (ap (λ (b : Bool). cond b (Some r) (find t (first_changed t f (suc n) rows))) is) ∙ sym (ap (λ (b : Bool). find t (cond b first second)) is) ∙ found in
+          ap (λ (b : Bool). cond b (f row) r ∷ change_row row.page (λ _. f row) (first_changed t f (suc n) rows)) (other_page r rows (behind r rows rise) (suc n) row left)
+          ∙ ap (λ l. r ∷ l) (rest left)
 
   -- what was changed is what passed and comes before the stop
   pub all_before : (n : ℕ) (rows : List Row) → InPageOrder rows → first_changed t f n rows ≡ change_rows (λ r. t r && is_before (slice_get (filter t rows) n) r) f rows
@@ -116,20 +116,20 @@ module _ (t : Row → Bool) (f : Row → Row) (keeps : (r : Row) → (f r).page 
   all_before (suc n) [] rise = refl
   all_before zero (r ∷ rows) rise = by (t r) refl (all_before zero rows (in_order r rows rise))
     where
-    by : (b : Bool) → t r ≡ b → rows ≡ change_rows (λ x. t x && is_before (slice_get (filter t rows) 0) x) f rows → (r ∷ rows) ≡ change_rows (λ x. t x && is_before (slice_get (cond b (r ∷ filter t rows) (filter t rows)) 0) x) f (r ∷ rows)
-    by true is rest =
-        let here : (t r && comes_before r.page r.page) ≡ false = ap (λ b. t r && b) (before_irrefl r.page) ∙ and_false (t r) in
-        let none : change_rows (λ x. t x && comes_before x.page r.page) f rows ≡ rows = change_none (λ x. t x && comes_before x.page r.page) f rows (λ k d lt. ap (λ b. t (get_or rows k d) && b) (not_both r.page (get_or rows k d).page (behind r rows rise k d lt)) ∙ and_false (t (get_or rows k d))) in
-        λ i. cond (sym here i) (f r) r ∷ sym none i
-    by false is rest = λ i. cond (sym is i && is_before (slice_get (filter t rows) 0) r) (f r) r ∷ rest i
+      by : (b : Bool) → t r ≡ b → rows ≡ change_rows (λ x. t x && is_before (slice_get (filter t rows) 0) x) f rows → (r ∷ rows) ≡ change_rows (λ x. t x && is_before (slice_get (cond b (r ∷ filter t rows) (filter t rows)) 0) x) f (r ∷ rows)
+      by true is rest =
+          let here : (t r && comes_before r.page r.page) ≡ false = ap (λ b. t r && b) (before_irrefl r.page) ∙ and_false (t r) in
+          let none : change_rows (λ x. t x && comes_before x.page r.page) f rows ≡ rows = change_none (λ x. t x && comes_before x.page r.page) f rows (λ k d lt. ap (λ b. t (get_or rows k d) && b) (not_both r.page (get_or rows k d).page (behind r rows rise k d lt)) ∙ and_false (t (get_or rows k d))) in
+          λ i. cond (sym here i) (f r) r ∷ sym none i
+      by false is rest = λ i. cond (sym is i && is_before (slice_get (filter t rows) 0) r) (f r) r ∷ rest i
   all_before (suc n) (r ∷ rows) rise = by (t r) refl (all_before n rows (in_order r rows rise)) (all_before (suc n) rows (in_order r rows rise))
     where
-    by : (b : Bool) → t r ≡ b
-      → first_changed t f n rows ≡ change_rows (λ x. t x && is_before (slice_get (filter t rows) n) x) f rows
-      → first_changed t f (suc n) rows ≡ change_rows (λ x. t x && is_before (slice_get (filter t rows) (suc n)) x) f rows
-      → cond b (f r ∷ first_changed t f n rows) (r ∷ first_changed t f (suc n) rows) ≡ change_rows (λ x. t x && is_before (slice_get (cond b (r ∷ filter t rows) (filter t rows)) (suc n)) x) f (r ∷ rows)
-    by true is there rest = λ i. cond (sym is i && sym (before_stop r rows (behind r rows rise) n) i) (f r) r ∷ there i
-    by false is there rest = λ i. cond (sym is i && is_before (slice_get (filter t rows) (suc n)) r) (f r) r ∷ rest i
+      by : (b : Bool) → t r ≡ b
+          → first_changed t f n rows ≡ change_rows (λ x. t x && is_before (slice_get (filter t rows) n) x) f rows
+          → first_changed t f (suc n) rows ≡ change_rows (λ x. t x && is_before (slice_get (filter t rows) (suc n)) x) f rows
+          → cond b (f r ∷ first_changed t f n rows) (r ∷ first_changed t f (suc n) rows) ≡ change_rows (λ x. t x && is_before (slice_get (cond b (r ∷ filter t rows) (filter t rows)) (suc n)) x) f (r ∷ rows)
+      by true is there rest = λ i. cond (sym is i && sym (before_stop r rows (behind r rows rise) n) i) (f r) r ∷ there i
+      by false is there rest = λ i. cond (sym is i && is_before (slice_get (filter t rows) (suc n)) r) (f r) r ∷ rest i
 
 -- rows that were unshared on the way are let go as they would have been
 module _ (guest : ℕ) (stop : Option Row) where
@@ -148,16 +148,16 @@ module _ (guest : ℕ) (stop : Option Row) where
   still_reached : (r : Row) → reached (unshared r) ≡ reached r
   still_reached r = by stop
     where
-    by : (s : Option Row) → (is_of guest (unshared r) && is_before s (unshared r)) ≡ (is_of guest r && is_before s r)
-    by None = refl
-    by (Some s) = refl
+      by : (s : Option Row) → (is_of guest (unshared r) && is_before s (unshared r)) ≡ (is_of guest r && is_before s r)
+      by None = refl
+      by (Some s) = refl
 
   let_go_one : (r : Row) → (let x : Row = if met r then unshared r else r in if reached x then let_go x else x) ≡ (if reached r then let_go r else r)
   let_go_one r = by (met r) (met_reached (is_of guest r) (is_before stop r) (merged_state r.state))
     where
-    by : (m : Bool) → (m ≡ true → reached r ≡ true) → (let x : Row = cond m (unshared r) r in cond (reached x) (let_go x) x) ≡ cond (reached r) (let_go r) r
-    by true e = ap (λ (b : Bool). cond b (let_go r) (unshared r)) (still_reached r ∙ e refl) ∙ sym (ap (λ (b : Bool). cond b (let_go r) r) (e refl))
-    by false e = refl
+      by : (m : Bool) → (m ≡ true → reached r ≡ true) → (let x : Row = cond m (unshared r) r in cond (reached x) (let_go x) x) ≡ cond (reached r) (let_go r) r
+      by true e = ap (λ (b : Bool). cond b (let_go r) (unshared r)) (still_reached r ∙ e refl) ∙ sym (ap (λ (b : Bool). cond b (let_go r) r) (e refl))
+      by false e = refl
 
   pub let_go_all : (rows : List Row) → change_rows reached let_go (change_rows met unshared rows) ≡ change_rows reached let_go rows
   let_go_all [] = refl
@@ -207,15 +207,15 @@ pub find_known : (t : Row → Bool) (rows : List Row) (row : Row) → find t row
 find_known t [] row found = absurd (grind (arith, found))
 find_known t (r ∷ rows) row found = by (t r) refl (find_known t rows row)
   where
-  either : (b : Bool) → is_some (row_at row.page rows) ≡ true → is_some (cond b (Some r) (row_at row.page rows)) ≡ true
-  either true h = refl
-  either false h = h
+    either : (b : Bool) → is_some (row_at row.page rows) ≡ true → is_some (cond b (Some r) (row_at row.page rows)) ≡ true
+    either true h = refl
+    either false h = h
 
-  by : (b : Bool) → t r ≡ b → (find t rows ≡ Some row → is_some (row_at row.page rows) ≡ true) → is_some (row_at row.page (r ∷ rows)) ≡ true
-  by true is rest =
-      let e : r ≡ row = same_Some r row (sym (ap (λ (b : Bool). cond b (Some r) (find t rows)) is) ∙ found) in
-      subst (λ (x : Row). is_some (row_at x.page (r ∷ rows)) ≡ true) e (ap (λ (b : Bool). is_some (cond b (Some r) (row_at r.page rows))) (same_page_refl r.page))
-  by false is rest = either (same_page r.page row.page) (rest (sym (ap (λ (b : Bool). cond b (Some r) (find t rows)) is) ∙ found))
+    by : (b : Bool) → t r ≡ b → (find t rows ≡ Some row → is_some (row_at row.page rows) ≡ true) → is_some (row_at row.page (r ∷ rows)) ≡ true
+    by true is rest =
+        let e : r ≡ row = same_Some r row (sym (ap (λ (b : Bool). cond b (Some r) (find t rows)) is) ∙ found) in
+        subst (λ (x : Row). is_some (row_at x.page (r ∷ rows)) ≡ true) e (ap (λ (b : Bool). is_some (cond b (Some r) (row_at r.page rows))) (same_page_refl r.page))
+    by false is rest = either (same_page r.page row.page) (rest (sym (ap (λ (b : Bool). cond b (Some r) (find t rows)) is) ∙ found))
 
 pub filter_fits : (t : Row → Bool) (rows : List Row) → length (filter t rows) ≤ length rows
 filter_fits t rows = omega (arith, length-filter t rows, count_by-le-length t rows)
@@ -247,12 +247,12 @@ pub none_left : (guest : ℕ) (stop : Option Row) (rows now : List Row) → now 
 none_left guest stop rows now made = subst (All (λ r. reached guest stop r ≡ true → merged_state r.state ≡ false)) (sym made)
     (All-map (λ r. reached guest stop r ≡ true → merged_state r.state ≡ false) (λ r. if met guest stop r then unshared r else r) rows (λ k d lt. one (get_or rows k d)))
   where
-  one : (r : Row) → (let x : Row = if met guest stop r then unshared r else r in reached guest stop x ≡ true → merged_state x.state ≡ false)
-  one r = by (met guest stop r) (not_merged (is_of guest r) (is_before stop r) (merged_state r.state))
-    where
-    by : (m : Bool) → (m ≡ false → reached guest stop r ≡ true → merged_state r.state ≡ false) → (let x : Row = cond m (unshared r) r in reached guest stop x ≡ true → merged_state x.state ≡ false)
-    by true h = λ there. refl
-    by false h = h refl
+    one : (r : Row) → (let x : Row = if met guest stop r then unshared r else r in reached guest stop x ≡ true → merged_state x.state ≡ false)
+    one r = by (met guest stop r) (not_merged (is_of guest r) (is_before stop r) (merged_state r.state))
+      where
+        by : (m : Bool) → (m ≡ false → reached guest stop r ≡ true → merged_state r.state ≡ false) → (let x : Row = cond m (unshared r) r in reached guest stop x ≡ true → merged_state x.state ≡ false)
+        by true h = λ there. refl
+        by false h = h refl
 
 pub unmerged_state : (guest : ℕ) (lay mid new : Lay) (k : ℕ) (stop : Option Row) (cursor : Option GuestPage) (passes : ℕ) → InPageOrder lay.rows
     → mid ≡ record lay { rows = first_changed (is_merged_of (Some guest)) unshared k lay.rows; keeper = mid.keeper }
@@ -261,9 +261,9 @@ pub unmerged_state : (guest : ℕ) (lay mid new : Lay) (k : ℕ) (stop : Option 
     → state_of new cursor passes ≡ record (state_of lay cursor passes) { rows = change_rows (λ r. is_of guest r && is_before (slice_get (filter (is_merged_of (Some guest)) lay.rows) k) r) let_go lay.rows }
 unmerged_state guest lay mid new k stop cursor passes rise made at gone =
     let rows : change_rows (reached guest stop) let_go mid.rows ≡ change_rows (λ r. is_of guest r && is_before (slice_get (filter (is_merged_of (Some guest)) lay.rows) k) r) let_go lay.rows =
-      ap (change_rows (reached guest stop) let_go) (met_rows guest lay.rows mid.rows k stop rise (ap (λ (x : Lay). x.rows) made) at)
-      ∙ let_go_all guest stop lay.rows
-      ∙ ap (λ o. change_rows (λ r. is_of guest r && is_before o r) let_go lay.rows) (sym (stop_is (filter (is_merged_of (Some guest)) lay.rows) k stop at)) in
+    ap (change_rows (reached guest stop) let_go) (met_rows guest lay.rows mid.rows k stop rise (ap (λ (x : Lay). x.rows) made) at)
+    ∙ let_go_all guest stop lay.rows
+    ∙ ap (λ o. change_rows (λ r. is_of guest r && is_before o r) let_go lay.rows) (sym (stop_is (filter (is_merged_of (Some guest)) lay.rows) k stop at)) in
     ap (λ (x : Lay). state_of x cursor passes) gone ∙ (λ i. record (state_of (made i) cursor passes) { rows = rows i })
 
 -- the answer of an unmerging
@@ -309,9 +309,9 @@ unshared_twice : (test : Row → Bool) (rows : List Row) → map unshared (chang
 unshared_twice test [] = refl
 unshared_twice test (r ∷ rows) = by (test r) (unshared_twice test rows)
   where
-  by : (b : Bool) → map unshared (change_rows test unshared rows) ≡ map unshared rows → map unshared (cond b (unshared r) r ∷ change_rows test unshared rows) ≡ map unshared (r ∷ rows)
-  by true rest = ap (λ l. unshared r ∷ l) rest
-  by false rest = ap (λ l. unshared r ∷ l) rest
+    by : (b : Bool) → map unshared (change_rows test unshared rows) ≡ map unshared rows → map unshared (cond b (unshared r) r ∷ change_rows test unshared rows) ≡ map unshared (r ∷ rows)
+    by true rest = ap (λ l. unshared r ∷ l) rest
+    by false rest = ap (λ l. unshared r ∷ l) rest
 
 -- where it went through
 pub ended_state : (lay mid wide new : Lay) (k : ℕ) (knobs : Knobs) (cursor : Option GuestPage) (passes : ℕ) → InPageOrder lay.rows
@@ -331,9 +331,9 @@ none_merged rows now k stop rise made at ended =
     let still : now ≡ change_rows (λ r. merged_state r.state && true) unshared rows = all_unshared rows now k rise made ∙ ap (λ o. change_rows (λ r. merged_state r.state && is_before o r) unshared rows) (stop_is (merged_at rows) k stop at ∙ ended) in
     subst (All (λ r. merged_state r.state ≡ false)) (sym still) (All-map (λ r. merged_state r.state ≡ false) (λ r. if merged_state r.state && true then unshared r else r) rows (λ i d lt. one (get_or rows i d)))
   where
-  one : (r : Row) → (let x : Row = if merged_state r.state && true then unshared r else r in merged_state x.state ≡ false)
-  one r = by (merged_state r.state && true) (λ e. sym (and_true (merged_state r.state)) ∙ e)
-    where
-    by : (m : Bool) → (m ≡ false → merged_state r.state ≡ false) → (let x : Row = cond m (unshared r) r in merged_state x.state ≡ false)
-    by true h = refl
-    by false h = h refl
+    one : (r : Row) → (let x : Row = if merged_state r.state && true then unshared r else r in merged_state x.state ≡ false)
+    one r = by (merged_state r.state && true) (λ e. sym (and_true (merged_state r.state)) ∙ e)
+      where
+        by : (m : Bool) → (m ≡ false → merged_state r.state ≡ false) → (let x : Row = cond m (unshared r) r in merged_state x.state ≡ false)
+        by true h = refl
+        by false h = h refl

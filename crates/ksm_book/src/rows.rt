@@ -18,7 +18,8 @@ ghost use Rattle.ksm_book.specs.Unmerged.{is_merged_of as is_merged_of_guest};
 
 use crate::entry::Entry;
 use crate::row::{
-    is_item, is_merged, is_merged_of, is_private, is_waiting, let_go_before, settled, unshared, waits_for, with_mergeable,
+    is_item, is_merged, is_merged_of, is_private, is_waiting, let_go_before, settled, unshared,
+    waits_for, with_mergeable,
 };
 use ksm_base::{Fault, GuestPage, Knobs, Row};
 use std::alloc::Global;

@@ -14,7 +14,7 @@ pub returns-in_default-clause-stop : goal.returns-in_default-clause-stop
 returns-in_default-clause-stop c =
     let rows = c.args.layout.now.rows in
     let past = none_past (filter (is_merged_of c.args.guest) rows) c.loop-done.done
-      (next_is c.args.guest c.loop-done.done rows c.loop-done.layout.rows c.rows-in-loop-done.result.now.rows _ (ap (λ (x : Lay). x.rows) c.loop-done.invariant.state) c.rows-in-loop-done.ensures (sym c.in_default.is ∙ c.first_merged.ensures)) in
+    (next_is c.args.guest c.loop-done.done rows c.loop-done.layout.rows c.rows-in-loop-done.result.now.rows _ (ap (λ (x : Lay). x.rows) c.loop-done.invariant.state) c.rows-in-loop-done.ensures (sym c.in_default.is ∙ c.first_merged.ensures)) in
     let within = c.loop-done.invariant.within in
     omega arith
 
@@ -55,8 +55,8 @@ loop-done-preserved c =
       own = c.resettle.ensures.own ∙ c.loop-done.invariant.own;
       state = housed.state ∙ (λ i. record (c.loop-done.invariant.state i) { rows = rows i; keeper = c.resettle.new.self.keeper });
       does = subst (λ ns. Does old.keeper c.resettle.new.self.keeper ns)
-        ((λ i. map (λ (r : Row). r.home) (take c.loop-done.done merged) ++ (c.unshared.ensures i).home ∷ []) ∙ sym homes)
-        (_, chained old.keeper c.loop-done.layout.keeper c.resettle.new.self.keeper (map (λ (r : Row). r.home) (take c.loop-done.done merged)) (c.unshared.result.home ∷ []) first.0 second.0 first.1 second.1);
+          ((λ i. map (λ (r : Row). r.home) (take c.loop-done.done merged) ++ (c.unshared.ensures i).home ∷ []) ∙ sym homes)
+          (_, chained old.keeper c.loop-done.layout.keeper c.resettle.new.self.keeper (map (λ (r : Row). r.home) (take c.loop-done.done merged)) (c.unshared.result.home ∷ []) first.0 second.0 first.1 second.1);
       within = omega arith;
     }
 

@@ -23,7 +23,7 @@ let_go-requires c =
     let s = c.self.inside in
     let done = c.unshare_merged-pages in
     none_left c.args.guest done.result.1 s.layout.rows done.new.layout.rows
-      (met_rows c.args.guest s.layout.rows done.new.layout.rows done.result.0 done.result.1 c.self.invariant.rows_rise (ap (λ (x : Lay). x.rows) done.ensures.state) done.ensures.stop)
+    (met_rows c.args.guest s.layout.rows done.new.layout.rows done.result.0 done.result.1 c.self.invariant.rows_rise (ap (λ (x : Lay). x.rows) done.ensures.state) done.ensures.stop)
 
 pub returns-clause-state : goal.returns-clause-state
 returns-clause-state c =
@@ -40,7 +40,7 @@ invariant_of-self c =
     let has : list_any (is_of c.args.guest) s.layout.rows ≡ true = sym (c.has_guest.ensures ∙ ap (list_any (is_of c.args.guest)) c.rows.ensures) ∙ known in
     let b = state_of s.layout s.cursor s.passes in
     subst IsSound (sym (unmerged_state c.args.guest s.layout done.new.layout c.let_go.new.self done.result.0 done.result.1 s.cursor s.passes c.self.invariant.rows_rise done.ensures.state done.ensures.stop c.let_go.ensures))
-      (sound_after b (Unmerge c.args.guest) (Ok (Unmerged done.result.0 (fault_of done.result.1))) c.self.invariant (unmerge_answer b c.args.guest done.result.0 done.result.1 has done.ensures.stop))
+    (sound_after b (Unmerge c.args.guest) (Ok (Unmerged done.result.0 (fault_of done.result.1))) c.self.invariant (unmerge_answer b c.args.guest done.result.0 done.result.1 has done.ensures.stop))
 
 pub returns-clause-answer : goal.returns-clause-answer
 returns-clause-answer c =
@@ -49,8 +49,8 @@ returns-clause-answer c =
     let known : c.has_guest.result ≡ true = grind (arith, c.if-not-has_guest.false) in
     let has : list_any (is_of c.args.guest) s.layout.rows ≡ true = sym (c.has_guest.ensures ∙ ap (list_any (is_of c.args.guest)) c.rows.ensures) ∙ known in
     subst (λ (x : BookView). IsAnswerOrMemory x.state (Unmerge c.args.guest) (Ok (Unmerged done.result.0 c.no_frame.result))) c.self.view_is
-      (subst (λ (o : Option Fault). IsAnswerOrMemory (state_of s.layout s.cursor s.passes) (Unmerge c.args.guest) (Ok (Unmerged done.result.0 o))) (sym c.no_frame.ensures)
-        (unmerge_answer (state_of s.layout s.cursor s.passes) c.args.guest done.result.0 done.result.1 has done.ensures.stop))
+    (subst (λ (o : Option Fault). IsAnswerOrMemory (state_of s.layout s.cursor s.passes) (Unmerge c.args.guest) (Ok (Unmerged done.result.0 o))) (sym c.no_frame.ensures)
+    (unmerge_answer (state_of s.layout s.cursor s.passes) c.args.guest done.result.0 done.result.1 has done.ensures.stop))
 
 pub returns-clause-frames : goal.returns-clause-frames
 returns-clause-frames c =
@@ -58,5 +58,5 @@ returns-clause-frames c =
     let done = c.unshare_merged-pages in
     let merged = λ (rows : List Row). filter (is_merged_of (Some c.args.guest)) rows in
     subst (λ (x : BookView). Does x.keeper c.let_go.new.self.keeper (map (λ (r : Row). r.home) (take done.result.0 (merged x.state.rows)))) c.self.view_is
-      (subst (λ w. Does s.layout.keeper w (map (λ (r : Row). r.home) (take done.result.0 (merged s.layout.rows)))) (sym (ap (λ (x : Lay). x.keeper) c.let_go.ensures))
-        (gave_does s.layout.keeper done.new.layout.keeper (map (λ (r : Row). r.home) (take done.result.0 (merged s.layout.rows))) done.result.1 done.ensures.gave))
+    (subst (λ w. Does s.layout.keeper w (map (λ (r : Row). r.home) (take done.result.0 (merged s.layout.rows)))) (sym (ap (λ (x : Lay). x.keeper) c.let_go.ensures))
+    (gave_does s.layout.keeper done.new.layout.keeper (map (λ (r : Row). r.home) (take done.result.0 (merged s.layout.rows))) done.result.1 done.ensures.gave))

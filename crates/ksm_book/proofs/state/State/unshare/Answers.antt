@@ -28,7 +28,7 @@ invariant_of-self c =
     let b = state_of s.layout s.cursor s.passes in
     let at = subst (IsStop (merged_at s.layout.rows) done.result.0) c.in-Some.is done.ensures.stop in
     subst IsSound (sym (stopped_state s.layout done.new.layout c.set_knobs.new.self done.result.0 c.knobs-knobs.result s.cursor s.passes c.self.invariant.rows_rise done.ensures.state c.knobs-knobs.ensures c.set_knobs.ensures))
-      (sound_after b (SetRun 2) (Ok (Unmerged done.result.0 (Some (NoFrame c.in-Some.row.home)))) c.self.invariant (is_unmerged (merged_at s.layout.rows) done.result.0 (Some c.in-Some.row) at))
+    (sound_after b (SetRun 2) (Ok (Unmerged done.result.0 (Some (NoFrame c.in-Some.row.home)))) c.self.invariant (is_unmerged (merged_at s.layout.rows) done.result.0 (Some c.in-Some.row) at))
 
 pub returns-in-Some-clause-frames : goal.returns-in-Some-clause-frames
 returns-in-Some-clause-frames c =
@@ -36,8 +36,8 @@ returns-in-Some-clause-frames c =
     let done = c.unshare_merged-pages in
     let homes = λ (rows : List Row). map (λ (r : Row). r.home) (take done.result.0 (merged_at rows)) in
     subst (λ (x : BookView). Does x.keeper c.set_knobs.new.self.keeper (homes x.state.rows)) c.self.view_is
-      (subst (λ w. Does s.layout.keeper w (homes s.layout.rows)) (sym (ap (λ (x : Lay). x.keeper) c.set_knobs.ensures))
-        (gave_does s.layout.keeper done.new.layout.keeper (homes s.layout.rows) done.result.1 done.ensures.gave))
+    (subst (λ w. Does s.layout.keeper w (homes s.layout.rows)) (sym (ap (λ (x : Lay). x.keeper) c.set_knobs.ensures))
+    (gave_does s.layout.keeper done.new.layout.keeper (homes s.layout.rows) done.result.1 done.ensures.gave))
 
 pub unshare_all-requires : goal.unshare_all-requires
 unshare_all-requires c =
@@ -59,4 +59,4 @@ invariant_of-self-2 c =
     let b = state_of s.layout s.cursor s.passes in
     let at = subst (IsStop (merged_at s.layout.rows) done.result.0) c.in_default.is done.ensures.stop in
     subst IsSound (sym (ended_state s.layout done.new.layout c.unshare_all.new.self c.set_knobs-2.new.self done.result.0 c.knobs-knobs.result s.cursor s.passes c.self.invariant.rows_rise done.ensures.state c.knobs-knobs.ensures c.unshare_all.ensures c.set_knobs-2.ensures))
-      (sound_after b (SetRun 2) (Ok (Unmerged done.result.0 None)) c.self.invariant (is_unmerged (merged_at s.layout.rows) done.result.0 None at))
+    (sound_after b (SetRun 2) (Ok (Unmerged done.result.0 None)) c.self.invariant (is_unmerged (merged_at s.layout.rows) done.result.0 None at))
