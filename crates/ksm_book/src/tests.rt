@@ -1,7 +1,7 @@
 use crate::Book;
 use frame_table::FrameTable;
 use ksm_base::Command::{
-    Drop, Mergeable, MoveDup, MovePage, Prune, Register, Scan, SetAcross, SetLimit, SetRun, Store,
+    Drop, Mergeable, MovePage, Prune, Register, Scan, SetAcross, SetLimit, SetRun, Store,
 };
 use ksm_base::{Counters, Fault, GuestPage, PAGE_WORDS, PageBytes, Reply, Shape};
 use std::test::Fail;
@@ -129,14 +129,6 @@ fn pages_of_two_nodes(rt: HostRuntime) -> Result<(), Fail> {
     assert_eq!(rt; book.apply(&table, moving), DONE);
     assert_eq!(rt; book.apply(&table, Scan { visits: 4 }), scanned(4));
     assert_eq!(rt; book.counters().shared, 1);
-    let across = MoveDup { place: 0, node: 0 };
-    assert_eq!(rt; book.apply(&table, across), Err(Fault::CrossesNodes));
-    assert_eq!(rt; book.apply(&table, MoveDup { place: 0, node: 1 }), DONE);
-    assert_eq!(rt; book.read(&table, page(0)), Some(filled(10)));
-    let vacant = MoveDup { place: 3, node: 1 };
-    assert_eq!(rt; book.apply(&table, vacant), Err(Fault::UnknownPlace));
-    let nowhere = MoveDup { place: 0, node: 9 };
-    assert_eq!(rt; book.apply(&table, nowhere), Err(Fault::BadNode));
     assert_eq!(rt; book.knobs().merge_across_nodes, 0);
     assert_eq!(rt;
         book.apply(&table, Mergeable { guest: 1 }),
