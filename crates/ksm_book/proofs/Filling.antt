@@ -54,10 +54,6 @@ module _ (k : Ledger) (g : ℕ) (lt : g < length k.frames) (a : Note) where
   pub again : (F : Note → Note) → with_frame (with_frame k g a) g (F (frame_at (with_frame k g a) g)) ≡ with_frame k g (F a)
   again F = ap (λ x. with_frame (with_frame k g a) g (F x)) at_again ∙ (λ i. record { frames = set_again k.frames g a (F a) i; places = k.places })
 
--- what the keeper knows with a frame written as it was
-pub as_it_was : (k : Ledger) (g : ℕ) → with_frame k g (frame_at k g) ≡ k
-as_it_was k g = λ i. record { frames = set-get_or k.frames g blank i; places = k.places }
-
 -- words of a frame are written one by one
 module _ (v w w' : KeeperView) (g i : ℕ) (bytes : List ℕ) (within : g < length v.ledger.frames) (wide : length (frame_at v.ledger g).content ≡ length bytes) (lt : i < length bytes) where
   abbrev n : Note
@@ -73,11 +69,9 @@ module _ (v w w' : KeeperView) (g i : ℕ) (bytes : List ℕ) (within : g < leng
             ∙ ap (λ c. with_frame v.ledger g (holding n c)) (word_written bytes n.content i wide lt),
       )
 
-pub wrote_all : (v w : KeeperView) (g i : ℕ) (bytes : List ℕ) → length (frame_at v.ledger g).content ≡ length bytes → length bytes ≤ i → Did v w [] (puts g 0 (take i bytes)) → w.ledger ≡ with_frame v.ledger g (holding (frame_at v.ledger g) (take i bytes ++ drop i (frame_at v.ledger g).content)) → Wrote v w g bytes
-wrote_all v w g i bytes wide le so_far ledger = record {
-  did = subst (λ z. Did v w [] (puts g 0 z)) (take_all i bytes le) so_far;
-  ledger = ledger ∙ ap (λ c. with_frame v.ledger g (holding (frame_at v.ledger g) c)) ((λ j. take_all i bytes le j ++ drop_all i (frame_at v.ledger g).content (omega arith) j) ∙ append-nil bytes);
-}
+-- what the keeper knows with a frame written as it was
+pub as_it_was : (k : Ledger) (g : ℕ) → with_frame k g (frame_at k g) ≡ k
+as_it_was k g = λ i. record { frames = set-get_or k.frames g blank i; places = k.places }
 
 -- words of a frame are loaded one by one
 pub loaded_one : (v w w' : KeeperView) (g i : ℕ) (bytes : List ℕ) → i < length bytes → Did v w [] (loads g 0 (take i bytes)) → w' ≡ did w (Word g i) (get_or bytes i 0) → Did v w' [] (loads g 0 (take (i + 1) bytes))
@@ -176,7 +170,3 @@ shared_spends v w g found within is =
     let more = spent_kept v.ledger g record { kind = o.kind; base = o.base + 1; generation = o.generation; content = o.content } within (omega arith) in
     let end : spent w.ledger ≡ spent (ledger_after v.table.shape v.ledger (Add g) found) = ap (λ (z : KeeperView). spent z.ledger) is in
     omega (arith, more, end)
-
--- a frame whose reference counts has one
-pub some_base : (v : KeeperView) (g : ℕ) → IsLawful v None → (frame_at v.ledger g).kind ≡ Stable → 1 ≤ (frame_at v.ledger g).base
-some_base v g l stable = subst (λ (x : Kind). FitsBase x (frame_at v.ledger g).base) stable (l.4.kinds g)

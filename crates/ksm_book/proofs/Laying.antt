@@ -138,10 +138,6 @@ module _ (sh : Shape) (v : Listed) (dups : List DupRow) (knobs : Knobs) (next : 
     found_fits : Serves sh k.ledger dups page_row f
     found_fits = subst (λ (z : Row × ℕ). Serves sh k.ledger dups z.0 z.1) (λ t. (at.row_is t, at.frame_is t)) (h.placed.each_row i at.inside)
 
-    -- the frame of the row found
-    pub found_inside : f < frames_of k.table.shape
-    found_inside = subst (λ (s : Shape). f < frames_of s) (sym h.same) found_fits.0.frame
-
     -- the row moves to the frame taken, and its old one comes into the hand
     pub taken_hand : (v' : Listed) (w : KeeperView) (g : ℕ) → Took k w r.home r.bytes g → r.state ≡ OwnPage → v'.rows ≡ set v.rows i r → v'.frames ≡ set v.frames i g → Placed sh across w.ledger v'.rows v'.frames dups (Some f)
     taken_hand v' w g took own rows frames = subst (λ (z : List Row × List ℕ × ℕ). Placed sh across w.ledger z.0 z.1 dups (Some z.2)) (λ t. (sym rows t, sym frames t, at.frame_is t))
@@ -164,9 +160,6 @@ module _ (sh : Shape) (v : Listed) (dups : List DupRow) (knobs : Knobs) (next : 
           (rewritten sh across k.ledger v.rows v.frames dups None i r at.inside h.placed (subst (λ x. Serves sh k.ledger dups r x) (sym at.frame_is) (lodged sh across k.ledger v.rows v.frames dups None h.placed page_row r f found_fits lodges)));
       spent = h.spent;
     }
-
-    pub own_writable : IsOnItsOwn r page_row → IsWritable n.kind
-    own_writable own = subst IsWritable (sym (found_fits.0.kind ∙ own_kind page_row.state own.0)) tt
 
     -- the row is written in place
     pub laid_written : (v' : Listed) (w : KeeperView) → w.table ≡ k.table → Wrote k w f r.bytes → length r.bytes ≡ PAGE_WORDS → IsOnItsOwn r page_row → r.state ≡ OwnPage → v'.rows ≡ set v.rows i r → v'.frames ≡ set v.frames i f → IsLaid sh v' dups knobs next w
@@ -202,35 +195,6 @@ module _ (sh : Shape) (v : Listed) (dups : List DupRow) (knobs : Knobs) (next : 
 -- what is known of the row of a row's page
 pub known_as : (fact : Row → Type 0) (rows : List Row) (row page_row : Row) → row_at row.page rows ≡ Some page_row → Knows rows row fact → fact page_row
 known_as fact rows row page_row at known = subst (λ (x : Option Row). MatchOption x ⊥ fact) at known
-
--- the opening layout
-all_same : {X : Type 0} (n i : ℕ) (a : X) → get_or (replicate n a) i a ≡ a
-all_same zero i a = refl
-all_same (suc n) zero a = refl
-all_same (suc n) (suc i) a = all_same n i a
-
-pub laid_first : (sh : Shape) (knobs : Knobs) (k : KeeperView) → IsShape sh → k.table.shape ≡ sh → k.ledger ≡ first_ledger sh → IsLaid sh (record { rows = []; frames = [] }) [] knobs 0 k
-laid_first sh knobs k small same first =
-    let l : Ledger = first_ledger sh in
-    let at : (f : ℕ) → frame_at l f ≡ blank = λ f. all_same (frames_of sh) f blank in
-    let left = small.generation_low in
-    record {
-      small = small;
-      same = same;
-      placed = subst (λ (z : Ledger). Placed sh knobs.merge_across_nodes z [] [] [] None) (sym first) record {
-        paired = refl;
-        frames_long = length-replicate (frames_of sh) blank;
-        places_long = length-replicate (frames_of sh) None;
-        widths = λ f. ap (λ (x : Note). length x.content) (at f);
-        lives = λ f. subst (λ (x : Note). GenerationFits sh.last_generation x.kind x.generation) (sym (at f)) (omega (arith, left));
-        each_row = λ i lt. absurd (omega arith);
-        each_dup = λ i d lt. absurd (omega arith);
-        bases = λ f. ap (λ (x : Note). x.base) (at f);
-        kinds = λ f. subst (λ (x : Note). FitsBase x.kind x.base) (sym (at f)) refl;
-        empty = λ p h. all_same (frames_of sh) p None;
-      };
-      spent = omega arith;
-    }
 
 -- the frame of a row may be read
 pub readable : (x : Kind) (s : PageState) → x ≡ kind_for s → IsReadable x

@@ -10,6 +10,7 @@ pub mod Laying
 pub mod Found
 pub mod RowLists
 pub mod RowWalks
+pub mod Unmerged
 pub mod Withdrawn
 pub mod Sharing
 pub mod Visiting

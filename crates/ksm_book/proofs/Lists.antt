@@ -147,12 +147,3 @@ dups_with dup ds rise fresh =
     let x = get_or lower k d in
     let first : x.place < dup.place = ltb-true x.place dup.place (is_lower k d lt) in
     All-cons (R x) dup higher (first, ne_eqb x.number dup.number (λ e. omega (arith, fresh_lower k d lt, e))) (cross k d lt))
-
-pub numbers_with : (dup : DupRow) (ds : List DupRow) → All (λ d. d.number < dup.number) ds → All (λ d. d.number < dup.number + 1) (with_dup dup ds)
-numbers_with dup ds fresh =
-    let F : DupRow → Type 0 = λ d. d.number < dup.number in
-    let G : DupRow → Type 0 = λ d. d.number < dup.number + 1 in
-    let weaker = All-weaker F G (λ d h. omega arith) in
-    All-append G (filter (below dup.place) ds) (dup ∷ filter (above dup.place) ds)
-    (weaker (filter (below dup.place) ds) (All-filter (below dup.place) F ds fresh))
-    (All-cons G dup (filter (above dup.place) ds) (omega arith) (weaker (filter (above dup.place) ds) (All-filter (above dup.place) F ds fresh)))

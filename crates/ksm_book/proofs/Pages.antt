@@ -31,3 +31,6 @@ same_page_sym p q = grind (arith, nat_tests)
 
 pub before_differs : (p q : GuestPage) → comes_before p q ≡ true → same_page q p ≡ false
 before_differs p q before = grind (arith, nat_tests)
+
+pub after_differs : (p q : GuestPage) → comes_before p q ≡ true → same_page p q ≡ false
+after_differs p q before = grind (arith, nat_tests)

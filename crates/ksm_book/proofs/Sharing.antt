@@ -72,17 +72,6 @@ module _ (sh : Shape) (v : Listed) (dups : List DupRow) (knobs : Knobs) (next : 
     item_fits : Serves sh k.ledger dups item g
     item_fits = subst (λ (z : Row × ℕ). Serves sh k.ledger dups z.0 z.1) (λ t. (there.row_is t, there.frame_is t)) (h.placed.each_row j there.inside)
 
-    pub item_stable : (frame_at k.ledger g).kind ≡ Stable
-    item_stable = item_fits.0.kind ∙ shared_kind item.state merged
-      where
-        shared_kind : (s : PageState) → merged_state s ≡ true → kind_for s ≡ Stable
-        shared_kind OwnPage e = absurd (grind (arith, e))
-        shared_kind Waiting e = absurd (grind (arith, e))
-        shared_kind (Merged d) e = refl
-
-    pub item_inside : g < frames_of k.table.shape
-    item_inside = subst (λ (s : Shape). g < frames_of s) (sym h.same) item_fits.0.frame
-
     pub item_base : (room : (d : DupRow) × Contains dups d × (merged_into d.number item.state ≡ true) × (item_count v.rows d ≤ 1023)) → (frame_at k.ledger g).base ≤ 1023
     item_base room =
         let d : DupRow = room.0 in
@@ -107,27 +96,6 @@ module _ (sh : Shape) (v : Listed) (dups : List DupRow) (knobs : Knobs) (next : 
       placed = kept sh across w v'.rows v'.frames dups (Some f) (shape_same sh k w h.same e) u None keeps' (joined_hand v' w keeps bytes rows frames);
       spent = (let s = h.spent in omega (arith, s, more, more'));
     }
-
--- knobs change where they don't matter
-pub laid_knobs : (sh : Shape) (v : Listed) (dups : List DupRow) (knobs knobs' : Knobs) (next : ℕ) (k : KeeperView) → IsLaid sh v dups knobs next k → (knobs'.merge_across_nodes ≡ knobs.merge_across_nodes) ⊎ (dups ≡ []) → IsLaid sh v dups knobs' next k
-laid_knobs sh v dups knobs knobs' next k h (inl e) = record { small = h.small; same = h.same; placed = subst (λ a. Placed sh a k.ledger v.rows v.frames dups None) (sym e) h.placed; spent = h.spent }
-laid_knobs sh v dups knobs knobs' next k h (inr none) = record {
-  small = h.small;
-  same = h.same;
-  placed = (let p = h.placed in record {
-    paired = p.paired;
-    frames_long = p.frames_long;
-    places_long = p.places_long;
-    widths = p.widths;
-    lives = p.lives;
-    each_row = p.each_row;
-    each_dup = subst (All (DupFits sh knobs'.merge_across_nodes k.ledger)) (sym none) (λ n d lt. absurd (omega arith));
-    bases = p.bases;
-    kinds = p.kinds;
-    empty = p.empty;
-  });
-  spent = h.spent;
-}
 
 -- a place where no dup with items stands may be named anew, or not at all
 module _ (k : Ledger) where

@@ -6,5 +6,6 @@ pub mod RowEntries
 pub mod Plain
 pub mod Laid
 pub mod Whole
+pub mod Unmerged
 pub mod Mounted
 pub mod Lawful

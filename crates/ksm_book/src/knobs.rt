@@ -93,8 +93,9 @@ impl State {
         Ok(Reply::Done)
     }
 
-    /// Sets whether the scan stands or runs.
-    pub fn set_run(&mut self, run: u32) -> Result<Reply, Fault>
+    /// Sets whether the scan stands (0) or runs (1), or unmerges all pages (2).
+    pub fn set_run(&mut self, table: &FrameTable, run: u32) -> Result<Reply, Fault>
+        requires own { self.old.keeper.table ≡ table.now }
         ensures own { self.new.keeper.table ≡ self.old.keeper.table }
         ensures answer { IsAnswerOrMemory self.old.state (Command.SetRun run) result }
         ensures state { self.new.state ≡ after self.old.state (Command.SetRun run) result }
@@ -105,7 +106,7 @@ impl State {
             return Err(Fault::BadValue);
         }
         if run == 2 {
-            return Err(Fault::Memory);
+            return self.unshare(table);
         }
         let knobs = self.layout.knobs();
         self.layout.set_knobs(Knobs { run, ..knobs });

@@ -8,7 +8,7 @@ ghost use Rattle.ksm_base.specs.Counting.{counters_from, shared_count};
 ghost use Rattle.ksm_base.specs.Reading.{items_of};
 ghost use Rattle.ksm_base.specs.State.{place_count};
 ghost use Rattle.ksm_base.specs.Visit.{best_dup, partner, new_place};
-ghost use Rattle.ksm_base.specs.Apply.{unshared};
+ghost use Rattle.ksm_base.specs.Apply.{is_before, let_go, unshared};
 ghost use Rattle.ksm_base.specs.Refusals.{is_of};
 ghost use Rattle.ksm_base.specs.Values.{IsShape, frames_of};
 ghost use Rattle.frame_core.specs.Ledger.{first_ledger};
@@ -319,6 +319,14 @@ impl Layout {
         ensures { self.new ≡ record self.old { rows = map unshared self.old.rows } }
     {
         self.rows.unshare_all();
+    }
+
+    /// The pages of a guest that come before a row, or all of them, become Private, and neither mergeable nor unchanged, where none of them is merged.
+    pub fn let_go(&mut self, guest: u16, stop: Option<Row>)
+        requires { All (λ r. (is_of guest r && is_before stop r) ≡ true → merged_state r.state ≡ false) self.old.rows }
+        ensures { self.new ≡ record self.old { rows = change_rows (λ r. is_of guest r && is_before stop r) let_go self.old.rows } }
+    {
+        self.rows.let_go(guest, stop);
     }
 
     /// Sets the knobs; `merge_across_nodes` changes only where no dup is.

@@ -2,11 +2,12 @@
 
 ghost use Rattle.std.specs.Prelude.{◌≡◌, ◌&&◌, bytes_eq, true, if◌then◌else◌};
 ghost use Rattle.ksm_base.specs.Answers.{every_row};
-ghost use Rattle.ksm_base.specs.Apply.{fresh_row as a_fresh_row, stored as with_bytes, moved as at_node, let_go as as_let_go, unshared as as_unshared};
+ghost use Rattle.ksm_base.specs.Apply.{is_before, fresh_row as a_fresh_row, stored as with_bytes, moved as at_node, let_go as as_let_go, unshared as as_unshared};
 ghost use Rattle.ksm_base.specs.Refusals.{is_of as is_of_guest};
 ghost use Rattle.ksm_base.specs.Rows.{same_page as is_same_page, merged_into, private_state, waiting_state, merged_state, settled as as_settled};
 ghost use Rattle.ksm_base.specs.State.{tree_of as row_tree};
 ghost use Rattle.ksm_base.specs.Visit.{waits_for as is_waiting_for};
+ghost use Rattle.ksm_book.specs.Unmerged.{is_merged_of as is_merged_of_guest};
 
 use ksm_base::{GuestPage, Knobs, PageBytes, PageState, Row};
 
@@ -44,6 +45,16 @@ pub fn is_merged(state: PageState) -> bool
     ensures { result ≡ merged_state state }
 {
     matches!(state, PageState::Merged(_))
+}
+
+/// Whether a row is merged, and of the guest if one is given.
+pub fn is_merged_of(row: &Row, guest: Option<u16>) -> bool
+    ensures { result ≡ is_merged_of_guest guest row.now }
+{
+    match guest {
+        None => is_merged(row.state),
+        Some(guest) => is_of(row, guest) && is_merged(row.state),
+    }
 }
 
 /// Whether a row in this state is an item of the dup with this number.
@@ -153,6 +164,20 @@ pub fn let_go(row: Row) -> Row
         state: PageState::Private,
         ..row
     }
+}
+
+/// The row let go, if it is of the guest and comes before the one at which an unmerging stopped, if it did.
+pub fn let_go_before(row: Row, guest: u16, stop: Option<Row>) -> Row
+    ensures { result ≡ (if is_of_guest guest row && is_before stop row then as_let_go row else row) }
+{
+    let reached = match stop {
+        None => true,
+        Some(stop) => row.page < stop.page,
+    };
+    if is_of(&row, guest) && reached {
+        return let_go(row);
+    }
+    row
 }
 
 /// The row alone and not unchanged.

@@ -9,15 +9,17 @@ ghost use Rattle.std.specs.List.{list_any};
 ghost use Rattle.std.specs.Map.Iter.{deref_pair};
 ghost use Rattle.ksm_base.specs.declared.fault.Fault.TheVariants.{Memory};
 ghost use Rattle.ksm_base.specs.Refusals.{is_of as is_of_guest};
-ghost use Rattle.ksm_base.specs.Apply.{unshared as as_unshared};
+ghost use Rattle.ksm_base.specs.Apply.{is_before, let_go as as_let_go, unshared as as_unshared};
 ghost use Rattle.ksm_base.specs.Rows.{row_at, with_row, without_page, change_row, change_rows, merged_into, private_state, waiting_state, merged_state, settled as as_settled};
 ghost use Rattle.ksm_base.specs.Visit.{after_cursor as is_after_cursor, next_row as row_to_visit, partner as row_waiting};
 ghost use Rattle.ksm_book.specs.Listed.{rank, StandsAt, instead};
 ghost use Rattle.ksm_book.specs.RowEntries.{row_of, start_after};
+ghost use Rattle.ksm_book.specs.Unmerged.{is_merged_of as is_merged_of_guest};
 
 use crate::entry::Entry;
 use crate::row::{
-    is_item, is_merged, is_private, is_waiting, settled, unshared, waits_for, with_mergeable,
+    is_item, is_merged, is_merged_of, is_private, is_waiting, let_go_before, settled, unshared,
+    waits_for, with_mergeable,
 };
 use ksm_base::{Fault, GuestPage, Knobs, Row};
 use std::alloc::Global;
@@ -164,6 +166,17 @@ impl Rows {
         )
     }
 
+    /// The first merged row of a guest, or of all where no guest is given.
+    pub fn first_merged(&self, guest: Option<u16>) -> Option<Row>
+        ensures { result ≡ find (is_merged_of_guest guest) self.now.rows }
+    {
+        row_found(
+            self.entries
+                .iter()
+                .find(|(page, entry)| is_merged_of(&entry.row(**page), guest)),
+        )
+    }
+
     /// The first row of a guest after a page, or of all where no page is given.
     pub fn next_of(&self, guest: u16, cursor: Option<GuestPage>) -> Option<Row>
         ensures { result ≡ find (λ r. is_of_guest guest r && is_after_cursor cursor r.page) self.now.rows }
@@ -304,6 +317,18 @@ impl Rows {
     {
         self.entries.retain(|page, entry| {
             entry.set_row(unshared(entry.row(*page)));
+            true
+        });
+    }
+
+    /// The rows of a guest that come before the one at which an unmerging stopped, or all of them, are alone and out of
+    /// the scan.
+    pub fn let_go(&mut self, guest: u16, stop: Option<Row>)
+        ensures rows { self.new.rows ≡ change_rows (λ r. is_of_guest guest r && is_before stop r) as_let_go self.old.rows }
+        ensures frames { self.new.frames ≡ self.old.frames }
+    {
+        self.entries.retain(|page, entry| {
+            entry.set_row(let_go_before(entry.row(*page), guest, stop));
             true
         });
     }

@@ -1,14 +1,13 @@
 -- A field is read exactly where a word writes it.
-use Rattle.std.proofs.Common.{◌≡◌, ℕ, ◌^◌, ◌<◌, ◌≤◌, ltb, List, [], ◌∷◌, Option, Some, None, refl, sym, ap, subst, ◌∙◌, inl, inr, Bool, true, false, cond, ◌⊎◌, arith}
+use Rattle.std.proofs.Common.{◌≡◌, ℕ, ◌^◌, List, [], ◌∷◌, Option, Some, None, refl, sym, ap, subst, ◌∙◌, inl, inr, Bool, true, false, cond, ◌⊎◌, arith}
 use Rattle.std.specs.Prelude.{bytes_eq, option_map}
-use Rattle.std.proofs.lemmas.Bool.{lt-ltb}
 use Rattle.std.proofs.lemmas.Slice.Eq.{bytes_eq-Decides}
 use Rattle.ksm_base.specs.declared.page.GuestPage.{GuestPage}
 use Rattle.ksm_script.specs.declared.knob.Knob.{Knob}
 use Rattle.ksm_script.specs.declared.knob.Knob.TheVariants.{Run, PagesToScan, MergeAcrossNodes, MaxPageSharing}
 use Rattle.ksm_script.specs.Content.{content_of}
-use Rattle.ksm_script.specs.Knobs.{knob_name, setting_limit}
-use Rattle.ksm_script.specs.Grammar.{Part, name, guest, number, content, setting, IsWritten, AreWritten}
+use Rattle.ksm_script.specs.Knobs.{knob_name}
+use Rattle.ksm_script.specs.Grammar.{Part, name, guest, number, content, IsWritten, AreWritten}
 use Rattle.ksm_script.specs.Reading.{◌>>=◌, field, guest_of, number_of, page_at, ended, alone, page_alone, knob_of}
 use Rattle.ksm_script.proofs.Numbers.{number_takes, number_again}
 
@@ -55,19 +54,6 @@ no_words (w ∷ ws) h = absurd h
 -- the last word of a written line
 pub number_alone_again : (n : ℕ) (words : List (List ℕ)) → AreWritten (number n ∷ []) words → alone number_of words ≡ Some n
 number_alone_again n words h = let f = number_again_field n [] words h in rw (f.is, ended_again f.rest f.others) refl
-
-limit_small : (knob : Knob) → setting_limit knob ≤ 2 ^ 32
-limit_small Run = omega arith
-limit_small PagesToScan = omega arith
-limit_small MergeAcrossNodes = omega arith
-limit_small MaxPageSharing = omega arith
-
-pub setting_alone_again : (knob : Knob) (n : ℕ) (words : List (List ℕ)) → AreWritten (setting knob n ∷ []) words
-    → (alone number_of words ≡ Some n) × (ltb n (setting_limit knob) ≡ true)
-setting_alone_again knob n [] h = absurd h
-setting_alone_again knob n (w ∷ ws) h =
-    let lt : n < 2 ^ 32 = omega (arith, h.0.0, limit_small knob) in
-    (number_alone_again n (w ∷ ws) ((lt, h.0.1), h.1), lt-ltb _ _ h.0.0)
 
 pub guest_alone_again : (n : ℕ) (words : List (List ℕ)) → AreWritten (guest n ∷ []) words → alone guest_of words ≡ Some n
 guest_alone_again n words h = let f = guest_again n [] words h in rw (f.is, ended_again f.rest f.others) refl

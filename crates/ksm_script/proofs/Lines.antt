@@ -1,19 +1,18 @@
 -- Bytes are read as a line exactly where they write it.
-use Rattle.std.proofs.Common.{◌≡◌, ◌<◌, ℕ, true, false, cond, ltb, List, [], ◌∷◌, Option, Some, Result, Ok, Err, refl, sym, ap, subst, ◌∙◌}
+use Rattle.std.proofs.Common.{◌≡◌, ℕ, true, false, cond, List, [], ◌∷◌, Option, Some, Result, Ok, Err, refl, sym, ap, subst, ◌∙◌}
 use Rattle.std.specs.Prelude.{codes, bytes_eq, option_map, IfOk}
-use Rattle.std.proofs.lemmas.Bool.{ltb-true}
 use Rattle.std.proofs.lemmas.Slice.Eq.{bytes_eq-Decides}
 use Rattle.ksm_script.specs.declared.line.Line.{Line}
-use Rattle.ksm_script.specs.declared.line.Line.TheVariants.{Empty, Register, Drop, Store, Get, Ticket, Mappers, ScanPages, Scan, Prune, Mergeable, MovePage, Set, Show, Stat}
+use Rattle.ksm_script.specs.declared.line.Line.TheVariants.{Empty, Register, Drop, Store, Get, Ticket, Mappers, ScanPages, Scan, Prune, Unmerge, Mergeable, MovePage, MoveDup, Set, Show, Stat}
 use Rattle.ksm_script.specs.declared.line.LineFault.{LineFault}
-use Rattle.ksm_script.specs.Grammar.{Part, name, guest, number, content, setting, IsWritten, AreWritten, parts_of}
+use Rattle.ksm_script.specs.Grammar.{Part, name, guest, number, content, IsWritten, AreWritten, parts_of}
 use Rattle.ksm_script.specs.Content.{content_of}
-use Rattle.ksm_script.specs.Knobs.{knob_name, setting_limit}
+use Rattle.ksm_script.specs.Knobs.{knob_name}
 use Rattle.ksm_base.specs.declared.page.GuestPage.{GuestPage}
-use Rattle.ksm_script.specs.Reading.{◌>>=◌, Gives, field, guest_of, number_of, page_at, ended, alone, page_alone, knob_of, name_alone, register_at, store_at, move_page_at, set_at, scan_at, Form, forms, named_line, line_at}
+use Rattle.ksm_script.specs.Reading.{◌>>=◌, Gives, field, guest_of, number_of, page_at, ended, alone, page_alone, knob_of}
+use Rattle.ksm_script.specs.Forms.{name_alone, register_at, store_at, move_page_at, move_dup_at, set_at, scan_at, Form, forms, named_line, line_at}
 use Rattle.ksm_script.proofs.Fields.{bind_some, mapped, some_is, none_some, field_takes, page_takes, ended_takes, words_are, behind_word, behind_page, page_alone_takes, alone_takes, number_written, guest_written, knob_written}
 use Rattle.ksm_script.proofs.Fields as fields
-use Rattle.ksm_script.proofs.Booleans.{chosen, is_chosen}
 
 -- ---- what writes a line is read
 
@@ -65,6 +64,9 @@ line_again (Scan visits) words h =
 line_again Prune words h =
     let a = named_again (codes "prune") [] words h in
     rw (a.is, fields.ended_again a.rest a.others) refl
+line_again (Unmerge owner) words h =
+    let a = named_again (codes "unmerge") (guest owner ∷ []) words h in
+    rw (a.is, fields.guest_alone_again owner a.rest a.others) refl
 line_again (Mergeable owner) words h =
     let a = named_again (codes "mergeable") (guest owner ∷ []) words h in
     rw (a.is, fields.guest_alone_again owner a.rest a.others) refl
@@ -72,11 +74,14 @@ line_again (MovePage page node) words h =
     let a = named_again (codes "move") (guest page.guest ∷ number page.page ∷ number node ∷ []) words h in
     let p = fields.page_again page (number node ∷ []) a.rest a.others in
     rw (a.is, p.is, fields.number_alone_again node p.rest p.others) refl
+line_again (MoveDup place node) words h =
+    let a = named_again (codes "movedup") (number place ∷ number node ∷ []) words h in
+    let p = fields.number_again_field place (number node ∷ []) a.rest a.others in
+    rw (a.is, p.is, fields.number_alone_again node p.rest p.others) refl
 line_again (Set knob value) words h =
-    let a = named_again (codes "set") (name (knob_name knob) ∷ setting knob value ∷ []) words h in
-    let k = fields.knob_again knob (setting knob value ∷ []) a.rest a.others in
-    let v = fields.setting_alone_again knob value k.rest k.others in
-    rw (a.is, k.is, v.0, v.1) refl
+    let a = named_again (codes "set") (name (knob_name knob) ∷ number value ∷ []) words h in
+    let k = fields.knob_again knob (number value ∷ []) a.rest a.others in
+    rw (a.is, k.is, fields.number_alone_again value k.rest k.others) refl
 line_again (Show knob) words h =
     let a = named_again (codes "show") (name (knob_name knob) ∷ []) words h in
     rw (a.is, fields.knob_alone_again knob a.rest a.others) refl
@@ -135,16 +140,23 @@ move_page_takes words line e =
     line_is (codes "move") words (pw.guest_word ∷ pw.page_word ∷ nw.0 ∷ []) (MovePage p.0.0 n.0) line n.2 (behind_page words (nw.0 ∷ []) p.0 pw nw.1)
     (refl, (pw.guest_written, (pw.page_written, (number_written n.0 nw.0 nw.2, tt))))
 
+move_dup_takes : Takes (codes "movedup", move_dup_at)
+move_dup_takes words line e =
+    let p = bind_some (field number_of words) (λ p. alone number_of p.1 >>= λ n. Some (MoveDup p.0 n)) line e in
+    let n = bind_some (alone number_of p.0.1) (λ n. Some (MoveDup p.0.0 n)) line p.2 in
+    let pw = field_takes number_of words p.0 p.1 in
+    let nw = alone_takes number_of p.0.1 n.0 n.1 in
+    line_is (codes "movedup") words (pw.word ∷ nw.0 ∷ []) (MoveDup p.0.0 n.0) line n.2 (behind_word words p.0.1 (nw.0 ∷ []) pw.word pw.is nw.1)
+    (refl, (number_written p.0.0 pw.word pw.reads, (number_written n.0 nw.0 nw.2, tt)))
+
 set_takes : Takes (codes "set", set_at)
 set_takes words line e =
-    let k = bind_some (field knob_of words) (λ k. alone number_of k.1 >>= λ n. chosen (ltb n (setting_limit k.0)) (Set k.0 n)) line e in
-    let n = bind_some (alone number_of k.0.1) (λ n. chosen (ltb n (setting_limit k.0.0)) (Set k.0.0 n)) line k.2 in
+    let k = bind_some (field knob_of words) (λ k. alone number_of k.1 >>= λ n. Some (Set k.0 n)) line e in
+    let n = bind_some (alone number_of k.0.1) (λ n. Some (Set k.0.0 n)) line k.2 in
     let kw = field_takes knob_of words k.0 k.1 in
     let nw = alone_takes number_of k.0.1 n.0 n.1 in
-    let small = is_chosen (ltb n.0 (setting_limit k.0.0)) (Set k.0.0 n.0) line n.2 in
-    let below : n.0 < setting_limit k.0.0 = ltb-true _ _ small.0 in
-    line_is (codes "set") words (kw.word ∷ nw.0 ∷ []) (Set k.0.0 n.0) line (ap (λ (l : Line). Some l) (sym small.1)) (behind_word words k.0.1 (nw.0 ∷ []) kw.word kw.is nw.1)
-    (refl, (knob_written k.0.0 kw.word kw.reads, ((below, (number_written n.0 nw.0 nw.2).1), tt)))
+    line_is (codes "set") words (kw.word ∷ nw.0 ∷ []) (Set k.0.0 n.0) line n.2 (behind_word words k.0.1 (nw.0 ∷ []) kw.word kw.is nw.1)
+    (refl, (knob_written k.0.0 kw.word kw.reads, (number_written n.0 nw.0 nw.2, tt)))
 
 -- a line that is a name and a page, and one that is a name and one word
 page_form_takes : (text : List ℕ) (make : GuestPage → Line) → ((page : GuestPage) → parts_of (make page) ≡ name text ∷ guest page.guest ∷ number page.page ∷ [])
@@ -192,14 +204,20 @@ all_take = (
                 (
                   name_alone_takes (codes "prune") Prune (refl, tt),
                   (
-                    word_form_takes (codes "mergeable") guest_of Mergeable guest (λ a. refl) guest_written,
+                    word_form_takes (codes "unmerge") guest_of Unmerge guest (λ a. refl) guest_written,
                     (
-                      move_page_takes,
+                      word_form_takes (codes "mergeable") guest_of Mergeable guest (λ a. refl) guest_written,
                       (
-                        set_takes,
+                        move_page_takes,
                         (
-                          word_form_takes (codes "show") knob_of Show (λ knob. name (knob_name knob)) (λ a. refl) knob_written,
-                          (name_alone_takes (codes "stat") Stat (refl, tt), tt),
+                          move_dup_takes,
+                          (
+                            set_takes,
+                            (
+                              word_form_takes (codes "show") knob_of Show (λ knob. name (knob_name knob)) (λ a. refl) knob_written,
+                              (name_alone_takes (codes "stat") Stat (refl, tt), tt),
+                            ),
+                          ),
                         ),
                       ),
                     ),

@@ -12,7 +12,7 @@ use Rattle.ksm_base.specs.Reading.{bytes_of, ticket_of, mappers_of}
 use Rattle.ksm_base.specs.declared.page.GuestPage.{GuestPage}
 use Rattle.ksm_base.specs.Refusals.{is_known}
 use Rattle.ksm_script.specs.declared.line.Line.{Line}
-use Rattle.ksm_script.specs.declared.line.Line.TheVariants.{Empty, Register, Drop, Store, Get, Ticket, Mappers, ScanPages, Scan, Prune, Mergeable, MovePage, Set, Show, Stat}
+use Rattle.ksm_script.specs.declared.line.Line.TheVariants.{Empty, Register, Drop, Store, Get, Ticket, Mappers, ScanPages, Scan, Prune, Unmerge, Mergeable, MovePage, MoveDup, Set, Show, Stat}
 use Rattle.ksm_script.specs.declared.reply.LineReply.{LineReply}
 use Rattle.ksm_script.specs.declared.reply.LineReply.TheVariants.{Done, Content, Place, Private, Mappers as Pages, Scanned, Pruned, Unmerged, Value, Counters, Refused}
 use Rattle.ksm_script.specs.Knobs.{setting, value_in}
@@ -70,8 +70,10 @@ Answers (Mappers place) = Lists place
 Answers ScanPages = λ b. Commands (commands.Scan b.knobs.pages_to_scan) b
 Answers (Scan visits) = Commands (commands.Scan visits)
 Answers Prune = Commands commands.Prune
+Answers (Unmerge guest) = Commands (commands.Unmerge guest)
 Answers (Mergeable guest) = Commands (commands.Mergeable guest)
 Answers (MovePage page node) = Commands (commands.MovePage page node)
+Answers (MoveDup place node) = Commands (commands.MoveDup place node)
 Answers (Set knob value) = Commands (setting knob value)
 Answers (Show knob) = Reads (λ b. Some (Value (value_in knob b.knobs)))
 Answers Stat = Reads (λ b. Some (Counters (counters_of b)))

@@ -2,10 +2,9 @@
 use Rattle.std.specs.Prelude.{◌≡◌, ℕ, ◌^◌, ◌<◌, ◌==◌, List, [], ◌∷◌, Some, codes, decimal}
 use Rattle.std.specs.List.{slice_split}
 use Rattle.ksm_script.specs.declared.line.Line.{Line}
-use Rattle.ksm_script.specs.declared.line.Line.TheVariants.{Empty, Register, Drop, Store, Get, Ticket, Mappers, ScanPages, Scan, Prune, Mergeable, MovePage, Set, Show, Stat}
+use Rattle.ksm_script.specs.declared.line.Line.TheVariants.{Empty, Register, Drop, Store, Get, Ticket, Mappers, ScanPages, Scan, Prune, Unmerge, Mergeable, MovePage, MoveDup, Set, Show, Stat}
 use Rattle.ksm_script.specs.Content.{content_of}
-use Rattle.ksm_script.specs.declared.knob.Knob.{Knob}
-use Rattle.ksm_script.specs.Knobs.{knob_name, setting_limit}
+use Rattle.ksm_script.specs.Knobs.{knob_name}
 
 -- the words of a line: its bytes, parted at each space
 abbrev pub words_of : List ℕ → List (List ℕ)
@@ -17,7 +16,6 @@ pub data Part : Type 0 where
   guest : ℕ → Part
   number : ℕ → Part
   content : List ℕ → Part
-  setting : Knob → ℕ → Part
 
 -- A name is written by its own bytes, a number by its decimal digits without leading zeros, a page's content in hexadecimal.
 abbrev pub IsWritten : Part → List ℕ → Type 0
@@ -25,7 +23,6 @@ IsWritten (name text) word = word ≡ text
 IsWritten (guest n) word = (n < 2 ^ 16) × (word ≡ decimal n)
 IsWritten (number n) word = (n < 2 ^ 32) × (word ≡ decimal n)
 IsWritten (content page) word = content_of word ≡ Some page
-IsWritten (setting knob n) word = (n < setting_limit knob) × (word ≡ decimal n)
 
 -- as many words as parts, each written by the word at its place
 abbrev pub AreWritten : List Part → List (List ℕ) → Type 0
@@ -46,9 +43,11 @@ parts_of (Mappers place) = name (codes "rmap") ∷ number place ∷ []
 parts_of ScanPages = name (codes "scan") ∷ []
 parts_of (Scan visits) = name (codes "scan") ∷ number visits ∷ []
 parts_of Prune = name (codes "prune") ∷ []
+parts_of (Unmerge owner) = name (codes "unmerge") ∷ guest owner ∷ []
 parts_of (Mergeable owner) = name (codes "mergeable") ∷ guest owner ∷ []
 parts_of (MovePage page node) = name (codes "move") ∷ guest page.guest ∷ number page.page ∷ number node ∷ []
-parts_of (Set knob value) = name (codes "set") ∷ name (knob_name knob) ∷ setting knob value ∷ []
+parts_of (MoveDup place node) = name (codes "movedup") ∷ number place ∷ number node ∷ []
+parts_of (Set knob value) = name (codes "set") ∷ name (knob_name knob) ∷ number value ∷ []
 parts_of (Show knob) = name (codes "show") ∷ name (knob_name knob) ∷ []
 parts_of Stat = name (codes "stat") ∷ []
 

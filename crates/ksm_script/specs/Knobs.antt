@@ -1,5 +1,5 @@
 -- The knobs by their names (admin-guide/mm/ksm).
-use Rattle.std.specs.Prelude.{ℕ, ◌^◌, List, codes}
+use Rattle.std.specs.Prelude.{ℕ, List, codes}
 use Rattle.ksm_base.specs.declared.command.Command.{Command}
 use Rattle.ksm_base.specs.declared.command.Command.TheVariants.{SetRun, SetPagesToScan, SetAcross, SetLimit}
 use Rattle.ksm_base.specs.declared.knobs.Knobs.{Knobs}
@@ -12,13 +12,6 @@ knob_name Run = codes "run"
 knob_name PagesToScan = codes "pages_to_scan"
 knob_name MergeAcrossNodes = codes "merge_across_nodes"
 knob_name MaxPageSharing = codes "max_page_sharing"
-
--- the values that a line may set a knob to, own: below this
-abbrev pub setting_limit : Knob → ℕ
-setting_limit Run = 2
-setting_limit PagesToScan = 2 ^ 32
-setting_limit MergeAcrossNodes = 2 ^ 32
-setting_limit MaxPageSharing = 2 ^ 32
 
 -- the command that sets a knob
 abbrev pub setting : Knob → ℕ → Command

@@ -1,18 +1,15 @@
 -- Reading the words of a line from left to right.
-use Rattle.std.specs.Prelude.{◌≡◌, ℕ, ◌^◌, Bool, not, ◌&&◌, ◌||◌, ◌==◌, nat_lt, List, [], ◌∷◌, length, Option, Some, None, option_map, Result, Ok, Err, codes, bytes_eq, slice_index, if◌then◌else◌}
+use Rattle.std.specs.Prelude.{◌≡◌, ℕ, ◌^◌, Bool, not, ◌&&◌, ◌||◌, ◌==◌, nat_lt, List, [], ◌∷◌, length, Option, Some, None, Result, Ok, Err, bytes_eq, slice_index, if◌then◌else◌}
 use Rattle.std.specs.Char.{is_ascii_digit}
 use Rattle.std.specs.List.{list_all}
 use Rattle.std.specs.Str.Parse.{digits_value}
 use denote.Ref.{Bor}
 use Rattle.ksm_base.specs.declared.page.GuestPage.{GuestPage}
-use Rattle.ksm_script.specs.declared.line.Line.{Line}
-use Rattle.ksm_script.specs.declared.line.Line.TheVariants.{Empty, Register, Drop, Store, Get, Ticket, Mappers, ScanPages, Scan, Prune, Mergeable, MovePage, Set, Show, Stat}
 use Rattle.ksm_script.specs.declared.line.LineFault.{LineFault}
 use Rattle.ksm_script.specs.declared.knob.Knob.{Knob}
 use Rattle.ksm_script.specs.declared.knob.Knob.TheVariants.{Run, PagesToScan, MergeAcrossNodes, MaxPageSharing}
-use Rattle.ksm_script.specs.Content.{content_of}
 use Rattle.ksm_script.specs.Grammar.{words_of}
-use Rattle.ksm_script.specs.Knobs.{knob_name, setting_limit}
+use Rattle.ksm_script.specs.Knobs.{knob_name}
 
 -- the words of what is left of a line, if anything is
 abbrev pub words_left : Option (Bor (List ℕ)) → List (List ℕ)
@@ -87,74 +84,3 @@ knob_of word =
     else if bytes_eq word (knob_name MergeAcrossNodes) then Some MergeAcrossNodes
     else if bytes_eq word (knob_name MaxPageSharing) then Some MaxPageSharing
     else None
-
-abbrev pub register_at : List (List ℕ) → Option Line
-register_at words = do
-  page ← page_at words
-  node ← field number_of page.1
-  bytes ← alone content_of node.1
-  Some (Register page.0 node.0 bytes)
-
-abbrev pub store_at : List (List ℕ) → Option Line
-store_at words = do
-  page ← page_at words
-  bytes ← alone content_of page.1
-  Some (Store page.0 bytes)
-
-abbrev pub move_page_at : List (List ℕ) → Option Line
-move_page_at words = do
-  page ← page_at words
-  node ← alone number_of page.1
-  Some (MovePage page.0 node)
-
-abbrev pub set_at : List (List ℕ) → Option Line
-set_at words = do
-  knob ← field knob_of words
-  value ← alone number_of knob.1
-  if nat_lt value (setting_limit knob.0) then Some (Set knob.0 value) else None
-
--- with a number of visits, or without one
-abbrev pub scan_when : Option (Unit {0}) → List (List ℕ) → Option Line
-scan_when (Some end) words = Some ScanPages
-scan_when None words = option_map Scan (alone number_of words)
-
-abbrev pub scan_at : List (List ℕ) → Option Line
-scan_at words = scan_when (ended words) words
-
--- a line that is its name alone
-abbrev pub name_alone : Line → List (List ℕ) → Option Line
-name_alone line words = do
-  end ← ended words
-  Some line
-
--- the forms, by the first word
-abbrev pub Form : Type 0
-Form = List ℕ × (List (List ℕ) → Option Line)
-
-abbrev pub forms : List Form
-forms =
-    ([], name_alone Empty)
-    ∷ (codes "reg", register_at)
-    ∷ (codes "drop", λ words. option_map Drop (page_alone words))
-    ∷ (codes "put", store_at)
-    ∷ (codes "get", λ words. option_map Get (page_alone words))
-    ∷ (codes "ticket", λ words. option_map Ticket (page_alone words))
-    ∷ (codes "rmap", λ words. option_map Mappers (alone number_of words))
-    ∷ (codes "scan", scan_at)
-    ∷ (codes "prune", name_alone Prune)
-    ∷ (codes "mergeable", λ words. option_map Mergeable (alone guest_of words))
-    ∷ (codes "move", move_page_at)
-    ∷ (codes "set", set_at)
-    ∷ (codes "show", λ words. option_map Show (alone knob_of words))
-    ∷ (codes "stat", name_alone Stat)
-    ∷ []
-
--- the line that begins with a name
-abbrev pub named_line : List Form → List ℕ → List (List ℕ) → Option Line
-named_line [] name words = None
-named_line (form ∷ later) name words = if bytes_eq name form.0 then form.1 words else named_line later name words
-
--- the line of some words
-abbrev pub line_at : List (List ℕ) → Option Line
-line_at [] = None
-line_at (name ∷ words) = named_line forms name words

@@ -1,6 +1,6 @@
 //! The knobs by their names.
 ghost use Rattle.std.specs.Prelude.{◌≡◌};
-ghost use Rattle.ksm_script.specs.Knobs.{setting, setting_limit, value_in};
+ghost use Rattle.ksm_script.specs.Knobs.{setting, value_in};
 ghost use Rattle.ksm_script.specs.Reading.{Gives, knob_of};
 
 use crate::field::is;
@@ -21,16 +21,6 @@ pub enum Knob {
 }
 
 impl Knob {
-    /// The values that a line may set the knob to are below this.
-    pub fn setting_limit(self) -> u64
-        ensures { result ≡ setting_limit self }
-    {
-        match self {
-            Knob::Run => 2,
-            Knob::PagesToScan | Knob::MergeAcrossNodes | Knob::MaxPageSharing => 1 << 32,
-        }
-    }
-
     /// The command that sets the knob.
     pub fn setting(self, value: u32) -> Command
         ensures { result ≡ setting self value }

@@ -2,7 +2,8 @@
 ghost use Rattle.std.specs.Prelude.{◌≡◌, IfOk, Ok};
 ghost use Rattle.ksm_script.specs.declared.line.Line.{Line};
 ghost use Rattle.ksm_script.specs.Grammar.{Writes};
-ghost use Rattle.ksm_script.specs.Reading.{Gives, words_left, forms, named_line, name_alone, register_at, store_at, scan_at, move_page_at, set_at};
+ghost use Rattle.ksm_script.specs.Reading.{Gives, words_left};
+ghost use Rattle.ksm_script.specs.Forms.{forms, named_line, name_alone, register_at, store_at, scan_at, move_page_at, move_dup_at, set_at};
 
 use crate::field::{
     content_alone, cut, ended, guest_alone, is, knob, knob_alone, number, number_alone, page,
@@ -52,6 +53,10 @@ pub enum Line {
     },
     /// `prune`
     Prune,
+    /// `unmerge G`
+    Unmerge {
+        guest: u16,
+    },
     /// `mergeable G`
     Mergeable {
         guest: u16,
@@ -59,6 +64,11 @@ pub enum Line {
     /// `move G P NODE`
     MovePage {
         page: GuestPage,
+        node: u32,
+    },
+    /// `movedup PLACE NODE`
+    MoveDup {
+        place: u32,
         node: u32,
     },
     /// `set KNOB V`
@@ -113,10 +123,14 @@ fn named(name: &[u8], left: Option<&[u8]>) -> Result<Line, LineFault>
         scan(left)
     } else if is(name, "prune") {
         alone(Line::Prune, left)
+    } else if is(name, "unmerge") {
+        guest_alone(left).map(|guest| Line::Unmerge { guest })
     } else if is(name, "mergeable") {
         guest_alone(left).map(|guest| Line::Mergeable { guest })
     } else if is(name, "move") {
         move_page(left)
+    } else if is(name, "movedup") {
+        move_dup(left)
     } else if is(name, "set") {
         set(left)
     } else if is(name, "show") {
@@ -170,14 +184,18 @@ fn move_page(left: Option<&[u8]>) -> Result<Line, LineFault>
     Ok(Line::MovePage { page, node })
 }
 
+fn move_dup(left: Option<&[u8]>) -> Result<Line, LineFault>
+    ensures { Gives result (move_dup_at (words_left left.entry)) }
+{
+    let (place, left) = number(left)?;
+    let node = number_alone(left)?;
+    Ok(Line::MoveDup { place, node })
+}
+
 fn set(left: Option<&[u8]>) -> Result<Line, LineFault>
     ensures { Gives result (set_at (words_left left.entry)) }
 {
     let (knob, left) = knob(left)?;
     let value = number_alone(left)?;
-    if u64::from(value) < knob.setting_limit() {
-        Ok(Line::Set { knob, value })
-    } else {
-        Err(LineFault::Bad)
-    }
+    Ok(Line::Set { knob, value })
 }

@@ -223,12 +223,39 @@ fn knob_rows(rt: HostRuntime) -> Result<(), Fail> {
             end: End::AllRead,
         },
         Row {
+            name: "knob_waits_for_unmerging",
+            nodes: 1,
+            frames: 4,
+            last_generation: 1 << 40,
+            input: b"reg 0 0 0 aa\nreg 0 1 0 aa\nset run 1\nscan 4\nset merge_across_nodes 0\nset run 2\nset merge_across_nodes 0\nshow merge_across_nodes\nstat\n",
+            output: b"ok\nok\nok\nscanned 4\nrefused 6\nunmerged 2\nok\n0\nstat shared=0 sharing=0 unshared=0 volatile=2 chains=0 dups=0 full_scans=2\n",
+            end: End::AllRead,
+        },
+        Row {
+            name: "unmerging_runs_out_of_frames",
+            nodes: 1,
+            frames: 3,
+            last_generation: 1 << 40,
+            input: b"reg 0 0 0 aa\nreg 0 1 0 aa\nreg 0 2 0 aa\nset run 1\nscan 6\nreg 0 3 0 bb\nunmerge 0\nstat\nset run 2\nshow run\n",
+            output: b"ok\nok\nok\nok\nscanned 6\nok\nunmerged 1 refused 4\nstat shared=1 sharing=1 unshared=0 volatile=1 chains=0 dups=0 full_scans=2\nunmerged 0 refused 4\n0\n",
+            end: End::AllRead,
+        },
+        Row {
             name: "refusals_of_commands",
             nodes: 1,
             frames: 4,
             last_generation: 1 << 40,
             input: b"set max_page_sharing 1\nscan 1\nput 5 5 aa\nreg 0 0 1 aa\nreg 0 0 0 aa\nreg 0 0 0 bb\n",
             output: b"refused 7\nrefused 5\nrefused 2\nrefused 11\nok\nrefused 3\n",
+            end: End::AllRead,
+        },
+        Row {
+            name: "mergeable_again",
+            nodes: 1,
+            frames: 4,
+            last_generation: 1 << 40,
+            input: b"reg 0 0 0 aa\nreg 0 1 0 aa\nset run 1\nscan 4\nunmerge 0\nscan 2\nmergeable 0\nscan 4\nstat\nmergeable 7\nunmerge 7\n",
+            output: b"ok\nok\nok\nscanned 4\nunmerged 2\nscanned 0\nok\nscanned 4\nstat shared=1 sharing=1 unshared=0 volatile=0 chains=1 dups=2 full_scans=4\nrefused 2\nrefused 2\n",
             end: End::AllRead,
         },
         Row {
@@ -252,15 +279,35 @@ fn knob_rows(rt: HostRuntime) -> Result<(), Fail> {
 /// Pages and dups move.
 #[test]
 fn moving_rows(rt: HostRuntime) -> Result<(), Fail> {
-    let rows = [Row {
-        name: "moved_page_leaves_its_dup",
-        nodes: 2,
-        frames: 4,
-        last_generation: 1 << 40,
-        input: b"reg 0 0 0 aa\nreg 0 1 0 aa\nset run 1\nscan 4\nmove 0 0 1\nticket 0 0\nticket 0 1\nstat\nget 0 0\n",
-        output: b"ok\nok\nok\nscanned 4\nok\nprivate\nplace 0\nstat shared=1 sharing=0 unshared=0 volatile=1 chains=0 dups=0 full_scans=2\naaaaaaaaaaaaaaaaaaaaaaaaaaaaaaaa\n",
-        end: End::AllRead,
-    }];
+    let rows = [
+        Row {
+            name: "moved_page_leaves_its_dup",
+            nodes: 2,
+            frames: 4,
+            last_generation: 1 << 40,
+            input: b"reg 0 0 0 aa\nreg 0 1 0 aa\nset run 1\nscan 4\nmove 0 0 1\nticket 0 0\nticket 0 1\nstat\nget 0 0\n",
+            output: b"ok\nok\nok\nscanned 4\nok\nprivate\nplace 0\nstat shared=1 sharing=0 unshared=0 volatile=1 chains=0 dups=0 full_scans=2\naaaaaaaaaaaaaaaaaaaaaaaaaaaaaaaa\n",
+            end: End::AllRead,
+        },
+        Row {
+            name: "dup_moves_within_its_node",
+            nodes: 2,
+            frames: 4,
+            last_generation: 1 << 40,
+            input: b"set merge_across_nodes 0\nreg 0 0 0 aa\nreg 0 1 0 aa\nset run 1\nscan 4\nmovedup 0 1\nmovedup 0 0\nget 0 0\nmovedup 3 0\nmovedup 0 9\n",
+            output: b"ok\nok\nok\nok\nscanned 4\nrefused 9\nok\naaaaaaaaaaaaaaaaaaaaaaaaaaaaaaaa\nrefused 10\nrefused 11\n",
+            end: End::AllRead,
+        },
+        Row {
+            name: "no_frame_everywhere",
+            nodes: 2,
+            frames: 2,
+            last_generation: 1 << 40,
+            input: b"reg 0 0 0 aa\nreg 0 1 0 aa\nset run 1\nscan 4\nreg 0 2 0 bb\nput 0 0 cc\nreg 0 3 0 dd\nmovedup 0 0\nunmerge 0\nreg 1 0 1 ee\nreg 1 1 1 ee\nmove 0 2 1\nset run 2\nstat\nscan 1\nget 0 0\n",
+            output: b"ok\nok\nok\nscanned 4\nok\nrefused 4\nrefused 4\nrefused 4\nunmerged 0 refused 4\nok\nok\nrefused 4\nunmerged 0 refused 4\nstat shared=1 sharing=1 unshared=0 volatile=3 chains=0 dups=0 full_scans=2\nrefused 5\naaaaaaaaaaaaaaaaaaaaaaaaaaaaaaaa\n",
+            end: End::AllRead,
+        },
+    ];
     for row in rows.iter() {
         let (written, outcome) = row.play(rt.alloc())?;
         assert_eq!(rt; outcome, Ok(row.end), "{}", row.name);
@@ -272,7 +319,7 @@ fn moving_rows(rt: HostRuntime) -> Result<(), Fail> {
 /// Each of these lines is bad, and no reply comes before.
 #[test]
 fn every_bad_line(rt: HostRuntime) -> Result<(), Fail> {
-    let lines: [&[u8]; 43] = [
+    let lines: [&[u8]; 40] = [
         b"reg 0 0 0",
         b"reg 00 0 0 aa",
         b"reg 0 01 0 aa",
@@ -313,9 +360,6 @@ fn every_bad_line(rt: HostRuntime) -> Result<(), Fail> {
         b"set run 1 1",
         b"show",
         b"show run 1",
-        b"unmerge 0",
-        b"movedup 0 0",
-        b"set run 2",
     ];
     for line in lines {
         assert_eq!(rt; read_line(line), Err(LineFault::Bad), "{line:?}");

@@ -1,6 +1,7 @@
 use Rattle.std.proofs.Common.{sym, subst, List, ℕ}
 use Rattle.ksm_script.specs.Grammar.{words_of}
-use Rattle.ksm_script.specs.Reading.{Gives, line_at}
+use Rattle.ksm_script.specs.Reading.{Gives}
+use Rattle.ksm_script.specs.Forms.{line_at}
 use Rattle.ksm_script.proofs.Lines.{given_written, written_given}
 use Rattle.ksm_script.proofs.line.read_line.Goals as goal
 

@@ -1,0 +1,35 @@
+-- Rows that leave their dups one after another, in order (own).
+use Rattle.std.specs.Prelude.{◌≡◌, ℕ, zero, suc, length, slice_get, Bool, ◌&&◌, List, [], ◌∷◌, Option, None, Some, if◌then◌else◌}
+use Rattle.ksm_base.specs.declared.row.Row.{Row}
+use Rattle.ksm_base.specs.Answers.{every_row}
+use Rattle.ksm_base.specs.Refusals.{is_of}
+use Rattle.ksm_base.specs.Rows.{merged_state}
+use Rattle.frame_table.specs.Named.{KeeperView}
+use Rattle.ksm_book.specs.Steps.{Does}
+use Rattle.ksm_book.specs.Keeping.{NoneLeft}
+
+-- a row of the guest, or any row where no guest is given
+abbrev pub of_guest : Option ℕ → Row → Bool
+of_guest None = every_row
+of_guest (Some guest) = is_of guest
+
+-- a merged row of the guest
+abbrev pub is_merged_of : Option ℕ → Row → Bool
+is_merged_of guest r = of_guest guest r && merged_state r.state
+
+-- the rows with a change made to the first n that pass a test
+abbrev pub first_changed : (Row → Bool) → (Row → Row) → ℕ → List Row → List Row
+first_changed test change zero rows = rows
+first_changed test change (suc n) [] = []
+first_changed test change (suc n) (r ∷ rows) =
+    if test r then change r ∷ first_changed test change n rows else r ∷ first_changed test change (suc n) rows
+
+-- so many of the rows are done, and this one is the next, where there was a stop
+abbrev pub IsStop : List Row → ℕ → Option Row → Type 0
+IsStop rows k None = k ≡ length rows
+IsStop rows k (Some row) = slice_get rows k ≡ Some row
+
+-- the keeper gave a frame on each of the nodes, and found none on the home of the row at which there was a stop
+abbrev pub Gave : KeeperView → KeeperView → List ℕ → Option Row → Type 0
+Gave v w nodes None = Does v w nodes
+Gave v w nodes (Some row) = (u : KeeperView) × Does v u nodes × NoneLeft u w row.home

@@ -1,0 +1,99 @@
+//! How merged pages get frames of their own again.
+
+ghost use Rattle.std.specs.Prelude.{◌≡◌, ◌<◌, All, filter, map, take, option_map};
+ghost use Rattle.ksm_base.specs.declared.fault.Fault.TheVariants.{NoFrame};
+ghost use Rattle.ksm_base.specs.Answers.{IsAnswerOrMemory};
+ghost use Rattle.ksm_base.specs.Apply.{after, unshared as as_unshared};
+ghost use Rattle.ksm_base.specs.Rows.{InPageOrder};
+ghost use Rattle.ksm_book.specs.Steps.{Does};
+ghost use Rattle.ksm_book.specs.Whole.{nodes_got, HasShown};
+ghost use Rattle.ksm_book.specs.Unmerged.{is_merged_of, first_changed, IsStop, Gave};
+
+use crate::layout::Layout;
+use crate::row::unshared;
+use crate::state::State;
+use frame_table::FrameTable;
+use ksm_base::{Command, Fault, Knobs, Reply, Row};
+
+/// The merged pages of a guest, or all of them, get frames of their own in order, until one finds none on its home.
+/// Says how many did, and the row that did not. Each of them is looked for from the first row on.
+pub fn unshare_merged(
+    layout: &mut Layout,
+    table: &FrameTable,
+    guest: Option<u16>,
+) -> (u64, Option<Row>)
+    requires own { layout.old.keeper.table ≡ table.now }
+    requires rise { InPageOrder layout.old.rows }
+    requires homes { All (λ r. r.home < layout.old.shape.nodes) layout.old.rows }
+    ensures own { layout.new.keeper.table ≡ layout.old.keeper.table }
+    ensures state { layout.new ≡ record layout.old { rows = first_changed (is_merged_of guest) as_unshared result.0 layout.old.rows; keeper = layout.new.keeper } }
+    ensures stop { IsStop (filter (is_merged_of guest) layout.old.rows) result.0 result.1 }
+    ensures gave { Gave layout.old.keeper layout.new.keeper (map (λ r. r.home) (take result.0 (filter (is_merged_of guest) layout.old.rows))) result.1 }
+{
+    let count = layout.rows().len() as u64;
+    for done in 0..count {
+        let Some(row) = layout.rows().first_merged(guest) else {
+            return (done, None);
+        };
+        if !layout.resettle(table, unshared(row)) {
+            return (done, Some(row));
+        }
+    }
+    (count, None)
+}
+
+// The fault of a stop.
+fn no_frame(stop: Option<Row>) -> Option<Fault>
+    ensures { result ≡ option_map (λ r. NoFrame r.home) stop }
+{
+    match stop {
+        None => None,
+        Some(row) => Some(Fault::NoFrame(row.home)),
+    }
+}
+
+impl State {
+    /// The merged pages of a guest get frames of their own, in order, until one finds none; the guest's pages up to there leave the scan.
+    pub fn unmerge(&mut self, table: &FrameTable, guest: u16) -> Result<Reply, Fault>
+        requires own { self.old.keeper.table ≡ table.now }
+        ensures own { self.new.keeper.table ≡ self.old.keeper.table }
+        ensures answer { IsAnswerOrMemory self.old.state (Command.Unmerge guest) result }
+        ensures state { self.new.state ≡ after self.old.state (Command.Unmerge guest) result }
+        ensures frames { Does self.old.keeper self.new.keeper (nodes_got self.old.state result (Command.Unmerge guest)) }
+        ensures shown { HasShown self.old.state self.old.keeper self.new.keeper result (Command.Unmerge guest) }
+    {
+        if !self.layout.rows().has_guest(guest) {
+            return Err(Fault::UnknownPage);
+        }
+        let (pages, stop) = unshare_merged(&mut self.layout, table, Some(guest));
+        self.layout.let_go(guest, stop);
+        Ok(Reply::Unmerged {
+            pages,
+            stop: no_frame(stop),
+        })
+    }
+
+    /// All merged pages get frames of their own, in order, until one finds none. If none is left merged, all pages are Private and not unchanged, and the next scan begins a pass; else the scan stands.
+    pub fn unshare(&mut self, table: &FrameTable) -> Result<Reply, Fault>
+        requires own { self.old.keeper.table ≡ table.now }
+        ensures own { self.new.keeper.table ≡ self.old.keeper.table }
+        ensures answer { IsAnswerOrMemory self.old.state (Command.SetRun 2) result }
+        ensures state { self.new.state ≡ after self.old.state (Command.SetRun 2) result }
+        ensures frames { Does self.old.keeper self.new.keeper (nodes_got self.old.state result (Command.SetRun 2)) }
+        ensures shown { HasShown self.old.state self.old.keeper self.new.keeper result (Command.SetRun 2) }
+    {
+        let (pages, stop) = unshare_merged(&mut self.layout, table, None);
+        let knobs = self.layout.knobs();
+        if let Some(row) = stop {
+            self.layout.set_knobs(Knobs { run: 0, ..knobs });
+            return Ok(Reply::Unmerged {
+                pages,
+                stop: Some(Fault::NoFrame(row.home)),
+            });
+        }
+        self.layout.unshare_all();
+        self.layout.set_knobs(Knobs { run: 2, ..knobs });
+        self.cursor = None;
+        Ok(Reply::Unmerged { pages, stop: None })
+    }
+}
