@@ -3,7 +3,7 @@ use frame_table::FrameTable;
 use ksm_base::Command::{
     Drop, Mergeable, MoveDup, MovePage, Prune, Register, Scan, SetAcross, SetLimit, SetRun, Store,
 };
-use ksm_base::{Counters, Fault, GuestPage, PAGE_WORDS, PageBytes, Reply, Shape};
+use ksm_base::{Command, Counters, Fault, GuestPage, PAGE_WORDS, PageBytes, Reply, Shape};
 use std::test::Fail;
 
 // One node with four frames.
@@ -23,6 +23,21 @@ fn page(page: u32) -> GuestPage {
 
 fn filled(word: u64) -> PageBytes {
     [word; PAGE_WORDS]
+}
+
+fn registered(number: u32, node: u32) -> Command {
+    Register {
+        page: page(number),
+        node,
+        bytes: filled(10),
+    }
+}
+
+fn stored(number: u32) -> Command {
+    Store {
+        page: page(number),
+        bytes: filled(10),
+    }
 }
 
 fn scanned(visits: u64) -> Result<Reply, Fault> {
@@ -50,14 +65,8 @@ fn equal_store_still_copies(rt: HostRuntime) -> Result<(), Fail> {
         dups: 0,
         full_scans: 2,
     };
-    for number in 0..2 {
-        let register = Register {
-            page: page(number),
-            node: 0,
-            bytes: filled(10),
-        };
-        assert_eq!(rt; book.apply(&table, register), DONE);
-    }
+    assert_eq!(rt; book.apply(&table, registered(0, 0)), DONE);
+    assert_eq!(rt; book.apply(&table, registered(1, 0)), DONE);
     assert_eq!(rt;
         book.apply(&table, Scan { visits: 1 }),
         Err(Fault::NotRunning)
@@ -65,13 +74,8 @@ fn equal_store_still_copies(rt: HostRuntime) -> Result<(), Fail> {
     assert_eq!(rt; book.apply(&table, SetRun(1)), DONE);
     assert_eq!(rt; book.apply(&table, Scan { visits: 4 }), scanned(4));
     assert_eq!(rt; book.ticket(page(1)), Some(0));
-    for number in 0..2 {
-        let store = Store {
-            page: page(number),
-            bytes: filled(10),
-        };
-        assert_eq!(rt; book.apply(&table, store), DONE);
-    }
+    assert_eq!(rt; book.apply(&table, stored(0)), DONE);
+    assert_eq!(rt; book.apply(&table, stored(1)), DONE);
     assert_eq!(rt; book.counters(), none_shared);
     assert_eq!(rt; book.apply(&table, Scan { visits: 2 }), scanned(2));
     none_shared.full_scans = 3;
@@ -111,14 +115,8 @@ fn pages_of_two_nodes(rt: HostRuntime) -> Result<(), Fail> {
         }
     };
     assert_eq!(rt; book.apply(&table, SetAcross(0)), DONE);
-    for node in 0..2 {
-        let register = Register {
-            page: page(node),
-            node,
-            bytes: filled(10),
-        };
-        assert_eq!(rt; book.apply(&table, register), DONE);
-    }
+    assert_eq!(rt; book.apply(&table, registered(0, 0)), DONE);
+    assert_eq!(rt; book.apply(&table, registered(1, 1)), DONE);
     assert_eq!(rt; book.apply(&table, SetRun(1)), DONE);
     assert_eq!(rt; book.apply(&table, Scan { visits: 4 }), scanned(4));
     assert_eq!(rt; book.counters().unshared, 2);
