@@ -539,7 +539,7 @@ stale_is_loose sh across k rows frames dups p n d lt none life stable =
     let some : 1 ≤ (frame_at k f).base = subst (λ (x : Kind). FitsBase x (frame_at k f).base) stable (p.kinds f) in
     omega (arith, b, none, some)
 
--- the row at i joins the item at j: K5 on the item's frame, K6 on its own
+-- the row at i joins the item at j: one reference more on the item's frame, one less on its own
 pub joined : (sh : Shape) (across : ℕ) (k : Ledger) (rows : List Row) (frames : List ℕ) (dups : List DupRow) (i j : ℕ) (r : Row) → i < length rows → j < length rows → r.state ≡ (row_in rows j).state → r.bytes ≡ (row_in rows j).bytes → merged_state r.state ≡ true
     → Placed sh across k rows frames dups (Some (slice_index frames j)) → Placed sh across k (set rows i r) (set frames i (slice_index frames j)) dups (Some (slice_index frames i))
 joined sh across k rows frames dups i j r lt lt' state bytes merged p =
