@@ -2,6 +2,7 @@ pub mod Placement
 pub mod Steps
 pub mod Keeping
 pub mod Listed
+pub mod Linked
 pub mod RowEntries
 pub mod Plain
 pub mod Laid

@@ -9,6 +9,7 @@ mod knobs;
 mod layout;
 mod mounting;
 mod moving;
+mod pages;
 mod row;
 mod rows;
 mod scan;
