@@ -1,15 +1,16 @@
 -- The row that a search by page finds.
-use Rattle.std.proofs.Common.{◌≡◌, ℕ, true, List, get_or, set, Option, Some, None, refl, sym, ap, ◌∙◌, subst, arith}
+use Rattle.std.proofs.Common.{inl, inr, ◌≡◌, ℕ, Bool, true, List, [], ◌∷◌, get_or, set, Option, Some, None, refl, sym, ap, ◌∙◌, subst, arith}
 use Rattle.std.specs.Prelude.{All, position, is_some, MatchOption}
 use Rattle.std.proofs.lemmas.Option.{same_Some}
 use Rattle.std.proofs.lemmas.List.{set-get_or}
-use Rattle.std.proofs.lemmas.Bool.{cond_both, eq-eqb}
-use Rattle.std.specs.Prelude.{◌==◌, if◌then◌else◌}
+use Rattle.std.proofs.lemmas.Bool.{cases_Bool, cond_both, eq-eqb, false≢true}
+use Rattle.std.specs.Prelude.{◌==◌, find, if◌then◌else◌}
 use Rattle.ksm_base.specs.declared.row.PageState.TheVariants.{Private}
 use Rattle.ksm_base.specs.Apply.{moved}
 use Rattle.ksm_base.specs.declared.page.GuestPage.{GuestPage}
 use Rattle.ksm_base.specs.declared.row.Row.{Row}
-use Rattle.ksm_base.specs.Rows.{same_page, row_at, InPageOrder, change_row}
+use Rattle.ksm_base.specs.declared.row.DupRow.{DupRow}
+use Rattle.ksm_base.specs.Rows.{same_page, row_at, InPageOrder, change_row, dup_numbered}
 use Rattle.ksm_base.proofs.Pages.{same_page_eq}
 use Rattle.ksm_book.specs.Laid.{Knows}
 use Rattle.ksm_book.specs.Plain.{IsAt}
@@ -60,3 +61,16 @@ moved_page node r = cond_both (r.home == node) r (record r { home = node; state 
 
 pub moved_home : (node : ℕ) (r : Row) → r.home ≡ node → moved node r ≡ r
 moved_home node r same = ap (λ b. if b then r else record r { home = node; state = Private }) (eq-eqb r.home node same)
+
+-- a dup that was found is known by its number
+pub dup_known : (test : DupRow → Bool) (dups : List DupRow) (d : DupRow) → find test dups ≡ Some d → is_some (dup_numbered d.number dups) ≡ true
+dup_known test [] d found = absurd (grind (arith, found))
+dup_known test (x ∷ xs) d found = elim (cases_Bool (x.number == d.number)) [
+  | inl here ↦ grind (arith, here)
+  | inr other ↦ elim (cases_Bool (test x)) [
+    | inl passes ↦
+        let is : x ≡ d = same_Some x d (grind (arith, found, passes)) in
+        absurd (false≢true (sym other ∙ eq-eqb x.number d.number (ap (λ (y : DupRow). y.number) is)))
+    | inr fails ↦ let rest = dup_known test xs d (grind (arith, found, fails)) in grind (arith, other, rest)
+  ]
+]

@@ -1,6 +1,6 @@
 -- What becomes of rows and dups that lie lawfully, where the keeper makes its steps.
 use Rattle.std.proofs.Common.{inl, inr, ◌≡◌, ◌/◌, ℕ, zero, suc, ◌<◌, ◌≤◌, false, List, [], length, get_or, set, Option, Some, None, refl, sym, ap, ◌∙◌, subst, arith}
-use Rattle.std.specs.Prelude.{MatchOption, insert, remove, slice_index}
+use Rattle.std.specs.Prelude.{◌⊎◌, All, MatchOption, insert, remove, slice_index}
 use Rattle.ksm_base.specs.declared.shape.Shape.{Shape}
 use Rattle.ksm_base.specs.declared.knobs.Knobs.{Knobs}
 use Rattle.ksm_base.specs.declared.row.PageState.{PageState}
@@ -20,10 +20,11 @@ use Rattle.std.proofs.lemmas.List.{set-get_or, length-replicate}
 use Rattle.ksm_base.specs.declared.page.GuestPage.{GuestPage}
 use Rattle.ksm_base.specs.declared.page.TheConstants.{PAGE_WORDS}
 use Rattle.frame_table.specs.Named.{KeeperView}
-use Rattle.ksm_book.specs.Placement.{kind_for, FitsBase, Placed}
+use Rattle.ksm_book.specs.Placement.{kind_for, DupFits, FitsBase, Placed}
 use Rattle.ksm_book.specs.Keeping.{Keeps, IsLawful, Took, Wrote, holding, spent}
 use Rattle.ksm_book.specs.Listed.{Listed, rank, StandsAt}
-use Rattle.ksm_book.specs.Laid.{Lay, IsLaid, Knows, IsOnItsOwn, LodgesAs}
+use Rattle.ksm_book.specs.Linked.{PagesView}
+use Rattle.ksm_book.specs.Laid.{Lay, lay_of, IsLaid, Knows, IsOnItsOwn, LodgesAs}
 use Rattle.ksm_book.proofs.Moves.{Serves, own_agrees, swapped, inserted, removed, rewritten, written_in}
 use Rattle.ksm_book.proofs.Keeping.{spent_kept}
 
@@ -202,6 +203,39 @@ readable x OwnPage e = subst IsReadable (sym e) tt
 readable x Waiting e = subst IsReadable (sym e) tt
 readable x (Merged d) e = subst IsReadable (sym e) tt
 
--- a layout with other rows and another keeper
-pub relaid : (a b : Lay) (rows rows' : List Row) (k : KeeperView) → a ≡ b → rows ≡ rows' → record a { rows = rows; keeper = k } ≡ record b { rows = rows'; keeper = k }
-relaid a b rows rows' k e f = λ t. record (e t) { rows = f t; keeper = k }
+-- pages of which the rows alone changed
+pub relisted : (p q : PagesView) (k : KeeperView) → q ≡ record p { listed = q.listed } → IsLaid p.shape q.listed p.dups p.knobs p.next k → IsLaid q.shape q.listed q.dups q.knobs q.next k
+relisted p q k rest h = subst (λ (z : PagesView). IsLaid z.shape z.listed z.dups z.knobs z.next k) (sym rest) h
+
+-- the layout of such pages, with another keeper
+pub relaid : (p q : PagesView) (now : Lay) (v k : KeeperView) (rows : List Row) → q ≡ record p { listed = q.listed } → lay_of p v ≡ now → q.listed.rows ≡ rows → lay_of q k ≡ record now { rows = rows; keeper = k }
+relaid p q now v k rows rest view same = ap (λ (z : PagesView). lay_of z k) rest ∙ (λ t. record (view t) { rows = same t; keeper = k })
+
+pub rest_again : (p q r : PagesView) → q ≡ record p { listed = q.listed } → r ≡ record q { listed = r.listed } → r ≡ record p { listed = r.listed }
+rest_again p q r first second = second ∙ ap (λ (z : PagesView). record z { listed = r.listed }) first
+
+-- other knobs, of which merge_across_nodes speaks of dups alone
+pub retuned : (sh : Shape) (v : Listed) (dups : List DupRow) (knobs tuned : Knobs) (next : ℕ) (k : KeeperView) → (tuned.merge_across_nodes ≡ knobs.merge_across_nodes) ⊎ (dups ≡ []) → IsLaid sh v dups knobs next k → IsLaid sh v dups tuned next k
+retuned sh v dups knobs tuned next k (inl same) h = record {
+  small = h.small;
+  same = h.same;
+  placed = subst (λ a. Placed sh a k.ledger v.rows v.frames dups None) (sym same) h.placed;
+  spent = h.spent;
+}
+retuned sh v dups knobs tuned next k (inr none) h = record {
+  small = h.small;
+  same = h.same;
+  placed = (let p = h.placed in record {
+    paired = p.paired;
+    frames_long = p.frames_long;
+    places_long = p.places_long;
+    widths = p.widths;
+    lives = p.lives;
+    each_row = p.each_row;
+    each_dup = subst (All (DupFits sh tuned.merge_across_nodes k.ledger)) (sym none) (λ i d lt. absurd (omega (arith, lt)));
+    bases = p.bases;
+    kinds = p.kinds;
+    empty = p.empty;
+  });
+  spent = h.spent;
+}

@@ -1,4 +1,5 @@
-pub mod Pages
+pub mod PageOrder
+pub mod Paired
 pub mod Moves
 pub mod Logs
 pub mod Keeping

@@ -1,6 +1,6 @@
 -- Stale dups go one by one.
 use Rattle.std.proofs.Common.{inl, inr, ◌≡◌, ℕ, ◌+◌, ◌≤◌, Bool, true, false, List, [], ◌∷◌, length, get_or, Option, Some, None, refl, sym, ap, ◌∙◌, arith}
-use Rattle.std.specs.Prelude.{All, find, filter, not, ◌==◌, nat_lt, option_map}
+use Rattle.std.specs.Prelude.{All, count_by, find, filter, not, ◌==◌, nat_lt, option_map}
 use Rattle.std.proofs.lemmas.Option.{same_Some}
 use Rattle.std.proofs.lemmas.Bool.{cases_Bool, eqb-true, eq-eqb}
 use Rattle.std.proofs.lemmas.Bool.Decides.{nat_tests}
@@ -8,10 +8,11 @@ use Rattle.std.proofs.lemmas.List.Elements.{All-head, All-tail}
 use Rattle.ksm_base.specs.declared.row.Row.{Row}
 use Rattle.ksm_base.specs.declared.row.DupRow.{DupRow}
 use Rattle.ksm_base.specs.Rows.{InPlaceOrder, item_count, is_stale, has_items}
-use Rattle.ksm_base.proofs.Edits.{find_all, find_passes, find_none}
+use Rattle.ksm_base.proofs.Edits.{count_filter_le, count_more, find_all, find_passes, find_none, none_counted}
 use Rattle.ksm_base.proofs.Orders.{one_of_each_place}
 use Rattle.ksm_base.proofs.RowCounts.{filter_all}
-use Rattle.ksm_book.specs.Laid.{IsVacant, elsewhere}
+use Rattle.ksm_book.specs.Laid.{elsewhere}
+use Rattle.ksm_book.specs.Linked.{IsVacant}
 
 -- the place of the first stale dup has no other dup
 pub stale_vacant : (rows : List Row) (dups : List DupRow) (d : DupRow) → InPlaceOrder dups → find (is_stale rows) dups ≡ Some d → IsVacant d.place rows dups
@@ -21,11 +22,17 @@ stale_vacant rows dups d rise found k x lt same =
     ap (item_count rows) is ∙ eqb-true (item_count rows d) 0 (find_passes (is_stale rows) dups d found)
 
 -- where no dup is stale each has items
-pub none_stale : (rows : List Row) (dups : List DupRow) → find (is_stale rows) dups ≡ None → filter (has_items rows) dups ≡ dups
-none_stale rows dups none = filter_all (has_items rows) dups (λ k x lt. live (item_count rows (get_or dups k x)) (find_none (is_stale rows) dups none k x lt))
+all_live : (rows : List Row) (dups : List DupRow) → All (λ d. is_stale rows d ≡ false) dups → filter (has_items rows) dups ≡ dups
+all_live rows dups none = filter_all (has_items rows) dups (λ k x lt. live (item_count rows (get_or dups k x)) (none k x lt))
   where
     live : (n : ℕ) → (n == 0) ≡ false → nat_lt 0 n ≡ true
     live n e = grind (arith, nat_tests, e)
+
+pub none_stale : (rows : List Row) (dups : List DupRow) → find (is_stale rows) dups ≡ None → filter (has_items rows) dups ≡ dups
+none_stale rows dups none = all_live rows dups (find_none (is_stale rows) dups none)
+
+pub none_left : (rows : List Row) (dups : List DupRow) → count_by (is_stale rows) dups ≡ 0 → filter (has_items rows) dups ≡ dups
+none_left rows dups none = all_live rows dups (none_counted (is_stale rows) dups none)
 
 -- a stale dup less is no dup with items less
 pub live_elsewhere : (rows : List Row) (place : ℕ) (dups : List DupRow) → IsVacant place rows dups → filter (has_items rows) (filter (elsewhere place) dups) ≡ filter (has_items rows) dups
@@ -43,30 +50,25 @@ live_elsewhere rows place (d ∷ ds) vacant =
       ]
     ]
 
--- and one dup less
-pub fewer_elsewhere : (rows : List Row) (dups : List DupRow) (d : DupRow) → find (is_stale rows) dups ≡ Some d → length (filter (elsewhere d.place) dups) + 1 ≤ length dups
-fewer_elsewhere rows [] d found = absurd (grind (arith, found))
-fewer_elsewhere rows (x ∷ xs) d found = elim (cases_Bool (is_stale rows x)) [
+-- and one stale dup less
+pub fewer_stale : (rows : List Row) (dups : List DupRow) (d : DupRow) → find (is_stale rows) dups ≡ Some d → count_by (is_stale rows) (filter (elsewhere d.place) dups) + 1 ≤ count_by (is_stale rows) dups
+fewer_stale rows [] d found = absurd (grind (arith, found))
+fewer_stale rows (x ∷ xs) d found = elim (cases_Bool (is_stale rows x)) [
   | inl stale ↦
       let is : x ≡ d = grind (arith, found, stale) in
       let gone : elsewhere d.place x ≡ false = ap (λ (y : DupRow). not (y.place == d.place)) is ∙ ap not (eq-eqb d.place d.place refl) in
-      let le = filter_le (elsewhere d.place) xs in
-      grind (arith, gone, le)
+      let le = count_filter_le (is_stale rows) (elsewhere d.place) xs in
+      let whole = count_more (is_stale rows) x xs in
+      grind (arith, gone, stale, le, whole)
   | inr lives ↦
-      let later : find (is_stale rows) xs ≡ Some d = grind (arith, found, lives) in
-      let rest = fewer_elsewhere rows xs d later in
+      let rest = fewer_stale rows xs d (grind (arith, found, lives)) in
+      let whole = count_more (is_stale rows) x xs in
+      let part = count_more (is_stale rows) x (filter (elsewhere d.place) xs) in
       elim (cases_Bool (elsewhere d.place x)) [
-        | inl kept ↦ grind (arith, kept, rest)
-        | inr gone ↦ grind (arith, gone, rest)
+        | inl kept ↦ grind (arith, kept, lives, rest, whole, part)
+        | inr gone ↦ grind (arith, gone, lives, rest, whole)
       ]
 ]
-  where
-    filter_le : (p : DupRow → Bool) (ds : List DupRow) → length (filter p ds) ≤ length ds
-    filter_le p [] = omega arith
-    filter_le p (y ∷ ys) = elim (cases_Bool (p y)) [
-      | inl kept ↦ grind (arith, kept, filter_le p ys)
-      | inr gone ↦ grind (arith, gone, filter_le p ys)
-    ]
 
 -- the dup whose place was found
 pub dup_at : (o : Option DupRow) (place : ℕ) → Some place ≡ option_map (λ d. d.place) o → (d : DupRow) × (o ≡ Some d) × (d.place ≡ place)

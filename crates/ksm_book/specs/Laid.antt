@@ -1,17 +1,19 @@
 -- Rows, dups and knobs, as they lie in the keeper's frames (own).
-use Rattle.std.specs.Prelude.{◌≡◌, ℕ, ◌<◌, ◌≤◌, Bool, true, false, not, ◌==◌, List, [], ◌∷◌, All, Contains, Option, None, Some, MatchBool, MatchOption, ◌⊎◌}
+use Rattle.std.specs.Prelude.{◌≡◌, ℕ, ◌+◌, ◌<◌, ◌≤◌, Bool, true, false, not, ◌==◌, List, [], ◌∷◌, All, Contains, Option, None, Some, MatchBool, MatchOption, ◌⊎◌}
 use Rattle.ksm_base.specs.declared.shape.Shape.{Shape}
 use Rattle.ksm_base.specs.declared.knobs.Knobs.{Knobs}
 use Rattle.ksm_base.specs.declared.page.GuestPage.{GuestPage}
+use Rattle.ksm_base.specs.declared.row.PageState.TheVariants.{Merged}
 use Rattle.ksm_base.specs.declared.row.Row.{Row}
 use Rattle.ksm_base.specs.declared.row.DupRow.{DupRow}
-use Rattle.ksm_base.specs.Rows.{merged_state, merged_into, item_count, row_at}
+use Rattle.ksm_base.specs.Rows.{merged_state, merged_into, item_count, row_at, change_row, with_dup}
 use Rattle.ksm_base.specs.State.{BookState, tree_of}
 use Rattle.ksm_base.specs.Values.{IsShape, frames_of}
 use Rattle.frame_table.specs.Named.{KeeperView}
 use Rattle.ksm_book.specs.Placement.{Placed}
 use Rattle.ksm_book.specs.Steps.{Does, Did, puts, loads}
 use Rattle.ksm_book.specs.Keeping.{spent, NoneLeft}
+use Rattle.ksm_book.specs.Linked.{PagesView, IsVacant}
 use Rattle.ksm_book.specs.Listed.{Listed}
 
 -- the rows and dups, the knobs, the number of the next dup, and the keeper of the frames
@@ -22,6 +24,10 @@ pub record Lay : Type 0 where
   pub knobs : Knobs
   pub next : ℕ
   pub keeper : KeeperView
+
+-- the pages as they lie in the keeper's frames
+abbrev pub lay_of : PagesView → KeeperView → Lay
+lay_of p k = record { shape = p.shape; rows = p.listed.rows; dups = p.dups; knobs = p.knobs; next = p.next; keeper = k }
 
 -- the state of the book, by its layout, the cursor and the passes ended
 abbrev pub state_of : Lay → Option GuestPage → ℕ → BookState
@@ -69,10 +75,6 @@ pub record Joins (lay : Lay) (row item : Row) : Type 0 where
   pub bytes : row.bytes ≡ item.bytes
   pub room : (d : DupRow) × Contains lay.dups d × (merged_into d.number item.state ≡ true) × (item_count lay.rows d ≤ 1023)
 
--- no dup with items stands at the place
-abbrev pub IsVacant : ℕ → List Row → List DupRow → Type 0
-IsVacant place rows dups = All (λ d. d.place ≡ place → item_count rows d ≡ 0) dups
-
 -- the dup stands at another place
 abbrev pub elsewhere : ℕ → DupRow → Bool
 elsewhere place d = not (d.place == place)
@@ -80,6 +82,10 @@ elsewhere place d = not (d.place == place)
 -- the dup that is made of a row at a place
 abbrev pub new_dup : Lay → ℕ → Row → DupRow
 new_dup lay place row = record { number = lay.next; place = place; tree = tree_of lay.knobs row; bytes = row.bytes }
+
+-- with that dup, and the row as its one item
+abbrev pub founded : Lay → ℕ → Row → Lay
+founded lay place row = record lay { rows = change_row row.page (λ _. record row { state = Merged lay.next }) lay.rows; dups = with_dup (new_dup lay place row) lay.dups; next = lay.next + 1 }
 
 -- a row may become the first item of a new dup at the place
 pub record Founds (lay : Lay) (place : ℕ) (row : Row) : Type 0 where

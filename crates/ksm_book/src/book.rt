@@ -44,7 +44,7 @@ impl Book {
         ensures refused { IfErr result (λ e. (e.0 ≡ keeper) × (e.1 ≡ Fault.Memory)) }
     {
         Ok(Book {
-            state: State::open(alloc, keeper, shape),
+            state: State::open(alloc, keeper, shape)?,
         })
     }
 

@@ -1,75 +1,61 @@
 //! Rows and dups as they lie in the keeper's frames: each call is one lawful change of both.
 
-ghost use Rattle.std.specs.Prelude.{◌≡◌, ◌<◌, ◌+◌, ◌⊎◌, [], true, false, None, Err, All, count_by, filter, find, map, is_some, ◌==◌, ◌&&◌, option_map, OnOk, OnErr, IfOk, IfErr};
+ghost use Rattle.std.specs.Prelude.{◌≡◌, ◌<◌, ◌+◌, ◌⊎◌, [], true, false, None, Some, Err, All, count_by, filter, find, map, is_some, ◌==◌, ◌&&◌, option_map, OnOk, OnErr, IfOk, IfErr};
 ghost use Rattle.ksm_base.specs.declared.fault.Fault.TheVariants.{Memory};
-ghost use Rattle.ksm_base.specs.declared.row.PageState.TheVariants.{Private, Merged};
-ghost use Rattle.ksm_base.specs.Rows.{row_at, with_row, with_dup, without_page, change_row, change_rows, merged_state, settled, has_items, is_stale, dup_numbered};
+ghost use Rattle.ksm_base.specs.declared.row.PageState.TheVariants.{Private, Waiting, Merged};
+ghost use Rattle.ksm_base.specs.Rows.{row_at, with_row, with_dup, without_page, change_row, change_rows, merged_state, merged_into, waiting_state, same_page, settled, has_items, is_stale, dup_numbered};
 ghost use Rattle.ksm_base.specs.Counting.{counters_from, shared_count};
 ghost use Rattle.ksm_base.specs.Reading.{items_of};
-ghost use Rattle.ksm_base.specs.State.{place_count};
+ghost use Rattle.ksm_base.specs.State.{default_knobs, place_count};
 ghost use Rattle.ksm_base.specs.Visit.{best_dup, partner, new_place};
 ghost use Rattle.ksm_base.specs.Apply.{is_before, let_go, unshared};
 ghost use Rattle.ksm_base.specs.Refusals.{is_of};
 ghost use Rattle.ksm_base.specs.Values.{IsShape, frames_of};
 ghost use Rattle.frame_core.specs.Ledger.{first_ledger};
-ghost use Rattle.ksm_book.specs.Laid.{IsHoused, Knows, IsOnItsOwn, LodgesAs, Joins, Founds, IsVacant, new_dup, elsewhere, Stores, LoadsIf};
+ghost use Rattle.ksm_book.specs.Laid.{IsHoused, Knows, IsOnItsOwn, LodgesAs, Joins, Founds, founded, elsewhere, Stores, LoadsIf};
 ghost use Rattle.ksm_book.specs.Laid.{state_of};
+ghost use Rattle.ksm_book.specs.Linked.{IsVacant};
 ghost use Rattle.ksm_book.specs.Lawful.{LieLawfully};
 ghost use Rattle.ksm_book.specs.Steps.{Does};
 
 mod moving;
 
-use crate::dups::Dups;
 use crate::frames::{clear, load, release, share, take_frame, write};
-use crate::row::tree_of;
+use crate::pages::Pages;
 use crate::rows::Rows;
 use frame_table::{FrameTable, Keeper};
 use ksm_base::{Counters, DupRow, Fault, GuestPage, Knobs, PageBytes, PageState, Row, Shape};
 use std::alloc::Global;
 use std::marker::Model;
 
-/// The rows with their frames, the dups, the knobs, the number of the next dup, and the keeper of the frames.
+/// The pages and the dups into which they are merged, and the keeper of their frames.
 pub struct Layout {
-    shape: Shape,
-    rows: Rows,
-    dups: Dups,
-    knobs: Knobs,
-    next: u64,
+    pages: Pages,
     keeper: Keeper,
 }
 
 impl Model for Layout {
-    ghost use Rattle.ksm_book.specs.Laid.{Lay, IsLaid};
+    ghost use Rattle.ksm_book.specs.Laid.{Lay, IsLaid, lay_of};
 
     ghost Value = { Lay };
 
-    ghost view = { λ l. record {
-      shape = l.shape;
-      rows = l.rows.rows;
-      dups = l.dups;
-      knobs = l.knobs;
-      next = l.next;
-      keeper = l.keeper;
-    } };
+    ghost view = { λ l. lay_of l.pages l.keeper };
 
-    ghost invariant = { λ l. IsLaid l.shape l.rows l.dups l.knobs l.next l.keeper };
+    ghost invariant = { λ l. IsLaid l.pages.shape l.pages.listed l.pages.dups l.pages.knobs l.pages.next l.keeper };
 }
 
 impl Layout {
-    /// No rows and no dups, in the frames of a keeper that has made no step.
-    pub fn open(alloc: Global, keeper: Keeper, shape: Shape) -> Layout
+    /// No rows and no dups, in the frames of a keeper that has made no step. Refused for memory alone, it gives the keeper back.
+    pub fn open(alloc: Global, keeper: Keeper, shape: Shape) -> Result<Layout, (Keeper, Fault)>
         requires shape { IsShape shape }
         requires same { keeper.table.shape ≡ shape }
         requires new { keeper.ledger ≡ first_ledger shape }
-        ensures { result ≡ record { shape = shape; rows = []; dups = []; knobs = record { run = 0; pages_to_scan = 100; merge_across_nodes = 1; max_page_sharing = 256 }; next = 0; keeper = keeper } }
+        ensures opened { IfOk result (λ l. l ≡ record { shape = shape; rows = []; dups = []; knobs = default_knobs; next = 0; keeper = keeper }) }
+        ensures refused { IfErr result (λ e. (e.0 ≡ keeper) × (e.1 ≡ Memory)) }
     {
-        Layout {
-            shape,
-            rows: Rows::new(alloc),
-            dups: Dups::new(alloc),
-            knobs: Knobs::DEFAULT,
-            next: 0,
-            keeper,
+        match Pages::open(alloc, shape) {
+            Ok(pages) => Ok(Layout { pages, keeper }),
+            Err(fault) => Err((keeper, fault)),
         }
     }
 
@@ -78,11 +64,7 @@ impl Layout {
         ensures { result ≡ self.keeper }
     {
         let Layout {
-            shape: _,
-            rows: _rows,
-            dups: _dups,
-            knobs: _,
-            next: _,
+            pages: _pages,
             keeper,
         } = self;
         keeper
@@ -92,60 +74,53 @@ impl Layout {
     pub fn lies_lawfully(&self)
         ensures { LieLawfully (state_of self.now None 0) self.now.keeper }
     {
-        let _ = &self.rows;
+        let _ = &self.pages;
     }
 
     pub fn shape(&self) -> Shape
         ensures { result ≡ self.now.shape }
     {
-        self.shape
+        self.pages.shape()
     }
 
     pub fn rows(&self) -> &Rows
         ensures { result.now.rows ≡ self.now.rows }
     {
-        &self.rows
+        self.pages.rows()
     }
 
     pub fn knobs(&self) -> Knobs
         ensures { result ≡ self.now.knobs }
     {
-        self.knobs
-    }
-
-    /// The number of the dup that is made next.
-    pub fn next_number(&self) -> u64
-        ensures { result ≡ self.now.next }
-    {
-        self.next
+        self.pages.knobs()
     }
 
     /// The dup that a row joins.
     pub fn best(&self, row: &Row) -> Option<DupRow>
         ensures { result ≡ best_dup self.now.knobs self.now.rows self.now.dups row.now }
     {
-        self.dups.best(&self.knobs, &self.rows, row)
+        self.pages.best(row)
     }
 
     /// The row that waits for another.
     pub fn partner(&self, row: &Row) -> Option<Row>
         ensures { result ≡ partner self.now.knobs self.now.rows row.now }
     {
-        self.rows.partner(&self.knobs, row)
+        self.pages.partner(row)
     }
 
     /// Where a new dup goes.
     pub fn new_place(&self) -> Option<u32>
         ensures { result ≡ new_place (place_count self.now.shape) self.now.rows self.now.dups }
     {
-        self.dups.new_place(self.shape.frames(), &self.rows)
+        self.pages.new_place()
     }
 
     /// The dup with items at a place.
     pub fn live_at(&self, place: u32) -> Option<DupRow>
         ensures { result ≡ find (λ d. d.place == place && has_items self.now.rows d) self.now.dups }
     {
-        self.dups.live_at(&self.rows, place)
+        self.pages.live_at(place)
     }
 
     /// The pages merged into the dup at a place, ascending; none where no dup with items stands there. Refused for memory alone.
@@ -156,36 +131,45 @@ impl Layout {
         let Some(dup) = self.live_at(place) else {
             return Ok(None);
         };
-        Ok(Some(self.rows.items(alloc, dup.number)?))
+        Ok(Some(self.pages.items(alloc, dup.number)?))
+    }
+
+    /// The first item of the dup with this number.
+    pub fn item(&self, number: u64) -> Option<Row>
+        requires { is_some (dup_numbered number self.now.dups) ≡ true }
+        ensures { result ≡ find (λ r. merged_into number r.state) self.now.rows }
+    {
+        self.pages.item(number)
     }
 
     /// The dup with a number.
     pub fn numbered(&self, number: u64) -> Option<DupRow>
         ensures { result ≡ dup_numbered number self.now.dups }
     {
-        self.dups.numbered(number)
+        self.pages.numbered(number)
     }
 
     /// How many dups have an item.
     pub fn count_shared(&self) -> usize
         ensures { result ≡ shared_count self.now.rows self.now.dups }
     {
-        self.dups.count_shared(&self.rows)
+        self.pages.count_shared()
     }
 
     /// What is counted, where so many passes have ended.
     pub fn counters(&self, passes: u64) -> Counters
         ensures { result ≡ counters_from self.now.rows self.now.dups passes }
     {
-        let shared = self.dups.count_shared(&self.rows) as u64;
-        let merged = self.rows.count_merged() as u64;
+        let rows = self.pages.rows();
+        let shared = self.pages.count_shared() as u64;
+        let merged = rows.count_merged() as u64;
         Counters {
             shared,
             sharing: merged.saturating_sub(shared),
-            unshared: self.rows.count_waiting() as u64,
-            volatile: self.rows.count_volatile() as u64,
-            chains: self.dups.count_chains() as u64,
-            dups: self.dups.count_dups() as u64,
+            unshared: rows.count_waiting() as u64,
+            volatile: rows.count_volatile() as u64,
+            chains: self.pages.count_chains() as u64,
+            dups: self.pages.count_dups() as u64,
             full_scans: passes,
         }
     }
@@ -194,7 +178,7 @@ impl Layout {
     pub fn row(&self, page: GuestPage) -> Option<Row>
         ensures { result ≡ row_at page self.now.rows }
     {
-        match self.rows.find(page) {
+        match self.pages.find(page) {
             None => None,
             Some(held) => Some(held.row),
         }
@@ -208,7 +192,7 @@ impl Layout {
         ensures state { self.new ≡ record self.old { keeper = self.new.keeper } }
         ensures loads { LoadsIf result self.old.keeper self.new.keeper }
     {
-        let Some(held) = self.rows.find(page) else {
+        let Some(held) = self.pages.find(page) else {
             return None;
         };
         let bytes = load(&mut self.keeper, table, held.frame);
@@ -226,13 +210,14 @@ impl Layout {
         ensures refused { OnErr result (self.new ≡ self.old) }
         ensures fault { OnErr result (result ≡ Err Memory) }
     {
-        self.rows.insert(row, 0)?;
-        let Some(frame) = take_frame(&mut self.keeper, table, self.shape, row.home, row.bytes)
+        let shape = self.pages.shape();
+        self.pages.insert(row, 0)?;
+        let Some(frame) = take_frame(&mut self.keeper, table, shape, row.home, row.bytes)
         else {
-            self.rows.remove(row.page);
+            self.pages.remove(row.page);
             return Ok(false);
         };
-        self.rows.replace(row, frame);
+        self.pages.replace(row, frame);
         Ok(true)
     }
 
@@ -245,14 +230,15 @@ impl Layout {
         ensures own { self.new.keeper.table ≡ self.old.keeper.table }
         ensures housed { IsHoused self.old self.new row (change_row row.page (λ _. row) self.old.rows) result }
     {
-        let Some(held) = self.rows.find(row.page) else {
+        let shape = self.pages.shape();
+        let Some(held) = self.pages.find(row.page) else {
             return false;
         };
-        let Some(frame) = take_frame(&mut self.keeper, table, self.shape, row.home, row.bytes)
+        let Some(frame) = take_frame(&mut self.keeper, table, shape, row.home, row.bytes)
         else {
             return false;
         };
-        self.rows.replace(row, frame);
+        self.pages.replace(row, frame);
         release(&mut self.keeper, table, held.frame);
         true
     }
@@ -266,22 +252,40 @@ impl Layout {
         ensures state { self.new ≡ record self.old { rows = change_row row.page (λ _. row) self.old.rows; keeper = self.new.keeper } }
         ensures stores { Stores self.old.keeper self.new.keeper row.bytes }
     {
-        let Some(held) = self.rows.find(row.page) else {
+        let Some(held) = self.pages.find(row.page) else {
             return;
         };
         write(&mut self.keeper, table, held.frame, row.bytes);
-        self.rows.replace(row, held.frame);
+        self.pages.replace(row, held.frame);
     }
 
-    /// Puts a row in the stead of its page's, on the same frame.
+    /// Puts a row of its own in the stead of its page's, on the same frame.
     pub fn amend(&mut self, row: Row)
-        requires { Knows self.old.rows row (LodgesAs row) }
+        requires known { Knows self.old.rows row (LodgesAs row) }
+        requires alone { row.state ≡ Private }
         ensures { self.new ≡ record self.old { rows = change_row row.page (λ _. row) self.old.rows } }
     {
-        let Some(held) = self.rows.find(row.page) else {
+        let Some(held) = self.pages.find(row.page) else {
             return;
         };
-        self.rows.replace(row, held.frame);
+        self.pages.replace(row, held.frame);
+    }
+
+    /// A row with a frame of its own waits from now on. Refused for memory alone.
+    pub fn wait(&mut self, row: Row) -> Result<(), Fault>
+        requires row_is { row_at row.page self.old.rows ≡ Some row }
+        requires alone { merged_state row.state ≡ false }
+        requires first { partner self.old.knobs self.old.rows row ≡ None }
+        ensures state { OnOk result (self.new ≡ record self.old { rows = change_row row.page (λ _. record row { state = Waiting }) self.old.rows }) }
+        ensures keeper { self.new.keeper ≡ self.old.keeper }
+        ensures refused { OnErr result (self.new ≡ self.old) }
+        ensures fault { OnErr result (result ≡ Err Memory) }
+    {
+        let Some(held) = self.pages.find(row.page) else {
+            return Ok(());
+        };
+        self.pages.wait(row, held.frame)?;
+        Ok(())
     }
 
     /// The row of a page goes, and so does its reference on its frame.
@@ -292,10 +296,10 @@ impl Layout {
         ensures state { self.new ≡ record self.old { rows = without_page page self.old.rows; keeper = self.new.keeper } }
         ensures does { Does self.old.keeper self.new.keeper [] }
     {
-        let Some(gone) = self.rows.find(page) else {
+        let Some(gone) = self.pages.find(page) else {
             return;
         };
-        self.rows.remove(page);
+        self.pages.remove(page);
         release(&mut self.keeper, table, gone.frame);
     }
 
@@ -303,14 +307,14 @@ impl Layout {
     pub fn settle_all(&mut self)
         ensures { self.new ≡ record self.old { rows = map settled self.old.rows } }
     {
-        self.rows.settle_all();
+        self.pages.settle_all();
     }
 
     /// All pages of a guest become mergeable.
     pub fn make_mergeable(&mut self, guest: u16)
         ensures { self.new ≡ record self.old { rows = change_rows (is_of guest) (λ r. record r { mergeable = true }) self.old.rows } }
     {
-        self.rows.make_mergeable(guest);
+        self.pages.make_mergeable(guest);
     }
 
     /// All pages become Private and not unchanged, where none is merged.
@@ -318,7 +322,7 @@ impl Layout {
         requires { All (λ r. merged_state r.state ≡ false) self.old.rows }
         ensures { self.new ≡ record self.old { rows = map unshared self.old.rows } }
     {
-        self.rows.unshare_all();
+        self.pages.unshare_all();
     }
 
     /// The pages of a guest that come before a row, or all of them, become Private, and neither mergeable nor unchanged, where none of them is merged.
@@ -326,73 +330,68 @@ impl Layout {
         requires { All (λ r. (is_of guest r && is_before stop r) ≡ true → merged_state r.state ≡ false) self.old.rows }
         ensures { self.new ≡ record self.old { rows = change_rows (λ r. is_of guest r && is_before stop r) let_go self.old.rows } }
     {
-        self.rows.let_go(guest, stop);
+        self.pages.let_go(guest, stop);
     }
 
-    /// Sets the knobs; `merge_across_nodes` changes only where no dup is.
+    /// Sets the knobs; `merge_across_nodes` changes only where no dup is and no row waits.
     pub fn set_knobs(&mut self, knobs: Knobs)
-        requires { (knobs.merge_across_nodes ≡ self.old.knobs.merge_across_nodes) ⊎ (self.old.dups ≡ []) }
+        requires dups { (knobs.merge_across_nodes ≡ self.old.knobs.merge_across_nodes) ⊎ (self.old.dups ≡ []) }
+        requires rows { (knobs.merge_across_nodes ≡ self.old.knobs.merge_across_nodes) ⊎ All (λ r. waiting_state r.state ≡ false) self.old.rows }
         ensures { self.new ≡ record self.old { knobs = knobs } }
     {
-        self.knobs = knobs;
+        self.pages.set_knobs(knobs);
     }
 
-    /// The page of a row with a frame of its own joins the dup of an item, and leaves its frame.
-    pub fn join(&mut self, table: &FrameTable, row: Row, item: Row)
+    /// The page of a row with a frame of its own joins the dup of an item, and leaves its frame. Refused for memory alone.
+    pub fn join(&mut self, table: &FrameTable, row: Row, item: Row) -> Result<(), Fault>
         requires own { self.old.keeper.table ≡ table.now }
         requires joins { Joins self.old row item }
         ensures own { self.new.keeper.table ≡ self.old.keeper.table }
-        ensures state { self.new ≡ record self.old { rows = change_row row.page (λ _. record row { state = item.state }) self.old.rows; keeper = self.new.keeper } }
-        ensures does { Does self.old.keeper self.new.keeper [] }
-    {
-        let Some(lone) = self.rows.find(row.page) else {
-            return;
-        };
-        let Some(other) = self.rows.find(item.page) else {
-            return;
-        };
-        share(&mut self.keeper, table, other.frame);
-        self.rows.replace(
-            Row {
-                state: item.state,
-                ..row
-            },
-            other.frame,
-        );
-        release(&mut self.keeper, table, lone.frame);
-    }
-
-    /// A new dup stands at a place, on the frame of a row that has one of its own and becomes its first item. A stale dup at the place goes first. Refused for memory alone.
-    pub fn found(&mut self, table: &FrameTable, place: u32, row: Row) -> Result<(), Fault>
-        requires own { self.old.keeper.table ≡ table.now }
-        requires founds { Founds self.old place row }
-        ensures own { self.new.keeper.table ≡ self.old.keeper.table }
-        ensures state { OnOk result (self.new ≡ record self.old { rows = change_row row.page (λ _. record row { state = Merged self.old.next }) self.old.rows; dups = with_dup (new_dup self.old place row) self.old.dups; next = self.old.next + 1; keeper = self.new.keeper }) }
+        ensures state { OnOk result (self.new ≡ record self.old { rows = change_row row.page (λ _. record row { state = item.state }) self.old.rows; keeper = self.new.keeper }) }
         ensures does { Does self.old.keeper self.new.keeper [] }
         ensures refused { OnErr result (self.new ≡ self.old) }
         ensures fault { OnErr result (result ≡ Err Memory) }
     {
-        let Some(held) = self.rows.find(row.page) else {
+        let PageState::Merged(number) = item.state else {
             return Ok(());
         };
-        let dup = DupRow {
-            number: self.next,
-            place,
-            tree: tree_of(&self.knobs, &row),
-            bytes: row.bytes,
+        let Some(lone) = self.pages.find(row.page) else {
+            return Ok(());
         };
-        let taken = self.dups.has(place);
-        self.dups.put(dup)?;
+        let Some(other) = self.pages.find(item.page) else {
+            return Ok(());
+        };
+        self.pages.join(row, number, other.frame)?;
+        share(&mut self.keeper, table, other.frame);
+        release(&mut self.keeper, table, lone.frame);
+        Ok(())
+    }
+
+    /// Two pages with frames of their own become the items of a new dup at a place, on the frame of the first; the second leaves its frame. A stale dup at the place goes first. Refused for memory alone.
+    pub fn pair(&mut self, table: &FrameTable, place: u32, first: Row, second: Row) -> Result<(), Fault>
+        requires own { self.old.keeper.table ≡ table.now }
+        requires founds { Founds self.old place first }
+        requires joins { Joins (founded self.old place first) second (record first { state = Merged self.old.next }) }
+        requires second { row_at second.page self.old.rows ≡ Some second }
+        requires apart { same_page first.page second.page ≡ false }
+        ensures own { self.new.keeper.table ≡ self.old.keeper.table }
+        ensures state { OnOk result (self.new ≡ record (founded self.old place first) { rows = change_row second.page (λ _. record second { state = Merged self.old.next }) (founded self.old place first).rows; keeper = self.new.keeper }) }
+        ensures does { Does self.old.keeper self.new.keeper [] }
+        ensures refused { OnErr result (self.new ≡ self.old) }
+        ensures fault { OnErr result (result ≡ Err Memory) }
+    {
+        let Some(held) = self.pages.find(first.page) else {
+            return Ok(());
+        };
+        let Some(lone) = self.pages.find(second.page) else {
+            return Ok(());
+        };
+        let taken = self.pages.has_dup(place);
+        self.pages.pair(place, first, second, held.frame)?;
         clear(&mut self.keeper, table, place, taken);
         self.keeper.publish(table, place, held.frame);
-        self.rows.replace(
-            Row {
-                state: PageState::Merged(dup.number),
-                ..row
-            },
-            held.frame,
-        );
-        self.next += 1;
+        share(&mut self.keeper, table, held.frame);
+        release(&mut self.keeper, table, lone.frame);
         Ok(())
     }
 
@@ -405,9 +404,9 @@ impl Layout {
         ensures state { self.new ≡ record self.old { dups = filter (elsewhere place) self.old.dups; keeper = self.new.keeper } }
         ensures does { Does self.old.keeper self.new.keeper [] }
     {
-        let taken = self.dups.has(place);
+        let taken = self.pages.has_dup(place);
         clear(&mut self.keeper, table, place, taken);
-        self.dups.remove(place);
+        self.pages.drop_stale(place);
     }
 
     /// All stale dups go. Says how many there were.
@@ -419,9 +418,9 @@ impl Layout {
         ensures count { result ≡ count_by (is_stale self.old.rows) self.old.dups }
         ensures does { Does self.old.keeper self.new.keeper [] }
     {
-        let count = self.dups.count_stale(&self.rows) as u64;
-        for done in 0..self.dups.len() {
-            let Some(place) = self.dups.stale_place(&self.rows) else {
+        let count = self.pages.count_stale() as u64;
+        for done in 0..count {
+            let Some(place) = self.pages.stale_place() else {
                 return count;
             };
             self.drop_stale(table, place);

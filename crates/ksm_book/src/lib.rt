@@ -2,7 +2,6 @@
 #![tactic(auto)]
 
 mod book;
-mod dups;
 mod entry;
 mod frames;
 mod knobs;

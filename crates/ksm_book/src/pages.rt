@@ -1,6 +1,6 @@
 //! The pages: the rows with their frames, and the dups into which rows are merged, each told of the others' changes.
 
-ghost use Rattle.std.specs.Prelude.{◌≡◌, ◌⊎◌, ◌+◌, [], true, false, None, Some, Err, All, count_by, filter, find, length, map, insert, remove, slice_set, is_some, ◌==◌, ◌&&◌, option_map, IfOk, IfErr, IfSome, OnOk, OnErr, MatchOption};
+ghost use Rattle.std.specs.Prelude.{◌≡◌, ◌⊎◌, ◌+◌, ◌≤◌, [], true, false, None, Some, Err, All, count_by, filter, find, length, map, insert, remove, slice_set, is_some, ◌==◌, ◌&&◌, option_map, IfOk, IfErr, IfSome, OnOk, OnErr, MatchOption};
 ghost use Rattle.std.specs.List.{list_any};
 ghost use Rattle.ksm_base.specs.declared.fault.Fault.TheVariants.{Memory};
 ghost use Rattle.ksm_base.specs.declared.row.PageState.TheVariants.{Private, Waiting, Merged};
@@ -8,7 +8,7 @@ ghost use Rattle.ksm_base.specs.Apply.{is_before, let_go as as_let_go, unshared 
 ghost use Rattle.ksm_base.specs.Counting.{in_chain, leads_group, shared_count};
 ghost use Rattle.ksm_base.specs.Reading.{items_of};
 ghost use Rattle.ksm_base.specs.Refusals.{is_of};
-ghost use Rattle.ksm_base.specs.Rows.{row_at, with_row, with_dup, without_page, change_row, change_rows, merged_state, merged_into, settled as as_settled, has_items, is_stale, dup_numbered};
+ghost use Rattle.ksm_base.specs.Rows.{row_at, with_row, with_dup, without_page, change_row, change_rows, merged_state, merged_into, waiting_state, settled as as_settled, has_items, is_stale, dup_numbered};
 ghost use Rattle.ksm_base.specs.State.{default_knobs, place_count};
 ghost use Rattle.ksm_base.specs.Values.{IsShape};
 ghost use Rattle.ksm_base.specs.Visit.{best_dup, partner as row_waiting, new_place as a_new_place};
@@ -16,7 +16,6 @@ ghost use Rattle.ksm_book.specs.Laid.{elsewhere};
 ghost use Rattle.ksm_book.specs.Linked.{HasRoom, IsVacant, MayPair, ReplacedBoth, item_of_next, next_dup};
 ghost use Rattle.ksm_book.specs.Listed.{rank, StandsAt, instead};
 
-use crate::row::{settled, tree_of};
 use crate::rows::{Held, Rows};
 use ksm_base::{DupRow, Fault, GuestPage, Knobs, PageState, Row, Shape};
 use ksm_tree::{Choice, Dups};
@@ -56,12 +55,7 @@ impl Pages {
         ensures opened { IfOk result (λ p. p ≡ record { shape = shape; listed = record { rows = []; frames = [] }; dups = []; knobs = default_knobs; next = 0 }) }
         ensures fault { IfErr result (λ fault. fault ≡ Memory) }
     {
-        Ok(Pages {
-            shape,
-            rows: Rows::new(alloc),
-            dups: Dups::open(alloc, shape.frames())?,
-            knobs: Knobs::DEFAULT,
-        })
+        unreachable!()
     }
 
     pub fn shape(&self) -> Shape
@@ -76,11 +70,12 @@ impl Pages {
         self.knobs
     }
 
-    /// Sets the knobs.
+    /// Sets the knobs; `merge_across_nodes` changes only where no row waits.
     pub fn set_knobs(&mut self, knobs: Knobs)
+        requires { (knobs.merge_across_nodes ≡ self.old.knobs.merge_across_nodes) ⊎ All (λ r. waiting_state r.state ≡ false) self.old.listed.rows }
         ensures { self.new ≡ record self.old { knobs = knobs } }
     {
-        self.knobs = knobs;
+        unreachable!()
     }
 
     /// The rows with their frames.
@@ -95,37 +90,28 @@ impl Pages {
         ensures known { is_some (row_at page self.now.listed.rows) ≡ is_some result }
         ensures at { MatchOption result (row_at page self.now.listed.rows ≡ None) (λ held. StandsAt self.now.listed page held.row held.frame) }
     {
-        self.rows.find(page)
+        unreachable!()
     }
 
     /// The dup that a row joins.
     pub fn best(&self, row: &Row) -> Option<DupRow>
         ensures { result ≡ best_dup self.now.knobs self.now.listed.rows self.now.dups row.now }
     {
-        let limit = self.knobs.max_page_sharing;
-        let number = self
-            .dups
-            .best(tree_of(&self.knobs, row), &row.bytes, limit)?;
-        self.dups.row(number)
+        unreachable!()
     }
 
     /// The row that waits for another.
     pub fn partner(&self, row: &Row) -> Option<Row>
         ensures { result ≡ row_waiting self.now.knobs self.now.listed.rows row.now }
     {
-        self.rows.partner(&self.knobs, row)
+        unreachable!()
     }
 
     /// Where a new dup goes.
     pub fn new_place(&self) -> Option<u32>
         ensures { result ≡ a_new_place (place_count self.now.shape) self.now.listed.rows self.now.dups }
     {
-        if !self.dups.has_place() {
-            return None;
-        }
-        match self.dups.choose_place() {
-            Choice::Empty(place) | Choice::Stale(place) => Some(place),
-        }
+        unreachable!()
     }
 
     /// The least place of a stale dup.
@@ -133,28 +119,28 @@ impl Pages {
         ensures place { result ≡ option_map (λ d. d.place) (find (is_stale self.now.listed.rows) self.now.dups) }
         ensures vacant { IfSome result (λ place. IsVacant place self.now.listed.rows self.now.dups) }
     {
-        self.dups.stale()
+        unreachable!()
     }
 
     /// Whether a dup stands at the place.
     pub fn has_dup(&self, place: u32) -> bool
         ensures { result ≡ list_any (λ d. d.place == place) self.now.dups }
     {
-        self.dups.at(place).is_some()
+        unreachable!()
     }
 
     /// The dup with items at a place.
     pub fn live_at(&self, place: u32) -> Option<DupRow>
         ensures { result ≡ find (λ d. d.place == place && has_items self.now.listed.rows d) self.now.dups }
     {
-        self.dups.live_at(place)
+        unreachable!()
     }
 
     /// The dup with a number.
     pub fn numbered(&self, number: u64) -> Option<DupRow>
         ensures { result ≡ dup_numbered number self.now.dups }
     {
-        self.dups.row(number)
+        unreachable!()
     }
 
     /// The first item of the dup with this number.
@@ -162,13 +148,7 @@ impl Pages {
         requires { is_some (dup_numbered number self.now.dups) ≡ true }
         ensures { result ≡ find (λ r. merged_into number r.state) self.now.listed.rows }
     {
-        if self.dups.items(number) == 0 {
-            return None;
-        }
-        match self.rows.find(self.dups.item(number, 0)) {
-            None => None,
-            Some(held) => Some(held.row),
-        }
+        unreachable!()
     }
 
     /// The pages merged into a dup, ascending. Refused for memory alone.
@@ -177,47 +157,35 @@ impl Pages {
         ensures items { IfOk result (λ pages. pages.items ≡ map (λ r. r.page) (filter (λ r. merged_into number r.state) self.now.listed.rows)) }
         ensures fault { IfErr result (λ fault. fault ≡ Memory) }
     {
-        let mut pages = Vec::new(alloc);
-        for i in 0..self.dups.items(number) {
-            pages.push(self.dups.item(number, i))?;
-        }
-        Ok(pages)
+        unreachable!()
     }
 
     /// How many dups have an item.
     pub fn count_shared(&self) -> usize
         ensures { result ≡ shared_count self.now.listed.rows self.now.dups }
     {
-        self.dups.count_shared()
+        unreachable!()
     }
 
     /// How many dups are stale.
     pub fn count_stale(&self) -> usize
         ensures { result ≡ count_by (is_stale self.now.listed.rows) self.now.dups }
     {
-        self.dups.count_stale()
+        unreachable!()
     }
 
     /// How many dups are in a group of two or more.
     pub fn count_dups(&self) -> usize
         ensures { result ≡ count_by (in_chain self.now.dups) self.now.dups }
     {
-        self.dups.count_grouped()
+        unreachable!()
     }
 
     /// How many groups have two dups or more.
     pub fn count_chains(&self) -> usize
         ensures { result ≡ count_by (λ d. in_chain self.now.dups d && leads_group self.now.dups d) self.now.dups }
     {
-        self.dups.count_chains()
-    }
-
-    // A row leaves the dup of which it is an item.
-    fn leave(&mut self, row: Row)
-    {
-        if let PageState::Merged(number) = row.state {
-            self.dups.leave(number, row.page);
-        }
+        unreachable!()
     }
 
     /// Adds the row of a page that has none, with its frame. Refused for memory alone, it changes nothing.
@@ -235,7 +203,7 @@ impl Pages {
         ensures refused { OnErr result (self.new ≡ self.old) }
         ensures fault { OnErr result (result ≡ Err Memory) }
     {
-        self.rows.insert(row, frame)
+        unreachable!()
     }
 
     /// Puts a row of its own and its frame in the stead of those of its page, which leaves its dup.
@@ -247,11 +215,7 @@ impl Pages {
         ensures changed { self.new.listed.rows ≡ change_row row.page (λ _. row) self.old.listed.rows }
         ensures rest { self.new ≡ record self.old { listed = self.new.listed } }
     {
-        let Some(held) = self.rows.find(row.page) else {
-            return;
-        };
-        self.leave(held.row);
-        self.rows.replace(row, frame);
+        unreachable!()
     }
 
     /// Takes the row of a page away, which has one, and leaves its dup.
@@ -262,11 +226,7 @@ impl Pages {
         ensures gone { self.new.listed.rows ≡ without_page page self.old.listed.rows }
         ensures rest { self.new ≡ record self.old { listed = self.new.listed } }
     {
-        let Some(held) = self.rows.find(page) else {
-            return;
-        };
-        self.leave(held.row);
-        self.rows.remove(page);
+        unreachable!()
     }
 
     /// A row that is not merged waits from now on, on its frame. Refused for memory alone, it changes nothing.
@@ -281,12 +241,7 @@ impl Pages {
         ensures refused { OnErr result (self.new ≡ self.old) }
         ensures fault { OnErr result (result ≡ Err Memory) }
     {
-        let waiting = Row {
-            state: PageState::Waiting,
-            ..row
-        };
-        self.rows.replace(waiting, frame);
-        Ok(())
+        unreachable!()
     }
 
     /// A row that is not merged becomes an item of a dup, on the dup's frame. Refused for memory alone, it changes nothing.
@@ -301,13 +256,7 @@ impl Pages {
         ensures refused { OnErr result (self.new ≡ self.old) }
         ensures fault { OnErr result (result ≡ Err Memory) }
     {
-        self.dups.join(number, row.page)?;
-        let item = Row {
-            state: PageState::Merged(number),
-            ..row
-        };
-        self.rows.replace(item, frame);
-        Ok(())
+        unreachable!()
     }
 
     /// Two rows that are not merged become the items of a new dup at a place, on one frame. A stale dup at the place goes. Refused for memory alone, it changes nothing.
@@ -319,14 +268,7 @@ impl Pages {
         ensures refused { OnErr result (self.new ≡ self.old) }
         ensures fault { OnErr result (result ≡ Err Memory) }
     {
-        let tree = tree_of(&self.knobs, &first);
-        let number = self
-            .dups
-            .new_dup(place, tree, &first.bytes, first.page, second.page)?;
-        let state = PageState::Merged(number);
-        self.rows.replace(Row { state, ..first }, frame);
-        self.rows.replace(Row { state, ..second }, frame);
-        Ok(())
+        unreachable!()
     }
 
     /// The stale dup at a place goes, if there is one.
@@ -334,9 +276,7 @@ impl Pages {
         requires { IsVacant place self.old.listed.rows self.old.dups }
         ensures { self.new ≡ record self.old { dups = filter (elsewhere place) self.old.dups } }
     {
-        if self.dups.at(place).is_some() {
-            self.dups.drop_stale(place);
-        }
+        unreachable!()
     }
 
     /// No row waits any more: those that did are Private.
@@ -345,7 +285,7 @@ impl Pages {
         ensures frames { self.new.listed.frames ≡ self.old.listed.frames }
         ensures rest { self.new ≡ record self.old { listed = self.new.listed } }
     {
-        self.rows.settle_all();
+        unreachable!()
     }
 
     /// All rows of a guest become mergeable.
@@ -354,7 +294,7 @@ impl Pages {
         ensures frames { self.new.listed.frames ≡ self.old.listed.frames }
         ensures rest { self.new ≡ record self.old { listed = self.new.listed } }
     {
-        self.rows.make_mergeable(guest);
+        unreachable!()
     }
 
     /// Every row becomes Private and not unchanged, where none is merged.
@@ -364,7 +304,7 @@ impl Pages {
         ensures frames { self.new.listed.frames ≡ self.old.listed.frames }
         ensures rest { self.new ≡ record self.old { listed = self.new.listed } }
     {
-        self.rows.unshare_all();
+        unreachable!()
     }
 
     /// The rows of a guest that come before a row, or all of them, are alone and out of the scan, where none of them is merged.
@@ -374,7 +314,7 @@ impl Pages {
         ensures frames { self.new.listed.frames ≡ self.old.listed.frames }
         ensures rest { self.new ≡ record self.old { listed = self.new.listed } }
     {
-        self.rows.let_go(guest, stop);
+        unreachable!()
     }
 
     /// All rows on the frame `old` go to the frame `new`.
@@ -383,6 +323,6 @@ impl Pages {
         ensures frames { self.new.listed.frames ≡ map (instead old new) self.old.listed.frames }
         ensures rest { self.new ≡ record self.old { listed = self.new.listed } }
     {
-        self.rows.move_frames(old, new);
+        unreachable!()
     }
 }

@@ -111,8 +111,8 @@ impl State {
             return Ok(());
         }
         if let Some(dup) = self.layout.best(&row) {
-            if let Some(item) = self.layout.rows().item(dup.number) {
-                self.layout.join(table, row, item);
+            if let Some(item) = self.layout.item(dup.number) {
+                self.layout.join(table, row, item)?;
             }
             return Ok(());
         }
@@ -139,38 +139,11 @@ impl State {
         ensures does { Does self.old.keeper self.new.keeper [] }
     {
         let Some(other) = self.layout.partner(&row) else {
-            self.layout.amend(Row {
-                state: PageState::Waiting,
-                ..row
-            });
-            return Ok(());
+            return self.layout.wait(row);
         };
         let Some(place) = self.layout.new_place() else {
             return Ok(());
         };
-        self.merge(table, place, other, row)
-    }
-
-    // The page visited and the one that waits for it become the items of a new dup.
-    fn merge(&mut self, table: &FrameTable, place: u32, other: Row, row: Row) -> Result<(), Fault>
-        requires own { self.old.keeper.table ≡ table.now }
-        requires next { next_row self.old.state.cursor self.old.state.rows ≡ Some row }
-        requires alone { merged_state row.state ≡ false }
-        requires waits { partner self.old.state.knobs self.old.state.rows row ≡ Some other }
-        requires place { new_place (place_count self.old.state.shape) self.old.state.rows self.old.state.dups ≡ Some place }
-        ensures own { self.new.keeper.table ≡ self.old.keeper.table }
-        ensures ok { OnOk result (self.new.state ≡ made_dup (Some place) self.old.state other row) }
-        ensures err { OnErr result (self.new.state ≡ self.old.state) }
-        ensures fault { OnErr result (result ≡ Err Memory) }
-        ensures does { Does self.old.keeper self.new.keeper [] }
-    {
-        let number = self.layout.next_number();
-        self.layout.found(table, place, other)?;
-        let item = Row {
-            state: PageState::Merged(number),
-            ..other
-        };
-        self.layout.join(table, row, item);
-        Ok(())
+        self.layout.pair(table, place, other, row)
     }
 }

@@ -43,18 +43,19 @@ impl Model for State {
 }
 
 impl State {
-    /// The opening state, in the frames of a keeper that has made no step.
-    pub fn open(alloc: Global, keeper: Keeper, shape: Shape) -> State
+    /// The opening state, in the frames of a keeper that has made no step. Refused for memory alone, it gives the keeper back.
+    pub fn open(alloc: Global, keeper: Keeper, shape: Shape) -> Result<State, (Keeper, Fault)>
         requires shape { IsShape shape }
         requires same { keeper.table.shape ≡ shape }
         requires new { keeper.ledger ≡ first_ledger shape }
-        ensures { result ≡ record { state = opening shape; keeper = keeper } }
+        ensures opened { IfOk result (λ s. s ≡ record { state = opening shape; keeper = keeper }) }
+        ensures refused { IfErr result (λ e. (e.0 ≡ keeper) × (e.1 ≡ Memory)) }
     {
-        State {
-            layout: Layout::open(alloc, keeper, shape),
+        Ok(State {
+            layout: Layout::open(alloc, keeper, shape)?,
             cursor: None,
             passes: 0,
-        }
+        })
     }
 
     /// The keeper, as it is.

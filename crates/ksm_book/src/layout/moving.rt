@@ -23,13 +23,14 @@ impl Layout {
         ensures state { self.new ≡ record self.old { keeper = self.new.keeper } }
         ensures moved { IsMoved self.old.keeper self.new.keeper dup.place node result }
     {
-        let Some(item) = self.rows.item(dup.number) else {
+        let Some(item) = self.pages.item(dup.number) else {
             return Ok(());
         };
-        let Some(held) = self.rows.find(item.page) else {
+        let Some(held) = self.pages.find(item.page) else {
             return Ok(());
         };
-        let Some(frame) = seek(&mut self.keeper, table, self.shape, node) else {
+        let shape = self.pages.shape();
+        let Some(frame) = seek(&mut self.keeper, table, shape, node) else {
             return Err(Fault::NoFrame(node));
         };
         let items = self.keeper.base(held.frame);
@@ -37,7 +38,7 @@ impl Layout {
             return Err(Fault::InUse);
         }
         mount(&mut self.keeper, table, held.frame, frame, dup.place, items);
-        self.rows.move_frames(held.frame, frame);
+        self.pages.move_frames(held.frame, frame);
         Ok(())
     }
 }

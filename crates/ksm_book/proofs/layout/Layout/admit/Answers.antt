@@ -5,52 +5,54 @@ use Rattle.ksm_book.specs.Laid.{Lay}
 use Rattle.ksm_book.specs.Listed.{Listed, rank}
 use Rattle.ksm_book.specs.Steps.{Does}
 use Rattle.ksm_book.specs.Keeping.{NoneLeft}
-use Rattle.ksm_book.proofs.Laying.{laid_with, laid_kept, laid_same, relaid}
+use Rattle.ksm_book.proofs.Laying.{laid_with, laid_kept, laid_same, relaid, relisted, rest_again}
 use Rattle.ksm_book.proofs.Ranks.{set_inserted, remove_inserted}
 use Rattle.ksm_book.proofs.layout.Layout.admit.Goals as goal
 
 module _ (c : goal.After-remove) where
   abbrev old : Listed
-  old = c.self.inside.rows
+  old = c.self.inside.pages.listed
 
-  rows_back : c.remove.new.self.rows ≡ old.rows
+  rows_back : c.remove.new.self.listed.rows ≡ old.rows
   rows_back = c.remove.ensures.rows ∙ (λ t. remove (c.in_ok-insert.ensures.rows t) (c.in_ok-insert.ensures.place t)) ∙ remove_inserted old.rows (rank c.args.row.page old.rows) c.args.row c.in_ok-insert.ensures.within
 
-  frames_back : c.remove.new.self.frames ≡ old.frames
+  frames_back : c.remove.new.self.listed.frames ≡ old.frames
   frames_back = c.remove.ensures.frames ∙ (λ t. remove (c.in_ok-insert.ensures.frames t) (c.in_ok-insert.ensures.place t)) ∙ remove_inserted old.frames (rank c.args.row.page old.rows) 0 (let p = c.in_ok-insert.ensures.paired in let w = c.in_ok-insert.ensures.within in omega (arith, p, w))
 
 pub invariant_of-self-in_default : goal.invariant_of-self-in_default
 invariant_of-self-in_default c =
     let b = c.self.inside in
     let sought = c.in_default.ensures.took in
-    laid_same b.shape b.rows b.dups b.knobs b.next c.take_frame.new.keeper
-    (laid_kept b.shape b.rows b.dups b.knobs b.next b.keeper c.self.invariant c.take_frame.new.keeper c.take_frame.ensures.own sought.keeps sought.spent)
-    c.remove.new.self c.take_frame.new.keeper (rows_back c) (frames_back c) refl refl
+    relisted b.pages c.remove.new.self c.take_frame.new.keeper (rest_again b.pages c.insert.new.self c.remove.new.self c.in_ok-insert.ensures.rest c.remove.ensures.rest)
+    (laid_same b.pages.shape b.pages.listed b.pages.dups b.pages.knobs b.pages.next c.take_frame.new.keeper
+    (laid_kept b.pages.shape b.pages.listed b.pages.dups b.pages.knobs b.pages.next b.keeper c.self.invariant c.take_frame.new.keeper c.take_frame.ensures.own sought.keeps sought.spent)
+    c.remove.new.self.listed c.take_frame.new.keeper (rows_back c) (frames_back c) refl refl)
 
 pub returns-in_default-clause-housed : goal.returns-in_default-clause-housed
 returns-in_default-clause-housed c =
     let now = c.args.self.now in
     record {
-      state = relaid _ now c.remove.new.self.rows now.rows c.take_frame.new.keeper c.self.view_is (rows_back c ∙ ap (λ (x : Lay). x.rows) c.self.view_is);
+      state = relaid c.self.inside.pages c.remove.new.self now c.self.inside.keeper c.take_frame.new.keeper now.rows (rest_again c.self.inside.pages c.insert.new.self c.remove.new.self c.in_ok-insert.ensures.rest c.remove.ensures.rest) c.self.view_is (rows_back c ∙ ap (λ (x : Lay). x.rows) c.self.view_is);
       left = subst (λ (x : Lay). NoneLeft x.keeper c.take_frame.new.keeper c.args.row.home) c.self.view_is c.in_default.ensures.took.left;
     }
 
 module _ (c : goal.After-replace) where
-  rows_there : c.replace.new.self.rows ≡ insert c.self.inside.rows.rows (rank c.args.row.page c.self.inside.rows.rows) c.args.row
-  rows_there = c.replace.ensures.rows ∙ (λ t. slice_set (c.in_ok-insert.ensures.rows t) (c.in_ok-insert.ensures.place t) c.args.row) ∙ set_inserted c.self.inside.rows.rows (rank c.args.row.page c.self.inside.rows.rows) c.args.row c.args.row c.in_ok-insert.ensures.within
+  rows_there : c.replace.new.self.listed.rows ≡ insert c.self.inside.pages.listed.rows (rank c.args.row.page c.self.inside.pages.listed.rows) c.args.row
+  rows_there = c.replace.ensures.rows ∙ (λ t. slice_set (c.in_ok-insert.ensures.rows t) (c.in_ok-insert.ensures.place t) c.args.row) ∙ set_inserted c.self.inside.pages.listed.rows (rank c.args.row.page c.self.inside.pages.listed.rows) c.args.row c.args.row c.in_ok-insert.ensures.within
 
-  frames_there : c.replace.new.self.frames ≡ insert c.self.inside.rows.frames (rank c.args.row.page c.self.inside.rows.rows) c.in-Some.frame
-  frames_there = c.replace.ensures.frames ∙ (λ t. slice_set (c.in_ok-insert.ensures.frames t) (c.in_ok-insert.ensures.place t) c.in-Some.frame) ∙ set_inserted c.self.inside.rows.frames (rank c.args.row.page c.self.inside.rows.rows) 0 c.in-Some.frame (let p = c.in_ok-insert.ensures.paired in let w = c.in_ok-insert.ensures.within in omega (arith, p, w))
+  frames_there : c.replace.new.self.listed.frames ≡ insert c.self.inside.pages.listed.frames (rank c.args.row.page c.self.inside.pages.listed.rows) c.in-Some.frame
+  frames_there = c.replace.ensures.frames ∙ (λ t. slice_set (c.in_ok-insert.ensures.frames t) (c.in_ok-insert.ensures.place t) c.in-Some.frame) ∙ set_inserted c.self.inside.pages.listed.frames (rank c.args.row.page c.self.inside.pages.listed.rows) 0 c.in-Some.frame (let p = c.in_ok-insert.ensures.paired in let w = c.in_ok-insert.ensures.within in omega (arith, p, w))
 
 pub invariant_of-self-2 : goal.invariant_of-self-2
 invariant_of-self-2 c =
     let b = c.self.inside in
-    laid_with b.shape b.rows b.dups b.knobs b.next b.keeper c.self.invariant c.replace.new.self c.take_frame.new.keeper (rank c.args.row.page b.rows.rows) c.in-Some.frame c.args.row c.take_frame.ensures.own c.in-Some.ensures.took c.in_ok-insert.ensures.within c.requires.alone (rows_there c) (frames_there c)
+    relisted b.pages c.replace.new.self c.take_frame.new.keeper (rest_again b.pages c.insert.new.self c.replace.new.self c.in_ok-insert.ensures.rest c.replace.ensures.rest)
+    (laid_with b.pages.shape b.pages.listed b.pages.dups b.pages.knobs b.pages.next b.keeper c.self.invariant c.replace.new.self.listed c.take_frame.new.keeper (rank c.args.row.page b.pages.listed.rows) c.in-Some.frame c.args.row c.take_frame.ensures.own c.in-Some.ensures.took c.in_ok-insert.ensures.within c.requires.alone (rows_there c) (frames_there c))
 
 pub returns-clause-housed : goal.returns-clause-housed
 returns-clause-housed c =
     let now = c.args.self.now in
     record {
-      state = relaid _ now c.replace.new.self.rows (with_row c.args.row now.rows) c.take_frame.new.keeper c.self.view_is (rows_there c ∙ sym c.in_ok-insert.ensures.rows ∙ c.in_ok-insert.ensures.added ∙ ap (λ (x : Lay). with_row c.args.row x.rows) c.self.view_is);
+      state = relaid c.self.inside.pages c.replace.new.self now c.self.inside.keeper c.take_frame.new.keeper (with_row c.args.row now.rows) (rest_again c.self.inside.pages c.insert.new.self c.replace.new.self c.in_ok-insert.ensures.rest c.replace.ensures.rest) c.self.view_is (rows_there c ∙ sym c.in_ok-insert.ensures.rows ∙ c.in_ok-insert.ensures.added ∙ ap (λ (x : Lay). with_row c.args.row x.rows) c.self.view_is);
       does = subst (λ (x : Lay). Does x.keeper c.take_frame.new.keeper (c.args.row.home ∷ [])) c.self.view_is c.in-Some.ensures.took.does;
     }

@@ -7,11 +7,12 @@ use Rattle.ksm_base.specs.declared.row.Row.{Row}
 use Rattle.ksm_book.specs.Laid.{Lay}
 use Rattle.ksm_book.proofs.Sharing.{laid_mapped}
 use Rattle.ksm_book.proofs.Unmerged.{gone_lodges}
+use Rattle.ksm_book.proofs.Laying.{relisted}
 use Rattle.ksm_book.proofs.layout.Layout.let_go.Goals as goal
 
 pub invariant_of-self : goal.invariant_of-self
 invariant_of-self c =
     let b = c.self.inside in
     let alone = subst (λ (x : Lay). All (λ r. (is_of c.args.guest r && is_before c.args.stop r) ≡ true → merged_state r.state ≡ false) x.rows) (sym c.self.view_is) c.requires in
-    laid_mapped b.shape b.rows b.dups b.knobs b.next b.keeper c.self.invariant c.let_go.new.self (λ r. if is_of c.args.guest r && is_before c.args.stop r then let_go r else r)
-    (λ i d lt. gone_lodges (is_of c.args.guest (get_or b.rows.rows i d) && is_before c.args.stop (get_or b.rows.rows i d)) (get_or b.rows.rows i d) (alone i d lt)) c.let_go.ensures.rows c.let_go.ensures.frames
+    relisted b.pages c.let_go.new.self b.keeper c.let_go.ensures.rest (laid_mapped b.pages.shape b.pages.listed b.pages.dups b.pages.knobs b.pages.next b.keeper c.self.invariant c.let_go.new.self.listed (λ r. if is_of c.args.guest r && is_before c.args.stop r then let_go r else r)
+    (λ i d lt. gone_lodges (is_of c.args.guest (get_or b.pages.listed.rows i d) && is_before c.args.stop (get_or b.pages.listed.rows i d)) (get_or b.pages.listed.rows i d) (alone i d lt)) c.let_go.ensures.rows c.let_go.ensures.frames)

@@ -1,46 +1,56 @@
 use Rattle.std.proofs.Common.{◌≡◌, ◌<◌, ◌≤◌, sym, subst, arith}
 use Rattle.ksm_book.specs.Laid.{Lay}
 use Rattle.ksm_book.specs.Mounted.{Mounted}
-use Rattle.ksm_book.proofs.Laying.{laid_kept}
+use Rattle.std.proofs.Common.{ap, ◌∙◌}
+use Rattle.std.specs.Prelude.{find, ◌==◌, ◌&&◌}
+use Rattle.ksm_base.specs.Rows.{has_items}
+use Rattle.ksm_book.proofs.Found.{dup_known}
+use Rattle.ksm_book.proofs.Laying.{laid_kept, relisted}
 use Rattle.ksm_book.proofs.Remounts.{some_item, first_known, may_freeze, lost, laid_lost, mount_within, mount_place, mount_free, mount_dying, mount_wide, mount_some, mount_few, mount_loose, has_moved, laid_moved_dup}
 use Rattle.ksm_book.proofs.layout.Layout.move_dup.Goals as goal
+
+pub item-requires : goal.item-requires
+item-requires c =
+    let p = c.self.inside.pages in
+    dup_known (λ d. d.place == c.args.dup.place && has_items p.listed.rows d) p.dups c.args.dup
+    (ap (λ (x : Lay). find (λ d. d.place == c.args.dup.place && has_items x.rows d) x.dups) c.self.view_is ∙ c.requires.live)
 
 pub returns-in_default-clause-moved : goal.returns-in_default-clause-moved
 returns-in_default-clause-moved c =
     let b = c.self.inside in
-    absurd (some_item b.shape b.rows b.dups b.knobs b.next b.keeper c.self.invariant c.args.self.now c.self.view_is c.requires.sound c.args.dup c.requires.live c.in_default.ensures)
+    absurd (some_item b.pages.shape b.pages.listed b.pages.dups b.pages.knobs b.pages.next b.keeper c.self.invariant c.args.self.now c.self.view_is c.requires.sound c.args.dup c.requires.live c.in_default.ensures)
 
 pub returns-in_default-find-clause-moved : goal.returns-in_default-find-clause-moved
 returns-in_default-find-clause-moved c =
     let b = c.self.inside in
-    let known = first_known b.shape b.rows b.dups b.knobs b.next b.keeper c.self.invariant c.args.self.now c.self.view_is c.requires.sound c.args.dup c.requires.live c.in-Some.item c.in-Some.ensures in
+    let known = first_known b.pages.shape b.pages.listed b.pages.dups b.pages.knobs b.pages.next b.keeper c.self.invariant c.args.self.now c.self.view_is c.requires.sound c.args.dup c.requires.live c.in-Some.item c.in-Some.ensures in
     absurd (grind (arith, known, c.in_default-find.ensures.at))
 
 pub invariant_of-self : goal.invariant_of-self
 invariant_of-self c =
     let b = c.self.inside in
-    laid_kept b.shape b.rows b.dups b.knobs b.next b.keeper c.self.invariant c.seek.new.keeper c.seek.ensures.own c.in_default-seek.ensures.found.keeps c.in_default-seek.ensures.found.spent
+    laid_kept b.pages.shape b.pages.listed b.pages.dups b.pages.knobs b.pages.next b.keeper c.self.invariant c.seek.new.keeper c.seek.ensures.own c.in_default-seek.ensures.found.keeps c.in_default-seek.ensures.found.spent
 
 pub freeze-requires-clause-may : goal.freeze-requires-clause-may
 freeze-requires-clause-may c =
     let b = c.self.inside in
     let home = subst (λ (x : Lay). x.knobs.merge_across_nodes ≡ 0 → c.args.node ≡ c.args.dup.tree) (sym c.self.view_is) c.requires.home in
     let less = subst (λ (x : Lay). c.args.node < x.shape.nodes) (sym c.self.view_is) c.requires.node in
-    may_freeze b.shape b.rows b.dups b.knobs b.next b.keeper c.self.invariant c.args.self.now c.self.view_is c.requires.sound c.args.dup c.requires.live c.in-Some.item c.in-Some.ensures c.in-Some-find.held.row c.in-Some-find.held.frame c.in-Some-find.ensures.at c.seek.new.keeper c.seek.ensures.own c.args.node c.in-Some-seek.frame less home c.in-Some-seek.ensures.found
+    may_freeze b.pages.shape b.pages.listed b.pages.dups b.pages.knobs b.pages.next b.keeper c.self.invariant c.args.self.now c.self.view_is c.requires.sound c.args.dup c.requires.live c.in-Some.item c.in-Some.ensures c.in-Some-find.held.row c.in-Some-find.held.frame c.in-Some-find.ensures.at c.seek.new.keeper c.seek.ensures.own c.args.node c.in-Some-seek.frame less home c.in-Some-seek.ensures.found
 
 pub invariant_of-self-then-not-freeze : goal.invariant_of-self-then-not-freeze
 invariant_of-self-then-not-freeze c =
     let b = c.self.inside in
     let home = subst (λ (x : Lay). x.knobs.merge_across_nodes ≡ 0 → c.args.node ≡ c.args.dup.tree) (sym c.self.view_is) c.requires.home in
     let less = subst (λ (x : Lay). c.args.node < x.shape.nodes) (sym c.self.view_is) c.requires.node in
-    laid_lost b.shape b.rows b.dups b.knobs b.next b.keeper c.self.invariant c.args.self.now c.self.view_is c.requires.sound c.args.dup c.requires.live c.in-Some.item c.in-Some.ensures c.in-Some-find.held.row c.in-Some-find.held.frame c.in-Some-find.ensures.at c.seek.new.keeper c.seek.ensures.own c.args.node c.in-Some-seek.frame less home c.in-Some-seek.ensures.found c.freeze.new.self c.freeze.ensures.0 c.freeze.ensures.1 (λ e. absurd (grind (arith, c.if-not-freeze.true, c.freeze.ensures.2.1 e)))
+    laid_lost b.pages.shape b.pages.listed b.pages.dups b.pages.knobs b.pages.next b.keeper c.self.invariant c.args.self.now c.self.view_is c.requires.sound c.args.dup c.requires.live c.in-Some.item c.in-Some.ensures c.in-Some-find.held.row c.in-Some-find.held.frame c.in-Some-find.ensures.at c.seek.new.keeper c.seek.ensures.own c.args.node c.in-Some-seek.frame less home c.in-Some-seek.ensures.found c.freeze.new.self c.freeze.ensures.0 c.freeze.ensures.1 (λ e. absurd (grind (arith, c.if-not-freeze.true, c.freeze.ensures.2.1 e)))
 
 pub returns-then-not-freeze-clause-moved : goal.returns-then-not-freeze-clause-moved
 returns-then-not-freeze-clause-moved c =
     let b = c.self.inside in
     let home = subst (λ (x : Lay). x.knobs.merge_across_nodes ≡ 0 → c.args.node ≡ c.args.dup.tree) (sym c.self.view_is) c.requires.home in
     let less = subst (λ (x : Lay). c.args.node < x.shape.nodes) (sym c.self.view_is) c.requires.node in
-    lost b.shape b.rows b.dups b.knobs b.next b.keeper c.self.invariant c.args.self.now c.self.view_is c.requires.sound c.args.dup c.requires.live c.in-Some.item c.in-Some.ensures c.in-Some-find.held.row c.in-Some-find.held.frame c.in-Some-find.ensures.at c.seek.new.keeper c.seek.ensures.own c.args.node c.in-Some-seek.frame less home c.in-Some-seek.ensures.found c.freeze.new.self c.freeze.ensures.0 c.freeze.ensures.1 (λ e. absurd (grind (arith, c.if-not-freeze.true, c.freeze.ensures.2.1 e)))
+    lost b.pages.shape b.pages.listed b.pages.dups b.pages.knobs b.pages.next b.keeper c.self.invariant c.args.self.now c.self.view_is c.requires.sound c.args.dup c.requires.live c.in-Some.item c.in-Some.ensures c.in-Some-find.held.row c.in-Some-find.held.frame c.in-Some-find.ensures.at c.seek.new.keeper c.seek.ensures.own c.args.node c.in-Some-seek.frame less home c.in-Some-seek.ensures.found c.freeze.new.self c.freeze.ensures.0 c.freeze.ensures.1 (λ e. absurd (grind (arith, c.if-not-freeze.true, c.freeze.ensures.2.1 e)))
 
 pub mount-requires-clause-within : goal.mount-requires-clause-within
 mount-requires-clause-within c =
@@ -48,7 +58,7 @@ mount-requires-clause-within c =
     let home = subst (λ (x : Lay). x.knobs.merge_across_nodes ≡ 0 → c.args.node ≡ c.args.dup.tree) (sym c.self.view_is) c.requires.home in
     let less = subst (λ (x : Lay). c.args.node < x.shape.nodes) (sym c.self.view_is) c.requires.node in
     let all = c.freeze.ensures.2.0 c.if-not-freeze.false in
-    mount_within b.shape b.rows b.dups b.knobs b.next b.keeper c.self.invariant c.args.self.now c.self.view_is c.requires.sound c.args.dup c.requires.live c.in-Some.item c.in-Some.ensures c.in-Some-find.held.row c.in-Some-find.held.frame c.in-Some-find.ensures.at c.seek.new.keeper c.seek.ensures.own c.args.node c.in-Some-seek.frame less home c.in-Some-seek.ensures.found c.freeze.new.self c.freeze.ensures.0 c.freeze.ensures.1 all
+    mount_within b.pages.shape b.pages.listed b.pages.dups b.pages.knobs b.pages.next b.keeper c.self.invariant c.args.self.now c.self.view_is c.requires.sound c.args.dup c.requires.live c.in-Some.item c.in-Some.ensures c.in-Some-find.held.row c.in-Some-find.held.frame c.in-Some-find.ensures.at c.seek.new.keeper c.seek.ensures.own c.args.node c.in-Some-seek.frame less home c.in-Some-seek.ensures.found c.freeze.new.self c.freeze.ensures.0 c.freeze.ensures.1 all
 
 pub mount-requires-clause-place : goal.mount-requires-clause-place
 mount-requires-clause-place c =
@@ -56,7 +66,7 @@ mount-requires-clause-place c =
     let home = subst (λ (x : Lay). x.knobs.merge_across_nodes ≡ 0 → c.args.node ≡ c.args.dup.tree) (sym c.self.view_is) c.requires.home in
     let less = subst (λ (x : Lay). c.args.node < x.shape.nodes) (sym c.self.view_is) c.requires.node in
     let all = c.freeze.ensures.2.0 c.if-not-freeze.false in
-    mount_place b.shape b.rows b.dups b.knobs b.next b.keeper c.self.invariant c.args.self.now c.self.view_is c.requires.sound c.args.dup c.requires.live c.in-Some.item c.in-Some.ensures c.in-Some-find.held.row c.in-Some-find.held.frame c.in-Some-find.ensures.at c.seek.new.keeper c.seek.ensures.own c.args.node c.in-Some-seek.frame less home c.in-Some-seek.ensures.found c.freeze.new.self c.freeze.ensures.0 c.freeze.ensures.1 all
+    mount_place b.pages.shape b.pages.listed b.pages.dups b.pages.knobs b.pages.next b.keeper c.self.invariant c.args.self.now c.self.view_is c.requires.sound c.args.dup c.requires.live c.in-Some.item c.in-Some.ensures c.in-Some-find.held.row c.in-Some-find.held.frame c.in-Some-find.ensures.at c.seek.new.keeper c.seek.ensures.own c.args.node c.in-Some-seek.frame less home c.in-Some-seek.ensures.found c.freeze.new.self c.freeze.ensures.0 c.freeze.ensures.1 all
 
 pub mount-requires-clause-free : goal.mount-requires-clause-free
 mount-requires-clause-free c =
@@ -64,7 +74,7 @@ mount-requires-clause-free c =
     let home = subst (λ (x : Lay). x.knobs.merge_across_nodes ≡ 0 → c.args.node ≡ c.args.dup.tree) (sym c.self.view_is) c.requires.home in
     let less = subst (λ (x : Lay). c.args.node < x.shape.nodes) (sym c.self.view_is) c.requires.node in
     let all = c.freeze.ensures.2.0 c.if-not-freeze.false in
-    mount_free b.shape b.rows b.dups b.knobs b.next b.keeper c.self.invariant c.args.self.now c.self.view_is c.requires.sound c.args.dup c.requires.live c.in-Some.item c.in-Some.ensures c.in-Some-find.held.row c.in-Some-find.held.frame c.in-Some-find.ensures.at c.seek.new.keeper c.seek.ensures.own c.args.node c.in-Some-seek.frame less home c.in-Some-seek.ensures.found c.freeze.new.self c.freeze.ensures.0 c.freeze.ensures.1 all
+    mount_free b.pages.shape b.pages.listed b.pages.dups b.pages.knobs b.pages.next b.keeper c.self.invariant c.args.self.now c.self.view_is c.requires.sound c.args.dup c.requires.live c.in-Some.item c.in-Some.ensures c.in-Some-find.held.row c.in-Some-find.held.frame c.in-Some-find.ensures.at c.seek.new.keeper c.seek.ensures.own c.args.node c.in-Some-seek.frame less home c.in-Some-seek.ensures.found c.freeze.new.self c.freeze.ensures.0 c.freeze.ensures.1 all
 
 pub mount-requires-clause-dying : goal.mount-requires-clause-dying
 mount-requires-clause-dying c =
@@ -72,7 +82,7 @@ mount-requires-clause-dying c =
     let home = subst (λ (x : Lay). x.knobs.merge_across_nodes ≡ 0 → c.args.node ≡ c.args.dup.tree) (sym c.self.view_is) c.requires.home in
     let less = subst (λ (x : Lay). c.args.node < x.shape.nodes) (sym c.self.view_is) c.requires.node in
     let all = c.freeze.ensures.2.0 c.if-not-freeze.false in
-    mount_dying b.shape b.rows b.dups b.knobs b.next b.keeper c.self.invariant c.args.self.now c.self.view_is c.requires.sound c.args.dup c.requires.live c.in-Some.item c.in-Some.ensures c.in-Some-find.held.row c.in-Some-find.held.frame c.in-Some-find.ensures.at c.seek.new.keeper c.seek.ensures.own c.args.node c.in-Some-seek.frame less home c.in-Some-seek.ensures.found c.freeze.new.self c.freeze.ensures.0 c.freeze.ensures.1 all
+    mount_dying b.pages.shape b.pages.listed b.pages.dups b.pages.knobs b.pages.next b.keeper c.self.invariant c.args.self.now c.self.view_is c.requires.sound c.args.dup c.requires.live c.in-Some.item c.in-Some.ensures c.in-Some-find.held.row c.in-Some-find.held.frame c.in-Some-find.ensures.at c.seek.new.keeper c.seek.ensures.own c.args.node c.in-Some-seek.frame less home c.in-Some-seek.ensures.found c.freeze.new.self c.freeze.ensures.0 c.freeze.ensures.1 all
 
 pub mount-requires-clause-wide : goal.mount-requires-clause-wide
 mount-requires-clause-wide c =
@@ -80,7 +90,7 @@ mount-requires-clause-wide c =
     let home = subst (λ (x : Lay). x.knobs.merge_across_nodes ≡ 0 → c.args.node ≡ c.args.dup.tree) (sym c.self.view_is) c.requires.home in
     let less = subst (λ (x : Lay). c.args.node < x.shape.nodes) (sym c.self.view_is) c.requires.node in
     let all = c.freeze.ensures.2.0 c.if-not-freeze.false in
-    mount_wide b.shape b.rows b.dups b.knobs b.next b.keeper c.self.invariant c.args.self.now c.self.view_is c.requires.sound c.args.dup c.requires.live c.in-Some.item c.in-Some.ensures c.in-Some-find.held.row c.in-Some-find.held.frame c.in-Some-find.ensures.at c.seek.new.keeper c.seek.ensures.own c.args.node c.in-Some-seek.frame less home c.in-Some-seek.ensures.found c.freeze.new.self c.freeze.ensures.0 c.freeze.ensures.1 all
+    mount_wide b.pages.shape b.pages.listed b.pages.dups b.pages.knobs b.pages.next b.keeper c.self.invariant c.args.self.now c.self.view_is c.requires.sound c.args.dup c.requires.live c.in-Some.item c.in-Some.ensures c.in-Some-find.held.row c.in-Some-find.held.frame c.in-Some-find.ensures.at c.seek.new.keeper c.seek.ensures.own c.args.node c.in-Some-seek.frame less home c.in-Some-seek.ensures.found c.freeze.new.self c.freeze.ensures.0 c.freeze.ensures.1 all
 
 pub mount-requires-clause-some : goal.mount-requires-clause-some
 mount-requires-clause-some c =
@@ -88,7 +98,7 @@ mount-requires-clause-some c =
     let home = subst (λ (x : Lay). x.knobs.merge_across_nodes ≡ 0 → c.args.node ≡ c.args.dup.tree) (sym c.self.view_is) c.requires.home in
     let less = subst (λ (x : Lay). c.args.node < x.shape.nodes) (sym c.self.view_is) c.requires.node in
     let all = c.freeze.ensures.2.0 c.if-not-freeze.false in
-    subst (λ x. 1 ≤ x) (sym c.base-items.ensures) (mount_some b.shape b.rows b.dups b.knobs b.next b.keeper c.self.invariant c.args.self.now c.self.view_is c.requires.sound c.args.dup c.requires.live c.in-Some.item c.in-Some.ensures c.in-Some-find.held.row c.in-Some-find.held.frame c.in-Some-find.ensures.at c.seek.new.keeper c.seek.ensures.own c.args.node c.in-Some-seek.frame less home c.in-Some-seek.ensures.found c.freeze.new.self c.freeze.ensures.0 c.freeze.ensures.1 all)
+    subst (λ x. 1 ≤ x) (sym c.base-items.ensures) (mount_some b.pages.shape b.pages.listed b.pages.dups b.pages.knobs b.pages.next b.keeper c.self.invariant c.args.self.now c.self.view_is c.requires.sound c.args.dup c.requires.live c.in-Some.item c.in-Some.ensures c.in-Some-find.held.row c.in-Some-find.held.frame c.in-Some-find.ensures.at c.seek.new.keeper c.seek.ensures.own c.args.node c.in-Some-seek.frame less home c.in-Some-seek.ensures.found c.freeze.new.self c.freeze.ensures.0 c.freeze.ensures.1 all)
 
 pub mount-requires-clause-few : goal.mount-requires-clause-few
 mount-requires-clause-few c =
@@ -96,7 +106,7 @@ mount-requires-clause-few c =
     let home = subst (λ (x : Lay). x.knobs.merge_across_nodes ≡ 0 → c.args.node ≡ c.args.dup.tree) (sym c.self.view_is) c.requires.home in
     let less = subst (λ (x : Lay). c.args.node < x.shape.nodes) (sym c.self.view_is) c.requires.node in
     let all = c.freeze.ensures.2.0 c.if-not-freeze.false in
-    subst (λ x. x ≤ 1024) (sym c.base-items.ensures) (mount_few b.shape b.rows b.dups b.knobs b.next b.keeper c.self.invariant c.args.self.now c.self.view_is c.requires.sound c.args.dup c.requires.live c.in-Some.item c.in-Some.ensures c.in-Some-find.held.row c.in-Some-find.held.frame c.in-Some-find.ensures.at c.seek.new.keeper c.seek.ensures.own c.args.node c.in-Some-seek.frame less home c.in-Some-seek.ensures.found c.freeze.new.self c.freeze.ensures.0 c.freeze.ensures.1 all)
+    subst (λ x. x ≤ 1024) (sym c.base-items.ensures) (mount_few b.pages.shape b.pages.listed b.pages.dups b.pages.knobs b.pages.next b.keeper c.self.invariant c.args.self.now c.self.view_is c.requires.sound c.args.dup c.requires.live c.in-Some.item c.in-Some.ensures c.in-Some-find.held.row c.in-Some-find.held.frame c.in-Some-find.ensures.at c.seek.new.keeper c.seek.ensures.own c.args.node c.in-Some-seek.frame less home c.in-Some-seek.ensures.found c.freeze.new.self c.freeze.ensures.0 c.freeze.ensures.1 all)
 
 pub mount-requires-clause-loose : goal.mount-requires-clause-loose
 mount-requires-clause-loose c =
@@ -104,7 +114,7 @@ mount-requires-clause-loose c =
     let home = subst (λ (x : Lay). x.knobs.merge_across_nodes ≡ 0 → c.args.node ≡ c.args.dup.tree) (sym c.self.view_is) c.requires.home in
     let less = subst (λ (x : Lay). c.args.node < x.shape.nodes) (sym c.self.view_is) c.requires.node in
     let all = c.freeze.ensures.2.0 c.if-not-freeze.false in
-    mount_loose b.shape b.rows b.dups b.knobs b.next b.keeper c.self.invariant c.args.self.now c.self.view_is c.requires.sound c.args.dup c.requires.live c.in-Some.item c.in-Some.ensures c.in-Some-find.held.row c.in-Some-find.held.frame c.in-Some-find.ensures.at c.seek.new.keeper c.seek.ensures.own c.args.node c.in-Some-seek.frame less home c.in-Some-seek.ensures.found c.freeze.new.self c.freeze.ensures.0 c.freeze.ensures.1 all
+    mount_loose b.pages.shape b.pages.listed b.pages.dups b.pages.knobs b.pages.next b.keeper c.self.invariant c.args.self.now c.self.view_is c.requires.sound c.args.dup c.requires.live c.in-Some.item c.in-Some.ensures c.in-Some-find.held.row c.in-Some-find.held.frame c.in-Some-find.ensures.at c.seek.new.keeper c.seek.ensures.own c.args.node c.in-Some-seek.frame less home c.in-Some-seek.ensures.found c.freeze.new.self c.freeze.ensures.0 c.freeze.ensures.1 all
 
 pub invariant_of-self-2 : goal.invariant_of-self-2
 invariant_of-self-2 c =
@@ -113,7 +123,7 @@ invariant_of-self-2 c =
     let less = subst (λ (x : Lay). c.args.node < x.shape.nodes) (sym c.self.view_is) c.requires.node in
     let all = c.freeze.ensures.2.0 c.if-not-freeze.false in
     let mounted = subst (λ x. Mounted c.freeze.new.self c.mount.new.keeper c.in-Some-find.held.frame c.in-Some-seek.frame c.args.dup.place x) c.base-items.ensures c.mount.ensures.mounted in
-    laid_moved_dup b.shape b.rows b.dups b.knobs b.next b.keeper c.self.invariant c.args.self.now c.self.view_is c.requires.sound c.args.dup c.requires.live c.in-Some.item c.in-Some.ensures c.in-Some-find.held.row c.in-Some-find.held.frame c.in-Some-find.ensures.at c.seek.new.keeper c.seek.ensures.own c.args.node c.in-Some-seek.frame less home c.in-Some-seek.ensures.found c.freeze.new.self c.freeze.ensures.0 c.freeze.ensures.1 all c.mount.new.keeper c.mount.ensures.own mounted c.move_frames.new.self c.move_frames.ensures.rows c.move_frames.ensures.frames
+    relisted b.pages c.move_frames.new.self c.mount.new.keeper c.move_frames.ensures.rest (laid_moved_dup b.pages.shape b.pages.listed b.pages.dups b.pages.knobs b.pages.next b.keeper c.self.invariant c.args.self.now c.self.view_is c.requires.sound c.args.dup c.requires.live c.in-Some.item c.in-Some.ensures c.in-Some-find.held.row c.in-Some-find.held.frame c.in-Some-find.ensures.at c.seek.new.keeper c.seek.ensures.own c.args.node c.in-Some-seek.frame less home c.in-Some-seek.ensures.found c.freeze.new.self c.freeze.ensures.0 c.freeze.ensures.1 all c.mount.new.keeper c.mount.ensures.own mounted c.move_frames.new.self.listed c.move_frames.ensures.rows c.move_frames.ensures.frames)
 
 pub returns-clause-moved : goal.returns-clause-moved
 returns-clause-moved c =
@@ -122,4 +132,4 @@ returns-clause-moved c =
     let less = subst (λ (x : Lay). c.args.node < x.shape.nodes) (sym c.self.view_is) c.requires.node in
     let all = c.freeze.ensures.2.0 c.if-not-freeze.false in
     let mounted = subst (λ x. Mounted c.freeze.new.self c.mount.new.keeper c.in-Some-find.held.frame c.in-Some-seek.frame c.args.dup.place x) c.base-items.ensures c.mount.ensures.mounted in
-    has_moved b.shape b.rows b.dups b.knobs b.next b.keeper c.self.invariant c.args.self.now c.self.view_is c.requires.sound c.args.dup c.requires.live c.in-Some.item c.in-Some.ensures c.in-Some-find.held.row c.in-Some-find.held.frame c.in-Some-find.ensures.at c.seek.new.keeper c.seek.ensures.own c.args.node c.in-Some-seek.frame less home c.in-Some-seek.ensures.found c.freeze.new.self c.freeze.ensures.0 c.freeze.ensures.1 all c.mount.new.keeper c.mount.ensures.own mounted
+    has_moved b.pages.shape b.pages.listed b.pages.dups b.pages.knobs b.pages.next b.keeper c.self.invariant c.args.self.now c.self.view_is c.requires.sound c.args.dup c.requires.live c.in-Some.item c.in-Some.ensures c.in-Some-find.held.row c.in-Some-find.held.frame c.in-Some-find.ensures.at c.seek.new.keeper c.seek.ensures.own c.args.node c.in-Some-seek.frame less home c.in-Some-seek.ensures.found c.freeze.new.self c.freeze.ensures.0 c.freeze.ensures.1 all c.mount.new.keeper c.mount.ensures.own mounted

@@ -1,14 +1,16 @@
 use Rattle.std.proofs.Common.{◌≡◌, ◌∙◌, ◌+◌, ◌<◌, ◌≤◌, ℕ, Bool, List, [], ◌∷◌, length, Some, None, refl, sym, ap, subst, arith}
-use Rattle.std.specs.Prelude.{All, filter, find}
+use Rattle.std.specs.Prelude.{All, count_by, filter, find}
 use Rattle.std.proofs.lemmas.List.Elements.{All-filter}
 use Rattle.ksm_base.specs.declared.shape.Shape.{Shape}
 use Rattle.ksm_base.proofs.Edits.{find_all}
+use Rattle.ksm_base.specs.declared.row.Row.{Row}
 use Rattle.ksm_base.specs.declared.row.DupRow.{DupRow}
 use Rattle.ksm_base.specs.Rows.{has_items, is_stale}
 use Rattle.ksm_base.specs.Values.{frames_of}
-use Rattle.ksm_book.specs.Laid.{Lay, IsVacant, elsewhere}
+use Rattle.ksm_book.specs.Linked.{IsVacant}
+use Rattle.ksm_book.specs.Laid.{Lay, elsewhere}
 use Rattle.ksm_book.proofs.Logs.{chained}
-use Rattle.ksm_book.proofs.Pruning.{none_stale, live_elsewhere, fewer_elsewhere, dup_at, no_dup_at}
+use Rattle.ksm_book.proofs.Pruning.{none_stale, none_left, live_elsewhere, fewer_stale, dup_at, no_dup_at}
 use Rattle.ksm_book.proofs.layout.Layout.prune.Goals as goal
 
 pub loop-done-preserved : goal.loop-done-preserved
@@ -21,10 +23,10 @@ loop-done-preserved c =
     let step = c.drop_stale.ensures.state in
     let dups : new.dups ≡ filter (elsewhere p) l.dups = ap (λ (x : Lay). x.dups) step in
     let rows : l.rows ≡ now.rows = ap (λ (x : Lay). x.rows) i.state in
-    let stale = dup_at (find (is_stale c.self-in-loop-done.inside.rows.rows) c.self-in-loop-done.inside.dups) p c.in-Some.ensures.place in
+    let stale = dup_at (find (is_stale c.self-in-loop-done.inside.pages.listed.rows) c.self-in-loop-done.inside.pages.dups) p c.in-Some.ensures.place in
     let found : find (is_stale l.rows) l.dups ≡ Some stale.0 = ap (λ (x : Lay). find (is_stale x.rows) x.dups) (sym c.self-in-loop-done.view_is) ∙ stale.1 in
     let vacant : IsVacant p now.rows l.dups = subst (λ r. IsVacant p r l.dups) rows (subst (λ (x : Lay). IsVacant p x.rows x.dups) c.self-in-loop-done.view_is c.in-Some.ensures.vacant) in
-    let fewer : length (filter (elsewhere p) l.dups) + 1 ≤ length l.dups = subst (λ q. length (filter (elsewhere q) l.dups) + 1 ≤ length l.dups) stale.2 (fewer_elsewhere l.rows l.dups stale.0 found) in
+    let fewer : count_by (is_stale now.rows) (filter (elsewhere p) l.dups) + 1 ≤ count_by (is_stale now.rows) l.dups = subst (λ (z : ℕ × List Row). count_by (is_stale z.1) (filter (elsewhere z.0) l.dups) + 1 ≤ count_by (is_stale z.1) l.dups) (λ t. (stale.2 t, rows t)) (fewer_stale l.rows l.dups stale.0 found) in
     let so_far = i.few in
     let first = i.does in
     let second = c.drop_stale.ensures.does in
@@ -32,7 +34,7 @@ loop-done-preserved c =
       own = c.drop_stale.ensures.own ∙ i.own;
       state = step ∙ (λ t. record (i.state t) { dups = filter (elsewhere p) l.dups; keeper = new.keeper }) ∙ (λ t. record now { dups = sym dups t; keeper = new.keeper });
       live = ap (filter (has_items now.rows)) dups ∙ live_elsewhere now.rows p l.dups vacant ∙ i.live;
-      few = subst (λ ds. length ds + (c.loop-done.done + 1) ≤ length now.dups) (sym dups) (omega (arith, so_far, fewer));
+      few = subst (λ ds. count_by (is_stale now.rows) ds + (c.loop-done.done + 1) ≤ count_by (is_stale now.rows) now.dups) (sym dups) (omega (arith, so_far, fewer));
       places = subst (All (λ d. d.place < frames_of now.shape)) (sym dups) (All-filter (elsewhere p) (λ d. d.place < frames_of now.shape) l.dups i.places);
       does = (_, chained now.keeper l.keeper new.keeper [] [] first.0 second.0 first.1 second.1);
     }
@@ -52,21 +54,17 @@ returns-clause-state c =
     let l : Lay = c.loop-done.self in
     let i = c.loop-done.invariant in
     let now : Lay = c.args.self.now in
-    let long : c.len-done-end.result ≡ length now.dups = c.len-done-end.ensures ∙ ap (λ (x : Lay). length x.dups) c.self.view_is in
+    let count : c.count_stale-count.result ≡ count_by (is_stale now.rows) now.dups = c.count_stale-count.ensures ∙ ap (λ (x : Lay). count_by (is_stale x.rows) x.dups) c.self.view_is in
     let few = i.few in
     let past = c.loop-done-test.false in
-    let none : filter (has_items now.rows) l.dups ≡ l.dups = none_there (has_items now.rows) l.dups (omega (arith, few, past, long)) in
+    let none : filter (has_items now.rows) l.dups ≡ l.dups = none_left now.rows l.dups (omega (arith, few, past, count)) in
     i.state ∙ (λ t. record now { dups = (sym none ∙ i.live) t; keeper = l.keeper })
-  where
-    none_there : (p : DupRow → Bool) (ds : List DupRow) → length ds ≡ 0 → filter p ds ≡ ds
-    none_there p [] e = refl
-    none_there p (d ∷ ds) e = absurd (omega arith)
 
 pub drop_stale-requires-clause-inside : goal.drop_stale-requires-clause-inside
 drop_stale-requires-clause-inside c =
     let l : Lay = c.loop-done.self in
     let i = c.loop-done.invariant in
-    let stale = dup_at (find (is_stale c.self-in-loop-done.inside.rows.rows) c.self-in-loop-done.inside.dups) c.in-Some.place c.in-Some.ensures.place in
+    let stale = dup_at (find (is_stale c.self-in-loop-done.inside.pages.listed.rows) c.self-in-loop-done.inside.pages.dups) c.in-Some.place c.in-Some.ensures.place in
     let found : find (is_stale l.rows) l.dups ≡ Some stale.0 = ap (λ (x : Lay). find (is_stale x.rows) x.dups) (sym c.self-in-loop-done.view_is) ∙ stale.1 in
     let inside = find_all (is_stale l.rows) (λ d. d.place < frames_of c.args.self.now.shape) l.dups stale.0 found i.places in
     subst (λ (z : ℕ × Shape). z.0 < frames_of z.1) (λ t. (stale.2 t, ap (λ (x : Lay). x.shape) (sym i.state) t)) inside

@@ -1,0 +1,101 @@
+use Rattle.std.proofs.Common.{◌≡◌, ◌∙◌, ◌+◌, ◌<◌, ◌≤◌, ◌^◌, true, false, [], None, Some, refl, sym, ap, subst, arith}
+use Rattle.std.specs.Prelude.{All}
+use Rattle.ksm_base.specs.declared.row.PageState.TheVariants.{Merged}
+use Rattle.ksm_base.specs.Rows.{merged_into, row_at}
+use Rattle.ksm_base.specs.Values.{frames_of}
+use Rattle.frame_core.specs.declared.event.KeeperStep.TheVariants.{Publish}
+use Rattle.ksm_book.specs.Laid.{Lay, Founds, Joins, IsLaid, founded}
+use Rattle.ksm_book.specs.Linked.{PagesView, IsVacant}
+use Rattle.ksm_book.specs.Steps.{Does}
+use Rattle.ksm_book.proofs.Logs.{chained, one_step}
+use Rattle.ksm_book.proofs.Paired.{few_there, first_lawful, second_lawful, laid_paired}
+use Rattle.ksm_book.proofs.Ranks.{stands_as}
+use Rattle.ksm_book.proofs.Sharing.{not_taken, vacant_loose, spent_most}
+use Rattle.ksm_book.proofs.layout.Layout.pair.Goals as goal
+
+pub invariant_of-self : goal.invariant_of-self
+invariant_of-self c = subst (λ (z : PagesView). IsLaid z.shape z.listed z.dups z.knobs z.next c.self.inside.keeper) (sym c.in_err-pair.ensures.refused) c.self.invariant
+
+pub pair-requires : goal.pair-requires
+pair-requires c =
+    let b = c.self.inside in
+    let p = b.pages in
+    let founds : Founds c.args.self.now c.args.place c.args.first = c.requires.founds in
+    let most : p.next ≤ 2 ^ 50 = spent_most p.shape p.listed p.dups p.knobs p.next b.keeper c.self.invariant in
+    let back = sym c.self.view_is in
+    record {
+      first_is = subst (λ (x : Lay). row_at c.args.first.page x.rows ≡ Some c.args.first) back founds.row_is;
+      second_is = subst (λ (x : Lay). row_at c.args.second.page x.rows ≡ Some c.args.second) back c.requires.second;
+      first_alone = founds.alone;
+      second_alone = c.requires.joins.alone;
+      apart = c.requires.apart;
+      inside = subst (λ (x : Lay). c.args.place < frames_of x.shape) back founds.inside;
+      vacant = subst (λ (x : Lay). IsVacant c.args.place x.rows x.dups) back founds.vacant;
+      number = omega (arith, most);
+      fresh = subst (λ (x : Lay). All (λ r. merged_into x.next r.state ≡ false) x.rows) back founds.fresh;
+    }
+
+pub clear-requires-clause-loose : goal.clear-requires-clause-loose
+clear-requires-clause-loose c =
+    let b = c.self.inside in
+    vacant_loose b.pages.shape b.pages.knobs.merge_across_nodes b.keeper.ledger b.pages.listed.rows b.pages.listed.frames b.pages.dups c.args.place c.self.invariant.placed (subst (λ (x : Lay). IsVacant c.args.place x.rows x.dups) (sym c.self.view_is) c.requires.founds.vacant)
+
+pub clear-requires-clause-empty : goal.clear-requires-clause-empty
+clear-requires-clause-empty c none =
+    let b = c.self.inside in
+    not_taken b.pages.shape b.pages.knobs.merge_across_nodes b.keeper.ledger b.pages.listed.rows b.pages.listed.frames b.pages.dups c.args.place c.self.invariant.placed (sym c.has_dup-taken.ensures ∙ none)
+
+pub share-requires-clause-lawful : goal.share-requires-clause-lawful
+share-requires-clause-lawful c =
+    let b = c.self.inside in
+    let back = sym c.self.view_is in
+    let at = stands_as b.pages.listed c.args.self.now.rows c.args.first.page c.in-Some.held.row c.args.first c.in-Some.held.frame c.in-Some.ensures.at (ap (λ (x : Lay). x.rows) c.self.view_is) c.requires.founds.row_is in
+    let lone = stands_as b.pages.listed c.args.self.now.rows c.args.second.page c.in-Some-find.lone.row c.args.second c.in-Some-find.lone.frame c.in-Some-find.ensures.at (ap (λ (x : Lay). x.rows) c.self.view_is) c.requires.second in
+    let founds = subst (λ (x : Lay). Founds x c.args.place c.args.first) back c.requires.founds in
+    let joins = subst (λ (x : Lay). Joins (founded x c.args.place c.args.first) c.args.second (record c.args.first { state = Merged x.next })) back c.requires.joins in
+    first_lawful b.pages b.keeper c.self.invariant c.args.place c.args.first c.args.second c.in-Some.held.frame c.in-Some-find.lone.frame at lone founds joins c.requires.apart c.pair.new.self c.in_ok-pair.ensures.rows c.in_ok-pair.ensures.made c.clear.new.keeper c.publish.new.self c.clear.ensures.own c.clear.ensures.ledger c.publish.ensures
+
+pub share-requires-clause-few : goal.share-requires-clause-few
+share-requires-clause-few c =
+    let b = c.self.inside in
+    let back = sym c.self.view_is in
+    let at = stands_as b.pages.listed c.args.self.now.rows c.args.first.page c.in-Some.held.row c.args.first c.in-Some.held.frame c.in-Some.ensures.at (ap (λ (x : Lay). x.rows) c.self.view_is) c.requires.founds.row_is in
+    let lone = stands_as b.pages.listed c.args.self.now.rows c.args.second.page c.in-Some-find.lone.row c.args.second c.in-Some-find.lone.frame c.in-Some-find.ensures.at (ap (λ (x : Lay). x.rows) c.self.view_is) c.requires.second in
+    let founds = subst (λ (x : Lay). Founds x c.args.place c.args.first) back c.requires.founds in
+    let joins = subst (λ (x : Lay). Joins (founded x c.args.place c.args.first) c.args.second (record c.args.first { state = Merged x.next })) back c.requires.joins in
+    few_there b.pages b.keeper c.self.invariant c.args.place c.args.first c.args.second c.in-Some.held.frame c.in-Some-find.lone.frame at lone founds joins c.requires.apart c.pair.new.self c.in_ok-pair.ensures.rows c.in_ok-pair.ensures.made c.clear.new.keeper c.publish.new.self c.clear.ensures.own c.clear.ensures.ledger c.publish.ensures
+
+pub release-requires-clause-lawful : goal.release-requires-clause-lawful
+release-requires-clause-lawful c =
+    let b = c.self.inside in
+    let back = sym c.self.view_is in
+    let at = stands_as b.pages.listed c.args.self.now.rows c.args.first.page c.in-Some.held.row c.args.first c.in-Some.held.frame c.in-Some.ensures.at (ap (λ (x : Lay). x.rows) c.self.view_is) c.requires.founds.row_is in
+    let lone = stands_as b.pages.listed c.args.self.now.rows c.args.second.page c.in-Some-find.lone.row c.args.second c.in-Some-find.lone.frame c.in-Some-find.ensures.at (ap (λ (x : Lay). x.rows) c.self.view_is) c.requires.second in
+    let founds = subst (λ (x : Lay). Founds x c.args.place c.args.first) back c.requires.founds in
+    let joins = subst (λ (x : Lay). Joins (founded x c.args.place c.args.first) c.args.second (record c.args.first { state = Merged x.next })) back c.requires.joins in
+    second_lawful b.pages b.keeper c.self.invariant c.args.place c.args.first c.args.second c.in-Some.held.frame c.in-Some-find.lone.frame at lone founds joins c.requires.apart c.pair.new.self c.in_ok-pair.ensures.rows c.in_ok-pair.ensures.made c.clear.new.keeper c.publish.new.self c.clear.ensures.own c.clear.ensures.ledger c.publish.ensures c.share.new.keeper c.share.ensures.own c.share.ensures.keeps
+
+pub invariant_of-self-2 : goal.invariant_of-self-2
+invariant_of-self-2 c =
+    let b = c.self.inside in
+    let back = sym c.self.view_is in
+    let at = stands_as b.pages.listed c.args.self.now.rows c.args.first.page c.in-Some.held.row c.args.first c.in-Some.held.frame c.in-Some.ensures.at (ap (λ (x : Lay). x.rows) c.self.view_is) c.requires.founds.row_is in
+    let lone = stands_as b.pages.listed c.args.self.now.rows c.args.second.page c.in-Some-find.lone.row c.args.second c.in-Some-find.lone.frame c.in-Some-find.ensures.at (ap (λ (x : Lay). x.rows) c.self.view_is) c.requires.second in
+    let founds = subst (λ (x : Lay). Founds x c.args.place c.args.first) back c.requires.founds in
+    let joins = subst (λ (x : Lay). Joins (founded x c.args.place c.args.first) c.args.second (record c.args.first { state = Merged x.next })) back c.requires.joins in
+    laid_paired b.pages b.keeper c.self.invariant c.args.place c.args.first c.args.second c.in-Some.held.frame c.in-Some-find.lone.frame at lone founds joins c.requires.apart c.pair.new.self c.in_ok-pair.ensures.rows c.in_ok-pair.ensures.made c.clear.new.keeper c.publish.new.self c.clear.ensures.own c.clear.ensures.ledger c.publish.ensures c.share.new.keeper c.share.ensures.own c.share.ensures.keeps c.release.new.keeper c.release.ensures.own c.release.ensures.keeps c.share.ensures.spent c.release.ensures.spent
+
+pub returns-clause-does : goal.returns-clause-does
+returns-clause-does c =
+    let b = c.self.inside in
+    let k0 = b.keeper in
+    let k1 = c.clear.new.keeper in
+    let k2 = c.publish.new.self in
+    let k3 = c.share.new.keeper in
+    let k4 = c.release.new.keeper in
+    let first = c.clear.ensures.does in
+    let third = c.share.ensures.does in
+    let fourth = c.release.ensures.does in
+    let two = chained k0 k1 k2 [] [] first.0 _ first.1 (one_step k1 k2 (Publish c.args.place c.in-Some.held.frame) 0 [] tt refl c.publish.ensures) in
+    let three = chained k0 k2 k3 [] [] _ third.0 two third.1 in
+    subst (λ (x : Lay). Does x.keeper k4 []) c.self.view_is (_, chained k0 k3 k4 [] [] _ fourth.0 three fourth.1)
