@@ -1,4 +1,4 @@
-pub mod Pages
+pub mod PageOrder
 pub mod Moves
 pub mod Logs
 pub mod Keeping

@@ -17,7 +17,7 @@ use Rattle.ksm_base.specs.declared.row.PageState.TheVariants.{Private}
 use Rattle.ksm_book.specs.Plain.{IsAt}
 use Rattle.ksm_base.specs.declared.row.DupRow.{DupRow}
 use Rattle.ksm_base.specs.Rows.{comes_before, same_page, InPlaceOrder, InPageOrder, with_dup, row_at, change_rows, change_row}
-use Rattle.ksm_book.proofs.Pages.{apart_first, apart_second}
+use Rattle.ksm_book.proofs.PageOrder.{apart_first, apart_second}
 
 pub pairs_head : {X : Type 0} (R : X → X → Type 0) (x : X) (xs : List X) → AllPairs R (x ∷ xs) → All (R x) xs
 pairs_head R x xs pairs k d lt = pairs 0 (suc k) d (omega arith) (omega arith)

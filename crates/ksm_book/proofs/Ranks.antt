@@ -6,7 +6,7 @@ use Rattle.ksm_base.specs.declared.page.GuestPage.{GuestPage}
 use Rattle.ksm_base.specs.declared.row.Row.{Row}
 use Rattle.ksm_base.specs.Rows.{comes_before, same_page, row_at, InPageOrder}
 use Rattle.ksm_book.specs.Listed.{Listed, rank, StandsAt}
-use Rattle.ksm_book.proofs.Pages.{not_both, before_irrefl, same_page_eq}
+use Rattle.ksm_book.proofs.PageOrder.{not_both, before_irrefl, same_page_eq}
 use Rattle.ksm_book.proofs.Lists.{pairs_tail, filter_none}
 
 same_before : (p q x : GuestPage) → comes_before p q ≡ true → same_page q x ≡ true → comes_before p x ≡ true

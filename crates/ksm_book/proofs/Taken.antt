@@ -6,7 +6,7 @@ use Rattle.std.proofs.lemmas.List.{take_all, drop_all, append-nil, length-append
 use Rattle.ksm_base.specs.declared.row.Row.{Row}
 use Rattle.ksm_base.specs.Rows.{comes_before, InPageOrder, change_rows}
 use Rattle.ksm_base.specs.Apply.{is_before}
-use Rattle.ksm_book.proofs.Pages.{before_irrefl, not_both}
+use Rattle.ksm_book.proofs.PageOrder.{before_irrefl, not_both}
 use Rattle.ksm_book.proofs.Lists.{pairs_tail, change_none}
 
 -- the element that passes behind those that passed before it
