@@ -10,7 +10,7 @@ use Rattle.ksm_base.specs.Apply.{moved}
 use Rattle.ksm_base.specs.declared.page.GuestPage.{GuestPage}
 use Rattle.ksm_base.specs.declared.row.Row.{Row}
 use Rattle.ksm_base.specs.Rows.{same_page, row_at, InPageOrder, change_row}
-use Rattle.ksm_base.proofs.PageOrder.{same_page_eq}
+use Rattle.ksm_base.proofs.Pages.{same_page_eq}
 use Rattle.ksm_book.specs.Laid.{Knows}
 use Rattle.ksm_book.specs.Plain.{IsAt}
 use Rattle.ksm_book.proofs.Lists.{index_facts, change_found}

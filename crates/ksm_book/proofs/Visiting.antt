@@ -24,7 +24,7 @@ use Rattle.ksm_base.proofs.SoundVisit.{IsJoined, best_dup_has_room}
 use Rattle.ksm_base.proofs.SoundScan.{next_row_visited}
 use Rattle.ksm_base.proofs.SoundPair.{IsFree, new_place_free, next_is_new, IsPair, partner_pairs, WaitsFor, waits_tells}
 use Rattle.ksm_base.proofs.SoundCounts.{joined_count}
-use Rattle.ksm_base.proofs.PageOrder.{same_page_eq}
+use Rattle.ksm_base.proofs.Pages.{same_page_eq}
 use Rattle.ksm_book.specs.Laid.{Lay, Joins, Founds, new_dup, state_of}
 use Rattle.ksm_book.proofs.Found.{change_known}
 
