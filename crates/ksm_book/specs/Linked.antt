@@ -62,7 +62,7 @@ pub record Replaced (v w : Listed) (row : Row) (frame : ℕ) : Type 0 where
   pub frames : w.frames ≡ slice_set v.frames (rank row.page v.rows) frame
 
 -- two rows, one after the other, were replaced
-pub record ReplacedBoth (v w : Listed) (first second : Row) (frame : ℕ) : Type 0 where
+pub record ReplacedBoth (v w : Listed) (r s : Row) (frame : ℕ) : Type 0 where
   pub between : Listed
-  pub first : Replaced v between first frame
-  pub second : Replaced between w second frame
+  pub first : Replaced v between r frame
+  pub second : Replaced between w s frame

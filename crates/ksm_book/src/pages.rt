@@ -8,7 +8,7 @@ ghost use Rattle.ksm_base.specs.Apply.{is_before, let_go as as_let_go, unshared 
 ghost use Rattle.ksm_base.specs.Counting.{in_chain, leads_group, shared_count};
 ghost use Rattle.ksm_base.specs.Reading.{items_of};
 ghost use Rattle.ksm_base.specs.Refusals.{is_of};
-ghost use Rattle.ksm_base.specs.Rows.{row_at, with_row, with_dup, without_page, change_row, change_rows, merged_state, merged_into, settled as as_settled, has_items, is_stale, dup_numbered};
+ghost use Rattle.ksm_base.specs.Rows.{row_at, with_row, with_dup, without_page, change_row, change_rows, merged_state, merged_into, waiting_state, settled as as_settled, has_items, is_stale, dup_numbered};
 ghost use Rattle.ksm_base.specs.State.{default_knobs, place_count};
 ghost use Rattle.ksm_base.specs.Values.{IsShape};
 ghost use Rattle.ksm_base.specs.Visit.{best_dup, partner as row_waiting, new_place as a_new_place};
@@ -76,8 +76,9 @@ impl Pages {
         self.knobs
     }
 
-    /// Sets the knobs.
+    /// Sets the knobs; `merge_across_nodes` changes only where no row waits.
     pub fn set_knobs(&mut self, knobs: Knobs)
+        requires { (knobs.merge_across_nodes ≡ self.old.knobs.merge_across_nodes) ⊎ All (λ r. waiting_state r.state ≡ false) self.old.listed.rows }
         ensures { self.new ≡ record self.old { knobs = knobs } }
     {
         self.knobs = knobs;
@@ -116,18 +117,6 @@ impl Pages {
         self.rows.partner(&self.knobs, row)
     }
 
-    /// Where a new dup goes.
-    pub fn new_place(&self) -> Option<u32>
-        ensures { result ≡ a_new_place (place_count self.now.shape) self.now.listed.rows self.now.dups }
-    {
-        if !self.dups.has_place() {
-            return None;
-        }
-        match self.dups.choose_place() {
-            Choice::Empty(place) | Choice::Stale(place) => Some(place),
-        }
-    }
-
     /// The least place of a stale dup.
     pub fn stale_place(&self) -> Option<u32>
         ensures place { result ≡ option_map (λ d. d.place) (find (is_stale self.now.listed.rows) self.now.dups) }
@@ -141,13 +130,6 @@ impl Pages {
         ensures { result ≡ list_any (λ d. d.place == place) self.now.dups }
     {
         self.dups.at(place).is_some()
-    }
-
-    /// The dup with items at a place.
-    pub fn live_at(&self, place: u32) -> Option<DupRow>
-        ensures { result ≡ find (λ d. d.place == place && has_items self.now.listed.rows d) self.now.dups }
-    {
-        self.dups.live_at(place)
     }
 
     /// The dup with a number.
@@ -182,34 +164,6 @@ impl Pages {
             pages.push(self.dups.item(number, i))?;
         }
         Ok(pages)
-    }
-
-    /// How many dups have an item.
-    pub fn count_shared(&self) -> usize
-        ensures { result ≡ shared_count self.now.listed.rows self.now.dups }
-    {
-        self.dups.count_shared()
-    }
-
-    /// How many dups are stale.
-    pub fn count_stale(&self) -> usize
-        ensures { result ≡ count_by (is_stale self.now.listed.rows) self.now.dups }
-    {
-        self.dups.count_stale()
-    }
-
-    /// How many dups are in a group of two or more.
-    pub fn count_dups(&self) -> usize
-        ensures { result ≡ count_by (in_chain self.now.dups) self.now.dups }
-    {
-        self.dups.count_grouped()
-    }
-
-    /// How many groups have two dups or more.
-    pub fn count_chains(&self) -> usize
-        ensures { result ≡ count_by (λ d. in_chain self.now.dups d && leads_group self.now.dups d) self.now.dups }
-    {
-        self.dups.count_chains()
     }
 
     // A row leaves the dup of which it is an item.
