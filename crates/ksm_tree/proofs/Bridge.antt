@@ -13,7 +13,7 @@ use Rattle.ksm_base.specs.Visit.{best_dup, chosen_place, empty_place, new_place,
 use Rattle.ksm_tree.specs.declared.dup.Dup.{Dup}
 use Rattle.ksm_tree.specs.Bridge.{AreCounted, place_in}
 use Rattle.ksm_tree.specs.Choosing.{best_of, choice_of, chosen, is_best, is_no_rival, is_no_worse, may_join}
-use Rattle.ksm_tree.specs.Dups.{DupsState, is_live, is_stale, rows_of}
+use Rattle.ksm_tree.specs.Dups.{DupsState, is_live, is_stale, rows_of, stands_at}
 
 -- two tests that agree on each dup find one row, and leave the same rows
 found_alike : (test : Dup → Bool) (by : DupRow → Bool) (dups : List Dup) → All (λ d. test d ≡ by d.row) dups → option_map (λ d. d.row) (find test dups) ≡ find by (rows_of dups)
@@ -52,6 +52,17 @@ module _ (rows : List Row) where
 
   pub live_alike : (dups : List Dup) → AreCounted rows dups → rows_of (filter is_live dups) ≡ filter (has_items rows) (rows_of dups)
   live_alike dups counted = left_alike is_live (has_items rows) dups (All-weaker IsCounted (λ d. is_live d ≡ has_items rows d.row) (λ d n. ap (nat_lt 0) n) dups counted)
+
+  -- with items or without, at a place
+  pub live_placed : (place : ℕ) (dups : List Dup) → AreCounted rows dups → option_map (λ d. d.row) (find (λ d. stands_at place d && is_live d) dups) ≡ find (λ d. d.place == place && has_items rows d) (rows_of dups)
+  live_placed place dups counted =
+      found_alike (λ d. stands_at place d && is_live d) (λ d. d.place == place && has_items rows d) dups
+      (All-weaker IsCounted (λ d. (stands_at place d && is_live d) ≡ (d.row.place == place && has_items rows d.row)) (λ d n. ap (λ k. d.row.place == place && nat_lt 0 k) n) dups counted)
+
+  pub stale_placed : (place : ℕ) (dups : List Dup) → AreCounted rows dups → option_map (λ d. d.row) (find (λ d. stands_at place d && is_stale d) dups) ≡ find (λ d. d.place == place && is_stale_row rows d) (rows_of dups)
+  stale_placed place dups counted =
+      found_alike (λ d. stands_at place d && is_stale d) (λ d. d.place == place && is_stale_row rows d) dups
+      (All-weaker IsCounted (λ d. (stands_at place d && is_stale d) ≡ (d.row.place == place && is_stale_row rows d.row)) (λ d n. ap (λ k. d.row.place == place && k == 0) n) dups counted)
 
   module _ (knobs : Knobs) (row : Row) where
     joins_alike : (d : Dup) → IsCounted d → may_join (tree_of knobs row) row.bytes knobs.max_page_sharing d ≡ row_may_join knobs rows row d.row
