@@ -53,8 +53,8 @@ impl Dups {
     }
 
     /// The dup that a page of a tree and these bytes joins: of those with an item and fewer than the limit the one with the most items, ties to the lowest number.
-    pub fn best(&self, tree: u32, bytes: &PageBytes, limit: u32) -> Option<u64>
-        ensures { result ≡ option_map (λ d. d.row.number) (best_of tree bytes.now limit self.now.dups) }
+    pub fn best(&self, tree: u32, bytes: &PageBytes, limit: u32) -> Option<DupRow>
+        ensures { result ≡ option_map (λ d. d.row) (best_of tree bytes.now limit self.now.dups) }
     {
         let mut best: Option<&Dup> = None;
         let chain = self.index.places(tree, bytes);
@@ -64,7 +64,7 @@ impl Dups {
             }
         }
         match best {
-            Some(dup) => Some(dup.row.number),
+            Some(dup) => Some(dup.row),
             None => None,
         }
     }
@@ -111,6 +111,7 @@ impl Dups {
         }) }
         ensures kept { OnErr result (self.new ≡ self.old) }
         ensures memory { IfErr result (λ fault. fault ≡ Fault.Memory) }
+        ensures lawful { AreDups self.old }
     {
         let number = self.next;
         let row = DupRow {
@@ -193,7 +194,8 @@ impl Dups {
 
     /// The least place of a stale dup.
     pub fn stale(&self) -> Option<u32>
-        ensures { result ≡ option_map (λ d. d.row.place) (find is_stale self.now.dups) }
+        ensures place { result ≡ option_map (λ d. d.row.place) (find is_stale self.now.dups) }
+        ensures lawful { AreDups self.now }
     {
         self.slots.first_stale()
     }

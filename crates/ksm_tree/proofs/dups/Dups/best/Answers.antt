@@ -16,9 +16,9 @@ returns-in-Some-best c =
     ∙ c.loop-place.invariant
     ∙ ap (folded limit dups None) is
     ∙ folded_best c.args.tree c.args.bytes.now limit dups c.self.invariant.lawful.in_place_order in
-    ap (λ b. option_map (λ d. d.row.number) (option_copied b)) (sym c.in-Some-best.is)
-    ∙ ap (option_map (λ d. d.row.number)) ended
-    ∙ ap (λ s. option_map (λ d. d.row.number) (best_of c.args.tree c.args.bytes.now limit s.dups)) c.self.view_is
+    ap (λ b. option_map (λ d. d.row) (option_copied b)) (sym c.in-Some-best.is)
+    ∙ ap (option_map (λ d. d.row)) ended
+    ∙ ap (λ s. option_map (λ d. d.row) (best_of c.args.tree c.args.bytes.now limit s.dups)) c.self.view_is
 
 pub returns-in-None : goal.returns-in-None
 returns-in-None c =
@@ -31,6 +31,6 @@ returns-in-None c =
     ∙ c.loop-place.invariant
     ∙ ap (folded limit dups None) is
     ∙ folded_best c.args.tree c.args.bytes.now limit dups c.self.invariant.lawful.in_place_order in
-    ap (λ b. option_map (λ d. d.row.number) (option_copied b)) (sym c.in-None.is)
-    ∙ ap (option_map (λ d. d.row.number)) ended
-    ∙ ap (λ s. option_map (λ d. d.row.number) (best_of c.args.tree c.args.bytes.now limit s.dups)) c.self.view_is
+    ap (λ b. option_map (λ d. d.row) (option_copied b)) (sym c.in-None.is)
+    ∙ ap (option_map (λ d. d.row)) ended
+    ∙ ap (λ s. option_map (λ d. d.row) (best_of c.args.tree c.args.bytes.now limit s.dups)) c.self.view_is
