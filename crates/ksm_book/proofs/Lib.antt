@@ -20,3 +20,4 @@ pub mod Mounts
 pub mod Remounts
 pub mod Lawfulness
 pub mod DupMoves
+pub mod Linking

@@ -1,6 +1,6 @@
 //! The pages: the rows with their frames, and the dups into which rows are merged, each told of the others' changes.
 
-ghost use Rattle.std.specs.Prelude.{◌≡◌, ◌⊎◌, ◌+◌, [], true, false, None, Some, Err, All, count_by, filter, find, length, map, insert, remove, slice_set, is_some, ◌==◌, ◌&&◌, option_map, IfOk, IfErr, IfSome, OnOk, OnErr, MatchOption};
+ghost use Rattle.std.specs.Prelude.{◌≡◌, ◌⊎◌, ◌+◌, ◌≤◌, [], true, false, None, Some, Err, All, count_by, filter, find, length, map, insert, remove, slice_set, is_some, ◌==◌, ◌&&◌, option_map, IfOk, IfErr, IfSome, OnOk, OnErr, MatchOption};
 ghost use Rattle.std.specs.List.{list_any};
 ghost use Rattle.ksm_base.specs.declared.fault.Fault.TheVariants.{Memory};
 ghost use Rattle.ksm_base.specs.declared.row.PageState.TheVariants.{Private, Waiting, Merged};
@@ -12,6 +12,7 @@ ghost use Rattle.ksm_base.specs.Rows.{row_at, with_row, with_dup, without_page, 
 ghost use Rattle.ksm_base.specs.State.{default_knobs, place_count};
 ghost use Rattle.ksm_base.specs.Values.{IsShape};
 ghost use Rattle.ksm_base.specs.Visit.{best_dup, partner as row_waiting, new_place as a_new_place};
+ghost use Rattle.ksm_tree.specs.Bridge.{let_out};
 ghost use Rattle.ksm_book.specs.Laid.{elsewhere};
 ghost use Rattle.ksm_book.specs.Linked.{HasRoom, IsVacant, MayPair, ReplacedBoth, item_of_next, next_dup};
 ghost use Rattle.ksm_book.specs.Listed.{rank, StandsAt, instead};
@@ -47,6 +48,15 @@ impl Model for Pages {
     } };
 
     ghost invariant = { λ p. AreLinked p.shape p.rows.rows p.dups };
+}
+
+// A row leaves the dup of which it is an item.
+fn leave(dups: &mut Dups, row: &Row)
+    ensures { dups.new ≡ record dups.old { dups = let_out row.now.state row.now.page dups.old.dups } }
+{
+    if let PageState::Merged(number) = row.state {
+        dups.leave(number, row.page);
+    }
 }
 
 impl Pages {
@@ -103,11 +113,9 @@ impl Pages {
     pub fn best(&self, row: &Row) -> Option<DupRow>
         ensures { result ≡ best_dup self.now.knobs self.now.listed.rows self.now.dups row.now }
     {
-        let limit = self.knobs.max_page_sharing;
-        let number = self
-            .dups
-            .best(tree_of(&self.knobs, row), &row.bytes, limit)?;
-        self.dups.row(number)
+        let tree = tree_of(&self.knobs, row);
+        self.dups
+            .best(tree, &row.bytes, self.knobs.max_page_sharing)
     }
 
     /// The row that waits for another.
@@ -115,6 +123,18 @@ impl Pages {
         ensures { result ≡ row_waiting self.now.knobs self.now.listed.rows row.now }
     {
         self.rows.partner(&self.knobs, row)
+    }
+
+    /// Where a new dup goes.
+    pub fn new_place(&self) -> Option<u32>
+        ensures { result ≡ a_new_place (place_count self.now.shape) self.now.listed.rows self.now.dups }
+    {
+        if !self.dups.has_place() {
+            return None;
+        }
+        match self.dups.choose_place() {
+            Choice::Empty(place) | Choice::Stale(place) => Some(place),
+        }
     }
 
     /// The least place of a stale dup.
@@ -166,14 +186,6 @@ impl Pages {
         Ok(pages)
     }
 
-    // A row leaves the dup of which it is an item.
-    fn leave(&mut self, row: Row)
-    {
-        if let PageState::Merged(number) = row.state {
-            self.dups.leave(number, row.page);
-        }
-    }
-
     /// Adds the row of a page that has none, with its frame. Refused for memory alone, it changes nothing.
     pub fn insert(&mut self, row: Row, frame: u32) -> Result<(), Fault>
         requires absent { row_at row.page self.old.listed.rows ≡ None }
@@ -204,7 +216,7 @@ impl Pages {
         let Some(held) = self.rows.find(row.page) else {
             return;
         };
-        self.leave(held.row);
+        leave(&mut self.dups, &held.row);
         self.rows.replace(row, frame);
     }
 
@@ -219,7 +231,7 @@ impl Pages {
         let Some(held) = self.rows.find(page) else {
             return;
         };
-        self.leave(held.row);
+        leave(&mut self.dups, &held.row);
         self.rows.remove(page);
     }
 
