@@ -1,32 +1,41 @@
 -- Rows and dups stay linked through the changes of the pages, and what is read from the dups is the book's.
-use Rattle.std.proofs.Common.{◌≡◌, ◌∙◌, ℕ, ◌+◌, ◌<◌, ◌≤◌, Bool, true, false, List, [], ◌∷◌, length, get_or, map, Option, None, Some, refl, sym, ap, subst, inl, inr, true≢false, arith}
-use Rattle.std.specs.Prelude.{◌&&◌, ◌==◌, not, All, filter, find, is_some, option_map, slice_get, IfSome, if◌then◌else◌}
+use Rattle.std.proofs.Common.{◌≡◌, ◌∙◌, ℕ, ◌+◌, ◌<◌, ◌≤◌, Bool, true, false, List, [], ◌∷◌, ◌++◌, length, get_or, take, map, Option, None, Some, refl, sym, ap, subst, inl, inr, true≢false, arith}
+use Rattle.std.specs.Prelude.{◌&&◌, ◌==◌, not, nat_lt, count_by, Result, Ok, Err, OnOk, OnErr, All, filter, find, is_some, option_map, slice_get, IfSome, if◌then◌else◌}
 use Rattle.std.specs.List.{list_any}
-use Rattle.std.proofs.lemmas.Bool.{cases_Bool, cond_both, eq-eqb, eqb-true}
+use Rattle.std.proofs.lemmas.Bool.{cases_Bool, cond_both, both_ways, eq-eqb, eqb-true}
 use Rattle.std.proofs.lemmas.Bool.Decides.{nat_tests}
-use Rattle.std.proofs.lemmas.Option.{same_Some}
+use Rattle.std.proofs.lemmas.Option.{same_Some, slice_get_within, get_or_from_slice_get}
+use Rattle.std.proofs.lemmas.List.{take_more}
+use Rattle.std.proofs.lemmas.List.Elements.{All-head, All-tail}
 use Rattle.ksm_base.specs.declared.page.GuestPage.{GuestPage}
 use Rattle.ksm_base.specs.declared.row.PageState.{PageState}
 use Rattle.ksm_base.specs.declared.row.PageState.TheVariants.{Private, Waiting, Merged}
 use Rattle.ksm_base.specs.declared.row.DupRow.{DupRow}
 use Rattle.ksm_base.specs.declared.row.Row.{Row}
+use Rattle.ksm_base.specs.declared.knobs.Knobs.{Knobs}
 use Rattle.ksm_base.specs.declared.shape.Shape.{Shape}
 use Rattle.ksm_base.specs.Apply.{let_go, unshared}
 use Rattle.ksm_base.specs.Reading.{items_of}
 use Rattle.ksm_base.specs.Rows.{InPageOrder, InPlaceOrder, same_page, row_at, with_row, without_page, change_row, change_rows, merged_state, merged_into, settled, settled_state, item_count, is_stale as is_stale_row, dup_numbered}
-use Rattle.ksm_base.proofs.Edits.{find_all, find_passes}
+use Rattle.ksm_base.specs.State.{place_count}
+use Rattle.ksm_base.specs.Visit.{new_place}
+use Rattle.ksm_base.proofs.Edits.{find_all, find_none, find_nothing, find_passes}
 use Rattle.ksm_base.proofs.Orders.{ordered_map, ordered_with, ordered_without, one_of_each_place}
 use Rattle.ksm_base.proofs.RowCounts.{each_at_page}
 use Rattle.ksm_rmap.specs.Items.{with_item}
 use Rattle.ksm_tree.specs.declared.dup.Dup.{Dup}
-use Rattle.ksm_tree.specs.Bridge.{AreTied, let_out}
-use Rattle.ksm_tree.specs.Dups.{AreDups, DupsState, rows_of, has_number, dup_of, dup_at, items_in, items_of as items_numbered, change_items, without_place, with_new, is_stale}
-use Rattle.ksm_tree.proofs.Bridge.{stale_alike}
-use Rattle.ksm_tree.proofs.Changes.{row_found}
+use Rattle.ksm_tree.specs.declared.choice.Choice.{Choice}
+use Rattle.ksm_tree.specs.Bridge.{AreTied, let_out, place_in}
+use Rattle.ksm_tree.specs.Choosing.{choice_of}
+use Rattle.ksm_tree.specs.Dups.{AreDups, DupsState, rows_of, has_number, dup_of, dup_at, items_in, items_of as items_numbered, change_items, without_place, with_new, is_live, is_stale, stands_at}
+use Rattle.ksm_tree.proofs.Bridge.{choice_alike, stale_alike}
+use Rattle.ksm_tree.proofs.Changes.{row_found, all_rows}
 use Rattle.ksm_tree.proofs.Rows.{found_in}
 use Rattle.ksm_tree.proofs.Tied.{tied_counted}
-use Rattle.ksm_tree.proofs.Ties.{tied_dropped, tied_left, tied_joined, tied_made, tied_inserted, tied_mapped, tied_pruned, number_found}
-use Rattle.ksm_book.specs.Linked.{AreLinked, IsVacant}
+use Rattle.ksm_tree.proofs.Ties.{tied_dropped, tied_left, tied_joined, tied_made, tied_inserted, tied_mapped, tied_pruned, number_found, tied_count, row_stays}
+use Rattle.ksm_book.specs.Laid.{elsewhere}
+use Rattle.ksm_book.specs.Linked.{AreLinked, HasRoom, IsVacant, PagesView}
+use Rattle.ksm_book.specs.Listed.{Listed}
 use Rattle.ksm_book.proofs.PageOrder.{same_page_eq}
 
 -- ---------------------------------------------------------------- changes
@@ -91,6 +100,42 @@ module _ (shape : Shape) (rows : List Row) (dups : DupsState) (linked : AreLinke
     places = linked.places;
   }
 
+  pub linked_made : (first second : Row) (row : DupRow) → AreDups dups → row_at first.page rows ≡ Some first → row_at second.page rows ≡ Some second
+      → merged_state first.state ≡ false → merged_state second.state ≡ false → All (λ r. merged_into row.number r.state ≡ false) rows → row.number ≡ dups.next
+      → AreLinked shape (change_row second.page (λ _. record second { state = Merged row.number }) (change_row first.page (λ _. record first { state = Merged row.number }) rows))
+      (record { places = dups.places; dups = with_new (record { row = row; items = with_item second.page (first.page ∷ []) }) dups.dups; next = dups.next + 1 })
+  linked_made first second row lawful found also alone alone_too none is = record {
+    small = linked.small;
+    order = order_changed (record second { state = Merged row.number }) (change_row first.page (λ _. record first { state = Merged row.number }) rows) (order_changed (record first { state = Merged row.number }) rows linked.order);
+    tied = tied_made rows first second row linked.order found also alone alone_too none dups.dups (subst (λ n. All (λ d. d.number < n) (rows_of dups.dups)) (sym is) lawful.numbers_below) linked.tied;
+    places = linked.places;
+  }
+
+let_out_alone : (state : PageState) (page : GuestPage) (dups : List Dup) → merged_state state ≡ false → let_out state page dups ≡ dups
+let_out_alone Private page dups alone = refl
+let_out_alone Waiting page dups alone = refl
+let_out_alone (Merged n) page dups alone = absurd (true≢false alone)
+
+-- a row that is not merged, in the stead of one that is not
+pub linked_alone : (shape : Shape) (rows : List Row) (dups : DupsState) → AreLinked shape rows dups → (old row : Row) → row_at row.page rows ≡ Some old → merged_state old.state ≡ false → merged_state row.state ≡ false → AreLinked shape (change_row row.page (λ _. row) rows) dups
+linked_alone shape rows dups linked old row found was alone =
+    subst (λ ds. AreLinked shape (change_row row.page (λ _. row) rows) (record dups { dups = ds })) (let_out_alone old.state row.page dups.dups was) (linked_left shape rows dups linked old row found alone)
+
+-- a page's row has another in its stead, or another page's has
+pub known_still : (page : GuestPage) (row : Row) (rows : List Row) → is_some (row_at page rows) ≡ true → is_some (row_at page (change_row row.page (λ _. row) rows)) ≡ true
+known_still page row rows there = row_stays page (λ r. if same_page r.page row.page then row else r) rows (keeps_page row) ∙ there
+
+-- what is seen, where the rows of the dups and the next number stay
+pub only_rows : (shape : Shape) (old now : DupsState) (knobs : Knobs) (listed mid : Listed) (v : PagesView) → rows_of now.dups ≡ rows_of old.dups → now.next ≡ old.next
+    → record { shape = shape; listed = mid; dups = rows_of old.dups; knobs = knobs; next = old.next } ≡ v
+    → record { shape = shape; listed = listed; dups = rows_of now.dups; knobs = knobs; next = now.next } ≡ record v { listed = listed }
+only_rows shape old now knobs listed mid v dups next seen =
+    (λ i. record { shape = shape; listed = listed; dups = dups i; knobs = knobs; next = next i }) ∙ ap (λ (p : PagesView). record p { listed = listed }) seen
+
+pub either_way : {T E : Type 0} (P Q R : Type 0) (r : Result T E) → (P → R) → (Q → R) → OnOk r P → OnErr r Q → R
+either_way P Q R (Ok x) ok err p q = ok p
+either_way P Q R (Err e) ok err p q = err q
+
 -- ---------------------------------------------------------------- changes of all rows
 
 alone_same : (number : ℕ) (state : PageState) → merged_state state ≡ false → false ≡ merged_into number state
@@ -132,6 +177,13 @@ module _ (shape : Shape) (rows : List Row) (dups : DupsState) (linked : AreLinke
 pub row_numbered : (number : ℕ) (dups : List Dup) → option_map (λ d. d.row) (dup_of number dups) ≡ dup_numbered number (rows_of dups)
 row_numbered number dups = row_found (has_number number) (λ r. r.number == number) (λ d. refl) dups
 
+same_known : (o : Option Dup) → is_some (option_map (λ d. d.row) o) ≡ is_some o
+same_known None = refl
+same_known (Some d) = refl
+
+pub known_by_row : (number : ℕ) (dups : List Dup) → is_some (dup_numbered number (rows_of dups)) ≡ true → is_some (dup_of number dups) ≡ true
+known_by_row number dups there = sym (same_known (dup_of number dups)) ∙ ap is_some (row_numbered number dups) ∙ there
+
 pub any_at : (place : ℕ) (dups : List Dup) → is_some (option_map (λ d. d.row.number) (dup_at place dups)) ≡ list_any (λ d. d.place == place) (rows_of dups)
 any_at place [] = refl
 any_at place (d ∷ dups) =
@@ -163,6 +215,82 @@ vacant_at rows ds r (Some e) rise found is = subst (λ x. IfSome x (λ place. Is
 pub vacant_there : (rows : List Row) (s : DupsState) (r : Option ℕ) → AreDups s → AreTied rows s.dups → r ≡ option_map (λ d. d.row.place) (find is_stale s.dups) → IfSome r (λ place. IsVacant place rows (rows_of s.dups))
 vacant_there rows s r lawful tied is = vacant_at rows (rows_of s.dups) r (find (is_stale_row rows) (rows_of s.dups)) lawful.in_place_order refl (is ∙ stale_at rows s.dups tied)
 
+-- where a new dup goes
+pub choice_seen : (shape : Shape) (rows : List Row) (s : DupsState) → AreLinked shape rows s → option_map place_in (choice_of s) ≡ new_place (place_count shape) rows (rows_of s.dups)
+choice_seen shape rows s linked = choice_alike rows s (tied_counted rows s.dups linked.tied) ∙ ap (λ n. new_place n rows (rows_of s.dups)) linked.places
+
+pub no_choice : (o : Option Choice) → is_some o ≡ false → option_map place_in o ≡ None
+no_choice None none = refl
+no_choice (Some x) none = absurd (true≢false none)
+
+-- ---------------------------------------------------------------- a place
+
+vacant_stale : (place : ℕ) (rows : List Row) (dups : List Dup) → AreTied rows dups → IsVacant place rows (rows_of dups) → All (λ d. stands_at place d ≡ true → is_stale d ≡ true) dups
+vacant_stale place rows dups tied vacant k e lt at =
+    let d = get_or dups k e in
+    let none : item_count rows d.row ≡ 0 = all_rows (λ r. r.place ≡ place → item_count rows r ≡ 0) dups vacant k e lt (eqb-true d.row.place place at) in
+    eq-eqb (length d.items) 0 (tied_counted rows dups tied k e lt ∙ none)
+
+found_stale : (place : ℕ) (dups : List Dup) → All (λ d. stands_at place d ≡ true → is_stale d ≡ true) dups → find (λ d. stands_at place d && is_stale d) dups ≡ dup_at place dups
+found_stale place [] stale = refl
+found_stale place (d ∷ dups) stale =
+    let here = All-head (λ e. stands_at place e ≡ true → is_stale e ≡ true) d dups stale in
+    let rest = found_stale place dups (All-tail (λ e. stands_at place e ≡ true → is_stale e ≡ true) d dups stale) in
+    elim (cases_Bool (stands_at place d)) [
+      | inl at ↦ let empty = here at in grind (arith, at, empty)
+      | inr away ↦ grind (arith, away, rest)
+    ]
+
+number_known : (o : Option Dup) → is_some (option_map (λ d. d.row.number) o) ≡ is_some o
+number_known None = refl
+number_known (Some d) = refl
+
+-- the dup at a vacant place is stale
+pub stale_there : (place : ℕ) (rows : List Row) (dups : List Dup) → AreTied rows dups → IsVacant place rows (rows_of dups) → is_some (option_map (λ d. d.row.number) (dup_at place dups)) ≡ true → is_some (find (λ d. stands_at place d && is_stale d) dups) ≡ true
+stale_there place rows dups tied vacant there = ap is_some (found_stale place dups (vacant_stale place rows dups tied vacant)) ∙ sym (number_known (dup_at place dups)) ∙ there
+
+-- where no dup stands at a place, all stand elsewhere
+pub all_elsewhere : (place : ℕ) (ds : List DupRow) → list_any (λ d. d.place == place) ds ≡ false → filter (elsewhere place) ds ≡ ds
+all_elsewhere place [] none = refl
+all_elsewhere place (d ∷ ds) none =
+    let here : (d.place == place) ≡ false = grind (arith, nat_tests, none) in
+    let rest = all_elsewhere place ds (grind (arith, nat_tests, none)) in
+    grind (arith, here, rest)
+
+-- no dup with items stands at a vacant place
+pub none_live : (place : ℕ) (rows : List Row) (dups : List Dup) → AreTied rows dups → IsVacant place rows (rows_of dups) → find (λ d. stands_at place d && is_live d) dups ≡ None
+none_live place rows dups tied vacant =
+    find_nothing (λ d. stands_at place d && is_live d) dups
+    (λ k e lt. live_or_stale (stands_at place (get_or dups k e)) (length (get_or dups k e).items) (vacant_stale place rows dups tied vacant k e lt))
+  where
+    live_or_stale : (at : Bool) (n : ℕ) → (at ≡ true → (n == 0) ≡ true) → (at && nat_lt 0 n) ≡ false
+    live_or_stale true n stale = let none = stale refl in grind (arith, nat_tests, none)
+    live_or_stale false n stale = refl
+
+-- ---------------------------------------------------------------- room for an item
+
+known_at : (number : ℕ) (ds : List DupRow) (o : Option DupRow) → dup_numbered number ds ≡ o → (k : ℕ) (d : DupRow) → k < length ds → (get_or ds k d).number ≡ number → is_some o ≡ true
+known_at number ds None is k d lt at =
+    absurd (both_ways ((get_or ds k d).number == number) (find_none (λ e. e.number == number) ds is k d lt) (eq-eqb (get_or ds k d).number number at))
+known_at number ds (Some e) is k d lt at = refl
+
+has_known : (rows : List Row) (dups : List Dup) (number : ℕ) → HasRoom rows (rows_of dups) number → is_some (dup_of number dups) ≡ true
+has_known rows dups number room =
+    known_by_row number dups (known_at number (rows_of dups) (dup_numbered number (rows_of dups)) refl room.1.0 room.0 room.1.1 (ap (λ (d : DupRow). d.number) room.1.2 ∙ room.2))
+
+found_room : (rows : List Row) (dups : List Dup) (number : ℕ) (o : Option Dup) → AreTied rows dups → dup_of number dups ≡ o → HasRoom rows (rows_of dups) number → (is_some o ≡ true) × (length (items_in o) < 1024)
+found_room rows dups number None tied is room = absurd (true≢false (sym (has_known rows dups number room) ∙ ap is_some is))
+found_room rows dups number (Some d) tied is room =
+    let counted = ap (λ o. length (items_in o)) (sym is) ∙ tied_count rows dups number d tied is in
+    let same : item_count rows d.row ≡ item_count rows room.0 = ap (λ n. count_by (λ r. merged_into n r.state) rows) (number_found number dups d is ∙ sym room.2) in
+    (refl, omega (arith, counted, same, room.3))
+
+pub known_room : (rows : List Row) (dups : List Dup) (number : ℕ) → AreTied rows dups → HasRoom rows (rows_of dups) number → is_some (dup_of number dups) ≡ true
+known_room rows dups number tied room = (found_room rows dups number (dup_of number dups) tied refl room).0
+
+pub fewer_room : (rows : List Row) (dups : List Dup) (number : ℕ) → AreTied rows dups → HasRoom rows (rows_of dups) number → length (items_numbered number dups) < 1024
+fewer_room rows dups number tied room = (found_room rows dups number (dup_of number dups) tied refl room).1
+
 -- ---------------------------------------------------------------- items
 
 items_tied : (rows : List Row) (dups : List Dup) (number : ℕ) (o : Option Dup) → AreTied rows dups → dup_of number dups ≡ o → is_some o ≡ true → items_in o ≡ map (λ r. r.page) (filter (λ r. merged_into number r.state) rows)
@@ -170,13 +298,6 @@ items_tied rows dups number None tied is there = absurd (true≢false (sym there
 items_tied rows dups number (Some d) tied is there =
     found_in (λ e. e.items ≡ items_of rows e.row) (has_number number) dups d tied is
     ∙ ap (λ n. map (λ r. r.page) (filter (λ r. merged_into n r.state) rows)) (number_found number dups d is)
-
-same_known : (o : Option Dup) → is_some (option_map (λ d. d.row) o) ≡ is_some o
-same_known None = refl
-same_known (Some d) = refl
-
-pub known_by_row : (number : ℕ) (dups : List Dup) → is_some (dup_numbered number (rows_of dups)) ≡ true → is_some (dup_of number dups) ≡ true
-known_by_row number dups there = sym (same_known (dup_of number dups)) ∙ ap is_some (row_numbered number dups) ∙ there
 
 -- the items of a dup are the pages merged into it
 pub items_numbered_are : (rows : List Row) (dups : List Dup) (number : ℕ) → AreTied rows dups → is_some (dup_numbered number (rows_of dups)) ≡ true → items_numbered number dups ≡ map (λ r. r.page) (filter (λ r. merged_into number r.state) rows)
@@ -211,3 +332,7 @@ no_page (p ∷ pages) none = absurd (omega (arith, none))
 
 pub no_item : (test : Row → Bool) (rows : List Row) → length (map (λ r. r.page) (filter test rows)) ≡ 0 → find test rows ≡ None
 no_item test rows none = no_first (find test rows) (sym (first_page test rows) ∙ no_page (map (λ r. r.page) (filter test rows)) none)
+
+-- one item more is listed
+pub take_next : {X : Type 0} (xs : List X) (i : ℕ) (x : X) → slice_get xs i ≡ Some x → take (i + 1) xs ≡ take i xs ++ x ∷ []
+take_next xs i x is = take_more xs i x (slice_get_within xs i x is) ∙ ap (λ y. take i xs ++ y ∷ []) (get_or_from_slice_get xs i x x is)

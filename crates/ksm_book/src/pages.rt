@@ -50,12 +50,12 @@ impl Model for Pages {
     ghost invariant = { λ p. AreLinked p.shape p.rows.rows p.dups };
 }
 
-// A row leaves the dup of which it is an item.
-fn leave(dups: &mut Dups, row: &Row)
-    ensures { dups.new ≡ record dups.old { dups = let_out row.now.state row.now.page dups.old.dups } }
+// A page leaves the dup of which its row's state says that it is an item.
+fn leave(dups: &mut Dups, state: PageState, page: GuestPage)
+    ensures { dups.new ≡ record dups.old { dups = let_out state page dups.old.dups } }
 {
-    if let PageState::Merged(number) = row.state {
-        dups.leave(number, row.page);
+    if let PageState::Merged(number) = state {
+        dups.leave(number, page);
     }
 }
 
@@ -133,7 +133,8 @@ impl Pages {
             return None;
         }
         match self.dups.choose_place() {
-            Choice::Empty(place) | Choice::Stale(place) => Some(place),
+            Choice::Empty(place) => Some(place),
+            Choice::Stale(place) => Some(place),
         }
     }
 
@@ -216,7 +217,7 @@ impl Pages {
         let Some(held) = self.rows.find(row.page) else {
             return;
         };
-        leave(&mut self.dups, &held.row);
+        leave(&mut self.dups, held.row.state, row.page);
         self.rows.replace(row, frame);
     }
 
@@ -231,7 +232,7 @@ impl Pages {
         let Some(held) = self.rows.find(page) else {
             return;
         };
-        leave(&mut self.dups, &held.row);
+        leave(&mut self.dups, held.row.state, page);
         self.rows.remove(page);
     }
 

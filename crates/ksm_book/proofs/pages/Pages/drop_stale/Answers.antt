@@ -1,0 +1,27 @@
+use Rattle.std.proofs.Common.{◌≡◌, ◌∙◌, refl, ap, sym, subst, false}
+use Rattle.std.specs.Prelude.{filter}
+use Rattle.ksm_tree.proofs.Changes.{rows_without}
+use Rattle.ksm_tree.specs.Dups.{rows_of}
+use Rattle.ksm_book.specs.Laid.{elsewhere}
+use Rattle.ksm_book.specs.Linked.{AreLinked, IsVacant}
+use Rattle.ksm_book.proofs.Linking.{linked_pruned, stale_there, any_at, all_elsewhere}
+use Rattle.ksm_book.proofs.pages.Pages.drop_stale.Goals as goal
+
+pub drop_stale-requires : goal.drop_stale-requires
+drop_stale-requires c =
+    stale_there c.args.place c.self.inside.rows.rows c.self.inside.dups.dups c.self.invariant.tied
+    (subst (λ v. IsVacant c.args.place v.listed.rows v.dups) (sym c.self.view_is) c.requires) ?
+
+pub invariant_of-self : goal.invariant_of-self
+invariant_of-self c =
+    subst (AreLinked c.self.inside.shape c.self.inside.rows.rows) (sym c.drop_stale.ensures) (linked_pruned c.self.inside.shape c.self.inside.rows.rows c.self.inside.dups c.self.invariant c.args.place)
+
+pub returns-then-is_some : goal.returns-then-is_some
+returns-then-is_some c =
+    let old = c.self.inside in
+    ap (λ d. record { shape = old.shape; listed = old.rows; dups = rows_of d.dups; knobs = old.knobs; next = d.next }) c.drop_stale.ensures
+    ∙ ap (λ ds. record { shape = old.shape; listed = old.rows; dups = ds; knobs = old.knobs; next = old.dups.next }) (rows_without c.args.place old.dups.dups)
+    ∙ ap (λ v. record v { dups = filter (elsewhere c.args.place) v.dups }) c.self.view_is
+
+pub returns-else-is_some : goal.returns-else-is_some
+returns-else-is_some c = ?
