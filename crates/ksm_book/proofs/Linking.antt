@@ -319,7 +319,7 @@ at_first test rows page (Some r) rise found is =
     let at : r.page ≡ page = same_Some r.page page is in
     sym (find_all test (λ s. row_at s.page rows ≡ Some s) rows r found (each_at_page rows rise)) ∙ ap (λ p. row_at p rows) at
 
-pub first_item : (test : Row → Bool) (rows : List Row) (page : GuestPage) → InPageOrder rows → slice_get (map (λ r. r.page) (filter test rows)) 0 ≡ Some page → find test rows ≡ row_at page rows
+first_item : (test : Row → Bool) (rows : List Row) (page : GuestPage) → InPageOrder rows → slice_get (map (λ r. r.page) (filter test rows)) 0 ≡ Some page → find test rows ≡ row_at page rows
 first_item test rows page rise first = at_first test rows page (find test rows) rise refl (sym (first_page test rows) ∙ first)
 
 no_first : (o : Option Row) → option_map (λ r. r.page) o ≡ None → o ≡ None
@@ -330,8 +330,17 @@ no_page : (pages : List GuestPage) → length pages ≡ 0 → slice_get pages 0 
 no_page [] none = refl
 no_page (p ∷ pages) none = absurd (omega (arith, none))
 
-pub no_item : (test : Row → Bool) (rows : List Row) → length (map (λ r. r.page) (filter test rows)) ≡ 0 → find test rows ≡ None
+no_item : (test : Row → Bool) (rows : List Row) → length (map (λ r. r.page) (filter test rows)) ≡ 0 → find test rows ≡ None
 no_item test rows none = no_first (find test rows) (sym (first_page test rows) ∙ no_page (map (λ r. r.page) (filter test rows)) none)
+
+module _ (rows : List Row) (dups : List Dup) (number : ℕ) (rise : InPageOrder rows) (tied : AreTied rows dups) (there : is_some (dup_numbered number (rows_of dups)) ≡ true) where
+  -- the first item of a dup is the first row merged into it
+  pub item_first : (page : GuestPage) → slice_get (items_numbered number dups) 0 ≡ Some page → find (λ r. merged_into number r.state) rows ≡ row_at page rows
+  item_first page first =
+      first_item (λ r. merged_into number r.state) rows page rise (ap (λ (pages : List GuestPage). slice_get pages 0) (sym (items_numbered_are rows dups number tied there)) ∙ first)
+
+  pub item_none : length (items_numbered number dups) ≡ 0 → find (λ r. merged_into number r.state) rows ≡ None
+  item_none none = no_item (λ r. merged_into number r.state) rows (ap length (sym (items_numbered_are rows dups number tied there)) ∙ none)
 
 -- one item more is listed
 pub take_next : {X : Type 0} (xs : List X) (i : ℕ) (x : X) → slice_get xs i ≡ Some x → take (i + 1) xs ≡ take i xs ++ x ∷ []

@@ -118,7 +118,7 @@ pub number_found : (number : ℕ) (dups : List Dup) (d : Dup) → dup_of number 
 number_found number dups d found = eqb-true d.row.number number (found_passes (has_number number) dups d found)
 
 -- a change that keeps each page finds the same pages
-row_stays : (page : GuestPage) (f : Row → Row) (rows : List Row) → ((r : Row) → (f r).page ≡ r.page) → is_some (row_at page (map f rows)) ≡ is_some (row_at page rows)
+pub row_stays : (page : GuestPage) (f : Row → Row) (rows : List Row) → ((r : Row) → (f r).page ≡ r.page) → is_some (row_at page (map f rows)) ≡ is_some (row_at page rows)
 row_stays page f [] same = refl
 row_stays page f (r ∷ rows) same =
     let here = same r in
