@@ -169,6 +169,16 @@ impl Dups {
         self.slots.at(place).map(|dup| dup.row.number)
     }
 
+    /// The row of the dup with items at a place.
+    pub fn live_at(&self, place: u32) -> Option<DupRow>
+        ensures { result ≡ option_map (λ d. d.row) (find (λ d. stands_at place d && is_live d) self.now.dups) }
+    {
+        match self.slots.at(place) {
+            Some(dup) => (dup.items.len() > 0).then_some(dup.row),
+            None => None,
+        }
+    }
+
     /// The row of a dup.
     pub fn row(&self, dup: u64) -> Option<DupRow>
         ensures { result ≡ option_map (λ d. d.row) (dup_of dup self.now.dups) }
