@@ -2,6 +2,7 @@ pub mod Best
 pub mod Bridge
 pub mod Chains
 pub mod Changes
+pub mod Counts
 pub mod Indexed
 pub mod Keys
 pub mod Made

@@ -1,6 +1,6 @@
 //! The words of this crate beside the book's own, where each dup has as many items as there are rows merged into it.
 
-ghost use Rattle.std.specs.Prelude.{◌≡◌, ℕ, ◌<◌, List, [], ◌∷◌, All, true, false, None, Some, ◌&&◌, ◌==◌, not, filter, find, is_some, length, map, option_map};
+ghost use Rattle.std.specs.Prelude.{◌≡◌, ℕ, ◌<◌, List, [], ◌∷◌, All, true, false, None, Some, ◌&&◌, ◌==◌, not, count_by, filter, find, is_some, length, map, option_map};
 ghost use Rattle.ksm_base.specs.declared.page.GuestPage.{GuestPage};
 ghost use Rattle.ksm_base.specs.declared.row.DupRow.{DupRow};
 ghost use Rattle.ksm_base.specs.declared.row.PageState.{PageState};
@@ -101,4 +101,10 @@ pub fn dups_are_found_by_their_rows()
         → option_map (λ d. d.row) (find (λ d. stands_at place d && is_live d) dups) ≡ find (λ d. d.place == place && has_items rows d) (rows_of dups) }
     ensures stale { (rows : List Row) (dups : List Dup) (place : ℕ) → AreCounted rows dups
         → option_map (λ d. d.row) (find (λ d. stands_at place d && is_stale d) dups) ≡ find (λ d. d.place == place && is_stale_row rows d) (rows_of dups) }
+{}
+
+/// As many dups have an item, and as many are stale, as the book counts.
+pub fn counts_are_the_books()
+    ensures live { (rows : List Row) (dups : List Dup) → AreCounted rows dups → count_by is_live dups ≡ count_by (has_items rows) (rows_of dups) }
+    ensures stale { (rows : List Row) (dups : List Dup) → AreCounted rows dups → count_by is_stale dups ≡ count_by (is_stale_row rows) (rows_of dups) }
 {}
