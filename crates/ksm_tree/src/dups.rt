@@ -56,8 +56,9 @@ impl Dups {
     }
 
     /// The dup that a page of a tree and these bytes joins: of those with an item and fewer than the limit the one with the most items, ties to the lowest number.
-    pub fn best(&self, tree: u32, bytes: &PageBytes, limit: u32) -> Option<DupRow>
-        ensures { result ≡ option_map (λ d. d.row) (best_of tree bytes.now limit self.now.dups) }
+    pub fn best(&self, tree: u32, bytes: &PageBytes, limit: u32) -> Option<u64>
+        ensures best { result ≡ option_map (λ d. d.row.number) (best_of tree bytes.now limit self.now.dups) }
+        ensures lawful { AreDups self.now }
     {
         let mut best: Option<&Dup> = None;
         let chain = self.index.places(tree, bytes);
@@ -67,7 +68,7 @@ impl Dups {
             }
         }
         match best {
-            Some(dup) => Some(dup.row),
+            Some(dup) => Some(dup.row.number),
             None => None,
         }
     }

@@ -39,7 +39,7 @@ fn pages_join_a_dup(rt: HostRuntime) -> Result<(), Fail> {
     dups.join(0, page(9))?;
     assert_eq!(rt; dups.items(0), 3);
     assert_eq!(rt; dups.item(0, 2), page(9));
-    assert_eq!(rt; dups.best(0, &bytes(7), 4).map(|row| row.number), Some(0));
+    assert_eq!(rt; dups.best(0, &bytes(7), 4), Some(0));
     assert_eq!(rt; dups.best(0, &bytes(7), 3), None);
     assert_eq!(rt; dups.row(0).map(|row| row.place), Some(0));
     assert_eq!(rt; dups.live_at(0).map(|row| row.number), Some(0));

@@ -5,8 +5,8 @@ use Rattle.ksm_tree.specs.Choosing.{best_of}
 use Rattle.ksm_tree.proofs.Best.{folded, folded_best}
 use Rattle.ksm_tree.proofs.dups.Dups.best.Goals as goal
 
-pub returns-in-Some-best : goal.returns-in-Some-best
-returns-in-Some-best c =
+pub returns-in-Some-best-clause-best : goal.returns-in-Some-best-clause-best
+returns-in-Some-best-clause-best c =
     let limit = c.args.limit in
     let dups = c.self.inside.slots.dups in
     let over = drop_of_length-le c.places-chain.result.now {i = c.loop-place.place-index} (omega arith) in
@@ -16,12 +16,12 @@ returns-in-Some-best c =
     ∙ c.loop-place.invariant
     ∙ ap (folded limit dups None) is
     ∙ folded_best c.args.tree c.args.bytes.now limit dups c.self.invariant.lawful.in_place_order in
-    ap (λ b. option_map (λ d. d.row) (option_copied b)) (sym c.in-Some-best.is)
-    ∙ ap (option_map (λ d. d.row)) ended
-    ∙ ap (λ s. option_map (λ d. d.row) (best_of c.args.tree c.args.bytes.now limit s.dups)) c.self.view_is
+    ap (λ b. option_map (λ d. d.row.number) (option_copied b)) (sym c.in-Some-best.is)
+    ∙ ap (option_map (λ d. d.row.number)) ended
+    ∙ ap (λ s. option_map (λ d. d.row.number) (best_of c.args.tree c.args.bytes.now limit s.dups)) c.self.view_is
 
-pub returns-in-None : goal.returns-in-None
-returns-in-None c =
+pub returns-in-None-clause-best : goal.returns-in-None-clause-best
+returns-in-None-clause-best c =
     let limit = c.args.limit in
     let dups = c.self.inside.slots.dups in
     let over = drop_of_length-le c.places-chain.result.now {i = c.loop-place.place-index} (omega arith) in
@@ -31,6 +31,6 @@ returns-in-None c =
     ∙ c.loop-place.invariant
     ∙ ap (folded limit dups None) is
     ∙ folded_best c.args.tree c.args.bytes.now limit dups c.self.invariant.lawful.in_place_order in
-    ap (λ b. option_map (λ d. d.row) (option_copied b)) (sym c.in-None.is)
-    ∙ ap (option_map (λ d. d.row)) ended
-    ∙ ap (λ s. option_map (λ d. d.row) (best_of c.args.tree c.args.bytes.now limit s.dups)) c.self.view_is
+    ap (λ b. option_map (λ d. d.row.number) (option_copied b)) (sym c.in-None.is)
+    ∙ ap (option_map (λ d. d.row.number)) ended
+    ∙ ap (λ s. option_map (λ d. d.row.number) (best_of c.args.tree c.args.bytes.now limit s.dups)) c.self.view_is
