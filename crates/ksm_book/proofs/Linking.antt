@@ -17,18 +17,18 @@ use Rattle.ksm_base.specs.declared.shape.Shape.{Shape}
 use Rattle.ksm_base.specs.Apply.{let_go, unshared}
 use Rattle.ksm_base.specs.Reading.{items_of}
 use Rattle.ksm_base.specs.Rows.{InPageOrder, InPlaceOrder, same_page, row_at, with_row, without_page, change_row, change_rows, merged_state, merged_into, settled, settled_state, item_count, is_stale as is_stale_row, dup_numbered}
-use Rattle.ksm_base.specs.State.{place_count}
-use Rattle.ksm_base.specs.Visit.{new_place}
+use Rattle.ksm_base.specs.State.{place_count, tree_of}
+use Rattle.ksm_base.specs.Visit.{best_dup, is_best, new_place}
 use Rattle.ksm_base.proofs.Edits.{find_all, find_none, find_nothing, find_passes}
-use Rattle.ksm_base.proofs.Orders.{ordered_map, ordered_with, ordered_without, one_of_each_place}
+use Rattle.ksm_base.proofs.Orders.{ordered_map, ordered_with, ordered_without, each_has_number, one_of_each_place}
 use Rattle.ksm_base.proofs.RowCounts.{each_at_page}
 use Rattle.ksm_rmap.specs.Items.{with_item}
 use Rattle.ksm_tree.specs.declared.dup.Dup.{Dup}
 use Rattle.ksm_tree.specs.declared.choice.Choice.{Choice}
 use Rattle.ksm_tree.specs.Bridge.{AreTied, let_out, place_in}
-use Rattle.ksm_tree.specs.Choosing.{choice_of}
+use Rattle.ksm_tree.specs.Choosing.{best_of, choice_of}
 use Rattle.ksm_tree.specs.Dups.{AreDups, DupsState, rows_of, has_number, dup_of, dup_at, items_in, items_of as items_numbered, change_items, without_place, with_new, is_live, is_stale, stands_at}
-use Rattle.ksm_tree.proofs.Bridge.{choice_alike, stale_alike}
+use Rattle.ksm_tree.proofs.Bridge.{best_found, choice_alike, stale_alike}
 use Rattle.ksm_tree.proofs.Changes.{row_found, all_rows}
 use Rattle.ksm_tree.proofs.Rows.{found_in}
 use Rattle.ksm_tree.proofs.Tied.{tied_counted}
@@ -183,6 +183,34 @@ same_known (Some d) = refl
 
 pub known_by_row : (number : ℕ) (dups : List Dup) → is_some (dup_numbered number (rows_of dups)) ≡ true → is_some (dup_of number dups) ≡ true
 known_by_row number dups there = sym (same_known (dup_of number dups)) ∙ ap is_some (row_numbered number dups) ∙ there
+
+-- the dup with the number of one found is that one
+found_numbered : (test : DupRow → Bool) (ds : List DupRow) (number : ℕ) (o : Option DupRow) → InPlaceOrder ds → find test ds ≡ o → option_map (λ d. d.number) o ≡ Some number → dup_numbered number ds ≡ o
+found_numbered test ds number None rise found is = cc
+found_numbered test ds number (Some e) rise found is =
+    ap (λ n. dup_numbered n ds) (sym (same_Some e.number number is)) ∙ find_all test (λ d. dup_numbered d.number ds ≡ Some d) ds e found (each_has_number ds rise)
+
+number_of_row : (o : Option Dup) → option_map (λ d. d.row.number) o ≡ option_map (λ (r : DupRow). r.number) (option_map (λ d. d.row) o)
+number_of_row None = refl
+number_of_row (Some d) = refl
+
+no_number : (o : Option DupRow) → option_map (λ d. d.number) o ≡ None → o ≡ None
+no_number None none = refl
+no_number (Some d) none = cc
+
+-- the dup that a row joins
+module _ (knobs : Knobs) (rows : List Row) (s : DupsState) (row : Row) (tied : AreTied rows s.dups) where
+  best_number : option_map (λ d. d.row.number) (best_of (tree_of knobs row) row.bytes knobs.max_page_sharing s.dups) ≡ option_map (λ d. d.number) (best_dup knobs rows (rows_of s.dups) row)
+  best_number = number_of_row (best_of (tree_of knobs row) row.bytes knobs.max_page_sharing s.dups) ∙ ap (option_map (λ (d : DupRow). d.number)) (best_found rows knobs row s.dups (tied_counted rows s.dups tied))
+
+  pub none_best : option_map (λ d. d.row.number) (best_of (tree_of knobs row) row.bytes knobs.max_page_sharing s.dups) ≡ None → None ≡ best_dup knobs rows (rows_of s.dups) row
+  none_best none = sym (no_number (best_dup knobs rows (rows_of s.dups) row) (sym best_number ∙ none))
+
+  pub best_numbered : (number : ℕ) → AreDups s → option_map (λ d. d.row.number) (best_of (tree_of knobs row) row.bytes knobs.max_page_sharing s.dups) ≡ Some number
+      → option_map (λ d. d.row) (dup_of number s.dups) ≡ best_dup knobs rows (rows_of s.dups) row
+  best_numbered number lawful is =
+      row_numbered number s.dups
+      ∙ found_numbered (is_best knobs rows (rows_of s.dups) row) (rows_of s.dups) number (best_dup knobs rows (rows_of s.dups) row) lawful.in_place_order refl (sym best_number ∙ is)
 
 pub any_at : (place : ℕ) (dups : List Dup) → is_some (option_map (λ d. d.row.number) (dup_at place dups)) ≡ list_any (λ d. d.place == place) (rows_of dups)
 any_at place [] = refl

@@ -7,7 +7,7 @@ use Rattle.ksm_base.specs.declared.row.DupRow.{DupRow}
 use Rattle.ksm_base.specs.declared.knobs.Knobs.{Knobs}
 use Rattle.ksm_base.specs.declared.shape.Shape.{Shape}
 use Rattle.ksm_base.specs.Values.{IsShape, frames_of}
-use Rattle.ksm_base.specs.Rows.{InPageOrder, same_page, row_at, merged_state, merged_into, item_count}
+use Rattle.ksm_base.specs.Rows.{InPageOrder, same_page, row_at, change_row, merged_state, merged_into, item_count}
 use Rattle.ksm_base.specs.State.{tree_of}
 use Rattle.ksm_tree.specs.Bridge.{AreTied}
 use Rattle.ksm_tree.specs.Dups.{DupsState}
@@ -60,6 +60,7 @@ pub record MayPair (p : PagesView) (place : ℕ) (first second : Row) : Type 0 w
 pub record Replaced (v w : Listed) (row : Row) (frame : ℕ) : Type 0 where
   pub rows : w.rows ≡ slice_set v.rows (rank row.page v.rows) row
   pub frames : w.frames ≡ slice_set v.frames (rank row.page v.rows) frame
+  pub changed : w.rows ≡ change_row row.page (λ _. row) v.rows
 
 -- two rows, one after the other, were replaced
 pub record ReplacedBoth (v w : Listed) (r s : Row) (frame : ℕ) : Type 0 where

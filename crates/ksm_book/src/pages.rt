@@ -114,8 +114,9 @@ impl Pages {
         ensures { result ≡ best_dup self.now.knobs self.now.listed.rows self.now.dups row.now }
     {
         let tree = tree_of(&self.knobs, row);
-        self.dups
-            .best(tree, &row.bytes, self.knobs.max_page_sharing)
+        let limit = self.knobs.max_page_sharing;
+        let number = self.dups.best(tree, &row.bytes, limit)?;
+        self.dups.row(number)
     }
 
     /// The row that waits for another.
@@ -153,6 +154,13 @@ impl Pages {
         self.dups.at(place).is_some()
     }
 
+    /// The dup with items at a place.
+    pub fn live_at(&self, place: u32) -> Option<DupRow>
+        ensures { result ≡ find (λ d. d.place == place && has_items self.now.listed.rows d) self.now.dups }
+    {
+        self.dups.live_at(place)
+    }
+
     /// The dup with a number.
     pub fn numbered(&self, number: u64) -> Option<DupRow>
         ensures { result ≡ dup_numbered number self.now.dups }
@@ -185,6 +193,34 @@ impl Pages {
             pages.push(self.dups.item(number, i))?;
         }
         Ok(pages)
+    }
+
+    /// How many dups have an item.
+    pub fn count_shared(&self) -> usize
+        ensures { result ≡ shared_count self.now.listed.rows self.now.dups }
+    {
+        self.dups.count_shared()
+    }
+
+    /// How many dups are stale.
+    pub fn count_stale(&self) -> usize
+        ensures { result ≡ count_by (is_stale self.now.listed.rows) self.now.dups }
+    {
+        self.dups.count_stale()
+    }
+
+    /// How many dups are in a group of two or more.
+    pub fn count_dups(&self) -> usize
+        ensures { result ≡ count_by (in_chain self.now.dups) self.now.dups }
+    {
+        self.dups.count_grouped()
+    }
+
+    /// How many groups have two dups or more.
+    pub fn count_chains(&self) -> usize
+        ensures { result ≡ count_by (λ d. in_chain self.now.dups d && leads_group self.now.dups d) self.now.dups }
+    {
+        self.dups.count_chains()
     }
 
     /// Adds the row of a page that has none, with its frame. Refused for memory alone, it changes nothing.
