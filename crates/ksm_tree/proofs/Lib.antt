@@ -10,3 +10,4 @@ pub mod OneSlot
 pub mod Opened
 pub mod Rows
 pub mod Tied
+pub mod Waiters

@@ -1,5 +1,5 @@
-ghost use Rattle.std.specs.Prelude.{◌≡◌, ℕ, List, [], ◌&&◌, ◌==◌, Some, None, IfErr, OnOk, OnErr, bytes_eq, if◌then◌else◌};
-ghost use Rattle.ksm_tree.specs.Waits.{waiting_page};
+ghost use Rattle.std.specs.Prelude.{◌≡◌, [], None, IfErr, OnOk, OnErr};
+ghost use Rattle.ksm_tree.specs.Waits.{IsAdded, IsRemoved, waiting_page};
 
 use crate::content::Content;
 use ksm_base::{Fault, GuestPage, PageBytes};
@@ -44,8 +44,7 @@ impl Waiting {
     /// A page waits from now on. The one fault is `Memory`, and then nothing changes.
     pub fn add(&mut self, tree: u32, bytes: &PageBytes, page: GuestPage) -> Result<(), Fault>
         requires { waiting_page tree bytes.now self.old ≡ None }
-        ensures added { OnOk result ((t : ℕ) (b : List ℕ) → waiting_page t b self.new
-            ≡ (if t == tree && bytes_eq b bytes.now then Some page else waiting_page t b self.old)) }
+        ensures added { OnOk result (IsAdded tree bytes.now page self.old self.new) }
         ensures kept { OnErr result (self.new ≡ self.old) }
         ensures memory { IfErr result (λ fault. fault ≡ Fault.Memory) }
     {
@@ -55,8 +54,7 @@ impl Waiting {
 
     /// The page that waits in a tree with these bytes waits no more, if there is one.
     pub fn remove(&mut self, tree: u32, bytes: &PageBytes)
-        ensures { (t : ℕ) (b : List ℕ) → waiting_page t b self.new
-            ≡ (if t == tree && bytes_eq b bytes.now then None else waiting_page t b self.old) }
+        ensures { IsRemoved tree bytes.now self.old self.new }
     {
         self.pages.remove(&Content::of(tree, bytes));
     }
