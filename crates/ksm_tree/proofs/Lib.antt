@@ -4,6 +4,7 @@ pub mod Chains
 pub mod Changes
 pub mod Indexed
 pub mod Keys
+pub mod LetGo
 pub mod Made
 pub mod Numbers
 pub mod OneSlot

@@ -100,7 +100,7 @@ at_inserted row rows q =
       ]
     ]
 
-at_mapped : (f : Row → Row) (q : GuestPage) (rows : List Row) → All (λ r. (f r).page ≡ r.page) rows → row_at q (map f rows) ≡ option_map f (row_at q rows)
+pub at_mapped : (f : Row → Row) (q : GuestPage) (rows : List Row) → All (λ r. (f r).page ≡ r.page) rows → row_at q (map f rows) ≡ option_map f (row_at q rows)
 at_mapped f q [] keeps = refl
 at_mapped f q (r ∷ rs) keeps =
     let rest = at_mapped f q rs (All-tail (λ s. (f s).page ≡ s.page) r rs keeps) in
