@@ -2,7 +2,7 @@
 use Rattle.std.proofs.Common.{◌≡◌, ◌∙◌, ℕ, Bool, true, false, cond, List, [], ◌∷◌, get_or, map, Option, None, Some, refl, sym, ap, subst, inl, inr, arith}
 use Rattle.std.specs.Prelude.{not, ◌&&◌, ◌==◌, All, filter, find, option_map, bytes_eq, if◌then◌else◌}
 use Rattle.std.specs.Option.{option_and_then, option_or}
-use Rattle.std.proofs.lemmas.Bool.{cases_Bool, cond_both, false≢true}
+use Rattle.std.proofs.lemmas.Bool.{eq-eqb, cases_Bool, cond_both, false≢true}
 use Rattle.std.proofs.lemmas.Bool.Decides.{nat_tests}
 use Rattle.std.proofs.lemmas.List.Elements.{All-head, All-tail}
 use Rattle.std.proofs.lemmas.List.Folds.{find-append}
@@ -127,6 +127,19 @@ only_one (Some w) p q here other = same_alike w p q here ∙ other
 pub look_up_found : (knobs : Knobs) (rows : List Row) (w : List WaitingPage) (t : ℕ) (b : List ℕ) (page : GuestPage) → AreWaiting knobs rows w
     → waiting_page t b w ≡ Some page → waits_there knobs t b (row_at page rows) ≡ true
 look_up_found knobs rows w t b page are is = sym (are t b page) ∙ ap (names page) is ∙ same_page_refl page
+
+-- what waits for a row's content is its own page where it waits
+pub own_found : (knobs : Knobs) (rows : List Row) (w : List WaitingPage) (row : Row) → row_at row.page rows ≡ Some row → AreWaiting knobs rows w
+    → names row.page (waiting_page (tree_of knobs row) row.bytes w) ≡ waiting_state row.state
+own_found knobs rows w row found are =
+    let t = tree_of knobs row in
+    let tree : (t == t) ≡ true = eq-eqb t t refl in
+    let bytes : bytes_eq row.bytes row.bytes ≡ true = (bytes_eq-Decides row.bytes row.bytes).1 refl in
+    are t row.bytes row.page ∙ ap (waits_there knobs t row.bytes) found ∙ (λ i. waiting_state row.state && (tree i && bytes i)) ∙ and_true (waiting_state row.state)
+  where
+    and_true : (b : Bool) → (b && true) ≡ b
+    and_true true = refl
+    and_true false = refl
 
 -- another row waits for a row where it is a waiting row of its tree and bytes
 waits_apart : (knobs : Knobs) (row r : Row) → waits_for knobs row r ≡ (waits_there knobs (tree_of knobs row) row.bytes (Some r) && not (same_page r.page row.page))

@@ -13,6 +13,7 @@ pub record WaitingPage : Type 0 where
   pub bytes : List ℕ
   pub page : GuestPage
 
+-- whether a page waits in a tree with these bytes
 abbrev pub waits_for : ℕ → List ℕ → WaitingPage → Bool
 waits_for tree bytes w = w.tree == tree && bytes_eq w.bytes bytes
 
