@@ -5,6 +5,7 @@ pub mod Changes
 pub mod Counts
 pub mod Indexed
 pub mod Keys
+pub mod LetGo
 pub mod Made
 pub mod Numbers
 pub mod OneSlot
@@ -12,3 +13,4 @@ pub mod Opened
 pub mod Rows
 pub mod Tied
 pub mod Ties
+pub mod Waiters
