@@ -12,10 +12,12 @@ ghost use Rattle.ksm_base.specs.Rows.{row_at, with_row, with_dup, without_page, 
 ghost use Rattle.ksm_base.specs.State.{default_knobs, place_count};
 ghost use Rattle.ksm_base.specs.Values.{IsShape};
 ghost use Rattle.ksm_base.specs.Visit.{best_dup, partner as row_waiting, new_place as a_new_place};
+ghost use Rattle.ksm_tree.specs.Bridge.{let_out};
 ghost use Rattle.ksm_book.specs.Laid.{elsewhere};
 ghost use Rattle.ksm_book.specs.Linked.{HasRoom, IsVacant, MayPair, ReplacedBoth, item_of_next, next_dup};
 ghost use Rattle.ksm_book.specs.Listed.{rank, StandsAt, instead};
 
+use crate::row::{settled, tree_of};
 use crate::rows::{Held, Rows};
 use ksm_base::{DupRow, Fault, GuestPage, Knobs, PageState, Row, Shape};
 use ksm_tree::{Choice, Dups};
@@ -48,6 +50,15 @@ impl Model for Pages {
     ghost invariant = { λ p. AreLinked p.shape p.rows.rows p.dups };
 }
 
+// A page leaves the dup of which its row's state says that it is an item.
+fn leave(dups: &mut Dups, state: PageState, page: GuestPage)
+    ensures { dups.new ≡ record dups.old { dups = let_out state page dups.old.dups } }
+{
+    if let PageState::Merged(number) = state {
+        dups.leave(number, page);
+    }
+}
+
 impl Pages {
     /// No rows and no dups, with room for a dup at each place. Refused for memory alone.
     pub fn open(alloc: Global, shape: Shape) -> Result<Pages, Fault>
@@ -55,7 +66,12 @@ impl Pages {
         ensures opened { IfOk result (λ p. p ≡ record { shape = shape; listed = record { rows = []; frames = [] }; dups = []; knobs = default_knobs; next = 0 }) }
         ensures fault { IfErr result (λ fault. fault ≡ Memory) }
     {
-        unreachable!()
+        Ok(Pages {
+            shape,
+            rows: Rows::new(alloc),
+            dups: Dups::open(alloc, shape.frames())?,
+            knobs: Knobs::DEFAULT,
+        })
     }
 
     pub fn shape(&self) -> Shape
@@ -75,7 +91,7 @@ impl Pages {
         requires { (knobs.merge_across_nodes ≡ self.old.knobs.merge_across_nodes) ⊎ All (λ r. waiting_state r.state ≡ false) self.old.listed.rows }
         ensures { self.new ≡ record self.old { knobs = knobs } }
     {
-        unreachable!()
+        self.knobs = knobs;
     }
 
     /// The rows with their frames.
@@ -90,28 +106,37 @@ impl Pages {
         ensures known { is_some (row_at page self.now.listed.rows) ≡ is_some result }
         ensures at { MatchOption result (row_at page self.now.listed.rows ≡ None) (λ held. StandsAt self.now.listed page held.row held.frame) }
     {
-        unreachable!()
+        self.rows.find(page)
     }
 
     /// The dup that a row joins.
     pub fn best(&self, row: &Row) -> Option<DupRow>
         ensures { result ≡ best_dup self.now.knobs self.now.listed.rows self.now.dups row.now }
     {
-        unreachable!()
+        let tree = tree_of(&self.knobs, row);
+        let limit = self.knobs.max_page_sharing;
+        let number = self.dups.best(tree, &row.bytes, limit)?;
+        self.dups.row(number)
     }
 
     /// The row that waits for another.
     pub fn partner(&self, row: &Row) -> Option<Row>
         ensures { result ≡ row_waiting self.now.knobs self.now.listed.rows row.now }
     {
-        unreachable!()
+        self.rows.partner(&self.knobs, row)
     }
 
     /// Where a new dup goes.
     pub fn new_place(&self) -> Option<u32>
         ensures { result ≡ a_new_place (place_count self.now.shape) self.now.listed.rows self.now.dups }
     {
-        unreachable!()
+        if !self.dups.has_place() {
+            return None;
+        }
+        match self.dups.choose_place() {
+            Choice::Empty(place) => Some(place),
+            Choice::Stale(place) => Some(place),
+        }
     }
 
     /// The least place of a stale dup.
@@ -119,28 +144,28 @@ impl Pages {
         ensures place { result ≡ option_map (λ d. d.place) (find (is_stale self.now.listed.rows) self.now.dups) }
         ensures vacant { IfSome result (λ place. IsVacant place self.now.listed.rows self.now.dups) }
     {
-        unreachable!()
+        self.dups.stale()
     }
 
     /// Whether a dup stands at the place.
     pub fn has_dup(&self, place: u32) -> bool
         ensures { result ≡ list_any (λ d. d.place == place) self.now.dups }
     {
-        unreachable!()
+        self.dups.at(place).is_some()
     }
 
     /// The dup with items at a place.
     pub fn live_at(&self, place: u32) -> Option<DupRow>
         ensures { result ≡ find (λ d. d.place == place && has_items self.now.listed.rows d) self.now.dups }
     {
-        unreachable!()
+        self.dups.live_at(place)
     }
 
     /// The dup with a number.
     pub fn numbered(&self, number: u64) -> Option<DupRow>
         ensures { result ≡ dup_numbered number self.now.dups }
     {
-        unreachable!()
+        self.dups.row(number)
     }
 
     /// The first item of the dup with this number.
@@ -148,7 +173,13 @@ impl Pages {
         requires { is_some (dup_numbered number self.now.dups) ≡ true }
         ensures { result ≡ find (λ r. merged_into number r.state) self.now.listed.rows }
     {
-        unreachable!()
+        if self.dups.items(number) == 0 {
+            return None;
+        }
+        match self.rows.find(self.dups.item(number, 0)) {
+            None => None,
+            Some(held) => Some(held.row),
+        }
     }
 
     /// The pages merged into a dup, ascending. Refused for memory alone.
@@ -157,35 +188,39 @@ impl Pages {
         ensures items { IfOk result (λ pages. pages.items ≡ map (λ r. r.page) (filter (λ r. merged_into number r.state) self.now.listed.rows)) }
         ensures fault { IfErr result (λ fault. fault ≡ Memory) }
     {
-        unreachable!()
+        let mut pages = Vec::new(alloc);
+        for i in 0..self.dups.items(number) {
+            pages.push(self.dups.item(number, i))?;
+        }
+        Ok(pages)
     }
 
     /// How many dups have an item.
     pub fn count_shared(&self) -> usize
         ensures { result ≡ shared_count self.now.listed.rows self.now.dups }
     {
-        unreachable!()
+        self.dups.count_shared()
     }
 
     /// How many dups are stale.
     pub fn count_stale(&self) -> usize
         ensures { result ≡ count_by (is_stale self.now.listed.rows) self.now.dups }
     {
-        unreachable!()
+        self.dups.count_stale()
     }
 
     /// How many dups are in a group of two or more.
     pub fn count_dups(&self) -> usize
         ensures { result ≡ count_by (in_chain self.now.dups) self.now.dups }
     {
-        unreachable!()
+        self.dups.count_grouped()
     }
 
     /// How many groups have two dups or more.
     pub fn count_chains(&self) -> usize
         ensures { result ≡ count_by (λ d. in_chain self.now.dups d && leads_group self.now.dups d) self.now.dups }
     {
-        unreachable!()
+        self.dups.count_chains()
     }
 
     /// Adds the row of a page that has none, with its frame. Refused for memory alone, it changes nothing.
@@ -203,7 +238,7 @@ impl Pages {
         ensures refused { OnErr result (self.new ≡ self.old) }
         ensures fault { OnErr result (result ≡ Err Memory) }
     {
-        unreachable!()
+        self.rows.insert(row, frame)
     }
 
     /// Puts a row of its own and its frame in the stead of those of its page, which leaves its dup.
@@ -215,7 +250,11 @@ impl Pages {
         ensures changed { self.new.listed.rows ≡ change_row row.page (λ _. row) self.old.listed.rows }
         ensures rest { self.new ≡ record self.old { listed = self.new.listed } }
     {
-        unreachable!()
+        let Some(held) = self.rows.find(row.page) else {
+            return;
+        };
+        leave(&mut self.dups, held.row.state, row.page);
+        self.rows.replace(row, frame);
     }
 
     /// Takes the row of a page away, which has one, and leaves its dup.
@@ -226,7 +265,11 @@ impl Pages {
         ensures gone { self.new.listed.rows ≡ without_page page self.old.listed.rows }
         ensures rest { self.new ≡ record self.old { listed = self.new.listed } }
     {
-        unreachable!()
+        let Some(held) = self.rows.find(page) else {
+            return;
+        };
+        leave(&mut self.dups, held.row.state, page);
+        self.rows.remove(page);
     }
 
     /// A row that is not merged waits from now on, on its frame. Refused for memory alone, it changes nothing.
@@ -241,7 +284,12 @@ impl Pages {
         ensures refused { OnErr result (self.new ≡ self.old) }
         ensures fault { OnErr result (result ≡ Err Memory) }
     {
-        unreachable!()
+        let waiting = Row {
+            state: PageState::Waiting,
+            ..row
+        };
+        self.rows.replace(waiting, frame);
+        Ok(())
     }
 
     /// A row that is not merged becomes an item of a dup, on the dup's frame. Refused for memory alone, it changes nothing.
@@ -256,7 +304,13 @@ impl Pages {
         ensures refused { OnErr result (self.new ≡ self.old) }
         ensures fault { OnErr result (result ≡ Err Memory) }
     {
-        unreachable!()
+        self.dups.join(number, row.page)?;
+        let item = Row {
+            state: PageState::Merged(number),
+            ..row
+        };
+        self.rows.replace(item, frame);
+        Ok(())
     }
 
     /// Two rows that are not merged become the items of a new dup at a place, on one frame. A stale dup at the place goes. Refused for memory alone, it changes nothing.
@@ -268,7 +322,14 @@ impl Pages {
         ensures refused { OnErr result (self.new ≡ self.old) }
         ensures fault { OnErr result (result ≡ Err Memory) }
     {
-        unreachable!()
+        let tree = tree_of(&self.knobs, &first);
+        let number = self
+            .dups
+            .new_dup(place, tree, &first.bytes, first.page, second.page)?;
+        let state = PageState::Merged(number);
+        self.rows.replace(Row { state, ..first }, frame);
+        self.rows.replace(Row { state, ..second }, frame);
+        Ok(())
     }
 
     /// The stale dup at a place goes, if there is one.
@@ -276,7 +337,9 @@ impl Pages {
         requires { IsVacant place self.old.listed.rows self.old.dups }
         ensures { self.new ≡ record self.old { dups = filter (elsewhere place) self.old.dups } }
     {
-        unreachable!()
+        if self.dups.at(place).is_some() {
+            self.dups.drop_stale(place);
+        }
     }
 
     /// No row waits any more: those that did are Private.
@@ -285,7 +348,7 @@ impl Pages {
         ensures frames { self.new.listed.frames ≡ self.old.listed.frames }
         ensures rest { self.new ≡ record self.old { listed = self.new.listed } }
     {
-        unreachable!()
+        self.rows.settle_all();
     }
 
     /// All rows of a guest become mergeable.
@@ -294,7 +357,7 @@ impl Pages {
         ensures frames { self.new.listed.frames ≡ self.old.listed.frames }
         ensures rest { self.new ≡ record self.old { listed = self.new.listed } }
     {
-        unreachable!()
+        self.rows.make_mergeable(guest);
     }
 
     /// Every row becomes Private and not unchanged, where none is merged.
@@ -304,7 +367,7 @@ impl Pages {
         ensures frames { self.new.listed.frames ≡ self.old.listed.frames }
         ensures rest { self.new ≡ record self.old { listed = self.new.listed } }
     {
-        unreachable!()
+        self.rows.unshare_all();
     }
 
     /// The rows of a guest that come before a row, or all of them, are alone and out of the scan, where none of them is merged.
@@ -314,7 +377,7 @@ impl Pages {
         ensures frames { self.new.listed.frames ≡ self.old.listed.frames }
         ensures rest { self.new ≡ record self.old { listed = self.new.listed } }
     {
-        unreachable!()
+        self.rows.let_go(guest, stop);
     }
 
     /// All rows on the frame `old` go to the frame `new`.
@@ -323,6 +386,6 @@ impl Pages {
         ensures frames { self.new.listed.frames ≡ map (instead old new) self.old.listed.frames }
         ensures rest { self.new ≡ record self.old { listed = self.new.listed } }
     {
-        unreachable!()
+        self.rows.move_frames(old, new);
     }
 }

@@ -185,7 +185,7 @@ module _ (may : Dup → Bool) where
   walk_top dups = (walk_from [] None dups (record { first = refl; none = λ is k d lt. absurd (omega arith) })).first
 
 -- each dup is what is found at its place
-found_self : (dups : List Dup) → InPlaceOrder (rows_of dups) → All (λ d. dup_at d.row.place dups ≡ Some d) dups
+pub found_self : (dups : List Dup) → InPlaceOrder (rows_of dups) → All (λ d. dup_at d.row.place dups ≡ Some d) dups
 found_self [] rise = λ k d lt. absurd (omega arith)
 found_self (d ∷ dups) rise =
     let first = pairs_head (λ a b. (a.place < b.place) × ((a.number == b.number) ≡ false)) d.row (rows_of dups) rise in

@@ -1,6 +1,6 @@
 -- Tests over dups with items are the book's tests over rows, where the items are counted.
 use Rattle.std.proofs.Common.{◌≡◌, ◌∙◌, ℕ, Bool, List, [], ◌∷◌, length, Option, None, Some, refl, ap, inl, inr, arith}
-use Rattle.std.specs.Prelude.{◌&&◌, ◌||◌, ◌==◌, not, nat_lt, nat_le, All, filter, find, option_map, bytes_eq}
+use Rattle.std.specs.Prelude.{◌&&◌, ◌||◌, ◌==◌, not, nat_lt, nat_le, All, count_by, filter, find, option_map, bytes_eq}
 use Rattle.std.specs.List.{list_all}
 use Rattle.std.proofs.lemmas.Bool.{cases_Bool}
 use Rattle.std.proofs.lemmas.List.Elements.{All-head, All-tail, All-weaker}
@@ -10,10 +10,11 @@ use Rattle.ksm_base.specs.declared.row.Row.{Row}
 use Rattle.ksm_base.specs.Rows.{item_count, has_items, is_stale as is_stale_row}
 use Rattle.ksm_base.specs.State.{tree_of}
 use Rattle.ksm_base.specs.Visit.{best_dup, chosen_place, empty_place, new_place, may_join as row_may_join, is_no_rival as is_no_rival_row, is_no_worse as is_no_worse_row, is_best as is_best_row}
+use Rattle.ksm_base.proofs.Edits.{count_more}
 use Rattle.ksm_tree.specs.declared.dup.Dup.{Dup}
 use Rattle.ksm_tree.specs.Bridge.{AreCounted, place_in}
 use Rattle.ksm_tree.specs.Choosing.{best_of, choice_of, chosen, is_best, is_no_rival, is_no_worse, may_join}
-use Rattle.ksm_tree.specs.Dups.{DupsState, is_live, is_stale, rows_of}
+use Rattle.ksm_tree.specs.Dups.{DupsState, is_live, is_stale, rows_of, stands_at}
 
 -- two tests that agree on each dup find one row, and leave the same rows
 found_alike : (test : Dup → Bool) (by : DupRow → Bool) (dups : List Dup) → All (λ d. test d ≡ by d.row) dups → option_map (λ d. d.row) (find test dups) ≡ find by (rows_of dups)
@@ -43,6 +44,15 @@ all_alike test by (d ∷ dups) same =
     let rest = all_alike test by dups (All-tail (λ e. test e ≡ by e.row) d dups same) in
     grind (arith, here, rest)
 
+count_alike : (test : Dup → Bool) (by : DupRow → Bool) (dups : List Dup) → All (λ d. test d ≡ by d.row) dups → count_by test dups ≡ count_by by (rows_of dups)
+count_alike test by [] same = refl
+count_alike test by (d ∷ dups) same =
+    let here = All-head (λ e. test e ≡ by e.row) d dups same in
+    let rest = count_alike test by dups (All-tail (λ e. test e ≡ by e.row) d dups same) in
+    let first = count_more test d dups in
+    let second = count_more by d.row (rows_of dups) in
+    grind (arith, first, second, here, rest)
+
 module _ (rows : List Row) where
   abbrev IsCounted : Dup → Type 0
   IsCounted d = length d.items ≡ item_count rows d.row
@@ -52,6 +62,24 @@ module _ (rows : List Row) where
 
   pub live_alike : (dups : List Dup) → AreCounted rows dups → rows_of (filter is_live dups) ≡ filter (has_items rows) (rows_of dups)
   live_alike dups counted = left_alike is_live (has_items rows) dups (All-weaker IsCounted (λ d. is_live d ≡ has_items rows d.row) (λ d n. ap (nat_lt 0) n) dups counted)
+
+  -- how many are stale, and how many have items
+  pub stale_count : (dups : List Dup) → AreCounted rows dups → count_by is_stale dups ≡ count_by (is_stale_row rows) (rows_of dups)
+  stale_count dups counted = count_alike is_stale (is_stale_row rows) dups (All-weaker IsCounted (λ d. is_stale d ≡ is_stale_row rows d.row) (λ d n. ap (λ k. k == 0) n) dups counted)
+
+  pub live_count : (dups : List Dup) → AreCounted rows dups → count_by is_live dups ≡ count_by (has_items rows) (rows_of dups)
+  live_count dups counted = count_alike is_live (has_items rows) dups (All-weaker IsCounted (λ d. is_live d ≡ has_items rows d.row) (λ d n. ap (nat_lt 0) n) dups counted)
+
+  -- with items or without, at a place
+  pub live_placed : (place : ℕ) (dups : List Dup) → AreCounted rows dups → option_map (λ d. d.row) (find (λ d. stands_at place d && is_live d) dups) ≡ find (λ d. d.place == place && has_items rows d) (rows_of dups)
+  live_placed place dups counted =
+      found_alike (λ d. stands_at place d && is_live d) (λ d. d.place == place && has_items rows d) dups
+      (All-weaker IsCounted (λ d. (stands_at place d && is_live d) ≡ (d.row.place == place && has_items rows d.row)) (λ d n. ap (λ k. d.row.place == place && nat_lt 0 k) n) dups counted)
+
+  pub stale_placed : (place : ℕ) (dups : List Dup) → AreCounted rows dups → option_map (λ d. d.row) (find (λ d. stands_at place d && is_stale d) dups) ≡ find (λ d. d.place == place && is_stale_row rows d) (rows_of dups)
+  stale_placed place dups counted =
+      found_alike (λ d. stands_at place d && is_stale d) (λ d. d.place == place && is_stale_row rows d) dups
+      (All-weaker IsCounted (λ d. (stands_at place d && is_stale d) ≡ (d.row.place == place && is_stale_row rows d.row)) (λ d n. ap (λ k. d.row.place == place && k == 0) n) dups counted)
 
   module _ (knobs : Knobs) (row : Row) where
     joins_alike : (d : Dup) → IsCounted d → may_join (tree_of knobs row) row.bytes knobs.max_page_sharing d ≡ row_may_join knobs rows row d.row

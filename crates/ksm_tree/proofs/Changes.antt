@@ -6,8 +6,12 @@ use Rattle.std.proofs.lemmas.Option.{none-some, same_Some}
 use Rattle.std.proofs.lemmas.List.Elements.{All-head, All-tail, All-cons}
 use Rattle.ksm_base.specs.declared.page.GuestPage.{GuestPage}
 use Rattle.ksm_base.specs.declared.row.DupRow.{DupRow}
+use Rattle.ksm_base.specs.declared.row.PageState.{PageState}
+use Rattle.ksm_base.specs.declared.row.PageState.TheVariants.{Private, Waiting, Merged}
 use Rattle.ksm_base.specs.Rows.{InPlaceOrder, with_dup}
+use Rattle.ksm_rmap.specs.Items.{without_item}
 use Rattle.ksm_tree.specs.declared.dup.Dup.{Dup}
+use Rattle.ksm_tree.specs.Bridge.{let_out}
 use Rattle.ksm_tree.specs.Dups.{rows_of, has_number, stands_at, dup_of, dup_at, with_new, without_place, change_items}
 use Rattle.ksm_tree.specs.Index.{row_place}
 use Rattle.ksm_tree.specs.Slots.{change_at}
@@ -45,6 +49,20 @@ rows_changed p f (d ∷ dups) =
       | inl here ↦ grind (arith, here, rest)
       | inr away ↦ grind (arith, away, rest)
     ]
+
+pub rows_items : (number : ℕ) (f : List GuestPage → List GuestPage) (dups : List Dup) → rows_of (change_items number f dups) ≡ rows_of dups
+rows_items number f [] = refl
+rows_items number f (d ∷ dups) =
+    let rest = rows_items number f dups in
+    elim (cases_Bool (has_number number d)) [
+      | inl here ↦ grind (arith, here, rest)
+      | inr away ↦ grind (arith, away, rest)
+    ]
+
+pub rows_out : (state : PageState) (page : GuestPage) (dups : List Dup) → rows_of (let_out state page dups) ≡ rows_of dups
+rows_out Private page dups = refl
+rows_out Waiting page dups = refl
+rows_out (Merged number) page dups = rows_items number (without_item page) dups
 
 -- a dup is found where its row is
 pub row_found : (test : Dup → Bool) (by : DupRow → Bool) → ((d : Dup) → test d ≡ by d.row) → (dups : List Dup) → option_map (λ d. d.row) (find test dups) ≡ find by (rows_of dups)

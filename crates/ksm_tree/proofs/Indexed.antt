@@ -9,6 +9,8 @@ use Rattle.std.proofs.lemmas.List.Kept.{AllPairs-filter}
 use Rattle.ksm_base.specs.declared.page.GuestPage.{GuestPage}
 use Rattle.ksm_base.specs.declared.row.DupRow.{DupRow}
 use Rattle.ksm_base.specs.Rows.{InPlaceOrder}
+use Rattle.ksm_base.proofs.Edits.{find_nothing}
+use Rattle.ksm_rmap.proofs.Ordered.{pairs_head, pairs_tail}
 use Rattle.ksm_tree.specs.declared.dup.Dup.{Dup}
 use Rattle.ksm_tree.specs.declared.index.Index.{Index}
 use Rattle.ksm_tree.specs.Dups.{rows_of, has_number, stands_at, dup_of, dup_at, without_place, change_items}
@@ -16,8 +18,8 @@ use Rattle.ksm_tree.specs.Index.{AreIndexed, in_group, place_of, places_of, row_
 use Rattle.ksm_tree.specs.Places.{without}
 use Rattle.ksm_tree.specs.Slots.{SlotsState, change_at}
 use Rattle.ksm_tree.proofs.Keys.{eq_bytes}
-use Rattle.ksm_tree.proofs.Rows.{only_one, place_gone, group_elsewhere, group_unlike, found_passes, IsOne}
-use Rattle.ksm_tree.proofs.Changes.{rows_changed, rows_without, row_found, number_place_found, number_place_changed, unknown_found, unknown_changed}
+use Rattle.ksm_tree.proofs.Rows.{Comes, only_one, place_gone, group_elsewhere, group_unlike, found_passes, IsOne}
+use Rattle.ksm_tree.proofs.Changes.{all_rows, rows_changed, rows_without, row_found, number_place_found, number_place_changed, unknown_found, unknown_changed}
 
 row_some : {p : ℕ} (r : Option DupRow) → option_map (λ e. e.place) r ≡ Some p → is_some r ≡ true
 row_some {p} None is = absurd (none-some p is)
@@ -119,4 +121,25 @@ none_there p test (d ∷ dups) none there =
     elim (cases_Bool (stands_at p d)) [
       | inl here ↦ none-some d (none ∙ grind (arith, here))
       | inr away ↦ none_there p test dups (none ∙ grind (arith, away)) (grind (arith, away, there))
+    ]
+
+-- the dup at a place, where it passes a test
+abbrev pub passing : (Dup → Bool) → Option Dup → Option Dup
+passing test None = None
+passing test (Some d) = if test d then Some d else None
+
+-- the dup at a place that passes a test is the one dup there, if it passes
+pub found_passing : (p : ℕ) (test : Dup → Bool) (dups : List Dup) → InPlaceOrder (rows_of dups) → find (λ d. stands_at p d && test d) dups ≡ passing test (dup_at p dups)
+found_passing p test [] rise = refl
+found_passing p test (d ∷ dups) rise =
+    let rest = found_passing p test dups (pairs_tail Comes d.row (rows_of dups) rise) in
+    elim (cases_Bool (stands_at p d)) [
+      | inl here ↦
+          let behind = all_rows (λ r. d.row.place < r.place) dups (All-weaker (Comes d.row) (λ r. d.row.place < r.place) (λ r h. h.0) (rows_of dups) (pairs_head Comes d.row (rows_of dups) rise)) in
+          let none = find_nothing (λ e. stands_at p e && test e) dups (All-weaker (λ e. d.row.place < e.row.place) (λ e. (stands_at p e && test e) ≡ false) (λ e later. grind (arith, nat_tests, here, later)) dups behind) in
+          elim (cases_Bool (test d)) [
+            | inl passes ↦ grind (arith, here, passes)
+            | inr fails ↦ grind (arith, here, fails, none)
+          ]
+      | inr away ↦ grind (arith, away, rest)
     ]

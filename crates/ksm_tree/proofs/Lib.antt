@@ -2,11 +2,15 @@ pub mod Best
 pub mod Bridge
 pub mod Chains
 pub mod Changes
+pub mod Counts
 pub mod Indexed
 pub mod Keys
+pub mod LetGo
 pub mod Made
 pub mod Numbers
 pub mod OneSlot
 pub mod Opened
 pub mod Rows
 pub mod Tied
+pub mod Ties
+pub mod Waiters

@@ -12,7 +12,7 @@ use Rattle.ksm_rmap.proofs.Ordered.{pairs_head, pairs_tail, pairs_append, filter
 use Rattle.ksm_tree.specs.Index.{in_group, row_place, group_places}
 use Rattle.ksm_tree.specs.Places.{with_place, without}
 
-abbrev Comes : DupRow → DupRow → Type 0
+abbrev pub Comes : DupRow → DupRow → Type 0
 Comes d e = (d.place < e.place) × ((d.number == e.number) ≡ false)
 
 abbrev numbered : ℕ → DupRow → Bool

@@ -28,10 +28,10 @@ find_nothing test (x ∷ xs) none =
     grind (arith, here, rest)
 
 -- the pages of the rows that pass a test
-abbrev pages_that : (Row → Bool) → List Row → List GuestPage
+abbrev pub pages_that : (Row → Bool) → List Row → List GuestPage
 pages_that test rows = map (λ r. r.page) (filter test rows)
 
-pages_append : (test : Row → Bool) (xs ys : List Row) → pages_that test (xs ++ ys) ≡ pages_that test xs ++ pages_that test ys
+pub pages_append : (test : Row → Bool) (xs ys : List Row) → pages_that test (xs ++ ys) ≡ pages_that test xs ++ pages_that test ys
 pages_append test [] ys = refl
 pages_append test (x ∷ xs) ys =
     let rest = pages_append test xs ys in
@@ -57,10 +57,10 @@ pages_chosen test by (r ∷ rows) =
     ]
 
 module _ (page : GuestPage) where
-  abbrev ahead : Row → Bool
+  abbrev pub ahead : Row → Bool
   ahead r = comes_before r.page page
 
-  abbrev behind : Row → Bool
+  abbrev pub behind : Row → Bool
   behind r = comes_before page r.page
 
   behind_rest : (r : Row) (rows : List Row) → InPageOrder (r ∷ rows) → same_page r.page page ≡ true → All (λ s. behind s ≡ true) rows
@@ -109,7 +109,7 @@ module _ (page : GuestPage) where
             ]
       ]
 
-  without_splits : (rows : List Row) → InPageOrder rows → without_page page rows ≡ filter ahead rows ++ filter behind rows
+  pub without_splits : (rows : List Row) → InPageOrder rows → without_page page rows ≡ filter ahead rows ++ filter behind rows
   without_splits [] rise = refl
   without_splits (r ∷ rows) rise =
       elim (cases_Bool (same_page r.page page)) [

@@ -1,11 +1,16 @@
 -- The book's rows beside the dups with their items.
 use Rattle.std.specs.Prelude.{◌≡◌, ℕ, List, length, All}
+use Rattle.ksm_base.specs.declared.page.GuestPage.{GuestPage}
+use Rattle.ksm_base.specs.declared.row.PageState.{PageState}
+use Rattle.ksm_base.specs.declared.row.PageState.TheVariants.{Private, Waiting, Merged}
 use Rattle.ksm_base.specs.declared.row.Row.{Row}
 use Rattle.ksm_base.specs.Reading.{items_of}
 use Rattle.ksm_base.specs.Rows.{item_count}
 use Rattle.ksm_tree.specs.declared.choice.Choice.{Choice}
 use Rattle.ksm_tree.specs.declared.choice.Choice.TheVariants.{Empty, Stale}
+use Rattle.ksm_rmap.specs.Items.{without_item}
 use Rattle.ksm_tree.specs.declared.dup.Dup.{Dup}
+use Rattle.ksm_tree.specs.Dups.{change_items}
 
 -- each dup has as many items as there are rows merged into it
 abbrev pub AreCounted : List Row → List Dup → Type 0
@@ -19,3 +24,9 @@ AreTied rows dups = All (λ d. d.items ≡ items_of rows d.row) dups
 abbrev pub place_in : Choice → ℕ
 place_in (Empty place) = place
 place_in (Stale place) = place
+
+-- the dups once a page whose row was in a state is no item any more
+abbrev pub let_out : PageState → GuestPage → List Dup → List Dup
+let_out Private page dups = dups
+let_out Waiting page dups = dups
+let_out (Merged number) page dups = change_items number (without_item page) dups

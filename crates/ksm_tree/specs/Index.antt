@@ -1,5 +1,5 @@
 -- Where a dup of a number, and the dups of a tree and bytes, are found. (own)
-use Rattle.std.specs.Prelude.{◌≡◌, ℕ, Bool, ◌&&◌, ◌==◌, List, map, filter, find, option_map, Option, bytes_eq}
+use Rattle.std.specs.Prelude.{◌≡◌, ℕ, Bool, false, ◌&&◌, ◌==◌, nat_lt, List, [], ◌∷◌, length, map, filter, find, option_map, Option, bytes_eq}
 use Rattle.std.specs.BTreeMap.{get}
 use Rattle.std.specs.Ordering.{nat_cmp}
 use Rattle.ksm_base.specs.declared.row.DupRow.{DupRow}
@@ -25,6 +25,19 @@ row_place number rows = option_map (λ r. r.place) (find (λ r. r.number == numb
 -- the places of a group, in their order
 abbrev pub group_places : ℕ → List ℕ → List DupRow → List ℕ
 group_places tree bytes rows = map (λ r. r.place) (filter (in_group tree bytes) rows)
+
+-- whether places begin with one
+abbrev pub begin_with : ℕ → List ℕ → Bool
+begin_with place [] = false
+begin_with place (p ∷ places) = p == place
+
+-- whether an index has two places or more for the group of a row
+abbrev pub is_chained : Index → DupRow → Bool
+is_chained index r = nat_lt 1 (length (places_of r.tree r.bytes index))
+
+-- whether it has, and the row's is the first of them
+abbrev pub leads_chain : Index → DupRow → Bool
+leads_chain index r = is_chained index r && begin_with r.place (places_of r.tree r.bytes index)
 
 abbrev pub dups_seen : SlotsState → ℕ → DupsState
 dups_seen s next = record { places = s.places; dups = s.dups; next = next }

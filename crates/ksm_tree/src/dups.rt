@@ -1,8 +1,11 @@
-ghost use Rattle.std.specs.Prelude.{◌≡◌, ℕ, ◌+◌, ◌^◌, ◌<◌, ◌≤◌, [], ◌∷◌, ◌&&◌, not, true, false, None, Some, filter, find, length, is_some, option_copied, option_map, slice_get, IfErr, IfOk, OnErr, OnOk};
+ghost use Rattle.std.specs.Prelude.{◌≡◌, ℕ, ◌+◌, ◌^◌, ◌<◌, ◌≤◌, [], ◌∷◌, ◌&&◌, not, true, false, None, Some, count_by, filter, find, length, is_some, option_copied, option_map, slice_get, IfErr, IfOk, OnErr, OnOk};
+ghost use Rattle.ksm_base.specs.Counting.{in_chain, leads_group};
 ghost use Rattle.ksm_base.specs.Rows.{same_page};
 ghost use Rattle.ksm_rmap.specs.Items.{has_item, with_item, without_item};
 ghost use Rattle.ksm_tree.specs.Choosing.{best_of, better as better_dup, choice_of, is_no_worse as no_worse_than};
-ghost use Rattle.ksm_tree.specs.Dups.{AreDups, change_items, dup_at, dup_of, is_live, is_stale, items_of, stands_at, with_new, without_place};
+ghost use Rattle.ksm_tree.specs.Dups.{AreDups, change_items, dup_at, dup_of, is_live, is_stale, items_of, rows_of, stands_at, with_new, without_place};
+ghost use Rattle.ksm_tree.specs.Index.{is_chained, leads_chain as is_first_of_chain};
+ghost use Rattle.ksm_tree.specs.Slots.{row_passes};
 
 use crate::choice::Choice;
 use crate::content::Content;
@@ -54,7 +57,8 @@ impl Dups {
 
     /// The dup that a page of a tree and these bytes joins: of those with an item and fewer than the limit the one with the most items, ties to the lowest number.
     pub fn best(&self, tree: u32, bytes: &PageBytes, limit: u32) -> Option<u64>
-        ensures { result ≡ option_map (λ d. d.row.number) (best_of tree bytes.now limit self.now.dups) }
+        ensures best { result ≡ option_map (λ d. d.row.number) (best_of tree bytes.now limit self.now.dups) }
+        ensures lawful { AreDups self.now }
     {
         let mut best: Option<&Dup> = None;
         let chain = self.index.places(tree, bytes);
@@ -83,6 +87,13 @@ impl Dups {
         }
     }
 
+    /// Whether there is a place for a new dup: an empty one, or that of a stale dup.
+    pub fn has_place(&self) -> bool
+        ensures { result ≡ is_some (choice_of self.now) }
+    {
+        self.slots.first_empty().is_some() || self.slots.first_stale().is_some()
+    }
+
     /// A new dup of two pages at a place; a stale dup that stood there goes. Its number is the next one. The one fault is `Memory`, and then nothing changes.
     pub fn new_dup(
         &mut self,
@@ -104,6 +115,7 @@ impl Dups {
         }) }
         ensures kept { OnErr result (self.new ≡ self.old) }
         ensures memory { IfErr result (λ fault. fault ≡ Fault.Memory) }
+        ensures lawful { AreDups self.old }
     {
         let number = self.next;
         let row = DupRow {
@@ -159,6 +171,16 @@ impl Dups {
         self.slots.at(place).map(|dup| dup.row.number)
     }
 
+    /// The row of the dup with items at a place.
+    pub fn live_at(&self, place: u32) -> Option<DupRow>
+        ensures { result ≡ option_map (λ d. d.row) (find (λ d. stands_at place d && is_live d) self.now.dups) }
+    {
+        match self.slots.at(place) {
+            Some(dup) => (dup.items.len() > 0).then_some(dup.row),
+            None => None,
+        }
+    }
+
     /// The row of a dup.
     pub fn row(&self, dup: u64) -> Option<DupRow>
         ensures { result ≡ option_map (λ d. d.row) (dup_of dup self.now.dups) }
@@ -186,7 +208,8 @@ impl Dups {
 
     /// The least place of a stale dup.
     pub fn stale(&self) -> Option<u32>
-        ensures { result ≡ option_map (λ d. d.row.place) (find is_stale self.now.dups) }
+        ensures place { result ≡ option_map (λ d. d.row.place) (find is_stale self.now.dups) }
+        ensures lawful { AreDups self.now }
     {
         self.slots.first_stale()
     }
@@ -203,6 +226,34 @@ impl Dups {
         self.slots.clear(place);
     }
 
+    /// How many dups have an item.
+    pub fn count_shared(&self) -> usize
+        ensures { result ≡ count_by is_live self.now.dups }
+    {
+        self.slots.count_live()
+    }
+
+    /// How many dups are stale.
+    pub fn count_stale(&self) -> usize
+        ensures { result ≡ count_by is_stale self.now.dups }
+    {
+        self.slots.count_stale()
+    }
+
+    /// How many dups are in a group of two or more.
+    pub fn count_grouped(&self) -> usize
+        ensures { result ≡ count_by (in_chain (rows_of self.now.dups)) (rows_of self.now.dups) }
+    {
+        count_in_chains(&self.index, self.slots.list())
+    }
+
+    /// How many groups have two dups or more.
+    pub fn count_chains(&self) -> usize
+        ensures { result ≡ count_by (λ d. in_chain (rows_of self.now.dups) d && leads_group (rows_of self.now.dups) d) (rows_of self.now.dups) }
+    {
+        count_leaders(&self.index, self.slots.list())
+    }
+
     fn find(&self, number: u64) -> Option<&Dup>
         ensures { option_copied result ≡ dup_of number self.now.dups }
     {
@@ -210,6 +261,38 @@ impl Dups {
             Some(place) => self.slots.at(place),
             None => None,
         }
+    }
+}
+
+/// How many slots hold a dup of a group of two or more.
+fn count_in_chains(index: &Index, slots: &[Option<Dup>]) -> usize
+    ensures { result ≡ count_by (row_passes (is_chained index.now)) slots.now }
+{
+    slots.iter().filter(|slot| is_in_chain(index, slot)).count()
+}
+
+/// How many slots hold the first dup of a group of two or more.
+fn count_leaders(index: &Index, slots: &[Option<Dup>]) -> usize
+    ensures { result ≡ count_by (row_passes (is_first_of_chain index.now)) slots.now }
+{
+    slots.iter().filter(|slot| leads_chain(index, slot)).count()
+}
+
+fn is_in_chain(index: &Index, slot: &Option<Dup>) -> bool
+    ensures { result ≡ row_passes (is_chained index.now) slot.now }
+{
+    match slot {
+        Some(dup) => index.is_in_chain(&dup.row),
+        None => false,
+    }
+}
+
+fn leads_chain(index: &Index, slot: &Option<Dup>) -> bool
+    ensures { result ≡ row_passes (is_first_of_chain index.now) slot.now }
+{
+    match slot {
+        Some(dup) => index.leads_chain(&dup.row),
+        None => false,
     }
 }
 

@@ -15,7 +15,7 @@ pub struct Index {
 }
 
 impl Index {
-    ghost use Rattle.ksm_tree.specs.Index.{place_of, places_of};
+    ghost use Rattle.ksm_tree.specs.Index.{is_chained, leads_chain as is_first_of_chain, place_of, places_of};
 
     /// An index of no dups.
     pub fn new(alloc: Global) -> Index
@@ -40,6 +40,21 @@ impl Index {
         ensures { result.now ≡ places_of tree bytes.now self.now }
     {
         self.groups.chain(&Content::of(tree, bytes))
+    }
+
+    /// Whether the group of a row has two dups or more.
+    pub fn is_in_chain(&self, row: &DupRow) -> bool
+        ensures { result ≡ is_chained self.now row.now }
+    {
+        self.places(row.tree, &row.bytes).len() > 1
+    }
+
+    /// Whether the group of a row has two dups or more, and the row's is the first of them.
+    pub fn leads_chain(&self, row: &DupRow) -> bool
+        ensures { result ≡ is_first_of_chain self.now row.now }
+    {
+        let places = self.places(row.tree, &row.bytes);
+        places.len() > 1 && places[0] == row.place
     }
 
     /// Enters a row whose number is new. The one fault is `Memory`, and then nothing changes.

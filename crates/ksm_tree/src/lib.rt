@@ -11,6 +11,7 @@ pub mod laws;
 mod places;
 mod slots;
 mod waiting;
+pub mod waiting_laws;
 
 pub use choice::Choice;
 pub use dups::Dups;

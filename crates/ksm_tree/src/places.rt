@@ -42,6 +42,13 @@ impl Places {
         self.list.is_empty()
     }
 
+    /// How many places there are.
+    pub fn len(&self) -> usize
+        ensures { result ≡ length self.now.list.items }
+    {
+        self.list.len()
+    }
+
     /// The least place.
     pub fn first(&self) -> Option<u32>
         ensures { result ≡ slice_get self.now.list.items 0 }

@@ -1,8 +1,8 @@
-ghost use Rattle.std.specs.Prelude.{◌≡◌, ◌<◌, ◌≤◌, [], true, false, None, Some, find, length, option_copied, option_map, is_some, IfErr, IfOk, OnErr, OnOk};
+ghost use Rattle.std.specs.Prelude.{◌≡◌, ◌<◌, ◌≤◌, [], true, false, None, Some, count_by, find, length, option_copied, option_map, is_some, IfErr, IfOk, OnErr, OnOk};
 ghost use Rattle.ksm_base.specs.Visit.{empty_place};
 ghost use Rattle.ksm_rmap.specs.Items.{has_item, with_item, without_item};
 ghost use Rattle.ksm_tree.specs.Dups.{dup_at, items_in, is_live, is_stale, rows_of, with_new, without_place};
-ghost use Rattle.ksm_tree.specs.Slots.{change_at};
+ghost use Rattle.ksm_tree.specs.Slots.{change_at, present};
 
 use crate::dup::Dup;
 use crate::places::Places;
@@ -68,6 +68,27 @@ impl Slots {
         ensures { result ≡ option_map (λ d. d.row.place) (find is_stale self.now.dups) }
     {
         self.stale.first()
+    }
+
+    /// A slot for each place.
+    pub fn list(&self) -> &[Option<Dup>]
+        ensures { present result.now ≡ self.now.dups }
+    {
+        self.dups.as_slice()
+    }
+
+    /// How many dups have an item.
+    pub fn count_live(&self) -> usize
+        ensures { result ≡ count_by is_live self.now.dups }
+    {
+        self.dups.len() - self.empty.len() - self.stale.len()
+    }
+
+    /// How many dups are stale.
+    pub fn count_stale(&self) -> usize
+        ensures { result ≡ count_by is_stale self.now.dups }
+    {
+        self.stale.len()
     }
 
     /// A dup with items takes its place, in the stead of one that stood there.

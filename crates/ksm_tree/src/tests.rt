@@ -26,6 +26,10 @@ fn one_page_waits_for_each_content(rt: HostRuntime) -> Result<(), Fail> {
     waiting.remove(0, &bytes(7));
     assert_eq!(rt; waiting.find(0, &bytes(7)), None);
     waiting.add(1, &bytes(7), page(2))?;
+    waiting.let_go(3, Some(page(2)));
+    assert_eq!(rt; waiting.find(1, &bytes(7)), Some(page(2)));
+    waiting.let_go(3, Some(page(3)));
+    assert_eq!(rt; waiting.find(1, &bytes(7)), None);
     waiting.clear();
     assert_eq!(rt; waiting.find(1, &bytes(7)), None);
     Ok(())
@@ -42,6 +46,23 @@ fn pages_join_a_dup(rt: HostRuntime) -> Result<(), Fail> {
     assert_eq!(rt; dups.best(0, &bytes(7), 4), Some(0));
     assert_eq!(rt; dups.best(0, &bytes(7), 3), None);
     assert_eq!(rt; dups.row(0).map(|row| row.place), Some(0));
+    assert_eq!(rt; dups.live_at(0).map(|row| row.number), Some(0));
+    Ok(())
+}
+
+#[test]
+fn dups_of_one_content_are_a_chain(rt: HostRuntime) -> Result<(), Fail> {
+    let mut dups = Dups::open(rt.alloc(), 2)?;
+    dups.new_dup(0, 0, &bytes(7), page(4), page(2))?;
+    assert_eq!(rt; dups.has_place(), true);
+    assert_eq!(rt; dups.count_grouped(), 0);
+    assert_eq!(rt; dups.count_chains(), 0);
+    assert_eq!(rt; dups.new_dup(1, 0, &bytes(7), page(5), page(6))?, 1);
+    assert_eq!(rt; dups.has_place(), false);
+    assert_eq!(rt; dups.count_grouped(), 2);
+    assert_eq!(rt; dups.count_chains(), 1);
+    assert_eq!(rt; dups.count_shared(), 2);
+    assert_eq!(rt; dups.count_stale(), 0);
     Ok(())
 }
 
@@ -53,6 +74,10 @@ fn a_stale_dup_goes(rt: HostRuntime) -> Result<(), Fail> {
     assert_eq!(rt; dups.stale(), None);
     dups.leave(0, page(2));
     assert_eq!(rt; dups.stale(), Some(0));
+    assert_eq!(rt; dups.live_at(0), None);
+    assert_eq!(rt; dups.has_place(), true);
+    assert_eq!(rt; dups.count_stale(), 1);
+    assert_eq!(rt; dups.count_shared(), 0);
     assert_eq!(rt; dups.at(0), Some(0));
     dups.drop_stale(0);
     assert_eq!(rt; dups.at(0), None);

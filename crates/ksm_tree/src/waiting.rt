@@ -1,5 +1,5 @@
-ghost use Rattle.std.specs.Prelude.{◌≡◌, ℕ, List, [], ◌&&◌, ◌==◌, Some, None, IfErr, OnOk, OnErr, bytes_eq, if◌then◌else◌};
-ghost use Rattle.ksm_tree.specs.Waits.{waiting_page};
+ghost use Rattle.std.specs.Prelude.{◌≡◌, ◌&&◌, ◌==◌, [], None, IfErr, OnOk, OnErr};
+ghost use Rattle.ksm_tree.specs.Waits.{AreLetGo, IsAdded, IsRemoved, is_ahead, waiting_page};
 
 use crate::content::Content;
 use ksm_base::{Fault, GuestPage, PageBytes};
@@ -9,7 +9,7 @@ use std::marker::Model;
 
 /// The pages that wait for an equal one: at most one of each tree and bytes (mm/ksm, the unstable tree).
 ///
-/// Each call costs the logarithm of their number, but `clear`, which costs their number.
+/// Each call costs the logarithm of their number, but `let_go` and `clear`, which cost their number.
 #[derive(Drop)]
 pub struct Waiting {
     pages: BTreeMap<Content, GuestPage>,
@@ -22,6 +22,17 @@ impl Model for Waiting {
     ghost Value = { List WaitingPage };
 
     ghost view = { λ w. map waiting_at w.pages.entries };
+}
+
+// Whether a page is of a guest, and before the one at which an unmerging stopped, if it did.
+fn goes(page: GuestPage, guest: u16, stop: Option<GuestPage>) -> bool
+    ensures { result ≡ (page.guest == guest && is_ahead stop page) }
+{
+    let reached = match stop {
+        None => true,
+        Some(stop) => page < stop,
+    };
+    page.guest == guest && reached
 }
 
 impl Waiting {
@@ -44,8 +55,7 @@ impl Waiting {
     /// A page waits from now on. The one fault is `Memory`, and then nothing changes.
     pub fn add(&mut self, tree: u32, bytes: &PageBytes, page: GuestPage) -> Result<(), Fault>
         requires { waiting_page tree bytes.now self.old ≡ None }
-        ensures added { OnOk result ((t : ℕ) (b : List ℕ) → waiting_page t b self.new
-            ≡ (if t == tree && bytes_eq b bytes.now then Some page else waiting_page t b self.old)) }
+        ensures added { OnOk result (IsAdded tree bytes.now page self.old self.new) }
         ensures kept { OnErr result (self.new ≡ self.old) }
         ensures memory { IfErr result (λ fault. fault ≡ Fault.Memory) }
     {
@@ -55,10 +65,16 @@ impl Waiting {
 
     /// The page that waits in a tree with these bytes waits no more, if there is one.
     pub fn remove(&mut self, tree: u32, bytes: &PageBytes)
-        ensures { (t : ℕ) (b : List ℕ) → waiting_page t b self.new
-            ≡ (if t == tree && bytes_eq b bytes.now then None else waiting_page t b self.old) }
+        ensures { IsRemoved tree bytes.now self.old self.new }
     {
         self.pages.remove(&Content::of(tree, bytes));
+    }
+
+    /// The waiting pages of a guest that come before the one at which an unmerging stopped, or all of them, wait no more.
+    pub fn let_go(&mut self, guest: u16, stop: Option<GuestPage>)
+        ensures { AreLetGo guest stop self.old self.new }
+    {
+        self.pages.retain(|_, page| !goes(*page, guest, stop));
     }
 
     /// No page waits any more.

@@ -1,4 +1,41 @@
+use Rattle.std.proofs.Common.{◌∙◌, refl, ap, sym, subst}
+use Rattle.ksm_base.specs.declared.row.PageState.TheVariants.{Merged}
+use Rattle.ksm_base.specs.Rows.{change_row, row_at}
+use Rattle.ksm_rmap.specs.Items.{with_item}
+use Rattle.ksm_tree.proofs.Changes.{rows_items}
+use Rattle.ksm_tree.proofs.Ties.{tied_absent}
+use Rattle.ksm_tree.specs.Dups.{rows_of}
+use Rattle.ksm_book.specs.Linked.{AreLinked, HasRoom}
+use Rattle.ksm_book.proofs.Linking.{linked_joined, known_room, fewer_room, only_rows}
 use Rattle.ksm_book.proofs.pages.Pages.join.Goals as goal
 
-pub unreachable-requires : goal.unreachable-requires
-unreachable-requires c = ?
+pub join-requires-clause-known : goal.join-requires-clause-known
+join-requires-clause-known c =
+    known_room c.self.inside.rows.rows c.self.inside.dups.dups c.args.number c.self.invariant.tied
+    (subst (λ v. HasRoom v.listed.rows v.dups c.args.number) (sym c.self.view_is) c.requires.room)
+
+pub join-requires-clause-fewer : goal.join-requires-clause-fewer
+join-requires-clause-fewer c =
+    fewer_room c.self.inside.rows.rows c.self.inside.dups.dups c.args.number c.self.invariant.tied
+    (subst (λ v. HasRoom v.listed.rows v.dups c.args.number) (sym c.self.view_is) c.requires.room)
+
+pub join-requires-clause-absent : goal.join-requires-clause-absent
+join-requires-clause-absent c =
+    tied_absent c.self.inside.rows.rows c.args.row.page c.args.row c.self.invariant.order
+    (ap (λ v. row_at c.args.row.page v.listed.rows) c.self.view_is ∙ c.requires.row_is) c.args.number c.self.inside.dups.dups c.requires.alone c.self.invariant.tied
+
+pub invariant_of-self-2 : goal.invariant_of-self-2
+invariant_of-self-2 c =
+    let old = c.self.inside in
+    let item = record c.args.row { state = Merged c.args.number } in
+    subst (λ rows. AreLinked old.shape rows c.join.new.self) (sym c.replace.ensures.changed)
+    (subst (λ dups. AreLinked old.shape (change_row c.args.row.page (λ _. item) old.rows.rows) dups) (sym c.in_ok-join.ensures.joined)
+    (linked_joined old.shape old.rows.rows old.dups c.self.invariant c.args.row item c.args.number
+    (ap (λ v. row_at c.args.row.page v.listed.rows) c.self.view_is ∙ c.requires.row_is) c.requires.alone refl))
+
+pub returns-clause-rest : goal.returns-clause-rest
+returns-clause-rest c =
+    let old = c.self.inside in
+    only_rows old.shape old.dups c.join.new.self old.knobs c.replace.new.self old.rows c.args.self.now
+    (ap (λ d. rows_of d.dups) c.in_ok-join.ensures.joined ∙ rows_items c.args.number (with_item c.args.row.page) old.dups.dups)
+    (ap (λ d. d.next) c.in_ok-join.ensures.joined) c.self.view_is

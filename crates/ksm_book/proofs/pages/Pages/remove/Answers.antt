@@ -1,4 +1,21 @@
+use Rattle.std.proofs.Common.{◌∙◌, refl, ap, sym, subst}
+use Rattle.ksm_base.specs.Rows.{without_page}
+use Rattle.ksm_tree.proofs.Changes.{rows_out}
+use Rattle.ksm_tree.specs.Dups.{rows_of}
+use Rattle.ksm_book.specs.Linked.{AreLinked}
+use Rattle.ksm_book.proofs.Linking.{linked_dropped, only_rows}
 use Rattle.ksm_book.proofs.pages.Pages.remove.Goals as goal
 
-pub unreachable-requires : goal.unreachable-requires
-unreachable-requires c = ?
+pub invariant_of-self : goal.invariant_of-self
+invariant_of-self c =
+    let old = c.self.inside in
+    subst (λ rows. AreLinked old.shape rows c.leave.new.dups) (sym c.remove.ensures.gone)
+    (subst (λ dups. AreLinked old.shape (without_page c.args.page old.rows.rows) dups) (sym c.leave.ensures)
+    (linked_dropped old.shape old.rows.rows old.dups c.self.invariant c.args.page c.in-Some.held.row c.in-Some.ensures.at.found))
+
+pub returns-clause-rest : goal.returns-clause-rest
+returns-clause-rest c =
+    let old = c.self.inside in
+    only_rows old.shape old.dups c.leave.new.dups old.knobs c.remove.new.self old.rows c.args.self.now
+    (ap (λ d. rows_of d.dups) c.leave.ensures ∙ rows_out c.in-Some.held.row.state c.args.page old.dups.dups)
+    (ap (λ d. d.next) c.leave.ensures) c.self.view_is

@@ -5,8 +5,8 @@ use Rattle.ksm_tree.specs.Choosing.{best_of}
 use Rattle.ksm_tree.proofs.Best.{folded, folded_best}
 use Rattle.ksm_tree.proofs.dups.Dups.best.Goals as goal
 
-pub returns-in-Some-best : goal.returns-in-Some-best
-returns-in-Some-best c =
+pub returns-in-Some-best-clause-best : goal.returns-in-Some-best-clause-best
+returns-in-Some-best-clause-best c =
     let limit = c.args.limit in
     let dups = c.self.inside.slots.dups in
     let over = drop_of_length-le c.places-chain.result.now {i = c.loop-place.place-index} (omega arith) in
@@ -20,8 +20,8 @@ returns-in-Some-best c =
     ∙ ap (option_map (λ d. d.row.number)) ended
     ∙ ap (λ s. option_map (λ d. d.row.number) (best_of c.args.tree c.args.bytes.now limit s.dups)) c.self.view_is
 
-pub returns-in-None : goal.returns-in-None
-returns-in-None c =
+pub returns-in-None-clause-best : goal.returns-in-None-clause-best
+returns-in-None-clause-best c =
     let limit = c.args.limit in
     let dups = c.self.inside.slots.dups in
     let over = drop_of_length-le c.places-chain.result.now {i = c.loop-place.place-index} (omega arith) in

@@ -1,0 +1,211 @@
+-- The items of each dup stay the pages of the rows merged into it: the dups after a change of one row, and after a change of all.
+use Rattle.std.proofs.Common.{◌≡◌, ◌∙◌, ℕ, ◌<◌, true, false, true≢false, List, [], ◌∷◌, length, get_or, map, ◌++◌, Option, Some, None, refl, sym, ap, inl, inr, arith}
+use Rattle.std.specs.Prelude.{◌==◌, nat_lt, not, All, filter, is_some, if◌then◌else◌}
+use Rattle.std.proofs.lemmas.Bool.{cases_Bool, cond_both, eqb-true, ne_eqb, false≢true}
+use Rattle.std.proofs.lemmas.Bool.Decides.{nat_tests}
+use Rattle.std.proofs.lemmas.Option.{same_Some}
+use Rattle.std.proofs.lemmas.List.Elements.{All-head, All-tail, All-append, All-cons, All-filter, All-map, All-weaker}
+use Rattle.ksm_base.specs.declared.page.GuestPage.{GuestPage}
+use Rattle.ksm_base.specs.declared.row.DupRow.{DupRow}
+use Rattle.ksm_base.specs.declared.row.PageState.{PageState}
+use Rattle.ksm_base.specs.declared.row.PageState.TheVariants.{Private, Waiting, Merged}
+use Rattle.ksm_base.specs.declared.row.Row.{Row}
+use Rattle.ksm_base.specs.Reading.{items_of}
+use Rattle.ksm_base.specs.Rows.{comes_before, same_page, InPageOrder, row_at, with_row, without_page, change_row, merged_state, merged_into, item_count}
+use Rattle.ksm_base.proofs.Edits.{find_none}
+use Rattle.ksm_base.proofs.Orders.{ordered_map}
+use Rattle.ksm_base.proofs.RowCounts.{each_at_page}
+use Rattle.ksm_rmap.specs.Items.{has_item, with_item, without_item}
+use Rattle.ksm_rmap.proofs.Ordered.{absent_kept, filter_none, filter_all}
+use Rattle.ksm_rmap.proofs.Pages.{pages_ordered}
+use Rattle.ksm_tree.specs.declared.dup.Dup.{Dup}
+use Rattle.ksm_tree.specs.Bridge.{AreTied, let_out}
+use Rattle.ksm_tree.specs.Dups.{rows_of, has_number, dup_of, items_in, items_of as items_numbered, stands_at, with_new, without_place, change_items}
+use Rattle.ksm_tree.proofs.Changes.{all_rows}
+use Rattle.ksm_tree.proofs.Rows.{found_in, found_passes}
+use Rattle.ksm_tree.proofs.Tied.{ahead, behind, pages_that, pages_append, without_splits, items_dropped, items_joined, items_left, items_kept, tied_counted}
+
+abbrev IsTied : List Row → Dup → Type 0
+IsTied rows d = d.items ≡ items_of rows d.row
+
+not_merged : (number : ℕ) (state : PageState) → merged_state state ≡ false → merged_into number state ≡ false
+not_merged number Private alone = refl
+not_merged number Waiting alone = refl
+not_merged number (Merged n) alone = absurd (true≢false alone)
+
+-- the row of a page is the only one of its page
+only_row : (page : GuestPage) (rows : List Row) (old : Row) → InPageOrder rows → row_at page rows ≡ Some old → All (λ r. same_page r.page page ≡ true → r ≡ old) rows
+only_row page rows old rise found k d lt same =
+    let r = get_or rows k d in
+    let at : r.page ≡ page = pages_ordered.same_eq r.page page same in
+    same_Some r old (sym (each_at_page rows rise k d lt) ∙ ap (λ p. row_at p rows) at ∙ found)
+
+-- a page whose rows are no items of a dup is no item of it
+no_item : (page : GuestPage) (d : DupRow) (rows : List Row) → All (λ r. same_page r.page page ≡ true → merged_into d.number r.state ≡ false) rows → has_item page (items_of rows d) ≡ false
+no_item page d [] none = refl
+no_item page d (r ∷ rows) none =
+    let here = All-head (λ s. same_page s.page page ≡ true → merged_into d.number s.state ≡ false) r rows none in
+    let rest = no_item page d rows (All-tail (λ s. same_page s.page page ≡ true → merged_into d.number s.state ≡ false) r rows none) in
+    elim (cases_Bool (merged_into d.number r.state)) [
+      | inl passes ↦ elim (cases_Bool (same_page r.page page)) [
+        | inl same ↦ absurd (false≢true (sym (here same) ∙ passes))
+        | inr other ↦ grind (arith, passes, other, rest)
+      ]
+      | inr fails ↦ grind (arith, fails, rest)
+    ]
+
+module _ (rows : List Row) (page : GuestPage) (old : Row) (rise : InPageOrder rows) (found : row_at page rows ≡ Some old) where
+  -- a page is an item of no dup but that of its row
+  not_item : (d : DupRow) → merged_into d.number old.state ≡ false → has_item page (items_of rows d) ≡ false
+  not_item d fails =
+      no_item page d rows (λ k e lt same. ap (λ r. merged_into d.number r.state) (only_row page rows old rise found k e lt same) ∙ fails)
+
+  unlike : (d : DupRow) → merged_into d.number old.state ≡ false → items_of rows d ≡ without_item page (items_of rows d)
+  unlike d fails = absent_kept comes_before same_page pages_ordered page (items_of rows d) (not_item d fails)
+
+  -- where the page is no item any more
+  out_of : (state : PageState) → old.state ≡ state → (new : List Row) (dups : List Dup) → ((d : DupRow) → items_of new d ≡ without_item page (items_of rows d)) → AreTied rows dups → AreTied new (let_out state page dups)
+  out_of Private is new dups less tied =
+      All-weaker (IsTied rows) (IsTied new) (λ d e. e ∙ unlike d.row (rw is refl) ∙ sym (less d.row)) dups tied
+  out_of Waiting is new dups less tied =
+      All-weaker (IsTied rows) (IsTied new) (λ d e. e ∙ unlike d.row (rw is refl) ∙ sym (less d.row)) dups tied
+  out_of (Merged n) is new dups less tied =
+      All-map (IsTied new) (λ d. if has_number n d then record d { items = without_item page d.items } else d) dups
+      (λ k e lt.
+      let d = get_or dups k e in
+      cond_both (has_number n d) (record d { items = without_item page d.items }) d (IsTied new)
+      (λ here. ap (without_item page) (tied k e lt) ∙ sym (less d.row))
+      (λ other. let fails : (n == d.row.number) ≡ false = grind (arith, nat_tests, other) in
+      tied k e lt ∙ unlike d.row (rw is fails) ∙ sym (less d.row)))
+
+  pub tied_dropped : (dups : List Dup) → AreTied rows dups → AreTied (without_page page rows) (let_out old.state page dups)
+  tied_dropped dups tied = out_of old.state refl (without_page page rows) dups (λ d. items_dropped rows d rise page) tied
+
+  pub tied_left : (row : Row) (dups : List Dup) → merged_state row.state ≡ false → AreTied rows dups → AreTied (change_row page (λ _. row) rows) (let_out old.state page dups)
+  tied_left row dups alone tied =
+      out_of old.state refl (change_row page (λ _. row) rows) dups
+      (λ d. items_left rows d rise page row (ap is_some found) (not_merged d.number row.state alone)) tied
+
+  -- where the page becomes an item
+  pub tied_joined : (row : Row) (number : ℕ) (dups : List Dup) → merged_state old.state ≡ false → row.page ≡ page → row.state ≡ Merged number → AreTied rows dups → AreTied (change_row page (λ _. row) rows) (change_items number (with_item page) dups)
+  tied_joined row number dups alone at is tied =
+      let new = change_row page (λ _. row) rows in
+      All-map (IsTied new) (λ d. if has_number number d then record d { items = with_item page d.items } else d) dups
+      (λ k e lt.
+      let d = get_or dups k e in
+      cond_both (has_number number d) (record d { items = with_item page d.items }) d (IsTied new)
+      (λ here. let passes : (number == d.row.number) ≡ true = grind (arith, nat_tests, here) in
+      ap (with_item page) (tied k e lt) ∙ sym (items_joined rows d.row rise page row at (ap is_some found) (rw is passes)))
+      (λ other. let fails : (number == d.row.number) ≡ false = grind (arith, nat_tests, other) in
+      tied k e lt ∙ unlike d.row (not_merged d.row.number old.state alone) ∙ sym (items_left rows d.row rise page row (ap is_some found) (rw is fails))))
+
+  -- a page whose row is not merged is an item of none
+  absent_in : (number : ℕ) (dups : List Dup) (o : Option Dup) → merged_state old.state ≡ false → AreTied rows dups → dup_of number dups ≡ o → has_item page (items_in o) ≡ false
+  absent_in number dups None alone tied is = refl
+  absent_in number dups (Some d) alone tied is =
+      ap (has_item page) (found_in (IsTied rows) (has_number number) dups d tied is) ∙ not_item d.row (not_merged d.row.number old.state alone)
+
+  pub tied_absent : (number : ℕ) (dups : List Dup) → merged_state old.state ≡ false → AreTied rows dups → has_item page (items_numbered number dups) ≡ false
+  tied_absent number dups alone tied = absent_in number dups (dup_of number dups) alone tied refl
+
+-- a dup with a number has as many items as there are rows merged into it
+pub tied_count : (rows : List Row) (dups : List Dup) (number : ℕ) (d : Dup) → AreTied rows dups → dup_of number dups ≡ Some d → length (items_numbered number dups) ≡ item_count rows d.row
+tied_count rows dups number d tied found =
+    ap (λ o. length (items_in o)) found
+    ∙ found_in (λ e. length e.items ≡ item_count rows e.row) (has_number number) dups d (tied_counted rows dups tied) found
+
+pub number_found : (number : ℕ) (dups : List Dup) (d : Dup) → dup_of number dups ≡ Some d → d.row.number ≡ number
+number_found number dups d found = eqb-true d.row.number number (found_passes (has_number number) dups d found)
+
+-- a change that keeps each page finds the same pages
+pub row_stays : (page : GuestPage) (f : Row → Row) (rows : List Row) → ((r : Row) → (f r).page ≡ r.page) → is_some (row_at page (map f rows)) ≡ is_some (row_at page rows)
+row_stays page f [] same = refl
+row_stays page f (r ∷ rows) same =
+    let here = same r in
+    let rest = row_stays page f rows same in
+    elim (cases_Bool (same_page r.page page)) [
+      | inl this ↦ grind (arith, here, this, rest)
+      | inr other ↦ grind (arith, here, other, rest)
+    ]
+
+-- what holds of each dup and of a new one holds of each with it
+all_with_new : (P : Dup → Type 0) (dup : Dup) (dups : List Dup) → All P dups → P dup → All P (with_new dup dups)
+all_with_new P dup dups each one =
+    let first = λ (d : Dup). nat_lt d.row.place dup.row.place in
+    let last = λ (d : Dup). nat_lt dup.row.place d.row.place in
+    All-append P (filter first dups) (dup ∷ filter last dups) (All-filter first P dups each) (All-cons P dup (filter last dups) one (All-filter last P dups each))
+
+-- two pages make a dup with a new number
+module _ (rows : List Row) (first second : Row) (row : DupRow) (rise : InPageOrder rows) (found : row_at first.page rows ≡ Some first) (also : row_at second.page rows ≡ Some second)
+    (alone : merged_state first.state ≡ false) (alone_too : merged_state second.state ≡ false) (none : All (λ r. merged_into row.number r.state ≡ false) rows) where
+  abbrev first_in : Row
+  first_in = record first { state = Merged row.number }
+
+  abbrev second_in : Row
+  second_in = record second { state = Merged row.number }
+
+  abbrev half : List Row
+  half = change_row first.page (λ _. first_in) rows
+
+  abbrev whole : List Row
+  whole = change_row second.page (λ _. second_in) half
+
+  keeps_page : (r : Row) → (if same_page r.page first.page then first_in else r).page ≡ r.page
+  keeps_page r =
+      cond_both (same_page r.page first.page) first_in r (λ x. x.page ≡ r.page) (λ same. sym (pages_ordered.same_eq r.page first.page same)) (λ _. refl)
+
+  half_rises : InPageOrder half
+  half_rises = ordered_map (λ r. if same_page r.page first.page then first_in else r) rows keeps_page rise
+
+  there : is_some (row_at second.page half) ≡ true
+  there = row_stays second.page (λ r. if same_page r.page first.page then first_in else r) rows keeps_page ∙ ap is_some also
+
+  -- the items of another dup
+  others : (d : DupRow) → (row.number == d.number) ≡ false → items_of whole d ≡ items_of rows d
+  others d fails =
+      let step : items_of half d ≡ items_of rows d = items_left rows d rise first.page first_in (ap is_some found) fails ∙ sym (unlike rows first.page first rise found d (not_merged d.number first.state alone)) in
+      items_left half d half_rises second.page second_in there fails
+      ∙ ap (without_item second.page) step
+      ∙ sym (unlike rows second.page second rise also d (not_merged d.number second.state alone_too))
+
+  -- and of the new one
+  both_in : items_of whole row ≡ with_item second.page (first.page ∷ [])
+  both_in =
+      let passes : (row.number == row.number) ≡ true = grind (arith, nat_tests) in
+      let empty : items_of rows row ≡ [] = ap (map (λ r. r.page)) (filter_none (λ r. merged_into row.number r.state) rows none) in
+      items_joined half row half_rises second.page second_in refl there passes
+      ∙ ap (with_item second.page) (items_joined rows row rise first.page first_in refl (ap is_some found) passes ∙ ap (with_item first.page) empty)
+
+  pub tied_made : (dups : List Dup) → All (λ r. r.number < row.number) (rows_of dups) → AreTied rows dups → AreTied whole (with_new (record { row = row; items = with_item second.page (first.page ∷ []) }) dups)
+  tied_made dups fresh tied =
+      all_with_new (IsTied whole) (record { row = row; items = with_item second.page (first.page ∷ []) }) dups
+      (λ k e lt.
+      let d = get_or dups k e in
+      let older : d.row.number < row.number = all_rows (λ r. r.number < row.number) dups fresh k e lt in
+      tied k e lt ∙ sym (others d.row (ne_eqb row.number d.row.number (λ same. omega (arith, older, same)))))
+      (sym both_in)
+
+-- a row that is not merged comes
+pub tied_inserted : (rows : List Row) (row : Row) (dups : List Dup) → InPageOrder rows → row_at row.page rows ≡ None → merged_state row.state ≡ false → AreTied rows dups → AreTied (with_row row rows) dups
+tied_inserted rows row dups rise absent alone tied =
+    let page = row.page in
+    let away = find_none (λ r. same_page r.page page) rows absent in
+    let same : without_page page rows ≡ rows = filter_all (λ r. not (same_page r.page page)) rows (λ k e lt. ap not (away k e lt)) in
+    All-weaker (IsTied rows) (IsTied (with_row row rows))
+    (λ d e.
+    let m = λ (r : Row). merged_into d.row.number r.state in
+    let fails : m row ≡ false = not_merged d.row.number row.state alone in
+    let past : pages_that m (row ∷ filter (behind page) rows) ≡ pages_that m (filter (behind page) rows) = grind (arith, fails) in
+    e ∙ sym (pages_append m (filter (ahead page) rows) (row ∷ filter (behind page) rows)
+    ∙ ap (λ ps. pages_that m (filter (ahead page) rows) ++ ps) past
+    ∙ sym (pages_append m (filter (ahead page) rows) (filter (behind page) rows))
+    ∙ ap (pages_that m) (sym (without_splits page rows rise) ∙ same))) dups tied
+
+-- each row changed, but not its page nor the dup that it is merged into
+pub tied_mapped : (f : Row → Row) (rows : List Row) (dups : List Dup) → All (λ r. ((f r).page ≡ r.page) × ((number : ℕ) → merged_into number (f r).state ≡ merged_into number r.state)) rows → AreTied rows dups → AreTied (map f rows) dups
+tied_mapped f rows dups same tied =
+    All-weaker (IsTied rows) (IsTied (map f rows)) (λ d e. e ∙ sym (items_kept rows d.row f (λ k r lt. ((same k r lt).0, (same k r lt).1 d.row.number)))) dups tied
+
+-- a dup goes
+pub tied_pruned : (rows : List Row) (dups : List Dup) (place : ℕ) → AreTied rows dups → AreTied rows (without_place place dups)
+tied_pruned rows dups place tied = All-filter (λ d. not (stands_at place d)) (IsTied rows) dups tied

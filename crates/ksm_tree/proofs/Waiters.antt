@@ -1,0 +1,315 @@
+-- The waiting pages beside the rows that wait: what a look-up tells, and what a change of rows does.
+use Rattle.std.proofs.Common.{◌≡◌, ◌∙◌, ℕ, Bool, true, false, cond, List, [], ◌∷◌, get_or, map, Option, None, Some, refl, sym, ap, subst, inl, inr, arith}
+use Rattle.std.specs.Prelude.{not, ◌&&◌, ◌==◌, All, filter, find, option_map, bytes_eq, if◌then◌else◌}
+use Rattle.std.specs.Option.{option_and_then, option_or}
+use Rattle.std.proofs.lemmas.Bool.{eq-eqb, cases_Bool, cond_both, false≢true}
+use Rattle.std.proofs.lemmas.Bool.Decides.{nat_tests}
+use Rattle.std.proofs.lemmas.List.Elements.{All-head, All-tail}
+use Rattle.std.proofs.lemmas.List.Folds.{find-append}
+use Rattle.std.proofs.lemmas.Slice.Eq.{bytes_eq-Decides}
+use Rattle.ksm_base.specs.declared.knobs.Knobs.{Knobs}
+use Rattle.ksm_base.specs.declared.page.GuestPage.{GuestPage}
+use Rattle.ksm_base.specs.declared.row.PageState.TheVariants.{Waiting}
+use Rattle.ksm_base.specs.declared.row.Row.{Row}
+use Rattle.ksm_base.specs.Rows.{change_row, change_rows, comes_before, InPageOrder, row_at, same_page, waiting_state, with_row, without_page}
+use Rattle.ksm_base.specs.State.{tree_of}
+use Rattle.ksm_base.specs.Visit.{partner, waits_for}
+use Rattle.ksm_base.proofs.Edits.{find_all, find_nothing}
+use Rattle.ksm_base.proofs.Pages.{before_irrefl, not_both, one_before, same_page_eq, same_page_refl, same_page_sym}
+use Rattle.ksm_base.proofs.RowCounts.{each_at_page}
+use Rattle.ksm_tree.specs.Waits.{AreWaiting, IsAdded, IsAlike, IsStopped, names, waiting_page, waits_there, WaitingPage}
+use Rattle.ksm_tree.proofs.Keys.{eq_bytes}
+
+-- ---------------------------------------------------------------- the row of a page after a change
+
+-- of three pages, of which the first two are one
+same_alike : (p q x : GuestPage) → same_page p q ≡ true → same_page p x ≡ same_page q x
+same_alike p q x same = ap (λ (r : GuestPage). same_page r x) (same_page_eq p q same)
+
+-- other pages have the rows that they had
+pub at_others : (row : Row) (q : GuestPage) (rows : List Row) → same_page row.page q ≡ false → row_at q (change_row row.page (λ _. row) rows) ≡ row_at q rows
+at_others row q [] other = refl
+at_others row q (r ∷ rs) other =
+    let rest = at_others row q rs other in
+    elim (cases_Bool (same_page r.page row.page)) [
+      | inl here ↦
+          let also : same_page r.page q ≡ false = same_alike r.page row.page q here ∙ other in
+          grind (arith, here, other, also, rest)
+      | inr away ↦ grind (arith, away, rest)
+    ]
+
+at_page : (row old : Row) (rows : List Row) → row_at row.page rows ≡ Some old → row_at row.page (change_row row.page (λ _. row) rows) ≡ Some row
+at_page row old [] found = cc
+at_page row old (r ∷ rs) found =
+    elim (cases_Bool (same_page r.page row.page)) [
+      | inl here ↦ let own = same_page_refl row.page in grind (arith, here, own)
+      | inr away ↦
+          let rest = at_page row old rs (grind (arith, away, found)) in
+          grind (arith, away, rest)
+    ]
+
+at_changed : (row old : Row) (rows : List Row) → row_at row.page rows ≡ Some old → (q : GuestPage) → row_at q (change_row row.page (λ _. row) rows) ≡ (if same_page row.page q then Some row else row_at q rows)
+at_changed row old rows found q =
+    elim (cases_Bool (same_page row.page q)) [
+      | inl same ↦ rw same (subst (λ (p : GuestPage). row_at p (change_row row.page (λ _. row) rows) ≡ Some row) (same_page_eq row.page q same) (at_page row old rows found))
+      | inr other ↦ rw other (at_others row q rows other)
+    ]
+
+-- a choice of rows by page
+at_chosen : (by : GuestPage → Bool) (q : GuestPage) (rows : List Row) → row_at q (filter (λ r. by r.page) rows) ≡ (if by q then row_at q rows else None)
+at_chosen by q [] = cond_both (by q) None None (λ o. None ≡ o) (λ _. refl) (λ _. refl)
+at_chosen by q (r ∷ rs) =
+    let rest = at_chosen by q rs in
+    let alike : same_page r.page q ≡ true → by r.page ≡ by q = λ same. ap by (same_page_eq r.page q same) in
+    elim (cases_Bool (same_page r.page q)) [
+      | inl same ↦ let is = alike same in elim (cases_Bool (by r.page)) [
+        | inl kept ↦ grind (arith, same, is, kept, rest)
+        | inr gone ↦ grind (arith, same, is, gone, rest)
+      ]
+      | inr other ↦ elim (cases_Bool (by r.page)) [
+        | inl kept ↦ grind (arith, other, kept, rest)
+        | inr gone ↦ grind (arith, other, gone, rest)
+      ]
+    ]
+
+at_without : (page q : GuestPage) (rows : List Row) → row_at q (without_page page rows) ≡ (if same_page page q then None else row_at q rows)
+at_without page q rows =
+    at_chosen (λ p. not (same_page p page)) q rows
+    ∙ elim (cases_Bool (same_page page q)) [
+      | inl same ↦ let back = same_page_sym q page ∙ same in rw (same, back) refl
+      | inr other ↦ let back = same_page_sym q page ∙ other in rw (other, back) refl
+    ]
+
+or_nothing : (o : Option Row) → option_or o None ≡ o
+or_nothing None = refl
+or_nothing (Some r) = refl
+
+at_inserted : (row : Row) (rows : List Row) (q : GuestPage) → row_at q (with_row row rows) ≡ (if same_page row.page q then Some row else row_at q rows)
+at_inserted row rows q =
+    let ahead = at_chosen (λ p. comes_before p row.page) q rows in
+    let behind = at_chosen (λ p. comes_before row.page p) q rows in
+    find-append (λ r. same_page r.page q) (filter (λ r. comes_before r.page row.page) rows) (row ∷ filter (λ r. comes_before row.page r.page) rows)
+    ∙ (λ i. option_or (ahead i) (if same_page row.page q then Some row else behind i))
+    ∙ elim (cases_Bool (same_page row.page q)) [
+      | inl same ↦
+          let no_less : comes_before q row.page ≡ false = subst (λ (p : GuestPage). comes_before p row.page ≡ false) (same_page_eq row.page q same) (before_irrefl row.page) in
+          rw (same, no_less) refl
+      | inr other ↦ elim (cases_Bool (comes_before q row.page)) [
+        | inl less ↦ let not_more = not_both q row.page less in rw (other, less, not_more) (or_nothing (row_at q rows))
+        | inr no_less ↦ let more = one_before q row.page (same_page_sym q row.page ∙ other) no_less in rw (other, no_less, more) refl
+      ]
+    ]
+
+pub at_mapped : (f : Row → Row) (q : GuestPage) (rows : List Row) → All (λ r. (f r).page ≡ r.page) rows → row_at q (map f rows) ≡ option_map f (row_at q rows)
+at_mapped f q [] keeps = refl
+at_mapped f q (r ∷ rs) keeps =
+    let rest = at_mapped f q rs (All-tail (λ s. (f s).page ≡ s.page) r rs keeps) in
+    let here : same_page (f r).page q ≡ same_page r.page q = ap (λ (p : GuestPage). same_page p q) (All-head (λ s. (f s).page ≡ s.page) r rs keeps) in
+    elim (cases_Bool (same_page r.page q)) [
+      | inl same ↦ grind (arith, here, same)
+      | inr other ↦ grind (arith, here, other, rest)
+    ]
+
+-- ---------------------------------------------------------------- what a look-up tells
+
+find_alike : {X : Type 0} (p q : X → Bool) (xs : List X) → All (λ x. p x ≡ q x) xs → find p xs ≡ find q xs
+find_alike p q [] same = refl
+find_alike p q (x ∷ xs) same =
+    let here = All-head (λ y. p y ≡ q y) x xs same in
+    let rest = find_alike p q xs (All-tail (λ y. p y ≡ q y) x xs same) in
+    λ i. cond (here i) (Some x) (rest i)
+
+-- a page that is named is that page alone
+only_one : (o : Option GuestPage) (p q : GuestPage) → names p o ≡ true → same_page p q ≡ false → names q o ≡ false
+only_one None p q here other = absurd (false≢true here)
+only_one (Some w) p q here other = same_alike w p q here ∙ other
+
+pub look_up_found : (knobs : Knobs) (rows : List Row) (w : List WaitingPage) (t : ℕ) (b : List ℕ) (page : GuestPage) → AreWaiting knobs rows w
+    → waiting_page t b w ≡ Some page → waits_there knobs t b (row_at page rows) ≡ true
+look_up_found knobs rows w t b page are is = sym (are t b page) ∙ ap (names page) is ∙ same_page_refl page
+
+-- what waits for a row's content is its own page where it waits
+pub own_found : (knobs : Knobs) (rows : List Row) (w : List WaitingPage) (row : Row) → row_at row.page rows ≡ Some row → AreWaiting knobs rows w
+    → names row.page (waiting_page (tree_of knobs row) row.bytes w) ≡ waiting_state row.state
+own_found knobs rows w row found are =
+    let t = tree_of knobs row in
+    let tree : (t == t) ≡ true = eq-eqb t t refl in
+    let bytes : bytes_eq row.bytes row.bytes ≡ true = (bytes_eq-Decides row.bytes row.bytes).1 refl in
+    are t row.bytes row.page ∙ ap (waits_there knobs t row.bytes) found ∙ (λ i. waiting_state row.state && (tree i && bytes i)) ∙ and_true (waiting_state row.state)
+  where
+    and_true : (b : Bool) → (b && true) ≡ b
+    and_true true = refl
+    and_true false = refl
+
+-- another row waits for a row where it is a waiting row of its tree and bytes
+waits_apart : (knobs : Knobs) (row r : Row) → waits_for knobs row r ≡ (waits_there knobs (tree_of knobs row) row.bytes (Some r) && not (same_page r.page row.page))
+waits_apart knobs row r =
+    let bytes = eq_bytes r.bytes row.bytes in
+    let t = tree_of knobs row in
+    let u = tree_of knobs r in
+    let trees : (u == t) ≡ (t == u) = grind (arith, nat_tests) in
+    (λ i. waiting_state r.state && not (same_page r.page row.page) && trees i && bytes i) ∙ turned (waiting_state r.state) (same_page r.page row.page) (t == u) (bytes_eq row.bytes r.bytes)
+  where
+    turned : (a s c d : Bool) → (a && not s && c && d) ≡ ((a && (c && d)) && not s)
+    turned true true true true = refl
+    turned true true true false = refl
+    turned true true false d = refl
+    turned true false true true = refl
+    turned true false true false = refl
+    turned true false false d = refl
+    turned false s c d = refl
+
+module _ (knobs : Knobs) (rows : List Row) (w : List WaitingPage) (row : Row) (rise : InPageOrder rows) (are : AreWaiting knobs rows w) where
+  abbrev looked_up : Option GuestPage
+  looked_up = waiting_page (tree_of knobs row) row.bytes w
+
+  -- each row waits for the row where it is named, and another
+  each_waits : (o : Option GuestPage) → looked_up ≡ o → All (λ r. waits_for knobs row r ≡ (names r.page o && not (same_page r.page row.page))) rows
+  each_waits o is k d lt =
+      let r = get_or rows k d in
+      let there : waits_there knobs (tree_of knobs row) row.bytes (Some r) ≡ names r.page o =
+      ap (waits_there knobs (tree_of knobs row) row.bytes) (sym (each_at_page rows rise k d lt)) ∙ sym (are (tree_of knobs row) row.bytes r.page) ∙ ap (names r.page) is in
+      waits_apart knobs row r ∙ ap (λ t. t && not (same_page r.page row.page)) there
+
+  pub partner_found : partner knobs rows row ≡ option_and_then (λ page. if same_page page row.page then None else row_at page rows) looked_up
+  partner_found = go looked_up refl
+    where
+      go : (o : Option GuestPage) → looked_up ≡ o → partner knobs rows row ≡ option_and_then (λ page. if same_page page row.page then None else row_at page rows) o
+      go None is = find_nothing (waits_for knobs row) rows (each_waits None is)
+      go (Some page) is =
+          elim (cases_Bool (same_page page row.page)) [
+            | inl own ↦ rw own (find_nothing (waits_for knobs row) rows (λ k d lt. each_waits (Some page) is k d lt ∙ elsewhere (get_or rows k d).page own))
+            | inr other ↦ rw other (find_alike (waits_for knobs row) (λ r. same_page r.page page) rows (λ k d lt. each_waits (Some page) is k d lt ∙ alone (get_or rows k d).page other))
+          ]
+        where
+          elsewhere : (q : GuestPage) → same_page page row.page ≡ true → (same_page page q && not (same_page q row.page)) ≡ false
+          elsewhere q own = elim (cases_Bool (same_page page q)) [
+            | inl same ↦ let also = sym (same_alike page q row.page same) ∙ own in rw (same, also) refl
+            | inr apart ↦ rw apart refl
+          ]
+
+          alone : (q : GuestPage) → same_page page row.page ≡ false → (same_page page q && not (same_page q row.page)) ≡ same_page q page
+          alone q other = elim (cases_Bool (same_page page q)) [
+            | inl same ↦ let also = sym (same_alike page q row.page same) ∙ other in let back = same_page_sym q page ∙ same in rw (same, also, back) refl
+            | inr apart ↦ let back = same_page_sym q page ∙ apart in rw (apart, back) refl
+          ]
+
+-- ---------------------------------------------------------------- one row
+
+-- the tree and bytes are a row's
+abbrev is_content_of : Knobs → Row → ℕ → List ℕ → Bool
+is_content_of knobs row t b = t == tree_of knobs row && bytes_eq b row.bytes
+
+-- a change of one page's row, by which the others stay
+edited : (knobs : Knobs) (page : GuestPage) (now : Option Row) (rows changed : List Row) (w new : List WaitingPage)
+    → ((q : GuestPage) → row_at q changed ≡ (if same_page page q then now else row_at q rows))
+    → ((t : ℕ) (b : List ℕ) → names page (waiting_page t b new) ≡ waits_there knobs t b now)
+    → ((t : ℕ) (b : List ℕ) (q : GuestPage) → same_page page q ≡ false → names q (waiting_page t b new) ≡ names q (waiting_page t b w))
+    → AreWaiting knobs rows w → AreWaiting knobs changed new
+edited knobs page now rows changed w new at here others are t b q =
+    elim (cases_Bool (same_page page q)) [
+      | inl same ↦
+          subst (λ (p : GuestPage). names p (waiting_page t b new) ≡ waits_there knobs t b now) (same_page_eq page q same) (here t b)
+          ∙ ap (waits_there knobs t b) (sym (at q ∙ ap (λ c. cond c now (row_at q rows)) same))
+      | inr other ↦
+          others t b q other ∙ are t b q ∙ ap (waits_there knobs t b) (sym (at q ∙ ap (λ c. cond c now (row_at q rows)) other))
+    ]
+
+module _ (knobs : Knobs) (rows : List Row) (w : List WaitingPage) (are : AreWaiting knobs rows w) where
+  -- whether the page of a row is named is whether it waits there
+  named : (page : GuestPage) (old : Option Row) → row_at page rows ≡ old → (t : ℕ) (b : List ℕ) → names page (waiting_page t b w) ≡ waits_there knobs t b old
+  named page old found t b = are t b page ∙ ap (waits_there knobs t b) found
+
+  module _ (new : List WaitingPage) (page : GuestPage) (old : Row) (found : row_at page rows ≡ Some old) (stopped : IsStopped knobs old w new) where
+    stopped_here : (t : ℕ) (b : List ℕ) → names page (waiting_page t b new) ≡ false
+    stopped_here t b =
+        let waits = waits_there knobs t b (Some old) in
+        ap (names page) (stopped t b) ∙ elim (cases_Bool waits) [
+          | inl gone ↦ rw gone refl
+          | inr never ↦ rw never (named page (Some old) found t b ∙ never)
+        ]
+
+    stopped_others : (t : ℕ) (b : List ℕ) (q : GuestPage) → same_page page q ≡ false → names q (waiting_page t b new) ≡ names q (waiting_page t b w)
+    stopped_others t b q other =
+        let waits = waits_there knobs t b (Some old) in
+        ap (names q) (stopped t b) ∙ elim (cases_Bool waits) [
+          | inl gone ↦ rw gone (sym (only_one (waiting_page t b w) page q (named page (Some old) found t b ∙ gone) other))
+          | inr never ↦ rw never refl
+        ]
+
+    pub row_dropped : AreWaiting knobs (without_page page rows) new
+    row_dropped = edited knobs page None rows (without_page page rows) w new (λ q. at_without page q rows) stopped_here stopped_others are
+
+  pub row_stopped : (new : List WaitingPage) (row old : Row) → row_at row.page rows ≡ Some old → waiting_state row.state ≡ false → IsStopped knobs old w new
+      → AreWaiting knobs (change_row row.page (λ _. row) rows) new
+  row_stopped new row old found still stopped =
+      edited knobs row.page (Some row) rows (change_row row.page (λ _. row) rows) w new (at_changed row old rows found)
+      (λ t b. stopped_here new row.page old found stopped t b ∙ rw still refl) (stopped_others new row.page old found stopped) are
+
+  pub row_begun : (new : List WaitingPage) (row old : Row) → row_at row.page rows ≡ Some old → waiting_state old.state ≡ false → row.state ≡ Waiting
+      → waiting_page (tree_of knobs row) row.bytes w ≡ None → IsAdded (tree_of knobs row) row.bytes row.page w new → AreWaiting knobs (change_row row.page (λ _. row) rows) new
+  row_begun new row old found still waits none added =
+      edited knobs row.page (Some row) rows (change_row row.page (λ _. row) rows) w new (at_changed row old rows found) here others are
+    where
+      here : (t : ℕ) (b : List ℕ) → names row.page (waiting_page t b new) ≡ waits_there knobs t b (Some row)
+      here t b =
+          ap (names row.page) (added t b) ∙ elim (cases_Bool (is_content_of knobs row t b)) [
+            | inl is ↦ rw (waits, is) (same_page_refl row.page)
+            | inr away ↦ rw (waits, away) (named row.page (Some old) found t b ∙ rw still refl)
+          ]
+
+      nothing : (t : ℕ) (b : List ℕ) → is_content_of knobs row t b ≡ true → waiting_page t b w ≡ None
+      nothing t b is =
+          let tree : t ≡ tree_of knobs row = grind (arith, nat_tests, is) in
+          let bytes : b ≡ row.bytes = (bytes_eq-Decides b row.bytes).0 (grind (arith, is)) in
+          (λ i. waiting_page (tree i) (bytes i) w) ∙ none
+
+      others : (t : ℕ) (b : List ℕ) (q : GuestPage) → same_page row.page q ≡ false → names q (waiting_page t b new) ≡ names q (waiting_page t b w)
+      others t b q other =
+          ap (names q) (added t b) ∙ elim (cases_Bool (is_content_of knobs row t b)) [
+            | inl is ↦ rw is (other ∙ ap (names q) (sym (nothing t b is)))
+            | inr away ↦ rw away refl
+          ]
+
+  pub row_inserted : (row : Row) → row_at row.page rows ≡ None → waiting_state row.state ≡ false → AreWaiting knobs (with_row row rows) w
+  row_inserted row absent still =
+      edited knobs row.page (Some row) rows (with_row row rows) w w (at_inserted row rows) (λ t b. named row.page None absent t b ∙ rw still refl) (λ t b q other. refl) are
+
+-- ---------------------------------------------------------------- all rows
+
+alike_waits : (knobs : Knobs) (t : ℕ) (b : List ℕ) (old new : Row) → IsAlike old new → waits_there knobs t b (Some new) ≡ waits_there knobs t b (Some old)
+alike_waits knobs t b old new alike = λ i. alike.3 i && (t == (if knobs.merge_across_nodes == 1 then 0 else alike.1 i) && bytes_eq b (alike.2 i))
+
+module _ (knobs : Knobs) (rows : List Row) (w : List WaitingPage) (are : AreWaiting knobs rows w) where
+  pub row_kept : (row old : Row) → row_at row.page rows ≡ Some old → IsAlike old row → AreWaiting knobs (change_row row.page (λ _. row) rows) w
+  row_kept row old found alike =
+      edited knobs row.page (Some row) rows (change_row row.page (λ _. row) rows) w w (at_changed row old rows found)
+      (λ t b. named knobs rows w are row.page (Some old) found t b ∙ sym (alike_waits knobs t b old row alike)) (λ t b q other. refl) are
+
+  pub rows_mapped : (f : Row → Row) → All (λ r. IsAlike r (f r)) rows → AreWaiting knobs (map f rows) w
+  rows_mapped f alike t b q =
+      are t b q ∙ go (row_at q rows) refl ∙ ap (waits_there knobs t b) (sym (at_mapped f q rows (λ k d lt. (alike k d lt).0)))
+    where
+      go : (o : Option Row) → row_at q rows ≡ o → waits_there knobs t b o ≡ waits_there knobs t b (option_map f o)
+      go None found = refl
+      go (Some r) found = sym (alike_waits knobs t b r (f r) (find_all (λ s. same_page s.page q) (λ s. IsAlike s (f s)) rows r found alike))
+
+  pub rows_changed : (test : Row → Bool) (f : Row → Row) → All (λ r. test r ≡ true → IsAlike r (f r)) rows → AreWaiting knobs (change_rows test f rows) w
+  rows_changed test f alike =
+      rows_mapped (λ r. if test r then f r else r)
+      (λ k d lt. let r = get_or rows k d in cond_both (test r) (f r) r (IsAlike r) (alike k d lt) (λ _. (refl, refl, refl, refl)))
+
+  pub knobs_tuned : (tuned : Knobs) → tuned.merge_across_nodes ≡ knobs.merge_across_nodes → AreWaiting tuned rows w
+  knobs_tuned tuned same t b q = are t b q ∙ go (row_at q rows)
+    where
+      go : (o : Option Row) → waits_there knobs t b o ≡ waits_there tuned t b o
+      go None = refl
+      go (Some r) = λ i. waiting_state r.state && (t == (if sym same i == 1 then 0 else r.home) && bytes_eq b r.bytes)
+
+-- where no row waits, no page does
+pub none_waiting : (knobs : Knobs) (rows : List Row) → All (λ r. waiting_state r.state ≡ false) rows → AreWaiting knobs rows []
+none_waiting knobs rows none t b q = go (row_at q rows) refl
+  where
+    go : (o : Option Row) → row_at q rows ≡ o → false ≡ waits_there knobs t b o
+    go None found = refl
+    go (Some r) found = let still = find_all (λ s. same_page s.page q) (λ s. waiting_state s.state ≡ false) rows r found none in rw still refl

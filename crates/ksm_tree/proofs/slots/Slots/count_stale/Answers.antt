@@ -1,0 +1,10 @@
+use Rattle.std.proofs.Common.{◌∙◌, count_by, ap}
+use Rattle.ksm_tree.specs.Dups.{is_stale}
+use Rattle.ksm_tree.proofs.Counts.{stale_counted}
+use Rattle.ksm_tree.proofs.slots.Slots.count_stale.Goals as goal
+
+pub returns : goal.returns
+returns c =
+    c.len.ensures
+    ∙ stale_counted c.self.inside.dups.items c.self.inside.empty.list c.self.inside.stale.list c.self.invariant
+    ∙ ap (λ s. count_by is_stale s.dups) c.self.view_is

@@ -1,0 +1,18 @@
+use Rattle.ksm_tree.proofs.LetGo.{rows_let_go}
+use Rattle.ksm_tree.proofs.Waiters.{none_waiting, rows_mapped, rows_changed, knobs_tuned}
+use Rattle.ksm_tree.proofs.waiting_laws.all_rows_change.Goals as goal
+
+pub returns-clause-settled : goal.returns-clause-settled
+returns-clause-settled c knobs rows none = none_waiting knobs rows none
+
+pub returns-clause-mapped : goal.returns-clause-mapped
+returns-clause-mapped c knobs rows waiting change alike are = rows_mapped knobs rows waiting are change alike
+
+pub returns-clause-changed : goal.returns-clause-changed
+returns-clause-changed c knobs rows waiting test change alike are = rows_changed knobs rows waiting are test change alike
+
+pub returns-clause-tuned : goal.returns-clause-tuned
+returns-clause-tuned c knobs tuned rows waiting same are = knobs_tuned knobs rows waiting are tuned same
+
+pub returns-clause-let_go : goal.returns-clause-let_go
+returns-clause-let_go c knobs rows waiting new guest stop gone are = rows_let_go knobs rows waiting new guest stop gone are
