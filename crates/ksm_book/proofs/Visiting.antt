@@ -175,7 +175,7 @@ module _ (lay : Lay) (cursor : Option GuestPage) (passes : ℕ) (row w : Row) (p
   first_changed : (rows : List Row) → rows ≡ change_row w.page (λ _. item) lay.rows → rows ≡ change_row w.page (in_state (Merged lay.next)) lay.rows
   first_changed rows is = is ∙ change_known w.page (in_state (Merged lay.next)) lay.rows w s.rows_rise (partner_at b row w s waits)
 
-  apart : same_page w.page row.page ≡ false
+  pub apart : same_page w.page row.page ≡ false
   apart = tells.other
 
   pub joins_new : (after : Lay) → after.rows ≡ change_row w.page (λ _. item) lay.rows → after.dups ≡ with_dup made lay.dups → Joins after row item

@@ -139,11 +139,13 @@ impl State {
         ensures does { Does self.old.keeper self.new.keeper [] }
     {
         let Some(other) = self.layout.partner(&row) else {
-            return self.layout.wait(row);
+            self.layout.wait(row)?;
+            return Ok(());
         };
         let Some(place) = self.layout.new_place() else {
             return Ok(());
         };
-        self.layout.pair(table, place, other, row)
+        self.layout.pair(table, place, other, row)?;
+        Ok(())
     }
 }

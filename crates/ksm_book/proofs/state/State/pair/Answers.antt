@@ -1,37 +1,97 @@
-use Rattle.std.proofs.Common.{inr, ◌≡◌, ◌∙◌, refl, sym, ap, subst}
-use Rattle.ksm_base.specs.declared.row.PageState.TheVariants.{Waiting}
+use Rattle.std.proofs.Common.{◌≡◌, ◌∙◌, false, None, Some, refl, sym, ap, subst}
+use Rattle.ksm_base.specs.declared.row.PageState.TheVariants.{Merged, Waiting}
+use Rattle.ksm_base.specs.Rows.{change_row, same_page, row_at, with_dup}
 use Rattle.ksm_base.specs.Sound.{IsSound}
-use Rattle.ksm_base.specs.Visit.{next_row, partner, paired}
+use Rattle.ksm_base.specs.State.{place_count}
+use Rattle.ksm_base.specs.Visit.{next_row, partner, paired, new_place, made_dup}
 use Rattle.ksm_base.proofs.SoundScan.{next_row_visited, sound_paired}
-use Rattle.ksm_book.specs.Laid.{Lay, LodgesAs, state_of}
+use Rattle.ksm_book.specs.Laid.{Lay, Founds, Joins, founded, state_of}
 use Rattle.ksm_book.specs.Whole.{BookView}
-use Rattle.ksm_book.proofs.Found.{change_known, found_as}
-use Rattle.ksm_book.proofs.Visiting.{visited_at}
+use Rattle.ksm_book.proofs.Found.{change_known}
+use Rattle.ksm_book.proofs.Visiting.{visited_at, partner_founds, joins_new, both_joined, same_dup, apart}
 use Rattle.ksm_book.proofs.state.State.pair.Goals as goal
+use Rattle.ksm_book.proofs.state.State.pair.Goals.{In_ok-wait, In_ok-pair}
 
-pub amend-requires : goal.amend-requires
-amend-requires c =
+pub wait-requires-clause-row_is : goal.wait-requires-clause-row_is
+wait-requires-clause-row_is c =
     let s = c.self.inside in
-    let row = c.args.row in
-    let found = visited_at (state_of s.layout s.cursor s.passes) row c.self.invariant (ap (λ (x : BookView). next_row x.state.cursor x.state.rows) c.self.view_is ∙ c.requires.next) in
-    found_as (LodgesAs (record row { state = Waiting })) row.page s.layout.rows row (record row { state = Waiting }) found refl (refl, refl, inr (c.requires.alone, refl))
+    visited_at (state_of s.layout s.cursor s.passes) c.args.row c.self.invariant (ap (λ (x : BookView). next_row x.state.cursor x.state.rows) c.self.view_is ∙ c.requires.next)
 
-there : (c : goal.After-amend) → state_of c.amend.new.self c.self.inside.cursor c.self.inside.passes ≡ paired (partner c.self.inside.layout.knobs c.self.inside.layout.rows c.args.row) (state_of c.self.inside.layout c.self.inside.cursor c.self.inside.passes) c.args.row
-there c =
+-- the row waits
+waits : (c : In_ok-wait) → state_of c.wait.new.self c.self.inside.cursor c.self.inside.passes ≡ paired (partner c.self.inside.layout.knobs c.self.inside.layout.rows c.args.row) (state_of c.self.inside.layout c.self.inside.cursor c.self.inside.passes) c.args.row
+waits c =
     let s = c.self.inside in
     let b = state_of s.layout s.cursor s.passes in
     let row = c.args.row in
     let found = visited_at b row c.self.invariant (ap (λ (x : BookView). next_row x.state.cursor x.state.rows) c.self.view_is ∙ c.requires.next) in
-    ap (λ (x : Lay). state_of x s.cursor s.passes) c.amend.ensures
+    ap (λ (x : Lay). state_of x s.cursor s.passes) c.in_ok-wait.ensures.state
     ∙ ap (λ rows. record b { rows = rows }) (change_known row.page (λ r. record r { state = Waiting }) s.layout.rows row c.self.invariant.rows_rise found)
     ∙ ap (λ o. paired o b row) c.in_default.ensures
 
 pub returns-in_default-clause-ok : goal.returns-in_default-clause-ok
-returns-in_default-clause-ok c = there c ∙ ap (λ (x : BookView). paired (partner x.state.knobs x.state.rows c.args.row) x.state c.args.row) c.self.view_is
+returns-in_default-clause-ok c = waits c ∙ ap (λ (x : BookView). paired (partner x.state.knobs x.state.rows c.args.row) x.state c.args.row) c.self.view_is
 
-pub invariant_of-self : goal.invariant_of-self
-invariant_of-self c =
+pub invariant_of-self-in_default : goal.invariant_of-self-in_default
+invariant_of-self-in_default c =
     let s = c.self.inside in
     let b = state_of s.layout s.cursor s.passes in
     let next = ap (λ (x : BookView). next_row x.state.cursor x.state.rows) c.self.view_is ∙ c.requires.next in
-    subst IsSound (sym (there c)) (sound_paired b c.args.row (next_row_visited b c.args.row c.self.invariant next) c.self.invariant (partner b.knobs b.rows c.args.row) refl)
+    subst IsSound (sym (waits c)) (sound_paired b c.args.row (next_row_visited b c.args.row c.self.invariant next) c.self.invariant (partner b.knobs b.rows c.args.row) refl)
+
+pub pair-requires-clause-founds : goal.pair-requires-clause-founds
+pair-requires-clause-founds c =
+    let s = c.self.inside in
+    partner_founds s.layout s.cursor s.passes c.args.row c.in-Some.other c.in-Some-new_place.place c.self.invariant (sym c.in-Some.ensures) (sym c.in-Some-new_place.ensures)
+
+pub pair-requires-clause-joins : goal.pair-requires-clause-joins
+pair-requires-clause-joins c =
+    let s = c.self.inside in
+    joins_new s.layout s.cursor s.passes c.args.row c.in-Some.other c.in-Some-new_place.place c.self.invariant
+    (ap (λ (x : BookView). next_row x.state.cursor x.state.rows) c.self.view_is ∙ c.requires.next) c.requires.alone (sym c.in-Some.ensures)
+    (founded s.layout c.in-Some-new_place.place c.in-Some.other) refl refl
+
+pub pair-requires-clause-second : goal.pair-requires-clause-second
+pair-requires-clause-second c =
+    let s = c.self.inside in
+    visited_at (state_of s.layout s.cursor s.passes) c.args.row c.self.invariant (ap (λ (x : BookView). next_row x.state.cursor x.state.rows) c.self.view_is ∙ c.requires.next)
+
+pub pair-requires-clause-apart : goal.pair-requires-clause-apart
+pair-requires-clause-apart c =
+    let s = c.self.inside in
+    apart s.layout s.cursor s.passes c.args.row c.in-Some.other c.in-Some-new_place.place c.self.invariant
+    (ap (λ (x : BookView). next_row x.state.cursor x.state.rows) c.self.view_is ∙ c.requires.next) c.requires.alone (sym c.in-Some.ensures)
+
+-- both rows are the items of a new dup
+merged : (c : In_ok-pair) → state_of c.pair.new.self c.self.inside.cursor c.self.inside.passes ≡ paired (partner c.self.inside.layout.knobs c.self.inside.layout.rows c.args.row) (state_of c.self.inside.layout c.self.inside.cursor c.self.inside.passes) c.args.row
+merged c =
+    let s = c.self.inside in
+    let b = state_of s.layout s.cursor s.passes in
+    let other = c.in-Some.other in
+    let place = c.in-Some-new_place.place in
+    let row = c.args.row in
+    let next = ap (λ (x : BookView). next_row x.state.cursor x.state.rows) c.self.view_is ∙ c.requires.next in
+    let waits = sym c.in-Some.ensures in
+    let after = founded s.layout place other in
+    let step = c.in_ok-pair.ensures.state in
+    let rows = both_joined s.layout s.cursor s.passes row other place c.self.invariant next c.requires.alone waits after.rows c.pair.new.self.rows refl (ap (λ (x : Lay). x.rows) step) in
+    let dup = same_dup s.layout s.cursor s.passes row other place c.self.invariant next c.requires.alone waits in
+    let there : state_of c.pair.new.self s.cursor s.passes ≡ made_dup (Some place) b other row = λ t. record {
+      shape = ap (λ (x : Lay). x.shape) step t;
+      rows = rows t;
+      dups = (ap (λ (x : Lay). x.dups) step ∙ ap (λ d. with_dup d s.layout.dups) dup) t;
+      knobs = ap (λ (x : Lay). x.knobs) step t;
+      cursor = s.cursor;
+      passes = s.passes;
+      next = ap (λ (x : Lay). x.next) step t;
+    } in
+    there ∙ ap (λ p. made_dup p b other row) c.in-Some-new_place.ensures ∙ ap (λ o. paired o b row) c.in-Some.ensures
+
+pub returns-clause-ok : goal.returns-clause-ok
+returns-clause-ok c = merged c ∙ ap (λ (x : BookView). paired (partner x.state.knobs x.state.rows c.args.row) x.state c.args.row) c.self.view_is
+
+pub invariant_of-self-2 : goal.invariant_of-self-2
+invariant_of-self-2 c =
+    let s = c.self.inside in
+    let b = state_of s.layout s.cursor s.passes in
+    let next = ap (λ (x : BookView). next_row x.state.cursor x.state.rows) c.self.view_is ∙ c.requires.next in
+    subst IsSound (sym (merged c)) (sound_paired b c.args.row (next_row_visited b c.args.row c.self.invariant next) c.self.invariant (partner b.knobs b.rows c.args.row) refl)

@@ -4,38 +4,44 @@ use Rattle.ksm_base.specs.declared.row.PageState.TheVariants.{Private, Merged}
 use Rattle.ksm_base.specs.Rows.{change_row, merged_into}
 use Rattle.ksm_base.specs.Sound.{IsSound}
 use Rattle.ksm_base.specs.State.{BookState}
-use Rattle.ksm_base.specs.Visit.{next_row, row_visited}
+use Rattle.ksm_base.specs.Visit.{is_best, next_row, row_visited}
 use Rattle.ksm_base.proofs.Edits.{find_passes}
 use Rattle.ksm_base.proofs.SoundScan.{next_row_visited, sound_row_visited}
 use Rattle.ksm_book.specs.Laid.{Lay, LodgesAs, state_of}
 use Rattle.ksm_book.specs.Whole.{BookView}
-use Rattle.ksm_book.proofs.Found.{change_known, found_as}
+use Rattle.ksm_book.proofs.Found.{change_known, dup_known, found_as}
 use Rattle.ksm_book.proofs.Visiting.{visited_at, best_has_item, best_joins, state_of_item, visited_by, marked_by}
 use Rattle.ksm_book.proofs.state.State.visit_row.Goals as goal
+use Rattle.ksm_book.proofs.state.State.visit_row.Goals.{In_ok-join}
+
+pub item-requires : goal.item-requires
+item-requires c =
+    let l = c.self.inside.layout in
+    dup_known (is_best l.knobs l.rows l.dups c.args.row) l.dups c.in-Some.dup (sym c.in-Some.ensures)
 
 pub join-requires-clause-joins : goal.join-requires-clause-joins
 join-requires-clause-joins c =
     let s = c.self.inside in
     best_joins s.layout s.cursor s.passes c.args.row c.in-Some-item.item c.in-Some.dup c.self.invariant (ap (λ (x : BookView). next_row x.state.cursor x.state.rows) c.self.view_is ∙ c.requires.next)
-    (sym c.if-is_merged.ensures) (sym c.in-Some.ensures) (ap (find (λ r. merged_into c.in-Some.dup.number r.state)) (sym c.rows.ensures) ∙ sym c.in-Some-item.ensures)
+    (sym c.if-is_merged.ensures) (sym c.in-Some.ensures) (sym c.in-Some-item.ensures)
 
 -- the page is an item of the dup
-there : (c : goal.After-join) → state_of c.join.new.self c.self.inside.cursor c.self.inside.passes ≡ row_visited (state_of c.self.inside.layout c.self.inside.cursor c.self.inside.passes) c.args.row
+there : (c : In_ok-join) → state_of c.join.new.self c.self.inside.cursor c.self.inside.passes ≡ row_visited (state_of c.self.inside.layout c.self.inside.cursor c.self.inside.passes) c.args.row
 there c =
     let s = c.self.inside in
     let b : BookState = state_of s.layout s.cursor s.passes in
     let row = c.args.row in
     let dup = c.in-Some.dup in
     let found = visited_at b row c.self.invariant (ap (λ (x : BookView). next_row x.state.cursor x.state.rows) c.self.view_is ∙ c.requires.next) in
-    let item = ap (find (λ r. merged_into dup.number r.state)) (sym c.rows.ensures) ∙ sym c.in-Some-item.ensures in
+    let item = sym c.in-Some-item.ensures in
     let state = state_of_item dup.number c.in-Some-item.item.state (find_passes (λ r. merged_into dup.number r.state) s.layout.rows c.in-Some-item.item item) in
-    ap (λ (x : Lay). state_of x s.cursor s.passes) c.join.ensures.state
+    ap (λ (x : Lay). state_of x s.cursor s.passes) c.in_ok-join.ensures.state
     ∙ ap (λ st. record b { rows = change_row row.page (λ _. record row { state = st }) s.layout.rows }) state
     ∙ ap (λ rows. record b { rows = rows }) (change_known row.page (λ r. record r { state = Merged dup.number }) s.layout.rows row c.self.invariant.rows_rise found)
     ∙ sym (visited_by b row (Some dup) (sym c.if-is_merged.ensures) (sym c.in-Some.ensures))
 
-pub returns-in-Some-item-clause-ok : goal.returns-in-Some-item-clause-ok
-returns-in-Some-item-clause-ok c = there c ∙ ap (λ (x : BookView). row_visited x.state c.args.row) c.self.view_is
+pub returns-in_ok-join-clause-ok : goal.returns-in_ok-join-clause-ok
+returns-in_ok-join-clause-ok c = there c ∙ ap (λ (x : BookView). row_visited x.state c.args.row) c.self.view_is
 
 pub invariant_of-self : goal.invariant_of-self
 invariant_of-self c =
@@ -47,10 +53,10 @@ invariant_of-self c =
 pub returns-in_default-item-clause-ok : goal.returns-in_default-item-clause-ok
 returns-in_default-item-clause-ok c =
     let s = c.self.inside in
-    absurd (best_has_item (state_of s.layout s.cursor s.passes) c.args.row c.in-Some.dup (sym c.in-Some.ensures) (ap (find (λ r. merged_into c.in-Some.dup.number r.state)) (sym c.rows.ensures) ∙ sym c.in_default-item.ensures))
+    absurd (best_has_item (state_of s.layout s.cursor s.passes) c.args.row c.in-Some.dup (sym c.in-Some.ensures) (sym c.in_default-item.ensures))
 
-pub amend-requires : goal.amend-requires
-amend-requires c =
+pub amend-requires-clause-known : goal.amend-requires-clause-known
+amend-requires-clause-known c =
     let s = c.self.inside in
     let row = c.args.row in
     let found = visited_at (state_of s.layout s.cursor s.passes) row c.self.invariant (ap (λ (x : BookView). next_row x.state.cursor x.state.rows) c.self.view_is ∙ c.requires.next) in
