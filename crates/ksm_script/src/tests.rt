@@ -1,4 +1,6 @@
 //! Runs over memory, by worked scripts.
+mod selftests;
+
 use super::*;
 use ksm_base::{Fault, Shape};
 use std::alloc::Global;
