@@ -1,4 +1,4 @@
-ghost use Rattle.std.specs.Prelude.{◌≡◌, ◌+◌, ◌<◌, ◌≤◌, All, IsTrue, IsSomeAnd, Some, length};
+ghost use Rattle.std.specs.Prelude.{◌≡◌, ◌+◌, ◌<◌, ◌≤◌, All, IsTrue, IsSomeAnd, Some, length, vec_len, vec_capacity};
 ghost use Rattle.std.specs.Thread.{IsSync};
 ghost use Rattle.ksm_base.specs.Values.{IsShape, frames_of};
 ghost use Rattle.frame_core.specs.declared.event.KeeperStep.TheVariants.{Raise};
@@ -449,6 +449,31 @@ struct Outcome {
     place: u64,
 }
 
+// Takes the passes back. Answers how many of them had no hold, and in how many holds a word was of another life.
+fn take_back(table: &FrameTable, mut workers: Vec<Worker>, passes: &mut Vec<Pass>) -> (u64, u64)
+    requires workers { All (λ w. IsSomeAnd w.pass (λ p. p.table ≡ table.now)) workers.items }
+    requires passes { All (λ p. p.table ≡ table.now) passes.old.items }
+    requires room { vec_len passes.old + vec_len workers ≤ vec_capacity passes.old }
+    ensures passes { All (λ p. p.table ≡ table.now) passes.new.items }
+    ensures all { vec_len passes.new ≡ vec_len passes.old + vec_len workers }
+{
+    let mut idle = 0u64;
+    let mut wrong = 0u64;
+    while let Some(worker) = workers.pop() {
+        let Worker {
+            pass,
+            holds,
+            wrong: seen,
+        } = worker;
+        let Some(pass) = pass else { unreachable!() };
+        idle = idle.wrapping_add(u64::from(holds == 0));
+        wrong = wrong.wrapping_add(seen);
+        passes.push_reserved(pass);
+    }
+    workers.destroy_empty();
+    (idle, wrong)
+}
+
 // Sixteen passes look one place up while the keeper spends the lives of its frame.
 fn crowd<R: Threads + Sync>(rt: &R, alloc: Global, shape: Shape) -> Result<Outcome, Fault>
     requires shape { IsShape shape × (frames_of shape ≡ 1) × (shape.passes ≡ 16) }
@@ -469,20 +494,7 @@ fn crowd<R: Threads + Sync>(rt: &R, alloc: Global, shape: Shape) -> Result<Outco
         });
     }
     let spent = run_all(rt, &table, &mut keeper, workers.as_mut_slice());
-    let mut idle = 0u64;
-    let mut wrong = 0u64;
-    while let Some(worker) = workers.pop() {
-        let Worker {
-            pass,
-            holds,
-            wrong: seen,
-        } = worker;
-        let Some(pass) = pass else { unreachable!() };
-        idle = idle.wrapping_add(u64::from(holds == 0));
-        wrong = wrong.wrapping_add(seen);
-        passes.push_reserved(pass);
-    }
-    workers.destroy_empty();
+    let (idle, wrong) = take_back(&table, workers, &mut passes);
     let base = keeper.base(0);
     let closed = table.close(keeper, passes);
     Ok(Outcome {

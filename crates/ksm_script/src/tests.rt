@@ -1,8 +1,11 @@
 //! Runs over memory, by worked scripts.
+mod selftests;
+
 use super::*;
 use ksm_base::{Fault, Shape};
 use std::alloc::Global;
 use std::io::{self, Read, Write};
+use std::process::Abort;
 use std::test::Fail;
 
 /// A script, the sizes of its table, what it writes and how it ends.
@@ -16,6 +19,17 @@ struct Row<'a> {
     output: &'a [u8],
     end: End,
 }
+
+/// One node of four frames, which live long.
+const ROW: Row = Row {
+    name: "",
+    nodes: 1,
+    frames: 4,
+    last_generation: 1 << 40,
+    input: b"",
+    output: b"",
+    end: End::AllRead,
+};
 
 /// A session of these sizes.
 fn open(alloc: Global, nodes: u32, frames: u32, last_generation: u64) -> Result<Session, Fault> {
@@ -44,62 +58,53 @@ impl Row<'_> {
     }
 }
 
+/// Each script writes what its row says, and ends so.
+fn play_all(rt: &impl Abort, alloc: Global, rows: &[Row]) -> Result<(), Fail> {
+    for row in rows.iter() {
+        let (written, outcome) = row.play(alloc)?;
+        assert_eq!(rt; outcome, Ok(row.end), "{}", row.name);
+        assert_eq!(rt; written.as_slice(), row.output, "{}", row.name);
+    }
+    Ok(())
+}
+
 /// Register, store, read and count.
 #[test]
 fn first_rows(rt: HostRuntime) -> Result<(), Fail> {
     let rows = [
         Row {
             name: "first_run",
-            nodes: 1,
-            frames: 4,
-            last_generation: 1 << 40,
             input: b"reg 0 0 0 aa\nput 0 0 bb\nget 0 0\nstat\n",
             output: b"ok\nok\nbbbbbbbbbbbbbbbbbbbbbbbbbbbbbbbb\nstat shared=0 sharing=0 unshared=0 volatile=1 chains=0 dups=0 full_scans=0\n",
-            end: End::AllRead,
+            ..ROW
         },
         Row {
             name: "empty_input",
-            nodes: 1,
-            frames: 4,
-            last_generation: 1 << 40,
             input: b"",
             output: b"",
-            end: End::AllRead,
+            ..ROW
         },
         Row {
             name: "counters_at_opening",
-            nodes: 1,
-            frames: 4,
-            last_generation: 1 << 40,
             input: b"stat\n",
             output: b"stat shared=0 sharing=0 unshared=0 volatile=0 chains=0 dups=0 full_scans=0\n",
-            end: End::AllRead,
+            ..ROW
         },
         Row {
             name: "bad_line_without_newline",
-            nodes: 1,
-            frames: 4,
-            last_generation: 1 << 40,
             input: b"reg 0 0 0 aa\nput 0 0 b",
             output: b"ok\nbad line 2\n",
             end: End::BadLine(2),
+            ..ROW
         },
         Row {
             name: "byte_order_of_sixteen",
-            nodes: 1,
-            frames: 4,
-            last_generation: 1 << 40,
             input: b"reg 0 0 0 000102030405060708090a0b0c0d0e0f\nget 0 0\n",
             output: b"ok\n000102030405060708090a0b0c0d0e0f\n",
-            end: End::AllRead,
+            ..ROW
         },
     ];
-    for row in rows.iter() {
-        let (written, outcome) = row.play(rt.alloc())?;
-        assert_eq!(rt; outcome, Ok(row.end), "{}", row.name);
-        assert_eq!(rt; written.as_slice(), row.output, "{}", row.name);
-    }
-    Ok(())
+    play_all(&rt, rt.alloc(), &rows)
 }
 
 /// Scans merge equal pages.
@@ -108,56 +113,39 @@ fn merging_rows(rt: HostRuntime) -> Result<(), Fail> {
     let rows = [
         Row {
             name: "one_pass_merges_nothing",
-            nodes: 1,
-            frames: 4,
-            last_generation: 1 << 40,
             input: b"reg 0 0 0 aa\nreg 0 1 0 aa\nset run 1\nscan 2\nstat\n",
             output: b"ok\nok\nok\nscanned 2\nstat shared=0 sharing=0 unshared=0 volatile=2 chains=0 dups=0 full_scans=1\n",
-            end: End::AllRead,
+            ..ROW
         },
         Row {
             name: "two_equal_pages_merge",
-            nodes: 1,
-            frames: 4,
-            last_generation: 1 << 40,
             input: b"reg 0 0 0 aa\nreg 0 1 0 aa\nset run 1\nscan 2\nstat\nscan 2\nstat\nget 0 1\n",
             output: b"ok\nok\nok\nscanned 2\nstat shared=0 sharing=0 unshared=0 volatile=2 chains=0 dups=0 full_scans=1\nscanned 2\nstat shared=1 sharing=1 unshared=0 volatile=0 chains=0 dups=0 full_scans=2\naaaaaaaaaaaaaaaaaaaaaaaaaaaaaaaa\n",
-            end: End::AllRead,
+            ..ROW
         },
         Row {
             name: "equal_store_still_copies",
-            nodes: 1,
-            frames: 4,
-            last_generation: 1 << 40,
             input: b"reg 0 0 0 aa\nreg 0 1 0 aa\nset run 1\nscan 4\nput 0 0 aa\nput 0 1 aa\nstat\nscan 2\nstat\nticket 0 0\n",
             output: b"ok\nok\nok\nscanned 4\nok\nok\nstat shared=0 sharing=0 unshared=0 volatile=2 chains=0 dups=0 full_scans=2\nscanned 2\nstat shared=1 sharing=1 unshared=0 volatile=0 chains=1 dups=2 full_scans=3\nplace 1\n",
-            end: End::AllRead,
+            ..ROW
         },
         Row {
             name: "frame_retires",
-            nodes: 1,
             frames: 1,
             last_generation: 2,
             input: b"reg 0 0 0 aa\ndrop 0 0\nreg 0 0 0 aa\ndrop 0 0\nreg 0 0 0 aa\n",
             output: b"ok\nok\nok\nok\nrefused 4\n",
-            end: End::AllRead,
+            ..ROW
         },
         Row {
             name: "stale_dup_makes_room",
-            nodes: 1,
             frames: 3,
-            last_generation: 1 << 40,
             input: b"reg 0 0 0 aa\nreg 0 1 0 aa\nset run 1\nscan 4\nput 0 0 a1\nput 0 1 a1\nscan 4\nput 0 0 a2\nput 0 1 a2\nscan 4\nput 0 0 a3\nput 0 1 a3\nscan 4\nstat\n",
             output: b"ok\nok\nok\nscanned 4\nok\nok\nscanned 4\nok\nok\nscanned 4\nok\nok\nscanned 4\nstat shared=1 sharing=1 unshared=0 volatile=0 chains=0 dups=0 full_scans=8\n",
-            end: End::AllRead,
+            ..ROW
         },
     ];
-    for row in rows.iter() {
-        let (written, outcome) = row.play(rt.alloc())?;
-        assert_eq!(rt; outcome, Ok(row.end), "{}", row.name);
-        assert_eq!(rt; written.as_slice(), row.output, "{}", row.name);
-    }
-    Ok(())
+    play_all(&rt, rt.alloc(), &rows)
 }
 
 /// The limit, chains and the reverse map.
@@ -166,50 +154,35 @@ fn chain_rows(rt: HostRuntime) -> Result<(), Fail> {
     let rows = [
         Row {
             name: "limit_boundary",
-            nodes: 1,
-            frames: 4,
-            last_generation: 1 << 40,
             input: b"set max_page_sharing 2\nreg 0 0 0 aa\nreg 0 1 0 aa\nreg 0 2 0 aa\nreg 0 3 0 aa\nset run 1\nscan 8\nstat\n",
             output: b"ok\nok\nok\nok\nok\nok\nscanned 8\nstat shared=2 sharing=2 unshared=0 volatile=0 chains=1 dups=2 full_scans=2\n",
-            end: End::AllRead,
+            ..ROW
         },
         Row {
             name: "fifth_page_waits",
-            nodes: 1,
             frames: 8,
-            last_generation: 1 << 40,
             input: b"set max_page_sharing 2\nreg 0 0 0 aa\nreg 0 1 0 aa\nreg 0 2 0 aa\nreg 0 3 0 aa\nreg 0 4 0 aa\nset run 1\nscan 10\nstat\n",
             output: b"ok\nok\nok\nok\nok\nok\nok\nscanned 10\nstat shared=2 sharing=2 unshared=1 volatile=0 chains=1 dups=2 full_scans=2\n",
-            end: End::AllRead,
+            ..ROW
         },
         Row {
             name: "chain_after_two_writes",
-            nodes: 1,
-            frames: 4,
-            last_generation: 1 << 40,
             input: b"set max_page_sharing 2\nreg 0 0 0 aa\nreg 0 1 0 aa\nreg 0 2 0 aa\nreg 0 3 0 aa\nset run 1\nscan 8\nstat\nput 0 0 bb\nput 0 1 cc\nstat\nprune\nstat\n",
             output: b"ok\nok\nok\nok\nok\nok\nscanned 8\nstat shared=2 sharing=2 unshared=0 volatile=0 chains=1 dups=2 full_scans=2\nok\nok\nstat shared=1 sharing=1 unshared=0 volatile=2 chains=1 dups=2 full_scans=2\npruned 1\nstat shared=1 sharing=1 unshared=0 volatile=2 chains=0 dups=0 full_scans=2\n",
-            end: End::AllRead,
+            ..ROW
         },
         Row {
             name: "fullest_dup_is_joined",
-            nodes: 1,
             frames: 8,
-            last_generation: 1 << 40,
             input: b"set max_page_sharing 3\nreg 0 0 0 aa\nreg 0 1 0 aa\nreg 0 2 0 aa\nreg 0 3 0 aa\nreg 0 4 0 aa\nreg 0 5 0 aa\nset run 1\nscan 12\ndrop 0 0\ndrop 0 1\ndrop 0 3\nreg 0 9 0 aa\nscan 4\nticket 0 9\nstat\nrmap 0\nrmap 1\nrmap 2\n",
             output: b"ok\nok\nok\nok\nok\nok\nok\nok\nscanned 12\nok\nok\nok\nok\nscanned 4\nplace 1\nstat shared=2 sharing=2 unshared=0 volatile=0 chains=1 dups=2 full_scans=3\nrmap 0:2\nrmap 0:4 0:5 0:9\nrefused 10\n",
-            end: End::AllRead,
+            ..ROW
         },
     ];
-    for row in rows.iter() {
-        let (written, outcome) = row.play(rt.alloc())?;
-        assert_eq!(rt; outcome, Ok(row.end), "{}", row.name);
-        assert_eq!(rt; written.as_slice(), row.output, "{}", row.name);
-    }
-    Ok(())
+    play_all(&rt, rt.alloc(), &rows)
 }
 
-/// Knobs, trees by node, unmerging.
+/// Knobs, and trees by node.
 #[test]
 fn knob_rows(rt: HostRuntime) -> Result<(), Fail> {
     let rows = [
@@ -217,63 +190,51 @@ fn knob_rows(rt: HostRuntime) -> Result<(), Fail> {
             name: "nodes_kept_apart",
             nodes: 2,
             frames: 2,
-            last_generation: 1 << 40,
             input: b"set merge_across_nodes 0\nreg 0 0 0 aa\nreg 1 0 1 aa\nset run 1\nscan 4\nstat\n",
             output: b"ok\nok\nok\nok\nscanned 4\nstat shared=0 sharing=0 unshared=2 volatile=0 chains=0 dups=0 full_scans=2\n",
-            end: End::AllRead,
+            ..ROW
         },
         Row {
             name: "knob_waits_for_unmerging",
-            nodes: 1,
-            frames: 4,
-            last_generation: 1 << 40,
             input: b"reg 0 0 0 aa\nreg 0 1 0 aa\nset run 1\nscan 4\nset merge_across_nodes 0\nset run 2\nset merge_across_nodes 0\nshow merge_across_nodes\nstat\n",
             output: b"ok\nok\nok\nscanned 4\nrefused 6\nunmerged 2\nok\n0\nstat shared=0 sharing=0 unshared=0 volatile=2 chains=0 dups=0 full_scans=2\n",
-            end: End::AllRead,
-        },
-        Row {
-            name: "unmerging_runs_out_of_frames",
-            nodes: 1,
-            frames: 3,
-            last_generation: 1 << 40,
-            input: b"reg 0 0 0 aa\nreg 0 1 0 aa\nreg 0 2 0 aa\nset run 1\nscan 6\nreg 0 3 0 bb\nunmerge 0\nstat\nset run 2\nshow run\n",
-            output: b"ok\nok\nok\nok\nscanned 6\nok\nunmerged 1 refused 4\nstat shared=1 sharing=1 unshared=0 volatile=1 chains=0 dups=0 full_scans=2\nunmerged 0 refused 4\n0\n",
-            end: End::AllRead,
+            ..ROW
         },
         Row {
             name: "refusals_of_commands",
-            nodes: 1,
-            frames: 4,
-            last_generation: 1 << 40,
             input: b"set max_page_sharing 1\nscan 1\nput 5 5 aa\nreg 0 0 1 aa\nreg 0 0 0 aa\nreg 0 0 0 bb\n",
             output: b"refused 7\nrefused 5\nrefused 2\nrefused 11\nok\nrefused 3\n",
-            end: End::AllRead,
-        },
-        Row {
-            name: "mergeable_again",
-            nodes: 1,
-            frames: 4,
-            last_generation: 1 << 40,
-            input: b"reg 0 0 0 aa\nreg 0 1 0 aa\nset run 1\nscan 4\nunmerge 0\nscan 2\nmergeable 0\nscan 4\nstat\nmergeable 7\nunmerge 7\n",
-            output: b"ok\nok\nok\nscanned 4\nunmerged 2\nscanned 0\nok\nscanned 4\nstat shared=1 sharing=1 unshared=0 volatile=0 chains=1 dups=2 full_scans=4\nrefused 2\nrefused 2\n",
-            end: End::AllRead,
+            ..ROW
         },
         Row {
             name: "scan_of_pages_to_scan",
-            nodes: 1,
-            frames: 4,
-            last_generation: 1 << 40,
             input: b"reg 0 0 0 aa\nreg 0 1 0 aa\nset run 1\nscan 4\nset pages_to_scan 0\nset pages_to_scan 3\nscan\nshow pages_to_scan\nstat\n",
             output: b"ok\nok\nok\nscanned 4\nrefused 7\nok\nscanned 3\n3\nstat shared=1 sharing=1 unshared=0 volatile=0 chains=0 dups=0 full_scans=3\n",
-            end: End::AllRead,
+            ..ROW
         },
     ];
-    for row in rows.iter() {
-        let (written, outcome) = row.play(rt.alloc())?;
-        assert_eq!(rt; outcome, Ok(row.end), "{}", row.name);
-        assert_eq!(rt; written.as_slice(), row.output, "{}", row.name);
-    }
-    Ok(())
+    play_all(&rt, rt.alloc(), &rows)
+}
+
+/// Pages are unmerged, and are mergeable again.
+#[test]
+fn unmerging_rows(rt: HostRuntime) -> Result<(), Fail> {
+    let rows = [
+        Row {
+            name: "unmerging_runs_out_of_frames",
+            frames: 3,
+            input: b"reg 0 0 0 aa\nreg 0 1 0 aa\nreg 0 2 0 aa\nset run 1\nscan 6\nreg 0 3 0 bb\nunmerge 0\nstat\nset run 2\nshow run\n",
+            output: b"ok\nok\nok\nok\nscanned 6\nok\nunmerged 1 refused 4\nstat shared=1 sharing=1 unshared=0 volatile=1 chains=0 dups=0 full_scans=2\nunmerged 0 refused 4\n0\n",
+            ..ROW
+        },
+        Row {
+            name: "mergeable_again",
+            input: b"reg 0 0 0 aa\nreg 0 1 0 aa\nset run 1\nscan 4\nunmerge 0\nscan 2\nmergeable 0\nscan 4\nstat\nmergeable 7\nunmerge 7\n",
+            output: b"ok\nok\nok\nscanned 4\nunmerged 2\nscanned 0\nok\nscanned 4\nstat shared=1 sharing=1 unshared=0 volatile=0 chains=1 dups=2 full_scans=4\nrefused 2\nrefused 2\n",
+            ..ROW
+        },
+    ];
+    play_all(&rt, rt.alloc(), &rows)
 }
 
 /// Pages and dups move.
@@ -283,85 +244,77 @@ fn moving_rows(rt: HostRuntime) -> Result<(), Fail> {
         Row {
             name: "moved_page_leaves_its_dup",
             nodes: 2,
-            frames: 4,
-            last_generation: 1 << 40,
             input: b"reg 0 0 0 aa\nreg 0 1 0 aa\nset run 1\nscan 4\nmove 0 0 1\nticket 0 0\nticket 0 1\nstat\nget 0 0\n",
             output: b"ok\nok\nok\nscanned 4\nok\nprivate\nplace 0\nstat shared=1 sharing=0 unshared=0 volatile=1 chains=0 dups=0 full_scans=2\naaaaaaaaaaaaaaaaaaaaaaaaaaaaaaaa\n",
-            end: End::AllRead,
+            ..ROW
         },
         Row {
             name: "dup_moves_within_its_node",
             nodes: 2,
-            frames: 4,
-            last_generation: 1 << 40,
             input: b"set merge_across_nodes 0\nreg 0 0 0 aa\nreg 0 1 0 aa\nset run 1\nscan 4\nmovedup 0 1\nmovedup 0 0\nget 0 0\nmovedup 3 0\nmovedup 0 9\n",
             output: b"ok\nok\nok\nok\nscanned 4\nrefused 9\nok\naaaaaaaaaaaaaaaaaaaaaaaaaaaaaaaa\nrefused 10\nrefused 11\n",
-            end: End::AllRead,
+            ..ROW
         },
         Row {
             name: "no_frame_everywhere",
             nodes: 2,
             frames: 2,
-            last_generation: 1 << 40,
             input: b"reg 0 0 0 aa\nreg 0 1 0 aa\nset run 1\nscan 4\nreg 0 2 0 bb\nput 0 0 cc\nreg 0 3 0 dd\nmovedup 0 0\nunmerge 0\nreg 1 0 1 ee\nreg 1 1 1 ee\nmove 0 2 1\nset run 2\nstat\nscan 1\nget 0 0\n",
             output: b"ok\nok\nok\nscanned 4\nok\nrefused 4\nrefused 4\nrefused 4\nunmerged 0 refused 4\nok\nok\nrefused 4\nunmerged 0 refused 4\nstat shared=1 sharing=1 unshared=0 volatile=3 chains=0 dups=0 full_scans=2\nrefused 5\naaaaaaaaaaaaaaaaaaaaaaaaaaaaaaaa\n",
-            end: End::AllRead,
+            ..ROW
         },
     ];
-    for row in rows.iter() {
-        let (written, outcome) = row.play(rt.alloc())?;
-        assert_eq!(rt; outcome, Ok(row.end), "{}", row.name);
-        assert_eq!(rt; written.as_slice(), row.output, "{}", row.name);
-    }
-    Ok(())
+    play_all(&rt, rt.alloc(), &rows)
 }
 
-/// Each of these lines is bad, and no reply comes before.
+/// None of these is a line of the language.
+const BAD_LINES: [&[u8]; 40] = [
+    b"reg 0 0 0",
+    b"reg 00 0 0 aa",
+    b"reg 0 01 0 aa",
+    b"reg 65536 0 0 aa",
+    b"reg 0 4294967296 0 aa",
+    b"reg 0 0 4294967296 aa",
+    b"reg 0 0 0 aaa",
+    b"reg 0 0 0 a",
+    b"reg 0 0 0 ag",
+    b"reg 0 0 0 0x",
+    b"reg 0 0 0 000102030405060708090a0b0c0d0e0",
+    b"reg 0 0 0 000102030405060708090a0b0c0d0e0f0",
+    b"reg 0 0 0 aa aa",
+    b"reg 0 0 aa",
+    b"reg\t0 0 0 aa",
+    b"reg 0 0 0\taa",
+    b" stat",
+    b"stat ",
+    b"get  0 0",
+    b"get 0 0 ",
+    b"get 0 +0",
+    b"get 0 -1",
+    b"get 0 0x1",
+    b"get 0",
+    b"get 0 0 0",
+    b"STAT",
+    b"stat\r",
+    b"stats",
+    b"sta",
+    b" ",
+    b"put 0 0",
+    b"put 0 b",
+    b"scan -1",
+    b"scan 1 2",
+    b"scan 01",
+    b"set foo 1",
+    b"set run",
+    b"set run 1 1",
+    b"show",
+    b"show run 1",
+];
+
+/// Each of the bad lines is bad, and no reply comes before.
 #[test]
 fn every_bad_line(rt: HostRuntime) -> Result<(), Fail> {
-    let lines: [&[u8]; 40] = [
-        b"reg 0 0 0",
-        b"reg 00 0 0 aa",
-        b"reg 0 01 0 aa",
-        b"reg 65536 0 0 aa",
-        b"reg 0 4294967296 0 aa",
-        b"reg 0 0 4294967296 aa",
-        b"reg 0 0 0 aaa",
-        b"reg 0 0 0 a",
-        b"reg 0 0 0 ag",
-        b"reg 0 0 0 0x",
-        b"reg 0 0 0 000102030405060708090a0b0c0d0e0",
-        b"reg 0 0 0 000102030405060708090a0b0c0d0e0f0",
-        b"reg 0 0 0 aa aa",
-        b"reg 0 0 aa",
-        b"reg\t0 0 0 aa",
-        b"reg 0 0 0\taa",
-        b" stat",
-        b"stat ",
-        b"get  0 0",
-        b"get 0 0 ",
-        b"get 0 +0",
-        b"get 0 -1",
-        b"get 0 0x1",
-        b"get 0",
-        b"get 0 0 0",
-        b"STAT",
-        b"stat\r",
-        b"stats",
-        b"sta",
-        b" ",
-        b"put 0 0",
-        b"put 0 b",
-        b"scan -1",
-        b"scan 1 2",
-        b"scan 01",
-        b"set foo 1",
-        b"set run",
-        b"set run 1 1",
-        b"show",
-        b"show run 1",
-    ];
-    for line in lines {
+    for line in BAD_LINES {
         assert_eq!(rt; read_line(line), Err(LineFault::Bad), "{line:?}");
         let mut session = open(rt.alloc(), 1, 4, 1 << 40)?;
         let mut reader = line;
