@@ -21,3 +21,4 @@ pub mod Remounts
 pub mod Lawfulness
 pub mod DupMoves
 pub mod Linking
+pub mod Partners
