@@ -1,4 +1,4 @@
--- The rows with their frames beside the dups with their items, each told of the other's changes (own).
+-- The rows with their frames beside the dups with their items and the waiting pages, each told of the others' changes (own).
 use Rattle.std.specs.Prelude.{◌≡◌, ℕ, ◌+◌, ◌<◌, ◌≤◌, ◌^◌, false, List, Contains, All, Some, slice_set}
 use Rattle.ksm_base.specs.declared.page.GuestPage.{GuestPage}
 use Rattle.ksm_base.specs.declared.row.PageState.TheVariants.{Merged}
@@ -11,6 +11,7 @@ use Rattle.ksm_base.specs.Rows.{InPageOrder, same_page, row_at, change_row, merg
 use Rattle.ksm_base.specs.State.{tree_of}
 use Rattle.ksm_tree.specs.Bridge.{AreTied}
 use Rattle.ksm_tree.specs.Dups.{DupsState}
+use Rattle.ksm_tree.specs.Waits.{AreWaiting, WaitingPage}
 use Rattle.ksm_book.specs.Listed.{Listed, rank}
 
 -- what is seen of the pages: the rows with their frames, the dups, the number of the next one, and the knobs
@@ -27,6 +28,11 @@ pub record AreLinked (shape : Shape) (rows : List Row) (dups : DupsState) : Type
   pub order : InPageOrder rows
   pub tied : AreTied rows dups.dups
   pub places : dups.places ≡ frames_of shape
+
+-- rows and dups are linked, and the waiting pages are those of the rows that wait
+pub record AreKept (shape : Shape) (knobs : Knobs) (rows : List Row) (dups : DupsState) (waiting : List WaitingPage) : Type 0 where
+  pub linked : AreLinked shape rows dups
+  pub waits : AreWaiting knobs rows waiting
 
 -- a dup of this number has room for one item more
 abbrev pub HasRoom : List Row → List DupRow → ℕ → Type 0

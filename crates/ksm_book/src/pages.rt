@@ -1,9 +1,9 @@
-//! The pages: the rows with their frames, and the dups into which rows are merged, each told of the others' changes.
+//! The pages: the rows with their frames, the dups into which rows are merged, and the pages that wait, each told of the others' changes.
 
 ghost use Rattle.std.specs.Prelude.{◌≡◌, ◌⊎◌, ◌+◌, ◌≤◌, [], true, false, None, Some, Err, All, count_by, filter, find, length, map, insert, remove, slice_set, is_some, ◌==◌, ◌&&◌, option_map, IfOk, IfErr, IfSome, OnOk, OnErr, MatchOption};
 ghost use Rattle.std.specs.List.{list_any};
 ghost use Rattle.ksm_base.specs.declared.fault.Fault.TheVariants.{Memory};
-ghost use Rattle.ksm_base.specs.declared.row.PageState.TheVariants.{Private, Waiting, Merged};
+ghost use Rattle.ksm_base.specs.declared.row.PageState.TheVariants.{Private, Merged};
 ghost use Rattle.ksm_base.specs.Apply.{is_before, let_go as as_let_go, unshared as as_unshared};
 ghost use Rattle.ksm_base.specs.Counting.{in_chain, leads_group, shared_count};
 ghost use Rattle.ksm_base.specs.Reading.{items_of};
@@ -13,28 +13,30 @@ ghost use Rattle.ksm_base.specs.State.{default_knobs, place_count};
 ghost use Rattle.ksm_base.specs.Values.{IsShape};
 ghost use Rattle.ksm_base.specs.Visit.{best_dup, partner as row_waiting, new_place as a_new_place};
 ghost use Rattle.ksm_tree.specs.Bridge.{let_out};
+ghost use Rattle.ksm_tree.specs.Waits.{IsStopped};
 ghost use Rattle.ksm_book.specs.Laid.{elsewhere};
 ghost use Rattle.ksm_book.specs.Linked.{HasRoom, IsVacant, MayPair, ReplacedBoth, item_of_next, next_dup};
 ghost use Rattle.ksm_book.specs.Listed.{rank, StandsAt, instead};
 
-use crate::row::{settled, tree_of};
+use crate::row::{is_waiting, same_page, tree_of};
 use crate::rows::{Held, Rows};
 use ksm_base::{DupRow, Fault, GuestPage, Knobs, PageState, Row, Shape};
-use ksm_tree::{Choice, Dups};
+use ksm_tree::{Choice, Dups, Waiting};
 use std::alloc::Global;
 use std::marker::Model;
 
-/// The rows with their frames, the dups with their items, and the knobs, which say what tree a row is in.
+/// The rows with their frames, the dups with their items, the pages that wait, and the knobs, which say what tree a row is in.
 #[derive(Drop)]
 pub struct Pages {
     shape: Shape,
     rows: Rows,
     dups: Dups,
+    waiting: Waiting,
     knobs: Knobs,
 }
 
 impl Model for Pages {
-    ghost use Rattle.ksm_book.specs.Linked.{PagesView, AreLinked};
+    ghost use Rattle.ksm_book.specs.Linked.{PagesView, AreKept};
     ghost use Rattle.ksm_tree.specs.Dups.{rows_of};
 
     ghost Value = { PagesView };
@@ -47,7 +49,26 @@ impl Model for Pages {
       next = p.dups.next;
     } };
 
-    ghost invariant = { λ p. AreLinked p.shape p.rows.rows p.dups };
+    ghost invariant = { λ p. AreKept p.shape p.knobs p.rows.rows p.dups p.waiting };
+}
+
+// The page of a row, if there is one.
+fn page_of(row: Option<Row>) -> Option<GuestPage>
+    ensures { result ≡ option_map (λ r. r.page) row }
+{
+    match row {
+        None => None,
+        Some(row) => Some(row.page),
+    }
+}
+
+// A row waits no more, if it did.
+fn stop_waiting(waiting: &mut Waiting, knobs: &Knobs, row: &Row)
+    ensures { IsStopped knobs.now row.now waiting.old waiting.new }
+{
+    if is_waiting(row.state) {
+        waiting.remove(tree_of(knobs, row), &row.bytes);
+    }
 }
 
 // A page leaves the dup of which its row's state says that it is an item.
@@ -70,6 +91,7 @@ impl Pages {
             shape,
             rows: Rows::new(alloc),
             dups: Dups::open(alloc, shape.frames())?,
+            waiting: Waiting::new(alloc),
             knobs: Knobs::DEFAULT,
         })
     }
@@ -123,7 +145,14 @@ impl Pages {
     pub fn partner(&self, row: &Row) -> Option<Row>
         ensures { result ≡ row_waiting self.now.knobs self.now.listed.rows row.now }
     {
-        self.rows.partner(&self.knobs, row)
+        let page = self.waiting.find(tree_of(&self.knobs, row), &row.bytes)?;
+        if same_page(page, row.page) {
+            return None;
+        }
+        match self.rows.find(page) {
+            None => None,
+            Some(held) => Some(held.row),
+        }
     }
 
     /// Where a new dup goes.
@@ -253,6 +282,7 @@ impl Pages {
         let Some(held) = self.rows.find(row.page) else {
             return;
         };
+        stop_waiting(&mut self.waiting, &self.knobs, &held.row);
         leave(&mut self.dups, held.row.state, row.page);
         self.rows.replace(row, frame);
     }
@@ -268,6 +298,7 @@ impl Pages {
         let Some(held) = self.rows.find(page) else {
             return;
         };
+        stop_waiting(&mut self.waiting, &self.knobs, &held.row);
         leave(&mut self.dups, held.row.state, page);
         self.rows.remove(page);
     }
@@ -277,13 +308,17 @@ impl Pages {
         requires row_is { row_at row.page self.old.listed.rows ≡ Some row }
         requires alone { merged_state row.state ≡ false }
         requires first { row_waiting self.old.knobs self.old.listed.rows row ≡ None }
-        ensures rows { OnOk result (self.new.listed.rows ≡ slice_set self.old.listed.rows (rank row.page self.old.listed.rows) (record row { state = Waiting })) }
+        ensures rows { OnOk result (self.new.listed.rows ≡ slice_set self.old.listed.rows (rank row.page self.old.listed.rows) (record row { state = PageState.Waiting })) }
         ensures frames { OnOk result (self.new.listed.frames ≡ slice_set self.old.listed.frames (rank row.page self.old.listed.rows) frame) }
-        ensures changed { OnOk result (self.new.listed.rows ≡ change_row row.page (λ _. record row { state = Waiting }) self.old.listed.rows) }
+        ensures changed { OnOk result (self.new.listed.rows ≡ change_row row.page (λ _. record row { state = PageState.Waiting }) self.old.listed.rows) }
         ensures rest { self.new ≡ record self.old { listed = self.new.listed } }
         ensures refused { OnErr result (self.new ≡ self.old) }
         ensures fault { OnErr result (result ≡ Err Memory) }
     {
+        if !is_waiting(row.state) {
+            let tree = tree_of(&self.knobs, &row);
+            self.waiting.add(tree, &row.bytes, row.page)?;
+        }
         let waiting = Row {
             state: PageState::Waiting,
             ..row
@@ -305,6 +340,7 @@ impl Pages {
         ensures fault { OnErr result (result ≡ Err Memory) }
     {
         self.dups.join(number, row.page)?;
+        stop_waiting(&mut self.waiting, &self.knobs, &row);
         let item = Row {
             state: PageState::Merged(number),
             ..row
@@ -326,6 +362,8 @@ impl Pages {
         let number = self
             .dups
             .new_dup(place, tree, &first.bytes, first.page, second.page)?;
+        stop_waiting(&mut self.waiting, &self.knobs, &first);
+        stop_waiting(&mut self.waiting, &self.knobs, &second);
         let state = PageState::Merged(number);
         self.rows.replace(Row { state, ..first }, frame);
         self.rows.replace(Row { state, ..second }, frame);
@@ -349,6 +387,7 @@ impl Pages {
         ensures rest { self.new ≡ record self.old { listed = self.new.listed } }
     {
         self.rows.settle_all();
+        self.waiting.clear();
     }
 
     /// All rows of a guest become mergeable.
@@ -368,6 +407,7 @@ impl Pages {
         ensures rest { self.new ≡ record self.old { listed = self.new.listed } }
     {
         self.rows.unshare_all();
+        self.waiting.clear();
     }
 
     /// The rows of a guest that come before a row, or all of them, are alone and out of the scan, where none of them is merged.
@@ -378,6 +418,7 @@ impl Pages {
         ensures rest { self.new ≡ record self.old { listed = self.new.listed } }
     {
         self.rows.let_go(guest, stop);
+        self.waiting.let_go(guest, page_of(stop));
     }
 
     /// All rows on the frame `old` go to the frame `new`.

@@ -10,13 +10,17 @@ use Rattle.ksm_book.proofs.pages.Pages.drop_stale.Goals as goal
 
 pub drop_stale-requires : goal.drop_stale-requires
 drop_stale-requires c =
-    stale_there c.args.place c.self.inside.rows.rows c.self.inside.dups.dups c.self.invariant.tied
+    stale_there c.args.place c.self.inside.rows.rows c.self.inside.dups.dups c.self.invariant.linked.tied
     (subst (λ v. IsVacant c.args.place v.listed.rows v.dups) (sym c.self.view_is) c.requires)
     (sym (c.is_some.ensures ∙ ap is_some c.at.ensures.number) ∙ c.if-is_some.true)
 
 pub invariant_of-self : goal.invariant_of-self
 invariant_of-self c =
-    subst (AreLinked c.self.inside.shape c.self.inside.rows.rows) (sym c.drop_stale.ensures) (linked_pruned c.self.inside.shape c.self.inside.rows.rows c.self.inside.dups c.self.invariant c.args.place)
+    let old = c.self.inside in
+    record {
+      linked = subst (AreLinked old.shape old.rows.rows) (sym c.drop_stale.ensures) (linked_pruned old.shape old.rows.rows old.dups c.self.invariant.linked c.args.place);
+      waits = c.self.invariant.waits;
+    }
 
 pub returns-then-is_some : goal.returns-then-is_some
 returns-then-is_some c =

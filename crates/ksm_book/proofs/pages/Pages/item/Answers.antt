@@ -6,20 +6,20 @@ use Rattle.ksm_book.proofs.pages.Pages.item.Goals as goal
 
 pub returns-then-items-eq0 : goal.returns-then-items-eq0
 returns-then-items-eq0 c =
-    sym (item_none c.self.inside.rows.rows c.self.inside.dups.dups c.args.number c.self.invariant.order c.self.invariant.tied
+    sym (item_none c.self.inside.rows.rows c.self.inside.dups.dups c.args.number c.self.invariant.linked.order c.self.invariant.linked.tied
     (ap (λ v. is_some (dup_numbered c.args.number v.dups)) c.self.view_is ∙ c.requires) (sym c.items.ensures ∙ c.if-items-eq0.true))
     ∙ ap (λ v. find (λ r. merged_into c.args.number r.state) v.listed.rows) c.self.view_is
 
 pub returns-in-None : goal.returns-in-None
 returns-in-None c =
     let first =
-    item_first c.self.inside.rows.rows c.self.inside.dups.dups c.args.number c.self.invariant.order c.self.invariant.tied
+    item_first c.self.inside.rows.rows c.self.inside.dups.dups c.args.number c.self.invariant.linked.order c.self.invariant.linked.tied
     (ap (λ v. is_some (dup_numbered c.args.number v.dups)) c.self.view_is ∙ c.requires) c.item.result c.item.ensures in
     sym (first ∙ c.in-None.ensures.at) ∙ ap (λ v. find (λ r. merged_into c.args.number r.state) v.listed.rows) c.self.view_is
 
 pub returns-in-Some : goal.returns-in-Some
 returns-in-Some c =
     let first =
-    item_first c.self.inside.rows.rows c.self.inside.dups.dups c.args.number c.self.invariant.order c.self.invariant.tied
+    item_first c.self.inside.rows.rows c.self.inside.dups.dups c.args.number c.self.invariant.linked.order c.self.invariant.linked.tied
     (ap (λ v. is_some (dup_numbered c.args.number v.dups)) c.self.view_is ∙ c.requires) c.item.result c.item.ensures in
     sym (first ∙ c.in-Some.ensures.at.found) ∙ ap (λ v. find (λ r. merged_into c.args.number r.state) v.listed.rows) c.self.view_is

@@ -4,13 +4,20 @@ use Rattle.ksm_base.specs.declared.row.Row.{Row}
 use Rattle.ksm_base.specs.Apply.{is_before}
 use Rattle.ksm_base.specs.Refusals.{is_of}
 use Rattle.ksm_base.specs.Rows.{merged_state}
-use Rattle.ksm_book.specs.Linked.{AreLinked}
+use Rattle.ksm_tree.proofs.LetGo.{rows_let_go}
+use Rattle.ksm_tree.specs.Waits.{AreLetGo}
+use Rattle.ksm_book.specs.Linked.{AreKept}
 use Rattle.ksm_book.proofs.Linking.{linked_let_go}
 use Rattle.ksm_book.proofs.pages.Pages.let_go.Goals as goal
 
 pub invariant_of-self : goal.invariant_of-self
 invariant_of-self c =
+    let old = c.self.inside in
     let test = λ (r : Row). is_of c.args.guest r && is_before c.args.stop r in
     let alone = subst (λ v. All (λ r. test r ≡ true → merged_state r.state ≡ false) v.listed.rows) (sym c.self.view_is) c.requires in
-    subst (λ rows. AreLinked c.self.inside.shape rows c.self.inside.dups) (sym c.let_go.ensures.rows)
-    (linked_let_go c.self.inside.shape c.self.inside.rows.rows c.self.inside.dups c.self.invariant test alone)
+    let gone = subst (λ stop. AreLetGo c.args.guest stop old.waiting c.let_go-2.new.self) c.page_of.ensures c.let_go-2.ensures in
+    subst (λ rows. AreKept old.shape old.knobs rows old.dups c.let_go-2.new.self) (sym c.let_go.ensures.rows)
+    (record {
+      linked = linked_let_go old.shape old.rows.rows old.dups c.self.invariant.linked test alone;
+      waits = rows_let_go old.knobs old.rows.rows old.waiting c.let_go-2.new.self c.args.guest c.args.stop gone c.self.invariant.waits;
+    })

@@ -1,10 +1,15 @@
 use Rattle.std.proofs.Common.{sym, subst}
 use Rattle.ksm_base.specs.Refusals.{is_of}
-use Rattle.ksm_book.specs.Linked.{AreLinked}
+use Rattle.ksm_book.specs.Linked.{AreKept}
 use Rattle.ksm_book.proofs.Linking.{linked_mergeable}
+use Rattle.ksm_book.proofs.Partners.{waiting_mergeable}
 use Rattle.ksm_book.proofs.pages.Pages.make_mergeable.Goals as goal
 
 pub invariant_of-self : goal.invariant_of-self
 invariant_of-self c =
-    subst (λ rows. AreLinked c.self.inside.shape rows c.self.inside.dups) (sym c.make_mergeable.ensures.rows)
-    (linked_mergeable c.self.inside.shape c.self.inside.rows.rows c.self.inside.dups c.self.invariant (is_of c.args.guest))
+    let old = c.self.inside in
+    subst (λ rows. AreKept old.shape old.knobs rows old.dups old.waiting) (sym c.make_mergeable.ensures.rows)
+    (record {
+      linked = linked_mergeable old.shape old.rows.rows old.dups c.self.invariant.linked (is_of c.args.guest);
+      waits = waiting_mergeable old.knobs old.rows.rows old.waiting (is_of c.args.guest) c.self.invariant.waits;
+    })

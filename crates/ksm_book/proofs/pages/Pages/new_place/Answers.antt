@@ -10,17 +10,17 @@ use Rattle.ksm_book.proofs.pages.Pages.new_place.Goals as goal
 pub returns-then-not-has_place : goal.returns-then-not-has_place
 returns-then-not-has_place c =
     sym (no_choice (choice_of c.self.inside.dups) (sym c.has_place.ensures ∙ c.if-not-has_place.true))
-    ∙ choice_seen c.self.inside.shape c.self.inside.rows.rows c.self.inside.dups c.self.invariant
+    ∙ choice_seen c.self.inside.shape c.self.inside.rows.rows c.self.inside.dups c.self.invariant.linked
     ∙ ap (λ v. place_of_new (place_count v.shape) v.listed.rows v.dups) c.self.view_is
 
 pub returns-in-Empty : goal.returns-in-Empty
 returns-in-Empty c =
     sym (ap (option_map place_in) c.in-Empty.ensures)
-    ∙ choice_seen c.self.inside.shape c.self.inside.rows.rows c.self.inside.dups c.self.invariant
+    ∙ choice_seen c.self.inside.shape c.self.inside.rows.rows c.self.inside.dups c.self.invariant.linked
     ∙ ap (λ v. place_of_new (place_count v.shape) v.listed.rows v.dups) c.self.view_is
 
 pub returns-in-Stale : goal.returns-in-Stale
 returns-in-Stale c =
     sym (ap (option_map place_in) c.in-Stale.ensures)
-    ∙ choice_seen c.self.inside.shape c.self.inside.rows.rows c.self.inside.dups c.self.invariant
+    ∙ choice_seen c.self.inside.shape c.self.inside.rows.rows c.self.inside.dups c.self.invariant.linked
     ∙ ap (λ v. place_of_new (place_count v.shape) v.listed.rows v.dups) c.self.view_is

@@ -1,17 +1,23 @@
-use Rattle.std.proofs.Common.{◌∙◌, refl, ap, sym, subst}
+use Rattle.std.proofs.Common.{◌∙◌, ap, sym, subst}
 use Rattle.ksm_base.specs.Rows.{without_page}
 use Rattle.ksm_tree.proofs.Changes.{rows_out}
+use Rattle.ksm_tree.proofs.Waiters.{row_dropped}
 use Rattle.ksm_tree.specs.Dups.{rows_of}
-use Rattle.ksm_book.specs.Linked.{AreLinked}
+use Rattle.ksm_book.specs.Linked.{AreKept, AreLinked}
 use Rattle.ksm_book.proofs.Linking.{linked_dropped, only_rows}
 use Rattle.ksm_book.proofs.pages.Pages.remove.Goals as goal
 
 pub invariant_of-self : goal.invariant_of-self
 invariant_of-self c =
     let old = c.self.inside in
-    subst (λ rows. AreLinked old.shape rows c.leave.new.dups) (sym c.remove.ensures.gone)
-    (subst (λ dups. AreLinked old.shape (without_page c.args.page old.rows.rows) dups) (sym c.leave.ensures)
-    (linked_dropped old.shape old.rows.rows old.dups c.self.invariant c.args.page c.in-Some.held.row c.in-Some.ensures.at.found))
+    let row = c.in-Some.held.row in
+    let found = c.in-Some.ensures.at.found in
+    subst (λ rows. AreKept old.shape old.knobs rows c.leave.new.dups c.stop_waiting.new.waiting) (sym c.remove.ensures.gone)
+    (record {
+      linked = subst (AreLinked old.shape (without_page c.args.page old.rows.rows)) (sym c.leave.ensures)
+          (linked_dropped old.shape old.rows.rows old.dups c.self.invariant.linked c.args.page row found);
+      waits = row_dropped old.knobs old.rows.rows old.waiting c.self.invariant.waits c.stop_waiting.new.waiting c.args.page row found c.stop_waiting.ensures;
+    })
 
 pub returns-clause-rest : goal.returns-clause-rest
 returns-clause-rest c =
