@@ -1,5 +1,5 @@
 -- The waiting pages stay those of the rows that wait, and tell the row that waits for another.
-use Rattle.std.proofs.Common.{◌≡◌, ◌∙◌, ◌⊎◌, ℕ, Bool, true, false, cond, List, [], ◌∷◌, get_or, map, Option, None, Some, refl, sym, ap, subst, inl, inr}
+use Rattle.std.proofs.Common.{◌≡◌, ◌∙◌, ℕ, Bool, true, false, cond, List, [], get_or, map, Option, None, Some, refl, sym, ap, inl, inr}
 use Rattle.std.specs.Prelude.{◌&&◌, ◌==◌, All, bytes_eq, if◌then◌else◌}
 use Rattle.std.specs.Option.{option_and_then}
 use Rattle.std.proofs.lemmas.Bool.{cases_Bool, false≢true}
@@ -9,13 +9,11 @@ use Rattle.ksm_base.specs.declared.page.GuestPage.{GuestPage}
 use Rattle.ksm_base.specs.declared.row.PageState.{PageState}
 use Rattle.ksm_base.specs.declared.row.PageState.TheVariants.{Private, Waiting, Merged}
 use Rattle.ksm_base.specs.declared.row.Row.{Row}
-use Rattle.ksm_base.specs.declared.shape.Shape.{Shape}
 use Rattle.ksm_base.specs.Apply.{unshared}
 use Rattle.ksm_base.specs.Rows.{InPageOrder, change_row, change_rows, row_at, same_page, settled, settled_state, waiting_state}
 use Rattle.ksm_base.specs.State.{tree_of}
 use Rattle.ksm_base.specs.Visit.{partner}
 use Rattle.ksm_base.proofs.Edits.{find_all}
-use Rattle.ksm_tree.specs.Dups.{DupsState}
 use Rattle.ksm_tree.specs.Waits.{AreWaiting, IsStopped, names, waiting_page, waits_there, WaitingPage}
 use Rattle.ksm_tree.proofs.Waiters.{at_others, look_up_found, none_waiting, own_found, partner_found, row_stopped, rows_changed}
 

@@ -109,18 +109,6 @@ find_after test cursor es =
     find_filter (λ e. test (row_of e)) (λ e. range_contains page_order (start_after cursor) Unbounded e.0) es
     ∙ find_alike _ _ es (λ e. ap (λ b. test (row_of e) && b) (in_range cursor e.0))
 
--- the pages of the rows that pass
-pages_passing : (test : Row → Bool) (es : Entries) → map (λ e. e.0) (filter (λ e. test (row_of e)) es) ≡ map (λ r. r.page) (filter test (rows_of es))
-pages_passing test [] = refl
-pages_passing test (e ∷ es) = by (test (row_of e)) (pages_passing test es)
-  where
-    by : (b : Bool) → map (λ x. x.0) (filter (λ x. test (row_of x)) es) ≡ map (λ r. r.page) (filter test (rows_of es)) → map (λ x. x.0) (cond b (e ∷ filter (λ x. test (row_of x)) es) (filter (λ x. test (row_of x)) es)) ≡ map (λ r. r.page) (cond b (row_of e ∷ filter test (rows_of es)) (filter test (rows_of es)))
-    by true rest = ap (λ l. e.0 ∷ l) rest
-    by false rest = rest
-
-pub pages_of : (test : Row → Bool) (es : Entries) (l : Listed) → listed es ≡ l → map (λ e. e.0) (filter (λ e. test (row_of e)) es) ≡ map (λ r. r.page) (filter test l.rows)
-pages_of test es l is = pages_passing test es ∙ ap (λ (v : Listed). map (λ r. r.page) (filter test v.rows)) is
-
 -- ---------------------------------------------------------------- changes
 
 -- a closure that always keeps the entry, and writes g of it

@@ -6,7 +6,6 @@ ghost use Rattle.ksm_base.specs.declared.fault.Fault.TheVariants.{Memory};
 ghost use Rattle.ksm_base.specs.declared.row.PageState.TheVariants.{Private, Merged};
 ghost use Rattle.ksm_base.specs.Apply.{is_before, let_go as as_let_go, unshared as as_unshared};
 ghost use Rattle.ksm_base.specs.Counting.{in_chain, leads_group, shared_count};
-ghost use Rattle.ksm_base.specs.Reading.{items_of};
 ghost use Rattle.ksm_base.specs.Refusals.{is_of};
 ghost use Rattle.ksm_base.specs.Rows.{row_at, with_row, with_dup, without_page, change_row, change_rows, merged_state, merged_into, waiting_state, settled as as_settled, has_items, is_stale, dup_numbered};
 ghost use Rattle.ksm_base.specs.State.{default_knobs, place_count};

@@ -4,9 +4,8 @@ ghost use Rattle.std.specs.Prelude.{◌≡◌, ◌&&◌, bytes_eq, true, if◌th
 ghost use Rattle.ksm_base.specs.Answers.{every_row};
 ghost use Rattle.ksm_base.specs.Apply.{is_before, fresh_row as a_fresh_row, stored as with_bytes, moved as at_node, let_go as as_let_go, unshared as as_unshared};
 ghost use Rattle.ksm_base.specs.Refusals.{is_of as is_of_guest};
-ghost use Rattle.ksm_base.specs.Rows.{same_page as is_same_page, merged_into, private_state, waiting_state, merged_state, settled as as_settled};
+ghost use Rattle.ksm_base.specs.Rows.{same_page as is_same_page, private_state, waiting_state, merged_state, settled as as_settled};
 ghost use Rattle.ksm_base.specs.State.{tree_of as row_tree};
-ghost use Rattle.ksm_base.specs.Visit.{waits_for as is_waiting_for};
 ghost use Rattle.ksm_book.specs.Unmerged.{is_merged_of as is_merged_of_guest};
 
 use ksm_base::{GuestPage, Knobs, PageBytes, PageState, Row};
@@ -57,16 +56,6 @@ pub fn is_merged_of(row: &Row, guest: Option<u16>) -> bool
     }
 }
 
-/// Whether a row in this state is an item of the dup with this number.
-pub fn is_item(state: PageState, number: u64) -> bool
-    ensures { result ≡ merged_into number state }
-{
-    match state {
-        PageState::Merged(d) => d == number,
-        _ => false,
-    }
-}
-
 /// The tree in which a row is looked for.
 pub fn tree_of(knobs: &Knobs, row: &Row) -> u32
     ensures { result ≡ row_tree knobs.now row.now }
@@ -76,16 +65,6 @@ pub fn tree_of(knobs: &Knobs, row: &Row) -> u32
     } else {
         row.home
     }
-}
-
-/// Whether another row waits for this one.
-pub fn waits_for(knobs: &Knobs, row: &Row, other: &Row) -> bool
-    ensures { result ≡ is_waiting_for knobs.now row.now other.now }
-{
-    is_waiting(other.state)
-        && !same_page(other.page, row.page)
-        && tree_of(knobs, other) == tree_of(knobs, row)
-        && same_bytes(other.bytes, row.bytes)
 }
 
 /// A new row.

@@ -1,27 +1,26 @@
 //! The rows in an ordered map: each page with what the book knows of it, and the frame that serves it.
 //!
-//! With n rows, `has`, `find`, `insert`, `replace` and `remove` take a number of steps in the order of log n. `next`,
-//! `next_merged` and `next_of` take as many, and one for each row that they pass over. All other calls walk over the
-//! rows, but for `len`.
+//! With n rows, `has`, `find`, `insert`, `replace` and `remove` take a number of steps in the order of log n. `next`
+//! takes as many, and one for each row that it passes over. All other calls walk over the rows, but for `len`.
 
-ghost use Rattle.std.specs.Prelude.{◌≡◌, ◌<◌, ◌≤◌, [], None, Some, length, filter, find, count_by, map, insert, remove, slice_set, MatchOption, IfOk, IfErr, OnOk, OnErr, Err, is_some, true, option_map, ◌&&◌};
+ghost use Rattle.std.specs.Prelude.{◌≡◌, ◌<◌, ◌≤◌, [], None, Some, length, filter, find, count_by, map, insert, remove, slice_set, MatchOption, OnOk, OnErr, Err, is_some, true, option_map, ◌&&◌};
 ghost use Rattle.std.specs.List.{list_any};
 ghost use Rattle.std.specs.Map.Iter.{deref_pair};
 ghost use Rattle.ksm_base.specs.declared.fault.Fault.TheVariants.{Memory};
 ghost use Rattle.ksm_base.specs.Refusals.{is_of as is_of_guest};
 ghost use Rattle.ksm_base.specs.Apply.{is_before, let_go as as_let_go, unshared as as_unshared};
-ghost use Rattle.ksm_base.specs.Rows.{row_at, with_row, without_page, change_row, change_rows, merged_into, private_state, waiting_state, merged_state, settled as as_settled};
-ghost use Rattle.ksm_base.specs.Visit.{after_cursor as is_after_cursor, next_row as row_to_visit, partner as row_waiting};
+ghost use Rattle.ksm_base.specs.Rows.{row_at, with_row, without_page, change_row, change_rows, private_state, waiting_state, merged_state, settled as as_settled};
+ghost use Rattle.ksm_base.specs.Visit.{next_row as row_to_visit};
 ghost use Rattle.ksm_book.specs.Listed.{rank, StandsAt, instead};
 ghost use Rattle.ksm_book.specs.RowEntries.{row_of, start_after};
 ghost use Rattle.ksm_book.specs.Unmerged.{is_merged_of as is_merged_of_guest};
 
 use crate::entry::Entry;
 use crate::row::{
-    is_item, is_merged, is_merged_of, is_private, is_waiting, let_go_before, settled, unshared,
-    waits_for, with_mergeable,
+    is_merged, is_merged_of, is_private, is_waiting, let_go_before, settled, unshared,
+    with_mergeable,
 };
-use ksm_base::{Fault, GuestPage, Knobs, Row};
+use ksm_base::{Fault, GuestPage, Row};
 use std::alloc::Global;
 use std::collections::BTreeMap;
 use std::marker::Model;
@@ -155,17 +154,6 @@ impl Rows {
         )
     }
 
-    /// The first merged row after a page, or of all where no page is given.
-    pub fn next_merged(&self, cursor: Option<GuestPage>) -> Option<Row>
-        ensures { result ≡ find (λ r. merged_state r.state && is_after_cursor cursor r.page) self.now.rows }
-    {
-        row_found(
-            self.entries
-                .range((after_cursor(cursor), Bound::Unbounded))
-                .find(|(_, entry)| is_merged(entry.state)),
-        )
-    }
-
     /// The first merged row of a guest, or of all where no guest is given.
     pub fn first_merged(&self, guest: Option<u16>) -> Option<Row>
         ensures { result ≡ find (is_merged_of_guest guest) self.now.rows }
@@ -175,53 +163,6 @@ impl Rows {
                 .iter()
                 .find(|(page, entry)| is_merged_of(&entry.row(**page), guest)),
         )
-    }
-
-    /// The first row of a guest after a page, or of all where no page is given.
-    pub fn next_of(&self, guest: u16, cursor: Option<GuestPage>) -> Option<Row>
-        ensures { result ≡ find (λ r. is_of_guest guest r && is_after_cursor cursor r.page) self.now.rows }
-    {
-        row_found(
-            self.entries
-                .range((after_cursor(cursor), Bound::Unbounded))
-                .find(|(page, _)| page.guest == guest),
-        )
-    }
-
-    /// Another row that waits, of the same tree and bytes.
-    pub fn partner(&self, knobs: &Knobs, row: &Row) -> Option<Row>
-        ensures { result ≡ row_waiting knobs.now self.now.rows row.now }
-    {
-        row_found(
-            self.entries
-                .iter()
-                .find(|(page, entry)| waits_for(knobs, row, &entry.row(**page))),
-        )
-    }
-
-    /// The first item of the dup with this number.
-    pub fn item(&self, number: u64) -> Option<Row>
-        ensures { result ≡ find (λ r. merged_into number r.state) self.now.rows }
-    {
-        row_found(
-            self.entries
-                .iter()
-                .find(|(_, entry)| is_item(entry.state, number)),
-        )
-    }
-
-    /// The pages merged into the dup with this number, ascending. Refused for memory alone.
-    pub fn items(&self, alloc: Global, number: u64) -> Result<Vec<GuestPage>, Fault>
-        ensures items { IfOk result (λ pages. pages.items ≡ map (λ r. r.page) (filter (λ r. merged_into number r.state) self.now.rows)) }
-        ensures fault { IfErr result (λ fault. fault ≡ Memory) }
-    {
-        let mut pages = Vec::new(alloc);
-        for (page, entry) in &self.entries {
-            if is_item(entry.state, number) {
-                pages.push(*page)?;
-            }
-        }
-        Ok(pages)
     }
 
     /// Whether the guest has a row.
@@ -243,16 +184,6 @@ impl Rows {
         ensures { result ≡ length self.now.rows }
     {
         self.entries.len()
-    }
-
-    /// How many rows are merged into the dup with this number.
-    pub fn count_items(&self, number: u64) -> usize
-        ensures { result ≡ count_by (λ r. merged_into number r.state) self.now.rows }
-    {
-        self.entries
-            .values()
-            .filter(|entry| is_item(entry.state, number))
-            .count()
     }
 
     /// How many rows are merged.

@@ -1,4 +1,4 @@
-use Rattle.std.proofs.Common.{◌≡◌, ◌∙◌, Option, None, Some, ap, sym, refl, subst}
+use Rattle.std.proofs.Common.{◌∙◌, ap, subst}
 use Rattle.std.specs.Prelude.{option_map, find, IfSome}
 use Rattle.ksm_base.specs.Rows.{is_stale}
 use Rattle.ksm_book.specs.Linked.{IsVacant}
