@@ -51,16 +51,6 @@ impl Model for Pages {
     ghost invariant = { λ p. AreKept p.shape p.knobs p.rows.rows p.dups p.waiting };
 }
 
-// The page of a row, if there is one.
-fn page_of(row: Option<Row>) -> Option<GuestPage>
-    ensures { result ≡ option_map (λ r. r.page) row }
-{
-    match row {
-        None => None,
-        Some(row) => Some(row.page),
-    }
-}
-
 // A row waits no more, if it did.
 fn stop_waiting(waiting: &mut Waiting, knobs: &Knobs, row: &Row)
     ensures { IsStopped knobs.now row.now waiting.old waiting.new }
@@ -148,10 +138,8 @@ impl Pages {
         if same_page(page, row.page) {
             return None;
         }
-        match self.rows.find(page) {
-            None => None,
-            Some(held) => Some(held.row),
-        }
+        let held = self.rows.find(page)?;
+        Some(held.row)
     }
 
     /// Where a new dup goes.
@@ -204,10 +192,8 @@ impl Pages {
         if self.dups.items(number) == 0 {
             return None;
         }
-        match self.rows.find(self.dups.item(number, 0)) {
-            None => None,
-            Some(held) => Some(held.row),
-        }
+        let held = self.rows.find(self.dups.item(number, 0))?;
+        Some(held.row)
     }
 
     /// The pages merged into a dup, ascending. Refused for memory alone.
@@ -417,7 +403,7 @@ impl Pages {
         ensures rest { self.new ≡ record self.old { listed = self.new.listed } }
     {
         self.rows.let_go(guest, stop);
-        self.waiting.let_go(guest, page_of(stop));
+        self.waiting.let_go(guest, stop.map(|row| row.page));
     }
 
     /// All rows on the frame `old` go to the frame `new`.

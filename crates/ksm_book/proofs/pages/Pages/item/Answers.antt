@@ -10,16 +10,16 @@ returns-then-items-eq0 c =
     (ap (λ v. is_some (dup_numbered c.args.number v.dups)) c.self.view_is ∙ c.requires) (sym c.items.ensures ∙ c.if-items-eq0.true))
     ∙ ap (λ v. find (λ r. merged_into c.args.number r.state) v.listed.rows) c.self.view_is
 
-pub returns-in-None : goal.returns-in-None
-returns-in-None c =
+pub returns-in_err-held : goal.returns-in_err-held
+returns-in_err-held c =
     let first =
     item_first c.self.inside.rows.rows c.self.inside.dups.dups c.args.number c.self.invariant.linked.order c.self.invariant.linked.tied
     (ap (λ v. is_some (dup_numbered c.args.number v.dups)) c.self.view_is ∙ c.requires) c.item.result c.item.ensures in
-    sym (first ∙ c.in-None.ensures.at) ∙ ap (λ v. find (λ r. merged_into c.args.number r.state) v.listed.rows) c.self.view_is
+    c.from_residual.ensures ∙ sym (first ∙ c.in_err-held.ensures.at) ∙ ap (λ v. find (λ r. merged_into c.args.number r.state) v.listed.rows) c.self.view_is
 
-pub returns-in-Some : goal.returns-in-Some
-returns-in-Some c =
+pub returns : goal.returns
+returns c =
     let first =
     item_first c.self.inside.rows.rows c.self.inside.dups.dups c.args.number c.self.invariant.linked.order c.self.invariant.linked.tied
     (ap (λ v. is_some (dup_numbered c.args.number v.dups)) c.self.view_is ∙ c.requires) c.item.result c.item.ensures in
-    sym (first ∙ c.in-Some.ensures.at.found) ∙ ap (λ v. find (λ r. merged_into c.args.number r.state) v.listed.rows) c.self.view_is
+    sym (first ∙ c.in_ok-held.ensures.at.found) ∙ ap (λ v. find (λ r. merged_into c.args.number r.state) v.listed.rows) c.self.view_is

@@ -1,5 +1,5 @@
-use Rattle.std.proofs.Common.{◌≡◌, sym, subst, true, false}
-use Rattle.std.specs.Prelude.{All, ◌&&◌}
+use Rattle.std.proofs.Common.{rules, ◌≡◌, sym, subst, true, false}
+use Rattle.std.specs.Prelude.{All, ◌&&◌, option_map}
 use Rattle.ksm_base.specs.declared.row.Row.{Row}
 use Rattle.ksm_base.specs.Apply.{is_before}
 use Rattle.ksm_base.specs.Refusals.{is_of}
@@ -15,7 +15,8 @@ invariant_of-self c =
     let old = c.self.inside in
     let test = λ (r : Row). is_of c.args.guest r && is_before c.args.stop r in
     let alone = subst (λ v. All (λ r. test r ≡ true → merged_state r.state ≡ false) v.listed.rows) (sym c.self.view_is) c.requires in
-    let gone = subst (λ stop. AreLetGo c.args.guest stop old.waiting c.let_go-2.new.self) c.page_of.ensures c.let_go-2.ensures in
+    let page_is : c.map.result ≡ option_map (λ (r : Row). r.page) c.args.stop = search rules in
+    let gone = subst (λ stop. AreLetGo c.args.guest stop old.waiting c.let_go-2.new.self) page_is c.let_go-2.ensures in
     subst (λ rows. AreKept old.shape old.knobs rows old.dups c.let_go-2.new.self) (sym c.let_go.ensures.rows)
     (record {
       linked = linked_let_go old.shape old.rows.rows old.dups c.self.invariant.linked test alone;

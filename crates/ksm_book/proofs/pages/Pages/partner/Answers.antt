@@ -21,20 +21,20 @@ returns-then-same_page c =
     sym (partner_own old.knobs old.rows.rows old.waiting row c.self.invariant.linked.order c.self.invariant.waits page at (sym c.same_page.ensures ∙ c.if-same_page.true))
     ∙ ap (λ v. row_waiting v.knobs v.listed.rows row) c.self.view_is
 
-pub returns-in-None : goal.returns-in-None
-returns-in-None c =
+pub returns-in_err-held : goal.returns-in_err-held
+returns-in_err-held c =
     let old = c.self.inside in
     let row = c.args.row.now in
     let page = c.in_ok-page.page in
     let at = ap (λ t. waiting_page t row.bytes old.waiting) (sym c.tree_of.ensures) ∙ sym c.in_ok-page.ensures in
-    sym (partner_other old.knobs old.rows.rows old.waiting row c.self.invariant.linked.order c.self.invariant.waits page at (sym c.same_page.ensures ∙ c.if-same_page.false) ∙ c.in-None.ensures.at)
+    c.from_residual-in_err-held.ensures ∙ sym (partner_other old.knobs old.rows.rows old.waiting row c.self.invariant.linked.order c.self.invariant.waits page at (sym c.same_page.ensures ∙ c.if-same_page.false) ∙ c.in_err-held.ensures.at)
     ∙ ap (λ v. row_waiting v.knobs v.listed.rows row) c.self.view_is
 
-pub returns-in-Some : goal.returns-in-Some
-returns-in-Some c =
+pub returns : goal.returns
+returns c =
     let old = c.self.inside in
     let row = c.args.row.now in
     let page = c.in_ok-page.page in
     let at = ap (λ t. waiting_page t row.bytes old.waiting) (sym c.tree_of.ensures) ∙ sym c.in_ok-page.ensures in
-    sym (partner_other old.knobs old.rows.rows old.waiting row c.self.invariant.linked.order c.self.invariant.waits page at (sym c.same_page.ensures ∙ c.if-same_page.false) ∙ c.in-Some.ensures.at.found)
+    sym (partner_other old.knobs old.rows.rows old.waiting row c.self.invariant.linked.order c.self.invariant.waits page at (sym c.same_page.ensures ∙ c.if-same_page.false) ∙ c.in_ok-held.ensures.at.found)
     ∙ ap (λ v. row_waiting v.knobs v.listed.rows row) c.self.view_is
