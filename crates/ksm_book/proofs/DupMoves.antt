@@ -1,8 +1,7 @@
 -- What is answered where a dup is to move.
-use Rattle.std.proofs.Common.{inl, inr, ◌≡◌, ℕ, ◌<◌, ◌≤◌, Bool, true, false, Option, Some, None, refl, sym, ap, ◌∙◌, subst, arith, eq-eqb}
-use Rattle.std.specs.Prelude.{find, ◌==◌, ◌&&◌, not, nat_le, is_none, Result, Ok, Err}
-use Rattle.std.proofs.lemmas.Bool.{cases_Bool, and_parts, eqb-true, leb-true, both_ways}
-use Rattle.ksm_base.specs.declared.row.Row.{Row}
+use Rattle.std.proofs.Common.{inl, inr, ◌≡◌, ℕ, ◌<◌, true, false, Some, None, sym, ap, ◌∙◌, subst, arith, eq-eqb}
+use Rattle.std.specs.Prelude.{find, ◌==◌, ◌&&◌, nat_le, is_none, Ok, Err}
+use Rattle.std.proofs.lemmas.Bool.{cases_Bool, and_parts, eqb-true, leb-true}
 use Rattle.ksm_base.specs.declared.row.DupRow.{DupRow}
 use Rattle.ksm_base.specs.declared.command.Command.TheVariants.{MoveDup}
 use Rattle.ksm_base.specs.declared.fault.Fault.{Fault}

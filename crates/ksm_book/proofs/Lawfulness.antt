@@ -14,8 +14,8 @@ use Rattle.ksm_base.proofs.Orders.{each_has_number}
 use Rattle.frame_core.specs.declared.frame.Kind.TheVariants.{Stable}
 use Rattle.frame_core.specs.Ledger.{frame_at}
 use Rattle.frame_table.specs.Named.{KeeperView}
-use Rattle.ksm_book.specs.Lawful.{LieLawfully, IsSharedBy, ShareLawfully}
-use Rattle.ksm_book.specs.Placement.{Placed, row_in, no_row, kind_for}
+use Rattle.ksm_book.specs.Lawful.{LieLawfully, ShareLawfully}
+use Rattle.ksm_book.specs.Placement.{row_in, no_row, kind_for}
 use Rattle.ksm_book.proofs.Moves.{base_is_items}
 use Rattle.ksm_book.proofs.Sharing.{tree_is_home}
 use Rattle.ksm_book.proofs.Visiting.{state_of_item}

@@ -1,5 +1,5 @@
 -- What becomes of rows and dups that lie lawfully, where the keeper makes its steps.
-use Rattle.std.proofs.Common.{inl, inr, ◌≡◌, ◌/◌, ℕ, zero, suc, ◌<◌, ◌≤◌, false, List, [], length, get_or, set, Option, Some, None, refl, sym, ap, ◌∙◌, subst, arith}
+use Rattle.std.proofs.Common.{inl, inr, ◌≡◌, ◌/◌, ℕ, ◌<◌, ◌≤◌, false, List, [], length, set, Option, Some, None, refl, sym, ap, ◌∙◌, subst, arith}
 use Rattle.std.specs.Prelude.{◌⊎◌, All, MatchOption, insert, remove, slice_index}
 use Rattle.ksm_base.specs.declared.shape.Shape.{Shape}
 use Rattle.ksm_base.specs.declared.knobs.Knobs.{Knobs}
@@ -8,19 +8,17 @@ use Rattle.ksm_base.specs.declared.row.PageState.TheVariants.{Private as OwnPage
 use Rattle.ksm_base.specs.declared.row.Row.{Row}
 use Rattle.ksm_base.specs.declared.row.DupRow.{DupRow}
 use Rattle.ksm_base.specs.Rows.{merged_state, merged_into, row_at}
-use Rattle.ksm_base.specs.Values.{frames_of, IsShape}
+use Rattle.ksm_base.specs.Values.{frames_of}
 use Rattle.frame_core.specs.declared.frame.Kind.{Kind}
 use Rattle.frame_core.specs.declared.frame.Kind.TheVariants.{Private}
 use Rattle.frame_core.specs.declared.ledger.Ledger.{Ledger}
 use Rattle.frame_core.specs.declared.ledger.Note.{Note}
-use Rattle.frame_core.specs.Ledger.{frame_at, with_frame, blank, first_ledger, IsReadable, IsWritable}
-use Rattle.frame_core.specs.Rule.{GenerationFits}
-use Rattle.std.proofs.Common.{replicate}
-use Rattle.std.proofs.lemmas.List.{set-get_or, length-replicate}
+use Rattle.frame_core.specs.Ledger.{frame_at, with_frame, IsReadable}
+use Rattle.std.proofs.lemmas.List.{set-get_or}
 use Rattle.ksm_base.specs.declared.page.GuestPage.{GuestPage}
 use Rattle.ksm_base.specs.declared.page.TheConstants.{PAGE_WORDS}
 use Rattle.frame_table.specs.Named.{KeeperView}
-use Rattle.ksm_book.specs.Placement.{kind_for, DupFits, FitsBase, Placed}
+use Rattle.ksm_book.specs.Placement.{kind_for, DupFits, Placed}
 use Rattle.ksm_book.specs.Keeping.{Keeps, IsLawful, Took, Wrote, holding, spent}
 use Rattle.ksm_book.specs.Listed.{Listed, rank, StandsAt}
 use Rattle.ksm_book.specs.Linked.{PagesView}

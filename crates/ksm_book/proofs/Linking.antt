@@ -1,6 +1,6 @@
 -- Rows and dups stay linked through the changes of the pages, and what is read from the dups is the book's.
 use Rattle.std.proofs.Common.{◌≡◌, ◌∙◌, ℕ, ◌+◌, ◌<◌, Bool, true, false, List, [], ◌∷◌, ◌++◌, length, get_or, take, map, Option, None, Some, refl, sym, ap, subst, inl, inr, true≢false, arith}
-use Rattle.std.specs.Prelude.{◌&&◌, ◌==◌, not, nat_lt, count_by, Result, Ok, Err, OnOk, OnErr, All, filter, find, is_some, option_map, slice_get, IfSome, if◌then◌else◌}
+use Rattle.std.specs.Prelude.{◌&&◌, ◌==◌, nat_lt, count_by, Result, Ok, Err, OnOk, OnErr, All, filter, find, is_some, option_map, slice_get, IfSome, if◌then◌else◌}
 use Rattle.std.specs.List.{list_any}
 use Rattle.std.proofs.lemmas.Bool.{cases_Bool, cond_both, both_ways, eq-eqb, eqb-true}
 use Rattle.std.proofs.lemmas.Bool.Decides.{nat_tests}

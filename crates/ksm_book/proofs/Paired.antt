@@ -1,5 +1,5 @@
 -- Where the rows stand after one of them was replaced, and how a new dup of two lies in the frames.
-use Rattle.std.proofs.Common.{inl, inr, ◌≡◌, ◌∙◌, ℕ, zero, suc, ◌+◌, ◌<◌, ◌≤◌, ◌≢◌, Bool, true, false, List, [], ◌∷◌, length, get_or, set, None, Some, refl, sym, ap, subst, arith}
+use Rattle.std.proofs.Common.{inl, inr, ◌≡◌, ◌∙◌, ℕ, zero, suc, ◌+◌, ◌<◌, ◌≤◌, ◌≢◌, true, false, List, [], ◌∷◌, length, get_or, set, None, Some, refl, sym, ap, subst, arith}
 use Rattle.std.specs.Prelude.{Contains}
 use Rattle.std.proofs.lemmas.Bool.{cases_Bool, false≢true}
 use Rattle.std.proofs.lemmas.List.{get_or-set_same, get_or-set_other, length-set}
@@ -7,7 +7,6 @@ use Rattle.ksm_base.specs.declared.page.GuestPage.{GuestPage}
 use Rattle.ksm_base.specs.declared.row.Row.{Row}
 use Rattle.ksm_base.specs.declared.row.DupRow.{DupRow}
 use Rattle.ksm_base.specs.Rows.{comes_before, same_page, row_at, merged_into, item_count, with_dup}
-use Rattle.ksm_base.specs.Values.{frames_of}
 use Rattle.frame_core.specs.declared.event.KeeperStep.TheVariants.{Publish}
 use Rattle.frame_core.specs.Ledger.{frame_at}
 use Rattle.frame_table.specs.Kept.{did}
@@ -74,9 +73,9 @@ module _ (v w : Listed) (old row : Row) (f g : ℕ) (at : StandsAt v row.page ol
 
 -- a new dup of two rows stands on the frame of the first
 module _ (p : PagesView) (k : KeeperView) (h : IsLaid p.shape p.listed p.dups p.knobs p.next k) (place : ℕ) (first second : Row) (f g : ℕ) (at : StandsAt p.listed first.page first f) (lone : StandsAt p.listed second.page second g)
-  (founds : Founds (lay_of p k) place first) (joins : Joins (founded (lay_of p k) place first) second (item_of_next p first)) (apart : same_page first.page second.page ≡ false)
-  (new : PagesView) (both : ReplacedBoth p.listed new.listed (item_of_next p first) (item_of_next p second) f) (made : new ≡ record p { listed = new.listed; dups = with_dup (next_dup p place first) p.dups; next = p.next + 1 })
-  (w1 w2 : KeeperView) (table : w1.table ≡ k.table) (cleared : w1.ledger ≡ record { frames = k.ledger.frames; places = set k.ledger.places place None }) (published : w2 ≡ did w1 (Publish place f) 0) where
+    (founds : Founds (lay_of p k) place first) (joins : Joins (founded (lay_of p k) place first) second (item_of_next p first)) (apart : same_page first.page second.page ≡ false)
+    (new : PagesView) (both : ReplacedBoth p.listed new.listed (item_of_next p first) (item_of_next p second) f) (made : new ≡ record p { listed = new.listed; dups = with_dup (next_dup p place first) p.dups; next = p.next + 1 })
+    (w1 w2 : KeeperView) (table : w1.table ≡ k.table) (cleared : w1.ledger ≡ record { frames = k.ledger.frames; places = set k.ledger.places place None }) (published : w2 ≡ did w1 (Publish place f) 0) where
   abbrev v1 : Listed
   v1 = both.between
 

@@ -26,7 +26,7 @@ use Rattle.frame_core.specs.Ledger.{frame_at, named_at, with_frame, ledger_after
 use Rattle.frame_core.specs.Rule.{GenerationFits}
 use Rattle.frame_table.specs.Named.{KeeperView}
 use Rattle.frame_table.specs.Kept.{did}
-use Rattle.ksm_book.specs.Placement.{row_in, no_row, kind_for, life_or, place_frame, IsInLife, RowFits, DupFits, Placed}
+use Rattle.ksm_book.specs.Placement.{row_in, no_row, life_or, place_frame, IsInLife, RowFits, Placed}
 use Rattle.ksm_book.specs.Keeping.{Keeps, past_lives, spent_on, spent}
 use Rattle.ksm_book.specs.Listed.{Listed, rank, StandsAt}
 use Rattle.ksm_book.specs.Laid.{IsLaid, LodgesAs, elsewhere}

@@ -212,8 +212,7 @@ impl Layout {
     {
         let shape = self.pages.shape();
         self.pages.insert(row, 0)?;
-        let Some(frame) = take_frame(&mut self.keeper, table, shape, row.home, row.bytes)
-        else {
+        let Some(frame) = take_frame(&mut self.keeper, table, shape, row.home, row.bytes) else {
             self.pages.remove(row.page);
             return Ok(false);
         };
@@ -234,8 +233,7 @@ impl Layout {
         let Some(held) = self.pages.find(row.page) else {
             return false;
         };
-        let Some(frame) = take_frame(&mut self.keeper, table, shape, row.home, row.bytes)
-        else {
+        let Some(frame) = take_frame(&mut self.keeper, table, shape, row.home, row.bytes) else {
             return false;
         };
         self.pages.replace(row, frame);
@@ -368,7 +366,13 @@ impl Layout {
     }
 
     /// Two pages with frames of their own become the items of a new dup at a place, on the frame of the first; the second leaves its frame. A stale dup at the place goes first. Refused for memory alone.
-    pub fn pair(&mut self, table: &FrameTable, place: u32, first: Row, second: Row) -> Result<(), Fault>
+    pub fn pair(
+        &mut self,
+        table: &FrameTable,
+        place: u32,
+        first: Row,
+        second: Row,
+    ) -> Result<(), Fault>
         requires own { self.old.keeper.table ≡ table.now }
         requires founds { Founds self.old place first }
         requires joins { Joins (founded self.old place first) second (record first { state = Merged self.old.next }) }

@@ -1,8 +1,8 @@
-use Rattle.std.proofs.Common.{◌≡◌, ◌+◌, ◌<◌, ◌∷◌, [], ◌++◌, map, take, length, Some, refl, sym, ap, ◌∙◌, subst, arith}
-use Rattle.std.specs.Prelude.{All, filter, find, slice_get, is_some}
+use Rattle.std.proofs.Common.{◌≡◌, ◌<◌, ◌∷◌, [], ◌++◌, map, take, length, Some, sym, ap, ◌∙◌, subst, arith}
+use Rattle.std.specs.Prelude.{filter, find, slice_get, is_some}
 use Rattle.std.proofs.lemmas.List.Elements.{All-filter}
 use Rattle.ksm_base.specs.declared.row.Row.{Row}
-use Rattle.ksm_base.specs.Rows.{row_at, change_row}
+use Rattle.ksm_base.specs.Rows.{row_at}
 use Rattle.ksm_book.specs.Laid.{Lay}
 use Rattle.ksm_book.specs.Steps.{Does}
 use Rattle.ksm_book.specs.Unmerged.{is_merged_of}

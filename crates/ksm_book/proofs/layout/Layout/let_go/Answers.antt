@@ -1,9 +1,8 @@
-use Rattle.std.proofs.Common.{◌≡◌, Bool, true, false, get_or, sym, subst}
+use Rattle.std.proofs.Common.{◌≡◌, true, false, get_or, sym, subst}
 use Rattle.std.specs.Prelude.{All, ◌&&◌, if◌then◌else◌}
 use Rattle.ksm_base.specs.Rows.{merged_state}
 use Rattle.ksm_base.specs.Apply.{is_before, let_go}
 use Rattle.ksm_base.specs.Refusals.{is_of}
-use Rattle.ksm_base.specs.declared.row.Row.{Row}
 use Rattle.ksm_book.specs.Laid.{Lay}
 use Rattle.ksm_book.proofs.Sharing.{laid_mapped}
 use Rattle.ksm_book.proofs.Unmerged.{gone_lodges}

@@ -1,10 +1,9 @@
-use Rattle.std.proofs.Common.{◌≡◌, ◌∙◌, ◌+◌, ◌<◌, ◌≤◌, ℕ, Bool, List, [], ◌∷◌, length, Some, None, refl, sym, ap, subst, arith}
+use Rattle.std.proofs.Common.{◌≡◌, ◌∙◌, ◌+◌, ◌<◌, ◌≤◌, ℕ, List, [], Some, None, sym, ap, subst, arith}
 use Rattle.std.specs.Prelude.{All, count_by, filter, find}
 use Rattle.std.proofs.lemmas.List.Elements.{All-filter}
 use Rattle.ksm_base.specs.declared.shape.Shape.{Shape}
 use Rattle.ksm_base.proofs.Edits.{find_all}
 use Rattle.ksm_base.specs.declared.row.Row.{Row}
-use Rattle.ksm_base.specs.declared.row.DupRow.{DupRow}
 use Rattle.ksm_base.specs.Rows.{has_items, is_stale}
 use Rattle.ksm_base.specs.Values.{frames_of}
 use Rattle.ksm_book.specs.Linked.{IsVacant}

@@ -1,4 +1,4 @@
-use Rattle.std.proofs.Common.{◌≡◌, ℕ, true, refl, ap, map, rules}
+use Rattle.std.proofs.Common.{◌≡◌, ℕ, refl, ap, map, rules}
 use Rattle.std.specs.Prelude.{◌&&◌, Option, if◌then◌else◌}
 use Rattle.std.proofs.lemmas.Bool.{cond_both}
 use Rattle.ksm_base.specs.Apply.{is_before, let_go}

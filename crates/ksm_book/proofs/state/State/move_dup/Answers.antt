@@ -1,10 +1,8 @@
-use Rattle.std.proofs.Common.{inl, inr, ◌≡◌, ◌≢◌, ◌∙◌, ◌<◌, ℕ, Some, Ok, Err, refl, sym, ap, subst, arith}
+use Rattle.std.proofs.Common.{inl, inr, ◌≡◌, ◌∙◌, ◌<◌, sym, ap, subst}
 use Rattle.ksm_base.specs.declared.command.Command.TheVariants.{MoveDup}
-use Rattle.ksm_base.specs.declared.reply.Reply.TheVariants.{Done}
 use Rattle.ksm_base.specs.declared.knobs.Knobs.{Knobs}
 use Rattle.ksm_base.specs.Answers.{IsAnswerOrMemory}
-use Rattle.ksm_base.specs.State.{BookState}
-use Rattle.ksm_book.specs.Laid.{Lay, state_of}
+use Rattle.ksm_book.specs.Laid.{state_of}
 use Rattle.ksm_book.specs.Whole.{BookView, HasMoved, HasShown}
 use Rattle.ksm_book.proofs.DupMoves.{place_is, live_there, moved_answer, moved_done, moved_shown}
 use Rattle.ksm_book.proofs.state.State.move_dup.Goals as goal

@@ -1,11 +1,10 @@
-use Rattle.std.proofs.Common.{◌≡◌, ◌∙◌, false, None, Some, refl, sym, ap, subst}
-use Rattle.ksm_base.specs.declared.row.PageState.TheVariants.{Merged, Waiting}
-use Rattle.ksm_base.specs.Rows.{change_row, same_page, row_at, with_dup}
+use Rattle.std.proofs.Common.{◌≡◌, ◌∙◌, Some, refl, sym, ap, subst}
+use Rattle.ksm_base.specs.declared.row.PageState.TheVariants.{Waiting}
+use Rattle.ksm_base.specs.Rows.{with_dup}
 use Rattle.ksm_base.specs.Sound.{IsSound}
-use Rattle.ksm_base.specs.State.{place_count}
-use Rattle.ksm_base.specs.Visit.{next_row, partner, paired, new_place, made_dup}
+use Rattle.ksm_base.specs.Visit.{next_row, partner, paired, made_dup}
 use Rattle.ksm_base.proofs.SoundScan.{next_row_visited, sound_paired}
-use Rattle.ksm_book.specs.Laid.{Lay, Founds, Joins, founded, state_of}
+use Rattle.ksm_book.specs.Laid.{Lay, founded, state_of}
 use Rattle.ksm_book.specs.Whole.{BookView}
 use Rattle.ksm_book.proofs.Found.{change_known}
 use Rattle.ksm_book.proofs.Visiting.{visited_at, partner_founds, joins_new, both_joined, same_dup, apart}

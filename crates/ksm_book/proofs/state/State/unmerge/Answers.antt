@@ -1,5 +1,5 @@
-use Rattle.std.proofs.Common.{◌≡◌, ℕ, true, length, map, take, List, Ok, Option, Some, sym, ap, ◌∙◌, subst, arith}
-use Rattle.std.specs.Prelude.{All, filter, slice_get, ◌&&◌}
+use Rattle.std.proofs.Common.{◌≡◌, true, map, take, List, Ok, Option, Some, sym, ap, ◌∙◌, subst, arith}
+use Rattle.std.specs.Prelude.{filter, slice_get, ◌&&◌}
 use Rattle.std.specs.List.{list_any}
 use Rattle.ksm_base.specs.declared.command.Command.TheVariants.{Unmerge}
 use Rattle.ksm_base.specs.declared.fault.Fault.{Fault}

@@ -1,10 +1,9 @@
-use Rattle.std.proofs.Common.{◌≡◌, List, map, take, Ok, Some, None, sym, ap, ◌∙◌, subst}
-use Rattle.std.specs.Prelude.{filter}
+use Rattle.std.proofs.Common.{List, map, take, Ok, Some, None, sym, ap, ◌∙◌, subst}
 use Rattle.ksm_base.specs.declared.command.Command.TheVariants.{SetRun}
 use Rattle.ksm_base.specs.declared.fault.Fault.TheVariants.{NoFrame}
 use Rattle.ksm_base.specs.declared.reply.Reply.TheVariants.{Unmerged}
 use Rattle.ksm_base.specs.declared.row.Row.{Row}
-use Rattle.ksm_base.specs.Apply.{unshared, unshare_stopped}
+use Rattle.ksm_base.specs.Apply.{unshare_stopped}
 use Rattle.ksm_base.specs.Sound.{IsSound}
 use Rattle.ksm_base.proofs.SoundSteps.{sound_after}
 use Rattle.ksm_book.specs.Laid.{Lay, state_of}

@@ -1,5 +1,4 @@
 use Rattle.std.proofs.Common.{inr, ◌≡◌, ◌∙◌, true, Some, None, refl, sym, ap, subst}
-use Rattle.std.specs.Prelude.{find}
 use Rattle.ksm_base.specs.declared.row.PageState.TheVariants.{Private, Merged}
 use Rattle.ksm_base.specs.Rows.{change_row, merged_into}
 use Rattle.ksm_base.specs.Sound.{IsSound}
