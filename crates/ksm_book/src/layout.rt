@@ -230,10 +230,11 @@ impl Layout {
         ensures housed { IsHoused self.old self.new row (change_row row.page (λ _. row) self.old.rows) result }
     {
         let shape = self.pages.shape();
+        let home = row.home;
         let Some(held) = self.pages.find(row.page) else {
             return false;
         };
-        let Some(frame) = take_frame(&mut self.keeper, table, shape, row.home, row.bytes) else {
+        let Some(frame) = take_frame(&mut self.keeper, table, shape, home, row.bytes) else {
             return false;
         };
         self.pages.replace(row, frame);
