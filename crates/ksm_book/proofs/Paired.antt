@@ -4,6 +4,7 @@ use Rattle.std.specs.Prelude.{Contains}
 use Rattle.std.proofs.lemmas.Bool.{cases_Bool, false≢true}
 use Rattle.std.proofs.lemmas.List.{get_or-set_same, get_or-set_other, length-set}
 use Rattle.ksm_base.specs.declared.page.GuestPage.{GuestPage}
+use Rattle.ksm_base.specs.declared.row.PageState.TheVariants.{Merged}
 use Rattle.ksm_base.specs.declared.row.Row.{Row}
 use Rattle.ksm_base.specs.declared.row.DupRow.{DupRow}
 use Rattle.ksm_base.specs.Rows.{comes_before, same_page, row_at, merged_into, item_count, with_dup}
@@ -12,13 +13,14 @@ use Rattle.frame_core.specs.Ledger.{frame_at}
 use Rattle.frame_table.specs.Kept.{did}
 use Rattle.frame_table.specs.Named.{KeeperView}
 use Rattle.ksm_book.specs.Keeping.{Keeps, IsLawful, spent}
-use Rattle.ksm_book.specs.Laid.{IsLaid, Founds, Joins, founded, lay_of}
+use Rattle.ksm_book.specs.Laid.{Lay, IsLaid, Founds, Joins, founded, lay_of}
 use Rattle.ksm_book.specs.Linked.{PagesView, Replaced, ReplacedBoth, item_of_next, next_dup}
 use Rattle.ksm_book.specs.Listed.{Listed, rank, StandsAt}
 use Rattle.ksm_book.specs.Placement.{no_row}
 use Rattle.ksm_book.proofs.Found.{found_page}
 use Rattle.ksm_book.proofs.Laying.{lawful, shape_same}
 use Rattle.ksm_book.proofs.PageOrder.{same_page_refl}
+use Rattle.ksm_book.proofs.Ranks.{stands_as}
 use Rattle.ksm_book.proofs.Sharing.{item_base, joined_hand, laid_found, laid_joined, tree_is_home}
 
 -- a row of the same page leaves all ranks as they are
@@ -72,10 +74,23 @@ module _ (v w : Listed) (old row : Row) (f g : ℕ) (at : StandsAt v row.page ol
           false≢true (sym apart ∙ ap (same_page row.page) (sym one) ∙ same_page_refl row.page)
 
 -- a new dup of two rows stands on the frame of the first
-module _ (p : PagesView) (k : KeeperView) (h : IsLaid p.shape p.listed p.dups p.knobs p.next k) (place : ℕ) (first second : Row) (f g : ℕ) (at : StandsAt p.listed first.page first f) (lone : StandsAt p.listed second.page second g)
-    (founds : Founds (lay_of p k) place first) (joins : Joins (founded (lay_of p k) place first) second (item_of_next p first)) (apart : same_page first.page second.page ≡ false)
+module _ (p : PagesView) (k : KeeperView) (h : IsLaid p.shape p.listed p.dups p.knobs p.next k) (now : Lay) (seen : lay_of p k ≡ now) (place : ℕ) (first second : Row)
+    (told : Founds now place first) (asked : Joins (founded now place first) second (record first { state = Merged now.next })) (known : row_at second.page now.rows ≡ Some second) (apart : same_page first.page second.page ≡ false)
+    (r s : Row) (f g : ℕ) (first_found : StandsAt p.listed first.page r f) (second_found : StandsAt p.listed second.page s g)
     (new : PagesView) (both : ReplacedBoth p.listed new.listed (item_of_next p first) (item_of_next p second) f) (made : new ≡ record p { listed = new.listed; dups = with_dup (next_dup p place first) p.dups; next = p.next + 1 })
     (w1 w2 : KeeperView) (table : w1.table ≡ k.table) (cleared : w1.ledger ≡ record { frames = k.ledger.frames; places = set k.ledger.places place None }) (published : w2 ≡ did w1 (Publish place f) 0) where
+  founds : Founds (lay_of p k) place first
+  founds = subst (λ (x : Lay). Founds x place first) (sym seen) told
+
+  joins : Joins (founded (lay_of p k) place first) second (item_of_next p first)
+  joins = subst (λ (x : Lay). Joins (founded x place first) second (record first { state = Merged x.next })) (sym seen) asked
+
+  at : StandsAt p.listed first.page first f
+  at = stands_as p.listed now.rows first.page r first f first_found (ap (λ (x : Lay). x.rows) seen) told.row_is
+
+  lone : StandsAt p.listed second.page second g
+  lone = stands_as p.listed now.rows second.page s second g second_found (ap (λ (x : Lay). x.rows) seen) known
+
   abbrev v1 : Listed
   v1 = both.between
 

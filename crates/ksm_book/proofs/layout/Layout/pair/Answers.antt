@@ -47,43 +47,27 @@ clear-requires-clause-empty c none =
 
 pub share-requires-clause-lawful : goal.share-requires-clause-lawful
 share-requires-clause-lawful c =
-    let b = c.self.inside in
-    let back = sym c.self.view_is in
-    let at = stands_as b.pages.listed c.args.self.now.rows c.args.first.page c.in-Some.held.row c.args.first c.in-Some.held.frame c.in-Some.ensures.at (ap (λ (x : Lay). x.rows) c.self.view_is) c.requires.founds.row_is in
-    let lone = stands_as b.pages.listed c.args.self.now.rows c.args.second.page c.in-Some-find.lone.row c.args.second c.in-Some-find.lone.frame c.in-Some-find.ensures.at (ap (λ (x : Lay). x.rows) c.self.view_is) c.requires.second in
-    let founds = subst (λ (x : Lay). Founds x c.args.place c.args.first) back c.requires.founds in
-    let joins = subst (λ (x : Lay). Joins (founded x c.args.place c.args.first) c.args.second (record c.args.first { state = Merged x.next })) back c.requires.joins in
-    first_lawful b.pages b.keeper c.self.invariant c.args.place c.args.first c.args.second c.in-Some.held.frame c.in-Some-find.lone.frame at lone founds joins c.requires.apart c.pair.new.self c.in_ok-pair.ensures.rows c.in_ok-pair.ensures.made c.clear.new.keeper c.publish.new.self c.clear.ensures.own c.clear.ensures.ledger c.publish.ensures
+    first_lawful c.self.inside.pages c.self.inside.keeper c.self.invariant c.args.self.now c.self.view_is c.args.place c.args.first c.args.second c.requires.founds c.requires.joins c.requires.second c.requires.apart
+    c.in-Some.held.row c.in-Some-find.lone.row c.in-Some.held.frame c.in-Some-find.lone.frame c.in-Some.ensures.at c.in-Some-find.ensures.at
+    c.pair.new.self c.in_ok-pair.ensures.rows c.in_ok-pair.ensures.made c.clear.new.keeper c.publish.new.self c.clear.ensures.own c.clear.ensures.ledger c.publish.ensures
 
 pub share-requires-clause-few : goal.share-requires-clause-few
 share-requires-clause-few c =
-    let b = c.self.inside in
-    let back = sym c.self.view_is in
-    let at = stands_as b.pages.listed c.args.self.now.rows c.args.first.page c.in-Some.held.row c.args.first c.in-Some.held.frame c.in-Some.ensures.at (ap (λ (x : Lay). x.rows) c.self.view_is) c.requires.founds.row_is in
-    let lone = stands_as b.pages.listed c.args.self.now.rows c.args.second.page c.in-Some-find.lone.row c.args.second c.in-Some-find.lone.frame c.in-Some-find.ensures.at (ap (λ (x : Lay). x.rows) c.self.view_is) c.requires.second in
-    let founds = subst (λ (x : Lay). Founds x c.args.place c.args.first) back c.requires.founds in
-    let joins = subst (λ (x : Lay). Joins (founded x c.args.place c.args.first) c.args.second (record c.args.first { state = Merged x.next })) back c.requires.joins in
-    few_there b.pages b.keeper c.self.invariant c.args.place c.args.first c.args.second c.in-Some.held.frame c.in-Some-find.lone.frame at lone founds joins c.requires.apart c.pair.new.self c.in_ok-pair.ensures.rows c.in_ok-pair.ensures.made c.clear.new.keeper c.publish.new.self c.clear.ensures.own c.clear.ensures.ledger c.publish.ensures
+    few_there c.self.inside.pages c.self.inside.keeper c.self.invariant c.args.self.now c.self.view_is c.args.place c.args.first c.args.second c.requires.founds c.requires.joins c.requires.second c.requires.apart
+    c.in-Some.held.row c.in-Some-find.lone.row c.in-Some.held.frame c.in-Some-find.lone.frame c.in-Some.ensures.at c.in-Some-find.ensures.at
+    c.pair.new.self c.in_ok-pair.ensures.rows c.in_ok-pair.ensures.made c.clear.new.keeper c.publish.new.self c.clear.ensures.own c.clear.ensures.ledger c.publish.ensures
 
 pub release-requires-clause-lawful : goal.release-requires-clause-lawful
 release-requires-clause-lawful c =
-    let b = c.self.inside in
-    let back = sym c.self.view_is in
-    let at = stands_as b.pages.listed c.args.self.now.rows c.args.first.page c.in-Some.held.row c.args.first c.in-Some.held.frame c.in-Some.ensures.at (ap (λ (x : Lay). x.rows) c.self.view_is) c.requires.founds.row_is in
-    let lone = stands_as b.pages.listed c.args.self.now.rows c.args.second.page c.in-Some-find.lone.row c.args.second c.in-Some-find.lone.frame c.in-Some-find.ensures.at (ap (λ (x : Lay). x.rows) c.self.view_is) c.requires.second in
-    let founds = subst (λ (x : Lay). Founds x c.args.place c.args.first) back c.requires.founds in
-    let joins = subst (λ (x : Lay). Joins (founded x c.args.place c.args.first) c.args.second (record c.args.first { state = Merged x.next })) back c.requires.joins in
-    second_lawful b.pages b.keeper c.self.invariant c.args.place c.args.first c.args.second c.in-Some.held.frame c.in-Some-find.lone.frame at lone founds joins c.requires.apart c.pair.new.self c.in_ok-pair.ensures.rows c.in_ok-pair.ensures.made c.clear.new.keeper c.publish.new.self c.clear.ensures.own c.clear.ensures.ledger c.publish.ensures c.share.new.keeper c.share.ensures.own c.share.ensures.keeps
+    second_lawful c.self.inside.pages c.self.inside.keeper c.self.invariant c.args.self.now c.self.view_is c.args.place c.args.first c.args.second c.requires.founds c.requires.joins c.requires.second c.requires.apart
+    c.in-Some.held.row c.in-Some-find.lone.row c.in-Some.held.frame c.in-Some-find.lone.frame c.in-Some.ensures.at c.in-Some-find.ensures.at
+    c.pair.new.self c.in_ok-pair.ensures.rows c.in_ok-pair.ensures.made c.clear.new.keeper c.publish.new.self c.clear.ensures.own c.clear.ensures.ledger c.publish.ensures c.share.new.keeper c.share.ensures.own c.share.ensures.keeps
 
 pub invariant_of-self-2 : goal.invariant_of-self-2
 invariant_of-self-2 c =
-    let b = c.self.inside in
-    let back = sym c.self.view_is in
-    let at = stands_as b.pages.listed c.args.self.now.rows c.args.first.page c.in-Some.held.row c.args.first c.in-Some.held.frame c.in-Some.ensures.at (ap (λ (x : Lay). x.rows) c.self.view_is) c.requires.founds.row_is in
-    let lone = stands_as b.pages.listed c.args.self.now.rows c.args.second.page c.in-Some-find.lone.row c.args.second c.in-Some-find.lone.frame c.in-Some-find.ensures.at (ap (λ (x : Lay). x.rows) c.self.view_is) c.requires.second in
-    let founds = subst (λ (x : Lay). Founds x c.args.place c.args.first) back c.requires.founds in
-    let joins = subst (λ (x : Lay). Joins (founded x c.args.place c.args.first) c.args.second (record c.args.first { state = Merged x.next })) back c.requires.joins in
-    laid_paired b.pages b.keeper c.self.invariant c.args.place c.args.first c.args.second c.in-Some.held.frame c.in-Some-find.lone.frame at lone founds joins c.requires.apart c.pair.new.self c.in_ok-pair.ensures.rows c.in_ok-pair.ensures.made c.clear.new.keeper c.publish.new.self c.clear.ensures.own c.clear.ensures.ledger c.publish.ensures c.share.new.keeper c.share.ensures.own c.share.ensures.keeps c.release.new.keeper c.release.ensures.own c.release.ensures.keeps c.share.ensures.spent c.release.ensures.spent
+    laid_paired c.self.inside.pages c.self.inside.keeper c.self.invariant c.args.self.now c.self.view_is c.args.place c.args.first c.args.second c.requires.founds c.requires.joins c.requires.second c.requires.apart
+    c.in-Some.held.row c.in-Some-find.lone.row c.in-Some.held.frame c.in-Some-find.lone.frame c.in-Some.ensures.at c.in-Some-find.ensures.at
+    c.pair.new.self c.in_ok-pair.ensures.rows c.in_ok-pair.ensures.made c.clear.new.keeper c.publish.new.self c.clear.ensures.own c.clear.ensures.ledger c.publish.ensures c.share.new.keeper c.share.ensures.own c.share.ensures.keeps c.release.new.keeper c.release.ensures.own c.release.ensures.keeps c.share.ensures.spent c.release.ensures.spent
 
 pub returns-clause-does : goal.returns-clause-does
 returns-clause-does c =
