@@ -1,4 +1,3 @@
-pub mod PageOrder
 pub mod Paired
 pub mod Moves
 pub mod Logs

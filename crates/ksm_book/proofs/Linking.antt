@@ -36,7 +36,7 @@ use Rattle.ksm_tree.proofs.Ties.{tied_dropped, tied_left, tied_joined, tied_made
 use Rattle.ksm_book.specs.Laid.{elsewhere}
 use Rattle.ksm_book.specs.Linked.{AreLinked, HasRoom, IsVacant, PagesView}
 use Rattle.ksm_book.specs.Listed.{Listed}
-use Rattle.ksm_book.proofs.PageOrder.{same_page_eq}
+use Rattle.ksm_base.proofs.Pages.{same_page_eq}
 
 -- ---------------------------------------------------------------- changes
 

@@ -12,21 +12,9 @@ use Rattle.ksm_base.specs.declared.row.Row.{Row}
 use Rattle.ksm_base.specs.declared.row.PageState.TheVariants.{Private}
 use Rattle.ksm_book.specs.Plain.{IsAt}
 use Rattle.ksm_base.specs.Rows.{comes_before, same_page, InPageOrder, row_at, change_rows, change_row}
-use Rattle.ksm_book.proofs.PageOrder.{apart_first, apart_second}
-
-pub pairs_head : {X : Type 0} (R : X → X → Type 0) (x : X) (xs : List X) → AllPairs R (x ∷ xs) → All (R x) xs
-pairs_head R x xs pairs k d lt = pairs 0 (suc k) d (omega arith) (omega arith)
-
-pub pairs_tail : {X : Type 0} (R : X → X → Type 0) (x : X) (xs : List X) → AllPairs R (x ∷ xs) → AllPairs R xs
-pairs_tail R x xs pairs i j d lt in_range = pairs (suc i) (suc j) d (omega arith) (omega arith)
-
--- a change of no row changes nothing
-pub change_none : (test : Row → Bool) (f : Row → Row) (rows : List Row) → All (λ r. test r ≡ false) rows → change_rows test f rows ≡ rows
-change_none test f [] none = refl
-change_none test f (r ∷ rs) none =
-    let here = All-head (λ s. test s ≡ false) r rs none in
-    let rest = change_none test f rs (All-tail (λ s. test s ≡ false) r rs none) in
-    grind (arith, here, rest)
+use Rattle.ksm_base.proofs.Orders.{pairs_tail}
+use Rattle.ksm_base.proofs.Pages.{apart_first, apart_second}
+use Rattle.ksm_base.proofs.RowCounts.{change_none}
 
 -- in order, a change of a page's row is a write at its place
 pub change_at : (page : GuestPage) (f : Row → Row) (rows : List Row) (i : ℕ) (d : Row) → InPageOrder rows → i < length rows → same_page (get_or rows i d).page page ≡ true → change_row page f rows ≡ set rows i (f (get_or rows i d))
@@ -38,14 +26,6 @@ change_at page f (r ∷ rs) (suc i) d rise in_range same =
     let other = apart_first r.page (get_or rs i d).page page (rise 0 (suc i) d (omega arith) in_range) same in
     let rest = change_at page f rs i d (pairs_tail (λ a b. comes_before a.page b.page ≡ true) r rs rise) (omega arith) same in
     grind (arith, other, rest)
-
--- what no element passes is filtered to nothing
-pub filter_none : {X : Type 0} (p : X → Bool) (xs : List X) → All (λ x. p x ≡ false) xs → filter p xs ≡ []
-filter_none p [] none = refl
-filter_none p (x ∷ xs) none =
-    let here = All-head (λ y. p y ≡ false) x xs none in
-    let rest = filter_none p xs (All-tail (λ y. p y ≡ false) x xs none) in
-    grind (arith, here, rest)
 
 -- the place that a search gives is that of the first row that passes
 position_some_is : {X : Type 0} (p : X → Bool) (xs : List X) (i : ℕ) → position p xs ≡ Some i → position p xs ≡ Some (position_or_len p xs)

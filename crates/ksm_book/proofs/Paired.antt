@@ -19,7 +19,7 @@ use Rattle.ksm_book.specs.Listed.{Listed, rank, StandsAt}
 use Rattle.ksm_book.specs.Placement.{no_row}
 use Rattle.ksm_book.proofs.Found.{found_page}
 use Rattle.ksm_book.proofs.Laying.{lawful, shape_same}
-use Rattle.ksm_book.proofs.PageOrder.{same_page_refl}
+use Rattle.ksm_base.proofs.Pages.{same_page_refl}
 use Rattle.ksm_book.proofs.Ranks.{stands_as}
 use Rattle.ksm_book.proofs.Sharing.{item_base, joined_hand, laid_found, laid_joined, tree_is_home}
 

@@ -6,8 +6,8 @@ use Rattle.ksm_base.specs.declared.page.GuestPage.{GuestPage}
 use Rattle.ksm_base.specs.declared.row.Row.{Row}
 use Rattle.ksm_base.specs.Rows.{comes_before, same_page, row_at, InPageOrder}
 use Rattle.ksm_book.specs.Listed.{Listed, rank, StandsAt}
-use Rattle.ksm_book.proofs.PageOrder.{not_both, before_irrefl, same_page_eq}
-use Rattle.ksm_book.proofs.Lists.{pairs_tail, filter_none}
+use Rattle.ksm_base.proofs.Pages.{not_both, before_irrefl, same_page_eq}
+use Rattle.ksm_base.proofs.Orders.{pairs_tail, filter_none}
 
 same_before : (p q x : GuestPage) → comes_before p q ≡ true → same_page q x ≡ true → comes_before p x ≡ true
 same_before p q x before same = subst (λ y. comes_before p y ≡ true) (same_page_eq q x same) before

@@ -18,7 +18,7 @@ use Rattle.ksm_book.specs.declared.entry.Entry.{Entry}
 use Rattle.ksm_book.specs.Placement.{row_in}
 use Rattle.ksm_book.specs.Listed.{Listed, rank, StandsAt}
 use Rattle.ksm_book.specs.RowEntries.{row_of, frame_of, entry_of, listed}
-use Rattle.ksm_book.proofs.PageOrder.{same_page_eq, not_both, before_differs, before_trans}
+use Rattle.ksm_base.proofs.Pages.{same_page_eq, not_both, before_differs, before_trans}
 
 abbrev pub order : GuestPage → GuestPage → Ordering
 order = page_ord.ghosts.cmp

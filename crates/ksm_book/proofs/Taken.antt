@@ -6,8 +6,9 @@ use Rattle.std.proofs.lemmas.List.{take_all, drop_all, append-nil, length-append
 use Rattle.ksm_base.specs.declared.row.Row.{Row}
 use Rattle.ksm_base.specs.Rows.{comes_before, InPageOrder, change_rows}
 use Rattle.ksm_base.specs.Apply.{is_before}
-use Rattle.ksm_book.proofs.PageOrder.{before_irrefl, not_both}
-use Rattle.ksm_book.proofs.Lists.{pairs_tail, change_none}
+use Rattle.ksm_base.proofs.Pages.{before_irrefl, not_both}
+use Rattle.ksm_base.proofs.Orders.{pairs_tail}
+use Rattle.ksm_base.proofs.RowCounts.{change_none}
 
 -- the element that passes behind those that passed before it
 pub passed_at : {X : Type 0} (t : X → Bool) (xs : List X) (i : ℕ) (d : X) → i < length xs → t (get_or xs i d) ≡ true → slice_get (filter t xs) (length (filter t (take i xs))) ≡ Some (get_or xs i d)

@@ -21,8 +21,9 @@ use Rattle.ksm_book.specs.Laid.{Lay, LodgesAs, state_of}
 use Rattle.ksm_book.specs.Steps.{Does}
 use Rattle.ksm_book.specs.Unmerged.{first_changed, is_merged_of, IsStop, Gave}
 use Rattle.ksm_book.proofs.Logs.{chained}
-use Rattle.ksm_book.proofs.PageOrder.{same_page_refl, before_irrefl, not_both, before_differs, after_differs}
-use Rattle.ksm_book.proofs.Lists.{pairs_head, pairs_tail, change_none}
+use Rattle.ksm_base.proofs.Pages.{same_page_refl, before_irrefl, not_both, before_differs, after_differs}
+use Rattle.ksm_base.proofs.Orders.{pairs_head, pairs_tail}
+use Rattle.ksm_base.proofs.RowCounts.{change_none}
 
 and_false : (b : Bool) → (b && false) ≡ false
 and_false true = refl
