@@ -17,10 +17,9 @@ ghost use Rattle.ksm_book.specs.Unmerged.{is_merged_of as is_merged_of_guest};
 
 use crate::entry::Entry;
 use crate::row::{
-    is_merged, is_merged_of, is_private, is_waiting, let_go_before, settled, unshared,
-    with_mergeable,
+    is_merged, is_merged_of, is_private, is_waiting, let_go_before, unshared, with_mergeable,
 };
-use ksm_base::{Fault, GuestPage, Row};
+use ksm_base::{Fault, GuestPage, PageState, Row};
 use std::alloc::Global;
 use std::collections::BTreeMap;
 use std::marker::Model;
@@ -224,8 +223,10 @@ impl Rows {
         ensures rows { self.new.rows ≡ map as_settled self.old.rows }
         ensures frames { self.new.frames ≡ self.old.frames }
     {
-        self.entries.retain(|page, entry| {
-            entry.set_row(settled(entry.row(*page)));
+        self.entries.retain(|_, entry| {
+            if is_waiting(entry.state) {
+                entry.state = PageState::Private;
+            }
             true
         });
     }
