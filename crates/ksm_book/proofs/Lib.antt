@@ -22,3 +22,4 @@ pub mod Lawfulness
 pub mod DupMoves
 pub mod Linking
 pub mod Partners
+pub mod Onward

@@ -20,6 +20,7 @@ use Rattle.frame_table.specs.Named.{KeeperView}
 use Rattle.ksm_book.specs.Laid.{Lay, LodgesAs, state_of}
 use Rattle.ksm_book.specs.Steps.{Does}
 use Rattle.ksm_book.specs.Unmerged.{first_changed, is_merged_of, IsStop, Gave}
+use Rattle.ksm_base.proofs.Orders.{ordered_change}
 use Rattle.ksm_book.proofs.Logs.{chained}
 use Rattle.ksm_base.proofs.Pages.{same_page_refl, before_irrefl, not_both, before_differs, after_differs}
 use Rattle.ksm_base.proofs.Orders.{pairs_head, pairs_tail}
@@ -169,6 +170,11 @@ module _ (guest : ℕ) (stop : Option Row) where
 pub unshared_off : (guest : Option ℕ) (r : Row) → is_merged_of guest (unshared r) ≡ false
 unshared_off None r = refl
 unshared_off (Some g) r = and_false (is_of g r)
+
+-- the rows keep their order
+pub order_kept : (guest : Option ℕ) (n : ℕ) (rows now : List Row) → InPageOrder rows → now ≡ first_changed (is_merged_of guest) unshared n rows → InPageOrder now
+order_kept guest n rows now rise made = subst InPageOrder (sym (made ∙ all_before (is_merged_of guest) unshared (λ r. refl) (unshared_off guest) n rows rise))
+    (ordered_change (λ r. is_merged_of guest r && is_before (slice_get (filter (is_merged_of guest) rows) n) r) unshared rows (λ r. refl) rise)
 
 -- what a search finds after n of them
 pub next_is : (guest : Option ℕ) (n : ℕ) (rows now seen : List Row) (o : Option Row) → now ≡ first_changed (is_merged_of guest) unshared n rows → seen ≡ now → o ≡ find (is_merged_of guest) seen → slice_get (filter (is_merged_of guest) rows) n ≡ o

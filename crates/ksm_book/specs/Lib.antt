@@ -10,3 +10,4 @@ pub mod Whole
 pub mod Unmerged
 pub mod Mounted
 pub mod Lawful
+pub mod Scanned

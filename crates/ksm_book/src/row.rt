@@ -4,7 +4,7 @@ ghost use Rattle.std.specs.Prelude.{◌≡◌, ◌&&◌, bytes_eq, true, if◌th
 ghost use Rattle.ksm_base.specs.Answers.{every_row};
 ghost use Rattle.ksm_base.specs.Apply.{is_before, fresh_row as a_fresh_row, stored as with_bytes, moved as at_node, let_go as as_let_go, unshared as as_unshared};
 ghost use Rattle.ksm_base.specs.Refusals.{is_of as is_of_guest};
-ghost use Rattle.ksm_base.specs.Rows.{same_page as is_same_page, private_state, waiting_state, merged_state, settled as as_settled};
+ghost use Rattle.ksm_base.specs.Rows.{same_page as is_same_page, private_state, waiting_state, merged_state};
 ghost use Rattle.ksm_base.specs.State.{tree_of as row_tree};
 ghost use Rattle.ksm_book.specs.Unmerged.{is_merged_of as is_merged_of_guest};
 
@@ -105,19 +105,6 @@ pub fn moved(row: Row, node: u32) -> Row
         state: PageState::Private,
         ..row
     }
-}
-
-/// The row with a Waiting state made Private.
-pub fn settled(row: Row) -> Row
-    ensures { result ≡ as_settled row }
-{
-    if is_waiting(row.state) {
-        return Row {
-            state: PageState::Private,
-            ..row
-        };
-    }
-    row
 }
 
 /// The row, mergeable if it is of the guest.

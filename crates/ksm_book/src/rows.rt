@@ -1,7 +1,8 @@
 //! The rows in an ordered map: each page with what the book knows of it, and the frame that serves it.
 //!
 //! With n rows, `has`, `find`, `insert`, `replace` and `remove` take a number of steps in the order of log n. `next`
-//! takes as many, and one for each row that it passes over. All other calls walk over the rows, but for `len`.
+//! and `next_merged` take as many, and one for each row that they pass over. All other calls walk over the rows, but
+//! for `len`.
 
 ghost use Rattle.std.specs.Prelude.{◌≡◌, ◌<◌, ◌≤◌, [], None, Some, length, filter, find, count_by, map, insert, remove, slice_set, MatchOption, OnOk, OnErr, Err, is_some, true, option_map, ◌&&◌};
 ghost use Rattle.std.specs.List.{list_any};
@@ -10,17 +11,16 @@ ghost use Rattle.ksm_base.specs.declared.fault.Fault.TheVariants.{Memory};
 ghost use Rattle.ksm_base.specs.Refusals.{is_of as is_of_guest};
 ghost use Rattle.ksm_base.specs.Apply.{is_before, let_go as as_let_go, unshared as as_unshared};
 ghost use Rattle.ksm_base.specs.Rows.{row_at, with_row, without_page, change_row, change_rows, private_state, waiting_state, merged_state, settled as as_settled};
-ghost use Rattle.ksm_base.specs.Visit.{next_row as row_to_visit};
+ghost use Rattle.ksm_base.specs.Visit.{after_cursor as comes_after, next_row as row_to_visit};
 ghost use Rattle.ksm_book.specs.Listed.{rank, StandsAt, instead};
 ghost use Rattle.ksm_book.specs.RowEntries.{row_of, start_after};
 ghost use Rattle.ksm_book.specs.Unmerged.{is_merged_of as is_merged_of_guest};
 
 use crate::entry::Entry;
 use crate::row::{
-    is_merged, is_merged_of, is_private, is_waiting, let_go_before, settled, unshared,
-    with_mergeable,
+    is_merged, is_merged_of, is_private, is_waiting, let_go_before, unshared, with_mergeable,
 };
-use ksm_base::{Fault, GuestPage, Row};
+use ksm_base::{Fault, GuestPage, PageState, Row};
 use std::alloc::Global;
 use std::collections::BTreeMap;
 use std::marker::Model;
@@ -154,13 +154,13 @@ impl Rows {
         )
     }
 
-    /// The first merged row of a guest, or of all where no guest is given.
-    pub fn first_merged(&self, guest: Option<u16>) -> Option<Row>
-        ensures { result ≡ find (is_merged_of_guest guest) self.now.rows }
+    /// The first merged row of a guest after the cursor, or of all where no guest is given.
+    pub fn next_merged(&self, cursor: Option<GuestPage>, guest: Option<u16>) -> Option<Row>
+        ensures { result ≡ find (λ r. is_merged_of_guest guest r && comes_after cursor r.page) self.now.rows }
     {
         row_found(
             self.entries
-                .iter()
+                .range((after_cursor(cursor), Bound::Unbounded))
                 .find(|(page, entry)| is_merged_of(&entry.row(**page), guest)),
         )
     }
@@ -224,8 +224,10 @@ impl Rows {
         ensures rows { self.new.rows ≡ map as_settled self.old.rows }
         ensures frames { self.new.frames ≡ self.old.frames }
     {
-        self.entries.retain(|page, entry| {
-            entry.set_row(settled(entry.row(*page)));
+        self.entries.retain(|_, entry| {
+            if is_waiting(entry.state) {
+                entry.state = PageState::Private;
+            }
             true
         });
     }

@@ -1,12 +1,13 @@
 //! The scan: visits of mergeable pages, in the order of their pages, pass after pass.
 
-ghost use Rattle.std.specs.Prelude.{◌≡◌, [], Some, Err, OnOk, OnErr, false};
+ghost use Rattle.std.specs.Prelude.{◌≡◌, [], None, Some, Err, OnOk, IfOk, OnErr, IfSome, MatchOption, false};
 ghost use Rattle.ksm_base.specs.declared.fault.Fault.TheVariants.{Memory};
 ghost use Rattle.ksm_base.specs.Answers.{IsAnswerOrMemory};
 ghost use Rattle.ksm_base.specs.Apply.{after};
 ghost use Rattle.ksm_base.specs.Rows.{merged_state};
 ghost use Rattle.ksm_base.specs.Visit.{visit, visit_begun, visit_ended, pass_ended_at_last, row_visited, paired, partner, new_place, made_dup, next_row};
 ghost use Rattle.ksm_base.specs.State.{place_count};
+ghost use Rattle.ksm_book.specs.Scanned.{GoesOnAt};
 ghost use Rattle.ksm_book.specs.Steps.{Does};
 ghost use Rattle.ksm_book.specs.Whole.{nodes_got, HasShown};
 
@@ -34,12 +35,16 @@ impl State {
                 stop: None,
             });
         }
+        let mut next = None;
         for done in 0..count {
-            if self.visit(table).is_err() {
-                return Ok(Reply::Scanned {
-                    visits: done,
-                    stop: Some(Fault::Memory),
-                });
+            match self.visit(table, next) {
+                Ok(found) => next = found,
+                Err(_) => {
+                    return Ok(Reply::Scanned {
+                        visits: done,
+                        stop: Some(Fault::Memory),
+                    });
+                }
             }
         }
         Ok(Reply::Scanned {
@@ -48,53 +53,65 @@ impl State {
         })
     }
 
-    // One visit. Where memory is refused, it has only begun.
-    fn visit(&mut self, table: &FrameTable) -> Result<(), Fault>
+    // One visit, of the row at which the pass goes on, if that is known. Says where it goes on then. Where memory is refused, the visit has only begun.
+    fn visit(&mut self, table: &FrameTable, known: Option<Row>) -> Result<Option<Row>, Fault>
         requires own { self.old.keeper.table ≡ table.now }
+        requires known { IfSome known (GoesOnAt self.old.state) }
         ensures own { self.new.keeper.table ≡ self.old.keeper.table }
         ensures ok { OnOk result (self.new.state ≡ visit self.old.state) }
+        ensures next { IfOk result (λ next. IfSome next (GoesOnAt self.new.state)) }
         ensures err { OnErr result (self.new.state ≡ visit_begun self.old.state) }
         ensures fault { OnErr result (result ≡ Err Memory) }
         ensures does { Does self.old.keeper self.new.keeper [] }
     {
-        self.begin_visit();
-        let Some(row) = self.layout.rows().next(self.cursor) else {
-            return Ok(());
+        let Some(row) = self.begin_visit(known) else {
+            return Ok(None);
         };
         self.visit_row(table, row)?;
-        self.end_visit(row.page);
-        Ok(())
+        Ok(self.end_visit(row.page))
     }
 
-    // The pass ends where it has gone through all pages.
-    fn end_pass(&mut self)
+    // The pass ends where it has gone through all pages. Says where it goes on, if it does.
+    fn end_pass(&mut self) -> Option<Row>
         ensures state { self.new.state ≡ pass_ended_at_last self.old.state }
+        ensures next { MatchOption result (self.new.state.cursor ≡ None) (GoesOnAt self.new.state) }
         ensures keeper { self.new.keeper ≡ self.old.keeper }
     {
-        if self.cursor.is_some() && self.layout.rows().next(self.cursor).is_none() {
+        self.cursor?;
+        let next = self.layout.rows().next(self.cursor);
+        if next.is_none() {
             self.cursor = None;
             self.passes = self.passes.saturating_add(1);
         }
+        next
     }
 
-    // What is done before a page is visited.
-    fn begin_visit(&mut self)
+    // What is done before a page is visited, where the row at which the pass goes on may be known. Gives the row to visit.
+    fn begin_visit(&mut self, known: Option<Row>) -> Option<Row>
+        requires known { IfSome known (GoesOnAt self.old.state) }
         ensures state { self.new.state ≡ visit_begun self.old.state }
+        ensures next { result ≡ next_row self.new.state.cursor self.new.state.rows }
         ensures keeper { self.new.keeper ≡ self.old.keeper }
     {
-        self.end_pass();
-        if self.cursor.is_none() {
-            self.layout.settle_all();
+        if known.is_some() {
+            return known;
         }
+        let next = self.end_pass();
+        if next.is_some() {
+            return next;
+        }
+        self.layout.settle_all();
+        self.layout.rows().next(None)
     }
 
-    // What is done after a page was visited.
-    fn end_visit(&mut self, page: GuestPage)
+    // What is done after a page was visited. Says where the pass goes on, if it does.
+    fn end_visit(&mut self, page: GuestPage) -> Option<Row>
         ensures state { self.new.state ≡ visit_ended self.old.state page }
+        ensures next { IfSome result (GoesOnAt self.new.state) }
         ensures keeper { self.new.keeper ≡ self.old.keeper }
     {
         self.cursor = Some(page);
-        self.end_pass();
+        self.end_pass()
     }
 
     // What becomes of the page that is visited. Where memory is refused, nothing.

@@ -16,7 +16,7 @@ use frame_table::FrameTable;
 use ksm_base::{Command, Fault, Knobs, Reply, Row};
 
 /// The merged pages of a guest, or all of them, get frames of their own in order, until one finds none on its home.
-/// Says how many did, and the row that did not. Each of them is looked for from the first row on.
+/// Says how many did, and the row that did not.
 pub fn unshare_merged(
     layout: &mut Layout,
     table: &FrameTable,
@@ -31,13 +31,15 @@ pub fn unshare_merged(
     ensures gave { Gave layout.old.keeper layout.new.keeper (map (λ r. r.home) (take result.0 (filter (is_merged_of guest) layout.old.rows))) result.1 }
 {
     let count = layout.rows().len() as u64;
+    let mut last = None;
     for done in 0..count {
-        let Some(row) = layout.rows().first_merged(guest) else {
+        let Some(row) = layout.rows().next_merged(last, guest) else {
             return (done, None);
         };
         if !layout.resettle(table, unshared(row)) {
             return (done, Some(row));
         }
+        last = Some(row.page);
     }
     (count, None)
 }

@@ -1,30 +1,31 @@
-use Rattle.std.proofs.Common.{◌≡◌, ◌<◌, ◌∷◌, [], ◌++◌, map, take, length, Some, sym, ap, ◌∙◌, subst, arith}
+use Rattle.std.proofs.Common.{◌≡◌, ◌<◌, ◌∷◌, [], ◌++◌, map, take, length, Some, refl, sym, ap, ◌∙◌, subst, arith}
 use Rattle.std.specs.Prelude.{filter, find, slice_get, is_some}
 use Rattle.std.proofs.lemmas.List.Elements.{All-filter}
 use Rattle.ksm_base.specs.declared.row.Row.{Row}
-use Rattle.ksm_base.specs.Rows.{row_at}
+use Rattle.ksm_base.specs.Rows.{row_at, change_row}
 use Rattle.ksm_book.specs.Laid.{Lay}
 use Rattle.ksm_book.specs.Steps.{Does}
 use Rattle.ksm_book.specs.Unmerged.{is_merged_of}
 use Rattle.ksm_book.proofs.Logs.{chained}
-use Rattle.ksm_book.proofs.Unmerged.{next_is, one_unshared, none_past, some_within, all_some, homes_more, find_known, filter_fits}
+use Rattle.ksm_book.proofs.Onward.{IsDoneTo, found_onward, done_more}
+use Rattle.ksm_book.proofs.Unmerged.{next_is, one_unshared, none_past, some_within, all_some, homes_more, find_known, filter_fits, order_kept, unshared_off}
 use Rattle.ksm_book.proofs.unmerging.unshare_merged.Goals as goal
 
 pub returns-in_default-clause-stop : goal.returns-in_default-clause-stop
 returns-in_default-clause-stop c =
     let rows = c.args.layout.now.rows in
     let past = none_past (filter (is_merged_of c.args.guest) rows) c.loop-done.done
-    (next_is c.args.guest c.loop-done.done rows c.loop-done.layout.rows c.rows-in-loop-done.result.now.rows _ (ap (λ (x : Lay). x.rows) c.loop-done.invariant.state) c.rows-in-loop-done.ensures (sym c.in_default.is ∙ c.first_merged.ensures)) in
+    (next_is c.args.guest c.loop-done.done rows c.loop-done.layout.rows c.loop-done.layout.rows _ (ap (λ (x : Lay). x.rows) c.loop-done.invariant.state) refl (sym c.in_default.is ∙ found_onward (is_merged_of c.args.guest) c.loop-done.last c.loop-done.layout.rows c.rows-in-loop-done.result.now.rows c.next_merged.result c.loop-done.invariant.behind c.rows-in-loop-done.ensures c.next_merged.ensures)) in
     let within = c.loop-done.invariant.within in
     omega arith
 
 found : (c : goal.After-unshared) → slice_get (filter (is_merged_of c.args.guest) c.args.layout.now.rows) c.loop-done.done ≡ Some c.in-Some.row
-found c = next_is c.args.guest c.loop-done.done c.args.layout.now.rows c.loop-done.layout.rows c.rows-in-loop-done.result.now.rows (Some c.in-Some.row) (ap (λ (x : Lay). x.rows) c.loop-done.invariant.state) c.rows-in-loop-done.ensures (sym c.in-Some.is ∙ c.first_merged.ensures)
+found c = next_is c.args.guest c.loop-done.done c.args.layout.now.rows c.loop-done.layout.rows c.loop-done.layout.rows (Some c.in-Some.row) (ap (λ (x : Lay). x.rows) c.loop-done.invariant.state) refl (sym c.in-Some.is ∙ found_onward (is_merged_of c.args.guest) c.loop-done.last c.loop-done.layout.rows c.rows-in-loop-done.result.now.rows c.next_merged.result c.loop-done.invariant.behind c.rows-in-loop-done.ensures c.next_merged.ensures)
 
 pub resettle-requires-clause-known : goal.resettle-requires-clause-known
 resettle-requires-clause-known c =
     ap (λ (x : Row). is_some (row_at x.page c.loop-done.layout.rows)) c.unshared.ensures
-    ∙ find_known (is_merged_of c.args.guest) c.loop-done.layout.rows c.in-Some.row (sym (sym c.in-Some.is ∙ c.first_merged.ensures ∙ ap (find (is_merged_of c.args.guest)) c.rows-in-loop-done.ensures))
+    ∙ find_known (is_merged_of c.args.guest) c.loop-done.layout.rows c.in-Some.row (sym (sym c.in-Some.is ∙ found_onward (is_merged_of c.args.guest) c.loop-done.last c.loop-done.layout.rows c.rows-in-loop-done.result.now.rows c.next_merged.result c.loop-done.invariant.behind c.rows-in-loop-done.ensures c.next_merged.ensures))
 
 pub resettle-requires-clause-home : goal.resettle-requires-clause-home
 resettle-requires-clause-home c =
@@ -36,24 +37,29 @@ resettle-requires-clause-home c =
     omega arith
 
 pub returns-then-not-resettle-clause-stop : goal.returns-then-not-resettle-clause-stop
-returns-then-not-resettle-clause-stop c = next_is c.args.guest c.loop-done.done c.args.layout.now.rows c.loop-done.layout.rows c.rows-in-loop-done.result.now.rows (Some c.in-Some.row) (ap (λ (x : Lay). x.rows) c.loop-done.invariant.state) c.rows-in-loop-done.ensures (sym c.in-Some.is ∙ c.first_merged.ensures)
+returns-then-not-resettle-clause-stop c = next_is c.args.guest c.loop-done.done c.args.layout.now.rows c.loop-done.layout.rows c.loop-done.layout.rows (Some c.in-Some.row) (ap (λ (x : Lay). x.rows) c.loop-done.invariant.state) refl (sym c.in-Some.is ∙ found_onward (is_merged_of c.args.guest) c.loop-done.last c.loop-done.layout.rows c.rows-in-loop-done.result.now.rows c.next_merged.result c.loop-done.invariant.behind c.rows-in-loop-done.ensures c.next_merged.ensures)
 
 pub loop-done-preserved : goal.loop-done-preserved
 loop-done-preserved c =
     let old = c.args.layout.now in
-    let merged = filter (is_merged_of c.args.guest) old.rows in
+    let row = c.in-Some.row in
+    let guest = c.args.guest in
+    let merged = filter (is_merged_of guest) old.rows in
     let housed = c.if-not-resettle.ensures.housed in
     let made = ap (λ (x : Lay). x.rows) c.loop-done.invariant.state in
-    let at : slice_get merged c.loop-done.done ≡ Some c.in-Some.row = next_is c.args.guest c.loop-done.done old.rows c.loop-done.layout.rows c.rows-in-loop-done.result.now.rows (Some c.in-Some.row) made c.rows-in-loop-done.ensures (sym c.in-Some.is ∙ c.first_merged.ensures) in
-    let met = sym (sym c.in-Some.is ∙ c.first_merged.ensures ∙ ap (find (is_merged_of c.args.guest)) c.rows-in-loop-done.ensures) in
-    let rows = one_unshared c.args.guest c.loop-done.done old.rows c.loop-done.layout.rows c.in-Some.row c.unshared.result c.requires.rise made c.unshared.ensures met in
+    let at : slice_get merged c.loop-done.done ≡ Some row = next_is c.args.guest c.loop-done.done c.args.layout.now.rows c.loop-done.layout.rows c.loop-done.layout.rows (Some c.in-Some.row) (ap (λ (x : Lay). x.rows) c.loop-done.invariant.state) refl (sym c.in-Some.is ∙ found_onward (is_merged_of c.args.guest) c.loop-done.last c.loop-done.layout.rows c.rows-in-loop-done.result.now.rows c.next_merged.result c.loop-done.invariant.behind c.rows-in-loop-done.ensures c.next_merged.ensures) in
+    let first_is : find (is_merged_of guest) c.loop-done.layout.rows ≡ Some row = sym (sym c.in-Some.is ∙ found_onward (is_merged_of c.args.guest) c.loop-done.last c.loop-done.layout.rows c.rows-in-loop-done.result.now.rows c.next_merged.result c.loop-done.invariant.behind c.rows-in-loop-done.ensures c.next_merged.ensures) in
+    let rows = one_unshared guest c.loop-done.done old.rows c.loop-done.layout.rows row c.unshared.result c.requires.rise made c.unshared.ensures first_is in
+    let off = ap (is_merged_of guest) c.unshared.ensures ∙ unshared_off guest row in
     let first = c.loop-done.invariant.does in
     let second = housed.does in
-    let homes = homes_more merged c.loop-done.done c.in-Some.row at in
-    let inside = some_within merged c.loop-done.done c.in-Some.row at in
+    let homes = homes_more merged c.loop-done.done row at in
+    let inside = some_within merged c.loop-done.done row at in
     record {
       own = c.resettle.ensures.own ∙ c.loop-done.invariant.own;
       state = housed.state ∙ (λ i. record (c.loop-done.invariant.state i) { rows = rows i; keeper = c.resettle.new.self.keeper });
+      behind = subst (IsDoneTo (is_merged_of guest) (Some row.page)) (sym (ap (λ (x : Lay). x.rows) housed.state ∙ ap (λ (x : Row). change_row x.page (λ _. c.unshared.result) c.loop-done.layout.rows) c.unshared.ensures))
+          (done_more (is_merged_of guest) c.loop-done.layout.rows row c.unshared.result off (order_kept guest c.loop-done.done old.rows c.loop-done.layout.rows c.requires.rise made) first_is);
       does = subst (λ ns. Does old.keeper c.resettle.new.self.keeper ns)
           ((λ i. map (λ (r : Row). r.home) (take c.loop-done.done merged) ++ (c.unshared.ensures i).home ∷ []) ∙ sym homes)
           (_, chained old.keeper c.loop-done.layout.keeper c.resettle.new.self.keeper (map (λ (r : Row). r.home) (take c.loop-done.done merged)) (c.unshared.result.home ∷ []) first.0 second.0 first.1 second.1);

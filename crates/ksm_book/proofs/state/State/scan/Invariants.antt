@@ -1,5 +1,7 @@
 use Rattle.std.proofs.Common.{◌≡◌, []}
+use Rattle.std.specs.Prelude.{IfSome}
 use Rattle.ksm_base.specs.Visit.{visits}
+use Rattle.ksm_book.specs.Scanned.{GoesOnAt}
 use Rattle.ksm_book.specs.Steps.{Does}
 use Rattle.ksm_book.proofs.state.State.scan.Given as goal
 
@@ -7,5 +9,6 @@ abbrev pub invariant-loop-done : goal.invariant-loop-done
 invariant-loop-done l = record {
   own : l.self.keeper.table ≡ l.fn.self.keeper.table;
   state : l.self.state ≡ visits l.done l.fn.self.state;
+  next : IfSome l.next (GoesOnAt l.self.state);
   does : Does l.fn.self.keeper l.self.keeper [];
 }
