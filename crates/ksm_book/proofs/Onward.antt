@@ -7,8 +7,9 @@ use Rattle.ksm_base.specs.declared.page.GuestPage.{GuestPage}
 use Rattle.ksm_base.specs.declared.row.Row.{Row}
 use Rattle.ksm_base.specs.Rows.{comes_before, same_page, InPageOrder, change_row}
 use Rattle.ksm_base.specs.Visit.{after_cursor}
-use Rattle.ksm_book.proofs.PageOrder.{same_page_refl, before_differs}
-use Rattle.ksm_book.proofs.Lists.{pairs_head, pairs_tail, change_none}
+use Rattle.ksm_base.proofs.Pages.{same_page_refl, before_differs}
+use Rattle.ksm_base.proofs.Orders.{pairs_head, pairs_tail}
+use Rattle.ksm_base.proofs.RowCounts.{change_none}
 
 -- no row passes but those after the cursor
 abbrev pub IsDoneTo : (Row → Bool) → Option GuestPage → List Row → Type 0
