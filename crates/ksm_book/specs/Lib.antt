@@ -11,3 +11,4 @@ pub mod Unmerged
 pub mod Mounted
 pub mod Lawful
 pub mod Scanned
+pub mod Wanted

@@ -7,8 +7,18 @@ ghost use Rattle.ksm_base.specs.Refusals.{is_of as is_of_guest};
 ghost use Rattle.ksm_base.specs.Rows.{same_page as is_same_page, private_state, waiting_state, merged_state};
 ghost use Rattle.ksm_base.specs.State.{tree_of as row_tree};
 ghost use Rattle.ksm_book.specs.Unmerged.{is_merged_of as is_merged_of_guest};
+ghost use Rattle.ksm_book.specs.Wanted.{is_wanted as is_a_wanted};
 
 use ksm_base::{GuestPage, Knobs, PageBytes, PageState, Row};
+
+/// The rows that a search is for.
+#[derive(Clone, Copy)]
+pub enum Wanted {
+    /// Those that the scan visits.
+    Mergeable,
+    /// Merged ones of a guest, or of all guests where none is given.
+    MergedOf(Option<u16>),
+}
 
 pub fn same_page(p: GuestPage, q: GuestPage) -> bool
     ensures { result ≡ is_same_page p q }
@@ -53,6 +63,16 @@ pub fn is_merged_of(row: &Row, guest: Option<u16>) -> bool
     match guest {
         None => is_merged(row.state),
         Some(guest) => is_of(row, guest) && is_merged(row.state),
+    }
+}
+
+/// Whether a search is for the row.
+pub fn is_wanted(row: &Row, wanted: Wanted) -> bool
+    ensures { result ≡ is_a_wanted wanted row.now }
+{
+    match wanted {
+        Wanted::Mergeable => row.mergeable,
+        Wanted::MergedOf(guest) => is_merged_of(row, guest),
     }
 }
 

@@ -15,10 +15,11 @@ ghost use Rattle.ksm_base.specs.Visit.{after_cursor as comes_after, next_row as 
 ghost use Rattle.ksm_book.specs.Listed.{rank, StandsAt, instead};
 ghost use Rattle.ksm_book.specs.RowEntries.{row_of, start_after};
 ghost use Rattle.ksm_book.specs.Unmerged.{is_merged_of as is_merged_of_guest};
+ghost use Rattle.ksm_book.specs.Wanted.{is_wanted as is_a_wanted};
 
 use crate::entry::Entry;
 use crate::row::{
-    is_merged, is_merged_of, is_private, is_waiting, let_go_before, unshared, with_mergeable,
+    Wanted, is_merged, is_private, is_waiting, is_wanted, let_go_before, unshared, with_mergeable,
 };
 use ksm_base::{Fault, GuestPage, PageState, Row};
 use std::alloc::Global;
@@ -143,26 +144,29 @@ impl Rows {
         let _ = self.entries.remove(&page);
     }
 
-    /// The row that is visited next: the least mergeable one after the cursor.
-    pub fn next(&self, cursor: Option<GuestPage>) -> Option<Row>
-        ensures { result ≡ row_to_visit cursor self.now.rows }
+    // The first row after the cursor that a search is for.
+    fn first_after(&self, cursor: Option<GuestPage>, wanted: Wanted) -> Option<Row>
+        ensures { result ≡ find (λ r. is_a_wanted wanted r && comes_after cursor r.page) self.now.rows }
     {
         row_found(
             self.entries
                 .range((after_cursor(cursor), Bound::Unbounded))
-                .find(|(_, entry)| entry.mergeable),
+                .find(|(page, entry)| is_wanted(&entry.row(**page), wanted)),
         )
+    }
+
+    /// The row that is visited next: the least mergeable one after the cursor.
+    pub fn next(&self, cursor: Option<GuestPage>) -> Option<Row>
+        ensures { result ≡ row_to_visit cursor self.now.rows }
+    {
+        self.first_after(cursor, Wanted::Mergeable)
     }
 
     /// The first merged row of a guest after the cursor, or of all where no guest is given.
     pub fn next_merged(&self, cursor: Option<GuestPage>, guest: Option<u16>) -> Option<Row>
         ensures { result ≡ find (λ r. is_merged_of_guest guest r && comes_after cursor r.page) self.now.rows }
     {
-        row_found(
-            self.entries
-                .range((after_cursor(cursor), Bound::Unbounded))
-                .find(|(page, entry)| is_merged_of(&entry.row(**page), guest)),
-        )
+        self.first_after(cursor, Wanted::MergedOf(guest))
     }
 
     /// Whether the guest has a row.
