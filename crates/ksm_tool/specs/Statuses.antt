@@ -1,5 +1,5 @@
 -- The exit statuses of the program (own).
-use Rattle.std.specs.Prelude.{ℕ, Bool, true, false, Result, Ok, Err}
+use Rattle.std.specs.Prelude.{◌≡◌, ◌⊎◌, ℕ, Bool, true, false, Result, Ok, Err}
 use Rattle.ksm_script.specs.declared.script.End.{End}
 use Rattle.ksm_script.specs.declared.script.End.TheVariants.{AllRead, BadLine}
 use Rattle.ksm_script.specs.declared.script.RunFault.{RunFault}
@@ -19,3 +19,7 @@ status_after (Err fault) sent = Broken
 status_after (Ok end) false = Broken
 status_after (Ok AllRead) true = Done
 status_after (Ok (BadLine line)) true = NotUnderstood
+
+-- a status of a program that ends before its first line
+abbrev pub IsBeforeRun : Status → Type 0
+IsBeforeRun status = (status ≡ NoMemory) ⊎ (status ≡ NotUnderstood)

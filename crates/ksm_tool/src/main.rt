@@ -2,8 +2,11 @@
 //! and a reply to each goes to standard output.
 #![tactic(auto)]
 
-ghost use Rattle.std.specs.Prelude.{IfOk};
+ghost use Rattle.std.specs.Prelude.{◌≡◌, ℕ, List, Option, IfErr, IfOk};
+ghost use Rattle.std.specs.Io.KnownBytes.{IsAtEnd};
 ghost use Rattle.ksm_base.specs.Values.{IsShape};
+ghost use Rattle.ksm_script.specs.Script.{AnsweredAll, AnsweredToBad};
+ghost use Rattle.ksm_tool.specs.Statuses.{IsBeforeRun};
 
 mod console;
 mod options;
@@ -30,7 +33,8 @@ fn main(rt: HostRuntime) -> ExitCode {
 
 /// The shape that the program's words tell. What is said in place of one goes to standard error.
 fn shape<R: Env + Eprint + AllocGlobal>(rt: &R) -> Result<Shape, Status>
-    ensures { IfOk result (λ shape. IsShape shape) }
+    ensures shape { IfOk result (λ shape. IsShape shape) }
+    ensures status { IfErr result IsBeforeRun }
 {
     let words = words(rt)?;
     options::options(rt.alloc(), words.as_slice()).map_err(|error| match error.kind() {
@@ -40,7 +44,9 @@ fn shape<R: Env + Eprint + AllocGlobal>(rt: &R) -> Result<Shape, Status>
 }
 
 /// The program's words, its name first.
-fn words<R: Env + Eprint + AllocGlobal>(rt: &R) -> Result<Vec<String>, Status> {
+fn words<R: Env + Eprint + AllocGlobal>(rt: &R) -> Result<Vec<String>, Status>
+    ensures { IfErr result IsBeforeRun }
+{
     let words = std::env::args(rt).map_err(|error| match error.kind() {
         io::ErrorKind::OutOfMemory => Status::NoMemory,
         _ => not_understood(rt, "error: an argument is not valid UTF-8\n"),
@@ -52,7 +58,9 @@ fn words<R: Env + Eprint + AllocGlobal>(rt: &R) -> Result<Vec<String>, Status> {
 
 /// Says on standard error why the words are no options. Where that takes no text, the status says
 /// it all.
-fn not_understood<R: Eprint, T: Display + Drop>(rt: &R, why: T) -> Status {
+fn not_understood<R: Eprint, T: Display + Drop>(rt: &R, why: T) -> Status
+    ensures { result ≡ Status.NotUnderstood }
+{
     let _ = eprint!(rt; "{why}");
     Status::NotUnderstood
 }
@@ -76,13 +84,20 @@ fn serve<R: Input + Print + AllocGlobal>(rt: &R, shape: Shape) -> Status
     status
 }
 
-/// Answers the script that `input` holds.
+/// Answers the script that `input` holds. At `Done` all of it was read, and each line carried out; at
+/// `NotUnderstood` it was read to a bad line. With no memory for the reading nothing is done.
 fn answer<I: io::Read + Drop, O: io::Write + Drop>(
     alloc: Global,
     input: I,
     console: &Console<O>,
     session: &mut Session,
-) -> Status {
+) -> Status
+    ensures done { result ≡ Status.Done → (text : List ℕ) × (left : Option (List ℕ))
+        × AnsweredAll (I.remaining input) left session.old.state session.new.state text × IsAtEnd left }
+    ensures bad { result ≡ Status.NotUnderstood → (text : List ℕ) × (count : ℕ) × (left : Option (List ℕ))
+        × AnsweredToBad (I.remaining input) left session.old.state session.new.state text count }
+    ensures memory { result ≡ Status.NoMemory → session.new ≡ session.old }
+{
     let Ok(input) = BufReader::with_capacity(alloc, BLOCK, input) else {
         return Status::NoMemory;
     };
