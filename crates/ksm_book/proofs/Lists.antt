@@ -1,17 +1,16 @@
 -- Rows in order: what a change at one place does.
-use Rattle.std.proofs.Common.{◌≡◌, ℕ, zero, suc, ◌<◌, ◌≤◌, Bool, true, false, List, [], ◌∷◌, length, get_or, set, Some, None, Option, refl, sym, ap, ◌∙◌, arith}
-use Rattle.std.specs.Prelude.{All, AllPairs, filter, position, MatchOption, slice_get}
+use Rattle.std.proofs.Common.{◌≡◌, ℕ, zero, suc, ◌<◌, ◌≤◌, Bool, true, List, [], ◌∷◌, length, get_or, set, Some, None, Option, sym, ap, ◌∙◌, arith}
+use Rattle.std.specs.Prelude.{position, MatchOption, slice_get}
 use Rattle.std.specs.List.{position_or_len}
 use Rattle.std.proofs.lemmas.List.Quantifiers.{position-Some}
 use Rattle.std.proofs.lemmas.Option.{slice_get_past, slice_get-get_or, same_Some}
 use Rattle.std.proofs.lemmas.Bool.Decides.{nat_tests}
-use Rattle.std.proofs.lemmas.List.Elements.{All-head, All-tail}
 use Rattle.std.proofs.lemmas.List.Folds.{find_at}
 use Rattle.ksm_base.specs.declared.page.GuestPage.{GuestPage}
 use Rattle.ksm_base.specs.declared.row.Row.{Row}
 use Rattle.ksm_base.specs.declared.row.PageState.TheVariants.{Private}
 use Rattle.ksm_book.specs.Plain.{IsAt}
-use Rattle.ksm_base.specs.Rows.{comes_before, same_page, InPageOrder, row_at, change_rows, change_row}
+use Rattle.ksm_base.specs.Rows.{comes_before, same_page, InPageOrder, row_at, change_row}
 use Rattle.ksm_base.proofs.Orders.{pairs_tail}
 use Rattle.ksm_base.proofs.Pages.{apart_first, apart_second}
 use Rattle.ksm_base.proofs.RowCounts.{change_none}

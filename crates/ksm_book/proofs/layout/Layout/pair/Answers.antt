@@ -1,15 +1,13 @@
-use Rattle.std.proofs.Common.{◌≡◌, ◌∙◌, ◌<◌, ◌≤◌, ◌^◌, false, [], Some, refl, sym, ap, subst, arith}
+use Rattle.std.proofs.Common.{◌≡◌, ◌∙◌, ◌<◌, ◌≤◌, ◌^◌, false, [], Some, refl, sym, subst, arith}
 use Rattle.std.specs.Prelude.{All}
-use Rattle.ksm_base.specs.declared.row.PageState.TheVariants.{Merged}
 use Rattle.ksm_base.specs.Rows.{merged_into, row_at}
 use Rattle.ksm_base.specs.Values.{frames_of}
 use Rattle.frame_core.specs.declared.event.KeeperStep.TheVariants.{Publish}
-use Rattle.ksm_book.specs.Laid.{Lay, Founds, Joins, IsLaid, founded}
+use Rattle.ksm_book.specs.Laid.{Lay, Founds, IsLaid}
 use Rattle.ksm_book.specs.Linked.{PagesView, IsVacant}
 use Rattle.ksm_book.specs.Steps.{Does}
 use Rattle.ksm_book.proofs.Logs.{chained, one_step}
 use Rattle.ksm_book.proofs.Paired.{few_there, first_lawful, second_lawful, laid_paired}
-use Rattle.ksm_book.proofs.Ranks.{stands_as}
 use Rattle.ksm_book.proofs.Sharing.{not_taken, vacant_loose, spent_most}
 use Rattle.ksm_book.proofs.layout.Layout.pair.Goals as goal
 
