@@ -2,11 +2,13 @@
 //! and a reply to each goes to standard output.
 #![tactic(auto)]
 
-ghost use Rattle.std.specs.Prelude.{◌≡◌, ℕ, List, Option, IfErr, IfOk};
+ghost use Rattle.std.specs.Prelude.{◌≡◌, ℕ, List, Option, Err, IfErr, IfOk, map, string_bytes};
 ghost use Rattle.std.specs.Io.KnownBytes.{IsAtEnd};
 ghost use Rattle.ksm_base.specs.Values.{IsShape};
 ghost use Rattle.ksm_script.specs.Script.{AnsweredAll, AnsweredToBad};
+ghost use Rattle.ksm_tool.specs.Settings.{Given};
 ghost use Rattle.ksm_tool.specs.Statuses.{IsBeforeRun};
+ghost use Rattle.ksm_tool.specs.Told.{IsToldBy, Tells};
 
 mod console;
 mod options;
@@ -36,11 +38,23 @@ fn shape<R: Env + Eprint + AllocGlobal>(rt: &R) -> Result<Shape, Status>
     ensures shape { IfOk result (λ shape. IsShape shape) }
     ensures status { IfErr result IsBeforeRun }
 {
-    let words = words(rt)?;
-    options::options(rt.alloc(), words.as_slice()).map_err(|error| match error.kind() {
-        ErrorKind::OutOfMemory => Status::NoMemory,
-        _ => not_understood(rt, error),
-    })
+    shape_of(rt, words(rt)?.as_slice())
+}
+
+/// The shape that these words tell. They are not understood only where they tell none.
+fn shape_of<R: Eprint + AllocGlobal>(rt: &R, words: &[String]) -> Result<Shape, Status>
+    ensures shape { IfOk result (λ shape. IsShape shape) }
+    ensures told { IfOk result (λ shape. IsToldBy (map string_bytes words.now) shape) }
+    ensures status { IfErr result IsBeforeRun }
+    ensures refused { result ≡ Err Status.NotUnderstood → (given : List Given) → ¬ (Tells (map string_bytes words.now) given) }
+{
+    match options::options(rt.alloc(), words) {
+        Ok(shape) => Ok(shape),
+        Err(error) => match error.kind() {
+            ErrorKind::OutOfMemory => Err(Status::NoMemory),
+            _ => Err(not_understood(rt, error)),
+        },
+    }
 }
 
 /// The program's words, its name first.
