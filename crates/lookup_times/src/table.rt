@@ -1,4 +1,4 @@
-ghost use Rattle.std.specs.Prelude.{◌≡◌, ℕ, ◌<◌, All, IsSomeAnd, Some, length};
+ghost use Rattle.std.specs.Prelude.{◌≡◌, ℕ, ◌+◌, ◌<◌, ◌≤◌, All, IsSomeAnd, Some, length, vec_len, vec_capacity};
 ghost use Rattle.ksm_base.specs.Values.{frames_of};
 ghost use Rattle.frame_core.specs.declared.seat.Life.{Life};
 ghost use Rattle.frame_core.specs.Ledger.{named_at};
@@ -6,7 +6,7 @@ ghost use Rattle.frame_table.specs.Seats.{new_keeper};
 
 use crate::worker::{Worker, work};
 use frame_core::Kind;
-use frame_table::{FrameTable, Keeper};
+use frame_table::{FrameTable, Keeper, Pass};
 use ksm_base::{Fault, PAGE_WORDS, Shape};
 use std::alloc::Global;
 use std::thread::{Threads, for_each_mut};
@@ -63,6 +63,31 @@ fn work_all<R: Threads + Sync>(rt: &R, table: &FrameTable, workers: &mut [Worker
     for_each_mut(rt, workers, 4, &|_, worker| work(table, worker));
 }
 
+// Takes the passes back. Answers the sum of all words that the workers read.
+fn take_back(table: &FrameTable, mut workers: Vec<Worker>, passes: &mut Vec<Pass>) -> u64
+    requires workers { All (λ w. IsSomeAnd w.pass (λ p. p.table ≡ table.now)) workers.items }
+    requires passes { All (λ p. p.table ≡ table.now) passes.old.items }
+    requires room { vec_len passes.old + vec_len workers ≤ vec_capacity passes.old }
+    ensures passes { All (λ p. p.table ≡ table.now) passes.new.items }
+    ensures all { vec_len passes.new ≡ vec_len passes.old + vec_len workers }
+{
+    let mut sum = 0u64;
+    while let Some(worker) = workers.pop() {
+        let Worker {
+            pass,
+            sum: words,
+            first: _,
+            spread: _,
+            rounds: _,
+        } = worker;
+        let Some(pass) = pass else { unreachable!() };
+        sum = sum.wrapping_add(words);
+        passes.push_reserved(pass);
+    }
+    workers.destroy_empty();
+    sum
+}
+
 /// The sum of all words read.
 pub fn run<R: Threads + Sync>(
     rt: &R,
@@ -91,20 +116,7 @@ pub fn run<R: Threads + Sync>(
         });
     }
     work_all(rt, &table, workers.as_mut_slice());
-    let mut sum = 0u64;
-    while let Some(worker) = workers.pop() {
-        let Worker {
-            pass,
-            sum: words,
-            first: _,
-            spread: _,
-            rounds: _,
-        } = worker;
-        let Some(pass) = pass else { unreachable!() };
-        sum = sum.wrapping_add(words);
-        passes.push_reserved(pass);
-    }
-    workers.destroy_empty();
+    let sum = take_back(&table, workers, &mut passes);
     let _closed = table.close(keeper, passes);
     Ok(sum)
 }

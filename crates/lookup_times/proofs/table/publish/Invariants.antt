@@ -1,7 +1,6 @@
-use Rattle.std.proofs.Common.{◌≡◌, ℕ, length, Some}
+use Rattle.std.proofs.Common.{◌≡◌, length}
 use Rattle.frame_core.specs.declared.frame.Kind.TheVariants.{Filling}
-use Rattle.frame_core.specs.declared.seat.Life.{Life}
-use Rattle.frame_core.specs.Ledger.{frame_at, named_at}
+use Rattle.frame_core.specs.Ledger.{frame_at}
 use Rattle.lookup_times.proofs.table.publish.Given as goal
 
 abbrev pub invariant-loop-i : goal.invariant-loop-i

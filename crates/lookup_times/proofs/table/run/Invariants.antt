@@ -16,15 +16,3 @@ invariant-loop-pass g l = record {
 
 abbrev pub decreases-loop-pass : goal.decreases-loop-pass
 decreases-loop-pass g l = goal.left-loop-pass g l
-
-abbrev pub invariant-loop-worker : goal.invariant-loop-worker
-invariant-loop-worker g l = record {
-  keeper : l.keeper.table ≡ l.table;
-  passes : All (λ (p : PassView). p.table ≡ l.table) l.passes.items;
-  workers : All (λ (w : Worker). IsSomeAnd w.pass (λ p. p.table ≡ l.table)) l.workers.items;
-  all : vec_len l.passes + vec_len l.workers ≡ 4;
-  back : 4 ≤ vec_capacity l.passes;
-}
-
-abbrev pub decreases-loop-worker : goal.decreases-loop-worker
-decreases-loop-worker g l = goal.left-loop-worker g l
