@@ -30,7 +30,8 @@ use Rattle.frame_table.specs.Named.{KeeperView}
 use Rattle.frame_table.specs.Kept.{did}
 use Rattle.ksm_book.specs.Placement.{node_of, kind_for, life_or, place_frame, IsInLife, Agrees, DupFits, Placed}
 use Rattle.ksm_book.specs.Keeping.{past_lives, spent_on, spent}
-use Rattle.ksm_book.specs.Laid.{Lay, IsLaid, state_of}
+use Rattle.ksm_book.specs.Laid.{Lay, IsLaid, state_of, lay_of}
+use Rattle.ksm_book.specs.Linked.{PagesView}
 use Rattle.ksm_book.specs.Listed.{Listed, rank, StandsAt, instead}
 use Rattle.ksm_book.specs.Mounted.{FoundFree, Mounted}
 use Rattle.ksm_book.specs.Steps.{Log, Did, IsLowestFree, free_kind}
@@ -66,14 +67,29 @@ index_found t (y ∷ ys) x found = elim (cases_Bool (t y)) [
 ]
 
 -- the dup that moves, and its first item
-module _ (sh : Shape) (v : Listed) (dups : List DupRow) (knobs : Knobs) (next : ℕ) (k : KeeperView) (h : IsLaid sh v dups knobs next k)
-    (now : Lay) (is : record { shape = sh; rows = v.rows; dups = dups; knobs = knobs; next = next; keeper = k } ≡ now) (s' : IsSound (state_of now None 0))
+module _ (pages : PagesView) (k : KeeperView) (h : IsLaid pages.shape pages.listed pages.dups pages.knobs pages.next k)
+    (now : Lay) (is : lay_of pages k ≡ now) (s' : IsSound (state_of now None 0))
     (dup : DupRow) (live' : find (λ d. d.place == dup.place && has_items now.rows d) now.dups ≡ Some dup) where
+  abbrev sh : Shape
+  sh = pages.shape
+
+  abbrev v : Listed
+  v = pages.listed
+
+  abbrev dups : List DupRow
+  dups = pages.dups
+
+  abbrev knobs : Knobs
+  knobs = pages.knobs
+
+  abbrev next : ℕ
+  next = pages.next
+
   abbrev across : ℕ
   across = knobs.merge_across_nodes
 
   abbrev lay : Lay
-  lay = record { shape = sh; rows = v.rows; dups = dups; knobs = knobs; next = next; keeper = k }
+  lay = lay_of pages k
 
   s : IsSound (state_of lay None 0)
   s = subst (λ (x : Lay). IsSound (state_of x None 0)) (sym is) s'
@@ -128,7 +144,13 @@ module _ (sh : Shape) (v : Listed) (dups : List DupRow) (knobs : Knobs) (next : 
       is_item = subst (λ (x : Row). merged_into dup.number x.state ≡ true) (same_Some _ _ (sym first_known ∙ at.found)) (find_passes by_item v.rows first (sym searched))
 
       -- once the dying frames were reaped
-      module _ (w : KeeperView) (same : w.table ≡ k.table) (node f : ℕ) (less : node < sh.nodes) (home : across ≡ 0 → node ≡ dup.tree) (free : FoundFree k w node f) where
+      module _ (w : KeeperView) (same : w.table ≡ k.table) (node f : ℕ) (less' : node < now.shape.nodes) (home' : now.knobs.merge_across_nodes ≡ 0 → node ≡ dup.tree) (free : FoundFree k w node f) where
+        less : node < sh.nodes
+        less = subst (λ (x : Lay). node < x.shape.nodes) (sym is) less'
+
+        home : across ≡ 0 → node ≡ dup.tree
+        home = subst (λ (x : Lay). x.knobs.merge_across_nodes ≡ 0 → node ≡ dup.tree) (sym is) home'
+
         abbrev p : Placed sh across w.ledger v.rows v.frames dups None
         p = kept sh across k v.rows v.frames dups None h.same w None free.reaped.keeps h.placed
 
