@@ -1,4 +1,4 @@
-use Rattle.std.proofs.Common.{◌≡◌, ◌<◌, ◌≤◌, sym, subst, arith}
+use Rattle.std.proofs.Common.{◌≤◌, sym, subst, arith}
 use Rattle.ksm_book.specs.Laid.{Lay}
 use Rattle.ksm_book.specs.Mounted.{Mounted}
 use Rattle.std.proofs.Common.{ap, ◌∙◌}
