@@ -33,8 +33,7 @@ use Rattle.ksm_tree.proofs.Changes.{row_found, all_rows}
 use Rattle.ksm_tree.proofs.Rows.{found_in}
 use Rattle.ksm_tree.proofs.Tied.{tied_counted}
 use Rattle.ksm_tree.proofs.Ties.{tied_dropped, tied_left, tied_joined, tied_made, tied_inserted, tied_mapped, tied_pruned, number_found, tied_count, row_stays}
-use Rattle.ksm_book.specs.Laid.{elsewhere}
-use Rattle.ksm_book.specs.Linked.{AreLinked, HasRoom, IsVacant, PagesView}
+use Rattle.ksm_book.specs.Linked.{AreLinked, HasRoom, IsVacant, PagesView, elsewhere}
 use Rattle.ksm_book.specs.Listed.{Listed}
 use Rattle.ksm_base.proofs.Pages.{same_page_eq}
 

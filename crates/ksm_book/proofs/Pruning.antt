@@ -11,8 +11,7 @@ use Rattle.ksm_base.specs.Rows.{InPlaceOrder, item_count, is_stale, has_items}
 use Rattle.ksm_base.proofs.Edits.{count_filter_le, count_more, find_all, find_passes, find_none, none_counted}
 use Rattle.ksm_base.proofs.Orders.{one_of_each_place}
 use Rattle.ksm_base.proofs.RowCounts.{filter_all}
-use Rattle.ksm_book.specs.Laid.{elsewhere}
-use Rattle.ksm_book.specs.Linked.{IsVacant}
+use Rattle.ksm_book.specs.Linked.{IsVacant, elsewhere}
 
 -- the place of the first stale dup has no other dup
 pub stale_vacant : (rows : List Row) (dups : List DupRow) (d : DupRow) → InPlaceOrder dups → find (is_stale rows) dups ≡ Some d → IsVacant d.place rows dups

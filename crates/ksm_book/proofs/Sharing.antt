@@ -29,8 +29,8 @@ use Rattle.frame_table.specs.Kept.{did}
 use Rattle.ksm_book.specs.Placement.{row_in, no_row, life_or, place_frame, IsInLife, RowFits, Placed}
 use Rattle.ksm_book.specs.Keeping.{Keeps, past_lives, spent_on, spent}
 use Rattle.ksm_book.specs.Listed.{Listed, rank, StandsAt}
-use Rattle.ksm_book.specs.Laid.{IsLaid, LodgesAs, elsewhere}
-use Rattle.ksm_book.specs.Linked.{IsVacant}
+use Rattle.ksm_book.specs.Laid.{IsLaid, LodgesAs}
+use Rattle.ksm_book.specs.Linked.{IsVacant, elsewhere}
 use Rattle.ksm_book.proofs.Moves.{Serves, joined, published, base_is_items, stale_is_loose}
 use Rattle.ksm_book.proofs.Laying.{lodged, kept, shape_same, own_kind, own_item}
 use Rattle.ksm_book.proofs.Keeping.{spent_set}

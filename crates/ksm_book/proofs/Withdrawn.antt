@@ -12,7 +12,7 @@ use Rattle.ksm_base.specs.Values.{frames_of}
 use Rattle.frame_core.specs.declared.ledger.Ledger.{Ledger}
 use Rattle.frame_core.specs.Ledger.{frame_at, named_at}
 use Rattle.ksm_book.specs.Placement.{row_in, life_or, place_frame, IsInLife, RowFits, Agrees, DupFits, Placed}
-use Rattle.ksm_book.specs.Laid.{elsewhere}
+use Rattle.ksm_book.specs.Linked.{elsewhere}
 use Rattle.ksm_book.proofs.Moves.{filter_back}
 
 pub elsewhere_is : (q : ℕ) (d : DupRow) → elsewhere q d ≡ true → d.place ≢ q

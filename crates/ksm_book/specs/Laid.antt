@@ -13,7 +13,7 @@ use Rattle.frame_table.specs.Named.{KeeperView}
 use Rattle.ksm_book.specs.Placement.{Placed}
 use Rattle.ksm_book.specs.Steps.{Does, Did, puts, loads}
 use Rattle.ksm_book.specs.Keeping.{spent, NoneLeft}
-use Rattle.ksm_book.specs.Linked.{PagesView, IsVacant}
+use Rattle.ksm_book.specs.Linked.{PagesView, IsVacant, dup_of_row}
 use Rattle.ksm_book.specs.Listed.{Listed}
 
 -- the rows and dups, the knobs, the number of the next dup, and the keeper of the frames
@@ -75,13 +75,9 @@ pub record Joins (lay : Lay) (row item : Row) : Type 0 where
   pub bytes : row.bytes ≡ item.bytes
   pub room : (d : DupRow) × Contains lay.dups d × (merged_into d.number item.state ≡ true) × (item_count lay.rows d ≤ 1023)
 
--- the dup stands at another place
-abbrev pub elsewhere : ℕ → DupRow → Bool
-elsewhere place d = not (d.place == place)
-
 -- the dup that is made of a row at a place
 abbrev pub new_dup : Lay → ℕ → Row → DupRow
-new_dup lay place row = record { number = lay.next; place = place; tree = tree_of lay.knobs row; bytes = row.bytes }
+new_dup lay place row = dup_of_row lay.knobs lay.next place row
 
 -- with that dup, and the row as its one item
 abbrev pub founded : Lay → ℕ → Row → Lay

@@ -1,5 +1,5 @@
 -- The rows with their frames beside the dups with their items and the waiting pages, each told of the others' changes (own).
-use Rattle.std.specs.Prelude.{◌≡◌, ℕ, ◌+◌, ◌<◌, ◌≤◌, ◌^◌, false, List, Contains, All, Some, slice_set}
+use Rattle.std.specs.Prelude.{◌≡◌, ℕ, ◌+◌, ◌<◌, ◌≤◌, ◌^◌, false, List, Contains, All, Some, slice_set, Bool, not, ◌==◌}
 use Rattle.ksm_base.specs.declared.row.PageState.TheVariants.{Merged}
 use Rattle.ksm_base.specs.declared.row.Row.{Row}
 use Rattle.ksm_base.specs.declared.row.DupRow.{DupRow}
@@ -41,9 +41,17 @@ HasRoom rows dups number = (d : DupRow) × Contains dups d × (d.number ≡ numb
 abbrev pub IsVacant : ℕ → List Row → List DupRow → Type 0
 IsVacant place rows dups = All (λ d. d.place ≡ place → item_count rows d ≡ 0) dups
 
+-- the dup stands at another place
+abbrev pub elsewhere : ℕ → DupRow → Bool
+elsewhere place d = not (d.place == place)
+
+-- the dup that is made of a row, with a number and at a place
+abbrev pub dup_of_row : Knobs → ℕ → ℕ → Row → DupRow
+dup_of_row knobs number place row = record { number = number; place = place; tree = tree_of knobs row; bytes = row.bytes }
+
 -- the dup that is made next of a row, at a place
 abbrev pub next_dup : PagesView → ℕ → Row → DupRow
-next_dup p place row = record { number = p.next; place = place; tree = tree_of p.knobs row; bytes = row.bytes }
+next_dup p place row = dup_of_row p.knobs p.next place row
 
 -- the row merged into the dup that is made next
 abbrev pub item_of_next : PagesView → Row → Row

@@ -12,9 +12,9 @@ ghost use Rattle.ksm_base.specs.Apply.{is_before, let_go, unshared};
 ghost use Rattle.ksm_base.specs.Refusals.{is_of};
 ghost use Rattle.ksm_base.specs.Values.{IsShape, frames_of};
 ghost use Rattle.frame_core.specs.Ledger.{first_ledger};
-ghost use Rattle.ksm_book.specs.Laid.{IsHoused, Knows, IsOnItsOwn, LodgesAs, Joins, Founds, founded, elsewhere, Stores, LoadsIf};
+ghost use Rattle.ksm_book.specs.Laid.{IsHoused, Knows, IsOnItsOwn, LodgesAs, Joins, Founds, founded, Stores, LoadsIf};
 ghost use Rattle.ksm_book.specs.Laid.{state_of};
-ghost use Rattle.ksm_book.specs.Linked.{IsVacant};
+ghost use Rattle.ksm_book.specs.Linked.{IsVacant, elsewhere};
 ghost use Rattle.ksm_book.specs.Lawful.{LieLawfully};
 ghost use Rattle.ksm_book.specs.Steps.{Does};
 

@@ -13,8 +13,7 @@ ghost use Rattle.ksm_base.specs.Values.{IsShape};
 ghost use Rattle.ksm_base.specs.Visit.{best_dup, partner as row_waiting, new_place as a_new_place};
 ghost use Rattle.ksm_tree.specs.Bridge.{let_out};
 ghost use Rattle.ksm_tree.specs.Waits.{IsStopped};
-ghost use Rattle.ksm_book.specs.Laid.{elsewhere};
-ghost use Rattle.ksm_book.specs.Linked.{HasRoom, IsVacant, MayPair, ReplacedBoth, item_of_next, next_dup};
+ghost use Rattle.ksm_book.specs.Linked.{HasRoom, IsVacant, MayPair, ReplacedBoth, item_of_next, next_dup, elsewhere};
 ghost use Rattle.ksm_book.specs.Listed.{rank, StandsAt, instead};
 
 use crate::row::{is_waiting, same_page, tree_of};

@@ -6,8 +6,8 @@ use Rattle.ksm_base.proofs.Edits.{find_all}
 use Rattle.ksm_base.specs.declared.row.Row.{Row}
 use Rattle.ksm_base.specs.Rows.{has_items, is_stale}
 use Rattle.ksm_base.specs.Values.{frames_of}
-use Rattle.ksm_book.specs.Linked.{IsVacant}
-use Rattle.ksm_book.specs.Laid.{Lay, elsewhere}
+use Rattle.ksm_book.specs.Linked.{IsVacant, elsewhere}
+use Rattle.ksm_book.specs.Laid.{Lay}
 use Rattle.ksm_book.proofs.Logs.{chained}
 use Rattle.ksm_book.proofs.Pruning.{none_stale, none_left, live_elsewhere, fewer_stale, dup_at, no_dup_at}
 use Rattle.ksm_book.proofs.layout.Layout.prune.Goals as goal

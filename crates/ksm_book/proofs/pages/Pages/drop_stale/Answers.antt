@@ -3,8 +3,7 @@ use Rattle.std.specs.Prelude.{filter, is_some}
 use Rattle.ksm_base.specs.declared.row.DupRow.{DupRow}
 use Rattle.ksm_tree.proofs.Changes.{rows_without}
 use Rattle.ksm_tree.specs.Dups.{DupsState, rows_of}
-use Rattle.ksm_book.specs.Laid.{elsewhere}
-use Rattle.ksm_book.specs.Linked.{AreLinked, IsVacant, PagesView}
+use Rattle.ksm_book.specs.Linked.{AreLinked, IsVacant, PagesView, elsewhere}
 use Rattle.ksm_book.proofs.Linking.{linked_pruned, stale_there, any_at, all_elsewhere}
 use Rattle.ksm_book.proofs.pages.Pages.drop_stale.Goals as goal
 
