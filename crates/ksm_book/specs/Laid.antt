@@ -1,5 +1,5 @@
 -- Rows, dups and knobs, as they lie in the keeper's frames (own).
-use Rattle.std.specs.Prelude.{◌≡◌, ℕ, ◌+◌, ◌<◌, ◌≤◌, Bool, true, false, not, ◌==◌, List, [], ◌∷◌, All, Contains, Option, None, Some, MatchBool, MatchOption, ◌⊎◌}
+use Rattle.std.specs.Prelude.{◌≡◌, ℕ, ◌+◌, ◌<◌, ◌≤◌, Bool, true, false, List, [], ◌∷◌, All, Contains, Option, None, Some, MatchBool, MatchOption, ◌⊎◌}
 use Rattle.ksm_base.specs.declared.shape.Shape.{Shape}
 use Rattle.ksm_base.specs.declared.knobs.Knobs.{Knobs}
 use Rattle.ksm_base.specs.declared.page.GuestPage.{GuestPage}
@@ -7,7 +7,7 @@ use Rattle.ksm_base.specs.declared.row.PageState.TheVariants.{Merged}
 use Rattle.ksm_base.specs.declared.row.Row.{Row}
 use Rattle.ksm_base.specs.declared.row.DupRow.{DupRow}
 use Rattle.ksm_base.specs.Rows.{merged_state, merged_into, item_count, row_at, change_row, with_dup}
-use Rattle.ksm_base.specs.State.{BookState, tree_of}
+use Rattle.ksm_base.specs.State.{BookState}
 use Rattle.ksm_base.specs.Values.{IsShape, frames_of}
 use Rattle.frame_table.specs.Named.{KeeperView}
 use Rattle.ksm_book.specs.Placement.{Placed}
