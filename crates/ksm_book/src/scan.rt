@@ -1,6 +1,6 @@
 //! The scan: visits of mergeable pages, in the order of their pages, pass after pass.
 
-ghost use Rattle.std.specs.Prelude.{◌≡◌, [], None, Some, Err, OnOk, IfOk, OnErr, IfSome, MatchOption, false};
+ghost use Rattle.std.specs.Prelude.{◌≡◌, [], None, Some, Err, OnOk, IfOk, OnErr, IfNone, IfSome, MatchOption, false};
 ghost use Rattle.ksm_base.specs.declared.fault.Fault.TheVariants.{Memory};
 ghost use Rattle.ksm_base.specs.Answers.{IsAnswerOrMemory};
 ghost use Rattle.ksm_base.specs.Apply.{after};
@@ -59,7 +59,7 @@ impl State {
         requires known { IfSome known (GoesOnAt self.old.state) }
         ensures own { self.new.keeper.table ≡ self.old.keeper.table }
         ensures ok { OnOk result (self.new.state ≡ visit self.old.state) }
-        ensures next { IfOk result (λ next. IfSome next (GoesOnAt self.new.state)) }
+        ensures next { IfOk result (λ next. MatchOption next (self.new.state.cursor ≡ None) (GoesOnAt self.new.state)) }
         ensures err { OnErr result (self.new.state ≡ visit_begun self.old.state) }
         ensures fault { OnErr result (result ≡ Err Memory) }
         ensures does { Does self.old.keeper self.new.keeper [] }
@@ -91,6 +91,7 @@ impl State {
         requires known { IfSome known (GoesOnAt self.old.state) }
         ensures state { self.new.state ≡ visit_begun self.old.state }
         ensures next { result ≡ next_row self.new.state.cursor self.new.state.rows }
+        ensures none { IfNone result (self.new.state.cursor ≡ None) }
         ensures keeper { self.new.keeper ≡ self.old.keeper }
     {
         if known.is_some() {
@@ -107,7 +108,7 @@ impl State {
     // What is done after a page was visited. Says where the pass goes on, if it does.
     fn end_visit(&mut self, page: GuestPage) -> Option<Row>
         ensures state { self.new.state ≡ visit_ended self.old.state page }
-        ensures next { IfSome result (GoesOnAt self.new.state) }
+        ensures next { MatchOption result (self.new.state.cursor ≡ None) (GoesOnAt self.new.state) }
         ensures keeper { self.new.keeper ≡ self.old.keeper }
     {
         self.cursor = Some(page);
