@@ -11,3 +11,4 @@ pub mod Compared
 pub mod Opening
 pub mod Seatings
 pub mod Elements
+pub mod Running
