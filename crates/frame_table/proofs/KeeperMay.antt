@@ -109,8 +109,8 @@ module _ (slots : ℕ) (e : KeeperStep) (f : ℕ → ℕ) (log : KeeperLog) wher
       let n : ℕ = get_or t.words i 0 in
       let w : View = Keeper sh (ledger_after sh k e (found_by e n)) tally (log ++ (e, found_by e n) ∷ []) in
       let owes = subst (λ (x : Shape × Ledger). IsAfter x.0 past h.tally t.words (all_views x.0 h.tally t.views) → MayStep x.0 x.1 e → ((n : ℕ) → n < 18446744073709551616 → knows x.1 e (found_by e n) → f n ≡ keeper_written x.1 e n)
-          → get_elem? t.views 0 ≡ some (Keeper x.0 x.1 tally log) → get_or t.words (keeper_word (frames_of x.0) e) 0 < 18446744073709551616 → Owes x.0 x.1 tally h.tally past t) (λ j. (run_shape sh h.shape h.events j, sym (seen sh t h 0 v at).1 j))
-          (here past t tally h.tally (run_sound sh h.shape h.events).rule) h.after may writes at small in (
+      → get_elem? t.views 0 ≡ some (Keeper x.0 x.1 tally log) → get_or t.words (keeper_word (frames_of x.0) e) 0 < 18446744073709551616 → Owes x.0 x.1 tally h.tally past t) (λ j. (run_shape sh h.shape h.events j, sym (seen sh t h 0 v at).1 j))
+      (here past t tally h.tally (run_sound sh h.shape h.events).rule) h.after may writes at small in (
         w,
         keeps,
         tt,

@@ -12,3 +12,4 @@ pub mod Opening
 pub mod Seatings
 pub mod Elements
 pub mod Running
+pub mod NoLookups

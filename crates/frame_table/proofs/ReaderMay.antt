@@ -112,8 +112,8 @@ module _ (slots : ℕ) (e : ReaderStep) (phase : Phase) (log : Log) (f : ℕ →
   reader_may sh (suc q) may writes t h size at small =
       let past = run_of sh h.events in
       let owes = subst (λ (x : Shape). IsAfter x past h.tally t.words (all_views x h.tally t.views) → MayRead x e phase → ((n : ℕ) → n < 18446744073709551616 → tells x e phase n → f n ≡ written e phase n)
-          → get_elem? t.views (suc q) ≡ some (Reader x phase log) → get_or t.words (word_of x e phase) 0 < 18446744073709551616 → Owes x past h.tally q t) (run_shape sh h.shape h.events)
-          (here past t q h.tally (run_sound sh h.shape h.events).rule) h.after may writes at small in
+      → get_elem? t.views (suc q) ≡ some (Reader x phase log) → get_or t.words (word_of x e phase) 0 < 18446744073709551616 → Owes x past h.tally q t) (run_shape sh h.shape h.events)
+      (here past t q h.tally (run_sound sh h.shape h.events).rule) h.after may writes at small in
       let w = owes.0 in (
         w,
         keeps,

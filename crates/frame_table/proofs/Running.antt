@@ -73,5 +73,5 @@ runs_safely sh t h =
       unwritten = λ ledger tally kept q aim known log keeper at. subst (λ (k : Ledger). ¬ IsWritable (frame_at k aim.life.frame).kind) (sym (seen sh t h 0 _ keeper).1) (not_written past.state q aim known rule (seated sh t h q (Held aim known) log at));
       counted = λ ledger tally log at f below. ap (λ (l : List ℕ). get_or l (count_at (frames_of sh) f) 0) h.after.words_are
           ∙ subst (λ (x : Ledger × Shape). get_or (words_of past.state) (count_at (frames_of x.1) f) 0 ≡ (frame_at x.0 f).base + length (holders x.1.passes f past.trace)) (λ i. (sym (seen sh t h 0 _ at).1 i, run_shape sh h.shape h.events i))
-              (count_is past rule safe f (subst (λ (x : Shape). f < frames_of x) (sym (run_shape sh h.shape h.events)) below));
+          (count_is past rule safe f (subst (λ (x : Shape). f < frames_of x) (sym (run_shape sh h.shape h.events)) below));
     }

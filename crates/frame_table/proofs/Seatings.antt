@@ -78,7 +78,7 @@ module _ (sh : Shape) (k : Ledger) (tally : Tally) (log : KeeperLog) where
       let next : View = Keeper sh k tally' log in
       let views : List View = set t.views 0 next in
       let same : all_views sh tally' (views ++ idle sh ∷ []) ≡ set (all_views sh tally t.views) 0 next =
-          append_assoc views (idle sh ∷ []) (replicate (tally.unmade - 1) (idle sh)) ∙ (ap (λ (l : List View). views ++ l) (one_idle_less sh tally.unmade few) ∙ all_set sh tally t.views 0 keeper next at) in
+      append_assoc views (idle sh ∷ []) (replicate (tally.unmade - 1) (idle sh)) ∙ (ap (λ (l : List View). views ++ l) (one_idle_less sh tally.unmade few) ∙ all_set sh tally t.views 0 keeper next at) in
       record {
         shape = h.shape;
         events = h.events;
@@ -150,6 +150,6 @@ module _ (sh : Shape) (k : Ledger) (tally : Tally) (log : KeeperLog) where
       let views : all_views sh h.tally t.views ≡ t.views = ap (λ (n : ℕ). t.views ++ replicate n (Reader sh Idle [])) unmade ∙ append-nil t.views in
       let phases : map phase_of t.views ≡ spent_phase ∷ s.seats = ap (map phase_of) (sym views) ∙ h.after.phases_are in
       let free = λ (f : ℕ). let some = sum_by-cons (λ (p : Phase). cond (is_on f p) 1 0) spent_phase s.seats in
-          let most : count_by (is_on f) (spent_phase ∷ s.seats) ≤ count_by is_out t.views = subst (λ (l : List Phase). count_by (is_on f) l ≤ count_by is_out t.views) phases (on_at_most_out f t.views) in
-          let none : readers_on f s.seats ≡ 0 = omega (arith, some, most, passes_out t h final.1.1, none_out) in none in
+      let most : count_by (is_on f) (spent_phase ∷ s.seats) ≤ count_by is_out t.views = subst (λ (l : List Phase). count_by (is_on f) l ≤ count_by is_out t.views) phases (on_at_most_out f t.views) in
+      let none : readers_on f s.seats ≡ 0 = omega (arith, some, most, passes_out t h final.1.1, none_out) in none in
       subst (λ (x : Ledger × Shape × List ℕ). Ends x.0 record { shape = x.1; words = x.2 }) (λ i. (sym tied.1 i, run_shape sh h.shape h.events i, (sym h.after.words_are ∙ final.2) i)) (ends_here s (run_sound sh h.shape h.events).rule free)

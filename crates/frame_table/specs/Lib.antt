@@ -11,3 +11,4 @@ pub mod Lookup
 pub mod Equal
 pub mod Seats
 pub mod Running
+pub mod Worked

@@ -15,6 +15,7 @@ mod pass;
 mod reader_steps;
 mod table;
 mod view;
+mod worked;
 
 pub use closed::ClosedTable;
 pub use equal::FoundEqual;
