@@ -3,6 +3,7 @@ pub mod Words
 pub mod Numbers
 pub mod Fields
 pub mod Lines
+pub mod Blocks
 pub mod Parts
 pub mod Decimals
 pub mod Turns

@@ -7,6 +7,7 @@ pub mod Texts
 pub mod Pieces
 pub mod Replies
 pub mod Input
+pub mod Takes
 pub mod Answering
 pub mod Script
 pub mod Seen
