@@ -39,8 +39,9 @@ void guest_discard(struct guest *guest, size_t slot);
 /* Makes pages mergeable or not, from a slot on. 0, or the error. */
 int guest_mark(struct guest *guest, size_t slot, size_t count, bool mergeable);
 
-/* Takes a reference on a page from outside, as a reader does, until guest_leave. */
+/* Takes a reference on a page from outside, as a reader does, until guest_leave. It is read by the reference. */
 void guest_hold(struct guest *guest, size_t slot);
+void guest_look(struct guest *guest, unsigned char content[CONTENT]);
 void guest_leave(struct guest *guest);
 
 /* Moves a page to a node, or with `all` a page that is mapped more than once. False where it was not moved. */
@@ -52,7 +53,7 @@ int guest_node(const struct guest *guest, size_t slot);
 /* The number of the frame on which a page lies, 0 for none. */
 uint64_t guest_frame(const struct guest *guest, size_t slot);
 
-/* Tells whether a frame is one of KSM's. */
-bool frame_is_merged(uint64_t frame);
+/* Tells whether a page lies on a frame of KSM's. */
+bool guest_is_merged(const struct guest *guest, size_t slot);
 
 #endif

@@ -24,6 +24,7 @@ struct page {
 	size_t slot;
 	bool is_registered, is_mergeable;
 	int home;
+	uint64_t first_frame;
 };
 
 static struct page pages[PAGES];
@@ -33,8 +34,6 @@ static FILE *out;
 static unsigned long visits, first_visits;
 static bool at_pass_start;
 static struct page *held;
-static uint64_t seen[PAGES];
-static size_t seen_count;
 
 /* The pages, in order. */
 
@@ -73,11 +72,16 @@ static uint64_t frame_of(const struct page *page)
 	return page->is_registered ? guest_frame(page->owner, page->slot) : 0;
 }
 
+static bool is_merged(const struct page *page)
+{
+	return page->is_registered && guest_is_merged(page->owner, page->slot);
+}
+
 static size_t count_merged(void)
 {
 	size_t count = 0;
 	for (size_t i = 0; i < page_count; i++)
-		count += frame_is_merged(frame_of(&pages[i]));
+		count += is_merged(&pages[i]);
 	return count;
 }
 
@@ -94,8 +98,7 @@ static void bring_home(void)
 {
 	for (size_t i = 0; i < page_count; i++) {
 		struct page *page = &pages[i];
-		uint64_t frame = frame_of(page);
-		if (frame && !frame_is_merged(frame) && guest_node(page->owner, page->slot) != page->home
+		if (page->is_registered && !is_merged(page) && guest_node(page->owner, page->slot) != page->home
 		    && !guest_move(page->owner, page->slot, page->home, false))
 			fail("a page does not come home");
 	}
@@ -123,6 +126,13 @@ static void say_error(int error)
 		refuse(BAD_VALUE);
 	else
 		fprintf(out, "error %s\n", strerror(error));
+}
+
+static void say_content(const unsigned char content[CONTENT])
+{
+	for (size_t i = 0; i < CONTENT; i++)
+		fprintf(out, "%02x", content[i]);
+	say("");
 }
 
 /* Reads 2 digits, which fill all bytes, or 32. */
@@ -154,6 +164,7 @@ static void do_reg(char **words)
 	page->is_registered = page->is_mergeable = true;
 	int error = guest_mark(page->owner, page->slot, 1, true);
 	guest_store(page->owner, page->slot, page->home, content);
+	page->first_frame = frame_of(page);
 	say_error(error);
 }
 
@@ -186,9 +197,7 @@ static void do_get(char **words)
 		return refuse(UNKNOWN_PAGE);
 	if (!guest_load(page->owner, page->slot, content))
 		return say("torn");
-	for (size_t i = 0; i < CONTENT; i++)
-		fprintf(out, "%02x", content[i]);
-	say("");
+	say_content(content);
 }
 
 static void do_ticket(char **words)
@@ -196,9 +205,9 @@ static void do_ticket(char **words)
 	struct page *page = registered(words[0], words[1]), *first = pages;
 	if (!page)
 		return refuse(UNKNOWN_PAGE);
-	uint64_t frame = frame_of(page);
-	if (!frame_is_merged(frame))
+	if (!is_merged(page))
 		return say("private");
+	uint64_t frame = frame_of(page);
 	while (frame_of(first) != frame)
 		first++;
 	fprintf(out, "place %lu:%lu\n", first->guest, first->number);
@@ -211,7 +220,7 @@ static struct page *at_place(char *word)
 	if (!colon)
 		return NULL;
 	struct page *page = registered(word, colon + 1);
-	return page && frame_is_merged(frame_of(page)) ? page : NULL;
+	return page && is_merged(page) ? page : NULL;
 }
 
 static void do_rmap(char **words)
@@ -289,7 +298,7 @@ static void do_move(char **words)
 		return refuse(BAD_NODE);
 	if (!page)
 		return refuse(UNKNOWN_PAGE);
-	if (node != page->home && frame_is_merged(frame_of(page)))
+	if (node != page->home && is_merged(page))
 		guest_touch(page->owner, page->slot, node);
 	else if (node != page->home && !guest_move(page->owner, page->slot, node, false))
 		return say("error not moved");
@@ -358,26 +367,23 @@ static void do_stat(char **words)
 
 /* Lines for Linux alone. */
 
-/* The frames are told apart by numbers in the order in which the script asked for them. */
-static size_t name_of(uint64_t frame)
-{
-	size_t name = 0;
-	while (name < seen_count && seen[name] != frame)
-		name++;
-	if (name == PAGES)
-		fail("too many frames");
-	seen[name] = frame;
-	seen_count += name == seen_count;
-	return name;
-}
-
+/* Where each page lies: a frame is named by the page that was registered on it, if there is one. */
 static void do_frames(char **words)
 {
 	(void)words;
 	fprintf(out, "frames");
-	for (size_t i = 0; i < page_count; i++)
-		if (pages[i].is_registered)
-			fprintf(out, " %lu:%lu=%zu", pages[i].guest, pages[i].number, name_of(frame_of(&pages[i])));
+	for (size_t i = 0; i < page_count; i++) {
+		const struct page *page = &pages[i], *first = pages;
+		if (!page->is_registered)
+			continue;
+		while (first < pages + page_count && first->first_frame != frame_of(page))
+			first++;
+		fprintf(out, " %lu:%lu=", page->guest, page->number);
+		if (first < pages + page_count)
+			fprintf(out, "%lu:%lu", first->guest, first->number);
+		else
+			fprintf(out, "new");
+	}
 	say("");
 }
 
@@ -388,6 +394,17 @@ static void do_hold(char **words)
 		return refuse(UNKNOWN_PAGE);
 	guest_hold(held->owner, held->slot);
 	say("ok");
+}
+
+/* The bytes that the page had when it was held. */
+static void do_look(char **words)
+{
+	unsigned char content[CONTENT];
+	(void)words;
+	if (!held)
+		return say("nothing is held");
+	guest_look(held->owner, content);
+	say_content(content);
 }
 
 static void do_leave(char **words)
@@ -404,7 +421,8 @@ static const struct { const char *name; int words; void (*act)(char **); } forms
 	{ "ticket", 3, do_ticket }, { "rmap", 2, do_rmap }, { "scan", 1, do_scan }, { "scan", 2, do_scan },
 	{ "prune", 1, do_prune }, { "unmerge", 2, do_unmerge }, { "mergeable", 2, do_mergeable },
 	{ "move", 4, do_move }, { "movedup", 3, do_movedup }, { "set", 3, do_set }, { "show", 2, do_show },
-	{ "stat", 1, do_stat }, { "frames", 1, do_frames }, { "hold", 3, do_hold }, { "leave", 1, do_leave },
+	{ "stat", 1, do_stat }, { "frames", 1, do_frames }, { "hold", 3, do_hold }, { "look", 1, do_look },
+	{ "leave", 1, do_leave },
 };
 
 /* Splits a line into its words. */
@@ -478,7 +496,6 @@ void script_run(char *text, FILE *replies)
 	visits = first_visits;
 	at_pass_start = true;
 	held = NULL;
-	seen_count = 0;
 	note_pages(text);
 	start_guests();
 	for (char *line; (line = strsep(&text, "\n")); )
