@@ -91,7 +91,7 @@ static void set_up(const char *script)
 		write_knob(line);
 }
 
-static void run(const char *script)
+static void run(const char *script, unsigned long visits)
 {
 	char path[512];
 	snprintf(path, sizeof path, FOLDER "%s", script);
@@ -99,7 +99,7 @@ static void run(const char *script)
 	set_up(script);
 	fprintf(replies, "script %s\n", script);
 	fflush(replies);
-	script_run(read_file(path), replies);
+	script_run(read_file(path), visits, replies);
 	fflush(replies);
 }
 
@@ -116,11 +116,10 @@ int main(void)
 	mount_all();
 	open_replies();
 	uname(&system);
-	fprintf(replies, "linux %s\n", system.release);
-	ksmd_find();
-	script_prepare();
+	fprintf(replies, "linux %s %s\n", system.release, system.version);
+	unsigned long visits = ksm_start();
 	int count = scandir(FOLDER, &scripts, is_script, alphasort);
 	for (int i = 0; i < count; i++)
-		run(scripts[i]->d_name);
+		run(scripts[i]->d_name, visits);
 	stop("end");
 }

@@ -49,7 +49,7 @@ int ksm_write(const char *name, long value)
 	return error;
 }
 
-void ksmd_find(void)
+static void find_ksmd(void)
 {
 	char path[64], text[64];
 	for (int pid = 1; pid < PIDS; pid++) {
@@ -92,14 +92,31 @@ void ksmd_batch(unsigned long steps)
 	ksm_write("pages_to_scan", 0);
 }
 
+/* What a script finds: what the kernel has at its start, or where that is of no use here another value. */
+static struct { const char *name; long value; } knobs[] = {
+	{ "merge_across_nodes", -1 }, { "max_page_sharing", -1 }, { "use_zero_pages", 0 }, { "smart_scan", 0 },
+	{ "stable_node_chains_prune_millisecs", 0 }, { "run", -1 },
+};
+
+enum { KNOBS = sizeof knobs / sizeof *knobs };
+
+unsigned long ksm_start(void)
+{
+	long visits = ksm_read("pages_to_scan");
+	find_ksmd();
+	for (size_t i = 0; i < KNOBS; i++)
+		if (knobs[i].value < 0)
+			knobs[i].value = ksm_read(knobs[i].name);
+	ksm_write("pages_to_scan", 0);
+	return (unsigned long)visits;
+}
+
 void ksm_reset(void)
 {
-	static const struct { const char *name; long value; } knobs[] = {
-		{ "pages_to_scan", 0 }, { "run", 0 }, { "run", 2 }, { "run", 0 },
-		{ "merge_across_nodes", 1 }, { "max_page_sharing", 256 }, { "use_zero_pages", 0 },
-		{ "smart_scan", 0 }, { "stable_node_chains_prune_millisecs", 0 },
-	};
-	for (size_t i = 0; i < sizeof knobs / sizeof *knobs; i++) {
+	ksm_write("run", 0);
+	if (ksm_write("run", 2))
+		fail("not all pages could be unmerged");
+	for (size_t i = 0; i < KNOBS; i++) {
 		int error = ksm_write(knobs[i].name, knobs[i].value);
 		if (error && error != ENOENT)
 			fail("a knob could not be set again");

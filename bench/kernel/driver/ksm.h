@@ -8,8 +8,9 @@ long ksm_read(const char *name);
 /* Writes a knob. 0, or the error. */
 int ksm_write(const char *name, long value);
 
-/* Finds ksmd. It is called once, before any other call below. */
-void ksmd_find(void);
+/* Finds ksmd and notes the knobs as the kernel has them. It is called once, before any call below, and tells
+ * the kernel's own `pages_to_scan`, which is 0 from here on except in a batch. */
+unsigned long ksm_start(void);
 
 /* Lets ksmd do exactly one batch of so many steps, and waits for its end. A batch does not go on into
  * the next pass. Where ksmd has nothing to do, nothing happens. */

@@ -31,7 +31,7 @@ static struct page pages[PAGES];
 static struct guest guests[GUESTS];
 static size_t page_count, guest_count;
 static FILE *out;
-static unsigned long visits, first_visits;
+static unsigned long visits;
 static bool at_pass_start;
 static struct page *held;
 
@@ -485,12 +485,7 @@ static void start_guests(void)
 		guest_start(&guests[i]);
 }
 
-void script_prepare(void)
-{
-	first_visits = (unsigned long)ksm_read("pages_to_scan");
-}
-
-void script_run(char *text, FILE *replies)
+void script_run(char *text, unsigned long first_visits, FILE *replies)
 {
 	out = replies;
 	visits = first_visits;

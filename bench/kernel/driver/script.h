@@ -4,10 +4,8 @@
 
 #include <stdio.h>
 
-/* How far `scan` without a number goes in a new script: the kernel's own number, read once at the start. */
-void script_prepare(void);
-
-/* Does the lines of a script, and writes a reply for each that is not empty. */
-void script_run(char *text, FILE *replies);
+/* Does the lines of a script, and writes a reply for each that is not empty. `visits` is how far a `scan`
+ * without a number goes at first. */
+void script_run(char *text, unsigned long visits, FILE *replies);
 
 #endif
