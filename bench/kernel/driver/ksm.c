@@ -1,0 +1,125 @@
+#include "ksm.h"
+
+#include <errno.h>
+#include <fcntl.h>
+#include <stdio.h>
+#include <stdlib.h>
+#include <string.h>
+#include <time.h>
+#include <unistd.h>
+
+#include "fail.h"
+
+#define FOLDER "/sys/kernel/mm/ksm/"
+
+enum { FIRST_SLEEP = 10000000, LOOKS = 100000, LOOK_NANOSECONDS = 100000, PIDS = 32768 };
+
+/* ksmd sleeps for so many milliseconds, and wakes up where the number changes. */
+static long sleep_millisecs = FIRST_SLEEP;
+static char ksmd_stat[64];
+
+/* Reads a small file as text. The number of bytes, or -1. */
+static ssize_t read_text(const char *path, char *text, size_t size)
+{
+	int file = open(path, O_RDONLY);
+	if (file < 0)
+		return -1;
+	ssize_t count = read(file, text, size - 1);
+	close(file);
+	text[count > 0 ? count : 0] = 0;
+	return count;
+}
+
+long ksm_read(const char *name)
+{
+	char path[128], text[64];
+	snprintf(path, sizeof path, FOLDER "%s", name);
+	return read_text(path, text, sizeof text) > 0 ? atol(text) : -1;
+}
+
+int ksm_write(const char *name, long value)
+{
+	char path[128];
+	snprintf(path, sizeof path, FOLDER "%s", name);
+	int file = open(path, O_WRONLY);
+	if (file < 0)
+		return errno;
+	int error = dprintf(file, "%ld", value) < 0 ? errno : 0;
+	close(file);
+	return error;
+}
+
+static void find_ksmd(void)
+{
+	char path[64], text[64];
+	for (int pid = 1; pid < PIDS; pid++) {
+		snprintf(path, sizeof path, "/proc/%d/comm", pid);
+		if (read_text(path, text, sizeof text) > 0 && !strcmp(text, "ksmd\n")) {
+			snprintf(ksmd_stat, sizeof ksmd_stat, "/proc/%d/stat", pid);
+			return;
+		}
+	}
+	fail("there is no ksmd");
+}
+
+/* Tells whether ksmd waits to be woken: then it has read how long it sleeps, and no wake-up is lost. */
+static int ksmd_is_asleep(void)
+{
+	char text[512];
+	if (read_text(ksmd_stat, text, sizeof text) < 0)
+		fail("ksmd is gone");
+	const char *state = strrchr(text, ')');
+	return state && state[1] && state[2] == 'S';
+}
+
+static void wait_for_ksmd(void)
+{
+	const struct timespec pause = { .tv_nsec = LOOK_NANOSECONDS };
+	for (int look = 0; look < LOOKS; look++) {
+		if (ksmd_is_asleep())
+			return;
+		nanosleep(&pause, NULL);
+	}
+	fail("ksmd does not come to rest");
+}
+
+void ksmd_batch(unsigned long steps)
+{
+	wait_for_ksmd();
+	ksm_write("pages_to_scan", (long)steps);
+	ksm_write("sleep_millisecs", ++sleep_millisecs);
+	wait_for_ksmd();
+	ksm_write("pages_to_scan", 0);
+}
+
+/* What a script finds: what the kernel has at its start, or where that is of no use here another value. */
+static struct { const char *name; long value; } knobs[] = {
+	{ "merge_across_nodes", -1 }, { "max_page_sharing", -1 }, { "use_zero_pages", 0 }, { "smart_scan", 0 },
+	{ "stable_node_chains_prune_millisecs", 0 }, { "run", -1 },
+};
+
+enum { KNOBS = sizeof knobs / sizeof *knobs };
+
+unsigned long ksm_start(void)
+{
+	long visits = ksm_read("pages_to_scan");
+	find_ksmd();
+	for (size_t i = 0; i < KNOBS; i++)
+		if (knobs[i].value < 0)
+			knobs[i].value = ksm_read(knobs[i].name);
+	ksm_write("pages_to_scan", 0);
+	return (unsigned long)visits;
+}
+
+void ksm_reset(void)
+{
+	ksm_write("run", 0);
+	if (ksm_write("run", 2))
+		fail("not all pages could be unmerged");
+	for (size_t i = 0; i < KNOBS; i++) {
+		int error = ksm_write(knobs[i].name, knobs[i].value);
+		if (error && error != ENOENT)
+			fail("a knob could not be set again");
+	}
+	ksm_write("sleep_millisecs", ++sleep_millisecs);
+}

@@ -1,0 +1,22 @@
+/* The knobs and counters of the kernel's KSM, and ksmd itself. */
+#ifndef KSM_H
+#define KSM_H
+
+/* A knob or counter of /sys/kernel/mm/ksm, or -1 where this kernel has none of the name. */
+long ksm_read(const char *name);
+
+/* Writes a knob. 0, or the error. */
+int ksm_write(const char *name, long value);
+
+/* Finds ksmd and notes the knobs as the kernel has them. It is called once, before any call below, and tells
+ * the kernel's own `pages_to_scan`, which is 0 from here on except in a batch. */
+unsigned long ksm_start(void);
+
+/* Lets ksmd do exactly one batch of so many steps, and waits for its end. A batch does not go on into
+ * the next pass. Where ksmd has nothing to do, nothing happens. */
+void ksmd_batch(unsigned long steps);
+
+/* Forgets what earlier processes left behind, and sets all knobs as a script finds them. */
+void ksm_reset(void);
+
+#endif
