@@ -15,6 +15,19 @@ use std::array;
 /// How many digits a page is written in.
 const PAGE_DIGITS: usize = 16 * PAGE_WORDS;
 
+/// The value of each byte as a hexadecimal digit, 0 of any other byte.
+const DIGIT_VALUES: [u8; 256] = [
+    0, 0, 0, 0, 0, 0, 0, 0, 0, 0, 0, 0, 0, 0, 0, 0, 0, 0, 0, 0, 0, 0, 0, 0, 0, 0, 0, 0, 0, 0, 0, 0,
+    0, 0, 0, 0, 0, 0, 0, 0, 0, 0, 0, 0, 0, 0, 0, 0, 0, 1, 2, 3, 4, 5, 6, 7, 8, 9, 0, 0, 0, 0, 0, 0,
+    0, 10, 11, 12, 13, 14, 15, 0, 0, 0, 0, 0, 0, 0, 0, 0, 0, 0, 0, 0, 0, 0, 0, 0, 0, 0, 0, 0, 0, 0,
+    0, 0, 0, 10, 11, 12, 13, 14, 15, 0, 0, 0, 0, 0, 0, 0, 0, 0, 0, 0, 0, 0, 0, 0, 0, 0, 0, 0, 0, 0,
+    0, 0, 0, 0, 0, 0, 0, 0, 0, 0, 0, 0, 0, 0, 0, 0, 0, 0, 0, 0, 0, 0, 0, 0, 0, 0, 0, 0, 0, 0, 0, 0,
+    0, 0, 0, 0, 0, 0, 0, 0, 0, 0, 0, 0, 0, 0, 0, 0, 0, 0, 0, 0, 0, 0, 0, 0, 0, 0, 0, 0, 0, 0, 0, 0,
+    0, 0, 0, 0, 0, 0, 0, 0, 0, 0, 0, 0, 0, 0, 0, 0, 0, 0, 0, 0, 0, 0, 0, 0, 0, 0, 0, 0, 0, 0, 0, 0,
+    0, 0, 0, 0, 0, 0, 0, 0, 0, 0, 0, 0, 0, 0, 0, 0, 0, 0, 0, 0, 0, 0, 0, 0, 0, 0, 0, 0, 0, 0, 0, 0,
+    0, 0, 0, 0,
+];
+
 /// Where the first space of a text is.
 fn first_space(text: &[u8]) -> Option<usize>
     ensures { result ≡ position (λ byte. byte == 32) text.now }
@@ -53,7 +66,14 @@ pub fn ended(left: Option<&[u8]>) -> Result<(), LineFault>
 fn are_hex_digits(word: &[u8]) -> bool
     ensures { result ≡ list_all is_ascii_hexdigit word.now }
 {
-    word.iter().all(|byte| byte.is_ascii_hexdigit())
+    word.iter().all(|byte| is_hex_digit(*byte))
+}
+
+/// Whether a byte is a hexadecimal digit.
+fn is_hex_digit(byte: u8) -> bool
+    ensures { result ≡ is_ascii_hexdigit byte }
+{
+    digit(byte) != 0 || byte == b'0'
 }
 
 /// The number that a word writes in decimal digits without leading zeros.
@@ -169,10 +189,7 @@ fn digit(byte: u8) -> u8
     ensures value { result ≡ hex_value byte }
     ensures small { result < 16 }
 {
-    match char::from(byte).to_digit(16) {
-        Some(value) => value as u8,
-        None => 0,
-    }
+    DIGIT_VALUES[byte as usize]
 }
 
 /// Word i of the page that the digits write.
