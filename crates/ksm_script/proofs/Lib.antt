@@ -4,6 +4,7 @@ pub mod Numbers
 pub mod Fields
 pub mod Lines
 pub mod Blocks
+pub mod Hex
 pub mod Parts
 pub mod Decimals
 pub mod Turns

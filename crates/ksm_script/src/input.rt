@@ -184,11 +184,7 @@ pub(crate) trait TakesLines<R, W: Write> {
     ghost remaining: { R → Option (List ℕ) };
 
     /// Reads a line up to its newline, to the end of the input, or to its 257th byte. At a fault the line has what was read of it.
-    fn next_line(
-        reader: &mut R,
-        writer: &mut W,
-        line: &mut LineBuffer,
-    ) -> Result<LineEnd, RunFault>
+    fn next_line(reader: &mut R, writer: &mut W, line: &mut LineBuffer) -> Result<LineEnd, RunFault>
         ensures read { IfOk result (λ end. (bytes : List ℕ) × EndsAs end line.new bytes
             × Consumes (remaining reader.old) (remaining reader.new) bytes) }
         ensures plain { IsPlain line.new }

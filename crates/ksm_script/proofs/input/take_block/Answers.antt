@@ -15,7 +15,7 @@ returns-in-Some-clause-taken g c =
       take c.in-Some.at (take n buffer) ++ 10 ∷ [],
       (sym (append_assoc c.args.line.now _ _) ∙ ap (λ l. l ++ 10 ∷ []) (sym c.extend.ensures), omega (arith, found.0.high, ap length c.extend.ensures, length-append c.args.line.now (take c.in-Some.at (take n buffer)), length-take c.in-Some.at (take n buffer), length-take n buffer)),
       taken_from _ _ _ _ _ _ _ c.consume.ensures.capacity (ap g.R.Read.remaining c.consume.ensures.inner)
-      (sym c.buffer-buffer.ensures ∙ split ∙ ap (λ l. (take c.in-Some.at (take n buffer) ++ 10 ∷ []) ++ l) (ap (drop (c.in-Some.at + 1)) c.buffer-buffer.ensures ∙ sym c.consume.ensures.buffer)),
+          (sym c.buffer-buffer.ensures ∙ split ∙ ap (λ l. (take c.in-Some.at (take n buffer) ++ 10 ∷ []) ++ l) (ap (drop (c.in-Some.at + 1)) c.buffer-buffer.ensures ∙ sym c.consume.ensures.buffer)),
     )
 
 pub returns-in-Some-clause-plain : goal.returns-in-Some-clause-plain
@@ -30,9 +30,9 @@ returns-in-None-clause-taken g c =
     let long = c.is_too_long.ensures in (
       take n buffer,
       subst (λ end. Extends end c.args.line.now c.extend-in-None.new.self (take n buffer)) (sym c.then_some.ensures)
-      (extends_so c.is_too_long.result _ _ _ c.extend-in-None.ensures long.full long.room),
+          (extends_so c.is_too_long.result _ _ _ c.extend-in-None.ensures long.full long.room),
       taken_from _ _ _ _ _ _ _ c.consume-in-None.ensures.capacity (ap g.R.Read.remaining c.consume-in-None.ensures.inner)
-      (sym c.buffer-buffer.ensures ∙ up_to_end buffer n ∙ ap (λ l. take n buffer ++ l) (ap (drop (length (take n buffer))) c.buffer-buffer.ensures ∙ sym c.consume-in-None.ensures.buffer)),
+          (sym c.buffer-buffer.ensures ∙ up_to_end buffer n ∙ ap (λ l. take n buffer ++ l) (ap (drop (length (take n buffer))) c.buffer-buffer.ensures ∙ sym c.consume-in-None.ensures.buffer)),
     )
 
 pub returns-in-None-clause-plain : goal.returns-in-None-clause-plain
