@@ -13,7 +13,7 @@ mod reader;
 mod seat;
 
 pub use event::{Event, KeeperStep, ReaderStep, Step};
-pub use frame::{Frame, Kind};
+pub use frame::{FRAME_WORDS, Frame, FrameWord, Kind};
 pub use ledger::{Ledger, Note};
 pub use protocol::{Core, run};
 pub use seat::{Aim, Life, Phase};
