@@ -11,6 +11,7 @@ mod machine;
 mod protocol;
 mod reader;
 mod seat;
+mod worked;
 
 pub use event::{Event, KeeperStep, ReaderStep, Step};
 pub use frame::{FRAME_WORDS, Frame, FrameWord, Kind};
