@@ -1,6 +1,7 @@
-//! `lookups [ROUNDS [RUNS]]`: the processor time of a lookup (find, read all words, leave) on a table of 1,024 frames: of the table, by
-//! the program `lookup_times` of this repository, and of the same words in plain Rust, by this program. Both run as programs of their own,
-//! in turn; what a run with no lookup takes is taken off.
+//! `lookups [ROUNDS [RUNS [BEFORE]]]`: the processor time of a lookup (find, read all words, leave) on a table of 1,024 frames: of the
+//! table, by the program `lookup_times` of this repository, and of the same words in plain Rust, by this program; where BEFORE is the path
+//! of the `lookup_times` of another tree, of that one too. All run as programs of their own, in turn; what a run with no lookup takes is
+//! taken off.
 //!
 //! `lookups plain PLACES THREADS ROUNDS` is the plain form alone.
 
@@ -50,34 +51,40 @@ fn run(program: &str, first: &[&str], places: &str, threads: usize, rounds: u64)
     (String::from_utf8(stdout).unwrap(), children() - before)
 }
 
-fn measure(rounds: u64, runs: u32) {
+fn measure(rounds: u64, runs: u32, other: Option<&str>) {
     let this = std::env::current_exe().unwrap();
-    let subjects = [
-        ("plain Rust", this.to_str().unwrap(), &["plain"][..]),
-        ("the table", TABLE, &[][..]),
+    let mut subjects = vec![
+        ("plain", this.to_str().unwrap(), &["plain"][..]),
+        ("table", TABLE, &[][..]),
     ];
+    subjects.extend(other.map(|path| ("before", path, &[][..])));
     println!("best of {runs}, {rounds} lookups a thread; processor ns of a lookup, {PAGE_WORDS} words");
     for places in ["hot", "spread"] {
-        for threads in [1, 2, 4] {
-            let mut best = [f64::INFINITY; 2];
-            for _ in 0..runs {
-                let mut sums = Vec::new();
-                for (best, (_, program, first)) in best.iter_mut().zip(subjects) {
-                    let (_, idle) = run(program, first, places, threads, 0);
-                    let (sum, time) = run(program, first, places, threads, rounds);
-                    *best = best.min((time - idle) / (threads as u64 * rounds) as f64);
-                    sums.push(sum);
-                }
-                assert_eq!(sums[0], sums[1], "the words read");
+        for threads in 1..=4 {
+            let best = best_times(&subjects, places, threads, rounds, runs);
+            print!("{places:6} {threads} threads:");
+            for ((name, ..), time) in subjects.iter().zip(&best) {
+                print!(" {name} {time:6.1} ns ({:.2}x)", time / best[0]);
             }
-            println!(
-                "{places:6} {threads} threads: {:7.1} ns plain, {:7.1} ns table, {:5.2}x",
-                best[0],
-                best[1],
-                best[1] / best[0]
-            );
+            println!();
         }
     }
+}
+
+/// The least processor time that a lookup took of each program, in nanoseconds; all must print the same sum.
+fn best_times(subjects: &[(&str, &str, &[&str])], places: &str, threads: usize, rounds: u64, runs: u32) -> Vec<f64> {
+    let mut best = vec![f64::INFINITY; subjects.len()];
+    for _ in 0..runs {
+        let mut sums = Vec::new();
+        for (best, (_, program, first)) in best.iter_mut().zip(subjects) {
+            let (_, idle) = run(program, first, places, threads, 0);
+            let (sum, time) = run(program, first, places, threads, rounds);
+            *best = best.min((time - idle) / (threads as u64 * rounds) as f64);
+            sums.push(sum);
+        }
+        assert!(sums.iter().all(|sum| *sum == sums[0]), "the words read");
+    }
+    best
 }
 
 fn main() {
@@ -88,6 +95,7 @@ fn main() {
         let spread = words.get(1).is_none_or(|word| word != "hot");
         println!("{}", plain::run::<PAGE_WORDS>(spread, threads, number(3).unwrap_or(1)));
     } else {
-        measure(number(0).unwrap_or(2_000_000), number(1).unwrap_or(5) as u32);
+        let runs = number(1).unwrap_or(5) as u32;
+        measure(number(0).unwrap_or(2_000_000), runs, words.get(2).map(String::as_str));
     }
 }

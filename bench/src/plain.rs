@@ -1,4 +1,5 @@
-//! The lookup over the same words in plain Rust: the words of the places, then for each frame its count, generation and content.
+//! The lookup over the same words in plain Rust: the words of the places, then for each frame its frame word, generation and count in
+//! one, and its content.
 //! Nothing is proved of it. All accesses are sequentially consistent, as those of the table.
 
 use std::sync::atomic::AtomicU64;
@@ -8,37 +9,34 @@ use std::thread;
 const FRAMES: usize = 1024;
 const TRIES: u32 = 64;
 const STRIDE: usize = 619;
+/// What a frame word grows by with each life.
+const ONE_LIFE: u64 = 65536;
 
 /// A table whose every place names the frame of its number, in its first life.
 struct Table<const W: usize>(Vec<AtomicU64>);
 
 impl<const W: usize> Table<W> {
     fn published() -> Self {
-        let words = (0..FRAMES * (3 + W)).map(|_| AtomicU64::new(0)).collect();
+        let words = (0..FRAMES * (2 + W)).map(|_| AtomicU64::new(0)).collect();
         let table = Table(words);
         for frame in 0..FRAMES {
-            table.generation(frame).store(1, SeqCst);
             for i in 0..W {
                 table
                     .content(frame, i)
                     .store((16 * frame + i + 1) as u64, SeqCst);
             }
-            table.count(frame).store(2, SeqCst);
+            table.frame_word(frame).store(ONE_LIFE + 2, SeqCst);
             table.0[frame].store(1024 + frame as u64, SeqCst);
         }
         table
     }
 
-    fn count(&self, frame: usize) -> &AtomicU64 {
-        &self.0[FRAMES + frame * (2 + W)]
-    }
-
-    fn generation(&self, frame: usize) -> &AtomicU64 {
-        &self.0[FRAMES + frame * (2 + W) + 1]
+    fn frame_word(&self, frame: usize) -> &AtomicU64 {
+        &self.0[FRAMES + frame * (1 + W)]
     }
 
     fn content(&self, frame: usize, i: usize) -> &AtomicU64 {
-        &self.0[FRAMES + frame * (2 + W) + 2 + i]
+        &self.0[FRAMES + frame * (1 + W) + 1 + i]
     }
 
     /// The frame that a place names, held from now on.
@@ -49,27 +47,23 @@ impl<const W: usize> Table<W> {
         }
         let (frame, generation) = ((named % 1024) as usize, named / 1024);
         for _ in 0..TRIES {
-            let seen = self.count(frame).load(SeqCst);
-            if seen == 0 {
+            let seen = self.frame_word(frame).load(SeqCst);
+            if seen % ONE_LIFE == 0 || seen / ONE_LIFE != generation {
                 return None;
             }
             if self
-                .count(frame)
+                .frame_word(frame)
                 .compare_exchange(seen, seen + 1, SeqCst, SeqCst)
                 .is_ok()
             {
-                if self.generation(frame).load(SeqCst) == generation {
-                    return Some(frame);
-                }
-                self.leave(frame);
-                return None;
+                return Some(frame);
             }
         }
         None
     }
 
     fn leave(&self, frame: usize) {
-        self.count(frame).fetch_sub(1, SeqCst);
+        self.frame_word(frame).fetch_sub(1, SeqCst);
     }
 
     fn look(&self, place: usize) -> u64 {

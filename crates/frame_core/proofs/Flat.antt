@@ -9,7 +9,8 @@ use Rattle.ksm_base.specs.Values.{frames_of}
 use Rattle.frame_core.specs.declared.frame.Frame.{Frame}
 use Rattle.frame_core.specs.declared.seat.Life.{Life}
 use Rattle.frame_core.specs.State.{State, place_word}
-use Rattle.frame_core.specs.Words.{frame_words, words_of, frame_offset, count_at, generation_at}
+use Rattle.frame_core.specs.declared.frame.TheConstants.{FRAME_WORDS}
+use Rattle.frame_core.specs.Words.{frame_words, words_of, frame_offset}
 use Rattle.frame_core.specs.Rule.{Rule}
 
 module _ {A : Type 0} where
@@ -53,38 +54,31 @@ module _ {A : Type 0} (g : A → List ℕ) (n : ℕ) where
 -- ---------------------------------------------------------------- the words of a state
 
 module _ (s : State) (rule : Rule s) where
-  pub blocks_fit : (f : ℕ) (fr : Frame) → slice_get s.frames f ≡ Some fr → length (frame_words fr) ≡ 2 + PAGE_WORDS
+  pub blocks_fit : (f : ℕ) (fr : Frame) → slice_get s.frames f ≡ Some fr → length (frame_words fr) ≡ FRAME_WORDS
   blocks_fit f fr at = omega (arith, (rule.frames f fr at).content)
 
   places_long : length (map place_word s.places) ≡ frames_of s.shape
   places_long = length-map s.places place_word ∙ rule.place_count
 
   -- the word j of the frame f becomes v
-  pub words_set : (f j v : ℕ) (fr next : Frame) → slice_get s.frames f ≡ Some fr → j < 2 + PAGE_WORDS → set (frame_words fr) j v ≡ frame_words next
+  pub words_set : (f j v : ℕ) (fr next : Frame) → slice_get s.frames f ≡ Some fr → j < FRAME_WORDS → set (frame_words fr) j v ≡ frame_words next
       → set (words_of s) (frame_offset (frames_of s.shape) f + j) v ≡ words_of (record s { frames = slice_set s.frames f next })
   words_set f j v fr next at below is =
-      let moved : frame_offset (frames_of s.shape) f + j ≡ frames_of s.shape + (f * (2 + PAGE_WORDS) + j) = omega arith in
+      let moved : frame_offset (frames_of s.shape) f + j ≡ frames_of s.shape + (f * (FRAME_WORDS) + j) = omega arith in
       ap (λ (m : ℕ). set (words_of s) m v) moved
-      ∙ (set_right (map place_word s.places) (flat_map frame_words s.frames) (frames_of s.shape) (f * (2 + PAGE_WORDS) + j) v places_long
-      ∙ ap (λ (w : List ℕ). map place_word s.places ++ w) (flat_set frame_words (2 + PAGE_WORDS) s.frames f j v fr next blocks_fit at below is))
+      ∙ (set_right (map place_word s.places) (flat_map frame_words s.frames) (frames_of s.shape) (f * (FRAME_WORDS) + j) v places_long
+      ∙ ap (λ (w : List ℕ). map place_word s.places ++ w) (flat_set frame_words (FRAME_WORDS) s.frames f j v fr next blocks_fit at below is))
 
   -- what stands there
-  pub words_get : (f j : ℕ) (fr : Frame) → slice_get s.frames f ≡ Some fr → j < 2 + PAGE_WORDS → get_or (words_of s) (frame_offset (frames_of s.shape) f + j) 0 ≡ get_or (frame_words fr) j 0
+  pub words_get : (f j : ℕ) (fr : Frame) → slice_get s.frames f ≡ Some fr → j < FRAME_WORDS → get_or (words_of s) (frame_offset (frames_of s.shape) f + j) 0 ≡ get_or (frame_words fr) j 0
   words_get f j fr at below =
-      let moved : frame_offset (frames_of s.shape) f + j ≡ length (map place_word s.places) + (f * (2 + PAGE_WORDS) + j) = omega (arith, places_long) in
+      let moved : frame_offset (frames_of s.shape) f + j ≡ length (map place_word s.places) + (f * (FRAME_WORDS) + j) = omega (arith, places_long) in
       ap (λ (m : ℕ). get_or (words_of s) m 0) moved
-      ∙ (get_or-append-add (map place_word s.places) (flat_map frame_words s.frames) (f * (2 + PAGE_WORDS) + j) 0
-      ∙ flat_get frame_words (2 + PAGE_WORDS) s.frames f j fr blocks_fit at below)
+      ∙ (get_or-append-add (map place_word s.places) (flat_map frame_words s.frames) (f * (FRAME_WORDS) + j) 0
+      ∙ flat_get frame_words (FRAME_WORDS) s.frames f j fr blocks_fit at below)
 
   -- the word of the place p becomes that of this place
   pub words_set_place : (p : ℕ) (place : Option Life) → p < frames_of s.shape → set (words_of s) p (place_word place) ≡ words_of (record s { places = slice_set s.places p place })
   words_set_place p place below =
       set-append_left (map place_word s.places) (flat_map frame_words s.frames) p (place_word place) (omega (arith, places_long))
       ∙ ap (λ (w : List ℕ). w ++ flat_map frame_words s.frames) (sym (map-set place_word s.places p place))
-
-  -- one example of each kind of word
-  pub set_count : (f v : ℕ) (fr : Frame) → slice_get s.frames f ≡ Some fr → set (words_of s) (count_at (frames_of s.shape) f) v ≡ words_of (record s { frames = slice_set s.frames f (record fr { count = v }) })
-  set_count f v fr at = words_set f 0 v fr (record fr { count = v }) at (omega arith) refl
-
-  pub set_generation : (f v : ℕ) (fr : Frame) → slice_get s.frames f ≡ Some fr → set (words_of s) (generation_at (frames_of s.shape) f) v ≡ words_of (record s { frames = slice_set s.frames f (record fr { generation = v }) })
-  set_generation f v fr at = words_set f 1 v fr (record fr { generation = v }) at (omega arith) refl

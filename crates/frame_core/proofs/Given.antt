@@ -10,7 +10,7 @@ use Rattle.frame_core.specs.declared.frame.Frame.{Frame}
 use Rattle.frame_core.specs.declared.seat.Phase.{Phase}
 use Rattle.frame_core.specs.State.{State, opening}
 use Rattle.frame_core.specs.KeeperSteps.{at_frame, publish_step, withdraw_step, reap_step, put_step, raise_step, open_step, add_step, sub_step, freeze_step, word_step}
-use Rattle.frame_core.specs.ReaderSteps.{at_seat, at_both, load_place_step, load_count_step, load_generation_step, load_word_step, exchange_step, leave_step}
+use Rattle.frame_core.specs.ReaderSteps.{at_seat, at_both, load_place_step, load_frame_step, load_word_step, exchange_step, leave_step}
 use Rattle.frame_core.specs.Steps.{step}
 use Rattle.frame_core.specs.Trace.{History, history_after, history_with, run_of}
 use Rattle.frame_core.specs.Safe.{WasUnheld, GivenUnheld}
@@ -44,9 +44,8 @@ withdraw_shape s p r e =
 
 pub step_shape : (s : State) (e : Event) (r : ℕ × State) → step s e ≡ Some r → SameShape s r
 step_shape s (event.Reader q (reader.LoadPlace p)) r e = seat_shape s q (load_place_step s.places p) r e
-step_shape s (event.Reader q reader.LoadCount) r e = seat_shape s q (load_count_step s.frames) r e
+step_shape s (event.Reader q reader.LoadFrame) r e = seat_shape s q (load_frame_step s.frames) r e
 step_shape s (event.Reader q reader.Exchange) r e = both_shape s q (exchange_step s.shape.tries s.frames) r e
-step_shape s (event.Reader q reader.LoadGeneration) r e = seat_shape s q (load_generation_step s.frames) r e
 step_shape s (event.Reader q reader.Leave) r e = both_shape s q (leave_step s.frames) r e
 step_shape s (event.Reader q (reader.LoadWord i)) r e = seat_shape s q (load_word_step s.frames i) r e
 step_shape s (event.Keeper (keeper.Reap f)) r e = frame_shape s f (reap_step s.shape.last_generation) r e

@@ -1,5 +1,6 @@
 -- Every run keeps the rule, and its state and its trace go together.
-use Rattle.std.proofs.Common.{◌≡◌, ℕ, ◌+◌, ◌-◌, ◌==◌, ◌||◌, leb, Bool, true, false, if◌then◌else◌, List, [], ◌∷◌, Option, Some, None, replicate, slice_get, slice_set, fold, subst, sym, refl}
+use Rattle.std.proofs.Common.{◌≡◌, ℕ, ◌&&◌, not, ap, ◌+◌, ◌-◌, ◌==◌, ◌||◌, leb, Bool, true, false, if◌then◌else◌, List, [], ◌∷◌, Option, Some, None, replicate, slice_get, slice_set, fold, subst, sym, refl}
+use Rattle.std.proofs.lemmas.Bool.{eqb-true, and_parts}
 use Rattle.ksm_base.specs.declared.shape.Shape.{Shape}
 use Rattle.ksm_base.specs.declared.page.TheConstants.{PAGE_WORDS}
 use Rattle.ksm_base.specs.Values.{IsShape, frames_of}
@@ -15,10 +16,10 @@ use Rattle.frame_core.specs.declared.frame.Kind.TheVariants.{Free, Filling, Priv
 use Rattle.frame_core.specs.declared.seat.Life.{Life}
 use Rattle.frame_core.specs.declared.seat.Aim.{Aim}
 use Rattle.frame_core.specs.declared.seat.Phase.{Phase}
-use Rattle.frame_core.specs.declared.seat.Phase.TheVariants.{Idle, Placed, Counted, Doubt, Held, Spent}
-use Rattle.frame_core.specs.State.{State, opening, new_frame, place_word}
+use Rattle.frame_core.specs.declared.seat.Phase.TheVariants.{Idle, Placed, Counted, Held, Spent}
+use Rattle.frame_core.specs.State.{State, opening, new_frame, place_word, frame_word, word_of}
 use Rattle.frame_core.specs.KeeperSteps.{keeper_step, at_frame, reap_step, put_step, raise_step, open_step, add_step, sub_step, freeze_step, word_step, publish_step, withdraw_step, is_filling, is_private}
-use Rattle.frame_core.specs.ReaderSteps.{reader_step, load_place_step, load_count_step, load_generation_step, load_word_step, exchange_step, leave_step, given_back, aimed_at}
+use Rattle.frame_core.specs.ReaderSteps.{reader_step, is_alive, is_still, load_place_step, load_frame_step, load_word_step, exchange_step, leave_step, given_back, aimed_at}
 use Rattle.frame_core.specs.Steps.{step}
 use Rattle.frame_core.specs.Trace.{Entry, History, history_after, history_with, run_of}
 use Rattle.frame_core.specs.Rule.{Rule}
@@ -27,7 +28,7 @@ use Rattle.frame_core.proofs.Made.{at_frame_made, put_made, raise_made, open_mad
 use Rattle.frame_core.proofs.Keeps.{step_keeps, opening_rule, in_replicate}
 use Rattle.frame_core.proofs.Told.{Tale, Told, FrameTold, SeatTold, Writable, tale_of}
 use Rattle.frame_core.proofs.Quiet.{Quiet, reap_quiet, add_quiet, sub_quiet, freeze_quiet, word_quiet}
-use Rattle.frame_core.proofs.Telling.{tell_quiet, tell_put, tell_raise, tell_open, tell_publish, tell_withdraw, tell_load_place, tell_load_count, tell_exchange, tell_load_generation, tell_leave, tell_load_word}
+use Rattle.frame_core.proofs.Telling.{tell_quiet, tell_put, tell_raise, tell_open, tell_publish, tell_withdraw, tell_load_place, tell_load_frame, tell_exchange, tell_leave, tell_load_word}
 
 -- the state after an event, with the trace after it
 abbrev pub ToldAfter : List Entry → Event → ℕ × State → Type 0
@@ -66,7 +67,7 @@ told_open : (s : State) (t : List Entry) (f : ℕ) → Rule s → Told s (tale_o
 told_open s t f rule told old r at e =
     let m = open_made old r e in
     subst (λ (x : ℕ × Frame). ToldAfter t (event.Keeper (keeper.Open f)) (x.0, record s { frames = slice_set s.frames f x.1 })) m.1
-    (tell_open s (tale_of t) f old (record old { count = 1; kind = Private; base = 1 }) at m.0
+    (tell_open s (tale_of t) f old (record old { count = old.count + 1; kind = Private; base = 1 }) at m.0
     record { generation = refl; content = refl; kind = λ h. subst Writable (sym m.0) tt } rule told)
 
 told_publish : (s : State) (t : List Entry) (p f : ℕ) → Rule s → Told s (tale_of t) → (r : ℕ × State) → publish_step s p f ≡ Some r → ToldAfter t (event.Keeper (keeper.Publish p f)) r
@@ -102,29 +103,19 @@ told_load_place s t q p told Idle at r e =
     subst (ToldSeat s t q (reader.LoadPlace p)) P.2 (tell_load_place s (tale_of t) q p P.0 at P.1 told)
 told_load_place s t q p told (Placed aim failures) at r e = absurd (cc (e))
 told_load_place s t q p told (Counted aim failures count) at r e = absurd (cc (e))
-told_load_place s t q p told (Doubt aim) at r e = absurd (cc (e))
 told_load_place s t q p told (Held aim known) at r e = absurd (cc (e))
 told_load_place s t q p told Spent at r e = absurd (cc (e))
 
-told_load_count : (s : State) (t : List Entry) (q : ℕ) → Told s (tale_of t) → (old : Phase) → slice_get s.seats q ≡ Some old → (r : ℕ × Phase) → load_count_step s.frames old ≡ Some r → ToldSeat s t q reader.LoadCount r
-told_load_count s t q told (Placed aim failures) at r e =
-    let P = map_parts (λ (fr : Frame). (fr.count, if fr.count == 0 then Idle else Counted aim failures fr.count)) (slice_get s.frames aim.life.frame) r e in
-    subst (ToldSeat s t q reader.LoadCount) P.2 (tell_load_count s (tale_of t) q P.0.count aim failures at told)
-told_load_count s t q told Idle at r e = absurd (cc (e))
-told_load_count s t q told (Counted aim failures count) at r e = absurd (cc (e))
-told_load_count s t q told (Doubt aim) at r e = absurd (cc (e))
-told_load_count s t q told (Held aim known) at r e = absurd (cc (e))
-told_load_count s t q told Spent at r e = absurd (cc (e))
-
-told_load_generation : (s : State) (t : List Entry) (q : ℕ) → Told s (tale_of t) → (old : Phase) → slice_get s.seats q ≡ Some old → (r : ℕ × Phase) → load_generation_step s.frames old ≡ Some r → ToldSeat s t q reader.LoadGeneration r
-told_load_generation s t q told (Doubt aim) at r e =
-    let P = map_parts (λ (fr : Frame). (fr.generation, if fr.generation == aim.life.generation then Held aim (replicate PAGE_WORDS None) else Doubt aim)) (slice_get s.frames aim.life.frame) r e in
-    subst (ToldSeat s t q reader.LoadGeneration) P.2 (tell_load_generation s (tale_of t) q aim (replicate PAGE_WORDS None) (P.0.generation == aim.life.generation) at told)
-told_load_generation s t q told Idle at r e = absurd (cc (e))
-told_load_generation s t q told (Placed aim failures) at r e = absurd (cc (e))
-told_load_generation s t q told (Counted aim failures count) at r e = absurd (cc (e))
-told_load_generation s t q told (Held aim known) at r e = absurd (cc (e))
-told_load_generation s t q told Spent at r e = absurd (cc (e))
+told_load_frame : (s : State) (t : List Entry) (q : ℕ) → Told s (tale_of t) → (old : Phase) → slice_get s.seats q ≡ Some old → (r : ℕ × Phase) → load_frame_step s.frames old ≡ Some r → ToldSeat s t q reader.LoadFrame r
+told_load_frame s t q told (Placed aim failures) at r e =
+    let test : Frame → Bool = is_alive aim.life.generation in
+    let P = map_parts (λ (fr : Frame). (word_of fr, if test fr then Counted aim failures fr.count else Idle)) (slice_get s.frames aim.life.frame) r e in
+    subst (ToldSeat s t q reader.LoadFrame) P.2 (tell_load_frame s (tale_of t) q (word_of P.0) P.0.count aim failures (test P.0)
+    (λ h. ap (λ (g : ℕ). frame_word g P.0.count) (eqb-true P.0.generation aim.life.generation (and_parts (not (P.0.count == 0)) (P.0.generation == aim.life.generation) h).1)) at told)
+told_load_frame s t q told Idle at r e = absurd (cc (e))
+told_load_frame s t q told (Counted aim failures count) at r e = absurd (cc (e))
+told_load_frame s t q told (Held aim known) at r e = absurd (cc (e))
+told_load_frame s t q told Spent at r e = absurd (cc (e))
 
 told_load_word : (s : State) (t : List Entry) (q i : ℕ) → Rule s → Told s (tale_of t) → (old : Phase) → slice_get s.seats q ≡ Some old → (r : ℕ × Phase) → load_word_step s.frames i old ≡ Some r → ToldSeat s t q (reader.LoadWord i) r
 told_load_word s t q i rule told (Held aim known) at r e =
@@ -133,7 +124,6 @@ told_load_word s t q i rule told (Held aim known) at r e =
 told_load_word s t q i rule told Idle at r e = absurd (cc (e))
 told_load_word s t q i rule told (Placed aim failures) at r e = absurd (cc (e))
 told_load_word s t q i rule told (Counted aim failures count) at r e = absurd (cc (e))
-told_load_word s t q i rule told (Doubt aim) at r e = absurd (cc (e))
 told_load_word s t q i rule told Spent at r e = absurd (cc (e))
 
 -- the frames change in one count
@@ -149,25 +139,24 @@ recounted_if s T f fr false at told = told
 
 told_exchange : (s : State) (t : List Entry) (q : ℕ) → Told s (tale_of t) → (old : Phase) → slice_get s.seats q ≡ Some old → (r : ℕ × List Frame × Phase) → exchange_step s.shape.tries s.frames old ≡ Some r → ToldBoth s t q reader.Exchange r
 told_exchange s t q told (Counted aim failures count) at r e =
-    let P = map_parts (λ (fr : Frame). (fr.count, (if fr.count == count then slice_set s.frames aim.life.frame (record fr { count = fr.count + 1 }) else s.frames), (if fr.count == count then Doubt aim else if leb s.shape.tries (failures + 1) then Idle else Placed aim (failures + 1)))) (slice_get s.frames aim.life.frame) r e in
+    let test : Frame → Bool = is_still aim.life.generation count in
+    let P = map_parts (λ (fr : Frame). (word_of fr, (if test fr then slice_set s.frames aim.life.frame (record fr { count = fr.count + 1 }) else s.frames), (if test fr then Held aim (replicate PAGE_WORDS None) else if leb s.shape.tries (failures + 1) then Idle else Placed aim (failures + 1)))) (slice_get s.frames aim.life.frame) r e in
     subst (ToldBoth s t q reader.Exchange) P.2
-    (tell_exchange (record s { frames = if P.0.count == count then slice_set s.frames aim.life.frame (record P.0 { count = P.0.count + 1 }) else s.frames }) (tale_of t) q P.0.count count aim failures (leb s.shape.tries (failures + 1)) at
-    (recounted_if s (tale_of t) aim.life.frame P.0 (P.0.count == count) P.1 told))
+    (tell_exchange (record s { frames = if test P.0 then slice_set s.frames aim.life.frame (record P.0 { count = P.0.count + 1 }) else s.frames }) (tale_of t) q (word_of P.0) count aim failures (replicate PAGE_WORDS None) (leb s.shape.tries (failures + 1)) at
+    (recounted_if s (tale_of t) aim.life.frame P.0 (test P.0) P.1 told))
 told_exchange s t q told Idle at r e = absurd (cc (e))
 told_exchange s t q told (Placed aim failures) at r e = absurd (cc (e))
-told_exchange s t q told (Doubt aim) at r e = absurd (cc (e))
 told_exchange s t q told (Held aim known) at r e = absurd (cc (e))
 told_exchange s t q told Spent at r e = absurd (cc (e))
 
 told_given_back : (s : State) (t : List Entry) (q : ℕ) → Told s (tale_of t) → (aim : Aim) (r : ℕ × List Frame × Phase) → given_back s.frames aim ≡ Some r → ToldBoth s t q reader.Leave r
 told_given_back s t q told aim r e =
-    let P = map_parts (λ (fr : Frame). (fr.count, slice_set s.frames aim.life.frame (record fr { count = fr.count - 1 }), Idle)) (slice_get s.frames aim.life.frame) r e in
+    let P = map_parts (λ (fr : Frame). (word_of fr, slice_set s.frames aim.life.frame (record fr { count = fr.count - 1 }), Idle)) (slice_get s.frames aim.life.frame) r e in
     subst (ToldBoth s t q reader.Leave) P.2
     (tell_leave (record s { frames = slice_set s.frames aim.life.frame (record P.0 { count = P.0.count - 1 }) }) (tale_of t) q
     (tell_quiet s (tale_of t) aim.life.frame P.0 (record P.0 { count = P.0.count - 1 }) P.1 (recounted P.0 (P.0.count - 1)) told))
 
 told_leave : (s : State) (t : List Entry) (q : ℕ) → Told s (tale_of t) → (old : Phase) (r : ℕ × List Frame × Phase) → leave_step s.frames old ≡ Some r → ToldBoth s t q reader.Leave r
-told_leave s t q told (Doubt aim) r e = told_given_back s t q told aim r e
 told_leave s t q told (Held aim known) r e = told_given_back s t q told aim r e
 told_leave s t q told Idle r e = absurd (cc (e))
 told_leave s t q told (Placed aim failures) r e = absurd (cc (e))
@@ -178,15 +167,12 @@ told_reader : (s : State) (t : List Entry) (q : ℕ) (k : ReaderStep) → Rule s
 told_reader s t q (reader.LoadPlace p) rule told r e =
     let P = parts (slice_get s.seats q) (load_place_step s.places p) (λ (x : ℕ × Phase). (x.0, record s { seats = slice_set s.seats q x.1 })) r e in
     subst (ToldAfter t (event.Reader q (reader.LoadPlace p))) P.is (told_load_place s t q p told P.old P.at P.new P.gives)
-told_reader s t q reader.LoadCount rule told r e =
-    let P = parts (slice_get s.seats q) (load_count_step s.frames) (λ (x : ℕ × Phase). (x.0, record s { seats = slice_set s.seats q x.1 })) r e in
-    subst (ToldAfter t (event.Reader q reader.LoadCount)) P.is (told_load_count s t q told P.old P.at P.new P.gives)
+told_reader s t q reader.LoadFrame rule told r e =
+    let P = parts (slice_get s.seats q) (load_frame_step s.frames) (λ (x : ℕ × Phase). (x.0, record s { seats = slice_set s.seats q x.1 })) r e in
+    subst (ToldAfter t (event.Reader q reader.LoadFrame)) P.is (told_load_frame s t q told P.old P.at P.new P.gives)
 told_reader s t q reader.Exchange rule told r e =
     let P = parts (slice_get s.seats q) (exchange_step s.shape.tries s.frames) (λ (x : ℕ × List Frame × Phase). (x.0, record s { frames = x.1; seats = slice_set s.seats q x.2 })) r e in
     subst (ToldAfter t (event.Reader q reader.Exchange)) P.is (told_exchange s t q told P.old P.at P.new P.gives)
-told_reader s t q reader.LoadGeneration rule told r e =
-    let P = parts (slice_get s.seats q) (load_generation_step s.frames) (λ (x : ℕ × Phase). (x.0, record s { seats = slice_set s.seats q x.1 })) r e in
-    subst (ToldAfter t (event.Reader q reader.LoadGeneration)) P.is (told_load_generation s t q told P.old P.at P.new P.gives)
 told_reader s t q reader.Leave rule told r e =
     let P = parts (slice_get s.seats q) (leave_step s.frames) (λ (x : ℕ × List Frame × Phase). (x.0, record s { frames = x.1; seats = slice_set s.seats q x.2 })) r e in
     subst (ToldAfter t (event.Reader q reader.Leave)) P.is (told_leave s t q told P.old P.new P.gives)

@@ -17,7 +17,7 @@ use Rattle.frame_core.specs.declared.seat.Phase.{Phase}
 use Rattle.frame_core.specs.declared.seat.Phase.TheVariants.{Idle}
 use Rattle.frame_core.specs.State.{State, opening, new_frame}
 use Rattle.frame_core.specs.KeeperSteps.{keeper_step, at_frame, reap_step, put_step, raise_step, open_step, add_step, sub_step, freeze_step, word_step}
-use Rattle.frame_core.specs.ReaderSteps.{reader_step, load_place_step, load_count_step, load_generation_step, load_word_step, exchange_step, leave_step}
+use Rattle.frame_core.specs.ReaderSteps.{reader_step, load_place_step, load_frame_step, load_word_step, exchange_step, leave_step}
 use Rattle.frame_core.specs.Steps.{step, after}
 use Rattle.frame_core.specs.Rule.{Rule, FrameRule, SeatRule, readers_on, is_on}
 use Rattle.frame_core.proofs.Parts.{parts}
@@ -35,8 +35,7 @@ use Rattle.frame_core.proofs.Moves.Word.{word_keeps}
 use Rattle.frame_core.proofs.Moves.Publish.{publish_keeps}
 use Rattle.frame_core.proofs.Moves.Withdraw.{withdraw_keeps}
 use Rattle.frame_core.proofs.Moves.LoadPlace.{load_place_keeps}
-use Rattle.frame_core.proofs.Moves.LoadCount.{load_count_keeps}
-use Rattle.frame_core.proofs.Moves.LoadGeneration.{load_generation_keeps}
+use Rattle.frame_core.proofs.Moves.LoadFrame.{load_frame_keeps}
 use Rattle.frame_core.proofs.Moves.LoadWord.{load_word_keeps}
 use Rattle.frame_core.proofs.Moves.Exchange.{exchange_keeps}
 use Rattle.frame_core.proofs.Moves.Leave.{leave_keeps}
@@ -64,15 +63,12 @@ reader_keeps : (s : State) (q : ℕ) (k : ReaderStep) (r : ℕ × State) → rea
 reader_keeps s q (reader.LoadPlace p) r e rule =
     let P = parts (slice_get s.seats q) (load_place_step s.places p) (λ (x : ℕ × Phase). (x.0, record s { seats = slice_set s.seats q x.1 })) r e in
     subst (λ (x : ℕ × State). Rule x.1) P.is (load_place_keeps s q p P.old P.at P.new P.gives rule)
-reader_keeps s q reader.LoadCount r e rule =
-    let P = parts (slice_get s.seats q) (load_count_step s.frames) (λ (x : ℕ × Phase). (x.0, record s { seats = slice_set s.seats q x.1 })) r e in
-    subst (λ (x : ℕ × State). Rule x.1) P.is (load_count_keeps s q P.old P.at P.new P.gives rule)
+reader_keeps s q reader.LoadFrame r e rule =
+    let P = parts (slice_get s.seats q) (load_frame_step s.frames) (λ (x : ℕ × Phase). (x.0, record s { seats = slice_set s.seats q x.1 })) r e in
+    subst (λ (x : ℕ × State). Rule x.1) P.is (load_frame_keeps s q P.old P.at P.new P.gives rule)
 reader_keeps s q reader.Exchange r e rule =
     let P = parts (slice_get s.seats q) (exchange_step s.shape.tries s.frames) (λ (x : ℕ × List Frame × Phase). (x.0, record s { frames = x.1; seats = slice_set s.seats q x.2 })) r e in
     subst (λ (x : ℕ × State). Rule x.1) P.is (exchange_keeps s q P.old P.at P.new P.gives rule)
-reader_keeps s q reader.LoadGeneration r e rule =
-    let P = parts (slice_get s.seats q) (load_generation_step s.frames) (λ (x : ℕ × Phase). (x.0, record s { seats = slice_set s.seats q x.1 })) r e in
-    subst (λ (x : ℕ × State). Rule x.1) P.is (load_generation_keeps s q P.old P.at P.new P.gives rule)
 reader_keeps s q reader.Leave r e rule =
     let P = parts (slice_get s.seats q) (leave_step s.frames) (λ (x : ℕ × List Frame × Phase). (x.0, record s { frames = x.1; seats = slice_set s.seats q x.2 })) r e in
     subst (λ (x : ℕ × State). Rule x.1) P.is (leave_keeps s q P.old P.at P.new P.gives rule)

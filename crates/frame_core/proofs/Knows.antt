@@ -12,11 +12,13 @@ use Rattle.frame_core.specs.declared.frame.Kind.TheVariants.{Free, Filling, Priv
 use Rattle.frame_core.specs.declared.ledger.Ledger.{Ledger}
 use Rattle.frame_core.specs.declared.ledger.Note.{Note}
 use Rattle.frame_core.specs.declared.seat.Life.{Life}
-use Rattle.frame_core.specs.State.{State}
+use Rattle.frame_core.specs.State.{State, word_of, count_in}
 use Rattle.frame_core.specs.KeeperSteps.{only_if, is_free, is_filling, is_private, is_stable, is_dying, reap_step, put_step, raise_step, open_step, add_step, sub_step, freeze_step, word_step, at_frame, is_live, publish_step, withdraw_step, keeper_step}
 use Rattle.frame_core.specs.Ledger.{note_of, ledger_of, frame_at, named_at, with_frame, IsWritable, IsReadable, IsLoose, MayStep, ledger_after}
 use Rattle.frame_core.specs.Rule.{Rule, BaseFits}
 use Rattle.frame_core.proofs.Lists.{set_self}
+use Rattle.frame_core.proofs.Packed.{count_packed}
+use Rattle.frame_core.proofs.Moves.LoadFrame.{count_at_most}
 use Rattle.frame_core.proofs.Fitting.{get_inside}
 use Rattle.frame_core.proofs.Made.{at_frame_made, reap_made, put_made, raise_made, open_made, add_made, sub_made, freeze_made, word_made, publish_made, withdraw_made}
 use Rattle.frame_core.proofs.Notes.{note_at, note_changed, writable_passes, passes_writable, readable_passes, passes_readable, loose_not_live, not_live_loose}
@@ -157,6 +159,10 @@ module _ (s : State) (rule : Rule s) where
   abbrev pub Knows : KeeperStep → ℕ × State → Type 0
   Knows e x = ledger_of x.1 ≡ ledger_after s.shape (ledger_of s) e x.0
 
+  -- what holds of a frame's count holds of the count in its word
+  by_count : (f : ℕ) (fr : Frame) → slice_get s.frames f ≡ Some fr → (P : ℕ → Type 0) → P fr.count → P (count_in (word_of fr))
+  by_count f fr at P h = subst P (sym (count_packed fr.generation fr.count (omega (arith, count_at_most s f fr at rule)))) h
+
   -- a frame that stays as it was
   same_knows : (f : ℕ) (fr : Frame) → slice_get s.frames f ≡ Some fr → ledger_of (record s { frames = slice_set s.frames f fr }) ≡ ledger_of s
   same_knows f fr at = ap (λ (frames : List Frame). ledger_of (record s { frames = frames })) (set_self s.frames f fr at)
@@ -200,7 +206,9 @@ module _ (s : State) (rule : Rule s) where
   pub step_knows : (e : KeeperStep) (r : ℕ × State) → keeper_step s e ≡ Some r → Knows e r
   step_knows (keeper.Reap f) =
       at_frame_knows (keeper.Reap f) f (reap_step s.shape.last_generation) (λ fr x at is. let m = reap_made s.shape.last_generation fr x is in
-      subst (KnowsFrame (keeper.Reap f) f) m.1 (reap_knows f fr at m.0 (fr.count == 0) refl))
+      subst (KnowsFrame (keeper.Reap f) f) m.1 (by_count f fr at (λ n. ledger_of (record s { frames = slice_set s.frames f (record fr { kind = if fr.count == 0 then (if fr.generation == s.shape.last_generation then Retired else Free) else Dying }) })
+      ≡ cond (n == 0) (with_frame (ledger_of s) f record { kind = cond ((frame_at (ledger_of s) f).generation == s.shape.last_generation) Retired Free; base = 0; generation = (frame_at (ledger_of s) f).generation; content = (frame_at (ledger_of s) f).content }) (ledger_of s))
+      (reap_knows f fr at m.0 (fr.count == 0) refl)))
   step_knows (keeper.Put f i w) =
       at_frame_knows (keeper.Put f i w) f (put_step i w) (λ fr x at is.
       subst (KnowsFrame (keeper.Put f i w) f) (put_made i w fr x is).2
@@ -212,7 +220,7 @@ module _ (s : State) (rule : Rule s) where
   step_knows (keeper.Open f) =
       at_frame_knows (keeper.Open f) f open_step (λ fr x at is.
       subst (KnowsFrame (keeper.Open f) f) (open_made fr x is).1
-      (note_changed s f fr (record fr { count = 1; kind = Private; base = 1 }) (λ n. record { kind = Private; base = 1; generation = n.generation; content = n.content }) at refl))
+      (note_changed s f fr (record fr { count = fr.count + 1; kind = Private; base = 1 }) (λ n. record { kind = Private; base = 1; generation = n.generation; content = n.content }) at refl))
   step_knows (keeper.Add f) =
       at_frame_knows (keeper.Add f) f add_step (λ fr x at is.
       subst (KnowsFrame (keeper.Add f) f) (add_made fr x is).2
@@ -227,8 +235,10 @@ module _ (s : State) (rule : Rule s) where
   step_knows (keeper.Freeze f) =
       at_frame_knows (keeper.Freeze f) f freeze_step (λ fr x at is.
       subst (KnowsFrame (keeper.Freeze f) f) (freeze_made fr x is).1
+      (by_count f fr at (λ c. ledger_of (record s { frames = slice_set s.frames f (if fr.count == fr.base then record fr { count = 0; base = 0; kind = Dying } else fr) })
+      ≡ cond (c == (frame_at (ledger_of s) f).base) (with_frame (ledger_of s) f record { kind = Dying; base = 0; generation = (frame_at (ledger_of s) f).generation; content = (frame_at (ledger_of s) f).content }) (ledger_of s))
       (by_note f fr at (λ (n : Note). ledger_of (record s { frames = slice_set s.frames f (if fr.count == fr.base then record fr { count = 0; base = 0; kind = Dying } else fr) })
       ≡ cond (fr.count == n.base) (with_frame (ledger_of s) f record { kind = Dying; base = 0; generation = (frame_at (ledger_of s) f).generation; content = (frame_at (ledger_of s) f).content }) (ledger_of s))
-      (freeze_knows f fr at (fr.count == fr.base))))
+      (freeze_knows f fr at (fr.count == fr.base)))))
   step_knows (keeper.Word f i) =
       at_frame_knows (keeper.Word f i) f (word_step i) (λ fr x at is. subst (KnowsFrame (keeper.Word f i) f) (word_made i fr x is).1.2 (same_knows f fr at))

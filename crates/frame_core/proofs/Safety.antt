@@ -11,7 +11,7 @@ use Rattle.frame_core.specs.declared.frame.Frame.{Frame}
 use Rattle.frame_core.specs.declared.frame.Kind.{Kind}
 use Rattle.frame_core.specs.declared.seat.Aim.{Aim}
 use Rattle.frame_core.specs.declared.seat.Phase.{Phase}
-use Rattle.frame_core.specs.declared.seat.Phase.TheVariants.{Idle, Placed, Counted, Doubt, Held, Spent}
+use Rattle.frame_core.specs.declared.seat.Phase.TheVariants.{Idle, Placed, Counted, Held, Spent}
 use Rattle.frame_core.specs.KeeperSteps.{raise_step, open_step, put_step}
 use Rattle.frame_core.specs.Steps.{step}
 use Rattle.frame_core.specs.Rule.{CountFits, is_on, readers_on}
@@ -39,7 +39,6 @@ held_on : (life : ℕ → ℕ) (named : ℕ → ℕ → ℕ → Option ℕ) (sea
 held_on life named seat f Idle told = ap (is_frame f) told
 held_on life named seat f (Placed aim failures) told = ap (is_frame f) told.0
 held_on life named seat f (Counted aim failures count) told = ap (is_frame f) told.0
-held_on life named seat f (Doubt aim) told = ap (is_frame f) told.0
 held_on life named seat f (Held aim known) told = ap (is_frame f) told.0
 held_on life named seat f Spent told = ap (is_frame f) told
 

@@ -10,8 +10,8 @@ use Rattle.frame_core.specs.declared.frame.Kind.TheVariants.{Filling, Private, S
 use Rattle.frame_core.specs.declared.seat.Life.{Life}
 use Rattle.frame_core.specs.declared.seat.Aim.{Aim}
 use Rattle.frame_core.specs.declared.seat.Phase.{Phase}
-use Rattle.frame_core.specs.declared.seat.Phase.TheVariants.{Idle, Placed, Counted, Doubt, Held, Spent}
-use Rattle.frame_core.specs.State.{State, place_word}
+use Rattle.frame_core.specs.declared.seat.Phase.TheVariants.{Idle, Placed, Counted, Held, Spent}
+use Rattle.frame_core.specs.State.{State, place_word, frame_word}
 use Rattle.frame_core.specs.ReaderSteps.{aimed_at}
 use Rattle.frame_core.specs.Trace.{frame_in}
 use Rattle.frame_core.specs.Rule.{Rule, LifeRule, HeldRule, SeatRule, MayBeNamed, MayBeHeld}
@@ -37,7 +37,6 @@ pub seat_map : (tries : ℕ) (frames : List Frame) (life life' : ℕ → ℕ) (n
 seat_map tries frames life life' named named' seat given' aims reads Idle rule told = told
 seat_map tries frames life life' named named' seat given' aims reads (Placed aim failures) rule told = (told.0, aims aim rule.0 told.1)
 seat_map tries frames life life' named named' seat given' aims reads (Counted aim failures count) rule told = (told.0, aims aim rule.0 told.1, told.2)
-seat_map tries frames life life' named named' seat given' aims reads (Doubt aim) rule told = (told.0, aims aim rule told.1)
 seat_map tries frames life life' named named' seat given' aims reads (Held aim known) rule told =
     (told.0, aims aim rule.0 told.1, subst (λ (n : ℕ → Option ℕ). ReadRightly n seat.read) (λ j i. reads aim known rule.0 rule.1 i j) told.2)
 seat_map tries frames life life' named named' seat given' aims reads Spent rule told = told
@@ -215,22 +214,22 @@ tell_load_place s T q p place at named told = record {
       told;
 }
 
--- a count is loaded
-counted_told : (T : Tale) (q count : ℕ) (aim : Aim) (failures : ℕ) (b : Bool) → SeatTold T.life T.named (T.seat q) (Placed aim failures)
-    → SeatTold T.life T.named (record (T.seat q) { counted = count }) (if b then Idle else Counted aim failures count)
-counted_told T q count aim failures true told = told.0
-counted_told T q count aim failures false told = (told.0, record { loaded_is = told.1.loaded_is; below = told.1.below; was_named = told.1.was_named; not_given = told.1.not_given }, refl)
+-- a frame word is loaded
+counted_told : (T : Tale) (q w count : ℕ) (aim : Aim) (failures : ℕ) (b : Bool) → (b ≡ true → w ≡ frame_word aim.life.generation count) → SeatTold T.life T.named (T.seat q) (Placed aim failures)
+    → SeatTold T.life T.named (record (T.seat q) { counted = w }) (if b then Counted aim failures count else Idle)
+counted_told T q w count aim failures false is told = told.0
+counted_told T q w count aim failures true is told = (told.0, record { loaded_is = told.1.loaded_is; below = told.1.below; was_named = told.1.was_named; not_given = told.1.not_given }, is refl)
 
-pub tell_load_count : (s : State) (T : Tale) (q count : ℕ) (aim : Aim) (failures : ℕ) → slice_get s.seats q ≡ Some (Placed aim failures) → Told s T
-    → Told (record s { seats = slice_set s.seats q (if count == 0 then Idle else Counted aim failures count) })
-    (record T { seat = λ k. record (T.seat k) { counted = if q == k then count else (T.seat k).counted } })
-tell_load_count s T q count aim failures at told = record {
+pub tell_load_frame : (s : State) (T : Tale) (q w count : ℕ) (aim : Aim) (failures : ℕ) (b : Bool) → (b ≡ true → w ≡ frame_word aim.life.generation count) → slice_get s.seats q ≡ Some (Placed aim failures) → Told s T
+    → Told (record s { seats = slice_set s.seats q (if b then Counted aim failures count else Idle) })
+    (record T { seat = λ k. record (T.seat k) { counted = if q == k then w else (T.seat k).counted } })
+tell_load_frame s T q w count aim failures b is at told = record {
   frames = told.frames;
   places = told.places;
-  seats = tell_seats s T q (if count == 0 then Idle else Counted aim failures count)
-      (λ k b. record (T.seat k) { counted = if b then count else (T.seat k).counted })
+  seats = tell_seats s T q (if b then Counted aim failures count else Idle)
+      (λ k c. record (T.seat k) { counted = if c then w else (T.seat k).counted })
       (λ k. refl)
-      (counted_told T q count aim failures (count == 0) (told.seats q (Placed aim failures) at))
+      (counted_told T q w count aim failures b is (told.seats q (Placed aim failures) at))
       told;
 }
 
@@ -239,44 +238,30 @@ frame_of_word : (g f : ℕ) → f < 1024 → (g * 1024 + f) % 1024 ≡ f
 frame_of_word g f below = omega arith
 
 -- an exchange is tried. The frames change in their counts alone
-exchanged_told : (T : Tale) (q w tries count : ℕ) (aim : Aim) (failures : ℕ) (b c : Bool) → (w == count) ≡ b → SeatTold T.life T.named (T.seat q) (Counted aim failures count)
-    → SeatTold T.life T.named (record (T.seat q) { held = if w == (T.seat q).counted then frame_in (T.seat q).loaded else (T.seat q).held }) (if b then Doubt aim else if c then Idle else Placed aim (failures + 1))
-exchanged_told T q w tries count aim failures true c is told =
+exchanged_told : (T : Tale) (q w count : ℕ) (aim : Aim) (failures : ℕ) (known : List (Option ℕ)) (b c : Bool) → (w == frame_word aim.life.generation count) ≡ b → SeatTold T.life T.named (T.seat q) (Counted aim failures count)
+    → SeatTold T.life T.named (record (T.seat q) { held = if w == (T.seat q).counted then frame_in (T.seat q).loaded else (T.seat q).held; read = [] }) (if b then Held aim known else if c then Idle else Placed aim (failures + 1))
+exchanged_told T q w count aim failures known true c is told =
     let a = told.1 in
     let held : (if w == (T.seat q).counted then frame_in (T.seat q).loaded else (T.seat q).held) ≡ Some aim.life.frame
     = rw (told.2, is, a.loaded_is) (ap (λ (k : ℕ). Some k) (frame_of_word aim.life.generation aim.life.frame a.below)) in
-    (held, record { loaded_is = a.loaded_is; below = a.below; was_named = a.was_named; not_given = a.not_given })
-exchanged_told T q w tries count aim failures false true is told = rw (told.2, is) told.0
-exchanged_told T q w tries count aim failures false false is told =
+    (held, record { loaded_is = a.loaded_is; below = a.below; was_named = a.was_named; not_given = a.not_given }, All-nil (λ (r : ℕ × ℕ). T.named aim.life.frame aim.life.generation r.0 ≡ Some r.1))
+exchanged_told T q w count aim failures known false true is told = rw (told.2, is) told.0
+exchanged_told T q w count aim failures known false false is told =
     let a = told.1 in
     let held : (if w == (T.seat q).counted then frame_in (T.seat q).loaded else (T.seat q).held) ≡ None = rw (told.2, is) told.0 in
     (held, record { loaded_is = a.loaded_is; below = a.below; was_named = a.was_named; not_given = a.not_given })
 
-pub tell_exchange : (s : State) (T : Tale) (q w count : ℕ) (aim : Aim) (failures : ℕ) (c : Bool) → slice_get s.seats q ≡ Some (Counted aim failures count) → Told s T
-    → Told (record s { seats = slice_set s.seats q (if w == count then Doubt aim else if c then Idle else Placed aim (failures + 1)) })
-    (record T { seat = λ k. record (T.seat k) { held = if q == k && w == (T.seat k).counted then frame_in (T.seat k).loaded else (T.seat k).held } })
-tell_exchange s T q w count aim failures c at told = record {
+pub tell_exchange : (s : State) (T : Tale) (q w count : ℕ) (aim : Aim) (failures : ℕ) (known : List (Option ℕ)) (c : Bool) → slice_get s.seats q ≡ Some (Counted aim failures count) → Told s T
+    → Told (record s { seats = slice_set s.seats q (if w == frame_word aim.life.generation count then Held aim known else if c then Idle else Placed aim (failures + 1)) })
+    (record T { seat = λ k. record (T.seat k) { held = if q == k && w == (T.seat k).counted then frame_in (T.seat k).loaded else (T.seat k).held; read = if q == k then [] else (T.seat k).read } })
+tell_exchange s T q w count aim failures known c at told = record {
   frames = told.frames;
   places = told.places;
-  seats = tell_seats s T q (if w == count then Doubt aim else if c then Idle else Placed aim (failures + 1))
-      (λ k b. record (T.seat k) { held = if b && w == (T.seat k).counted then frame_in (T.seat k).loaded else (T.seat k).held })
+  seats = tell_seats s T q (if w == frame_word aim.life.generation count then Held aim known else if c then Idle else Placed aim (failures + 1))
+      (λ k b. record (T.seat k) { held = if b && w == (T.seat k).counted then frame_in (T.seat k).loaded else (T.seat k).held; read = if b then [] else (T.seat k).read })
       (λ k. refl)
-      (exchanged_told T q w 0 count aim failures (w == count) c refl (told.seats q (Counted aim failures count) at))
+      (exchanged_told T q w count aim failures known (w == frame_word aim.life.generation count) c refl (told.seats q (Counted aim failures count) at))
       told;
-}
-
--- a generation is loaded
-generation_told : (T : Tale) (q : ℕ) (aim : Aim) (known : List (Option ℕ)) (b : Bool) → SeatTold T.life T.named (T.seat q) (Doubt aim)
-    → SeatTold T.life T.named (record (T.seat q) { read = [] }) (if b then Held aim known else Doubt aim)
-generation_told T q aim known true told = (told.0, record { loaded_is = told.1.loaded_is; below = told.1.below; was_named = told.1.was_named; not_given = told.1.not_given }, All-nil (λ (r : ℕ × ℕ). T.named aim.life.frame aim.life.generation r.0 ≡ Some r.1))
-generation_told T q aim known false told = (told.0, record { loaded_is = told.1.loaded_is; below = told.1.below; was_named = told.1.was_named; not_given = told.1.not_given })
-
-pub tell_load_generation : (s : State) (T : Tale) (q : ℕ) (aim : Aim) (known : List (Option ℕ)) (b : Bool) → slice_get s.seats q ≡ Some (Doubt aim) → Told s T
-    → Told (record s { seats = slice_set s.seats q (if b then Held aim known else Doubt aim) }) (record T { seat = λ k. record (T.seat k) { read = if q == k then [] else (T.seat k).read } })
-tell_load_generation s T q aim known b at told = record {
-  frames = told.frames;
-  places = told.places;
-  seats = tell_seats s T q (if b then Held aim known else Doubt aim) (λ k c. record (T.seat k) { read = if c then [] else (T.seat k).read }) (λ k. refl) (generation_told T q aim known b (told.seats q (Doubt aim) at)) told;
 }
 
 -- a reference is given back

@@ -6,7 +6,7 @@ use Rattle.frame_core.specs.declared.frame.Frame.{Frame}
 use Rattle.frame_core.specs.declared.frame.Kind.{Kind}
 use Rattle.frame_core.specs.declared.frame.Kind.TheVariants.{Free, Filling, Private, Stable, Dying, Retired}
 use Rattle.frame_core.specs.declared.seat.Life.{Life}
-use Rattle.frame_core.specs.State.{State}
+use Rattle.frame_core.specs.State.{State, word_of}
 
 -- ---------------------------------------------------------------- tests
 
@@ -36,11 +36,11 @@ is_dying _ = false
 
 -- ---------------------------------------------------------------- steps at one frame
 
--- reap, a load of the count: a dying frame whose count is 0 is free again, or retired after its last life
+-- reap, a load of the frame word: a dying frame whose count is 0 is free again, or retired after its last life
 abbrev pub reap_step : ℕ → Frame → Option (ℕ × Frame)
 reap_step last fr =
     only_if (is_dying fr.kind)
-    (fr.count, record fr { kind = if fr.count == 0 then (if fr.generation == last then Retired else Free) else Dying })
+    (word_of fr, record fr { kind = if fr.count == 0 then (if fr.generation == last then Retired else Free) else Dying })
 
 -- put, a store to the content word i: where the frame is filled, or private
 abbrev pub put_step : ℕ → ℕ → Frame → Option (ℕ × Frame)
@@ -48,29 +48,29 @@ put_step i w fr =
     only_if ((is_filling fr.kind || is_private fr.kind) && nat_lt i (length fr.content))
     (0, record fr { content = slice_set fr.content i w })
 
--- raise, a fetch_add of 1 to the generation: a free frame begins its next life
+-- raise, a fetch_add of 65536 to the frame word: a free frame begins its next life
 abbrev pub raise_step : Frame → Option (ℕ × Frame)
-raise_step fr = only_if (is_free fr.kind) (fr.generation, record fr { generation = fr.generation + 1; kind = Filling })
+raise_step fr = only_if (is_free fr.kind) (word_of fr, record fr { generation = fr.generation + 1; kind = Filling })
 
--- open, a store of 1 to the count: a frame that was filled has one reference, the keeper's
+-- open, a fetch_add of 1 to the frame word: a frame that was filled has one reference, the keeper's
 abbrev pub open_step : Frame → Option (ℕ × Frame)
-open_step fr = only_if (is_filling fr.kind) (0, record fr { count = 1; kind = Private; base = 1 })
+open_step fr = only_if (is_filling fr.kind) (word_of fr, record fr { count = fr.count + 1; kind = Private; base = 1 })
 
--- add, a fetch_add of 1 to the count: one reference more of a keeper that has 1 to 1,023
+-- add, a fetch_add of 1 to the frame word: one reference more of a keeper that has 1 to 1,023
 abbrev pub add_step : Frame → Option (ℕ × Frame)
-add_step fr = only_if (nat_le 1 fr.base && nat_le fr.base 1023) (fr.count, record fr { count = fr.count + 1; base = fr.base + 1 })
+add_step fr = only_if (nat_le 1 fr.base && nat_le fr.base 1023) (word_of fr, record fr { count = fr.count + 1; base = fr.base + 1 })
 
--- sub, a fetch_sub of 1 from the count: the keeper gives a reference back, and the frame dies with its last one
+-- sub, a fetch_sub of 1 from the frame word: the keeper gives a reference back, and the frame dies with its last one
 abbrev pub sub_step : Frame → Option (ℕ × Frame)
 sub_step fr =
     only_if (nat_le 1 fr.base)
-    (fr.count, record fr { count = fr.count - 1; base = fr.base - 1; kind = if fr.base == 1 then Dying else fr.kind })
+    (word_of fr, record fr { count = fr.count - 1; base = fr.base - 1; kind = if fr.base == 1 then Dying else fr.kind })
 
--- freeze, a compare_exchange of the count from base to 0: where no reader counts, a stable frame dies at once
+-- freeze, a compare_exchange of the frame word from the base to 0 in its count: where no reader counts, a stable frame dies at once
 abbrev pub freeze_step : Frame → Option (ℕ × Frame)
 freeze_step fr =
     only_if (is_stable fr.kind)
-    (fr.count, if fr.count == fr.base then record fr { count = 0; base = 0; kind = Dying } else fr)
+    (word_of fr, if fr.count == fr.base then record fr { count = 0; base = 0; kind = Dying } else fr)
 
 -- word, a load of the content word i: of a private, stable or dying frame
 abbrev pub word_step : ℕ → Frame → Option (ℕ × Frame)

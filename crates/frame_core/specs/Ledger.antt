@@ -11,7 +11,7 @@ use Rattle.frame_core.specs.declared.frame.Kind.TheVariants.{Free, Filling, Priv
 use Rattle.frame_core.specs.declared.ledger.Ledger.{Ledger}
 use Rattle.frame_core.specs.declared.ledger.Note.{Note}
 use Rattle.frame_core.specs.declared.seat.Life.{Life}
-use Rattle.frame_core.specs.State.{State}
+use Rattle.frame_core.specs.State.{State, count_in}
 
 -- what the keeper knows of a frame
 abbrev pub note_of : Frame → Note
@@ -77,7 +77,7 @@ module _ (sh : Shape) (k : Ledger) where
 
   -- what the keeper knows after a step that found the word n
   abbrev pub ledger_after : KeeperStep → ℕ → Ledger
-  ledger_after (Reap f) n = cond (n == 0) (referred k f (cond ((frame_at k f).generation == sh.last_generation) Retired Free) 0) k
+  ledger_after (Reap f) n = cond (count_in n == 0) (referred k f (cond ((frame_at k f).generation == sh.last_generation) Retired Free) 0) k
   ledger_after (Put f i w) n = with_frame k f record { kind = (frame_at k f).kind; base = (frame_at k f).base; generation = (frame_at k f).generation; content = slice_set (frame_at k f).content i w }
   ledger_after (Raise f) n = with_frame k f record { kind = Filling; base = (frame_at k f).base; generation = (frame_at k f).generation + 1; content = (frame_at k f).content }
   ledger_after (Open f) n = referred k f Private 1
@@ -88,5 +88,5 @@ module _ (sh : Shape) (k : Ledger) where
     places = slice_set k.places p (Some (record { frame = f; generation = (frame_at k f).generation }));
   }
   ledger_after (Withdraw p) n = record { frames = k.frames; places = slice_set k.places p None }
-  ledger_after (Freeze f) n = cond (n == (frame_at k f).base) (referred k f Dying 0) k
+  ledger_after (Freeze f) n = cond (count_in n == (frame_at k f).base) (referred k f Dying 0) k
   ledger_after (Word f i) n = k

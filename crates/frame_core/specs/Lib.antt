@@ -10,3 +10,4 @@ pub mod Words
 pub mod Machine
 pub mod Ledger
 pub mod Knowing
+pub mod Worked

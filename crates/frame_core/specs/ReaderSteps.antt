@@ -1,6 +1,6 @@
 -- A reader's steps: for each the word that it finds and what is there after it, or None where it is not allowed.
--- Source: mm/ksm (a lookup takes a reference unless the count is zero, then checks that the page is still the node's); the steps are own.
-use Rattle.std.specs.Prelude.{ℕ, ◌+◌, ◌-◌, ◌==◌, nat_le, if◌then◌else◌, List, slice_get, slice_set, replicate, Option, None, Some, option_map, option_and_then}
+-- Source: mm/ksm (a lookup takes a reference unless the count is zero, and checks that the page is still the node's); the steps are own.
+use Rattle.std.specs.Prelude.{ℕ, ◌+◌, ◌-◌, Bool, ◌==◌, ◌&&◌, not, nat_le, if◌then◌else◌, List, slice_get, slice_set, replicate, Option, None, Some, option_map, option_and_then}
 use Rattle.ksm_base.specs.declared.page.TheConstants.{PAGE_WORDS}
 use Rattle.frame_core.specs.declared.event.ReaderStep.{ReaderStep}
 use Rattle.frame_core.specs.declared.event.ReaderStep.TheVariants as reader
@@ -8,8 +8,8 @@ use Rattle.frame_core.specs.declared.frame.Frame.{Frame}
 use Rattle.frame_core.specs.declared.seat.Life.{Life}
 use Rattle.frame_core.specs.declared.seat.Aim.{Aim}
 use Rattle.frame_core.specs.declared.seat.Phase.{Phase}
-use Rattle.frame_core.specs.declared.seat.Phase.TheVariants.{Idle, Placed, Counted, Doubt, Held}
-use Rattle.frame_core.specs.State.{State, place_word}
+use Rattle.frame_core.specs.declared.seat.Phase.TheVariants.{Idle, Placed, Counted, Held}
+use Rattle.frame_core.specs.State.{State, place_word, frame_word, word_of}
 
 -- ---------------------------------------------------------------- steps that load
 
@@ -23,19 +23,15 @@ abbrev pub load_place_step : List (Option Life) → ℕ → Phase → Option (�
 load_place_step places p Idle = option_map (λ place. (place_word place, aimed_at p place)) (slice_get places p)
 load_place_step places p _ = None
 
--- the count of the frame is loaded: where it is 0 the lookup ends
-abbrev pub load_count_step : List Frame → Phase → Option (ℕ × Phase)
-load_count_step frames (Placed aim failures) =
-    option_map (λ fr. (fr.count, if fr.count == 0 then Idle else Counted aim failures fr.count)) (slice_get frames aim.life.frame)
-load_count_step frames _ = None
+-- the frame has a reference, and is in this life
+abbrev pub is_alive : ℕ → Frame → Bool
+is_alive generation fr = not (fr.count == 0) && fr.generation == generation
 
--- the generation is loaded: the frame is held where it is in the life that the place named
-abbrev pub load_generation_step : List Frame → Phase → Option (ℕ × Phase)
-load_generation_step frames (Doubt aim) =
-    option_map
-    (λ fr. (fr.generation, if fr.generation == aim.life.generation then Held aim (replicate PAGE_WORDS None) else Doubt aim))
-    (slice_get frames aim.life.frame)
-load_generation_step frames _ = None
+-- the frame word is loaded: the lookup ends where the count is 0, or the frame in another life than the place named
+abbrev pub load_frame_step : List Frame → Phase → Option (ℕ × Phase)
+load_frame_step frames (Placed aim failures) =
+    option_map (λ fr. (word_of fr, if is_alive aim.life.generation fr then Counted aim failures fr.count else Idle)) (slice_get frames aim.life.frame)
+load_frame_step frames _ = None
 
 -- the content word i is loaded, and known from then on
 abbrev pub load_word_step : List Frame → ℕ → Phase → Option (ℕ × Phase)
@@ -47,14 +43,18 @@ load_word_step frames i _ = None
 
 -- ---------------------------------------------------------------- steps that change a count
 
--- the count is exchanged for one more, where it is still the one that was loaded; the failure that makes `tries` of them ends the lookup
+-- the frame word is still the one that was loaded: of this life, with so many references
+abbrev pub is_still : ℕ → ℕ → Frame → Bool
+is_still generation count fr = word_of fr == frame_word generation count
+
+-- the frame word is exchanged for one more, where it is still the one that was loaded, and the frame is held; the failure that makes `tries` of them ends the lookup
 abbrev pub exchange_step : ℕ → List Frame → Phase → Option (ℕ × List Frame × Phase)
 exchange_step tries frames (Counted aim failures count) =
     option_map
     (λ fr. (
-      fr.count,
-      (if fr.count == count then slice_set frames aim.life.frame (record fr { count = fr.count + 1 }) else frames),
-      (if fr.count == count then Doubt aim else if nat_le tries (failures + 1) then Idle else Placed aim (failures + 1)),
+      word_of fr,
+      (if is_still aim.life.generation count fr then slice_set frames aim.life.frame (record fr { count = fr.count + 1 }) else frames),
+      (if is_still aim.life.generation count fr then Held aim (replicate PAGE_WORDS None) else if nat_le tries (failures + 1) then Idle else Placed aim (failures + 1)),
     ))
     (slice_get frames aim.life.frame)
 exchange_step tries frames _ = None
@@ -62,11 +62,10 @@ exchange_step tries frames _ = None
 -- one reference on the frame is given back
 abbrev pub given_back : List Frame → Aim → Option (ℕ × List Frame × Phase)
 given_back frames aim =
-    option_map (λ fr. (fr.count, slice_set frames aim.life.frame (record fr { count = fr.count - 1 }), Idle)) (slice_get frames aim.life.frame)
+    option_map (λ fr. (word_of fr, slice_set frames aim.life.frame (record fr { count = fr.count - 1 }), Idle)) (slice_get frames aim.life.frame)
 
 -- the seat's reference is given back, and it is idle
 abbrev pub leave_step : List Frame → Phase → Option (ℕ × List Frame × Phase)
-leave_step frames (Doubt aim) = given_back frames aim
 leave_step frames (Held aim known) = given_back frames aim
 leave_step frames _ = None
 
@@ -85,8 +84,7 @@ at_both s seat change =
 -- a step of the reader that has the seat
 abbrev pub reader_step : State → ℕ → ReaderStep → Option (ℕ × State)
 reader_step s seat (reader.LoadPlace p) = at_seat s seat (load_place_step s.places p)
-reader_step s seat reader.LoadCount = at_seat s seat (load_count_step s.frames)
+reader_step s seat reader.LoadFrame = at_seat s seat (load_frame_step s.frames)
 reader_step s seat reader.Exchange = at_both s seat (exchange_step s.shape.tries s.frames)
-reader_step s seat reader.LoadGeneration = at_seat s seat (load_generation_step s.frames)
 reader_step s seat reader.Leave = at_both s seat (leave_step s.frames)
 reader_step s seat (reader.LoadWord i) = at_seat s seat (load_word_step s.frames i)

@@ -7,12 +7,11 @@ use Rattle.frame_core.specs.declared.frame.Kind.{Kind}
 use Rattle.frame_core.specs.declared.frame.Kind.TheVariants.{Free, Filling, Private, Stable, Dying, Retired}
 use Rattle.frame_core.specs.declared.seat.Life.{Life}
 use Rattle.frame_core.specs.declared.seat.Phase.{Phase}
-use Rattle.frame_core.specs.declared.seat.Phase.TheVariants.{Idle, Placed, Counted, Doubt, Held, Spent}
+use Rattle.frame_core.specs.declared.seat.Phase.TheVariants.{Idle, Placed, Counted, Held, Spent}
 use Rattle.frame_core.specs.State.{State}
 
 -- the seat has counted itself on the frame f
 abbrev pub is_on : ℕ → Phase → Bool
-is_on f (Doubt aim) = aim.life.frame == f
 is_on f (Held aim known) = aim.life.frame == f
 is_on f _ = false
 
@@ -80,7 +79,6 @@ abbrev pub SeatRule : ℕ → List Frame → Phase → Type 0
 SeatRule tries frames Idle = Unit {0}
 SeatRule tries frames (Placed aim failures) = LifeRule frames aim.life × (failures < tries)
 SeatRule tries frames (Counted aim failures count) = LifeRule frames aim.life × (failures < tries) × (1 ≤ count) × (count ≤ 1040)
-SeatRule tries frames (Doubt aim) = LifeRule frames aim.life
 SeatRule tries frames (Held aim known) = LifeRule frames aim.life × HeldRule frames aim.life known
 SeatRule tries frames Spent = Unit {0}
 

@@ -1,15 +1,15 @@
 -- What was done, the newest step first, and what can be told from it: lives, holders, words stored and words read. No count and no phase is read here. Source: own.
-use Rattle.std.specs.Prelude.{ℕ, ◌≡◌, ◌+◌, ◌*◌, ◌%◌, ◌<◌, Bool, true, false, ◌&&◌, ◌==◌, if◌then◌else◌, List, [], ◌∷◌, ◌++◌, filter, All, Option, None, Some, fold}
+use Rattle.std.specs.Prelude.{ℕ, ◌≡◌, ◌+◌, ◌<◌, Bool, true, false, ◌&&◌, ◌==◌, if◌then◌else◌, List, [], ◌∷◌, ◌++◌, filter, All, Option, None, Some, fold}
 use Rattle.std.specs.List.{range_with_len}
 use Rattle.ksm_base.specs.declared.shape.Shape.{Shape}
 use Rattle.frame_core.specs.declared.event.Event.{Event}
 use Rattle.frame_core.specs.declared.event.Event.TheVariants.{Reader, Keeper}
 use Rattle.frame_core.specs.declared.event.ReaderStep.{ReaderStep}
 use Rattle.frame_core.specs.declared.event.KeeperStep.{KeeperStep}
-use Rattle.frame_core.specs.declared.event.ReaderStep.TheVariants.{LoadPlace, LoadCount, Exchange, LoadGeneration, Leave, LoadWord}
+use Rattle.frame_core.specs.declared.event.ReaderStep.TheVariants.{LoadPlace, LoadFrame, Exchange, Leave, LoadWord}
 use Rattle.frame_core.specs.declared.event.KeeperStep.TheVariants.{Put, Raise, Open, Publish}
 use Rattle.frame_core.specs.declared.seat.Aim.{Aim}
-use Rattle.frame_core.specs.State.{State, opening}
+use Rattle.frame_core.specs.State.{State, opening, place_word, life_at}
 use Rattle.frame_core.specs.Steps.{step}
 
 -- an accepted event, and the word that it read
@@ -73,23 +73,23 @@ abbrev pub place_loaded : ℕ → List Entry → Option (ℕ × ℕ)
 place_loaded seat [] = None
 place_loaded seat (e ∷ t) = place_loaded_after seat (place_loaded seat t) e.word e.event
 
--- the last count that the seat loaded, 0 if none
-abbrev pub count_loaded_after : ℕ → ℕ → ℕ → Event → ℕ
-count_loaded_after seat before w (Reader q LoadCount) = if q == seat then w else before
-count_loaded_after seat before w _ = before
+-- the last frame word that the seat loaded, 0 if none
+abbrev pub frame_loaded_after : ℕ → ℕ → ℕ → Event → ℕ
+frame_loaded_after seat before w (Reader q LoadFrame) = if q == seat then w else before
+frame_loaded_after seat before w _ = before
 
-abbrev pub count_loaded : ℕ → List Entry → ℕ
-count_loaded seat [] = 0
-count_loaded seat (e ∷ t) = count_loaded_after seat (count_loaded seat t) e.word e.event
+abbrev pub frame_loaded : ℕ → List Entry → ℕ
+frame_loaded seat [] = 0
+frame_loaded seat (e ∷ t) = frame_loaded_after seat (frame_loaded seat t) e.word e.event
 
 -- the frame that a place's word names
 abbrev pub frame_in : Option (ℕ × ℕ) → Option ℕ
 frame_in None = None
-frame_in (Some loaded) = Some (loaded.1 % 1024)
+frame_in (Some loaded) = Some (life_at loaded.1).frame
 
--- the frame on which the seat has made an exchange and that it has not left since: an exchange is made where it finds the count that the seat loaded last
+-- the frame on which the seat has made an exchange and that it has not left since: an exchange is made where it finds the word that the seat loaded last
 abbrev pub held_after : ℕ → List Entry → Option ℕ → ℕ → Event → Option ℕ
-held_after seat t before w (Reader q Exchange) = if q == seat && w == count_loaded seat t then frame_in (place_loaded seat t) else before
+held_after seat t before w (Reader q Exchange) = if q == seat && w == frame_loaded seat t then frame_in (place_loaded seat t) else before
 held_after seat t before w (Reader q Leave) = if q == seat then None else before
 held_after seat t before w _ = before
 
@@ -134,10 +134,10 @@ abbrev pub named_word : ℕ → ℕ → ℕ → List Entry → Option ℕ
 named_word f g i [] = None
 named_word f g i (e ∷ t) = named_after f g i t (named_word f g i t) e.event
 
--- the content words that the seat has loaded since it last loaded a generation: their numbers and values
+-- the content words that the seat has loaded since its last exchange: their numbers and values
 abbrev pub read_after : ℕ → List (ℕ × ℕ) → ℕ → Event → List (ℕ × ℕ)
 read_after seat before w (Reader q (LoadWord i)) = if q == seat then (i, w) ∷ before else before
-read_after seat before w (Reader q LoadGeneration) = if q == seat then [] else before
+read_after seat before w (Reader q Exchange) = if q == seat then [] else before
 read_after seat before w _ = before
 
 abbrev pub words_read : ℕ → List Entry → List (ℕ × ℕ)
@@ -146,7 +146,7 @@ words_read seat (e ∷ t) = read_after seat (words_read seat t) e.word e.event
 
 -- The seat holds rightly what its aim names: its last load of a place found that frame in that life; this is the frame's life by now; it was not opened since that load; each word read is the one that the life was published with
 pub record HoldsRightly (seat : ℕ) (aim : Aim) (t : List Entry) : Type 0 where
-  pub named : place_loaded seat t ≡ Some (aim.place, aim.life.generation * 1024 + aim.life.frame)
+  pub named : place_loaded seat t ≡ Some (aim.place, place_word (Some aim.life))
   pub frame : aim.life.frame < 1024
   pub same_life : aim.life.generation ≡ life_of aim.life.frame t
   pub not_given : given_since seat aim.life.frame t ≡ false

@@ -12,14 +12,12 @@ pub enum Event {
 pub enum ReaderStep {
     /// Loads the word of this place.
     LoadPlace(u32),
-    /// Loads the count of the frame that the place named.
-    LoadCount,
-    /// Exchanges the count that was loaded for one more: takes a reference, unless the count is another by
-    /// now.
+    /// Loads the frame word of the frame that the place named: its count, and the life that it is in.
+    LoadFrame,
+    /// Exchanges the frame word that was loaded for one more: takes a reference in the life that the place
+    /// named, unless count or life are others by now.
     Exchange,
-    /// Loads the generation of that frame, to tell whether it is still in the life that the place named.
-    LoadGeneration,
-    /// Subtracts 1 from the count: gives the reference back.
+    /// Subtracts 1 from the frame word: gives the reference back.
     Leave,
     /// Loads this content word of the frame that is held.
     LoadWord(usize),
@@ -28,23 +26,23 @@ pub enum ReaderStep {
 /// A step of the keeper, who alone gives frames and names them at places.
 #[derive(Clone, Copy, Debug, PartialEq, Eq)]
 pub enum KeeperStep {
-    /// Loads the count of this dying frame: at 0 it is free again, or retired.
+    /// Loads the frame word of this dying frame: at count 0 it is free again, or retired.
     Reap(u32),
     /// Stores this value to a content word of a frame that nobody else can see.
     Put { frame: u32, word: usize, value: u64 },
-    /// Adds 1 to the generation of this free frame: its next life begins.
+    /// Adds 65536 to the frame word of this free frame, 1 to its generation: its next life begins.
     Raise(u32),
-    /// Stores 1 to the count of this frame: from now on it has a reference, the keeper's.
+    /// Adds 1 to the frame word of this frame: from now on it has a reference, the keeper's.
     Open(u32),
-    /// Adds 1 to the count of this frame: one more reference of the keeper.
+    /// Adds 1 to the frame word of this frame: one more reference of the keeper.
     Add(u32),
-    /// Subtracts 1 from the count of this frame: one reference of the keeper less.
+    /// Subtracts 1 from the frame word of this frame: one reference of the keeper less.
     Sub(u32),
     /// Stores the frame and its generation to the place: lookups find it there from now on.
     Publish { place: u32, frame: u32 },
     /// Stores 0 to this place: it names nothing.
     Withdraw(u32),
-    /// Exchanges the count of this frame for 0, unless a reader counts on it.
+    /// Exchanges the frame word of this frame for one with count 0, unless a reader counts on it.
     Freeze(u32),
     /// Loads a content word of the frame.
     Word { frame: u32, word: usize },

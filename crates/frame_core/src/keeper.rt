@@ -2,7 +2,7 @@
 ghost use Rattle.std.specs.Prelude.{◌≡◌, ℕ, ◌^◌, ◌<◌, ◌≤◌, slice_get};
 ghost use Rattle.frame_core.specs.KeeperSteps.{reap_step, put_step, raise_step, open_step, add_step, sub_step, freeze_step, word_step, at_frame, is_live, publish_step, withdraw_step, keeper_step};
 ghost use Rattle.frame_core.specs.Steps.{Makes};
-ghost use Rattle.frame_core.specs.Bounds.{FramesFit, Fits};
+ghost use Rattle.frame_core.specs.Bounds.{FrameFits, FramesFit, Fits};
 ghost use Rattle.frame_core.specs.Machine.{state_of, Performs};
 
 use crate::event::{KeeperStep, Step};
@@ -11,12 +11,14 @@ use crate::machine::Machine;
 use crate::seat::Life;
 
 impl Frame {
-    /// Loads the count. A dying frame with none is free again, or retired after its last life.
+    /// Loads the frame word. A dying frame without a reference is free again, or retired after its last life.
     pub(crate) fn reap(&mut self, last_generation: u64) -> Step
+        requires { FrameFits self.old }
         ensures { Makes (reap_step last_generation) self.old result self.new }
     {
         match self.kind {
             Kind::Dying => {
+                let before = self.word_of();
                 if self.count == 0 {
                     self.kind = if self.generation == last_generation {
                         Kind::Retired
@@ -24,7 +26,7 @@ impl Frame {
                         Kind::Free
                     };
                 }
-                Step::Done(self.count)
+                Step::Done(before)
             }
             _ => Step::NotAllowed,
         }
@@ -45,12 +47,12 @@ impl Frame {
 
     /// Begins the next life of a free frame, before anybody can count on it.
     pub(crate) fn raise(&mut self) -> Step
-        requires { self.old.generation < 2 ^ 63 }
+        requires { FrameFits self.old }
         ensures { Makes raise_step self.old result self.new }
     {
         match self.kind {
             Kind::Free => {
-                let before = self.generation;
+                let before = self.word_of();
                 self.generation += 1;
                 self.kind = Kind::Filling;
                 Step::Done(before)
@@ -59,16 +61,18 @@ impl Frame {
         }
     }
 
-    /// Stores 1 to the count of a frame that was filled.
+    /// Takes the first reference on a frame that was filled.
     pub(crate) fn open(&mut self) -> Step
+        requires { FrameFits self.old }
         ensures { Makes open_step self.old result self.new }
     {
         match self.kind {
             Kind::Filling => {
-                self.count = 1;
+                let before = self.word_of();
+                self.count += 1;
                 self.base = 1;
                 self.kind = Kind::Private;
-                Step::Done(0)
+                Step::Done(before)
             }
             _ => Step::NotAllowed,
         }
@@ -76,13 +80,13 @@ impl Frame {
 
     /// Adds a reference of the keeper, who has 1 to 1,023.
     pub(crate) fn add(&mut self) -> Step
-        requires { self.old.count < 2 ^ 63 }
+        requires { FrameFits self.old }
         ensures { Makes add_step self.old result self.new }
     {
         if self.base < 1 || self.base > 1023 {
             return Step::NotAllowed;
         }
-        let before = self.count;
+        let before = self.word_of();
         self.count += 1;
         self.base += 1;
         Step::Done(before)
@@ -90,13 +94,13 @@ impl Frame {
 
     /// Gives a reference of the keeper back. The frame dies with the last one, readers or not.
     pub(crate) fn sub(&mut self) -> Step
-        requires { self.old.base ≤ self.old.count }
+        requires { FrameFits self.old }
         ensures { Makes sub_step self.old result self.new }
     {
         if self.base < 1 {
             return Step::NotAllowed;
         }
-        let before = self.count;
+        let before = self.word_of();
         self.count -= 1;
         if self.base == 1 {
             self.kind = Kind::Dying;
@@ -105,14 +109,14 @@ impl Frame {
         Step::Done(before)
     }
 
-    /// Exchanges the count for 0, where it is the keeper's own references: no reader can take one from then
-    /// on.
+    /// Takes all references away, where they are the keeper's own: no reader can take one from then on.
     pub(crate) fn freeze(&mut self) -> Step
+        requires { FrameFits self.old }
         ensures { Makes freeze_step self.old result self.new }
     {
         match self.kind {
             Kind::Stable => {
-                let before = self.count;
+                let before = self.word_of();
                 if self.count == self.base {
                     self.count = 0;
                     self.base = 0;
@@ -140,6 +144,7 @@ impl Frame {
 
 impl Machine {
     fn reap(&mut self, frame: u32) -> Step
+        requires { FramesFit self.old.frames.items }
         ensures { Performs (λ s. at_frame s frame (reap_step s.shape.last_generation)) self.old result self.new }
     {
         let Some(mut found) = self.frame(frame) else {
@@ -174,6 +179,7 @@ impl Machine {
     }
 
     fn open(&mut self, frame: u32) -> Step
+        requires { FramesFit self.old.frames.items }
         ensures { Performs (λ s. at_frame s frame open_step) self.old result self.new }
     {
         let Some(mut found) = self.frame(frame) else {
@@ -209,6 +215,7 @@ impl Machine {
     }
 
     fn freeze(&mut self, frame: u32) -> Step
+        requires { FramesFit self.old.frames.items }
         ensures { Performs (λ s. at_frame s frame freeze_step) self.old result self.new }
     {
         let Some(mut found) = self.frame(frame) else {

@@ -11,9 +11,10 @@ mod machine;
 mod protocol;
 mod reader;
 mod seat;
+mod worked;
 
 pub use event::{Event, KeeperStep, ReaderStep, Step};
-pub use frame::{Frame, Kind};
+pub use frame::{FRAME_WORDS, Frame, FrameWord, Kind};
 pub use ledger::{Ledger, Note};
 pub use protocol::{Core, run};
 pub use seat::{Aim, Life, Phase};

@@ -4,6 +4,7 @@ use mathlib.Core.Option.{none}
 use prog.Atomic.{either}
 use Rattle.atomic_table.specs.Table.{Step, step, Allows}
 use Rattle.ksm_base.specs.declared.shape.Shape.{Shape}
+use Rattle.frame_core.specs.State.{count_in}
 use Rattle.frame_table.specs.Views.{Sat}
 use Rattle.frame_table.specs.Rule.{Holds}
 
@@ -20,8 +21,8 @@ module _ (then : Tells) (slots id : ℕ) where
   abbrev pub MayExchange : ℕ → ℕ → Shape → ℕ → Sat → Type 0
   MayExchange old new key i me = Allows (Holds key) slots id me i (λ n. either (eqb n old) new n) (then (step slots i old new none) me)
 
-  abbrev pub MayAddOne : Shape → ℕ → Sat → Type 0
-  MayAddOne key i me = Allows (Holds key) slots id me i (λ n. (n + 1) % 2 ^ 64) (then (step slots i 1 0 none) me)
+  abbrev pub MayAdd : ℕ → Shape → ℕ → Sat → Type 0
+  MayAdd d key i me = Allows (Holds key) slots id me i (λ n. (n + d) % 2 ^ 64) (then (step slots i d 0 none) me)
 
   abbrev pub MaySubOne : Shape → ℕ → Sat → Type 0
   MaySubOne key i me = Allows (Holds key) slots id me i (λ n. (n + (2 ^ 64 - 1)) % 2 ^ 64) (then (step slots i 1 0 none) me)
@@ -30,6 +31,6 @@ module _ (then : Tells) (slots id : ℕ) where
 pub turned : (Q : Shape → ℕ → Sat → Type 0) (key sh : Shape) (i j : ℕ) (me at : Sat) → key ≡ sh → i ≡ j → me ≡ at → Q sh j at → Q key i me
 turned Q key sh i j me at e f h q = subst (λ (x : Shape × ℕ × Sat). Q x.0 x.1 x.2) (λ t. (sym e t, sym f t, sym h t)) q
 
--- one less, as the machine takes it
-pub lowered : (n : ℕ) → 1 ≤ n → n < 18446744073709551616 → (n + 18446744073709551615) % 18446744073709551616 ≡ n - 1
+-- one less, as the machine takes it, of a frame word with a reference
+pub lowered : (n : ℕ) → 1 ≤ count_in n → n < 18446744073709551616 → (n + 18446744073709551615) % 18446744073709551616 ≡ n - 1
 lowered n low small = omega arith

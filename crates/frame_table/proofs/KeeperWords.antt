@@ -1,10 +1,10 @@
 -- A step of the keeper changes one word of the table, and is told what it found there.
-use Rattle.std.proofs.Common.{◌≡◌, ℕ, zero, suc, ◌+◌, ◌*◌, ◌<◌, ◌≤◌, ◌==◌, ◌&&◌, ◌||◌, Bool, true, false, not, cond, nat_le, nat_lt, List, [], ◌∷◌, ◌++◌, map, length, set, get_or, slice_get, slice_set, Option, Some, None, option_and_then, refl, ap, sym, subst, ◌∙◌, arith}
+use Rattle.std.proofs.Common.{◌≡◌, ℕ, zero, suc, ◌+◌, ◌-◌, ◌*◌, ◌<◌, ◌≤◌, ◌==◌, ◌&&◌, ◌||◌, Bool, true, false, not, cond, eqb, nat_le, nat_lt, List, [], ◌∷◌, ◌++◌, map, length, set, get_or, slice_get, slice_set, Option, Some, None, option_and_then, refl, ap, sym, subst, ◌∙◌, arith}
 use Rattle.std.proofs.lemmas.List.{set-get_or}
-use Rattle.std.proofs.lemmas.Bool.{ltb-true}
+use Rattle.std.proofs.lemmas.Bool.{ltb-true, eqb-true, eqb-false, eq-eqb, ne_eqb}
 use Rattle.std.proofs.lemmas.Option.{same_Some, slice_get_within, get_or_from_slice_get}
 use Rattle.std.specs.List.{flat_map}
-use Rattle.ksm_base.specs.declared.page.TheConstants.{PAGE_WORDS}
+use Rattle.frame_core.specs.declared.frame.TheConstants.{FRAME_WORDS}
 use Rattle.ksm_base.specs.Values.{frames_of}
 use Rattle.frame_core.specs.declared.event.KeeperStep.{KeeperStep}
 use Rattle.frame_core.specs.declared.event.KeeperStep.TheVariants.{Reap, Put, Raise, Open, Add, Sub, Publish, Withdraw, Freeze, Word}
@@ -14,16 +14,16 @@ use Rattle.frame_core.specs.declared.frame.Kind.TheVariants.{Free, Filling, Priv
 use Rattle.frame_core.specs.declared.ledger.Ledger.{Ledger}
 use Rattle.frame_core.specs.declared.ledger.Note.{Note}
 use Rattle.frame_core.specs.declared.seat.Life.{Life}
-use Rattle.frame_core.specs.State.{State, place_word}
+use Rattle.frame_core.specs.State.{State, place_word, frame_word, word_of}
 use Rattle.frame_core.specs.Words.{words_of, frame_words, frame_offset}
 use Rattle.frame_core.specs.Ledger.{ledger_of, note_of, frame_at}
 use Rattle.frame_core.specs.KeeperSteps.{keeper_step, at_frame, only_if, reap_step, put_step, raise_step, open_step, add_step, sub_step, freeze_step, word_step, publish_step, withdraw_step, is_live, is_free, is_filling, is_private, is_stable, is_dying}
-use Rattle.frame_core.specs.Rule.{Rule, GenerationFits}
+use Rattle.frame_core.specs.Rule.{Rule, CountFits, GenerationFits}
 use Rattle.frame_core.proofs.Parts.{parts, map_parts, then_parts, only_if_parts}
-use Rattle.frame_core.proofs.Frames.{free_is}
 use Rattle.frame_core.proofs.Notes.{note_at}
-use Rattle.frame_core.proofs.Made.{sub_made}
-use Rattle.frame_core.proofs.Moves.LoadCount.{count_at_most}
+use Rattle.frame_core.proofs.Made.{reap_made, put_made, raise_made, open_made, add_made, sub_made, freeze_made}
+use Rattle.frame_core.proofs.Packed.{count_packed, life_packed}
+use Rattle.frame_core.proofs.Moves.LoadFrame.{base_at_most, count_at_most}
 use Rattle.frame_core.proofs.Fitting.{generation_at_most}
 use Rattle.frame_core.proofs.Flat.{words_get, words_set, words_set_place}
 use Rattle.frame_table.specs.Keeping.{keeper_word, keeper_written, found_by, knows}
@@ -45,7 +45,7 @@ module _ (s : State) (rule : Rule s) where
   abbrev Leaves : KeeperStep → ℕ → Frame → ℕ × Frame → Type 0
   Leaves e j fr r = let n : ℕ = get_or (frame_words fr) j 0 in (set (frame_words fr) j (keeper_written k e n) ≡ frame_words r.1) × (found_by e n ≡ r.0) × knows k e r.0
 
-  at_one_frame : (e : KeeperStep) (f j : ℕ) (change : Frame → Option (ℕ × Frame)) → ((fr : Frame) (r : ℕ × Frame) → slice_get s.frames f ≡ Some fr → change fr ≡ Some r → j < 2 + PAGE_WORDS) → keeper_word (frames_of s.shape) e ≡ frame_offset (frames_of s.shape) f + j
+  at_one_frame : (e : KeeperStep) (f j : ℕ) (change : Frame → Option (ℕ × Frame)) → ((fr : Frame) (r : ℕ × Frame) → slice_get s.frames f ≡ Some fr → change fr ≡ Some r → j < FRAME_WORDS) → keeper_word (frames_of s.shape) e ≡ frame_offset (frames_of s.shape) f + j
       → ((fr : Frame) (r : ℕ × Frame) → frame_at k f ≡ note_of fr → slice_get s.frames f ≡ Some fr → change fr ≡ Some r → Leaves e j fr r)
       → (r : ℕ × State) → at_frame s f change ≡ Some r → OneWord s e r
   at_one_frame e f j change below word leaves r is =
@@ -61,60 +61,100 @@ module _ (s : State) (rule : Rule s) where
         here.2,
       ))
 
-  reaps : (f : ℕ) (fr : Frame) (r : ℕ × Frame) → frame_at k f ≡ note_of fr → reap_step s.shape.last_generation fr ≡ Some r → Leaves (Reap f) 0 fr r
-  reaps f fr r note is = subst (Leaves (Reap f) 0 fr) (only_if_parts (is_dying fr.kind) (fr.count, record fr { kind = cond (fr.count == 0) (cond (fr.generation == s.shape.last_generation) Retired Free) Dying }) r is).1 (refl, refl, tt)
+  reaps : (f : ℕ) (fr : Frame) (r : ℕ × Frame) → reap_step s.shape.last_generation fr ≡ Some r → Leaves (Reap f) 0 fr r
+  reaps f fr r is = subst (Leaves (Reap f) 0 fr) (reap_made s.shape.last_generation fr r is).1 (refl, refl, tt)
 
-  puts : (f i w : ℕ) (fr : Frame) (r : ℕ × Frame) → put_step i w fr ≡ Some r → Leaves (Put f i w) (2 + i) fr r
+  puts : (f i w : ℕ) (fr : Frame) (r : ℕ × Frame) → put_step i w fr ≡ Some r → Leaves (Put f i w) (1 + i) fr r
   puts f i w fr r is =
-      let next : suc (suc i) ≡ 2 + i = omega arith in
-      subst (Leaves (Put f i w) (2 + i) fr) (only_if_parts ((is_filling fr.kind || is_private fr.kind) && nat_lt i (length fr.content)) (0, record fr { content = slice_set fr.content i w }) r is).1
-      (ap (λ (j : ℕ). set (frame_words fr) j w) (sym next), refl, tt)
+      let next : suc i ≡ 1 + i = omega arith in
+      subst (Leaves (Put f i w) (1 + i) fr) (put_made i w fr r is).2 (ap (λ (j : ℕ). set (frame_words fr) j w) (sym next), refl, tt)
 
-  low_life : (f : ℕ) (fr : Frame) → slice_get s.frames f ≡ Some fr → is_free fr.kind ≡ true → fr.generation < 1099511627776
-  low_life f fr at free =
-      let low : GenerationFits s.shape.last_generation Free fr.generation = subst (λ (x : Kind). GenerationFits s.shape.last_generation x fr.generation) (free_is fr.kind free) (rule.frames f fr at).generation in
-      omega (arith, low, rule.shape.generation_high)
+  -- the word of a frame is another, and its content stays
+  reworded : (fr next : Frame) (v : ℕ) → v ≡ word_of next → fr.content ≡ next.content → set (frame_words fr) 0 v ≡ frame_words next
+  reworded fr next v is same = λ i. is i ∷ same i
 
-  raises : (f : ℕ) (fr : Frame) (r : ℕ × Frame) → frame_at k f ≡ note_of fr → slice_get s.frames f ≡ Some fr → raise_step fr ≡ Some r → Leaves (Raise f) 1 fr r
-  raises f fr r note at is = let P = only_if_parts (is_free fr.kind) (fr.generation, record fr { generation = fr.generation + 1; kind = Filling }) r is in subst (Leaves (Raise f) 1 fr) P.1
-      (refl, refl, (ap (λ (x : Note). x.generation) (sym note), low_life f fr at P.0))
+  -- the word of a frame without a reference, as the keeper knows it
+  empty_word : (f : ℕ) (fr : Frame) → frame_at k f ≡ note_of fr → fr.count ≡ 0 → word_of fr ≡ frame_word (frame_at k f).generation 0
+  empty_word f fr note none = (λ i. frame_word fr.generation (none i)) ∙ ap (λ (x : Note). frame_word x.generation 0) (sym note)
 
-  opens : (f : ℕ) (fr : Frame) (r : ℕ × Frame) → open_step fr ≡ Some r → Leaves (Open f) 0 fr r
-  opens f fr r is = subst (Leaves (Open f) 0 fr) (only_if_parts (is_filling fr.kind) (0, record fr { count = 1; kind = Private; base = 1 }) r is).1 (refl, refl, tt)
+  life_low : (f : ℕ) (fr : Frame) → slice_get s.frames f ≡ Some fr → fr.generation ≤ 1099511627776
+  life_low f fr at = omega (arith, generation_at_most s.shape.last_generation fr.kind fr.generation (rule.frames f fr at).generation, rule.shape.generation_high)
+
+  raises : (f : ℕ) (fr : Frame) (r : ℕ × Frame) → frame_at k f ≡ note_of fr → slice_get s.frames f ≡ Some fr → raise_step fr ≡ Some r → Leaves (Raise f) 0 fr r
+  raises f fr r note at is =
+      let m = raise_made fr r is in
+      let frame = rule.frames f fr at in
+      let none : CountFits Free fr.count = subst (λ (x : Kind). CountFits x fr.count) m.0 frame.count in
+      let low : GenerationFits s.shape.last_generation Free fr.generation = subst (λ (x : Kind). GenerationFits s.shape.last_generation x fr.generation) m.0 frame.generation in
+      subst (Leaves (Raise f) 0 fr) m.1 (
+        reworded fr (record fr { generation = fr.generation + 1; kind = Filling }) (word_of fr + 65536) (omega arith) refl,
+        refl,
+        (empty_word f fr note none, subst (λ (x : Note). x.generation < 1099511627776) (sym note) (omega (arith, low, rule.shape.generation_high))),
+      )
+
+  opens : (f : ℕ) (fr : Frame) (r : ℕ × Frame) → frame_at k f ≡ note_of fr → slice_get s.frames f ≡ Some fr → open_step fr ≡ Some r → Leaves (Open f) 0 fr r
+  opens f fr r note at is =
+      let m = open_made fr r is in
+      let none : CountFits Filling fr.count = subst (λ (x : Kind). CountFits x fr.count) m.0 (rule.frames f fr at).count in
+      subst (Leaves (Open f) 0 fr) m.1 (
+        reworded fr (record fr { count = fr.count + 1; kind = Private; base = 1 }) (word_of fr + 1) (omega arith) refl,
+        refl,
+        (empty_word f fr note none, subst (λ (x : Note). x.generation ≤ 1099511627776) (sym note) (life_low f fr at)),
+      )
 
   adds : (f : ℕ) (fr : Frame) (r : ℕ × Frame) → slice_get s.frames f ≡ Some fr → add_step fr ≡ Some r → Leaves (Add f) 0 fr r
-  adds f fr r at is = subst (Leaves (Add f) 0 fr) (only_if_parts (nat_le 1 fr.base && nat_le fr.base 1023) (fr.count, record fr { count = fr.count + 1; base = fr.base + 1 }) r is).1 (refl, refl, count_at_most s f fr at rule)
+  adds f fr r at is = subst (Leaves (Add f) 0 fr) (add_made fr r is).2
+      (reworded fr (record fr { count = fr.count + 1; base = fr.base + 1 }) (word_of fr + 1) (omega arith) refl, refl, omega (arith, count_at_most s f fr at rule, life_low f fr at))
 
   subs : (f : ℕ) (fr : Frame) (r : ℕ × Frame) → slice_get s.frames f ≡ Some fr → sub_step fr ≡ Some r → Leaves (Sub f) 0 fr r
-  subs f fr r at is = let P = sub_made fr r is in subst (Leaves (Sub f) 0 fr) P.1 (refl, refl, omega (arith, P.0, (rule.frames f fr at).counted))
+  subs f fr r at is =
+      let m = sub_made fr r is in
+      let some : 1 ≤ fr.count = omega (arith, m.0, (rule.frames f fr at).counted) in
+      subst (Leaves (Sub f) 0 fr) m.1 (
+        reworded fr (record fr { count = fr.count - 1; base = fr.base - 1; kind = cond (fr.base == 1) Dying fr.kind }) (word_of fr - 1) (omega (arith, some)) refl,
+        refl,
+        subst (λ (n : ℕ). 1 ≤ n) (sym (count_packed fr.generation fr.count (omega (arith, count_at_most s f fr at rule)))) some,
+      )
 
-  frozen : (b : Bool) (fr : Frame) → set (frame_words fr) 0 (cond b 0 fr.count) ≡ frame_words (cond b (record fr { count = 0; base = 0; kind = Dying }) fr)
+  -- two words of one life are equal exactly where their counts are
+  same_life : (g c d : ℕ) (b : Bool) → eqb c d ≡ b → eqb (frame_word g c) (frame_word g d) ≡ b
+  same_life g c d true is = eq-eqb (frame_word g c) (frame_word g d) (ap (frame_word g) (eqb-true c d is))
+  same_life g c d false is = ne_eqb (frame_word g c) (frame_word g d) (λ e. eqb-false c d is (omega (arith, e)))
+
+  frozen : (b : Bool) (fr : Frame) → set (frame_words fr) 0 (cond b (frame_word fr.generation 0) (word_of fr)) ≡ frame_words (cond b (record fr { count = 0; base = 0; kind = Dying }) fr)
   frozen true fr = refl
   frozen false fr = refl
 
-  freezes : (f : ℕ) (fr : Frame) (r : ℕ × Frame) → frame_at k f ≡ note_of fr → freeze_step fr ≡ Some r → Leaves (Freeze f) 0 fr r
-  freezes f fr r note is = subst (Leaves (Freeze f) 0 fr) (only_if_parts (is_stable fr.kind) (fr.count, cond (fr.count == fr.base) (record fr { count = 0; base = 0; kind = Dying }) fr) r is).1
-      (ap (λ (x : Note). set (frame_words fr) 0 (cond (fr.count == x.base) 0 fr.count)) note ∙ frozen (fr.count == fr.base) fr, refl, tt)
+  freezes : (f : ℕ) (fr : Frame) (r : ℕ × Frame) → frame_at k f ≡ note_of fr → slice_get s.frames f ≡ Some fr → freeze_step fr ≡ Some r → Leaves (Freeze f) 0 fr r
+  freezes f fr r note at is =
+      let b : Bool = fr.count == fr.base in
+      subst (Leaves (Freeze f) 0 fr) (freeze_made fr r is).1 (
+        ap (λ (x : Note). set (frame_words fr) 0 (cond (word_of fr == frame_word x.generation x.base) (frame_word x.generation 0) (word_of fr))) note
+            ∙ (ap (λ (c : Bool). set (frame_words fr) 0 (cond c (frame_word fr.generation 0) (word_of fr))) (same_life fr.generation fr.count fr.base b refl) ∙ frozen b fr),
+        refl,
+        (life_packed fr.generation fr.count (omega (arith, count_at_most s f fr at rule)) ∙ ap (λ (x : Note). x.generation) (sym note),
+            subst (λ (x : Note). x.base ≤ 1024) (sym note) (base_at_most fr.kind fr.base (rule.frames f fr at).base)),
+      )
 
   if_parts : (b : Bool) (o : Option (ℕ × Frame)) (r : ℕ × Frame) → cond b o None ≡ Some r → o ≡ Some r
   if_parts true o r is = is
   if_parts false o r is = absurd (cc (is))
 
-  reads : (f i : ℕ) (fr : Frame) (r : ℕ × Frame) → frame_at k f ≡ note_of fr → word_step i fr ≡ Some r → Leaves (Word f i) (2 + i) fr r
+  reads : (f i : ℕ) (fr : Frame) (r : ℕ × Frame) → frame_at k f ≡ note_of fr → word_step i fr ≡ Some r → Leaves (Word f i) (1 + i) fr r
   reads f i fr r note is =
       let P = map_parts (λ (w : ℕ). (w, fr)) (slice_get fr.content i) r (if_parts (is_private fr.kind || is_stable fr.kind || is_dying fr.kind) _ r is) in
-      let next : 2 + i ≡ suc (suc i) = omega arith in
-      let found : get_or (frame_words fr) (2 + i) 0 ≡ P.0 = ap (λ (j : ℕ). get_or (frame_words fr) j 0) next ∙ get_or_from_slice_get fr.content i P.0 0 P.1 in
-      subst (Leaves (Word f i) (2 + i) fr) P.2
-      (set-get_or (frame_words fr) (2 + i) 0, found, sym (get_or_from_slice_get fr.content i P.0 0 P.1) ∙ ap (λ (x : Note). get_or x.content i 0) (sym note))
+      let next : 1 + i ≡ suc i = omega arith in
+      let found : get_or (frame_words fr) (1 + i) 0 ≡ P.0 = ap (λ (j : ℕ). get_or (frame_words fr) j 0) next ∙ get_or_from_slice_get fr.content i P.0 0 P.1 in
+      subst (Leaves (Word f i) (1 + i) fr) P.2
+      (set-get_or (frame_words fr) (1 + i) 0, found, sym (get_or_from_slice_get fr.content i P.0 0 P.1) ∙ ap (λ (x : Note). get_or x.content i 0) (sym note))
 
   -- a content word that is stored or loaded is one of the page
-  put_below : (f i w : ℕ) (fr : Frame) (r : ℕ × Frame) → slice_get s.frames f ≡ Some fr → put_step i w fr ≡ Some r → 2 + i < 2 + PAGE_WORDS
+  put_below : (f i w : ℕ) (fr : Frame) (r : ℕ × Frame) → slice_get s.frames f ≡ Some fr → put_step i w fr ≡ Some r → 1 + i < FRAME_WORDS
   put_below f i w fr r at is =
       let both = (only_if_parts ((is_filling fr.kind || is_private fr.kind) && nat_lt i (length fr.content)) (0, record fr { content = slice_set fr.content i w }) r is).0 in
       omega (arith, ltb-true i (length fr.content) (second_test (is_filling fr.kind || is_private fr.kind) (nat_lt i (length fr.content)) both), (rule.frames f fr at).content)
 
-  word_below : (f i : ℕ) (fr : Frame) (r : ℕ × Frame) → slice_get s.frames f ≡ Some fr → word_step i fr ≡ Some r → 2 + i < 2 + PAGE_WORDS
+  word_below : (f i : ℕ) (fr : Frame) (r : ℕ × Frame) → slice_get s.frames f ≡ Some fr → word_step i fr ≡ Some r → 1 + i < FRAME_WORDS
   word_below f i fr r at is =
       let P = map_parts (λ (w : ℕ). (w, fr)) (slice_get fr.content i) r (if_parts (is_private fr.kind || is_stable fr.kind || is_dying fr.kind) _ r is) in
       omega (arith, slice_get_within fr.content i P.0 P.1, (rule.frames f fr at).content)
@@ -141,7 +181,7 @@ module _ (s : State) (rule : Rule s) where
       let life : Option Life = Some (record { frame = f; generation = fr.generation }) in
       let within : p < frames_of s.shape = omega (arith, slice_get_within s.places p P.0 P.1, rule.place_count) in
       subst (OneWord s (Publish p f)) last.1 (
-        ap (λ (x : Note). set (words_of s) p (x.generation * 1024 + f)) (note_at s f fr Q.1) ∙ (words_set_place s rule p life within
+        ap (λ (x : Note). set (words_of s) p (place_word (Some record { frame = f; generation = x.generation }))) (note_at s f fr Q.1) ∙ (words_set_place s rule p life within
             ∙ ap (λ (w : List ℕ). map place_word (slice_set s.places p life) ++ w) (sym (flat_same frame_words s.frames f fr (record fr { kind = Stable }) Q.1 refl))),
         refl,
         subst (λ (x : Note). x.generation ≤ 1099511627776) (sym (note_at s f fr Q.1))
@@ -157,13 +197,13 @@ module _ (s : State) (rule : Rule s) where
   -- ---------------------------------------------------------------- any of them
 
   pub keeper_words : (e : KeeperStep) (r : ℕ × State) → keeper_step s e ≡ Some r → OneWord s e r
-  keeper_words (Reap f) r is = at_one_frame (Reap f) f 0 (reap_step s.shape.last_generation) (λ fr x at gives. omega arith) refl (λ fr x note at. reaps f fr x note) r is
-  keeper_words (Put f i w) r is = at_one_frame (Put f i w) f (2 + i) (put_step i w) (λ fr x at gives. put_below f i w fr x at gives) refl (λ fr x note at. puts f i w fr x) r is
-  keeper_words (Raise f) r is = at_one_frame (Raise f) f 1 raise_step (λ fr x at gives. omega arith) refl (λ fr x note at. raises f fr x note at) r is
-  keeper_words (Open f) r is = at_one_frame (Open f) f 0 open_step (λ fr x at gives. omega arith) refl (λ fr x note at. opens f fr x) r is
+  keeper_words (Reap f) r is = at_one_frame (Reap f) f 0 (reap_step s.shape.last_generation) (λ fr x at gives. omega arith) refl (λ fr x note at. reaps f fr x) r is
+  keeper_words (Put f i w) r is = at_one_frame (Put f i w) f (1 + i) (put_step i w) (λ fr x at gives. put_below f i w fr x at gives) refl (λ fr x note at. puts f i w fr x) r is
+  keeper_words (Raise f) r is = at_one_frame (Raise f) f 0 raise_step (λ fr x at gives. omega arith) refl (λ fr x note at. raises f fr x note at) r is
+  keeper_words (Open f) r is = at_one_frame (Open f) f 0 open_step (λ fr x at gives. omega arith) refl (λ fr x note at. opens f fr x note at) r is
   keeper_words (Add f) r is = at_one_frame (Add f) f 0 add_step (λ fr x at gives. omega arith) refl (λ fr x note at. adds f fr x at) r is
   keeper_words (Sub f) r is = at_one_frame (Sub f) f 0 sub_step (λ fr x at gives. omega arith) refl (λ fr x note at. subs f fr x at) r is
   keeper_words (Publish p f) r is = publishes p f r is
   keeper_words (Withdraw p) r is = withdraws p r is
-  keeper_words (Freeze f) r is = at_one_frame (Freeze f) f 0 freeze_step (λ fr x at gives. omega arith) refl (λ fr x note at. freezes f fr x note) r is
-  keeper_words (Word f i) r is = at_one_frame (Word f i) f (2 + i) (word_step i) (λ fr x at gives. word_below f i fr x at gives) refl (λ fr x note at. reads f i fr x note) r is
+  keeper_words (Freeze f) r is = at_one_frame (Freeze f) f 0 freeze_step (λ fr x at gives. omega arith) refl (λ fr x note at. freezes f fr x note at) r is
+  keeper_words (Word f i) r is = at_one_frame (Word f i) f (1 + i) (word_step i) (λ fr x at gives. word_below f i fr x at gives) refl (λ fr x note at. reads f i fr x note) r is

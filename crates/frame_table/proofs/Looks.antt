@@ -1,14 +1,18 @@
 -- The steps of a lookup, put together.
-use Rattle.std.proofs.Common.{◌≡◌, ℕ, ◌+◌, ◌<◌, ◌≤◌, eqb, nat_le, Bool, cond, List, [], ◌∷◌, ◌++◌, length, sym, refl, ap, ◌∙◌, subst, arith, ne_eqb, append_assoc, length-append}
-use Rattle.std.proofs.lemmas.Bool.{lt-leb}
+use Rattle.std.proofs.Common.{◌≡◌, ℕ, ◌+◌, ◌*◌, ◌/◌, ◌%◌, ◌==◌, ◌&&◌, not, ◌<◌, ◌≤◌, eqb, nat_le, Bool, true, false, cond, Some, None, List, [], ◌∷◌, ◌++◌, length, sym, refl, ap, ◌∙◌, subst, arith, ne_eqb, eq-eqb, append_assoc, length-append}
+use Rattle.std.proofs.lemmas.Bool.{lt-leb, eqb-false}
+use Rattle.std.proofs.lemmas.Option.{same_Some}
 use Rattle.ksm_base.specs.declared.shape.Shape.{Shape}
+use Rattle.frame_core.specs.declared.seat.Life.{Life}
+use Rattle.frame_core.specs.declared.seat.Aim.{Aim}
 use Rattle.frame_core.specs.declared.seat.Phase.{Phase}
-use Rattle.frame_core.specs.declared.seat.Phase.TheVariants.{Idle, Placed, Doubt}
-use Rattle.frame_core.specs.declared.event.ReaderStep.TheVariants.{LoadPlace, LoadCount, Exchange}
-use Rattle.frame_table.specs.declared.pass.Round.TheVariants.{Lost, Won}
+use Rattle.frame_core.specs.declared.seat.Phase.TheVariants.{Idle, Placed, Counted}
+use Rattle.frame_core.specs.declared.event.ReaderStep.TheVariants.{LoadPlace, LoadFrame, Exchange}
+use Rattle.frame_table.specs.declared.pass.Round.TheVariants.{Lost}
 use Rattle.frame_table.specs.Rounds.{GoesRound}
-use Rattle.frame_table.specs.Lookup.{rounds, AllLost, opening}
-use Rattle.frame_table.specs.Seat.{aim_of}
+use Rattle.frame_table.specs.Lookup.{rounds, IsAlive, AllLost, opening}
+use Rattle.frame_core.specs.State.{life_at, frame_word, count_in, life_in}
+use Rattle.frame_table.specs.Seat.{aim_of, is_alive}
 use Rattle.frame_table.specs.Views.{Log, Sat, sits, log_in, IsIn}
 use Rattle.frame_table.specs.Reading.{reader_after, Steps}
 
@@ -18,7 +22,7 @@ is_in sh phase log m e = e ∙ ap (sits sh phase) (sym (ap log_in e))
 
 -- after i rounds that were lost
 abbrev pub Tries : Shape → Log → ℕ → ℕ → ℕ → Sat → Type 0
-Tries sh log p w i m = (xs : List (ℕ × ℕ)) × AllLost xs × (length xs ≡ i) × (m ≡ sits sh (cond (nat_le sh.tries i) Idle (Placed (aim_of p w) i)) (log ++ opening p w xs))
+Tries sh log p w i m = (xs : List (ℕ × ℕ)) × AllLost (life_at w).generation xs × (length xs ≡ i) × (m ≡ sits sh (cond (nat_le sh.tries i) Idle (Placed (aim_of p w) i)) (log ++ opening p w xs))
 
 module _ (sh : Shape) (p w : ℕ) where
   abbrev at : ℕ → Phase
@@ -44,13 +48,13 @@ module _ (sh : Shape) (p w : ℕ) where
     pub stands : i < sh.tries → IsIn sh (at i) m
     stands more = is_in sh (at i) so_far m (here more)
 
-    lost_more : (xs : List (ℕ × ℕ)) (c d : ℕ) → AllLost xs → ¬ (c ≡ 0) → ¬ (d ≡ c) → AllLost (xs ++ (c, d) ∷ [])
-    lost_more [] c d a x y = (x, y, tt)
-    lost_more (z ∷ zs) c d a x y = (a.0, a.1, lost_more zs c d a.2 x y)
+    lost_more : (g : ℕ) (xs : List (ℕ × ℕ)) (c d : ℕ) → AllLost g xs → IsAlive g c → ¬ (d ≡ c) → AllLost g (xs ++ (c, d) ∷ [])
+    lost_more g [] c d a x y = (x, y, tt)
+    lost_more g (z ∷ zs) c d a x y = (a.0, a.1, lost_more g zs c d a.2 x y)
 
-    rounds_more : (xs : List (ℕ × ℕ)) (c d : ℕ) → rounds (xs ++ (c, d) ∷ []) ≡ rounds xs ++ (LoadCount, c) ∷ (Exchange, d) ∷ []
+    rounds_more : (xs : List (ℕ × ℕ)) (c d : ℕ) → rounds (xs ++ (c, d) ∷ []) ≡ rounds xs ++ (LoadFrame, c) ∷ (Exchange, d) ∷ []
     rounds_more [] c d = refl
-    rounds_more (z ∷ zs) c d = ap (λ (l : Log). (LoadCount, z.0) ∷ (Exchange, z.1) ∷ l) (rounds_more zs c d)
+    rounds_more (z ∷ zs) c d = ap (λ (l : Log). (LoadFrame, z.0) ∷ (Exchange, z.1) ∷ l) (rounds_more zs c d)
 
     pub goes_on : (m' : Sat) (c d : ℕ) → i < sh.tries → GoesRound m.0 (Lost c d) m' → Tries sh log p w (i + 1) m'
     goes_on m' c d more goes =
@@ -58,8 +62,18 @@ module _ (sh : Shape) (p w : ℕ) where
         let n = t.2 in
         let xs : List (ℕ × ℕ) = t.0 ++ (c, d) ∷ [] in
         let phase : Phase = cond (nat_le sh.tries (i + 1)) Idle (at (i + 1)) in
-        let same : so_far ++ (LoadCount, c) ∷ (Exchange, d) ∷ [] ≡ log ++ opening p w xs = append_assoc log (opening p w t.0) _ ∙ ap (λ (l : Log). log ++ (LoadPlace p, w) ∷ l) (sym (rounds_more t.0 c d)) in
-        (xs, lost_more t.0 c d t.1 g.0 g.1, omega (arith, length-append t.0 ((c, d) ∷ [])), g.2 ∙ ap (sits sh phase) same)
+        let same : so_far ++ (LoadFrame, c) ∷ (Exchange, d) ∷ [] ≡ log ++ opening p w xs = append_assoc log (opening p w t.0) _ ∙ ap (λ (l : Log). log ++ (LoadPlace p, w) ∷ l) (sym (rounds_more t.0 c d)) in
+        (xs, lost_more (life_at w).generation t.0 c d t.1 g.0 g.1, omega (arith, length-append t.0 ((c, d) ∷ [])), g.2 ∙ ap (sits sh phase) same)
 
-    pub in_new_doubt : (m' : Sat) (c : ℕ) → i < sh.tries → GoesRound m.0 (Won c) m' → IsIn sh (Doubt (aim_of p w)) m'
-    in_new_doubt m' c more goes = is_in sh _ _ m' (subst (λ (x : Sat). GoesRound x.0 (Won c) m') (here more) goes).1
+-- a frame word of the life named, with a reference, was loaded
+pub counted : (sh : Shape) (aim : Aim) (failures n : ℕ) (me m : Sat) → IsIn sh (Placed aim failures) me → Steps LoadFrame me n m → IsAlive aim.life.generation n → (n ≡ frame_word aim.life.generation (count_in n)) × IsIn sh (Counted aim failures (count_in n)) m
+counted sh aim failures n me m is s alive =
+    let log : Log = log_in me ++ (LoadFrame, n) ∷ [] in
+    let test : is_alive aim.life.generation n ≡ true = rw (ne_eqb (count_in n) 0 alive.0, eq-eqb (life_in n) aim.life.generation alive.1) refl in
+    let e : m ≡ sits sh (cond (is_alive aim.life.generation n) (Counted aim failures (count_in n)) Idle) log = s ∙ ap (λ (x : Sat). (reader_after LoadFrame x.0 n, x.1)) is in
+    (omega (arith, alive.1), is_in sh (Counted aim failures (count_in n)) log m (e ∙ ap (λ (b : Bool). sits sh (cond b (Counted aim failures (count_in n)) Idle) log) test))
+
+-- what the word of a place names, where it names something
+pub named : (w : ℕ) (life : Life) (b : Bool) → eqb w 0 ≡ b → cond b None (Some (life_at w)) ≡ Some life → ¬ (w ≡ 0) × (life_at w ≡ life)
+named w life true is e = absurd (cc (e))
+named w life false is e = (eqb-false w 0 is, same_Some (life_at w) life e)

@@ -7,7 +7,7 @@ use Rattle.std.specs.List.{flat_map}
 use mathlib.Core.Option.{some, some-injective, some-ne-none}
 use lib.ListN.{get_elem?}
 use Rattle.atomic_table.specs.Table as table
-use Rattle.ksm_base.specs.declared.page.TheConstants.{PAGE_WORDS}
+use Rattle.frame_core.specs.declared.frame.TheConstants.{FRAME_WORDS}
 use Rattle.ksm_base.specs.declared.shape.Shape.{Shape}
 use Rattle.ksm_base.specs.Values.{IsShape, frames_of}
 use Rattle.frame_core.specs.declared.ledger.Ledger.{Ledger}
@@ -32,11 +32,11 @@ flat_zeros g w (suc n) a zeros =
     (λ i. zeros i ++ flat_zeros g w n a zeros i) ∙ (replicate-append-replicate w (n * w) 0 ∙ ap (λ (k : ℕ). replicate k 0) e)
 
 -- all words of the opening state are 0
-opening_words : (sh : Shape) → words_of (opening sh) ≡ replicate (frames_of sh * (3 + PAGE_WORDS)) 0
+opening_words : (sh : Shape) → words_of (opening sh) ≡ replicate (frames_of sh * (1 + FRAME_WORDS)) 0
 opening_words sh =
     let n : ℕ = frames_of sh in
-    let e : n + n * (2 + PAGE_WORDS) ≡ n * (3 + PAGE_WORDS) = omega arith in
-    (λ i. map_replicate place_word n None i ++ flat_zeros frame_words (2 + PAGE_WORDS) n new_frame refl i) ∙ (replicate-append-replicate n (n * (2 + PAGE_WORDS)) 0 ∙ ap (λ (k : ℕ). replicate k 0) e)
+    let e : n + n * (FRAME_WORDS) ≡ n * (1 + FRAME_WORDS) = omega arith in
+    (λ i. map_replicate place_word n None i ++ flat_zeros frame_words (FRAME_WORDS) n new_frame refl i) ∙ (replicate-append-replicate n (n * (FRAME_WORDS)) 0 ∙ ap (λ (k : ℕ). replicate k 0) e)
 
 abbrev opened : Shape → History
 opened sh = record { state = opening sh; trace = [] }
@@ -46,7 +46,7 @@ first_tied sh zero v at = subst (Tied sh (opened sh) (tally_of sh.passes 0) 0) (
 first_tied sh (suc j) v at = subst (Tied sh (opened sh) (tally_of sh.passes 0) (suc j)) (in_replicate sh.passes j (Reader sh Idle []) v (got (replicate sh.passes (Reader sh Idle [])) j v at)) (refl, refl)
 
 -- a table whose words are all 0, with the keeper alone, is in the opening state of the core
-pub may_begin : (sh : Shape) → IsShape sh → Holds sh (table.opening (replicate (frames_of sh * (3 + PAGE_WORDS)) 0) [] (first_view sh))
+pub may_begin : (sh : Shape) → IsShape sh → Holds sh (table.opening (replicate (frames_of sh * (1 + FRAME_WORDS)) 0) [] (first_view sh))
 may_begin sh fits = record {
   shape = fits;
   events = [];

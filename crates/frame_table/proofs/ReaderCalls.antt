@@ -6,14 +6,13 @@ use Rattle.atomic_table.specs.Table.{carried_after}
 use Rattle.ksm_base.specs.declared.page.TheConstants.{PAGE_WORDS}
 use Rattle.ksm_base.specs.declared.shape.Shape.{Shape}
 use Rattle.ksm_base.specs.Values.{frames_of}
-use Rattle.frame_core.specs.declared.event.ReaderStep.TheVariants.{LoadPlace, LoadCount, Exchange, LoadGeneration, Leave, LoadWord}
+use Rattle.frame_core.specs.declared.event.ReaderStep.TheVariants.{LoadPlace, LoadFrame, Exchange, Leave, LoadWord}
 use Rattle.frame_core.specs.declared.seat.Aim.{Aim}
-use Rattle.frame_core.specs.declared.seat.Phase.{Phase}
-use Rattle.frame_core.specs.declared.seat.Phase.TheVariants.{Idle, Placed, Counted, Doubt, Held}
-use Rattle.frame_core.specs.Words.{count_at, generation_at, content_at}
-use Rattle.frame_table.specs.Seat.{MayRead, word_of}
+use Rattle.frame_core.specs.declared.seat.Phase.TheVariants.{Idle, Placed, Counted, Held}
+use Rattle.frame_core.specs.State.{frame_word}
+use Rattle.frame_core.specs.Words.{frame_word_at, content_at}
 use Rattle.frame_table.specs.Views.{Log, sits}
-use Rattle.frame_table.specs.Reading.{Makes, loads_place, loads_count, exchanges, loads_generation, leaves, loads_word}
+use Rattle.frame_table.specs.Reading.{Makes, loads_place, loads_frame, exchanges, leaves, loads_word}
 use Rattle.frame_table.proofs.Allowed.{MayLoad, MayExchange, MaySubOne, lowered}
 use Rattle.frame_table.proofs.ReaderMay.{reader_may}
 
@@ -23,26 +22,23 @@ module _ (slots id : ℕ) (sh : Shape) (log : Log) where
       let r = reader_may slots (LoadPlace p) Idle log (λ n. n) sh id below (λ n small told. refl) t h size at small in
       (r.0, r.1, r.2, r.3, λ o is. subst (λ (k : ℕ). Makes (LoadPlace k) (sits sh Idle log) (get_or t.words p 0) (r.0, carried_after [] r.1)) is r.4)
 
-  pub may_load_count : (aim : Aim) (failures : ℕ) → MayLoad loads_count slots id sh (count_at (frames_of sh) aim.life.frame) (sits sh (Placed aim failures) log)
-  may_load_count aim failures t h size at small =
-      let r = reader_may slots LoadCount (Placed aim failures) log (λ n. n) sh id tt (λ n small told. refl) t h size at small in (r.0, r.1, r.2, r.3, λ is. r.4)
+  pub may_load_frame : (aim : Aim) (failures : ℕ) → MayLoad loads_frame slots id sh (frame_word_at (frames_of sh) aim.life.frame) (sits sh (Placed aim failures) log)
+  may_load_frame aim failures t h size at small =
+      let r = reader_may slots LoadFrame (Placed aim failures) log (λ n. n) sh id tt (λ n small told. refl) t h size at small in (r.0, r.1, r.2, r.3, λ is. r.4)
 
   exchanged : (n c : ℕ) (b : Bool) → eqb n c ≡ b → either b (c + 1) n ≡ cond b (n + 1) n
   exchanged n c true is = let e : n ≡ c = eqb-true n c is in ap (λ (m : ℕ). m + 1) (sym e)
   exchanged n c false is = refl
 
-  pub may_exchange : (aim : Aim) (failures c : ℕ) → MayExchange exchanges slots id c (c + 1) sh (count_at (frames_of sh) aim.life.frame) (sits sh (Counted aim failures c) log)
-  may_exchange aim failures c t h size at small =
-      let r = reader_may slots Exchange (Counted aim failures c) log (λ n. either (eqb n c) (c + 1) n) sh id tt (λ n small told. exchanged n c (eqb n c) refl) t h size at small in
-      (r.0, r.1, r.2, r.3, λ is. r.4)
+  pub may_exchange : (aim : Aim) (failures count loaded : ℕ) → loaded ≡ frame_word aim.life.generation count → MayExchange exchanges slots id loaded (loaded + 1) sh (frame_word_at (frames_of sh) aim.life.frame) (sits sh (Counted aim failures count) log)
+  may_exchange aim failures count loaded is = subst (λ (w : ℕ). MayExchange exchanges slots id w (w + 1) sh (frame_word_at (frames_of sh) aim.life.frame) (sits sh (Counted aim failures count) log)) (sym is) (λ t h size at small.
+      let w : ℕ = frame_word aim.life.generation count in
+      let r = reader_may slots Exchange (Counted aim failures count) log (λ n. either (eqb n w) (w + 1) n) sh id tt (λ n small told. exchanged n w (eqb n w) refl) t h size at small in
+      (r.0, r.1, r.2, r.3, λ is. r.4))
 
-  pub may_load_generation : (aim : Aim) → MayLoad loads_generation slots id sh (generation_at (frames_of sh) aim.life.frame) (sits sh (Doubt aim) log)
-  may_load_generation aim t h size at small =
-      let r = reader_may slots LoadGeneration (Doubt aim) log (λ n. n) sh id tt (λ n small told. refl) t h size at small in (r.0, r.1, r.2, r.3, λ is. r.4)
-
-  pub may_leave : (aim : Aim) (phase : Phase) → MayRead sh Leave phase → word_of sh Leave phase ≡ count_at (frames_of sh) aim.life.frame → MaySubOne leaves slots id sh (count_at (frames_of sh) aim.life.frame) (sits sh phase log)
-  may_leave aim phase may word = subst (λ (i : ℕ). MaySubOne leaves slots id sh i (sits sh phase log)) word (λ t h size at small.
-      let r = reader_may slots Leave phase log (λ n. (n + (2 ^ 64 - 1)) % 2 ^ 64) sh id may (λ n small told. lowered n told small) t h size at small in (r.0, r.1, r.2, r.3, λ is. r.4))
+  pub may_leave : (aim : Aim) (known : List (Option ℕ)) → MaySubOne leaves slots id sh (frame_word_at (frames_of sh) aim.life.frame) (sits sh (Held aim known) log)
+  may_leave aim known t h size at small =
+      let r = reader_may slots Leave (Held aim known) log (λ n. (n + (2 ^ 64 - 1)) % 2 ^ 64) sh id tt (λ n small told. lowered n told small) t h size at small in (r.0, r.1, r.2, r.3, λ is. r.4)
 
   -- which word of the page a word of the table is
   pub may_load_word : (aim : Aim) (known : List (Option ℕ)) (i : ℕ) → i < PAGE_WORDS → MayLoad loads_word slots id sh (content_at (frames_of sh) aim.life.frame i) (sits sh (Held aim known) log)

@@ -1,5 +1,5 @@
 -- A step of a reader, as its seat sees it, is the core's step of the same name.
-use Rattle.std.proofs.Common.{◌≡◌, ℕ, suc, ◌+◌, ◌-◌, ◌*◌, ◌/◌, ◌%◌, ◌<◌, ◌≤◌, ◌==◌, Bool, true, false, cond, eqb, nat_le, List, replicate, map, length, set, get_or, slice_get, slice_set, Option, Some, None, option_map, option_and_then, refl, ap, sym, ◌∙◌, arith, eq-eqb, ne_eqb}
+use Rattle.std.proofs.Common.{◌≡◌, ℕ, suc, ◌+◌, ◌-◌, ◌*◌, ◌/◌, ◌%◌, ◌<◌, ◌≤◌, ◌==◌, ◌&&◌, not, Bool, true, false, cond, eqb, nat_le, List, ◌∷◌, replicate, map, length, set, get_or, slice_get, slice_set, Option, Some, None, option_map, option_and_then, subst, refl, ap, sym, ◌∙◌, arith, eq-eqb, ne_eqb}
 use Rattle.std.proofs.lemmas.List.{length-map, set-get_or, get_or_append_left}
 use Rattle.std.proofs.lemmas.Option.{same_Some, slice_get-map, slice_get_within, get_or_from_slice_get}
 use Rattle.std.proofs.Math.Nat.{mul-le-mul_right}
@@ -8,21 +8,22 @@ use Rattle.ksm_base.specs.declared.page.TheConstants.{PAGE_WORDS}
 use Rattle.ksm_base.specs.declared.shape.Shape.{Shape}
 use Rattle.ksm_base.specs.Values.{IsShape, frames_of}
 use Rattle.frame_core.specs.declared.event.ReaderStep.{ReaderStep}
-use Rattle.frame_core.specs.declared.event.ReaderStep.TheVariants.{LoadPlace, LoadCount, Exchange, LoadGeneration, Leave, LoadWord}
+use Rattle.frame_core.specs.declared.event.ReaderStep.TheVariants.{LoadPlace, LoadFrame, Exchange, Leave, LoadWord}
 use Rattle.frame_core.specs.declared.frame.Frame.{Frame}
 use Rattle.frame_core.specs.declared.seat.Life.{Life}
 use Rattle.frame_core.specs.declared.seat.Aim.{Aim}
 use Rattle.frame_core.specs.declared.seat.Phase.{Phase}
-use Rattle.frame_core.specs.declared.seat.Phase.TheVariants.{Idle, Placed, Counted, Doubt, Held}
-use Rattle.frame_core.specs.State.{State, place_word}
-use Rattle.frame_core.specs.Words.{words_of, frame_words, count_at, content_at}
-use Rattle.frame_core.specs.ReaderSteps.{reader_step, at_seat, aimed_at, load_place_step, load_count_step, load_generation_step, load_word_step, exchange_step, leave_step, given_back}
+use Rattle.frame_core.specs.declared.seat.Phase.TheVariants.{Idle, Placed, Counted, Held}
+use Rattle.frame_core.specs.State.{State, place_word, frame_word, word_of as packed, count_in, life_in}
+use Rattle.frame_core.specs.Words.{words_of, frame_words, frame_word_at, content_at}
+use Rattle.frame_core.specs.ReaderSteps.{reader_step, at_seat, aimed_at, is_alive, is_still, load_place_step, load_frame_step, load_word_step, exchange_step, leave_step}
 use Rattle.frame_core.specs.Rule.{Rule, is_on}
-use Rattle.frame_core.proofs.Fitting.{get_inside}
+use Rattle.frame_core.proofs.Fitting.{get_inside, generation_at_most}
+use Rattle.frame_core.proofs.Packed.{count_packed, life_packed}
 use Rattle.frame_core.proofs.Lists.{count_one}
 use Rattle.frame_core.proofs.Ledgers.{reader_ledger}
 use Rattle.frame_core.proofs.Flat.{words_get, words_set}
-use Rattle.frame_core.proofs.Moves.LoadCount.{count_at_most}
+use Rattle.frame_core.proofs.Moves.LoadFrame.{count_at_most}
 use Rattle.frame_table.specs.Seat.{MayRead, word_of, written, seat_after, aim_of, aim_at}
 use Rattle.frame_table.specs.Reading.{tells, NamesFrame}
 use Rattle.frame_table.specs.Steps.{IsReaderStep}
@@ -91,25 +92,29 @@ module _ (s : State) (rule : Rule s) (q : ℕ) where
       seat_only (LoadPlace p) Idle (aimed_at p here.0) (load_place_step s.places p) (place_word here.0) at refl
       (ap (option_map (λ place. (place_word place, aimed_at p place))) here.1) (place_read p here.0 here.1) refl (aimed p here.0 here.1) (names_frame p here.0 here.1)
 
-  loads_count : (aim : Aim) (failures : ℕ) → slice_get s.seats q ≡ Some (Placed aim failures) → IsReaderStep s q LoadCount (Placed aim failures)
-  loads_count aim failures at =
-      let here = get_inside s.frames aim.life.frame (rule.seats q (Placed aim failures) at).0.inside in
-      seat_only LoadCount (Placed aim failures) _ (load_count_step s.frames) here.0.count at refl
-      (ap (option_map (λ fr. (fr.count, cond (fr.count == 0) Idle (Counted aim failures fr.count)))) here.1)
-      (words_get s rule aim.life.frame 0 here.0 here.1 (omega arith)) refl refl (count_at_most s aim.life.frame here.0 here.1 rule)
+  -- the parts of the word of a frame that is there
+  parts_there : (f : ℕ) (fr : Frame) → slice_get s.frames f ≡ Some fr → (fr.count ≡ count_in (packed fr)) × (fr.generation ≡ life_in (packed fr)) × (fr.count ≤ 1040) × (packed fr < 144115188075855872)
+  parts_there f fr at =
+      let most = count_at_most s f fr at rule in
+      let life = generation_at_most s.shape.last_generation fr.kind fr.generation (rule.frames f fr at).generation in
+      (sym (count_packed fr.generation fr.count (omega (arith, most))), sym (life_packed fr.generation fr.count (omega (arith, most))), most, omega (arith, most, life, rule.shape.generation_high))
 
-  loads_generation : (aim : Aim) → slice_get s.seats q ≡ Some (Doubt aim) → IsReaderStep s q LoadGeneration (Doubt aim)
-  loads_generation aim at =
-      let here = get_inside s.frames aim.life.frame (rule.seats q (Doubt aim) at).inside in
-      seat_only LoadGeneration (Doubt aim) _ (load_generation_step s.frames) here.0.generation at refl
-      (ap (option_map (λ fr. (fr.generation, cond (fr.generation == aim.life.generation) (Held aim (replicate PAGE_WORDS None)) (Doubt aim)))) here.1)
-      (words_get s rule aim.life.frame 1 here.0 here.1 (omega arith)) refl refl tt
+  loads_frame : (aim : Aim) (failures : ℕ) → slice_get s.seats q ≡ Some (Placed aim failures) → IsReaderStep s q LoadFrame (Placed aim failures)
+  loads_frame aim failures at =
+      let here = get_inside s.frames aim.life.frame (rule.seats q (Placed aim failures) at).0.inside in
+      let fr = here.0 in
+      let parts = parts_there aim.life.frame fr here.1 in
+      seat_only LoadFrame (Placed aim failures) _ (load_frame_step s.frames) (packed fr) at refl
+      (ap (option_map (λ fr. (packed fr, cond (is_alive aim.life.generation fr) (Counted aim failures fr.count) Idle))) here.1)
+      (words_get s rule aim.life.frame 0 fr here.1 (omega arith)) refl
+      (λ i. cond (not (parts.0 i == 0) && parts.1 i == aim.life.generation) (Counted aim failures (parts.0 i)) Idle)
+      (subst (λ (n : ℕ). n ≤ 1040) parts.0 parts.2, parts.3)
 
   content_read : (f i w : ℕ) (fr : Frame) → slice_get s.frames f ≡ Some fr → slice_get fr.content i ≡ Some w → get_or (words_of s) (content_at F f i) 0 ≡ w
   content_read f i w fr at here =
       let inside : i < PAGE_WORDS = omega (arith, slice_get_within fr.content i w here, (rule.frames f fr at).content) in
-      let next : 2 + i ≡ suc (suc i) = omega arith in
-      words_get s rule f (2 + i) fr at (omega arith) ∙ (ap (λ (j : ℕ). get_or (frame_words fr) j 0) next ∙ get_or_from_slice_get fr.content i w 0 here)
+      let next : 1 + i ≡ suc i = omega arith in
+      words_get s rule f (1 + i) fr at (omega arith) ∙ (ap (λ (j : ℕ). get_or (frame_words fr) j 0) next ∙ get_or_from_slice_get fr.content i w 0 here)
 
   loads_word : (i : ℕ) (aim : Aim) (known : List (Option ℕ)) → i < PAGE_WORDS → slice_get s.seats q ≡ Some (Held aim known) → IsReaderStep s q (LoadWord i) (Held aim known)
   loads_word i aim known below at =
@@ -123,22 +128,23 @@ module _ (s : State) (rule : Rule s) (q : ℕ) where
 
   -- ---------------------------------------------------------------- steps that change a count
 
-  counted : (f c : ℕ) (fr : Frame) → slice_get s.frames f ≡ Some fr → set (words_of s) (count_at F f) c ≡ words_of (record s { frames = slice_set s.frames f (record fr { count = c }) })
-  counted f c fr at = words_set s rule f 0 c fr (record fr { count = c }) at (omega arith) refl
+  -- the word of a frame becomes that of another with the same content
+  reworded : (f v : ℕ) (fr next : Frame) → slice_get s.frames f ≡ Some fr → v ≡ packed next → fr.content ≡ next.content → set (words_of s) (frame_word_at F f) v ≡ words_of (record s { frames = slice_set s.frames f next })
+  reworded f v fr next at is same = words_set s rule f 0 v fr next at (omega arith) (λ i. is i ∷ same i)
 
   -- the frames after an exchange that was made, or was not
   abbrev frames_if : Bool → ℕ → Frame → List Frame
   frames_if b f fr = cond b (slice_set s.frames f (record fr { count = fr.count + 1 })) s.frames
 
-  words_if : (b : Bool) (f : ℕ) (fr : Frame) → slice_get s.frames f ≡ Some fr → set (words_of s) (count_at F f) (cond b (fr.count + 1) fr.count) ≡ words_of (record s { frames = frames_if b f fr })
-  words_if true f fr at = counted f (fr.count + 1) fr at
-  words_if false f fr at = ap (λ (m : ℕ). set (words_of s) (count_at F f) m) (sym (words_get s rule f 0 fr at (omega arith))) ∙ set-get_or (words_of s) (count_at F f) 0
+  words_if : (b : Bool) (f : ℕ) (fr : Frame) → slice_get s.frames f ≡ Some fr → set (words_of s) (frame_word_at F f) (cond b (packed fr + 1) (packed fr)) ≡ words_of (record s { frames = frames_if b f fr })
+  words_if true f fr at = reworded f (packed fr + 1) fr (record fr { count = fr.count + 1 }) at (omega arith) refl
+  words_if false f fr at = ap (λ (m : ℕ). set (words_of s) (frame_word_at F f) m) (sym (words_get s rule f 0 fr at (omega arith))) ∙ set-get_or (words_of s) (frame_word_at F f) 0
 
   abbrev build : ℕ × List Frame × Phase → ℕ × State
   build r = (r.0, record s { frames = r.1; seats = slice_set s.seats q r.2 })
 
   abbrev tried : Aim → ℕ → ℕ → Frame → ℕ × List Frame × Phase
-  tried aim failures count fr = (fr.count, frames_if (fr.count == count) aim.life.frame fr, cond (fr.count == count) (Doubt aim) (cond (nat_le s.shape.tries (failures + 1)) Idle (Placed aim (failures + 1))))
+  tried aim failures count fr = (packed fr, frames_if (is_still aim.life.generation count fr) aim.life.frame fr, cond (is_still aim.life.generation count fr) (Held aim (replicate PAGE_WORDS None)) (cond (nat_le s.shape.tries (failures + 1)) Idle (Placed aim (failures + 1))))
 
   exchanges : (aim : Aim) (failures count : ℕ) → slice_get s.seats q ≡ Some (Counted aim failures count) → IsReaderStep s q Exchange (Counted aim failures count)
   exchanges aim failures count at =
@@ -147,11 +153,11 @@ module _ (s : State) (rule : Rule s) (q : ℕ) where
       let fr = here.0 in
       let made : reader_step s q Exchange ≡ Some (build (tried aim failures count fr)) = ap (option_and_then (λ p. option_map build (exchange_step s.shape.tries s.frames p))) at ∙ ap (λ (o : Option Frame). option_map build (option_map (tried aim failures count) o)) here.1 in
       record {
-        found = fr.count;
+        found = packed fr;
         next = (build (tried aim failures count fr)).1;
         steps = made;
         word = words_get s rule f 0 fr here.1 (omega arith);
-        words = words_if (fr.count == count) f fr here.1;
+        words = words_if (is_still aim.life.generation count fr) f fr here.1;
         shape = refl;
         seats = refl;
         ledger = reader_ledger s q Exchange (build (tried aim failures count fr)) made;
@@ -159,34 +165,33 @@ module _ (s : State) (rule : Rule s) (q : ℕ) where
       }
 
   abbrev released : Aim → Frame → ℕ × List Frame × Phase
-  released aim fr = (fr.count, slice_set s.frames aim.life.frame (record fr { count = fr.count - 1 }), Idle)
+  released aim fr = (packed fr, slice_set s.frames aim.life.frame (record fr { count = fr.count - 1 }), Idle)
 
-  gives_back : (aim : Aim) (phase : Phase) → slice_get s.seats q ≡ Some phase → aim.life.frame < length s.frames → leave_step s.frames phase ≡ given_back s.frames aim → word_of s.shape Leave phase ≡ count_at F aim.life.frame → is_on aim.life.frame phase ≡ true → IsReaderStep s q Leave phase
-  gives_back aim phase at inside is word on =
+  gives_back : (aim : Aim) (known : List (Option ℕ)) → slice_get s.seats q ≡ Some (Held aim known) → IsReaderStep s q Leave (Held aim known)
+  gives_back aim known at =
       let f = aim.life.frame in
-      let here = get_inside s.frames f inside in
+      let here = get_inside s.frames f (rule.seats q (Held aim known) at).0.inside in
       let fr = here.0 in
-      let made : reader_step s q Leave ≡ Some (build (released aim fr)) = ap (option_and_then (λ p. option_map build (leave_step s.frames p))) at ∙ (ap (option_map build) is ∙ ap (λ (o : Option Frame). option_map build (option_map (released aim) o)) here.1) in
+      let some : 1 ≤ fr.count = omega (arith, (rule.frames f fr here.1).counted, count_one (is_on f) s.seats q (Held aim known) at (eq-eqb f f refl)) in
+      let made : reader_step s q Leave ≡ Some (build (released aim fr)) = ap (option_and_then (λ p. option_map build (leave_step s.frames p))) at ∙ ap (λ (o : Option Frame). option_map build (option_map (released aim) o)) here.1 in
       record {
-        found = fr.count;
+        found = packed fr;
         next = (build (released aim fr)).1;
         steps = made;
-        word = ap (λ (i : ℕ). get_or (words_of s) i 0) word ∙ words_get s rule f 0 fr here.1 (omega arith);
-        words = ap (λ (i : ℕ). set (words_of s) i (fr.count - 1)) word ∙ counted f (fr.count - 1) fr here.1;
+        word = words_get s rule f 0 fr here.1 (omega arith);
+        words = reworded f (packed fr - 1) fr (record fr { count = fr.count - 1 }) here.1 (omega (arith, some)) refl;
         shape = refl;
         seats = refl;
         ledger = reader_ledger s q Leave (build (released aim fr)) made;
-        told = omega (arith, (rule.frames f fr here.1).counted, count_one (is_on f) s.seats q phase at on);
+        told = subst (λ (n : ℕ). 1 ≤ n) (parts_there f fr here.1).0 some;
       }
 
   -- ---------------------------------------------------------------- any of them
 
   pub reader_half : (e : ReaderStep) (phase : Phase) → slice_get s.seats q ≡ Some phase → MayRead s.shape e phase → IsReaderStep s q e phase
   reader_half (LoadPlace p) Idle at may = loads_place p at may
-  reader_half LoadCount (Placed aim failures) at may = loads_count aim failures at
+  reader_half LoadFrame (Placed aim failures) at may = loads_frame aim failures at
   reader_half Exchange (Counted aim failures count) at may = exchanges aim failures count at
-  reader_half LoadGeneration (Doubt aim) at may = loads_generation aim at
-  reader_half Leave (Doubt aim) at may = gives_back aim (Doubt aim) at (rule.seats q (Doubt aim) at).inside refl refl (eq-eqb aim.life.frame aim.life.frame refl)
-  reader_half Leave (Held aim known) at may = gives_back aim (Held aim known) at (rule.seats q (Held aim known) at).0.inside refl refl (eq-eqb aim.life.frame aim.life.frame refl)
+  reader_half Leave (Held aim known) at may = gives_back aim known at
   reader_half (LoadWord i) (Held aim known) at may = loads_word i aim known may at
   reader_half _ _ at may = absurd may

@@ -12,8 +12,8 @@ use Rattle.frame_core.specs.declared.ledger.Note.{Note}
 use Rattle.frame_core.specs.declared.seat.Aim.{Aim}
 use Rattle.frame_core.specs.declared.seat.Phase.{Phase}
 use Rattle.frame_core.specs.declared.seat.Phase.TheVariants.{Idle, Held}
-use Rattle.frame_core.specs.State.{State}
-use Rattle.frame_core.specs.Words.{words_of, count_at}
+use Rattle.frame_core.specs.State.{State, count_in}
+use Rattle.frame_core.specs.Words.{words_of, frame_word_at}
 use Rattle.frame_core.specs.Ledger.{ledger_of, frame_at, IsWritable}
 use Rattle.frame_core.specs.Rule.{Rule, MayBeHeld}
 use Rattle.frame_core.specs.Trace.{History, run_of, holders}
@@ -22,7 +22,9 @@ use Rattle.frame_core.proofs.Fitting.{get_inside}
 use Rattle.frame_core.proofs.Flat.{words_get}
 use Rattle.frame_core.proofs.Given.{run_given, run_shape}
 use Rattle.frame_core.proofs.Histories.{run_sound}
+use Rattle.frame_core.proofs.Moves.LoadFrame.{count_at_most}
 use Rattle.frame_core.proofs.Notes.{note_at}
+use Rattle.frame_core.proofs.Packed.{count_packed}
 use Rattle.frame_core.proofs.Safety.{run_safe}
 use Rattle.frame_table.specs.declared.view.View.TheVariants.{Reader}
 use Rattle.frame_table.specs.Rule.{Holds, all_views}
@@ -47,10 +49,13 @@ not_written s q aim known rule at =
     subst (λ (n : Note). ¬ IsWritable n.kind) (sym (note_at s aim.life.frame fr.0 fr.1)) (held_unwritten fr.0.kind (held.1.kind fr.0 fr.1))
 
 -- the count of a frame, as the words have it
-count_is : (h : History) → Rule h.state → IsSafe h → (f : ℕ) → f < frames_of h.state.shape → get_or (words_of h.state) (count_at (frames_of h.state.shape) f) 0 ≡ (frame_at (ledger_of h.state) f).base + length (holders h.state.shape.passes f h.trace)
+count_is : (h : History) → Rule h.state → IsSafe h → (f : ℕ) → f < frames_of h.state.shape
+    → count_in (get_or (words_of h.state) (frame_word_at (frames_of h.state.shape) f) 0) ≡ (frame_at (ledger_of h.state) f).base + length (holders h.state.shape.passes f h.trace)
 count_is h rule safe f below =
     let fr = get_inside h.state.frames f (omega (arith, rule.frame_count)) in
-    words_get h.state rule f 0 fr.0 fr.1 (omega arith) ∙ (safe.counted f fr.0 fr.1 ∙ ap (λ (n : Note). n.base + length (holders h.state.shape.passes f h.trace)) (sym (note_at h.state f fr.0 fr.1)))
+    let most = count_at_most h.state f fr.0 fr.1 rule in
+    ap count_in (words_get h.state rule f 0 fr.0 fr.1 (omega arith)) ∙ (count_packed fr.0.generation fr.0.count (omega (arith, most))
+        ∙ (safe.counted f fr.0 fr.1 ∙ ap (λ (n : Note). n.base + length (holders h.state.shape.passes f h.trace)) (sym (note_at h.state f fr.0 fr.1))))
 
 -- how far a seat has come in the core
 seated : (sh : Shape) (t : St) (h : Holds sh t) (q : ℕ) (phase : Phase) (log : Log) → get_elem? t.views (suc q) ≡ some (Reader sh phase log) → slice_get (run_of sh h.events).state.seats q ≡ Some phase
@@ -71,7 +76,7 @@ runs_safely sh t h =
       safe = λ n. run_safe sh h.shape (take n h.events);
       rightly = λ q aim known log at. safe.rightly q aim known (seated sh t h q (Held aim known) log at);
       unwritten = λ ledger tally kept q aim known log keeper at. subst (λ (k : Ledger). ¬ IsWritable (frame_at k aim.life.frame).kind) (sym (seen sh t h 0 _ keeper).1) (not_written past.state q aim known rule (seated sh t h q (Held aim known) log at));
-      counted = λ ledger tally log at f below. ap (λ (l : List ℕ). get_or l (count_at (frames_of sh) f) 0) h.after.words_are
-          ∙ subst (λ (x : Ledger × Shape). get_or (words_of past.state) (count_at (frames_of x.1) f) 0 ≡ (frame_at x.0 f).base + length (holders x.1.passes f past.trace)) (λ i. (sym (seen sh t h 0 _ at).1 i, run_shape sh h.shape h.events i))
+      counted = λ ledger tally log at f below. ap (λ (l : List ℕ). count_in (get_or l (frame_word_at (frames_of sh) f) 0)) h.after.words_are
+          ∙ subst (λ (x : Ledger × Shape). count_in (get_or (words_of past.state) (frame_word_at (frames_of x.1) f) 0) ≡ (frame_at x.0 f).base + length (holders x.1.passes f past.trace)) (λ i. (sym (seen sh t h 0 _ at).1 i, run_shape sh h.shape h.events i))
           (count_is past rule safe f (subst (λ (x : Shape). f < frames_of x) (sym (run_shape sh h.shape h.events)) below));
     }

@@ -1,5 +1,5 @@
 -- The table's rule where a pass is made, where one is given back, and what it says at the end.
-use Rattle.std.proofs.Common.{◌≡◌, ℕ, zero, suc, ◌+◌, ◌-◌, ◌<◌, ◌≤◌, ◌≢◌, Bool, true, false, cond, eqb, List, [], ◌∷◌, ◌++◌, map, set, replicate, count_by, None, sym, refl, ap, ◌∙◌, subst, ⊎_elim, arith, append_assoc, append-nil}
+use Rattle.std.proofs.Common.{◌≡◌, ℕ, zero, suc, ◌+◌, ◌-◌, ◌<◌, ◌≤◌, ◌≢◌, Bool, true, false, cond, eqb, List, [], ◌∷◌, ◌++◌, map, set, replicate, slice_get, count_by, Some, None, sym, refl, ap, ◌∙◌, subst, ⊎_elim, arith, append_assoc, append-nil}
 use Rattle.std.proofs.lemmas.List.{map-set}
 use Rattle.std.proofs.lemmas.List.Sums.{sum_by-append, sum_by-cons}
 use Rattle.std.proofs.lemmas.Option.{get_or_from_slice_get}
@@ -9,12 +9,13 @@ use Rattle.atomic_table.specs.Table.{Splits, Joins, Seen, Final}
 use Rattle.atomic_table.proofs.Lists.{at_set, at_map, at_longer, set_again}
 use Rattle.ksm_base.specs.declared.shape.Shape.{Shape}
 use Rattle.ksm_base.specs.Values.{frames_of}
+use Rattle.frame_core.specs.declared.frame.Frame.{Frame}
 use Rattle.frame_core.specs.declared.ledger.Ledger.{Ledger}
 use Rattle.frame_core.specs.declared.ledger.Note.{Note}
 use Rattle.frame_core.specs.declared.seat.Phase.{Phase}
 use Rattle.frame_core.specs.declared.seat.Phase.TheVariants.{Idle, Spent as spent_phase}
 use Rattle.frame_core.specs.State as core
-use Rattle.frame_core.specs.State.{place_word}
+use Rattle.frame_core.specs.State.{place_word, count_in, life_in}
 use Rattle.frame_core.specs.Words.{words_of}
 use Rattle.frame_core.specs.Ledger.{ledger_of}
 use Rattle.frame_core.specs.Trace.{History, run_of}
@@ -25,7 +26,9 @@ use Rattle.frame_core.proofs.Flat.{words_get}
 use Rattle.frame_core.proofs.Given.{run_shape}
 use Rattle.frame_core.proofs.Histories.{run_sound}
 use Rattle.frame_core.proofs.Lists.{count_set}
+use Rattle.frame_core.proofs.Moves.LoadFrame.{count_at_most}
 use Rattle.frame_core.proofs.Notes.{note_at}
+use Rattle.frame_core.proofs.Packed.{count_packed, life_packed}
 use Rattle.frame_table.specs.declared.view.Tally.{Tally}
 use Rattle.frame_table.specs.declared.view.View.{View}
 use Rattle.frame_table.specs.declared.view.View.TheVariants.{Keeper, Reader, Spent}
@@ -131,11 +134,13 @@ module _ (sh : Shape) (k : Ledger) (tally : Tally) (log : KeeperLog) where
   ends_here : (s : core.State) → core_rule.Rule s → ((f : ℕ) → readers_on f s.seats ≡ 0) → Ends (ledger_of s) record { shape = s.shape; words = words_of s }
   ends_here s rule free =
       let there = λ (f : ℕ) (inside : f < frames_of s.shape). get_inside s.frames f (omega (arith, rule.frame_count)) in
+      let low = λ (f : ℕ) (fr : Frame) (at : slice_get s.frames f ≡ Some fr). let most = count_at_most s f fr at rule in let below : fr.count < 65536 = omega (arith, most) in below in
       let place = λ (p : ℕ) (inside : p < frames_of s.shape). get_inside s.places p (omega (arith, rule.place_count)) in
       record {
         counts = λ f inside. let fr = there f inside in let c = (rule.frames f fr.0 fr.1).counted in let same : fr.0.count ≡ fr.0.base = omega (arith, c, free f) in
-            words_get s rule f 0 fr.0 fr.1 (omega arith) ∙ (same ∙ ap (λ (n : Note). n.base) (sym (note_at s f fr.0 fr.1)));
-        generations = λ f inside. let fr = there f inside in words_get s rule f 1 fr.0 fr.1 (omega arith) ∙ ap (λ (n : Note). n.generation) (sym (note_at s f fr.0 fr.1));
+            ap count_in (words_get s rule f 0 fr.0 fr.1 (omega arith)) ∙ (count_packed fr.0.generation fr.0.count (low f fr.0 fr.1) ∙ (same ∙ ap (λ (n : Note). n.base) (sym (note_at s f fr.0 fr.1))));
+        generations = λ f inside. let fr = there f inside in
+            ap life_in (words_get s rule f 0 fr.0 fr.1 (omega arith)) ∙ (life_packed fr.0.generation fr.0.count (low f fr.0 fr.1) ∙ ap (λ (n : Note). n.generation) (sym (note_at s f fr.0 fr.1)));
         places = λ p inside. let o = place p inside in place_read s rule 0 p o.0 o.1 ∙ ap place_word (sym (get_or_from_slice_get s.places p o.0 None o.1));
       }
 

@@ -1,12 +1,13 @@
 -- What each step of the keeper tells its seat (own).
-use Rattle.std.specs.Prelude.{◌≡◌, ℕ, ◌+◌, ◌-◌, ◌*◌, ◌%◌, ◌<◌, ◌≤◌, ◌==◌, cond, [], ◌∷◌, ◌++◌, slice_index}
+use Rattle.std.specs.Prelude.{◌≡◌, ℕ, Some, ◌+◌, ◌-◌, ◌*◌, ◌%◌, ◌<◌, ◌≤◌, ◌==◌, cond, [], ◌∷◌, ◌++◌, slice_index}
 use Rattle.atomic_table.specs.Table.{Step}
 use Rattle.ksm_base.specs.declared.page.TheConstants.{PAGE_WORDS}
 use Rattle.ksm_base.specs.Values.{frames_of}
 use Rattle.frame_core.specs.declared.event.KeeperStep.{KeeperStep}
 use Rattle.frame_core.specs.declared.event.KeeperStep.TheVariants.{Reap, Put, Raise, Open, Add, Sub, Publish, Withdraw, Freeze, Word}
 use Rattle.frame_core.specs.declared.ledger.Ledger.{Ledger}
-use Rattle.frame_core.specs.Words.{count_at, generation_at, content_at}
+use Rattle.frame_core.specs.State.{place_word, frame_word, count_in, life_in}
+use Rattle.frame_core.specs.Words.{frame_word_at, content_at}
 use Rattle.frame_core.specs.Ledger.{ledger_after, frame_at}
 use Rattle.frame_table.specs.declared.view.View.{View}
 use Rattle.frame_table.specs.declared.view.View.TheVariants.{Keeper}
@@ -14,33 +15,32 @@ use Rattle.frame_table.specs.Views.{Sat, shape_in}
 
 -- the word that a step of the keeper works on, in a table of so many places
 abbrev pub keeper_word : ℕ → KeeperStep → ℕ
-keeper_word places (Reap f) = count_at places f
+keeper_word places (Reap f) = frame_word_at places f
 keeper_word places (Put f i w) = content_at places f i
-keeper_word places (Raise f) = generation_at places f
-keeper_word places (Open f) = count_at places f
-keeper_word places (Add f) = count_at places f
-keeper_word places (Sub f) = count_at places f
+keeper_word places (Raise f) = frame_word_at places f
+keeper_word places (Open f) = frame_word_at places f
+keeper_word places (Add f) = frame_word_at places f
+keeper_word places (Sub f) = frame_word_at places f
 keeper_word places (Publish p f) = p
 keeper_word places (Withdraw p) = p
-keeper_word places (Freeze f) = count_at places f
+keeper_word places (Freeze f) = frame_word_at places f
 keeper_word places (Word f i) = content_at places f i
 
 -- what a step of the keeper leaves there, where it found n
 abbrev pub keeper_written : Ledger → KeeperStep → ℕ → ℕ
 keeper_written k (Put f i w) n = w
-keeper_written k (Raise f) n = n + 1
-keeper_written k (Open f) n = 1
+keeper_written k (Raise f) n = n + 65536
+keeper_written k (Open f) n = n + 1
 keeper_written k (Add f) n = n + 1
 keeper_written k (Sub f) n = n - 1
-keeper_written k (Publish p f) n = (frame_at k f).generation * 1024 + f
+keeper_written k (Publish p f) n = place_word (Some record { frame = f; generation = (frame_at k f).generation })
 keeper_written k (Withdraw p) n = 0
-keeper_written k (Freeze f) n = cond (n == (frame_at k f).base) 0 n
+keeper_written k (Freeze f) n = cond (n == frame_word (frame_at k f).generation (frame_at k f).base) (frame_word (frame_at k f).generation 0) n
 keeper_written k _ n = n
 
 -- what the keeper is told that it found: of a plain store, 0
 abbrev pub found_by : KeeperStep → ℕ → ℕ
 found_by (Put f i w) n = 0
-found_by (Open f) n = 0
 found_by (Publish p f) n = 0
 found_by (Withdraw p) n = 0
 found_by _ n = n
@@ -52,10 +52,12 @@ keeper_after e v n = v
 
 -- what the rule says of the word that a step found: it is that of the ledger, where the keeper alone writes it
 abbrev pub knows : Ledger → KeeperStep → ℕ → Type 0
-knows ledger (Raise f) n = (n ≡ (frame_at ledger f).generation) × (n < 1099511627776)
+knows ledger (Raise f) n = (n ≡ frame_word (frame_at ledger f).generation 0) × ((frame_at ledger f).generation < 1099511627776)
+knows ledger (Open f) n = (n ≡ frame_word (frame_at ledger f).generation 0) × ((frame_at ledger f).generation ≤ 1099511627776)
 knows ledger (Publish p f) n = (frame_at ledger f).generation ≤ 1099511627776
-knows ledger (Add f) n = n ≤ 1040
-knows ledger (Sub f) n = 1 ≤ n
+knows ledger (Add f) n = n < 144115188075855872
+knows ledger (Sub f) n = 1 ≤ count_in n
+knows ledger (Freeze f) n = (life_in n ≡ (frame_at ledger f).generation) × ((frame_at ledger f).base ≤ 1024)
 knows ledger (Word f i) n = n ≡ slice_index (frame_at ledger f).content i
 knows ledger _ n = Unit {0}
 
@@ -81,7 +83,7 @@ abbrev pub raises : Step (Unit {0}) → Sat → ℕ → Sat → Type 0
 raises st m n m' = (f : ℕ) → KeepsAt (Raise f) st m n m'
 
 abbrev pub opens : Step (Unit {0}) → Sat → ℕ → Sat → Type 0
-opens st m n m' = (f : ℕ) → KeepsAt (Open f) st m 0 m'
+opens st m n m' = (f : ℕ) → KeepsAt (Open f) st m n m'
 
 abbrev pub adds : Step (Unit {0}) → Sat → ℕ → Sat → Type 0
 adds st m n m' = (f : ℕ) → KeepsAt (Add f) st m n m'

@@ -6,8 +6,8 @@ pub mod Rule
 pub mod Reading
 pub mod Keeping
 pub mod Steps
-pub mod Rounds
 pub mod Lookup
+pub mod Rounds
 pub mod Equal
 pub mod Seats
 pub mod Running

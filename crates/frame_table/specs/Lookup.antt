@@ -1,8 +1,9 @@
 -- What a lookup adds to its pass's log, and which answer shows which log.
-use Rattle.std.specs.Prelude.{◌≡◌, ℕ, ◌/◌, ◌%◌, ◌<◌, List, [], ◌∷◌, ◌++◌, length, slice_index_or, slice_set, Some, None}
+use Rattle.std.specs.Prelude.{◌≡◌, ℕ, ◌<◌, List, [], ◌∷◌, ◌++◌, length, slice_index_or, slice_set, Some, None}
 use Rattle.ksm_base.specs.declared.shape.Shape.{Shape}
 use Rattle.frame_core.specs.declared.event.ReaderStep.{ReaderStep}
-use Rattle.frame_core.specs.declared.event.ReaderStep.TheVariants.{LoadPlace, LoadCount, Exchange, LoadGeneration, Leave, LoadWord}
+use Rattle.frame_core.specs.declared.event.ReaderStep.TheVariants.{LoadPlace, LoadFrame, Exchange, Leave, LoadWord}
+use Rattle.frame_core.specs.State.{life_at, count_in, life_in}
 use Rattle.frame_table.specs.Seat.{nothing_known}
 use Rattle.frame_table.specs.declared.pass.Found.{Found}
 use Rattle.frame_table.specs.declared.pass.Found.TheVariants.{Held, Gone, Busy}
@@ -12,35 +13,43 @@ use Rattle.frame_table.specs.Named.{PassView, HeldView}
 abbrev pub Log : Type 0
 Log = List (ReaderStep × ℕ)
 
--- rounds that failed: the count loaded, and another that the exchange found
+-- rounds that failed: the frame word loaded, and another that the exchange found
 abbrev pub rounds : List (ℕ × ℕ) → Log
 rounds [] = []
-rounds (x ∷ xs) = (LoadCount, x.0) ∷ (Exchange, x.1) ∷ rounds xs
+rounds (x ∷ xs) = (LoadFrame, x.0) ∷ (Exchange, x.1) ∷ rounds xs
 
-abbrev pub AllLost : List (ℕ × ℕ) → Type 0
-AllLost [] = Unit {0}
-AllLost (x ∷ xs) = ¬ (x.0 ≡ 0) × ¬ (x.1 ≡ x.0) × AllLost xs
+-- a frame word of this life, of a frame with a reference
+abbrev pub IsAlive : ℕ → ℕ → Type 0
+IsAlive generation w = ¬ (count_in w ≡ 0) × (life_in w ≡ generation)
+
+abbrev pub AllLost : ℕ → List (ℕ × ℕ) → Type 0
+AllLost generation [] = Unit {0}
+AllLost generation (x ∷ xs) = IsAlive generation x.0 × ¬ (x.1 ≡ x.0) × AllLost generation xs
 
 -- the place's word was read, and then the rounds xs were lost
 abbrev pub opening : ℕ → ℕ → List (ℕ × ℕ) → Log
 opening place word xs = (LoadPlace place, word) ∷ rounds xs
 
+-- so far as that a lookup may have come, by fewer tries than all
+abbrev pub GoesOn : Shape → ℕ → List (ℕ × ℕ) → Type 0
+GoesOn sh word xs = ¬ (word ≡ 0) × AllLost (life_at word).generation xs × (length xs < sh.tries)
+
 abbrev pub IsVacant : ℕ → Log → Type 0
 IsVacant place log = log ≡ (LoadPlace place, 0) ∷ []
 
 abbrev pub IsZero : Shape → ℕ → Log → Type 0
-IsZero sh place log = (word : ℕ) × (xs : List (ℕ × ℕ)) × ¬ (word ≡ 0) × AllLost xs × (length xs < sh.tries) × (log ≡ opening place word xs ++ (LoadCount, 0) ∷ [])
+IsZero sh place log = (word : ℕ) × (xs : List (ℕ × ℕ)) × (last : ℕ) × GoesOn sh word xs × (count_in last ≡ 0) × (log ≡ opening place word xs ++ (LoadFrame, last) ∷ [])
 
 abbrev pub IsOld : Shape → ℕ → Log → Type 0
-IsOld sh place log = (word : ℕ) × (xs : List (ℕ × ℕ)) × (count life back : ℕ) × ¬ (word ≡ 0) × AllLost xs × (length xs < sh.tries) × ¬ (count ≡ 0) × ¬ (life ≡ word / 1024)
-    × (log ≡ opening place word xs ++ (LoadCount, count) ∷ (Exchange, count) ∷ (LoadGeneration, life) ∷ (Leave, back) ∷ [])
+IsOld sh place log = (word : ℕ) × (xs : List (ℕ × ℕ)) × (last : ℕ) × GoesOn sh word xs × ¬ (count_in last ≡ 0) × ¬ (life_in last ≡ (life_at word).generation)
+    × (log ≡ opening place word xs ++ (LoadFrame, last) ∷ [])
 
 abbrev pub IsBusy : Shape → ℕ → Log → Type 0
-IsBusy sh place log = (word : ℕ) × (xs : List (ℕ × ℕ)) × ¬ (word ≡ 0) × AllLost xs × (length xs ≡ sh.tries) × (log ≡ opening place word xs)
+IsBusy sh place log = (word : ℕ) × (xs : List (ℕ × ℕ)) × ¬ (word ≡ 0) × AllLost (life_at word).generation xs × (length xs ≡ sh.tries) × (log ≡ opening place word xs)
 
 abbrev pub IsFound : Shape → ℕ → ℕ → ℕ → Log → Type 0
-IsFound sh place frame generation log = (word : ℕ) × (xs : List (ℕ × ℕ)) × (count : ℕ) × ¬ (word ≡ 0) × AllLost xs × (length xs < sh.tries) × ¬ (count ≡ 0) × (frame ≡ word % 1024) × (generation ≡ word / 1024)
-    × (log ≡ opening place word xs ++ (LoadCount, count) ∷ (Exchange, count) ∷ (LoadGeneration, generation) ∷ [])
+IsFound sh place frame generation log = (word : ℕ) × (xs : List (ℕ × ℕ)) × (last : ℕ) × GoesOn sh word xs × IsAlive generation last × (frame ≡ (life_at word).frame) × (generation ≡ (life_at word).generation)
+    × (log ≡ opening place word xs ++ (LoadFrame, last) ∷ (Exchange, last) ∷ [])
 
 -- the log is longer by a part that meets P
 abbrev pub Adds : Log → Log → (Log → Type 0) → Type 0

@@ -5,10 +5,11 @@ use Rattle.ksm_base.specs.declared.page.TheConstants.{PAGE_WORDS}
 use Rattle.ksm_base.specs.declared.shape.Shape.{Shape}
 use Rattle.ksm_base.specs.Values.{frames_of}
 use Rattle.frame_core.specs.declared.event.ReaderStep.{ReaderStep}
-use Rattle.frame_core.specs.declared.event.ReaderStep.TheVariants.{LoadPlace, LoadCount, Exchange, LoadGeneration, Leave, LoadWord}
+use Rattle.frame_core.specs.declared.event.ReaderStep.TheVariants.{LoadPlace, LoadFrame, Exchange, Leave, LoadWord}
 use Rattle.frame_core.specs.declared.seat.Aim.{Aim}
 use Rattle.frame_core.specs.declared.seat.Phase.{Phase}
-use Rattle.frame_core.specs.declared.seat.Phase.TheVariants.{Doubt, Held}
+use Rattle.frame_core.specs.declared.seat.Phase.TheVariants.{Held}
+use Rattle.frame_core.specs.State.{life_at, count_in}
 use Rattle.frame_table.specs.declared.view.View.{View}
 use Rattle.frame_table.specs.declared.view.View.TheVariants.{Reader}
 use Rattle.frame_table.specs.Seat.{seat_after, word_of}
@@ -25,11 +26,11 @@ Steps e m n m' = m' ≡ (reader_after e m.0 n, m.1)
 
 -- the seat has a reference on the frame
 abbrev pub IsHolder : Shape → ℕ → Sat → Type 0
-IsHolder sh f m = ((aim : Aim) × (aim.life.frame ≡ f) × IsIn sh (Doubt aim) m) ⊎ ((aim : Aim) × (known : List (Option ℕ)) × (aim.life.frame ≡ f) × IsIn sh (Held aim known) m)
+IsHolder sh f m = (aim : Aim) × (known : List (Option ℕ)) × (aim.life.frame ≡ f) × IsIn sh (Held aim known) m
 
 -- the word of a place is that of none, or names a frame and a life of it
 abbrev pub NamesFrame : Shape → ℕ → Type 0
-NamesFrame sh n = ¬ (n ≡ 0) → (n % 1024 < frames_of sh) × (1 ≤ n / 1024)
+NamesFrame sh n = ¬ (n ≡ 0) → ((life_at n).frame < frames_of sh) × (1 ≤ (life_at n).generation)
 
 -- a word that was read before in this hold has the value that was read
 abbrev pub agrees_with : ℕ → ℕ → Phase → Type 0
@@ -39,8 +40,8 @@ agrees_with i n _ = Unit {0}
 -- what the rule says of the word that a step found
 abbrev pub tells : Shape → ReaderStep → Phase → ℕ → Type 0
 tells sh (LoadPlace p) phase n = NamesFrame sh n
-tells sh LoadCount phase n = n ≤ 1040
-tells sh Leave phase n = 1 ≤ n
+tells sh LoadFrame phase n = (count_in n ≤ 1040) × (n < 144115188075855872)
+tells sh Leave phase n = 1 ≤ count_in n
 tells sh (LoadWord i) phase n = agrees_with i n phase
 tells sh _ phase n = Unit {0}
 
@@ -64,14 +65,11 @@ MakesAt e st m n m' = st.word ≡ word_at e m.0 → Makes e m n m'
 abbrev pub loads_place : Step (Unit {0}) → Sat → ℕ → Sat → Type 0
 loads_place st m n m' = (p : ℕ) → MakesAt (LoadPlace p) st m n m'
 
-abbrev pub loads_count : Step (Unit {0}) → Sat → ℕ → Sat → Type 0
-loads_count st m n m' = MakesAt LoadCount st m n m'
+abbrev pub loads_frame : Step (Unit {0}) → Sat → ℕ → Sat → Type 0
+loads_frame st m n m' = MakesAt LoadFrame st m n m'
 
 abbrev pub exchanges : Step (Unit {0}) → Sat → ℕ → Sat → Type 0
 exchanges st m n m' = MakesAt Exchange st m n m'
-
-abbrev pub loads_generation : Step (Unit {0}) → Sat → ℕ → Sat → Type 0
-loads_generation st m n m' = MakesAt LoadGeneration st m n m'
 
 abbrev pub leaves : Step (Unit {0}) → Sat → ℕ → Sat → Type 0
 leaves st m n m' = MakesAt Leave st m n m'

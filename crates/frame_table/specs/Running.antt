@@ -10,7 +10,8 @@ use Rattle.frame_core.specs.declared.ledger.Ledger.{Ledger}
 use Rattle.frame_core.specs.declared.seat.Aim.{Aim}
 use Rattle.frame_core.specs.declared.seat.Phase.{Phase}
 use Rattle.frame_core.specs.declared.seat.Phase.TheVariants.{Held}
-use Rattle.frame_core.specs.Words.{count_at}
+use Rattle.frame_core.specs.State.{count_in}
+use Rattle.frame_core.specs.Words.{frame_word_at}
 use Rattle.frame_core.specs.Ledger.{frame_at, IsWritable}
 use Rattle.frame_core.specs.Trace.{run_of, log_of, keeper_log_of, holders, HoldsRightly}
 use Rattle.frame_core.specs.Safe.{IsSafe, GivenUnheld}
@@ -36,7 +37,7 @@ pub record RunsSafely (sh : Shape) (t : table.State (Unit {0}) View) : Type 0 wh
       → get_elem? t.views (suc q) ≡ some (Reader sh (Held aim known) log) → ¬ IsWritable (frame_at ledger aim.life.frame).kind
   -- the count of a frame is the keeper's references and the holders together
   pub counted : (ledger : Ledger) (tally : Tally) (log : KeeperLog) → get_elem? t.views 0 ≡ some (Keeper sh ledger tally log)
-      → (f : ℕ) → f < frames_of sh → slice_index t.words (count_at (frames_of sh) f) ≡ (frame_at ledger f).base + length (holders sh.passes f (run_of sh events).trace)
+      → (f : ℕ) → f < frames_of sh → count_in (slice_index t.words (frame_word_at (frames_of sh) f)) ≡ (frame_at ledger f).base + length (holders sh.passes f (run_of sh events).trace)
 
 abbrev pub TheTableRunsSafely : Type 0
 TheTableRunsSafely = (sh : Shape) (t : table.State (Unit {0}) View) → Holds sh t → RunsSafely sh t

@@ -4,8 +4,8 @@ use Rattle.ksm_base.specs.declared.shape.Shape.{Shape}
 use Rattle.ksm_base.specs.Values.{frames_of}
 use Rattle.frame_core.specs.declared.ledger.Ledger.{Ledger}
 use Rattle.frame_core.specs.declared.seat.Phase.TheVariants.{Idle}
-use Rattle.frame_core.specs.State.{place_word}
-use Rattle.frame_core.specs.Words.{count_at, generation_at}
+use Rattle.frame_core.specs.State.{place_word, count_in, life_in}
+use Rattle.frame_core.specs.Words.{frame_word_at}
 use Rattle.frame_core.specs.Ledger.{first_ledger, frame_at, named_at}
 use Rattle.frame_table.specs.declared.view.View.{View}
 use Rattle.frame_table.specs.declared.view.View.TheVariants.{Keeper, Reader}
@@ -40,6 +40,6 @@ one_less v w = v
 
 -- the words are those of the ledger, and each count is the keeper's own references
 pub record Ends (k : Ledger) (c : ClosedView) : Type 0 where
-  pub counts : (f : ℕ) → f < frames_of c.shape → slice_index c.words (count_at (frames_of c.shape) f) ≡ (frame_at k f).base
-  pub generations : (f : ℕ) → f < frames_of c.shape → slice_index c.words (generation_at (frames_of c.shape) f) ≡ (frame_at k f).generation
+  pub counts : (f : ℕ) → f < frames_of c.shape → count_in (slice_index c.words (frame_word_at (frames_of c.shape) f)) ≡ (frame_at k f).base
+  pub generations : (f : ℕ) → f < frames_of c.shape → life_in (slice_index c.words (frame_word_at (frames_of c.shape) f)) ≡ (frame_at k f).generation
   pub places : (p : ℕ) → p < frames_of c.shape → slice_index c.words p ≡ place_word (named_at k p)

@@ -1,9 +1,9 @@
 -- Worked lookups, by which the definitions of a lookup are tried: what its steps found, one after another. Own.
-use Rattle.std.specs.Prelude.{ℕ, List, [], ◌∷◌, replicate, Option, Some, None}
+use Rattle.std.specs.Prelude.{ℕ}
 use Rattle.ksm_base.specs.declared.shape.Shape.{Shape}
 use Rattle.frame_core.specs.declared.event.ReaderStep.{ReaderStep}
-use Rattle.frame_core.specs.declared.event.ReaderStep.TheVariants.{LoadPlace, LoadCount, Exchange, LoadGeneration, Leave}
-use Rattle.frame_table.specs.Named.{HeldView}
+use Rattle.frame_core.specs.declared.event.ReaderStep.TheVariants.{LoadPlace, LoadFrame, Exchange}
+use Rattle.frame_core.specs.State.{frame_word}
 
 -- two frames, and two tries
 abbrev pub two_tries : Shape
@@ -13,15 +13,9 @@ two_tries = record { nodes = 1; frames_per_node = 2; passes = 1; last_generation
 abbrev pub named : ReaderStep × ℕ
 named = (LoadPlace 1, 3072)
 
--- a load of the count found so many references, an exchange did, a load of the generation found this life, and a leaving found so many references
-abbrev pub counts : ℕ → ReaderStep × ℕ
-counts n = (LoadCount, n)
+-- a load found the frame in this life, with so many references, and an exchange did
+abbrev pub loads : ℕ → ℕ → ReaderStep × ℕ
+loads life count = (LoadFrame, frame_word life count)
 
-abbrev pub finds : ℕ → ReaderStep × ℕ
-finds n = (Exchange, n)
-
-abbrev pub lives : ℕ → ReaderStep × ℕ
-lives n = (LoadGeneration, n)
-
-abbrev pub leaves : ℕ → ReaderStep × ℕ
-leaves n = (Leave, n)
+abbrev pub finds : ℕ → ℕ → ReaderStep × ℕ
+finds life count = (Exchange, frame_word life count)

@@ -1,7 +1,8 @@
 //! How a table is closed, and what is read of it then.
 ghost use Rattle.std.specs.Prelude.{◌≡◌, ◌-◌, ◌<◌, vec_len, All, slice_index};
 ghost use Rattle.ksm_base.specs.Values.{frames_of};
-ghost use Rattle.frame_core.specs.Words.{count_at, generation_at};
+ghost use Rattle.frame_core.specs.State.{count_in, life_in};
+ghost use Rattle.frame_core.specs.Words.{frame_word_at};
 ghost use Rattle.frame_table.specs.Views.{IsKeeper, keeps_ledger, ledger_in, keeper_log, tally_in, tally_of};
 ghost use Rattle.frame_table.specs.Seats.{Ends};
 
@@ -10,7 +11,8 @@ use crate::pass::Pass;
 use crate::table::FrameTable;
 use crate::view::View;
 use atomic_table::{Closed, Join, Seat};
-use ksm_base::{PAGE_WORDS, Shape};
+use frame_core::{FRAME_WORDS, FrameWord};
+use ksm_base::Shape;
 use std::alloc::Global;
 use std::marker::Model;
 
@@ -34,7 +36,7 @@ pub struct ClosedTable {
 impl Model for ClosedTable {
     ghost use Rattle.std.specs.Prelude.{◌≡◌, ◌+◌, ◌*◌};
     ghost use Rattle.std.specs.Mem.Slots.{slots_items, slots_len, IsFull};
-    ghost use Rattle.ksm_base.specs.declared.page.TheConstants.{PAGE_WORDS as words_of_page};
+    ghost use Rattle.frame_core.specs.declared.frame.TheConstants.{FRAME_WORDS as words_of_frame};
     ghost use Rattle.ksm_base.specs.Values.{IsShape, frames_of};
     ghost use Rattle.frame_table.specs.Named.{ClosedView};
 
@@ -42,7 +44,7 @@ impl Model for ClosedTable {
 
     ghost view = { λ c. record { shape = c.shape; words = slots_items c.closed.words } };
 
-    ghost invariant = { λ c. (slots_len c.closed.words ≡ frames_of c.shape * (3 + words_of_page)) × IsFull c.closed.words × (slots_len c.closed.slots ≡ 0) × IsShape c.shape };
+    ghost invariant = { λ c. (slots_len c.closed.words ≡ frames_of c.shape * (1 + words_of_frame)) × IsFull c.closed.words × (slots_len c.closed.slots ≡ 0) × IsShape c.shape };
 }
 
 impl Drop for ClosedTable {
@@ -53,20 +55,27 @@ impl Drop for ClosedTable {
 }
 
 impl ClosedTable {
+    fn frame_word(&self, frame: u32) -> u64
+        requires { frame < frames_of self.now.shape }
+        ensures { result ≡ slice_index self.now.words (frame_word_at (frames_of self.now.shape) frame) }
+    {
+        self.closed.word(self.shape.frames() as usize + frame as usize * FRAME_WORDS)
+    }
+
     /// References on a frame.
     pub fn count(&self, frame: u32) -> u64
         requires { frame < frames_of self.now.shape }
-        ensures { result ≡ slice_index self.now.words (count_at (frames_of self.now.shape) frame) }
+        ensures { result ≡ count_in (slice_index self.now.words (frame_word_at (frames_of self.now.shape) frame)) }
     {
-        self.closed.word(self.shape.frames() as usize + frame as usize * (2 + PAGE_WORDS))
+        FrameWord::unpack(self.frame_word(frame)).count
     }
 
     /// How many times a frame was given.
     pub fn generation(&self, frame: u32) -> u64
         requires { frame < frames_of self.now.shape }
-        ensures { result ≡ slice_index self.now.words (generation_at (frames_of self.now.shape) frame) }
+        ensures { result ≡ life_in (slice_index self.now.words (frame_word_at (frames_of self.now.shape) frame)) }
     {
-        self.closed.word(self.shape.frames() as usize + frame as usize * (2 + PAGE_WORDS) + 1)
+        FrameWord::unpack(self.frame_word(frame)).generation
     }
 
     /// The word of a place: 0 where it is empty, else `generation * 1024 + frame`.

@@ -2,13 +2,14 @@
 ghost use Rattle.std.specs.Prelude.{◌≡◌, ◌<◌, ℕ, ◌↔◌, IsTrue, slice_index};
 ghost use Rattle.frame_core.specs.declared.event.KeeperStep.TheVariants.{Reap, Put, Raise, Open, Add, Sub, Publish, Withdraw, Freeze, Word};
 ghost use Rattle.frame_core.specs.Ledger.{frame_at};
+ghost use Rattle.frame_core.specs.State.{frame_word, count_in};
 ghost use Rattle.ksm_base.specs.Values.{frames_of};
 ghost use Rattle.frame_table.specs.Kept.{May, did, Did};
 
 use crate::table::FrameTable;
 use crate::view::View;
 use atomic_table::Seat;
-use frame_core::{Kind, Note};
+use frame_core::{FrameWord, Kind, Life, Note};
 use std::marker::Model;
 
 /// The keeper's seat, with what it knows of each frame. Contracts see which table it is of, the ledger and the log.
@@ -76,14 +77,14 @@ impl Keeper {
         self.frames[frame as usize] = note;
     }
 
-    /// Loads the count of a dying frame, and answers whether it was 0. If so, the frame is Free, or Retired after its last life; else it
+    /// Loads the frame word of a dying frame, and answers whether its count was 0. If so, the frame is Free, or Retired after its last life; else it
     /// stays Dying, since a reader still has a reference.
     pub fn reap(&mut self, table: &FrameTable, frame: u32) -> bool
         requires own { self.old.table ≡ table.now }
         requires may { May self.old (Reap frame) }
-        ensures { (found : ℕ) × (self.new ≡ did self.old (Reap frame) found) × (IsTrue result ↔ found ≡ 0) }
+        ensures { (found : ℕ) × (self.new ≡ did self.old (Reap frame) found) × (IsTrue result ↔ count_in found ≡ 0) }
     {
-        if table.reap_at(&mut self.seat, frame) != 0 {
+        if FrameWord::unpack(table.reap_at(&mut self.seat, frame)).count != 0 {
             return false;
         }
         let mut note = self.frames[frame as usize];
@@ -103,10 +104,10 @@ impl Keeper {
         requires may { May self.old (Raise frame) }
         ensures { Did self.old (Raise frame) self.new }
     {
-        let next = table.raise_at(&mut self.seat, frame) + 1;
+        let before = FrameWord::unpack(table.raise_at(&mut self.seat, frame));
         let mut note = self.frames[frame as usize];
         note.kind = Kind::Filling;
-        note.generation = next;
+        note.generation = before.generation + 1;
         self.frames[frame as usize] = note;
     }
 
@@ -126,7 +127,7 @@ impl Keeper {
     pub fn open(&mut self, table: &FrameTable, frame: u32)
         requires own { self.old.table ≡ table.now }
         requires may { May self.old (Open frame) }
-        ensures { self.new ≡ did self.old (Open frame) 0 }
+        ensures { self.new ≡ did self.old (Open frame) (frame_word (frame_at self.old.ledger frame).generation 0) }
     {
         table.open_at(&mut self.seat, frame);
         let mut note = self.frames[frame as usize];
@@ -143,11 +144,11 @@ impl Keeper {
         ensures { self.new ≡ did self.old (Publish place frame) 0 }
     {
         let mut note = self.frames[frame as usize];
-        let name = note
-            .generation
-            .wrapping_mul(1024)
-            .wrapping_add(frame as u64);
-        table.publish_at(&mut self.seat, place, frame, name);
+        let name = Life {
+            frame,
+            generation: note.generation,
+        };
+        table.publish_at(&mut self.seat, place, frame, name.word());
         note.kind = Kind::Stable;
         self.frames[frame as usize] = note;
     }
@@ -166,10 +167,20 @@ impl Keeper {
     pub fn freeze(&mut self, table: &FrameTable, frame: u32) -> bool
         requires own { self.old.table ≡ table.now }
         requires may { May self.old (Freeze frame) }
-        ensures { (found : ℕ) × (self.new ≡ did self.old (Freeze frame) found) × (IsTrue result ↔ found ≡ (frame_at self.old.ledger frame).base) }
+        ensures { (found : ℕ) × (self.new ≡ did self.old (Freeze frame) found) × (IsTrue result ↔ count_in found ≡ (frame_at self.old.ledger frame).base) }
     {
         let mut note = self.frames[frame as usize];
-        if table.freeze_at(&mut self.seat, frame, note.base) != note.base {
+        let alone = FrameWord {
+            generation: note.generation,
+            count: note.base,
+        }
+        .pack();
+        let none = FrameWord {
+            generation: note.generation,
+            count: 0,
+        }
+        .pack();
+        if table.freeze_at(&mut self.seat, frame, alone, none) != alone {
             return false;
         }
         note.kind = Kind::Dying;

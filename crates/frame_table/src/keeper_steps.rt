@@ -1,5 +1,6 @@
 //! The single steps of the keeper, and what each tells its seat.
-ghost use Rattle.std.specs.Prelude.{◌≡◌, ◌+◌, ◌*◌, ◌%◌, ◌^◌};
+ghost use Rattle.std.specs.Prelude.{◌≡◌, ◌%◌, ◌^◌, Some};
+ghost use Rattle.frame_core.specs.State.{place_word, frame_word};
 ghost use Rattle.frame_core.specs.declared.event.KeeperStep.TheVariants as keeper;
 ghost use Rattle.frame_core.specs.Ledger.{MayStep, frame_at};
 ghost use Rattle.frame_table.specs.Views.{IsKeeper, ledger_in};
@@ -8,6 +9,7 @@ ghost use Rattle.frame_table.specs.Keeping.{Keeps};
 use crate::table::FrameTable;
 use crate::view::View;
 use atomic_table::{Play, Seat};
+use frame_core::FrameWord;
 
 pub(crate) struct Reap;
 
@@ -97,7 +99,7 @@ impl FrameTable {
         ensures seat { (seat.new.table_id ≡ seat.old.table_id) × (seat.new.id ≡ seat.old.id) }
         ensures step { Keeps (keeper.Reap frame) seat.old.me result seat.new.me }
     {
-        let word = self.count_word(frame);
+        let word = self.frame_word(frame);
         self.table.shared.load::<Reap>(seat, word)
     }
 
@@ -119,19 +121,21 @@ impl FrameTable {
         ensures seat { (seat.new.table_id ≡ seat.old.table_id) × (seat.new.id ≡ seat.old.id) }
         ensures step { Keeps (keeper.Raise frame) seat.old.me result seat.new.me }
     {
-        let word = self.generation_word(frame);
-        self.table.shared.fetch_add::<Raise>(seat, word, 1)
+        let word = self.frame_word(frame);
+        self.table
+            .shared
+            .fetch_add::<Raise>(seat, word, FrameWord::ONE_LIFE)
     }
 
-    pub(crate) fn open_at(&self, seat: &mut Seat<(), View>, frame: u32)
+    pub(crate) fn open_at(&self, seat: &mut Seat<(), View>, frame: u32) -> u64
         requires own { seat.old.table_id ≡ self.now.id }
         requires keeper { IsKeeper self.now.shape seat.old.me }
         requires may { MayStep self.now.shape (ledger_in seat.old.me) (keeper.Open frame) }
         ensures seat { (seat.new.table_id ≡ seat.old.table_id) × (seat.new.id ≡ seat.old.id) }
-        ensures step { Keeps (keeper.Open frame) seat.old.me 0 seat.new.me }
+        ensures step { Keeps (keeper.Open frame) seat.old.me result seat.new.me }
     {
-        let word = self.count_word(frame);
-        self.table.shared.store::<Open>(seat, word, 1);
+        let word = self.frame_word(frame);
+        self.table.shared.fetch_add::<Open>(seat, word, 1)
     }
 
     pub(crate) fn add_at(&self, seat: &mut Seat<(), View>, frame: u32) -> u64
@@ -141,7 +145,7 @@ impl FrameTable {
         ensures seat { (seat.new.table_id ≡ seat.old.table_id) × (seat.new.id ≡ seat.old.id) }
         ensures step { Keeps (keeper.Add frame) seat.old.me result seat.new.me }
     {
-        let word = self.count_word(frame);
+        let word = self.frame_word(frame);
         self.table.shared.fetch_add::<Add>(seat, word, 1)
     }
 
@@ -152,7 +156,7 @@ impl FrameTable {
         ensures seat { (seat.new.table_id ≡ seat.old.table_id) × (seat.new.id ≡ seat.old.id) }
         ensures step { Keeps (keeper.Sub frame) seat.old.me result seat.new.me }
     {
-        let word = self.count_word(frame);
+        let word = self.frame_word(frame);
         self.table.shared.fetch_sub::<Sub>(seat, word, 1)
     }
 
@@ -160,7 +164,7 @@ impl FrameTable {
         requires own { seat.old.table_id ≡ self.now.id }
         requires keeper { IsKeeper self.now.shape seat.old.me }
         requires may { MayStep self.now.shape (ledger_in seat.old.me) (keeper.Publish place frame) }
-        requires name { name ≡ ((frame_at (ledger_in seat.old.me) frame).generation * 1024 + frame) % 2 ^ 64 }
+        requires name { name ≡ place_word (Some record { frame = frame; generation = (frame_at (ledger_in seat.old.me) frame).generation }) % 2 ^ 64 }
         ensures seat { (seat.new.table_id ≡ seat.old.table_id) × (seat.new.id ≡ seat.old.id) }
         ensures step { Keeps (keeper.Publish place frame) seat.old.me 0 seat.new.me }
     {
@@ -179,18 +183,20 @@ impl FrameTable {
         self.table.shared.store::<Withdraw>(seat, place as usize, 0);
     }
 
-    pub(crate) fn freeze_at(&self, seat: &mut Seat<(), View>, frame: u32, base: u64) -> u64
+    // Exchanges the frame word for one without a reference, if it is the one with the keeper's alone.
+    pub(crate) fn freeze_at(&self, seat: &mut Seat<(), View>, frame: u32, alone: u64, none: u64) -> u64
         requires own { seat.old.table_id ≡ self.now.id }
         requires keeper { IsKeeper self.now.shape seat.old.me }
         requires may { MayStep self.now.shape (ledger_in seat.old.me) (keeper.Freeze frame) }
-        requires base { base ≡ (frame_at (ledger_in seat.old.me) frame).base }
+        requires alone { alone ≡ frame_word (frame_at (ledger_in seat.old.me) frame).generation (frame_at (ledger_in seat.old.me) frame).base % 2 ^ 64 }
+        requires none { none ≡ frame_word (frame_at (ledger_in seat.old.me) frame).generation 0 % 2 ^ 64 }
         ensures seat { (seat.new.table_id ≡ seat.old.table_id) × (seat.new.id ≡ seat.old.id) }
         ensures step { Keeps (keeper.Freeze frame) seat.old.me result seat.new.me }
     {
-        let word = self.count_word(frame);
+        let word = self.frame_word(frame);
         self.table
             .shared
-            .compare_exchange::<Freeze>(seat, word, base, 0)
+            .compare_exchange::<Freeze>(seat, word, alone, none)
     }
 
     pub(crate) fn word_at(&self, seat: &mut Seat<(), View>, frame: u32, i: usize) -> u64

@@ -1,15 +1,16 @@
 ghost use Rattle.std.specs.Prelude.{◌≡◌, ℕ, ◌<◌};
 ghost use Rattle.ksm_base.specs.Values.{frames_of};
 ghost use Rattle.frame_core.specs.declared.seat.Aim.{Aim};
-ghost use Rattle.frame_core.specs.declared.seat.Phase.TheVariants.{Placed, Doubt};
+ghost use Rattle.frame_core.specs.declared.seat.Phase.TheVariants.{Placed};
 ghost use Rattle.frame_table.specs.Views.{IsIn};
-ghost use Rattle.frame_table.specs.Rounds.{GoesRound, Checks};
+ghost use Rattle.frame_table.specs.Rounds.{GoesRound};
 ghost use Rattle.frame_table.specs.Lookup.{LooksUp};
 
 use crate::held::Held;
 use crate::table::FrameTable;
 use crate::view::View;
 use atomic_table::Seat;
+use frame_core::{FrameWord, Life};
 use std::marker::Model;
 
 /// A reader's seat that holds nothing. Contracts see which table it is of, and its log.
@@ -53,47 +54,38 @@ pub enum Found {
     Busy(Pass),
 }
 
-// One load of the count, and an exchange where it was not zero.
+// One load of the frame word, and an exchange where that was of the life named and had a reference.
 enum Round {
-    Zero,
-    // The count loaded, and another that the exchange found.
+    // The frame word loaded had no reference, or was of another life.
+    Zero(u64),
+    Old(u64),
+    // The frame word loaded, and another that the exchange found.
     Lost(u64, u64),
-    // The count loaded, and exchanged for one more.
+    // The frame word loaded, and exchanged for one more.
     Won(u64),
 }
 
-fn try_round(table: &FrameTable, seat: &mut Seat<(), View>, frame: u32) -> Round
+fn try_round(table: &FrameTable, seat: &mut Seat<(), View>, life: Life) -> Round
     requires own { seat.old.table_id ≡ table.now.id }
-    requires inside { frame < frames_of table.now.shape }
-    requires phase { (aim : Aim) × (failures : ℕ) × (aim.life.frame ≡ frame) × IsIn table.now.shape (Placed aim failures) seat.old.me }
+    requires inside { life.frame < frames_of table.now.shape }
+    requires phase { (aim : Aim) × (failures : ℕ) × (aim.life ≡ life) × IsIn table.now.shape (Placed aim failures) seat.old.me }
     ensures seat { (seat.new.table_id ≡ seat.old.table_id) × (seat.new.id ≡ seat.old.id) }
     ensures round { GoesRound seat.old.me.0 result seat.new.me }
 {
-    let count = table.load_count(seat, frame);
-    if count == 0 {
-        return Round::Zero;
+    let loaded = table.load_frame(seat, life.frame);
+    let word = FrameWord::unpack(loaded);
+    if word.count == 0 {
+        return Round::Zero(loaded);
     }
-    let found = table.exchange(seat, frame, count);
-    if found == count {
-        Round::Won(count)
+    if word.generation != life.generation {
+        return Round::Old(loaded);
+    }
+    let found = table.exchange(seat, life.frame, loaded);
+    if found == loaded {
+        Round::Won(loaded)
     } else {
-        Round::Lost(count, found)
+        Round::Lost(loaded, found)
     }
-}
-
-// Whether the frame is still in this life. If not, the reference is given back.
-fn check_life(table: &FrameTable, seat: &mut Seat<(), View>, frame: u32, generation: u64) -> bool
-    requires own { seat.old.table_id ≡ table.now.id }
-    requires inside { frame < frames_of table.now.shape }
-    requires phase { (aim : Aim) × (aim.life.frame ≡ frame) × (aim.life.generation ≡ generation) × IsIn table.now.shape (Doubt aim) seat.old.me }
-    ensures seat { (seat.new.table_id ≡ seat.old.table_id) × (seat.new.id ≡ seat.old.id) }
-    ensures life { Checks seat.old.me.0 result seat.new.me }
-{
-    if table.load_generation(seat, frame) == generation {
-        return true;
-    }
-    table.give_back(seat, frame);
-    false
 }
 
 impl Pass {
@@ -105,25 +97,21 @@ impl Pass {
     {
         let Pass { mut seat } = self;
         let word = table.load_place(&mut seat, place);
-        if word == 0 {
+        let Some(life) = Life::of_word(word) else {
             return Found::Gone(Pass { seat }, Why::Vacant);
-        }
-        let frame = (word % 1024) as u32;
-        let generation = word / 1024;
+        };
         'rounds: for i in 0..table.tries() {
-            match try_round(table, &mut seat, frame) {
-                Round::Zero => return Found::Gone(Pass { seat }, Why::Zero),
+            match try_round(table, &mut seat, life) {
+                Round::Zero(_) => return Found::Gone(Pass { seat }, Why::Zero),
+                Round::Old(_) => return Found::Gone(Pass { seat }, Why::Generation),
                 Round::Lost(_, _) => {}
                 Round::Won(_) => {
-                    if check_life(table, &mut seat, frame, generation) {
-                        return Found::Held(Held {
-                            seat,
-                            place,
-                            frame,
-                            generation,
-                        });
-                    }
-                    return Found::Gone(Pass { seat }, Why::Generation);
+                    return Found::Held(Held {
+                        seat,
+                        place,
+                        frame: life.frame,
+                        generation: life.generation,
+                    });
                 }
             }
         }

@@ -1,10 +1,11 @@
 //! The single steps of a reader, and what each tells its seat.
-ghost use Rattle.std.specs.Prelude.{◌≡◌, ℕ, ◌<◌, ◌≤◌, List, Option};
+ghost use Rattle.std.specs.Prelude.{◌≡◌, ℕ, ◌^◌, ◌<◌, List, Option};
 ghost use Rattle.ksm_base.specs.declared.page.TheConstants.{PAGE_WORDS as words_of_page};
 ghost use Rattle.ksm_base.specs.Values.{frames_of};
 ghost use Rattle.frame_core.specs.declared.event.ReaderStep.TheVariants as reader;
 ghost use Rattle.frame_core.specs.declared.seat.Aim.{Aim};
-ghost use Rattle.frame_core.specs.declared.seat.Phase.TheVariants.{Idle, Placed, Counted, Doubt, Held};
+ghost use Rattle.frame_core.specs.declared.seat.Phase.TheVariants.{Idle, Placed, Counted, Held};
+ghost use Rattle.frame_core.specs.State.{frame_word};
 ghost use Rattle.frame_table.specs.Views.{IsIn};
 ghost use Rattle.frame_table.specs.Reading.{IsHolder, Makes};
 
@@ -20,12 +21,12 @@ impl Play<(), View> for LoadPlace {
     ghost then = { loads_place };
 }
 
-pub(crate) struct LoadCount;
+pub(crate) struct LoadFrame;
 
-impl Play<(), View> for LoadCount {
-    ghost use Rattle.frame_table.specs.Reading.{loads_count};
+impl Play<(), View> for LoadFrame {
+    ghost use Rattle.frame_table.specs.Reading.{loads_frame};
 
-    ghost then = { loads_count };
+    ghost then = { loads_frame };
 }
 
 pub(crate) struct Exchange;
@@ -34,14 +35,6 @@ impl Play<(), View> for Exchange {
     ghost use Rattle.frame_table.specs.Reading.{exchanges};
 
     ghost then = { exchanges };
-}
-
-pub(crate) struct LoadGeneration;
-
-impl Play<(), View> for LoadGeneration {
-    ghost use Rattle.frame_table.specs.Reading.{loads_generation};
-
-    ghost then = { loads_generation };
 }
 
 pub(crate) struct Leave;
@@ -71,43 +64,32 @@ impl FrameTable {
         self.table.shared.load::<LoadPlace>(seat, place as usize)
     }
 
-    pub(crate) fn load_count(&self, seat: &mut Seat<(), View>, frame: u32) -> u64
+    pub(crate) fn load_frame(&self, seat: &mut Seat<(), View>, frame: u32) -> u64
         requires own { seat.old.table_id ≡ self.now.id }
         requires inside { frame < frames_of self.now.shape }
         requires phase { (aim : Aim) × (failures : ℕ) × (aim.life.frame ≡ frame) × IsIn self.now.shape (Placed aim failures) seat.old.me }
         ensures seat { (seat.new.table_id ≡ seat.old.table_id) × (seat.new.id ≡ seat.old.id) }
-        ensures step { Makes reader.LoadCount seat.old.me result seat.new.me }
+        ensures step { Makes reader.LoadFrame seat.old.me result seat.new.me }
     {
-        let word = self.count_word(frame);
-        self.table.shared.load::<LoadCount>(seat, word)
+        let word = self.frame_word(frame);
+        self.table.shared.load::<LoadFrame>(seat, word)
     }
 
-    // Raises the count by one, if it is still `count`. Answers the count found.
-    pub(crate) fn exchange(&self, seat: &mut Seat<(), View>, frame: u32, count: u64) -> u64
+    // Raises the frame word by one, if it is still the one that was loaded. Answers the word found.
+    pub(crate) fn exchange(&self, seat: &mut Seat<(), View>, frame: u32, loaded: u64) -> u64
         requires own { seat.old.table_id ≡ self.now.id }
-        requires inside { (frame < frames_of self.now.shape) × (count ≤ 1040) }
-        requires phase { (aim : Aim) × (failures : ℕ) × (aim.life.frame ≡ frame) × IsIn self.now.shape (Counted aim failures count) seat.old.me }
+        requires inside { (frame < frames_of self.now.shape) × (loaded < 2 ^ 57) }
+        requires phase { (aim : Aim) × (failures count : ℕ) × (aim.life.frame ≡ frame) × (loaded ≡ frame_word aim.life.generation count) × IsIn self.now.shape (Counted aim failures count) seat.old.me }
         ensures seat { (seat.new.table_id ≡ seat.old.table_id) × (seat.new.id ≡ seat.old.id) }
         ensures step { Makes reader.Exchange seat.old.me result seat.new.me }
     {
-        let word = self.count_word(frame);
+        let word = self.frame_word(frame);
         self.table
             .shared
-            .compare_exchange::<Exchange>(seat, word, count, count + 1)
+            .compare_exchange::<Exchange>(seat, word, loaded, loaded + 1)
     }
 
-    pub(crate) fn load_generation(&self, seat: &mut Seat<(), View>, frame: u32) -> u64
-        requires own { seat.old.table_id ≡ self.now.id }
-        requires inside { frame < frames_of self.now.shape }
-        requires phase { (aim : Aim) × (aim.life.frame ≡ frame) × IsIn self.now.shape (Doubt aim) seat.old.me }
-        ensures seat { (seat.new.table_id ≡ seat.old.table_id) × (seat.new.id ≡ seat.old.id) }
-        ensures step { Makes reader.LoadGeneration seat.old.me result seat.new.me }
-    {
-        let word = self.generation_word(frame);
-        self.table.shared.load::<LoadGeneration>(seat, word)
-    }
-
-    // Gives the reference back. Answers the count before.
+    // Gives the reference back. Answers the frame word before.
     pub(crate) fn give_back(&self, seat: &mut Seat<(), View>, frame: u32) -> u64
         requires own { seat.old.table_id ≡ self.now.id }
         requires inside { frame < frames_of self.now.shape }
@@ -115,7 +97,7 @@ impl FrameTable {
         ensures seat { (seat.new.table_id ≡ seat.old.table_id) × (seat.new.id ≡ seat.old.id) }
         ensures step { Makes reader.Leave seat.old.me result seat.new.me }
     {
-        let word = self.count_word(frame);
+        let word = self.frame_word(frame);
         self.table.shared.fetch_sub::<Leave>(seat, word, 1)
     }
 

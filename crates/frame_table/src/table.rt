@@ -1,11 +1,13 @@
 ghost use Rattle.std.specs.Prelude.{◌≡◌, ◌+◌, ◌*◌, ◌<◌, ◌≤◌};
 ghost use Rattle.ksm_base.specs.declared.page.TheConstants.{PAGE_WORDS as words_of_page};
 ghost use Rattle.ksm_base.specs.Values.{frames_of};
-ghost use Rattle.frame_core.specs.Words.{count_at, generation_at, content_at};
+ghost use Rattle.frame_core.specs.declared.frame.TheConstants.{FRAME_WORDS as words_of_frame};
+ghost use Rattle.frame_core.specs.Words.{frame_word_at, content_at};
 
 use crate::view::{FrameRule, View};
 use atomic_table::Table;
-use ksm_base::{PAGE_WORDS, Shape};
+use frame_core::FRAME_WORDS;
+use ksm_base::Shape;
 use std::alloc::Global;
 use std::marker::Model;
 
@@ -20,7 +22,7 @@ pub struct FrameTable {
 
 impl Model for FrameTable {
     ghost use Rattle.std.specs.Prelude.{◌≡◌, ◌+◌, ◌*◌, ◌≤◌};
-    ghost use Rattle.ksm_base.specs.declared.page.TheConstants.{PAGE_WORDS as words_of_page};
+    ghost use Rattle.frame_core.specs.declared.frame.TheConstants.{FRAME_WORDS as words_of_frame};
     ghost use Rattle.ksm_base.specs.Values.{IsShape, frames_of};
     ghost use Rattle.frame_table.specs.Named.{TableName};
 
@@ -28,7 +30,7 @@ impl Model for FrameTable {
 
     ghost view = { λ t. record { id = t.table.shared.table_id; shape = t.shape } };
 
-    ghost invariant = { λ t. (t.table.shared.key ≡ t.shape) × (t.table.shared.table_id.words ≡ frames_of t.shape * (3 + words_of_page)) × (t.table.shared.table_id.slots ≡ 0) × IsShape t.shape × (t.places ≡ frames_of t.shape) × (t.places ≤ 1024) };
+    ghost invariant = { λ t. (t.table.shared.key ≡ t.shape) × (t.table.shared.table_id.words ≡ frames_of t.shape * (1 + words_of_frame)) × (t.table.shared.table_id.slots ≡ 0) × IsShape t.shape × (t.places ≡ frames_of t.shape) × (t.places ≤ 1024) };
 }
 
 impl FrameTable {
@@ -45,30 +47,14 @@ impl FrameTable {
         self.shape.tries
     }
 
-    // Where the words of a frame begin: the words of the places come first.
-    fn frame_word(&self, frame: u32) -> usize
+    // Where the words of a frame begin, its frame word first: the words of the places come before all of them.
+    pub(crate) fn frame_word(&self, frame: u32) -> usize
         requires inside { frame < frames_of self.now.shape }
-        ensures at { result ≡ count_at (frames_of self.now.shape) frame }
-        ensures within { result + (1 + words_of_page) < self.now.id.words }
-        ensures small { result ≤ 1024 * (3 + words_of_page) }
+        ensures at { result ≡ frame_word_at (frames_of self.now.shape) frame }
+        ensures within { result + words_of_page < self.now.id.words }
+        ensures small { result ≤ 1024 * (1 + words_of_frame) }
     {
-        self.places as usize + frame as usize * (2 + PAGE_WORDS)
-    }
-
-    pub(crate) fn count_word(&self, frame: u32) -> usize
-        requires inside { frame < frames_of self.now.shape }
-        ensures at { result ≡ count_at (frames_of self.now.shape) frame }
-        ensures within { result < self.now.id.words }
-    {
-        self.frame_word(frame)
-    }
-
-    pub(crate) fn generation_word(&self, frame: u32) -> usize
-        requires inside { frame < frames_of self.now.shape }
-        ensures at { result ≡ generation_at (frames_of self.now.shape) frame }
-        ensures within { result < self.now.id.words }
-    {
-        self.frame_word(frame) + 1
+        self.places as usize + frame as usize * FRAME_WORDS
     }
 
     pub(crate) fn content_word(&self, frame: u32, i: usize) -> usize
@@ -76,6 +62,6 @@ impl FrameTable {
         ensures at { result ≡ content_at (frames_of self.now.shape) frame i }
         ensures within { result < self.now.id.words }
     {
-        self.frame_word(frame) + 2 + i
+        self.frame_word(frame) + 1 + i
     }
 }

@@ -116,18 +116,18 @@ module _ (v w : KeeperView) (node : ℕ) (bytes : List ℕ) (g found : ℕ) (rea
   pub written_kind : (w2 : KeeperView) → Wrote raised w2 g bytes → (frame_at w2.ledger g).kind ≡ Filling
   written_kind w2 wrote = ap (λ z. (frame_at z g).kind) wrote.ledger ∙ ap (λ (z : Note). z.kind) (at_again raised.ledger g raised_within (holding (frame_at raised.ledger g) bytes)) ∙ raised_kind
 
-  pub took : (w2 w' : KeeperView) → length bytes ≡ PAGE_WORDS → Wrote raised w2 g bytes → w' ≡ did w2 (Open g) 0 → Took v w' node bytes g
-  took w2 w' long wrote is =
+  pub took : (w2 w' : KeeperView) (opened : ℕ) → length bytes ≡ PAGE_WORDS → Wrote raised w2 g bytes → w' ≡ did w2 (Open g) opened → Took v w' node bytes g
+  took w2 w' opened long wrote is =
       let k : Ledger = w.ledger in
       let shape : w.table.shape ≡ sv = ap (λ z. z.shape) same in
       let a2 : Note = holding a1 bytes in
       let a3 : Note = record { kind = Private; base = 1; generation = a1.generation; content = bytes } in
       let e2 : w2.ledger ≡ with_frame k g a2 = wrote.ledger ∙ again k g within a1 (λ a. holding a bytes) in
-      let e3 : w'.ledger ≡ with_frame k g a3 = ap (λ (z : KeeperView). z.ledger) is ∙ ap (λ z. ledger_after w2.table.shape z (Open g) 0) e2 ∙ again k g within a2 (λ a. record { kind = Private; base = 1; generation = a.generation; content = a.content }) in
+      let e3 : w'.ledger ≡ with_frame k g a3 = ap (λ (z : KeeperView). z.ledger) is ∙ ap (λ z. ledger_after w2.table.shape z (Open g) opened) e2 ∙ again k g within a2 (λ a. record { kind = Private; base = 1; generation = a.generation; content = a.content }) in
       let now : frame_at w'.ledger g ≡ a3 = ap (λ z. frame_at z g) e3 ∙ at_again k g within a3 in
       let lowest' : IsLowestFree w.table.shape k node g = subst (λ (s : Shape). IsLowestFree s k node g) (sym shape) lowest in
       let s1 : Did w raised (node ∷ []) ((Raise g, found) ∷ []) = one_step w raised (Raise g) found (node ∷ []) lowest' refl refl in
-      let s3 : Did w2 w' [] ((Open g, 0) ∷ []) = one_step w2 w' (Open g) 0 [] tt refl is in
+      let s3 : Did w2 w' [] ((Open g, opened) ∷ []) = one_step w2 w' (Open g) opened [] tt refl is in
       let s12 = chained w raised w2 (node ∷ []) [] _ _ s1 wrote.did in
       let s123 = chained w w2 w' (node ∷ []) [] _ _ s12 s3 in
       let before = reaped.spent in

@@ -16,6 +16,7 @@ use Rattle.frame_core.specs.declared.frame.Kind.{Kind}
 use Rattle.frame_core.specs.declared.frame.Kind.TheVariants.{Free, Filling, Private, Stable, Dying, Retired}
 use Rattle.frame_core.specs.declared.ledger.Ledger.{Ledger}
 use Rattle.frame_core.specs.declared.ledger.Note.{Note}
+use Rattle.frame_core.specs.State.{count_in}
 use Rattle.frame_core.specs.Ledger.{frame_at, blank, with_frame, ledger_after}
 use Rattle.frame_core.specs.Rule.{GenerationFits}
 use Rattle.frame_table.specs.Named.{KeeperView}
@@ -86,7 +87,7 @@ module _ (sh : Shape) (across : ℕ) (k : Ledger) (rows : List Row) (frames : Li
   with_references kind base = record { kind = kind; base = base; generation = here.generation; content = here.content }
 
   pub reap_keeps : (found : ℕ) → here.kind ≡ Dying → Placed sh across (ledger_after sh k (Reap g) found) rows frames dups hand
-  reap_keeps found dying = elim (found == 0) as (λ b. Placed sh across (cond b (with_frame k g (with_references (cond (here.generation == sh.last_generation) Retired Free) 0)) k) rows frames dups hand) [
+  reap_keeps found dying = elim (count_in found == 0) as (λ b. Placed sh across (cond b (with_frame k g (with_references (cond (here.generation == sh.last_generation) Retired Free) 0)) k) rows frames dups hand) [
     | true ↦
         let none : here.base ≡ 0 = subst (λ (x : Kind). FitsBase x here.base) dying (p.kinds g) in
         let is : here.base ≡ uses g frames + in_hand g hand = p.bases g in
@@ -100,7 +101,7 @@ module _ (sh : Shape) (across : ℕ) (k : Ledger) (rows : List Row) (frames : Li
 reap_spends : (sh : Shape) (k : Ledger) (g found : ℕ) → g < length k.frames → spent k ≤ spent (ledger_after sh k (Reap g) found)
 reap_spends sh k g found lt =
     let reaped : Note = record { kind = cond ((frame_at k g).generation == sh.last_generation) Retired Free; base = 0; generation = (frame_at k g).generation; content = (frame_at k g).content } in
-    elim (found == 0) as (λ b. spent k ≤ spent (cond b (with_frame k g reaped) k)) [
+    elim (count_in found == 0) as (λ b. spent k ≤ spent (cond b (with_frame k g reaped) k)) [
       | true ↦ spent_kept k g reaped lt (let up = past_reaped ((frame_at k g).generation == sh.last_generation) (frame_at k g).generation in let le = past_le (frame_at k g).kind (frame_at k g).generation in omega (arith, up, le))
       | false ↦ omega arith
     ]
@@ -155,14 +156,17 @@ module _ (sh : Shape) (across : ℕ) (k : Ledger) (rows : List Row) (frames : Li
       (lived_taken sh.last_generation at_g.generation at_g.base at_g.kind (at_g.base == 1) (omega arith) (p.kinds g) (p.lives g))
 
 reap_other : (sh : Shape) (k : Ledger) (g f found : ℕ) → f ≢ g → frame_at (ledger_after sh k (Reap g) found) f ≡ frame_at k f
-reap_other sh k g f found ne = elim (found == 0) as (λ b. frame_at (cond b (with_frame k g record { kind = cond ((frame_at k g).generation == sh.last_generation) Retired Free; base = 0; generation = (frame_at k g).generation; content = (frame_at k g).content }) k) f ≡ frame_at k f) [
+reap_other sh k g f found ne = elim (count_in found == 0) as (λ b. frame_at (cond b (with_frame k g record { kind = cond ((frame_at k g).generation == sh.last_generation) Retired Free; base = 0; generation = (frame_at k g).generation; content = (frame_at k g).content }) k) f ≡ frame_at k f) [
   | true ↦ get_or-set_other k.frames g f _ blank ne
   | false ↦ refl
 ]
 
-reap_still : (sh : Shape) (k : Ledger) (g found : ℕ) → g < length k.frames → (frame_at (ledger_after sh k (Reap g) found) g).kind ≡ Dying → 1 ≤ found
-reap_still sh k g zero lt e = absurd (not_dying ((frame_at k g).generation == sh.last_generation) (sym (ap (λ (x : Note). x.kind) (get_or-set_same k.frames g _ blank lt)) ∙ e))
-reap_still sh k g (suc n) lt e = omega arith
+reap_still : (sh : Shape) (k : Ledger) (g found : ℕ) → g < length k.frames → (frame_at (ledger_after sh k (Reap g) found) g).kind ≡ Dying → 1 ≤ count_in found
+reap_still sh k g found lt e = still (count_in found) e
+  where
+    still : (n : ℕ) → (frame_at (cond (n == 0) (with_frame k g record { kind = cond ((frame_at k g).generation == sh.last_generation) Retired Free; base = 0; generation = (frame_at k g).generation; content = (frame_at k g).content }) k) g).kind ≡ Dying → 1 ≤ n
+    still zero is = absurd (not_dying ((frame_at k g).generation == sh.last_generation) (sym (ap (λ (x : Note). x.kind) (get_or-set_same k.frames g _ blank lt)) ∙ is))
+    still (suc n) is = omega arith
 
 pub reaped_start : (v w : KeeperView) (low : ℕ) → w ≡ v → Reaped v w low 0
 reaped_start v w low e = record {

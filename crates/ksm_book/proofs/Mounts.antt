@@ -48,8 +48,8 @@ module _ (v w : KeeperView) (f n : ℕ) (a : Added v w f n) (within : f < length
       }
 
 -- a free frame is raised, written with the bytes of another, opened, given its references and shown
-module _ (v v1 v2 v3 v4 v5 v6 : KeeperView) (f g place count found : ℕ) (bytes : List ℕ) (within : g < length v.ledger.frames) (apart : f ≢ g) (some : 1 ≤ count)
-    (raises : v1 ≡ did v (Raise g) found) (loads' : Loaded v1 v2 f bytes) (same : bytes ≡ (frame_at v1.ledger f).content) (writes : Wrote v2 v3 g bytes) (opens : v4 ≡ did v3 (Open g) 0) (adds : Added v4 v5 g (count - 1)) (shows : v6 ≡ did v5 (Publish place g) 0) where
+module _ (v v1 v2 v3 v4 v5 v6 : KeeperView) (f g place count found opened : ℕ) (bytes : List ℕ) (within : g < length v.ledger.frames) (apart : f ≢ g) (some : 1 ≤ count)
+    (raises : v1 ≡ did v (Raise g) found) (loads' : Loaded v1 v2 f bytes) (same : bytes ≡ (frame_at v1.ledger f).content) (writes : Wrote v2 v3 g bytes) (opens : v4 ≡ did v3 (Open g) opened) (adds : Added v4 v5 g (count - 1)) (shows : v6 ≡ did v5 (Publish place g) 0) where
   abbrev k : Ledger
   k = v.ledger
 
@@ -78,7 +78,7 @@ module _ (v v1 v2 v3 v4 v5 v6 : KeeperView) (f g place count found : ℕ) (bytes
   after_write = writes.ledger ∙ ap (λ z. with_frame z g (holding (frame_at z g) bytes)) (loads'.ledger ∙ after_raise) ∙ again k g within filling (λ a. holding a bytes)
 
   after_open : v4.ledger ≡ with_frame k g own
-  after_open = ap (λ (z : KeeperView). z.ledger) opens ∙ ap (λ z. ledger_after v3.table.shape z (Open g) 0) after_write
+  after_open = ap (λ (z : KeeperView). z.ledger) opens ∙ ap (λ z. ledger_after v3.table.shape z (Open g) opened) after_write
       ∙ again k g within (holding filling bytes) (λ a. record { kind = Private; base = 1; generation = a.generation; content = a.content })
 
   after_adds : v5.ledger ≡ with_frame k g full
@@ -92,7 +92,7 @@ module _ (v v1 v2 v3 v4 v5 v6 : KeeperView) (f g place count found : ℕ) (bytes
       ∙ (λ t. record { frames = set k.frames g (record { kind = Stable; base = sum t; generation = old.generation + 1; content = read t }); places = set k.places place (Some (record { frame = g; generation = old.generation + 1 })) })
 
   abbrev last : Log
-  last = (Open g, 0) ∷ []
+  last = (Open g, opened) ∷ []
 
   abbrev rest : Log
   rest = loads f 0 bytes ++ (puts g 0 bytes ++ (last ++ (adds.does.0 ++ (Publish place g, 0) ∷ [])))
@@ -102,7 +102,7 @@ module _ (v v1 v2 v3 v4 v5 v6 : KeeperView) (f g place count found : ℕ) (bytes
     part = ((Raise g, found) ∷ []) ++ rest;
     did = λ node lowest.
         let s1 : Did v v1 (node ∷ []) ((Raise g, found) ∷ []) = one_step v v1 (Raise g) found (node ∷ []) lowest refl raises in
-        let s4 : Did v3 v4 [] last = one_step v3 v4 (Open g) 0 [] tt refl opens in
+        let s4 : Did v3 v4 [] last = one_step v3 v4 (Open g) opened [] tt refl opens in
         let s6 : Did v5 v6 [] ((Publish place g, 0) ∷ []) = one_step v5 v6 (Publish place g) 0 [] tt refl shows in
         let t5 = chained v4 v5 v6 [] [] adds.does.0 _ adds.does.1 s6 in
         let t4 = chained v3 v4 v6 [] [] last _ s4 t5 in

@@ -25,6 +25,7 @@ use Rattle.frame_core.specs.declared.frame.Kind.TheVariants.{Free, Stable, Dying
 use Rattle.frame_core.specs.declared.ledger.Ledger.{Ledger}
 use Rattle.frame_core.specs.declared.ledger.Note.{Note}
 use Rattle.frame_core.specs.declared.seat.Life.{Life}
+use Rattle.frame_core.specs.State.{count_in}
 use Rattle.frame_core.specs.Ledger.{frame_at, named_at, blank, IsLoose, with_frame}
 use Rattle.frame_table.specs.Named.{KeeperView}
 use Rattle.frame_table.specs.Kept.{did}
@@ -207,9 +208,9 @@ module _ (pages : PagesView) (k : KeeperView) (h : IsLaid pages.shape pages.list
           table_is = ap (λ (z : KeeperView). z.table) freezes
 
           -- it fails where a reader holds the frame
-          module _ (other : found ≢ n.base) where
+          module _ (other : count_in found ≢ n.base) where
             still : u.ledger ≡ w.ledger
-            still = ap (λ (z : KeeperView). z.ledger) freezes ∙ ap (λ (b : Bool). cond b (with_frame w.ledger g (record { kind = Dying; base = 0; generation = n.generation; content = n.content })) w.ledger) (ne_eqb found n.base other)
+            still = ap (λ (z : KeeperView). z.ledger) freezes ∙ ap (λ (b : Bool). cond b (with_frame w.ledger g (record { kind = Dying; base = 0; generation = n.generation; content = n.content })) w.ledger) (ne_eqb (count_in found) n.base other)
 
             pub lost : HasLost now.keeper u
             lost = subst (λ (x : Lay). HasLost x.keeper u) is (record {
@@ -230,12 +231,12 @@ module _ (pages : PagesView) (k : KeeperView) (h : IsLaid pages.shape pages.list
             }
 
           -- it is made where the keeper's references are all
-          module _ (all : found ≡ n.base) where
+          module _ (all : count_in found ≡ n.base) where
             abbrev dead : Note
             dead = record { kind = Dying; base = 0; generation = n.generation; content = n.content }
 
             frozen : u.ledger ≡ with_frame w.ledger g dead
-            frozen = ap (λ (z : KeeperView). z.ledger) freezes ∙ ap (λ (b : Bool). cond b (with_frame w.ledger g dead) w.ledger) (eq-eqb found n.base all)
+            frozen = ap (λ (z : KeeperView). z.ledger) freezes ∙ ap (λ (b : Bool). cond b (with_frame w.ledger g dead) w.ledger) (eq-eqb (count_in found) n.base all)
 
             at_g : frame_at u.ledger g ≡ dead
             at_g = ap (λ (z : Ledger). frame_at z g) frozen ∙ at_again w.ledger g within_g dead

@@ -9,6 +9,7 @@ use Rattle.frame_core.specs.declared.frame.Kind.{Kind}
 use Rattle.frame_core.specs.declared.frame.Kind.TheVariants.{Private, Dying}
 use Rattle.frame_core.specs.declared.ledger.Ledger.{Ledger}
 use Rattle.frame_core.specs.declared.ledger.Note.{Note}
+use Rattle.frame_core.specs.State.{count_in}
 use Rattle.frame_core.specs.Ledger.{frame_at, with_frame}
 use Rattle.frame_table.specs.Named.{KeeperView}
 use Rattle.ksm_book.specs.Placement.{Placed, node_of}
@@ -48,9 +49,9 @@ pub record Loaded (v w : KeeperView) (f : ℕ) (bytes : List ℕ) : Type 0 where
   pub did : Did v w [] (loads f 0 bytes)
   pub ledger : w.ledger ≡ v.ledger
 
--- of each of these frames that is dying still, a count above zero was read in the part
+-- of each of these frames that is dying still, a frame word with a count above zero was read in the part
 abbrev pub HasWaited : KeeperView → ℕ → ℕ → Log → Type 0
-HasWaited w low count part = (f : ℕ) → low ≤ f → f < low + count → (frame_at w.ledger f).kind ≡ Dying → (n : ℕ) × (1 ≤ n) × Contains part (Reap f, n)
+HasWaited w low count part = (f : ℕ) → low ≤ f → f < low + count → (frame_at w.ledger f).kind ≡ Dying → (n : ℕ) × (1 ≤ count_in n) × Contains part (Reap f, n)
 
 -- no frame of the node is free, though each dying one was read: so no frame was given
 pub record NoneLeft (v w : KeeperView) (node : ℕ) : Type 0 where

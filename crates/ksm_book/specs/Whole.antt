@@ -8,6 +8,7 @@ use Rattle.ksm_base.specs.Refusals.{is_of}
 use Rattle.ksm_base.specs.Answers.{Answer, frame_needed, merged_rows, every_row}
 use Rattle.ksm_base.specs.State.{BookState}
 use Rattle.frame_core.specs.declared.event.KeeperStep.TheVariants.{Raise, Publish, Freeze}
+use Rattle.frame_core.specs.State.{count_in}
 use Rattle.frame_core.specs.Ledger.{frame_at}
 use Rattle.frame_table.specs.Named.{KeeperView}
 use Rattle.ksm_book.specs.Steps.{Log, Did, Does}
@@ -29,14 +30,14 @@ nodes_got b (Ok (Unmerged k stop)) (Unmerge guest) = map (λ r. r.home) (take k 
 nodes_got b (Ok (Unmerged k stop)) (SetRun v) = map (λ r. r.home) (take k (merged_rows every_row b))
 nodes_got b _ _ = []
 
--- the exchange of a frame's count was tried, and found another than the keeper's references
+-- the exchange of a frame word was tried, and found another count than the keeper's references
 pub record HasLost (v w : KeeperView) : Type 0 where
   pub part : Log
   pub did : Did v w [] part
   pub frame : ℕ
   pub found : ℕ
   pub tried : Contains part (Freeze frame, found)
-  pub other : found ≢ (frame_at w.ledger frame).base
+  pub other : count_in found ≢ (frame_at w.ledger frame).base
 
 -- a frame was raised and then published at the place
 pub record HasMoved (v w : KeeperView) (place node : ℕ) : Type 0 where

@@ -3,7 +3,14 @@ use Rattle.frame_table.proofs.NoLookups.{busy_one_try, busy_three_tries, busy_no
 use Rattle.frame_table.proofs.worked.lookups_that_are_busy.Goals as goal
 
 pub returns-clause-all_tries : goal.returns-clause-all_tries
-returns-clause-all_tries c = (3072, (2, 1) ∷ (1, 2) ∷ [], λ e. omega (arith, e), (λ e. omega (arith, e), λ e. omega (arith, e), (λ e. omega (arith, e), λ e. omega (arith, e), tt)), refl, refl)
+returns-clause-all_tries c = (
+  3072,
+  (196610, 196609) ∷ (196609, 262145) ∷ [],
+  λ e. omega (arith, e),
+  ((λ e. omega (arith, e), refl), λ e. omega (arith, e), ((λ e. omega (arith, e), refl), λ e. omega (arith, e), tt)),
+  refl,
+  refl,
+)
 
 pub returns-clause-one_try : goal.returns-clause-one_try
 returns-clause-one_try c = λ t. busy_one_try t.0 t.1 t.4 t.5

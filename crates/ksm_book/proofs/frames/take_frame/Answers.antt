@@ -71,4 +71,4 @@ returns-clause-took c =
     let less = less_there v c.args.shape c.args.node c.requires.shape c.requires.node in
     let wide : length c.args.bytes ≡ PAGE_WORDS = search rules in
     let wrote = subst (λ (x : KeeperView). Wrote x c.write.new.keeper c.in-Some.frame c.args.bytes) c.raise.ensures.1 c.write.ensures.wrote in
-    took v w c.args.node c.args.bytes c.in-Some.frame c.raise.ensures.0 reaped low c.reap_node.ensures.own less c.requires.lawful c.write.new.keeper c.open.new.self wide wrote c.open.ensures
+    took v w c.args.node c.args.bytes c.in-Some.frame c.raise.ensures.0 reaped low c.reap_node.ensures.own less c.requires.lawful c.write.new.keeper c.open.new.self _ wide wrote c.open.ensures

@@ -1,4 +1,4 @@
-use Rattle.std.proofs.Common.{◌≡◌, ap, ◌∙◌, subst, refl, inr}
+use Rattle.std.proofs.Common.{◌≡◌, ap, ◌∙◌, subst, refl}
 use Rattle.ksm_base.specs.declared.shape.Shape.{Shape}
 use Rattle.frame_core.specs.declared.seat.Phase.TheVariants.{Held as held}
 use Rattle.frame_table.specs.Seat.{aim_at}
@@ -9,4 +9,4 @@ pub give_back-requires-clause-phase : goal.give_back-requires-clause-phase
 give_back-requires-clause-phase c =
     let i = c.self.inside in
     let same : shape_in i.seat.me ≡ c.args.table.now.shape = ap (λ h. h.table.shape) c.self.view_is ∙ ap (λ n. n.shape) c.requires.own in
-    inr (aim_at i.place i.frame i.generation, known_in i.seat.me, refl, subst (λ (s : Shape). IsIn s (held (aim_at i.place i.frame i.generation) (known_in i.seat.me)) i.seat.me) same c.self.invariant.0)
+    (aim_at i.place i.frame i.generation, known_in i.seat.me, refl, subst (λ (s : Shape). IsIn s (held (aim_at i.place i.frame i.generation) (known_in i.seat.me)) i.seat.me) same c.self.invariant.0)

@@ -1,10 +1,10 @@
 use Rattle.std.proofs.Common.{rules, ◌≡◌, ap, ◌∙◌}
 use Rattle.frame_table.specs.Keeping.{opens}
-use Rattle.frame_table.proofs.Allowed.{turned, MayStore}
+use Rattle.frame_table.proofs.Allowed.{turned, MayAdd}
 use Rattle.frame_table.proofs.KeeperCalls.{may_open}
 use Rattle.frame_table.proofs.table.FrameTable.open_at.Goals as goal
 
-pub store-requires : goal.store-requires
-store-requires c =
+pub fetch_add-requires : goal.fetch_add-requires
+fetch_add-requires c =
     let key : c.self.inside.table.shared.key ≡ c.args.self.now.shape = c.self.invariant.0 ∙ ap (λ n. n.shape) c.self.view_is in
-    (search rules, search rules, turned (MayStore opens _ _ 1) _ _ _ _ _ _ key c.count_word-word.ensures.at c.requires.keeper (may_open _ _ _ _ _ _ c.args.frame c.requires.may))
+    (search rules, search rules, turned (MayAdd opens _ _ 1) _ _ _ _ _ _ key c.frame_word-word.ensures.at c.requires.keeper (may_open _ _ _ _ _ _ c.args.frame c.requires.may))

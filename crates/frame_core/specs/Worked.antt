@@ -1,0 +1,33 @@
+-- Worked runs of the least table, one frame, one place and one seat: what is told from their traces. Own.
+use Rattle.std.specs.Prelude.{ℕ, List, [], ◌∷◌, ◌++◌}
+use Rattle.ksm_base.specs.declared.shape.Shape.{Shape}
+use Rattle.frame_core.specs.declared.event.Event.{Event}
+use Rattle.frame_core.specs.declared.event.Event.TheVariants.{Reader, Keeper}
+use Rattle.frame_core.specs.declared.event.ReaderStep.TheVariants.{LoadPlace, LoadFrame, Exchange, LoadWord, Leave}
+use Rattle.frame_core.specs.declared.event.KeeperStep.TheVariants.{Put, Raise, Open, Add, Sub, Reap, Publish}
+use Rattle.frame_core.specs.Trace.{Entry, run_of}
+
+abbrev pub least : Shape
+least = record { nodes = 1; frames_per_node = 1; passes = 1; last_generation = 5; tries = 1 }
+
+abbrev pub trace_of : List Event → List Entry
+trace_of events = (run_of least events).trace
+
+-- the frame is filled with 7 and 8, opened, given a second reference and published
+abbrev pub published : List Event
+published = Keeper (Raise 0) ∷ Keeper (Put 0 0 7) ∷ Keeper (Put 0 1 8) ∷ Keeper (Open 0) ∷ Keeper (Add 0) ∷ Keeper (Publish 0 0) ∷ []
+
+-- the keeper gives both references back, and the frame its next life, with two references
+abbrev pub given_again : List Event
+given_again = Keeper (Sub 0) ∷ Keeper (Sub 0) ∷ Keeper (Reap 0) ∷ Keeper (Raise 0) ∷ Keeper (Open 0) ∷ Keeper (Add 0) ∷ []
+
+abbrev pub begins : List Event
+begins = Reader 0 (LoadPlace 0) ∷ Reader 0 LoadFrame ∷ []
+
+-- a lookup meets the count that it loaded in the next life
+abbrev pub two_lives : List Event
+two_lives = published ++ begins ++ given_again ++ Reader 0 Exchange ∷ []
+
+-- the seat holds the frame and has read its second word, and the keeper tries to give it again
+abbrev pub held : List Event
+held = published ++ begins ++ Reader 0 Exchange ∷ Reader 0 (LoadWord 1) ∷ given_again
