@@ -41,6 +41,7 @@ stopped_run_of_two_keeps_the_cursor =
     reg 0 1 0 0xaa ∷ reg 0 2 0 0xaa ∷ ok (SetRun 1) ∷ scan 4 ∷ reg 0 0 0 0xbb ∷ reg 0 3 0 0xcc ∷ scan 9
     ∷ stopped (SetRun 2) 1 0 ∷ lies 0 0 0 0xbb true true Waiting ∷ lies 0 1 0 0xaa true false Private
     ∷ lies 0 2 0 0xaa true true (Merged 0) ∷ lies 0 3 0 0xcc true true Private
+    ∷ shows (λ k. k.merge_across_nodes) 1 ∷ shows (λ k. k.max_page_sharing) 256
     ∷ drop 0 2 ∷ ok (SetRun 1) ∷ scan 2 ∷ stat 0 0 2 1 0 0 5 ∷ []
 
 -- how many passes have ended is counted up to the greatest number of 64 bits, and stays there
@@ -78,15 +79,26 @@ rows_there =
 abbrev pub all_there : List Line
 all_there = rows_there ++ settings_there 1 ++ stands (dup 0 0 1 0xaa ∷ dup 1 1 1 0xbb ∷ []) ∷ stat 1 1 1 1 0 0 3 ∷ []
 
--- none of these commands changes another page, a dup, a setting, or the pass; the next dup has the next number
-abbrev pub nothing_else_changes : List Line
-nothing_else_changes =
-    middle_of_a_pass ++ all_there ++ reg 2 0 0 0xff ∷ lies 2 0 0 0xff true false Private ∷ put 2 0 0xfe ∷ ok (MovePage (at 2 0) 1)
-    ∷ lies 2 0 1 0xfe true false Private ∷ unmerge 2 0 ∷ ok (Mergeable 2) ∷ drop 2 0 ∷ ok (MovePage (at 0 0) 1)
-    ∷ ok (MovePage (at 0 2) 1) ∷ ok (MoveDup 0 1) ∷ ok (SetRun 0) ∷ ok (SetRun 1) ∷ ok (SetPagesToScan 9) ∷ ok (SetPagesToScan 7)
-    ∷ ok (SetAcross 0) ∷ ok (SetLimit 3) ∷ ok (Mergeable 0) ∷ all_there ++ prune 1 ∷ rows_there ++ settings_there 1
-    ++ stands (dup 0 0 1 0xaa ∷ []) ∷ scan 1 ∷ lies 0 3 1 0xdd true true Waiting ∷ stat 1 1 2 0 0 0 4
-    ∷ put 0 3 0xcc ∷ scan 8 ∷ stands (dup 0 0 1 0xaa ∷ dup 2 1 1 0xcc ∷ []) ∷ stat 2 2 0 0 0 0 6 ∷ []
+-- settings, a move to a page's home, a move of a dup, and a guest made mergeable that was so change nothing else
+abbrev pub settings_change_nothing_else : List Line
+settings_change_nothing_else =
+    middle_of_a_pass ++ ok (SetRun 0) ∷ ok (SetPagesToScan 9) ∷ ok (SetPagesToScan 7) ∷ ok (SetAcross 0) ∷ ok (SetLimit 3)
+    ∷ settings_there 0 ++ ok (SetRun 1) ∷ ok (MovePage (at 0 0) 1) ∷ ok (MovePage (at 0 2) 1) ∷ ok (MoveDup 0 1)
+    ∷ ok (Mergeable 0) ∷ all_there
+
+-- what is done to one page changes no other page, no dup, no setting, and not the pass
+abbrev pub other_pages_stay : List Line
+other_pages_stay =
+    middle_of_a_pass ++ reg 2 0 0 0xff ∷ lies 2 0 0 0xff true false Private ∷ put 2 0 0xfe ∷ ok (MovePage (at 2 0) 1)
+    ∷ lies 2 0 1 0xfe true false Private ∷ unmerge 2 0 ∷ lies 2 0 1 0xfe false false Private ∷ ok (Mergeable 2)
+    ∷ lies 2 0 1 0xfe true false Private ∷ drop 2 0 ∷ all_there
+
+-- pruning drops the stale dups alone; the pass goes on, and the next dup has the next number
+abbrev pub pruning_drops_stale_dups_alone : List Line
+pruning_drops_stale_dups_alone =
+    middle_of_a_pass ++ prune 1 ∷ rows_there ++ settings_there 1 ++ stands (dup 0 0 1 0xaa ∷ []) ∷ scan 1
+    ∷ lies 0 3 1 0xdd true true Waiting ∷ stat 1 1 2 0 0 0 4 ∷ put 0 3 0xcc ∷ scan 8
+    ∷ stands (dup 0 0 1 0xaa ∷ dup 2 1 1 0xcc ∷ []) ∷ stat 2 2 0 0 0 0 6 ∷ []
 
 -- a visit changes its own page alone: one waits, and one joins a dup
 abbrev pub visits_change_their_pages_alone : List Line
@@ -110,7 +122,8 @@ stopped_scan_changes_nothing_else =
     middle_of_a_pass ++ gives (Scan 3) (Ok (Scanned 0 (Some Memory))) ∷ all_there ++ gives (Scan 3) (Ok (Scanned 1 (Some Memory)))
     ∷ lies 0 0 1 0xaa true true (Merged 0) ∷ lies 0 1 1 0xaa true true (Merged 0) ∷ lies 0 2 1 0xcc true true Private
     ∷ lies 0 3 1 0xdd true true Private ∷ lies 1 0 1 0xee false false Private ∷ settings_there 1
-    ++ stands (dup 0 0 1 0xaa ∷ dup 1 1 1 0xbb ∷ []) ∷ stat 1 1 0 2 0 0 4 ∷ []
+    ++ stands (dup 0 0 1 0xaa ∷ dup 1 1 1 0xbb ∷ []) ∷ stat 1 1 0 2 0 0 4 ∷ put 0 3 0xcc ∷ scan 8
+    ∷ stands (dup 0 0 1 0xaa ∷ dup 1 1 1 0xbb ∷ dup 2 2 1 0xcc ∷ []) ∷ stat 2 2 0 0 0 0 6 ∷ []
 
 -- an unmerging leaves dups, settings and cursor; another limit then drops the stale dups, and nothing else
 abbrev pub unmerging_leaves_the_dups : List Line
@@ -132,3 +145,13 @@ run_of_two_leaves_the_dups =
     ∷ lies 1 0 1 0xee false false Private ∷ settings_there 2 ++ stands (dup 0 0 1 0xaa ∷ dup 1 1 1 0xbb ∷ []) ∷ stat 0 0 0 4 0 0 3
     ∷ ok (SetRun 1) ∷ put 0 3 0xcc ∷ scan 8 ∷ stands (dup 0 0 1 0xaa ∷ dup 1 1 1 0xbb ∷ dup 2 2 1 0xaa ∷ dup 3 3 1 0xcc ∷ [])
     ∷ stat 2 2 0 0 1 2 5 ∷ []
+
+-- a run of 2 that stops has taken the pages before, set run to 0, and changed nothing else
+abbrev pub stopped_run_of_two_changes_nothing_else : List Line
+stopped_run_of_two_changes_nothing_else =
+    middle_of_a_pass ++ reg 3 0 1 0xf0 ∷ reg 3 1 1 0xf1 ∷ reg 3 2 1 0xf2 ∷ stopped (SetRun 2) 1 1
+    ∷ lies 0 0 1 0xaa true false Private ∷ lies 0 1 1 0xaa true true (Merged 0) ∷ lies 0 2 1 0xcc true true Waiting
+    ∷ lies 0 3 1 0xdd true true Private ∷ lies 1 0 1 0xee false false Private ∷ lies 3 0 1 0xf0 true false Private
+    ∷ settings_there 0 ++ stands (dup 0 0 1 0xaa ∷ dup 1 1 1 0xbb ∷ []) ∷ stat 1 0 1 5 0 0 3
+    ∷ drop 3 0 ∷ drop 3 1 ∷ drop 3 2 ∷ ok (SetRun 1) ∷ put 0 3 0xcc ∷ scan 1 ∷ stat 1 0 1 2 0 0 4 ∷ scan 4
+    ∷ stands (dup 0 0 1 0xaa ∷ dup 1 1 1 0xbb ∷ dup 2 2 1 0xcc ∷ []) ∷ stat 2 2 0 0 0 0 5 ∷ []
