@@ -20,7 +20,7 @@ use Rattle.ksm_book.proofs.Moves.{base_is_items}
 use Rattle.ksm_book.proofs.Sharing.{tree_is_home}
 use Rattle.ksm_book.proofs.Visiting.{state_of_item}
 
-kind_of_item : (n : ℕ) (s : PageState) → merged_into n s ≡ true → kind_for s ≡ Stable
+pub kind_of_item : (n : ℕ) (s : PageState) → merged_into n s ≡ true → kind_for s ≡ Stable
 kind_of_item n OwnPage e = absurd (grind (arith, e))
 kind_of_item n Waiting e = absurd (grind (arith, e))
 kind_of_item n (Merged d) e = refl

@@ -19,6 +19,7 @@ pub mod Remounted
 pub mod Mounts
 pub mod Remounts
 pub mod Lawfulness
+pub mod Standing
 pub mod DupMoves
 pub mod Linking
 pub mod Partners

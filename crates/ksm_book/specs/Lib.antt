@@ -10,5 +10,6 @@ pub mod Whole
 pub mod Unmerged
 pub mod Mounted
 pub mod Lawful
+pub mod Promised
 pub mod Scanned
 pub mod Wanted

@@ -1,6 +1,6 @@
 //! The book of page sharing.
 
-ghost use Rattle.std.specs.Prelude.{◌≡◌, IfOk, IfErr, option_map};
+ghost use Rattle.std.specs.Prelude.{◌≡◌, ◌≤◌, IfOk, IfErr, option_map};
 ghost use Rattle.ksm_base.specs.Answers.{IsAnswerOrMemory};
 ghost use Rattle.ksm_base.specs.Apply.{after};
 ghost use Rattle.ksm_base.specs.Counting.{counters_of};
@@ -11,7 +11,9 @@ ghost use Rattle.ksm_base.specs.Values.{IsShape};
 ghost use Rattle.frame_core.specs.Ledger.{first_ledger};
 ghost use Rattle.ksm_book.specs.Laid.{LoadsIf};
 ghost use Rattle.ksm_base.specs.Sound.{IsSound};
+ghost use Rattle.ksm_book.specs.Keeping.{spent};
 ghost use Rattle.ksm_book.specs.Lawful.{LieLawfully, ShareLawfully};
+ghost use Rattle.ksm_book.specs.Promised.{FindsPlace, NumbersAreSmall};
 ghost use Rattle.ksm_book.specs.Steps.{Does};
 ghost use Rattle.ksm_book.specs.Whole.{nodes_got, HasShown};
 
@@ -80,6 +82,9 @@ impl Book {
         ensures sound { IsSound self.now.state }
         ensures placed { LieLawfully self.now.state self.now.keeper }
         ensures shared { ShareLawfully self.now.state self.now.keeper }
+        ensures place { FindsPlace self.now.state }
+        ensures lives { self.now.state.next ≤ spent self.now.keeper.ledger }
+        ensures numbers { NumbersAreSmall self.now.state }
     {
         self.state.lies_lawfully();
     }
