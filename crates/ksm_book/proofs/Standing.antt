@@ -10,6 +10,8 @@ use Rattle.std.proofs.lemmas.List.Elements.{All-cons, All-head, All-tail}
 use Rattle.std.proofs.lemmas.Map.Keys.{IsDistinct-from_apart}
 use Rattle.std.proofs.lemmas.Map.Steps.{length-le_from_distinct_below}
 use Rattle.ksm_base.specs.declared.shape.Shape.{Shape}
+use Rattle.ksm_base.specs.declared.row.PageState.{PageState}
+use Rattle.ksm_base.specs.declared.row.PageState.TheVariants.{Private as OwnPage, Waiting, Merged}
 use Rattle.ksm_base.specs.declared.row.Row.{Row}
 use Rattle.ksm_base.specs.declared.row.DupRow.{DupRow}
 use Rattle.ksm_base.specs.Rows.{InPlaceOrder, item_count, is_stale, merged_into, merged_state}
@@ -29,9 +31,13 @@ use Rattle.frame_table.specs.Named.{KeeperView}
 use Rattle.ksm_book.specs.Laid.{Lay, state_of}
 use Rattle.ksm_book.specs.Promised.{FindsPlace, NumbersAreSmall}
 use Rattle.ksm_book.specs.Lawful.{LieLawfully}
-use Rattle.ksm_book.proofs.Lawfulness.{kind_of_item}
 use Rattle.ksm_book.proofs.Laying.{own_kind}
 use Rattle.ksm_book.proofs.Visiting.{state_of_item, waiting_is_alone}
+
+kind_of_item : (n : ℕ) (s : PageState) → merged_into n s ≡ true → kind_for s ≡ Stable
+kind_of_item n OwnPage e = absurd (grind (arith, e))
+kind_of_item n Waiting e = absurd (grind (arith, e))
+kind_of_item n (Merged d) e = refl
 
 -- an element that is counted stands somewhere
 counted_at : (test : Row → Bool) (rows : List Row) → (count_by test rows ≡ 0 → ⊥) → (j : ℕ) × (j < length rows) × (test (row_in rows j) ≡ true)

@@ -13,8 +13,7 @@ ghost use Rattle.frame_core.specs.Ledger.{first_ledger};
 ghost use Rattle.ksm_book.specs.Laid.{LoadsIf};
 ghost use Rattle.ksm_base.specs.Sound.{IsSound};
 ghost use Rattle.ksm_book.specs.Keeping.{spent};
-ghost use Rattle.ksm_book.specs.Lawful.{LieLawfully, ShareLawfully};
-ghost use Rattle.ksm_book.specs.Promised.{FindsPlace, NumbersAreSmall};
+ghost use Rattle.ksm_book.specs.Promised.{FindsPlace, LiesInFrames, NumbersAreSmall};
 ghost use Rattle.ksm_book.specs.Steps.{Does};
 ghost use Rattle.ksm_book.specs.Whole.{nodes_got, HasShown};
 
@@ -75,8 +74,7 @@ impl State {
     /// A law: the facts of the book state, and how its rows and dups lie in the frames.
     pub fn lies_lawfully(&self)
         ensures sound { IsSound self.now.state }
-        ensures placed { LieLawfully self.now.state self.now.keeper }
-        ensures shared { ShareLawfully self.now.state self.now.keeper }
+        ensures placed { LiesInFrames self.now.state self.now.keeper }
         ensures place { FindsPlace self.now.state }
         ensures lives { self.now.state.next ≤ spent self.now.keeper.ledger }
         ensures numbers { NumbersAreSmall self.now.state }
