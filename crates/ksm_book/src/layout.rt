@@ -421,7 +421,6 @@ impl Layout {
     /// All stale dups go. Says how many there were.
     pub fn prune(&mut self, table: &FrameTable) -> u64
         requires own { self.old.keeper.table ≡ table.now }
-        requires places { All (λ d. d.place < frames_of self.old.shape) self.old.dups }
         ensures own { self.new.keeper.table ≡ self.old.keeper.table }
         ensures state { self.new ≡ record self.old { dups = filter (has_items self.old.rows) self.old.dups; keeper = self.new.keeper } }
         ensures count { result ≡ count_by (is_stale self.old.rows) self.old.dups }
