@@ -107,7 +107,7 @@ one_of_page page (r ∷ rs) rise =
       | inr other ↦ let rest = one_of_page page rs (pairs_tail Before r rs rise) in grind (arith, more, other, rest)
     ]
 
-abbrev Lower : DupRow → DupRow → Type 0
+abbrev pub Lower : DupRow → DupRow → Type 0
 Lower d e = (d.place < e.place) × ((d.number == e.number) ≡ false)
 
 pub ordered_filter : (p : DupRow → Bool) (dups : List DupRow) → InPlaceOrder dups → InPlaceOrder (filter p dups)

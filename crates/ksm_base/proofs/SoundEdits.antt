@@ -78,7 +78,6 @@ sound_rows b rows s h =
       waiting = h.waiting;
       items = h.items;
       dups_rise = s.dups_rise;
-      places = s.places;
       numbers = s.numbers;
       trees = s.trees;
       limit = h.limit;
@@ -101,7 +100,6 @@ sound_settings b run pages_to_scan passes cursor run_most pages_range passes_fit
           let item : (dup : DupRow) × IsDupOf b.knobs b.dups (get_or b.rows k d) number dup = s.items k d lt number merged in
           (item.0, record { stands = item.1.stands; tree = item.1.tree; bytes = item.1.bytes });
       dups_rise = s.dups_rise;
-      places = s.places;
       numbers = s.numbers;
       trees = s.trees;
       limit = s.limit;
@@ -243,7 +241,6 @@ sound_without_stale b s =
           let item : (dup : DupRow) × IsDupOf b.knobs b.dups r number dup = s.items k d lt number merged in
           (item.0, record { stands = find_filter (λ d. d.number == number) live b.dups item.0 item.1.stands (dup_has_items b.rows item.0 k d lt (item_of_dup b.knobs b.dups r number item.0 merged item.1)); tree = item.1.tree; bytes = item.1.bytes });
       dups_rise = ordered_filter live b.dups s.dups_rise;
-      places = All-filter live (λ d. d.place < place_count b.shape) b.dups s.places;
       numbers = All-filter live (λ d. d.number < b.next) b.dups s.numbers;
       trees = All-filter live (λ d. b.knobs.merge_across_nodes ≡ 1 → d.tree ≡ 0) b.dups s.trees;
       limit = All-filter live (λ d. item_count b.rows d ≤ b.knobs.max_page_sharing) b.dups s.limit;

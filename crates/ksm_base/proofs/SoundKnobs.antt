@@ -79,7 +79,6 @@ sound_reset b knobs are_knobs empty alone s =
           let item : (dup : DupRow) × IsDupOf b.knobs b.dups (get_or b.rows k d) number dup = s.items k d lt number merged in
           absurd (none-some item.0 (subst (λ (dups : List DupRow). dup_numbered number dups ≡ Some item.0) empty item.1.stands));
       dups_rise = s.dups_rise;
-      places = s.places;
       numbers = s.numbers;
       trees = rw empty (λ k d lt. absurd (omega arith));
       limit = rw empty (λ k d lt. absurd (omega arith));

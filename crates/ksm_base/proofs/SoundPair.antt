@@ -1,9 +1,9 @@
 -- A new dup of two pages keeps a book sound.
-use Rattle.std.proofs.Common.{◌≡◌, ℕ, ◌+◌, ◌<◌, ◌≤◌, Bool, true, false, List, ◌∷◌, get_or, Some, None, Option, refl, sym, subst, ap, ◌∙◌, inl, inr, arith}
+use Rattle.std.proofs.Common.{◌≡◌, ℕ, suc, ◌+◌, ◌<◌, ◌≤◌, Bool, true, false, List, [], ◌∷◌, get_or, Some, None, Option, refl, sym, subst, ap, ◌∙◌, inl, inr, arith}
 use Rattle.std.specs.Prelude.{◌==◌, ◌||◌, nat_lt, All, filter, find, bytes_eq, not, if◌then◌else◌}
 use Rattle.std.specs.List.{list_any, range_with_len}
 use Rattle.std.proofs.lemmas.Bool.{cases_Bool, cond_both, and_parts, and_from, not_from_false, or_cases, both_ways, not-true, eqb-true, eq-eqb, ltb-true, ne_eqb}
-use Rattle.std.proofs.lemmas.List.Elements.{All-filter}
+use Rattle.std.proofs.lemmas.List.Elements.{All-cons, All-filter}
 use Rattle.std.proofs.lemmas.List.Folds.{find-append, list_any_at}
 use Rattle.std.proofs.lemmas.List.FromFn.{get_or-range_with_len, length-range_with_len}
 use Rattle.std.proofs.lemmas.Slice.Eq.{bytes_eq-Decides}
@@ -12,47 +12,51 @@ use Rattle.ksm_base.specs.declared.row.PageState.TheVariants.{Private, Waiting, 
 use Rattle.ksm_base.specs.declared.row.Row.{Row}
 use Rattle.ksm_base.specs.declared.row.DupRow.{DupRow}
 use Rattle.ksm_base.specs.declared.knobs.Knobs.{Knobs}
-use Rattle.ksm_base.specs.Rows.{same_page, private_state, waiting_state, merged_into, item_count, is_stale, has_items, with_dup, change_rows, dup_numbered}
+use Rattle.ksm_base.specs.Rows.{same_page, private_state, waiting_state, merged_into, item_count, is_stale, has_items, with_dup, change_rows, dup_numbered, InPlaceOrder}
 use Rattle.ksm_base.specs.State.{BookState, tree_of, place_count}
-use Rattle.ksm_base.specs.Visit.{waits_for, partner, empty_place, chosen_place, new_place, made_dup}
+use Rattle.ksm_base.specs.Visit.{waits_for, partner, empty_from, place_or, new_place, made_dup}
 use Rattle.ksm_base.specs.Sound.{IsDupOf, IsSound}
 use Rattle.ksm_base.proofs.Edits.{find_nothing, find_passes, find_filter, find_over, find_all, count_map_le, count_change_le, count_either_le, count_none}
-use Rattle.ksm_base.proofs.Orders.{ordered_change, one_of_each_page, one_of_each_place, one_of_page, dups_parted, elsewhere, dups_with, all_with_dup}
+use Rattle.ksm_base.proofs.Orders.{Lower, pairs_tail, ordered_change, one_of_each_page, one_of_each_place, one_of_page, dups_parted, elsewhere, dups_with, all_with_dup}
 use Rattle.ksm_base.proofs.SoundEdits.{waiting_not_private, item_of_dup, dup_has_items}
 use Rattle.ksm_base.proofs.SoundVisit.{IsVisited, all_changed, waiting_changed, merged_waits}
 
--- where a new dup stands: a place of those that there are, at which no dup has items
+-- where a new dup stands: a place at which no dup has items
 pub record IsFree (b : BookState) (place : ℕ) : Type 0 where
-  pub exists : place < place_count b.shape
   pub apart : All (λ d. has_items b.rows d ≡ true → (d.place == place) ≡ false) b.dups
 
-list_any_false : {X : Type 0} (p : X → Bool) (xs : List X) → list_any p xs ≡ false → All (λ x. p x ≡ false) xs
-list_any_false p xs none k d lt =
-    elim (cases_Bool (p (get_or xs k d))) [
-      | inl passes ↦ absurd (both_ways (list_any p xs) none (list_any_at p xs k d lt passes))
-      | inr fails ↦ fails
+-- no dup has the least empty place
+pub empty_from_le : (p : ℕ) (dups : List DupRow) → p ≤ empty_from p dups
+empty_from_le p [] = omega arith
+empty_from_le p (d ∷ ds) =
+    let rest = empty_from_le (p + 1) ds in
+    cond_both (d.place == p) (empty_from (p + 1) ds) p (λ n. p ≤ n) (λ _. omega (arith, rest)) (λ _. omega arith)
+
+no_dup_has : (p : ℕ) (dups : List DupRow) → InPlaceOrder dups → All (λ d. p ≤ d.place) dups → All (λ d. (d.place == empty_from p dups) ≡ false) dups
+no_dup_has p [] rise from = λ k d lt. absurd (omega arith)
+no_dup_has p (d ∷ ds) rise from =
+    let later : All (λ e. d.place < e.place) ds = λ k e lt. (rise 0 (suc k) e (omega arith) (omega arith)).0 in
+    elim (cases_Bool (d.place == p)) [
+      | inl here ↦
+          let at : d.place ≡ p = eqb-true d.place p here in
+          let more = empty_from_le (p + 1) ds in
+          let is : empty_from p (d ∷ ds) ≡ empty_from (p + 1) ds = grind (arith, here) in
+          rw is (All-cons (λ e. (e.place == empty_from (p + 1) ds) ≡ false) d ds (ne_eqb d.place (empty_from (p + 1) ds) (λ same. omega (arith, at, more, same)))
+          (no_dup_has (p + 1) ds (pairs_tail Lower d ds rise) (λ k e lt. let above = later k e lt in omega (arith, above, at))))
+      | inr there ↦
+          let first : p ≤ d.place = from 0 d (omega arith) in
+          let is : empty_from p (d ∷ ds) ≡ p = grind (arith, there) in
+          rw is (All-cons (λ e. (e.place == p) ≡ false) d ds there (λ k e lt. let above = later k e lt in ne_eqb (get_or ds k e).place p (λ same. omega (arith, first, above, same))))
     ]
 
-free_empty : (b : BookState) (place : ℕ) → empty_place (place_count b.shape) b.dups ≡ Some place → IsFree b place
-free_empty b place found =
-    let p : ℕ → Bool = λ n. not (list_any (λ d. d.place == n) b.dups) in
-    let none = not-true (list_any (λ d. d.place == place) b.dups) (find_passes p (range_with_len 0 (place_count b.shape)) place found) in
-    record {
-      exists = find_all p (λ n. n < place_count b.shape) (range_with_len 0 (place_count b.shape)) place found (below (place_count b.shape));
-      apart = λ k d lt _. list_any_false (λ e. e.place == place) b.dups none k d lt;
-    }
-  where
-    below : (n : ℕ) → All (λ k. k < n) (range_with_len 0 n)
-    below n k d lt =
-        let in_range : k < n = rw (← length-range_with_len 0 n) lt in
-        rw (get_or-range_with_len 0 n k d in_range) (omega arith)
+free_empty : (b : BookState) → IsSound b → IsFree b (empty_from 0 b.dups)
+free_empty b s = record { apart = λ k d lt _. no_dup_has 0 b.dups s.dups_rise (λ j e lt'. omega arith) k d lt }
 
 free_stale : (b : BookState) (stale : DupRow) → IsSound b → find (is_stale b.rows) b.dups ≡ Some stale → IsFree b stale.place
 free_stale b stale s found =
     let passes = find_passes (is_stale b.rows) b.dups stale found in
     let once = find_all (is_stale b.rows) (λ d. All (λ e. (e.place == d.place) ≡ true → e ≡ d) b.dups) b.dups stale found (one_of_each_place b.dups s.dups_rise) in
     record {
-      exists = find_all (is_stale b.rows) (λ d. d.place < place_count b.shape) b.dups stale found s.places;
       apart = λ k d lt lives.
           let dup = get_or b.dups k d in
           elim (cases_Bool (dup.place == stale.place)) [
@@ -64,14 +68,14 @@ free_stale b stale s found =
           ];
     }
 
-pub new_place_free : (b : BookState) (place : ℕ) → IsSound b → new_place (place_count b.shape) b.rows b.dups ≡ Some place → IsFree b place
-new_place_free b place s chosen = go (empty_place (place_count b.shape) b.dups) (find (is_stale b.rows) b.dups) refl refl chosen
+pub new_place_free : (b : BookState) → IsSound b → IsFree b (new_place (place_count b.shape) b.rows b.dups)
+new_place_free b s =
+    let empty = empty_from 0 b.dups in
+    cond_both (nat_lt empty (place_count b.shape)) empty (place_or empty (find (is_stale b.rows) b.dups)) (IsFree b) (λ _. free_empty b s) (λ _. go (find (is_stale b.rows) b.dups) refl)
   where
-    go : (empty : Option ℕ) (stale : Option DupRow) → empty_place (place_count b.shape) b.dups ≡ empty → find (is_stale b.rows) b.dups ≡ stale
-        → chosen_place empty stale ≡ Some place → IsFree b place
-    go (Some p) stale is_empty is_stale e = let same : p ≡ place = cc in free_empty b place (is_empty ∙ e)
-    go None (Some d) is_empty is_stale e = let same : d.place ≡ place = cc in subst (IsFree b) same (free_stale b d s is_stale)
-    go None None is_empty is_stale e = cc
+    go : (stale : Option DupRow) → find (is_stale b.rows) b.dups ≡ stale → IsFree b (place_or (empty_from 0 b.dups) stale)
+    go None is = free_empty b s
+    go (Some d) is = free_stale b d s is
 
 -- the dup of an item stays among the dups when a new one comes
 pub still_stands : (b : BookState) (new dup : DupRow) (number : ℕ) → IsSound b → IsFree b new.place → (new.number == number) ≡ false
@@ -170,7 +174,7 @@ each_of_pair P b w row pair of_w of_row k d lt either =
     ]
 
 -- a new dup is made of the two
-pub sound_made : (b : BookState) (w row : Row) (place : ℕ) → IsPair b w row → IsFree b place → IsSound b → IsSound (made_dup (Some place) b w row)
+pub sound_made : (b : BookState) (w row : Row) (place : ℕ) → IsPair b w row → IsFree b place → IsSound b → IsSound (made_dup place b w row)
 sound_made b w row place pair free s =
     let test : Row → Bool = λ r. same_page r.page w.page || same_page r.page row.page in
     let f : Row → Row = λ r. record r { state = Merged b.next } in
@@ -206,7 +210,6 @@ sound_made b w row place pair free s =
           let lives = dup_has_items b.rows item.0 k d lt (item_of_dup b.knobs b.dups r number item.0 merged item.1) in
           (item.0, record { stands = still_stands b new item.0 number s free other item.1.stands lives; tree = item.1.tree; bytes = item.1.bytes }));
       dups_rise = dups_with new b.dups s.dups_rise s.numbers;
-      places = all_with_dup (λ d. d.place < place_count b.shape) new b.dups free.exists s.places;
       numbers = all_with_dup (λ d. d.number < b.next + 1) new b.dups (omega arith) (λ k d lt. omega (arith, s.numbers k d lt));
       trees = all_with_dup (λ d. b.knobs.merge_across_nodes ≡ 1 → d.tree ≡ 0) new b.dups (λ across. rw across refl) s.trees;
       limit = all_with_dup (λ d. item_count (change_rows test f b.rows) d ≤ b.knobs.max_page_sharing) new b.dups

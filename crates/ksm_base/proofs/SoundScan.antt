@@ -56,13 +56,8 @@ next_row_visited b row s found =
     }
 
 module _ (b : BookState) (row : Row) (visited : IsVisited b row) (s : IsSound b) where
-  sound_placed : (w : Row) (place : Option ℕ) → partner b.knobs b.rows row ≡ Some w → new_place (place_count b.shape) b.rows b.dups ≡ place
-      → IsSound (made_dup place b w row)
-  sound_placed w (Some place) waits chosen = sound_made b w row place (partner_pairs b w row s visited waits) (new_place_free b place s chosen) s
-  sound_placed w None waits chosen = s
-
   pub sound_paired : (w : Option Row) → partner b.knobs b.rows row ≡ w → IsSound (paired w b row)
-  sound_paired (Some w) waits = sound_placed w (new_place (place_count b.shape) b.rows b.dups) waits refl
+  sound_paired (Some w) waits = sound_made b w row (new_place (place_count b.shape) b.rows b.dups) (partner_pairs b w row s visited waits) (new_place_free b s) s
   sound_paired None alone = sound_waiting b row visited alone s
 
   -- a page whose bytes have changed becomes unchanged

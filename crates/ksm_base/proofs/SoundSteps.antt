@@ -83,7 +83,6 @@ sound_opening shape small =
       waiting = λ k d lt. absurd (omega arith);
       items = λ k d lt. absurd (omega arith);
       dups_rise = λ i j d first lt. absurd (omega arith);
-      places = λ k d lt. absurd (omega arith);
       numbers = λ k d lt. absurd (omega arith);
       trees = λ k d lt. absurd (omega arith);
       limit = λ k d lt. absurd (omega arith);

@@ -68,13 +68,9 @@ module _ (start : List Row) where
       → IsRowwise start (change_rows test f b.rows)
   comes_changed test f keeps b h = and_then start b.rows (change_rows test f b.rows) h (some_changed test f keeps b.rows)
 
-  comes_made : (place : Option ℕ) (b : BookState) (w row : Row) → Comes b → Comes (made_dup place b w row)
-  comes_made (Some place) b w row h =
-      comes_changed (λ r. same_page r.page w.page || same_page r.page row.page) (λ r. record r { state = Merged b.next }) (λ r. same_but r r.unchanged (Merged b.next)) b h
-  comes_made None b w row h = h
-
   comes_paired : (w : Option Row) (b : BookState) (row : Row) → Comes b → Comes (paired w b row)
-  comes_paired (Some w) b row h = comes_made (new_place (place_count b.shape) b.rows b.dups) b w row h
+  comes_paired (Some w) b row h =
+      comes_changed (λ r. same_page r.page w.page || same_page r.page row.page) (λ r. record r { state = Merged b.next }) (λ r. same_but r r.unchanged (Merged b.next)) b h
   comes_paired None b row h =
       comes_changed (λ r. same_page r.page row.page) (λ r. record r { state = Waiting }) (λ r. same_but r r.unchanged Waiting) b h
 

@@ -6,7 +6,7 @@ use Rattle.ksm_base.specs.declared.row.DupRow.{DupRow}
 use Rattle.ksm_base.specs.declared.knobs.Knobs.{Knobs}
 use Rattle.ksm_base.specs.Values.{IsShape}
 use Rattle.ksm_base.specs.Rows.{InPageOrder, InPlaceOrder, private_state, waiting_state, item_count, dup_numbered}
-use Rattle.ksm_base.specs.State.{BookState, place_count, tree_of}
+use Rattle.ksm_base.specs.State.{BookState, tree_of}
 use Rattle.ksm_base.specs.Visit.{partner}
 
 -- each knob is in its range
@@ -42,8 +42,6 @@ pub record IsSound (b : BookState) : Type 0 where
   pub items : All (λ r. (number : ℕ) → r.state ≡ Merged number → (dup : DupRow) × IsDupOf b.knobs b.dups r number dup) b.rows
   -- the dups are in the order of their places, each place and each number once
   pub dups_rise : InPlaceOrder b.dups
-  -- each dup's place is one of the places
-  pub places : All (λ d. d.place < place_count b.shape) b.dups
   -- each dup's number has been given
   pub numbers : All (λ d. d.number < b.next) b.dups
   -- where pages merge across nodes each dup's tree is 0

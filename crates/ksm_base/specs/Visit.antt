@@ -1,6 +1,6 @@
 -- One visit of the scan (mm/ksm, stable and unstable tree; what is said to be own is not in that text).
-use Rattle.std.specs.Prelude.{ℕ, zero, suc, ◌+◌, Bool, true, not, ◌&&◌, ◌||◌, ◌==◌, nat_lt, nat_le, List, find, Option, Some, None, is_some, is_none, bytes_eq, if◌then◌else◌}
-use Rattle.std.specs.List.{list_any, list_all, range_with_len}
+use Rattle.std.specs.Prelude.{ℕ, zero, suc, ◌+◌, Bool, true, not, ◌&&◌, ◌||◌, ◌==◌, nat_lt, nat_le, List, [], ◌∷◌, find, Option, Some, None, is_some, is_none, bytes_eq, if◌then◌else◌}
+use Rattle.std.specs.List.{list_all}
 use Rattle.ksm_base.specs.declared.page.GuestPage.{GuestPage}
 use Rattle.ksm_base.specs.declared.row.PageState.TheVariants.{Private, Waiting, Merged}
 use Rattle.ksm_base.specs.declared.row.Row.{Row}
@@ -64,30 +64,30 @@ waits_for knobs row w =
 abbrev pub partner : Knobs → List Row → Row → Option Row
 partner knobs rows row = find (waits_for knobs row) rows
 
--- the least of so many places that no dup has (own)
-abbrev pub empty_place : ℕ → List DupRow → Option ℕ
-empty_place places dups = find (λ p. not (list_any (λ d. d.place == p) dups)) (range_with_len 0 places)
+-- the least number from p on that no dup has for its place, where the dups stand in the order of their places (own)
+abbrev pub empty_from : ℕ → List DupRow → ℕ
+empty_from p [] = p
+empty_from p (d ∷ dups) = if d.place == p then empty_from (p + 1) dups else p
 
--- the empty place, or where there is none that of the stale dup (own)
-abbrev pub chosen_place : Option ℕ → Option DupRow → Option ℕ
-chosen_place (Some place) stale = Some place
-chosen_place None (Some d) = Some d.place
-chosen_place None None = None
+-- the place of a dup, or the one given where there is none
+abbrev pub place_or : ℕ → Option DupRow → ℕ
+place_or place None = place
+place_or place (Some d) = d.place
 
--- a new dup takes the least empty place, or where there is none that of the stale dup at the least place (own)
-abbrev pub new_place : ℕ → List Row → List DupRow → Option ℕ
-new_place places rows dups = chosen_place (empty_place places dups) (find (is_stale rows) dups)
+-- a new dup takes the least empty place, or where all are taken that of the stale dup at the least place (own);
+-- a page with a frame of its own leaves one or the other, since there are as many places as frames
+abbrev pub new_place : ℕ → List Row → List DupRow → ℕ
+new_place places rows dups =
+    let empty = empty_from 0 dups in if nat_lt empty places then empty else place_or empty (find (is_stale rows) dups)
 
--- a new dup of the waiting row and the visited one, in the stead of a stale dup at its place;
--- without a place, which can't come about while the frames are as many as the places, nothing changes (own)
-abbrev pub made_dup : Option ℕ → BookState → Row → Row → BookState
-made_dup (Some place) b w row =
+-- a new dup of the waiting row and the visited one, in the stead of a stale dup at its place (own)
+abbrev pub made_dup : ℕ → BookState → Row → Row → BookState
+made_dup place b w row =
     record b {
       rows = change_rows (λ r. same_page r.page w.page || same_page r.page row.page) (λ r. record r { state = Merged b.next }) b.rows;
       dups = with_dup (record { number = b.next; place = place; tree = tree_of b.knobs row; bytes = row.bytes }) b.dups;
       next = b.next + 1;
     }
-made_dup None b w row = b
 
 -- a row whose bytes have stayed makes a dup with the row that waits for it, or waits
 abbrev pub paired : Option Row → BookState → Row → BookState

@@ -26,7 +26,7 @@ pass_ends_where_the_rest_is_gone =
 abbrev pub scan_stops_for_memory : List Line
 scan_stops_for_memory =
     reg 0 0 0 0xaa ∷ reg 0 1 0 0xbb ∷ ok (SetRun 1) ∷ scan 4 ∷ gives (Scan 2) (Ok (Scanned 0 (Some Memory)))
-    ∷ stat 0 0 0 2 0 0 2 ∷ scan 2 ∷ stat 0 0 2 0 0 0 3 ∷ []
+    ∷ stat 0 0 0 2 0 0 2 ∷ shows (λ k. k.merge_across_nodes) 1 ∷ scan 2 ∷ stat 0 0 2 0 0 0 3 ∷ []
 
 -- pages are ordered by guest, then by page
 abbrev pub guests_come_first : List Line

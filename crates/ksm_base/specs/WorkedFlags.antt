@@ -4,7 +4,7 @@ use Rattle.ksm_base.specs.declared.row.PageState.TheVariants.{Private, Waiting, 
 use Rattle.ksm_base.specs.declared.command.Command.TheVariants.{Store, Scan, Unmerge, Mergeable, MovePage, SetRun, SetAcross, SetLimit}
 use Rattle.ksm_base.specs.declared.reply.Reply.TheVariants.{Scanned, Unmerged}
 use Rattle.ksm_base.specs.declared.fault.Fault.TheVariants.{UnknownPage}
-use Rattle.ksm_base.specs.Worked.{Line, gives, rows_at, reads, lies, at, full, ok, refused, reg, put, drop, scan, unmerge, stat, get, merged}
+use Rattle.ksm_base.specs.Worked.{Line, gives, shows, rows_at, reads, lies, at, full, ok, refused, reg, put, drop, scan, unmerge, stat, get, merged}
 
 -- pages of two guests are two pages, though they have one number
 abbrev pub pages_of_two_guests : List Line
@@ -53,7 +53,8 @@ equal_store_makes_no_page_unchanged =
 -- a page that joins a dup is not unchanged by that
 abbrev pub joined_page_keeps_its_flag : List Line
 joined_page_keeps_its_flag =
-    merged ++ reg 0 2 0 0xaa ∷ scan 3 ∷ lies 0 2 0 0xaa true false (Merged 0) ∷ put 0 0 0xbb ∷ put 0 1 0xcc ∷ put 0 2 0xaa
+    merged ++ reg 0 2 0 0xaa ∷ scan 3 ∷ lies 0 2 0 0xaa true false (Merged 0)
+    ∷ shows (λ k. k.merge_across_nodes) 1 ∷ put 0 0 0xbb ∷ put 0 1 0xcc ∷ put 0 2 0xaa
     ∷ scan 3 ∷ stat 0 0 0 3 0 0 4 ∷ []
 
 -- a guest that is made mergeable keeps what is unchanged
@@ -73,4 +74,4 @@ abbrev pub run_of_two_keeps_mergeable : List Line
 run_of_two_keeps_mergeable =
     merged ++ reg 0 2 1 0xbb ∷ reg 1 0 1 0xcc ∷ unmerge 1 0 ∷ scan 5 ∷ lies 0 2 1 0xbb true true Private ∷ scan 1 ∷ lies 0 2 1 0xbb true true Waiting
     ∷ gives (SetRun 2) (Ok (Unmerged 2 None)) ∷ lies 0 0 0 0xaa true false Private ∷ lies 0 1 0 0xaa true false Private
-    ∷ lies 0 2 1 0xbb true false Private ∷ lies 1 0 1 0xcc false false Private ∷ stat 0 0 0 3 0 0 4 ∷ []
+    ∷ lies 0 2 1 0xbb true false Private ∷ lies 1 0 1 0xcc false false Private ∷ shows (λ k. k.merge_across_nodes) 1 ∷ stat 0 0 0 3 0 0 4 ∷ []

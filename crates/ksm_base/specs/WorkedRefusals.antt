@@ -55,10 +55,11 @@ no_scan_but_with_run_one =
 abbrev pub all_but_the_scan_goes_on : List Line
 all_but_the_scan_goes_on =
     merged ++ ok (SetRun 0) ∷ reg 1 0 0 0xbb ∷ put 1 0 0xcc ∷ put 0 0 0xdd ∷ ok (MovePage (at 0 1) 0) ∷ ok (MoveDup 0 0)
-    ∷ ok (Mergeable 0) ∷ ok (SetPagesToScan 7) ∷ drop 1 0 ∷ unmerge 0 1 ∷ prune 1 ∷ ok (SetAcross 0) ∷ ok (SetLimit 3)
-    ∷ gives (SetRun 2) (Ok (Unmerged 0 None)) ∷ reg 1 0 0 0xbb ∷ put 1 0 0xcc ∷ ok (MovePage (at 1 0) 0) ∷ ok (Mergeable 1)
+    ∷ ok (Mergeable 0) ∷ ok (SetPagesToScan 7) ∷ drop 1 0
+    ∷ shows (λ k. k.merge_across_nodes) 1 ∷ shows (λ k. k.pages_to_scan) 7 ∷ unmerge 0 1 ∷ prune 1 ∷ ok (SetAcross 0) ∷ ok (SetLimit 3)
+    ∷ shows (λ k. k.run) 0 ∷ gives (SetRun 2) (Ok (Unmerged 0 None)) ∷ reg 1 0 0 0xbb ∷ put 1 0 0xcc ∷ ok (MovePage (at 1 0) 0) ∷ ok (Mergeable 1)
     ∷ ok (SetPagesToScan 8) ∷ unmerge 1 0 ∷ prune 0 ∷ ok (SetAcross 1) ∷ ok (SetLimit 4) ∷ drop 1 0
-    ∷ refused UnknownPlace (MoveDup 0 0) ∷ stat 0 0 0 0 0 0 2 ∷ []
+    ∷ refused UnknownPlace (MoveDup 0 0) ∷ shows (λ k. k.run) 2 ∷ stat 0 0 0 0 0 0 2 ∷ []
 
 -- a run of 0 or 1 is done, and answers nothing else; a run of 2 that lets no page go tells so
 abbrev pub answers_of_a_run : List Line

@@ -388,11 +388,6 @@ pub fn scan_of_nothing_ends_no_pass()
     ensures { Plays (opening (shape 1 4)) WorkedPasses.scan_of_nothing_ends_no_pass }
 {}
 
-/// There, none of these commands changes any other page, a dup, or the pass.
-pub fn nothing_else_changes()
-    ensures { Plays (opening (shape 2 8)) WorkedPasses.nothing_else_changes }
-{}
-
 /// Pages of two guests are two pages, though they have one number.
 pub fn pages_of_two_guests()
     ensures { Plays (opening (shape 1 4)) WorkedFlags.pages_of_two_guests }
@@ -451,4 +446,49 @@ pub fn frame_is_missed_where_it_is_wanted()
 /// A page moves to a lower node as it moves to a higher one.
 pub fn page_moves_to_a_lower_node()
     ensures { Plays (opening (shape 2 1)) WorkedFrames.page_moves_to_a_lower_node }
+{}
+
+/// A visit changes its own page alone: one waits, and one joins a dup.
+pub fn visits_change_their_pages_alone()
+    ensures { Plays (opening (shape 2 8)) WorkedPasses.visits_change_their_pages_alone }
+{}
+
+/// The visit that makes a dup changes its two pages alone.
+pub fn new_dup_takes_two_pages_alone()
+    ensures { Plays (opening (shape 2 8)) WorkedPasses.new_dup_takes_two_pages_alone }
+{}
+
+/// A scan that stops for memory has ended the waiting where a pass begins, and changed nothing else.
+pub fn stopped_scan_changes_nothing_else()
+    ensures { Plays (opening (shape 2 8)) WorkedPasses.stopped_scan_changes_nothing_else }
+{}
+
+/// An unmerging leaves dups, settings and cursor; another limit then drops the stale dups, and nothing else.
+pub fn unmerging_leaves_the_dups()
+    ensures { Plays (opening (shape 2 8)) WorkedPasses.unmerging_leaves_the_dups }
+{}
+
+/// A run of 2 leaves dups and other settings, and the next dups have the next numbers.
+pub fn run_of_two_leaves_the_dups()
+    ensures { Plays (opening (shape 2 8)) WorkedPasses.run_of_two_leaves_the_dups }
+{}
+
+/// A run of 2 that stops has taken the pages before, set run to 0, and changed nothing else.
+pub fn stopped_run_of_two_changes_nothing_else()
+    ensures { Plays (opening (shape 2 8)) WorkedPasses.stopped_run_of_two_changes_nothing_else }
+{}
+
+/// Settings, a move to a page's home, a move of a dup, and a guest made mergeable that was so change nothing else.
+pub fn settings_change_nothing_else()
+    ensures { Plays (opening (shape 2 8)) WorkedPasses.settings_change_nothing_else }
+{}
+
+/// What is done to one page changes no other page, no dup, no setting, and not the pass.
+pub fn other_pages_stay()
+    ensures { Plays (opening (shape 2 8)) WorkedPasses.other_pages_stay }
+{}
+
+/// Pruning drops the stale dups alone; the pass goes on, and the next dup has the next number.
+pub fn pruning_drops_stale_dups_alone()
+    ensures { Plays (opening (shape 2 8)) WorkedPasses.pruning_drops_stale_dups_alone }
 {}

@@ -18,7 +18,8 @@ pub mod Pruning
 pub mod Remounted
 pub mod Mounts
 pub mod Remounts
-pub mod Lawfulness
+pub mod Standing
+pub mod Promised
 pub mod DupMoves
 pub mod Linking
 pub mod Partners

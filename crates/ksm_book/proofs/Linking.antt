@@ -28,7 +28,7 @@ use Rattle.ksm_tree.specs.declared.choice.Choice.{Choice}
 use Rattle.ksm_tree.specs.Bridge.{AreTied, let_out, place_in}
 use Rattle.ksm_tree.specs.Choosing.{best_of, choice_of}
 use Rattle.ksm_tree.specs.Dups.{AreDups, DupsState, rows_of, has_number, dup_of, dup_at, items_in, items_of as items_numbered, change_items, without_place, with_new, is_live, is_stale, stands_at}
-use Rattle.ksm_tree.proofs.Bridge.{best_found, choice_alike, stale_alike}
+use Rattle.ksm_tree.proofs.Bridge.{best_found, choice_alike, choice_exists, stale_alike}
 use Rattle.ksm_tree.proofs.Changes.{row_found, all_rows}
 use Rattle.ksm_tree.proofs.Rows.{found_in}
 use Rattle.ksm_tree.proofs.Tied.{tied_counted}
@@ -243,12 +243,12 @@ pub vacant_there : (rows : List Row) (s : DupsState) (r : Option ℕ) → AreDup
 vacant_there rows s r lawful tied is = vacant_at rows (rows_of s.dups) r (find (is_stale_row rows) (rows_of s.dups)) lawful.in_place_order refl (is ∙ stale_at rows s.dups tied)
 
 -- where a new dup goes
-pub choice_seen : (shape : Shape) (rows : List Row) (s : DupsState) → AreLinked shape rows s → option_map place_in (choice_of s) ≡ new_place (place_count shape) rows (rows_of s.dups)
-choice_seen shape rows s linked = choice_alike rows s (tied_counted rows s.dups linked.tied) ∙ ap (λ n. new_place n rows (rows_of s.dups)) linked.places
+pub choice_seen : (shape : Shape) (rows : List Row) (s : DupsState) (c : Choice) → AreLinked shape rows s → choice_of s ≡ Some c → place_in c ≡ new_place (place_count shape) rows (rows_of s.dups)
+choice_seen shape rows s c linked is = choice_alike rows s c (tied_counted rows s.dups linked.tied) is ∙ ap (λ n. new_place n rows (rows_of s.dups)) linked.places
 
-pub no_choice : (o : Option Choice) → is_some o ≡ false → option_map place_in o ≡ None
-no_choice None none = refl
-no_choice (Some x) none = absurd (true≢false none)
+pub choice_is_there : (shape : Shape) (rows : List Row) (s : DupsState) → AreLinked shape rows s → new_place (place_count shape) rows (rows_of s.dups) < place_count shape → is_some (choice_of s) ≡ true
+choice_is_there shape rows s linked room =
+    choice_exists rows s (tied_counted rows s.dups linked.tied) (subst (λ n. new_place n rows (rows_of s.dups) < n) (sym linked.places) room)
 
 -- ---------------------------------------------------------------- a place
 

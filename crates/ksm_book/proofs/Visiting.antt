@@ -1,5 +1,5 @@
 -- What a visit finds, and what becomes of the rows.
-use Rattle.std.proofs.Common.{inl, inr, ◌≡◌, ℕ, ◌+◌, ◌≤◌, true, false, List, [], ◌∷◌, get_or, Option, Some, None, refl, sym, ap, ◌∙◌, subst, arith, eq-eqb}
+use Rattle.std.proofs.Common.{inl, inr, ◌≡◌, ℕ, ◌+◌, ◌<◌, ◌≤◌, true, false, List, [], ◌∷◌, get_or, Option, Some, None, refl, sym, ap, ◌∙◌, subst, arith, eq-eqb}
 use Rattle.std.specs.Prelude.{All, Contains, find, ◌&&◌, ◌||◌, nat_le, nat_lt}
 use Rattle.std.proofs.lemmas.Bool.{cases_Bool, and_parts, eqb-true, leb-true}
 use Rattle.std.proofs.lemmas.Bool.Decides.{nat_tests}
@@ -85,15 +85,15 @@ best_joins lay cursor passes row item dup s next alone best found =
     }
 
 -- the waiting row may become the first item of a new dup
-pub partner_founds : (lay : Lay) (cursor : Option GuestPage) (passes : ℕ) (row w : Row) (place : ℕ) → IsSound (state_of lay cursor passes) → partner lay.knobs lay.rows row ≡ Some w → new_place (place_count lay.shape) lay.rows lay.dups ≡ Some place → Founds lay place w
-partner_founds lay cursor passes row w place s waits chosen =
+pub partner_founds : (lay : Lay) (cursor : Option GuestPage) (passes : ℕ) (row w : Row) (place : ℕ) → IsSound (state_of lay cursor passes) → partner lay.knobs lay.rows row ≡ Some w → place ≡ new_place (place_count lay.shape) lay.rows lay.dups → new_place (place_count lay.shape) lay.rows lay.dups < place_count lay.shape → Founds lay place w
+partner_founds lay cursor passes row w place s waits chosen room =
     let b = state_of lay cursor passes in
-    let free : IsFree b place = new_place_free b place s chosen in
+    let free : IsFree b place = subst (IsFree b) (sym chosen) (new_place_free b s) in
     let tells = waits_tells lay.knobs row w (find_passes (waits_for lay.knobs row) lay.rows w waits) in
     record {
       row_is = partner_at b row w s waits;
       alone = waiting_is_alone w.state tells.state;
-      inside = free.exists;
+      inside = subst (λ p. p < place_count lay.shape) (sym chosen) room;
       vacant = λ k d lt same. vacant_at (item_count lay.rows (get_or lay.dups k d)) (λ lives. (let other = free.apart k d lt lives in absurd (grind (arith, nat_tests, other, same))));
       numbers = s.numbers;
       fresh = next_is_new b s;

@@ -10,6 +10,7 @@ pub mod Whole
 pub mod Unmerged
 pub mod Mounted
 pub mod Lawful
+pub mod Promised
 pub mod Scanned
 pub mod Wanted
 pub mod Entered

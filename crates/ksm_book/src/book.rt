@@ -1,6 +1,6 @@
 //! The book of page sharing.
 
-ghost use Rattle.std.specs.Prelude.{◌≡◌, [], Some, IfOk, IfErr, IfSome, option_map};
+ghost use Rattle.std.specs.Prelude.{◌≡◌, ◌≤◌, [], Some, IfOk, IfErr, IfSome, option_map};
 ghost use Rattle.ksm_base.specs.Answers.{IsAnswerOrMemory};
 ghost use Rattle.ksm_base.specs.Apply.{after};
 ghost use Rattle.ksm_base.specs.Counting.{counters_of};
@@ -13,7 +13,8 @@ ghost use Rattle.frame_core.specs.Ledger.{first_ledger};
 ghost use Rattle.ksm_book.specs.Carried.{CarriedOut, unjournaled};
 ghost use Rattle.ksm_book.specs.Laid.{LoadsIf};
 ghost use Rattle.ksm_base.specs.Sound.{IsSound};
-ghost use Rattle.ksm_book.specs.Lawful.{LieLawfully, ShareLawfully};
+ghost use Rattle.ksm_book.specs.Keeping.{spent};
+ghost use Rattle.ksm_book.specs.Promised.{FindsPlace, LiesInFrames, NumbersAreSmall};
 ghost use Rattle.ksm_book.specs.Steps.{Does};
 ghost use Rattle.ksm_book.specs.Whole.{nodes_got, HasShown};
 
@@ -92,8 +93,10 @@ impl Book {
     /// A law, which costs nothing to call: what is true of the book and of its frames whenever no call is under way.
     pub fn lies_lawfully(&self)
         ensures sound { IsSound self.now.state }
-        ensures placed { LieLawfully self.now.state self.now.keeper }
-        ensures shared { ShareLawfully self.now.state self.now.keeper }
+        ensures placed { LiesInFrames self.now.state self.now.keeper }
+        ensures place { FindsPlace self.now.state }
+        ensures lives { self.now.state.next ≤ spent self.now.keeper.ledger }
+        ensures numbers { NumbersAreSmall self.now.state }
         ensures legal { IsLegal self.now.keeper.table.shape self.now.journal self.now.state }
         ensures stored { ReadsLastStored self.now.journal self.now.state.rows }
     {

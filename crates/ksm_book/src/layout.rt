@@ -1,6 +1,6 @@
 //! Rows and dups as they lie in the keeper's frames: each call is one lawful change of both.
 
-ghost use Rattle.std.specs.Prelude.{◌≡◌, ◌<◌, ◌+◌, ◌⊎◌, [], true, false, None, Some, Err, All, count_by, filter, find, map, is_some, ◌==◌, ◌&&◌, option_map, OnOk, OnErr, IfOk, IfErr};
+ghost use Rattle.std.specs.Prelude.{◌≡◌, ◌<◌, ◌≤◌, ◌+◌, ◌^◌, ◌⊎◌, [], true, false, None, Some, Err, All, count_by, filter, find, map, is_some, ◌==◌, ◌&&◌, option_map, OnOk, OnErr, IfOk, IfErr};
 ghost use Rattle.ksm_base.specs.declared.fault.Fault.TheVariants.{Memory};
 ghost use Rattle.ksm_base.specs.declared.row.PageState.TheVariants.{Private, Waiting, Merged};
 ghost use Rattle.ksm_base.specs.Rows.{row_at, with_row, with_dup, without_page, change_row, change_rows, merged_state, merged_into, waiting_state, same_page, settled, has_items, is_stale, dup_numbered};
@@ -15,6 +15,7 @@ ghost use Rattle.frame_core.specs.Ledger.{first_ledger};
 ghost use Rattle.ksm_book.specs.Laid.{IsHoused, Knows, IsOnItsOwn, LodgesAs, Joins, Founds, founded, Stores, LoadsIf};
 ghost use Rattle.ksm_book.specs.Laid.{state_of};
 ghost use Rattle.ksm_book.specs.Linked.{IsVacant, elsewhere};
+ghost use Rattle.ksm_book.specs.Keeping.{spent};
 ghost use Rattle.ksm_book.specs.Lawful.{LieLawfully};
 ghost use Rattle.ksm_book.specs.Steps.{Does};
 
@@ -72,7 +73,9 @@ impl Layout {
 
     /// A law: rows and dups lie lawfully in what the keeper knows.
     pub fn lies_lawfully(&self)
-        ensures { LieLawfully (state_of self.now None 0) self.now.keeper }
+        ensures placed { LieLawfully (state_of self.now None 0) self.now.keeper }
+        ensures lives { self.now.next ≤ spent self.now.keeper.ledger }
+        ensures few { self.now.next ≤ 2 ^ 50 }
     {
         let _ = &self.pages;
     }
@@ -110,7 +113,8 @@ impl Layout {
     }
 
     /// Where a new dup goes.
-    pub fn new_place(&self) -> Option<u32>
+    pub fn new_place(&self) -> u32
+        requires room { new_place (place_count self.now.shape) self.now.rows self.now.dups < place_count self.now.shape }
         ensures { result ≡ new_place (place_count self.now.shape) self.now.rows self.now.dups }
     {
         self.pages.new_place()
@@ -417,7 +421,6 @@ impl Layout {
     /// All stale dups go. Says how many there were.
     pub fn prune(&mut self, table: &FrameTable) -> u64
         requires own { self.old.keeper.table ≡ table.now }
-        requires places { All (λ d. d.place < frames_of self.old.shape) self.old.dups }
         ensures own { self.new.keeper.table ≡ self.old.keeper.table }
         ensures state { self.new ≡ record self.old { dups = filter (has_items self.old.rows) self.old.dups; keeper = self.new.keeper } }
         ensures count { result ≡ count_by (is_stale self.old.rows) self.old.dups }

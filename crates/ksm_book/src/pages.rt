@@ -1,6 +1,6 @@
 //! The pages: the rows with their frames, the dups into which rows are merged, and the pages that wait, each told of the others' changes.
 
-ghost use Rattle.std.specs.Prelude.{◌≡◌, ◌⊎◌, ◌+◌, ◌≤◌, [], true, false, None, Some, Err, All, count_by, filter, find, length, map, insert, remove, slice_set, is_some, ◌==◌, ◌&&◌, option_map, IfOk, IfErr, IfSome, OnOk, OnErr, MatchOption};
+ghost use Rattle.std.specs.Prelude.{◌≡◌, ◌<◌, ◌⊎◌, ◌+◌, ◌≤◌, [], true, false, None, Some, Err, All, count_by, filter, find, length, map, insert, remove, slice_set, is_some, ◌==◌, ◌&&◌, option_map, IfOk, IfErr, IfSome, OnOk, OnErr, MatchOption};
 ghost use Rattle.std.specs.List.{list_any};
 ghost use Rattle.ksm_base.specs.declared.fault.Fault.TheVariants.{Memory};
 ghost use Rattle.ksm_base.specs.declared.row.PageState.TheVariants.{Private, Merged};
@@ -142,15 +142,13 @@ impl Pages {
     }
 
     /// Where a new dup goes.
-    pub fn new_place(&self) -> Option<u32>
+    pub fn new_place(&self) -> u32
+        requires room { a_new_place (place_count self.now.shape) self.now.listed.rows self.now.dups < place_count self.now.shape }
         ensures { result ≡ a_new_place (place_count self.now.shape) self.now.listed.rows self.now.dups }
     {
-        if !self.dups.has_place() {
-            return None;
-        }
         match self.dups.choose_place() {
-            Choice::Empty(place) => Some(place),
-            Choice::Stale(place) => Some(place),
+            Choice::Empty(place) => place,
+            Choice::Stale(place) => place,
         }
     }
 

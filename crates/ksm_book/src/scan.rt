@@ -160,9 +160,8 @@ impl State {
             self.layout.wait(row)?;
             return Ok(());
         };
-        let Some(place) = self.layout.new_place() else {
-            return Ok(());
-        };
+        self.layout.lies_lawfully();
+        let place = self.layout.new_place();
         self.layout.pair(table, place, other, row)?;
         Ok(())
     }

@@ -1,6 +1,6 @@
 //! The state of the book, and its commands.
 
-ghost use Rattle.std.specs.Prelude.{◌≡◌, IfOk, IfErr, option_map};
+ghost use Rattle.std.specs.Prelude.{◌≡◌, ◌≤◌, IfOk, IfErr, option_map};
 ghost use Rattle.ksm_base.specs.Values.{IsShape};
 ghost use Rattle.ksm_base.specs.State.{opening};
 ghost use Rattle.ksm_base.specs.Answers.{IsAnswerOrMemory};
@@ -12,7 +12,8 @@ ghost use Rattle.ksm_base.specs.Refusals.{is_known};
 ghost use Rattle.frame_core.specs.Ledger.{first_ledger};
 ghost use Rattle.ksm_book.specs.Laid.{LoadsIf};
 ghost use Rattle.ksm_base.specs.Sound.{IsSound};
-ghost use Rattle.ksm_book.specs.Lawful.{LieLawfully, ShareLawfully};
+ghost use Rattle.ksm_book.specs.Keeping.{spent};
+ghost use Rattle.ksm_book.specs.Promised.{FindsPlace, LiesInFrames, NumbersAreSmall};
 ghost use Rattle.ksm_book.specs.Steps.{Does};
 ghost use Rattle.ksm_book.specs.Whole.{nodes_got, HasShown};
 
@@ -73,8 +74,10 @@ impl State {
     /// A law: the facts of the book state, and how its rows and dups lie in the frames.
     pub fn lies_lawfully(&self)
         ensures sound { IsSound self.now.state }
-        ensures placed { LieLawfully self.now.state self.now.keeper }
-        ensures shared { ShareLawfully self.now.state self.now.keeper }
+        ensures placed { LiesInFrames self.now.state self.now.keeper }
+        ensures place { FindsPlace self.now.state }
+        ensures lives { self.now.state.next ≤ spent self.now.keeper.ledger }
+        ensures numbers { NumbersAreSmall self.now.state }
     {
         self.layout.lies_lawfully();
     }

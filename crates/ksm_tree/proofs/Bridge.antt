@@ -1,16 +1,20 @@
 -- Tests over dups with items are the book's tests over rows, where the items are counted.
-use Rattle.std.proofs.Common.{◌≡◌, ◌∙◌, ℕ, Bool, List, [], ◌∷◌, length, Option, None, Some, refl, ap, inl, inr, arith}
-use Rattle.std.specs.Prelude.{◌&&◌, ◌||◌, ◌==◌, not, nat_lt, nat_le, All, count_by, filter, find, option_map, bytes_eq}
+use Rattle.std.proofs.Common.{◌≡◌, ◌∙◌, ℕ, ◌<◌, Bool, true, false, List, [], ◌∷◌, length, Option, None, Some, refl, sym, ap, subst, inl, inr, arith}
+use Rattle.std.specs.Prelude.{◌&&◌, ◌||◌, ◌==◌, not, nat_lt, nat_le, All, count_by, filter, find, is_some, option_map, bytes_eq, if◌then◌else◌}
 use Rattle.std.specs.List.{list_all}
 use Rattle.std.proofs.lemmas.Bool.{cases_Bool}
+use Rattle.std.proofs.lemmas.Bool.Decides.{nat_tests}
+use Rattle.std.proofs.lemmas.Option.{same_Some}
 use Rattle.std.proofs.lemmas.List.Elements.{All-head, All-tail, All-weaker}
 use Rattle.ksm_base.specs.declared.knobs.Knobs.{Knobs}
 use Rattle.ksm_base.specs.declared.row.DupRow.{DupRow}
 use Rattle.ksm_base.specs.declared.row.Row.{Row}
 use Rattle.ksm_base.specs.Rows.{item_count, has_items, is_stale as is_stale_row}
 use Rattle.ksm_base.specs.State.{tree_of}
-use Rattle.ksm_base.specs.Visit.{best_dup, chosen_place, empty_place, new_place, may_join as row_may_join, is_no_rival as is_no_rival_row, is_no_worse as is_no_worse_row, is_best as is_best_row}
+use Rattle.ksm_base.specs.Visit.{best_dup, empty_from, place_or, new_place, may_join as row_may_join, is_no_rival as is_no_rival_row, is_no_worse as is_no_worse_row, is_best as is_best_row}
 use Rattle.ksm_base.proofs.Edits.{count_more}
+use Rattle.ksm_tree.specs.declared.choice.Choice.{Choice}
+use Rattle.ksm_tree.specs.declared.choice.Choice.TheVariants.{Empty, Stale}
 use Rattle.ksm_tree.specs.declared.dup.Dup.{Dup}
 use Rattle.ksm_tree.specs.Bridge.{AreCounted, place_in}
 use Rattle.ksm_tree.specs.Choosing.{best_of, choice_of, chosen, is_best, is_no_rival, is_no_worse, may_join}
@@ -102,13 +106,31 @@ module _ (rows : List Row) where
         found_alike (is_best (tree_of knobs row) row.bytes knobs.max_page_sharing dups) (is_best_row knobs rows (rows_of dups) row) dups
         (All-weaker IsCounted (λ d. is_best (tree_of knobs row) row.bytes knobs.max_page_sharing dups d ≡ is_best_row knobs rows (rows_of dups) row d.row) (best_alike dups counted) dups counted)
 
-  chosen_alike : (p : Option ℕ) (d : Option Dup) → option_map place_in (chosen p d) ≡ chosen_place p (option_map (λ e. e.row) d)
-  chosen_alike (Some p) None = refl
-  chosen_alike (Some p) (Some d) = refl
-  chosen_alike None None = refl
-  chosen_alike None (Some d) = refl
+  place_alike : (is_empty : Bool) (empty : ℕ) (d : Option Dup) (c : Choice) → chosen (if is_empty then Some empty else None) d ≡ Some c
+      → place_in c ≡ (if is_empty then empty else place_or empty (option_map (λ e. e.row) d))
+  place_alike true empty d c is = sym (ap place_in (same_Some (Empty empty) c is))
+  place_alike false empty (Some d) c is = sym (ap place_in (same_Some (Stale d.row.place) c is))
+  place_alike false empty None c is = cc
 
-  pub choice_alike : (s : DupsState) → AreCounted rows s.dups → option_map place_in (choice_of s) ≡ new_place s.places rows (rows_of s.dups)
-  choice_alike s counted =
-      chosen_alike (empty_place s.places (rows_of s.dups)) (find is_stale s.dups)
-      ∙ ap (chosen_place (empty_place s.places (rows_of s.dups))) (stale_alike s.dups counted)
+  choice_there : (is_empty : Bool) (empty places : ℕ) (d : Option Dup) → nat_lt empty places ≡ is_empty
+      → (if is_empty then empty else place_or empty (option_map (λ e. e.row) d)) < places → is_some (chosen (if is_empty then Some empty else None) d) ≡ true
+  choice_there true empty places d is inside = refl
+  choice_there false empty places (Some d) is inside = refl
+  choice_there false empty places None is inside = absurd (grind (arith, nat_tests, is, inside))
+
+  -- the place of a new dup, where its stale dups are found with their items
+  new_alike : (s : DupsState) → AreCounted rows s.dups
+      → (if nat_lt (empty_from 0 (rows_of s.dups)) s.places then empty_from 0 (rows_of s.dups) else place_or (empty_from 0 (rows_of s.dups)) (option_map (λ e. e.row) (find is_stale s.dups))) ≡ new_place s.places rows (rows_of s.dups)
+  new_alike s counted =
+      let empty = empty_from 0 (rows_of s.dups) in
+      ap (λ d. if nat_lt empty s.places then empty else place_or empty d) (stale_alike s.dups counted)
+
+  pub choice_alike : (s : DupsState) (c : Choice) → AreCounted rows s.dups → choice_of s ≡ Some c → place_in c ≡ new_place s.places rows (rows_of s.dups)
+  choice_alike s c counted is =
+      let empty = empty_from 0 (rows_of s.dups) in
+      place_alike (nat_lt empty s.places) empty (find is_stale s.dups) c is ∙ new_alike s counted
+
+  pub choice_exists : (s : DupsState) → AreCounted rows s.dups → new_place s.places rows (rows_of s.dups) < s.places → is_some (choice_of s) ≡ true
+  choice_exists s counted inside =
+      let empty = empty_from 0 (rows_of s.dups) in
+      choice_there (nat_lt empty s.places) empty s.places (find is_stale s.dups) refl (subst (λ n. n < s.places) (sym (new_alike s counted)) inside)

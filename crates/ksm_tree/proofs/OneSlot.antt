@@ -9,7 +9,8 @@ use Rattle.std.proofs.lemmas.Option.{none-some, same_Some}
 use Rattle.std.proofs.lemmas.List.Elements.{All-cons, All-weaker}
 use Rattle.ksm_base.specs.declared.page.GuestPage.{GuestPage}
 use Rattle.ksm_base.specs.Rows.{comes_before, same_page}
-use Rattle.ksm_base.specs.Visit.{empty_place}
+use Rattle.ksm_base.specs.Visit.{empty_from}
+use Rattle.ksm_tree.specs.Choosing.{empty_place}
 use Rattle.ksm_rmap.specs.Items.{has_item, with_item, without_item}
 use Rattle.smallvec.specs.SmallVec.{SmallVec}
 use Rattle.ksm_rmap.proofs.Ordered.{filter_none, filter_all, absent_kept}
@@ -199,14 +200,6 @@ module _ (test : Option Dup → Bool) where
   where_room k zero (s ∷ slots) within fails = let short = where_short (suc k) slots in grind (arith, fails, short)
   where_room k (suc i) (s ∷ slots) within fails = let so_far = where_room (suc k) i slots (omega arith) fails in grind (arith, so_far)
 
-  -- the first place is what a search by the same test finds
-  pub where_first : (k : ℕ) (slots : List (Option Dup)) (by : ℕ → Bool) → ((i p : ℕ) → p ≡ k + i → i < length slots → by p ≡ test (get_or slots i None)) → slice_get (places_where test k slots) 0 ≡ find by (range_with_len k (length slots))
-  where_first k [] by same = refl
-  where_first k (s ∷ slots) by same =
-      let here : by k ≡ test s = same 0 k (omega arith) (omega arith) in
-      let rest = where_first (suc k) slots by (λ i p is lt. same (suc i) p (omega arith) (omega arith)) in
-      grind (arith, here, rest)
-
 -- the first stale place is that of the first stale dup
 pub stale_first : (k : ℕ) (slots : List (Option Dup)) → ArePlaced k slots → slice_get (places_where is_stale_slot k slots) 0 ≡ option_map (λ d. d.row.place) (find is_stale (present slots))
 stale_first k [] placed = refl
@@ -216,20 +209,30 @@ stale_first k (Some d ∷ slots) placed =
     let rest = stale_first (suc k) slots placed.1 in
     grind (arith, h, rest)
 
--- a row stands at a place where the slot holds a dup
-row_there : (p : ℕ) (dups : List Dup) → list_any (λ d. d.place == p) (rows_of dups) ≡ is_some (dup_at p dups)
-row_there p [] = refl
-row_there p (d ∷ dups) = let rest = row_there p dups in grind (arith, rest)
-
 empty_is : (s : Option Dup) → not (is_some s) ≡ is_empty_slot s
 empty_is None = refl
 empty_is (Some d) = refl
 
+-- where the dups stand behind place j, it is the least that no dup has
+empty_before : (j k : ℕ) (slots : List (Option Dup)) → j < k → ArePlaced k slots → empty_from j (rows_of (present slots)) ≡ j
+empty_before j k [] before placed = refl
+empty_before j k (None ∷ slots) before placed = empty_before j (suc k) slots (omega (arith, before)) placed
+empty_before j k (Some d ∷ slots) before placed = let h = placed.0 in grind (arith, nat_tests, h, before)
+
 -- the first empty place is the least place that no dup has
+empty_first_from : (k : ℕ) (slots : List (Option Dup)) → ArePlaced k slots → slice_get (places_where is_empty_slot k slots) 0 ≡ (if nat_lt (empty_from k (rows_of (present slots))) (k + length slots) then Some (empty_from k (rows_of (present slots))) else None)
+empty_first_from k [] placed = grind (arith, nat_tests)
+empty_first_from k (None ∷ slots) placed = let first = empty_before k (suc k) slots (omega arith) placed in grind (arith, nat_tests, first)
+empty_first_from k (Some d ∷ slots) placed =
+    let h = placed.0 in
+    let rest = empty_first_from (suc k) slots placed.1 in
+    grind (arith, nat_tests, h, rest)
+
 pub empty_first : (slots : List (Option Dup)) → ArePlaced 0 slots → slice_get (places_where is_empty_slot 0 slots) 0 ≡ empty_place (length slots) (rows_of (present slots))
 empty_first slots placed =
-    where_first is_empty_slot 0 slots (λ p. not (list_any (λ d. d.place == p) (rows_of (present slots)))) (λ i p is within.
-    ap not (row_there p (present slots) ∙ ap is_some (slot_found 0 p i slots is placed)) ∙ empty_is (get_or slots i None))
+    let first = empty_from 0 (rows_of (present slots)) in
+    let all : 0 + length slots ≡ length slots = omega arith in
+    empty_first_from 0 slots placed ∙ ap (λ n. if nat_lt first n then Some first else None) all
 
 not_stale : (d : Dup) → is_live d ≡ true → is_stale d ≡ false
 not_stale d live = grind (arith, nat_tests, live)

@@ -1,7 +1,8 @@
 -- Which dup a page joins, and where a new dup goes: the book's own words, with the items of a dup in place of the rows merged into it.
 use Rattle.std.specs.Prelude.{ℕ, Bool, not, ◌&&◌, ◌||◌, ◌==◌, nat_lt, nat_le, List, length, find, Option, Some, None, bytes_eq, if◌then◌else◌}
 use Rattle.std.specs.List.{list_all}
-use Rattle.ksm_base.specs.Visit.{empty_place}
+use Rattle.ksm_base.specs.declared.row.DupRow.{DupRow}
+use Rattle.ksm_base.specs.Visit.{empty_from}
 use Rattle.ksm_tree.specs.declared.choice.Choice.{Choice}
 use Rattle.ksm_tree.specs.declared.choice.Choice.TheVariants.{Empty, Stale}
 use Rattle.ksm_tree.specs.declared.dup.Dup.{Dup}
@@ -29,6 +30,10 @@ is_best tree bytes limit dups d = may_join tree bytes limit d && list_all (is_no
 -- the dup that a page of the tree and the bytes joins
 abbrev pub best_of : ℕ → List ℕ → ℕ → List Dup → Option Dup
 best_of tree bytes limit dups = find (is_best tree bytes limit dups) dups
+
+-- the least of so many places that no dup has
+abbrev pub empty_place : ℕ → List DupRow → Option ℕ
+empty_place places dups = if nat_lt (empty_from 0 dups) places then Some (empty_from 0 dups) else None
 
 -- the least empty place, or where there is none that of the first stale dup
 abbrev pub chosen : Option ℕ → Option Dup → Option Choice

@@ -85,13 +85,6 @@ impl Dups {
         }
     }
 
-    /// Whether there is a place for a new dup: an empty one, or that of a stale dup.
-    pub fn has_place(&self) -> bool
-        ensures { result ≡ is_some (choice_of self.now) }
-    {
-        self.slots.first_empty().is_some() || self.slots.first_stale().is_some()
-    }
-
     /// A new dup of two pages at a place; a stale dup that stood there goes. Its number is the next one. The one fault is `Memory`, and then nothing changes.
     pub fn new_dup(
         &mut self,

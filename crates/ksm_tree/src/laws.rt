@@ -12,6 +12,7 @@ ghost use Rattle.ksm_base.specs.declared.row.Row.{Row};
 ghost use Rattle.ksm_base.specs.Rows.{change_row, dup_numbered, has_items, InPageOrder, is_stale as is_stale_row, item_count, merged_into, merged_state, row_at, with_dup, with_row, without_page};
 ghost use Rattle.ksm_base.specs.State.{tree_of};
 ghost use Rattle.ksm_base.specs.Visit.{best_dup, new_place};
+ghost use Rattle.ksm_tree.specs.declared.choice.Choice.{Choice};
 ghost use Rattle.ksm_tree.specs.declared.dup.Dup.{Dup};
 ghost use Rattle.ksm_tree.specs.Bridge.{AreCounted, AreTied, let_out, place_in};
 ghost use Rattle.ksm_tree.specs.Choosing.{best_of, choice_of};
@@ -23,10 +24,12 @@ pub fn best_is_the_books()
         → option_map (λ d. d.row) (best_of (tree_of knobs row) row.bytes knobs.max_page_sharing dups) ≡ best_dup knobs rows (rows_of dups) row }
 {}
 
-/// The place chosen is that of a new dup.
+/// The place chosen is that of a new dup, and there is one to choose where that is one of the places.
 pub fn choice_is_the_books()
-    ensures { (rows : List Row) (s : DupsState) → AreCounted rows s.dups
-        → option_map place_in (choice_of s) ≡ new_place s.places rows (rows_of s.dups) }
+    ensures place { (rows : List Row) (s : DupsState) (choice : Choice) → AreCounted rows s.dups → choice_of s ≡ Some choice
+        → place_in choice ≡ new_place s.places rows (rows_of s.dups) }
+    ensures room { (rows : List Row) (s : DupsState) → AreCounted rows s.dups → new_place s.places rows (rows_of s.dups) < s.places
+        → is_some (choice_of s) ≡ true }
 {}
 
 /// The stale dups, and those with items, are the book's.

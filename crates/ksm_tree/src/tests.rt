@@ -54,11 +54,9 @@ fn pages_join_a_dup(rt: HostRuntime) -> Result<(), Fail> {
 fn dups_of_one_content_are_a_chain(rt: HostRuntime) -> Result<(), Fail> {
     let mut dups = Dups::open(rt.alloc(), 2)?;
     dups.new_dup(0, 0, &bytes(7), page(4), page(2))?;
-    assert_eq!(rt; dups.has_place(), true);
     assert_eq!(rt; dups.count_grouped(), 0);
     assert_eq!(rt; dups.count_chains(), 0);
     assert_eq!(rt; dups.new_dup(1, 0, &bytes(7), page(5), page(6))?, 1);
-    assert_eq!(rt; dups.has_place(), false);
     assert_eq!(rt; dups.count_grouped(), 2);
     assert_eq!(rt; dups.count_chains(), 1);
     assert_eq!(rt; dups.count_shared(), 2);
@@ -75,7 +73,6 @@ fn a_stale_dup_goes(rt: HostRuntime) -> Result<(), Fail> {
     dups.leave(0, page(2));
     assert_eq!(rt; dups.stale(), Some(0));
     assert_eq!(rt; dups.live_at(0), None);
-    assert_eq!(rt; dups.has_place(), true);
     assert_eq!(rt; dups.count_stale(), 1);
     assert_eq!(rt; dups.count_shared(), 0);
     assert_eq!(rt; dups.at(0), Some(0));

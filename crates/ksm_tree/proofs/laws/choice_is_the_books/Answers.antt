@@ -1,5 +1,8 @@
-use Rattle.ksm_tree.proofs.Bridge.{choice_alike}
+use Rattle.ksm_tree.proofs.Bridge.{choice_alike, choice_exists}
 use Rattle.ksm_tree.proofs.laws.choice_is_the_books.Goals as goal
 
-pub returns : goal.returns
-returns c rows s counted = choice_alike rows s counted
+pub returns-clause-place : goal.returns-clause-place
+returns-clause-place c rows s choice counted is = choice_alike rows s choice counted is
+
+pub returns-clause-room : goal.returns-clause-room
+returns-clause-room c rows s counted inside = choice_exists rows s counted inside

@@ -1,6 +1,5 @@
 use Rattle.std.proofs.Common.{◌≡◌, ◌∙◌, ◌+◌, ◌<◌, ◌≤◌, ℕ, List, [], Some, None, sym, ap, subst, arith}
-use Rattle.std.specs.Prelude.{All, count_by, filter, find}
-use Rattle.std.proofs.lemmas.List.Elements.{All-filter}
+use Rattle.std.specs.Prelude.{count_by, filter, find}
 use Rattle.ksm_base.specs.declared.shape.Shape.{Shape}
 use Rattle.ksm_base.proofs.Edits.{find_all}
 use Rattle.ksm_base.specs.declared.row.Row.{Row}
@@ -34,7 +33,6 @@ loop-done-preserved c =
       state = step ∙ (λ t. record (i.state t) { dups = filter (elsewhere p) l.dups; keeper = new.keeper }) ∙ (λ t. record now { dups = sym dups t; keeper = new.keeper });
       live = ap (filter (has_items now.rows)) dups ∙ live_elsewhere now.rows p l.dups vacant ∙ i.live;
       few = subst (λ ds. count_by (is_stale now.rows) ds + (c.loop-done.done + 1) ≤ count_by (is_stale now.rows) now.dups) (sym dups) (omega (arith, so_far, fewer));
-      places = subst (All (λ d. d.place < frames_of now.shape)) (sym dups) (All-filter (elsewhere p) (λ d. d.place < frames_of now.shape) l.dups i.places);
       does = (_, chained now.keeper l.keeper new.keeper [] [] first.0 second.0 first.1 second.1);
     }
 
@@ -61,9 +59,8 @@ returns-clause-state c =
 
 pub drop_stale-requires-clause-inside : goal.drop_stale-requires-clause-inside
 drop_stale-requires-clause-inside c =
-    let l : Lay = c.loop-done.self in
-    let i = c.loop-done.invariant in
-    let stale = dup_at (find (is_stale c.self-in-loop-done.inside.pages.listed.rows) c.self-in-loop-done.inside.pages.dups) c.in-Some.place c.in-Some.ensures.place in
-    let found : find (is_stale l.rows) l.dups ≡ Some stale.0 = ap (λ (x : Lay). find (is_stale x.rows) x.dups) (sym c.self-in-loop-done.view_is) ∙ stale.1 in
-    let inside = find_all (is_stale l.rows) (λ d. d.place < frames_of c.args.self.now.shape) l.dups stale.0 found i.places in
-    subst (λ (z : ℕ × Shape). z.0 < frames_of z.1) (λ t. (stale.2 t, ap (λ (x : Lay). x.shape) (sym i.state) t)) inside
+    let s = c.self-in-loop-done in
+    let p = s.inside.pages in
+    let stale = dup_at (find (is_stale p.listed.rows) p.dups) c.in-Some.place c.in-Some.ensures.place in
+    let inside = find_all (is_stale p.listed.rows) (λ d. d.place < frames_of p.shape) p.dups stale.0 stale.1 (λ n d lt. (s.invariant.placed.each_dup n d lt).place) in
+    subst (λ (z : ℕ × Shape). z.0 < frames_of z.1) (λ t. (stale.2 t, ap (λ (x : Lay). x.shape) s.view_is t)) inside

@@ -1,7 +1,6 @@
-use Rattle.std.proofs.Common.{◌≡◌, ◌+◌, ◌<◌, ◌≤◌, []}
-use Rattle.std.specs.Prelude.{All, count_by, filter}
+use Rattle.std.proofs.Common.{◌≡◌, ◌+◌, ◌≤◌, []}
+use Rattle.std.specs.Prelude.{count_by, filter}
 use Rattle.ksm_base.specs.Rows.{has_items, is_stale}
-use Rattle.ksm_base.specs.Values.{frames_of}
 use Rattle.ksm_book.specs.Steps.{Does}
 use Rattle.ksm_book.proofs.layout.Layout.prune.Given as goal
 
@@ -11,6 +10,5 @@ invariant-loop-done l = record {
   state : l.self ≡ record l.fn.self { dups = l.self.dups; keeper = l.self.keeper };
   live : filter (has_items l.fn.self.rows) l.self.dups ≡ filter (has_items l.fn.self.rows) l.fn.self.dups;
   few : count_by (is_stale l.fn.self.rows) l.self.dups + l.done ≤ count_by (is_stale l.fn.self.rows) l.fn.self.dups;
-  places : All (λ d. d.place < frames_of l.fn.self.shape) l.self.dups;
   does : Does l.fn.self.keeper l.self.keeper [];
 }

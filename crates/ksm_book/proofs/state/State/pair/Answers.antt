@@ -7,6 +7,7 @@ use Rattle.ksm_base.proofs.SoundScan.{next_row_visited, sound_paired}
 use Rattle.ksm_book.specs.Laid.{Lay, founded, state_of}
 use Rattle.ksm_book.specs.Whole.{BookView}
 use Rattle.ksm_book.proofs.Found.{change_known}
+use Rattle.ksm_book.proofs.Standing.{partner_finds_place}
 use Rattle.ksm_book.proofs.Visiting.{visited_at, partner_founds, joins_new, both_joined, same_dup, apart}
 use Rattle.ksm_book.proofs.state.State.pair.Goals as goal
 use Rattle.ksm_book.proofs.state.State.pair.Goals.{In_ok-wait, In_ok-pair}
@@ -37,17 +38,23 @@ invariant_of-self-in_default c =
     let next = ap (λ (x : BookView). next_row x.state.cursor x.state.rows) c.self.view_is ∙ c.requires.next in
     subst IsSound (sym (waits c)) (sound_paired b c.args.row (next_row_visited b c.args.row c.self.invariant next) c.self.invariant (partner b.knobs b.rows c.args.row) refl)
 
+pub new_place-place-requires : goal.new_place-place-requires
+new_place-place-requires c =
+    let s = c.self.inside in
+    record { room = partner_finds_place s.layout s.cursor s.passes c.args.row c.in-Some.other c.self.invariant (sym c.in-Some.ensures) c.lies_lawfully.ensures.placed }
+
 pub pair-requires-clause-founds : goal.pair-requires-clause-founds
 pair-requires-clause-founds c =
     let s = c.self.inside in
-    partner_founds s.layout s.cursor s.passes c.args.row c.in-Some.other c.in-Some-new_place.place c.self.invariant (sym c.in-Some.ensures) (sym c.in-Some-new_place.ensures)
+    partner_founds s.layout s.cursor s.passes c.args.row c.in-Some.other c.new_place-place.result c.self.invariant (sym c.in-Some.ensures) c.new_place-place.ensures
+    (partner_finds_place s.layout s.cursor s.passes c.args.row c.in-Some.other c.self.invariant (sym c.in-Some.ensures) c.lies_lawfully.ensures.placed)
 
 pub pair-requires-clause-joins : goal.pair-requires-clause-joins
 pair-requires-clause-joins c =
     let s = c.self.inside in
-    joins_new s.layout s.cursor s.passes c.args.row c.in-Some.other c.in-Some-new_place.place c.self.invariant
+    joins_new s.layout s.cursor s.passes c.args.row c.in-Some.other c.new_place-place.result c.self.invariant
     (ap (λ (x : BookView). next_row x.state.cursor x.state.rows) c.self.view_is ∙ c.requires.next) c.requires.alone (sym c.in-Some.ensures)
-    (founded s.layout c.in-Some-new_place.place c.in-Some.other) refl refl
+    (founded s.layout c.new_place-place.result c.in-Some.other) refl refl
 
 pub pair-requires-clause-second : goal.pair-requires-clause-second
 pair-requires-clause-second c =
@@ -57,7 +64,7 @@ pair-requires-clause-second c =
 pub pair-requires-clause-apart : goal.pair-requires-clause-apart
 pair-requires-clause-apart c =
     let s = c.self.inside in
-    apart s.layout s.cursor s.passes c.args.row c.in-Some.other c.in-Some-new_place.place c.self.invariant
+    apart s.layout s.cursor s.passes c.args.row c.in-Some.other c.new_place-place.result c.self.invariant
     (ap (λ (x : BookView). next_row x.state.cursor x.state.rows) c.self.view_is ∙ c.requires.next) c.requires.alone (sym c.in-Some.ensures)
 
 -- both rows are the items of a new dup
@@ -66,7 +73,7 @@ merged c =
     let s = c.self.inside in
     let b = state_of s.layout s.cursor s.passes in
     let other = c.in-Some.other in
-    let place = c.in-Some-new_place.place in
+    let place = c.new_place-place.result in
     let row = c.args.row in
     let next = ap (λ (x : BookView). next_row x.state.cursor x.state.rows) c.self.view_is ∙ c.requires.next in
     let waits = sym c.in-Some.ensures in
@@ -74,7 +81,7 @@ merged c =
     let step = c.in_ok-pair.ensures.state in
     let rows = both_joined s.layout s.cursor s.passes row other place c.self.invariant next c.requires.alone waits after.rows c.pair.new.self.rows refl (ap (λ (x : Lay). x.rows) step) in
     let dup = same_dup s.layout s.cursor s.passes row other place c.self.invariant next c.requires.alone waits in
-    let there : state_of c.pair.new.self s.cursor s.passes ≡ made_dup (Some place) b other row = λ t. record {
+    let there : state_of c.pair.new.self s.cursor s.passes ≡ made_dup place b other row = λ t. record {
       shape = ap (λ (x : Lay). x.shape) step t;
       rows = rows t;
       dups = (ap (λ (x : Lay). x.dups) step ∙ ap (λ d. with_dup d s.layout.dups) dup) t;
@@ -83,7 +90,7 @@ merged c =
       passes = s.passes;
       next = ap (λ (x : Lay). x.next) step t;
     } in
-    there ∙ ap (λ p. made_dup p b other row) c.in-Some-new_place.ensures ∙ ap (λ o. paired o b row) c.in-Some.ensures
+    there ∙ ap (λ p. made_dup p b other row) c.new_place-place.ensures ∙ ap (λ o. paired o b row) c.in-Some.ensures
 
 pub returns-clause-ok : goal.returns-clause-ok
 returns-clause-ok c = merged c ∙ ap (λ (x : BookView). paired (partner x.state.knobs x.state.rows c.args.row) x.state c.args.row) c.self.view_is

@@ -1,6 +1,6 @@
 use Rattle.std.proofs.Common.{◌∙◌, ap}
 use Rattle.std.specs.Prelude.{slice_get}
-use Rattle.ksm_base.specs.Visit.{empty_place}
+use Rattle.ksm_tree.specs.Choosing.{empty_place}
 use Rattle.ksm_tree.specs.Dups.{rows_of}
 use Rattle.ksm_tree.proofs.OneSlot.{empty_first}
 use Rattle.ksm_tree.proofs.slots.Slots.first_empty.Goals as goal

@@ -1,0 +1,276 @@
+-- A lawful placement says the sentences that are promised.
+use Rattle.std.proofs.Common.{inl, inr, ◌≡◌, ◌≢◌, ℕ, zero, suc, ◌+◌, ◌<◌, ◌≤◌, Bool, true, false, List, [], ◌∷◌, ◌++◌, length, map, get_or, Option, Some, None, refl, sym, ap, ◌∙◌, subst, arith}
+use Rattle.std.specs.Prelude.{All, AllPairs, Contains, ◌==◌, not, count_by, filter, is_some, nat_lt, slice_index}
+use Rattle.std.specs.List.{zip}
+use Rattle.std.proofs.lemmas.Bool.{cases_Bool, lt-ltb, ltb-true, not-true}
+use Rattle.std.proofs.lemmas.Bool.Decides.{nat_tests}
+use Rattle.std.proofs.lemmas.List.Elements.{All-cons, All-head, All-tail, All-filter, All-map, All-weaker, filter_passes, Contains-append_left, Contains-append_right}
+use Rattle.std.proofs.lemmas.List.Kept.{AllPairs-cons, AllPairs-filter}
+use Rattle.ksm_base.specs.declared.row.PageState.{PageState}
+use Rattle.ksm_base.specs.declared.row.PageState.TheVariants.{Private as OwnPage, Waiting, Merged}
+use Rattle.ksm_base.specs.declared.row.Row.{Row}
+use Rattle.ksm_base.specs.declared.row.DupRow.{DupRow}
+use Rattle.ksm_base.specs.Rows.{dup_numbered, has_items, item_count, merged_into, merged_state}
+use Rattle.ksm_base.specs.Sound.{IsSound}
+use Rattle.ksm_base.specs.State.{BookState}
+use Rattle.ksm_base.proofs.Edits.{count_more, counts_one, none_counted}
+use Rattle.ksm_base.proofs.Orders.{pairs_append, pairs_head, pairs_tail}
+use Rattle.ksm_base.proofs.SoundItems.{dup_of_item, home_of_item}
+use Rattle.frame_core.specs.declared.frame.Kind.{Kind}
+use Rattle.frame_core.specs.declared.frame.Kind.TheVariants.{Free, Filling, Private, Stable, Dying, Retired}
+use Rattle.frame_core.specs.declared.ledger.Ledger.{Ledger}
+use Rattle.frame_core.specs.declared.seat.Life.{Life}
+use Rattle.frame_core.specs.Ledger.{frame_at, named_at}
+use Rattle.frame_table.specs.Named.{KeeperView}
+use Rattle.ksm_book.specs.Lawful.{LieLawfully}
+use Rattle.ksm_book.specs.Placement.{row_in, no_row, uses, kind_for, FitsBase, life_or, place_frame, place_life, IsInLife, Placed}
+use Rattle.ksm_book.specs.Promised.{own_frames, dup_frames, is_in_use, HasItsOwn, StandsOn, IsOutlived, LieOn, LiesInFrames}
+use Rattle.ksm_book.proofs.Laying.{own_kind}
+use Rattle.ksm_book.proofs.Moves.{base_is_items, stale_is_loose, uses_some}
+use Rattle.ksm_book.proofs.Standing.{Lives, frames_apart, lives}
+
+-- what holds of each row with its frame
+zip_all : (P : Row × ℕ → Type 0) (rows : List Row) (frames : List ℕ) → length frames ≡ length rows → ((i : ℕ) → i < length rows → P (row_in rows i, slice_index frames i)) → All P (zip rows frames)
+zip_all P [] [] long each = λ k d lt. absurd (omega arith)
+zip_all P [] (f ∷ frames) long each = λ k d lt. absurd (omega arith)
+zip_all P (r ∷ rows) [] long each = λ k d lt. absurd (omega arith)
+zip_all P (r ∷ rows) (f ∷ frames) long each =
+    All-cons P (r, f) (zip rows frames) (each 0 (omega arith)) (zip_all P rows frames (omega (arith, long)) (λ i lt. each (suc i) (omega arith)))
+
+zip_at : (rows : List Row) (frames : List ℕ) (i : ℕ) → length frames ≡ length rows → i < length rows → (i < length (zip rows frames)) × ((d : Row × ℕ) → get_or (zip rows frames) i d ≡ (row_in rows i, slice_index frames i))
+zip_at [] frames i long lt = absurd (omega arith)
+zip_at (r ∷ rows) [] i long lt = absurd (omega arith)
+zip_at (r ∷ rows) (f ∷ frames) zero long lt = (omega arith, λ d. refl)
+zip_at (r ∷ rows) (f ∷ frames) (suc i) long lt = let rest = zip_at rows frames i (omega (arith, long)) (omega arith) in ((let l = rest.0 in omega (arith, l)), rest.1)
+
+-- what passes a test is among those that pass, and so is what is made of it
+passing : {X : Type 0} (f : X → ℕ) (test : X → Bool) (xs : List X) (i : ℕ) (d : X) → i < length xs → test (get_or xs i d) ≡ true → Contains (map f (filter test xs)) (f (get_or xs i d))
+passing f test [] i d lt passes = absurd (omega arith)
+passing f test (x ∷ xs) zero d lt passes = subst (λ ys. Contains (map f ys) (f x)) (let is : x ∷ filter test xs ≡ filter test (x ∷ xs) = grind (arith, passes) in is) (0, omega arith, refl)
+passing f test (x ∷ xs) (suc i) d lt passes =
+    let rest = passing f test xs i d (omega arith) passes in
+    elim (cases_Bool (test x)) [
+      | inl here ↦ subst (λ ys. Contains (map f ys) (f (get_or xs i d))) (let is : x ∷ filter test xs ≡ filter test (x ∷ xs) = grind (arith, here) in is) (suc rest.0, (let l = rest.1 in omega (arith, l)), rest.2)
+      | inr there ↦ subst (λ ys. Contains (map f ys) (f (get_or xs i d))) (let is : filter test xs ≡ filter test (x ∷ xs) = grind (arith, there) in is) rest
+    ]
+
+-- numbers that are each counted once differ
+once_each : (xs : List ℕ) → All (λ f. count_by (λ g. g == f) xs ≤ 1) xs → AllPairs (λ f g. f ≢ g) xs
+once_each [] once = λ i j d before lt. absurd (omega arith)
+once_each (x ∷ xs) once =
+    let R : ℕ → ℕ → Type 0 = λ f g. f ≢ g in
+    let P : ℕ → Type 0 = λ f. count_by (λ g. g == f) (x ∷ xs) ≤ 1 in
+    let first = All-head P x xs once in
+    let more = count_more (λ g. g == x) x xs in
+    let none : count_by (λ g. g == x) xs ≡ 0 = grind (arith, nat_tests, first, more) in
+    let apart = none_counted (λ g. g == x) xs none in
+    AllPairs-cons R x xs (λ k d lt same. let other = apart k d lt in absurd (grind (arith, nat_tests, other, same)))
+    (once_each xs (λ k d lt. let f = get_or xs k d in let all = All-tail P x xs once k d lt in let more = count_more (λ g. g == f) x xs in grind (arith, all, more)))
+
+-- a frame is a row's own at most as often as it is listed
+own_count : (f : ℕ) (rows : List Row) (frames : List ℕ) → count_by (λ g. g == f) (own_frames rows frames) ≤ uses f frames
+own_count f [] frames = omega arith
+own_count f (r ∷ rows) [] = omega arith
+own_count f (r ∷ rows) (h ∷ frames) =
+    let rest = own_count f rows frames in
+    let more = count_more (λ g. g == f) h frames in
+    let own = count_more (λ g. g == f) h (own_frames rows frames) in
+    grind (arith, rest, more, own)
+
+all_own : (P : ℕ → Type 0) (rows : List Row) (frames : List ℕ) → All (λ z. merged_state z.0.state ≡ false → P z.1) (zip rows frames) → All P (own_frames rows frames)
+all_own P rows frames all =
+    let test : Row × ℕ → Bool = λ z. not (merged_state z.0.state) in
+    let zs = zip rows frames in
+    let passes = filter_passes test zs in
+    let kept = All-filter test (λ z. merged_state z.0.state ≡ false → P z.1) zs all in
+    All-map P (λ z. z.1) (filter test zs) (λ k d lt. kept k d lt (not-true _ (passes k d lt)))
+
+named_life : (o : Option Life) → is_some o ≡ true → o ≡ Some (life_or o)
+named_life None some = absurd (grind (arith, some))
+named_life (Some life) some = refl
+
+alone_of_kind : (s : PageState) → kind_for s ≡ Private → merged_state s ≡ false
+alone_of_kind OwnPage is = refl
+alone_of_kind Waiting is = refl
+alone_of_kind (Merged n) is = cc
+
+number_of_kind : (s : PageState) → kind_for s ≡ Stable → (n : ℕ) × (s ≡ Merged n)
+number_of_kind OwnPage is = cc
+number_of_kind Waiting is = cc
+number_of_kind (Merged n) is = (n, refl)
+
+module _ (b : BookState) (k : Ledger) (s : IsSound b) (frames : List ℕ) (p : Placed b.shape b.knobs.merge_across_nodes k b.rows frames b.dups None) where
+  abbrev across : ℕ
+  across = b.knobs.merge_across_nodes
+
+  abbrev own : List ℕ
+  own = own_frames b.rows frames
+
+  abbrev shown : List ℕ
+  shown = dup_frames b k
+
+  has_its_own : (i : ℕ) → i < length b.rows → merged_state (row_in b.rows i).state ≡ false → HasItsOwn b.shape k (row_in b.rows i) (slice_index frames i)
+  has_its_own i lt alone =
+      let fits = (p.each_row i lt).0 in
+      let kind = fits.kind ∙ own_kind (row_in b.rows i).state alone in
+      record {
+        exists = fits.frame;
+        kind = kind;
+        base = subst (λ (x : Kind). FitsBase x (frame_at k (slice_index frames i)).base) kind (p.kinds (slice_index frames i));
+        node = fits.node alone;
+        content = fits.content;
+      }
+
+  owns : All (λ z. merged_state z.0.state ≡ false → HasItsOwn b.shape k z.0 z.1) (zip b.rows frames)
+  owns = zip_all (λ z. merged_state z.0.state ≡ false → HasItsOwn b.shape k z.0 z.1) b.rows frames p.paired has_its_own
+
+  dup_lives : All (λ d. has_items b.rows d ≡ true → Lives k b.rows frames d) b.dups
+  dup_lives n d lt some = lives b.shape across k b.rows frames b.dups p n d lt (λ none. absurd (grind (arith, nat_tests, some, none)))
+
+  stands : All (λ d. has_items b.rows d ≡ true → StandsOn b k d (place_frame k d.place)) b.dups
+  stands n d lt some =
+      let e = get_or b.dups n d in
+      let fit = p.each_dup n d lt in
+      let a = dup_lives n d lt some in
+      record {
+        named = named_life (named_at k e.place) fit.named ∙ ap (λ g. Some (record { frame = place_frame k e.place; generation = g })) (sym a.life);
+        exists = fit.frame;
+        kind = a.kind;
+        base = base_is_items b.shape across k b.rows frames b.dups p n d lt a.life;
+        limit = s.limit n d lt;
+        content = fit.content a.life;
+        bytes = λ j r l into. sym (dup_of_item b s n d lt j r l into).bytes;
+        homes = λ z. home_of_item b s z n d lt;
+        node = fit.node;
+      }
+
+  own_kinds : All (λ f. (frame_at k f).kind ≡ Private) own
+  own_kinds = all_own (λ f. (frame_at k f).kind ≡ Private) b.rows frames (All-weaker (λ z. merged_state z.0.state ≡ false → HasItsOwn b.shape k z.0 z.1) (λ z. merged_state z.0.state ≡ false → (frame_at k z.1).kind ≡ Private) (λ z h alone. (h alone).kind) (zip b.rows frames) owns)
+
+  -- a frame with one reference is listed once
+  own_distinct : AllPairs (λ f g. f ≢ g) own
+  own_distinct = once_each own (λ i d lt.
+      let f = get_or own i d in
+      let one : (frame_at k f).base ≡ 1 = subst (λ (x : Kind). FitsBase x (frame_at k f).base) (own_kinds i d lt) (p.kinds f) in
+      let listed : (frame_at k f).base ≡ uses f frames + 0 = p.bases f in
+      let few = own_count f b.rows frames in
+      omega (arith, one, listed, few))
+
+  abbrev Live : DupRow → Type 0
+  Live d = Lives k b.rows frames d
+
+  live_kept : All Live (filter (has_items b.rows) b.dups)
+  live_kept =
+      let kept = All-filter (has_items b.rows) (λ d. has_items b.rows d ≡ true → Live d) b.dups dup_lives in
+      let passes = filter_passes (has_items b.rows) b.dups in
+      λ i d lt. kept i d lt (passes i d lt)
+
+  shown_kinds : All (λ f. (frame_at k f).kind ≡ Stable) shown
+  shown_kinds = All-map (λ f. (frame_at k f).kind ≡ Stable) (λ d. place_frame k d.place) (filter (has_items b.rows) b.dups) (λ i d lt. (live_kept i d lt).kind)
+
+  shown_distinct : AllPairs (λ f g. f ≢ g) shown
+  shown_distinct = go (filter (has_items b.rows) b.dups) live_kept (AllPairs-filter Apart (has_items b.rows) b.dups (λ i j d before lt. frames_apart b.shape across k b.rows frames b.dups p s.dups_rise i j d before lt))
+    where
+      Apart : DupRow → DupRow → Type 0
+      Apart d e = Live d → Live e → place_frame k d.place ≢ place_frame k e.place
+
+      go : (ds : List DupRow) → All Live ds → AllPairs Apart ds → AllPairs (λ f g. f ≢ g) (map (λ d. place_frame k d.place) ds)
+      go [] live apart = λ i j d before lt. absurd (omega arith)
+      go (d ∷ ds) live apart =
+          let later = All-tail Live d ds live in
+          let here = pairs_head Apart d ds apart in
+          AllPairs-cons (λ f g. f ≢ g) (place_frame k d.place) (map (λ e. place_frame k e.place) ds)
+          (All-map (λ g. place_frame k d.place ≢ g) (λ e. place_frame k e.place) ds (λ i e lt. here i e lt (All-head Live d ds live) (later i e lt)))
+          (go ds later (pairs_tail Apart d ds apart))
+
+  all_distinct : AllPairs (λ f g. f ≢ g) (own ++ shown)
+  all_distinct = pairs_append (λ f g. f ≢ g) own shown own_distinct shown_distinct (λ i f lt j g l same.
+      let private' = own_kinds i f lt in
+      let stable = shown_kinds j g l in
+      let both : Private ≡ Stable = sym private' ∙ ap (λ h. (frame_at k h).kind) same ∙ stable in
+      cc)
+
+  -- a frame that is listed is listed somewhere
+  listed_at : (f : ℕ) (fs : List ℕ) → 1 ≤ uses f fs → (i : ℕ) × (i < length fs) × (slice_index fs i ≡ f)
+  listed_at f [] some = absurd (omega (arith, some))
+  listed_at f (g ∷ fs) some = elim (cases_Bool (g == f)) [
+    | inl here ↦ (0, omega arith, grind (arith, nat_tests, here))
+    | inr there ↦
+        let more = count_more (λ h. h == f) g fs in
+        let rest = listed_at f fs (grind (arith, more, there, some)) in
+        (suc rest.0, (let lt = rest.1 in omega (arith, lt)), rest.2)
+  ]
+
+  own_listed : (f i : ℕ) → i < length b.rows → slice_index frames i ≡ f → (frame_at k f).kind ≡ Private → Contains (own ++ shown) f
+  own_listed f i lt is kind =
+      let at = zip_at b.rows frames i p.paired lt in
+      let d0 : Row × ℕ = (no_row, 0) in
+      let alone = alone_of_kind (row_in b.rows i).state (sym (p.each_row i lt).0.kind ∙ ap (λ h. (frame_at k h).kind) is ∙ kind) in
+      let there = passing (λ z. z.1) (λ z. not (merged_state z.0.state)) (zip b.rows frames) i d0 at.0 (ap (λ (z : Row × ℕ). not (merged_state z.0.state)) (at.1 d0) ∙ ap not alone) in
+      Contains-append_left own shown f (subst (Contains own) (ap (λ (z : Row × ℕ). z.1) (at.1 d0) ∙ is) there)
+
+  shown_listed : (f i : ℕ) → i < length b.rows → slice_index frames i ≡ f → (frame_at k f).kind ≡ Stable → Contains (own ++ shown) f
+  shown_listed f i lt is kind =
+      let row = row_in b.rows i in
+      let number = number_of_kind row.state (sym (p.each_row i lt).0.kind ∙ ap (λ h. (frame_at k h).kind) is ∙ kind) in
+      let its = s.items i no_row lt number.0 number.1 in
+      let at = numbered_at number.0 b.dups its.0 its.1.stands in
+      let into : merged_into (get_or b.dups at.0 its.0).number row.state ≡ true = ap (merged_into (get_or b.dups at.0 its.0).number) number.1 ∙ at.2 in
+      let lies = ((p.each_row i lt).1 at.0 its.0 at.1).item into in
+      let counted : 0 < item_count b.rows (get_or b.dups at.0 its.0) = counts_one (λ r. merged_into (get_or b.dups at.0 its.0).number r.state) b.rows i no_row lt into in
+      let there = passing (λ d. place_frame k d.place) (has_items b.rows) b.dups at.0 its.0 at.1 (lt-ltb 0 (item_count b.rows (get_or b.dups at.0 its.0)) counted) in
+      Contains-append_right own shown f (subst (Contains shown) (sym lies.0 ∙ is) there)
+    where
+      numbered_at : (n : ℕ) (ds : List DupRow) (d : DupRow) → dup_numbered n ds ≡ Some d → (j : ℕ) × (j < length ds) × ((n == (get_or ds j d).number) ≡ true)
+      numbered_at n [] d found = cc
+      numbered_at n (e ∷ ds) d found = elim (cases_Bool (e.number == n)) [
+        | inl here ↦ (0, omega arith, grind (arith, nat_tests, here))
+        | inr there ↦ let rest = numbered_at n ds d (grind (arith, there, found)) in (suc rest.0, (let l = rest.1 in omega (arith, l)), rest.2)
+      ]
+
+  in_use_listed : (f : ℕ) → is_in_use (frame_at k f).kind ≡ true → Contains (own ++ shown) f
+  in_use_listed f used = go (frame_at k f).kind refl used
+    where
+      at_row : 1 ≤ (frame_at k f).base → (i : ℕ) × (i < length b.rows) × (slice_index frames i ≡ f)
+      at_row some =
+          let listed : (frame_at k f).base ≡ uses f frames + 0 = p.bases f in
+          let at = listed_at f frames (omega (arith, some, listed)) in
+          let long = p.paired in
+          (at.0, (let lt = at.1 in omega (arith, lt, long)), at.2)
+
+      fits_as : (kind : Kind) → (frame_at k f).kind ≡ kind → FitsBase kind (frame_at k f).base
+      fits_as kind is = subst (λ (x : Kind). FitsBase x (frame_at k f).base) is (p.kinds f)
+
+      go : (kind : Kind) → (frame_at k f).kind ≡ kind → is_in_use kind ≡ true → Contains (own ++ shown) f
+      go Free is some = absurd (grind (arith, some))
+      go Filling is some = absurd (fits_as Filling is)
+      go Private is some = let one = fits_as Private is in let at = at_row (omega (arith, one)) in own_listed f at.0 at.1 at.2 is
+      go Stable is some = let at = at_row (fits_as Stable is) in shown_listed f at.0 at.1 at.2 is
+      go Dying is some = absurd (grind (arith, some))
+      go Retired is some = absurd (grind (arith, some))
+
+  outlived : All (λ d. has_items b.rows d ≡ false → IsOutlived k d.place) b.dups
+  outlived n d lt none =
+      let e = get_or b.dups n d in
+      let fit = p.each_dup n d lt in
+      record {
+        life = life_or (named_at k e.place);
+        named = named_life (named_at k e.place) fit.named;
+        over = λ life. stale_is_loose b.shape across k b.rows frames b.dups p n d lt (let zero_is : item_count b.rows e ≡ 0 = grind (arith, nat_tests, none) in zero_is) life;
+      }
+
+  pub lie_on : LieOn b frames k
+  lie_on = record {
+    one_each = p.paired;
+    own = owns;
+    merged = zip_all (λ z. All (λ d. merged_into d.number z.0.state ≡ true → z.1 ≡ place_frame k d.place) b.dups) b.rows frames p.paired (λ i lt n d l into. (((p.each_row i lt).1 n d l).item into).0);
+    dups = stands;
+    distinct = all_distinct;
+    no_other = in_use_listed;
+    places = λ n d lt. (p.each_dup n d lt).place;
+    stale = outlived;
+    empty = p.empty;
+  }
+
+pub lies_in_frames : (b : BookState) (k : KeeperView) → IsSound b → LieLawfully b k → LiesInFrames b k
+lies_in_frames b k s lies = (lies.0, lie_on b k.ledger s lies.0 lies.1)

@@ -1,0 +1,91 @@
+-- What is promised of the book and its frames between any two calls (own).
+use Rattle.std.specs.Prelude.{◌≡◌, ◌≢◌, ℕ, ◌<◌, ◌≤◌, ◌^◌, Bool, true, false, not, List, ◌++◌, length, map, filter, AllPairs, All, Contains, Some, None}
+use Rattle.std.specs.List.{zip}
+use Rattle.ksm_base.specs.declared.shape.Shape.{Shape}
+use Rattle.ksm_base.specs.declared.row.Row.{Row}
+use Rattle.ksm_base.specs.declared.row.DupRow.{DupRow}
+use Rattle.ksm_base.specs.Rows.{merged_state, merged_into, item_count, has_items}
+use Rattle.ksm_base.specs.State.{BookState, place_count}
+use Rattle.ksm_base.specs.Values.{frames_of}
+use Rattle.ksm_base.specs.Visit.{new_place}
+use Rattle.frame_core.specs.declared.frame.Kind.{Kind}
+use Rattle.frame_core.specs.declared.frame.Kind.TheVariants.{Free, Filling, Private, Stable, Dying, Retired}
+use Rattle.frame_core.specs.declared.ledger.Ledger.{Ledger}
+use Rattle.frame_core.specs.declared.seat.Life.{Life}
+use Rattle.frame_core.specs.Ledger.{frame_at, named_at}
+use Rattle.frame_table.specs.Named.{KeeperView}
+use Rattle.ksm_book.specs.Placement.{node_of, place_frame}
+
+-- the frames of the rows that are not merged, where each row has one of these frames, in order
+abbrev pub own_frames : List Row → List ℕ → List ℕ
+own_frames rows frames = map (λ z. z.1) (filter (λ z. not (merged_state z.0.state)) (zip rows frames))
+
+-- the frames of the dups with items, as their places name them
+abbrev pub dup_frames : BookState → Ledger → List ℕ
+dup_frames b k = map (λ d. place_frame k d.place) (filter (has_items b.rows) b.dups)
+
+-- a frame of this kind is in use: it is written, or one page's own, or shown at a place
+abbrev pub is_in_use : Kind → Bool
+is_in_use Free = false
+is_in_use Filling = true
+is_in_use Private = true
+is_in_use Stable = true
+is_in_use Dying = false
+is_in_use Retired = false
+
+-- a row that is not merged has its frame for itself, on its home and with its bytes
+pub record HasItsOwn (shape : Shape) (k : Ledger) (row : Row) (frame : ℕ) : Type 0 where
+  pub exists : frame < frames_of shape
+  pub kind : (frame_at k frame).kind ≡ Private
+  pub base : (frame_at k frame).base ≡ 1
+  pub node : node_of shape frame ≡ row.home
+  pub content : (frame_at k frame).content ≡ row.bytes
+
+-- the place of a dup with items names its frame in its life: shown, with a reference for each item, and the bytes of each;
+-- where pages don't merge across nodes the items have one home, the dup's tree, and the frame lies there
+pub record StandsOn (b : BookState) (k : Ledger) (dup : DupRow) (frame : ℕ) : Type 0 where
+  pub named : named_at k dup.place ≡ Some (record { frame = frame; generation = (frame_at k frame).generation })
+  pub exists : frame < frames_of b.shape
+  pub kind : (frame_at k frame).kind ≡ Stable
+  pub base : (frame_at k frame).base ≡ item_count b.rows dup
+  pub limit : item_count b.rows dup ≤ b.knobs.max_page_sharing
+  pub content : (frame_at k frame).content ≡ dup.bytes
+  pub bytes : All (λ r. merged_into dup.number r.state ≡ true → r.bytes ≡ dup.bytes) b.rows
+  pub homes : b.knobs.merge_across_nodes ≡ 0 → All (λ r. merged_into dup.number r.state ≡ true → r.home ≡ dup.tree) b.rows
+  pub node : b.knobs.merge_across_nodes ≡ 0 → node_of b.shape frame ≡ dup.tree
+
+-- the place names a frame that is not shown in the life named
+pub record IsOutlived (k : Ledger) (place : ℕ) : Type 0 where
+  pub life : Life
+  pub named : named_at k place ≡ Some life
+  pub over : (frame_at k life.frame).generation ≡ life.generation → (frame_at k life.frame).kind ≢ Stable
+
+-- rows, each with its frame, and dups lie lawfully in what the keeper knows
+pub record LieOn (b : BookState) (frames : List ℕ) (k : Ledger) : Type 0 where
+  -- each row has a frame
+  pub one_each : length frames ≡ length b.rows
+  -- a row that is not merged has its own
+  pub own : All (λ z. merged_state z.0.state ≡ false → HasItsOwn b.shape k z.0 z.1) (zip b.rows frames)
+  -- a merged row lies on the frame that its dup's place names
+  pub merged : All (λ z. All (λ d. merged_into d.number z.0.state ≡ true → z.1 ≡ place_frame k d.place) b.dups) (zip b.rows frames)
+  -- a dup with items stands on that frame
+  pub dups : All (λ d. has_items b.rows d ≡ true → StandsOn b k d (place_frame k d.place)) b.dups
+  -- these frames differ from one another, and no other frame is in use
+  pub distinct : AllPairs (λ f g. f ≢ g) (own_frames b.rows frames ++ dup_frames b k)
+  pub no_other : (f : ℕ) → is_in_use (frame_at k f).kind ≡ true → Contains (own_frames b.rows frames ++ dup_frames b k) f
+  -- each dup stands at one of the places; that of a stale dup names a frame whose life is over, and one without a dup names none
+  pub places : All (λ d. d.place < place_count b.shape) b.dups
+  pub stale : All (λ d. has_items b.rows d ≡ false → IsOutlived k d.place) b.dups
+  pub empty : (p : ℕ) → All (λ d. d.place ≢ p) b.dups → named_at k p ≡ None
+
+-- there is a frame for each row, on which the book lies lawfully
+abbrev pub LiesInFrames : BookState → KeeperView → Type 0
+LiesInFrames b k = (frames : List ℕ) × LieOn b frames k.ledger
+
+-- beside a page with a frame of its own a new dup finds one of the places
+abbrev pub FindsPlace : BookState → Type 0
+FindsPlace b = (row : Row) → Contains b.rows row → merged_state row.state ≡ false → new_place (place_count b.shape) b.rows b.dups < place_count b.shape
+
+-- the numbers of dups are small
+abbrev pub NumbersAreSmall : BookState → Type 0
+NumbersAreSmall b = All (λ d. d.number < 2 ^ 50) b.dups
