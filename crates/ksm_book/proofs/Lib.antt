@@ -23,3 +23,4 @@ pub mod DupMoves
 pub mod Linking
 pub mod Partners
 pub mod Onward
+pub mod Tallies

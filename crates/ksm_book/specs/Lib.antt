@@ -11,4 +11,5 @@ pub mod Unmerged
 pub mod Mounted
 pub mod Lawful
 pub mod Scanned
+pub mod Tallied
 pub mod Wanted
