@@ -26,3 +26,4 @@ pub mod Partners
 pub mod Onward
 pub mod Entering
 pub mod Journaled
+pub mod Tallies

@@ -12,6 +12,7 @@ pub mod Mounted
 pub mod Lawful
 pub mod Promised
 pub mod Scanned
+pub mod Tallied
 pub mod Wanted
 pub mod Entered
 pub mod Carried

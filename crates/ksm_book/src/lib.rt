@@ -14,6 +14,7 @@ mod row;
 mod rows;
 mod scan;
 mod state;
+mod tally;
 mod unmerging;
 
 pub use book::Book;

@@ -14,6 +14,7 @@ ghost use Rattle.ksm_base.specs.Rows.{row_at, with_row, without_page, change_row
 ghost use Rattle.ksm_base.specs.Visit.{after_cursor as comes_after, next_row as row_to_visit};
 ghost use Rattle.ksm_book.specs.Listed.{rank, StandsAt, instead};
 ghost use Rattle.ksm_book.specs.RowEntries.{row_of, start_after};
+ghost use Rattle.ksm_book.specs.Tallied.{IsTally};
 ghost use Rattle.ksm_book.specs.Unmerged.{is_merged_of as is_merged_of_guest};
 ghost use Rattle.ksm_book.specs.Wanted.{is_wanted as is_a_wanted};
 
@@ -21,6 +22,7 @@ use crate::entry::Entry;
 use crate::row::{
     Wanted, is_merged, is_private, is_waiting, is_wanted, let_go_before, unshared, with_mergeable,
 };
+use crate::tally::Tally;
 use ksm_base::{Fault, GuestPage, PageState, Row};
 use std::alloc::Global;
 use std::collections::BTreeMap;
@@ -38,6 +40,7 @@ pub struct Held {
 #[derive(Drop)]
 pub struct Rows {
     entries: BTreeMap<GuestPage, Entry>,
+    tally: Tally,
 }
 
 impl Model for Rows {
@@ -45,9 +48,13 @@ impl Model for Rows {
 
     ghost Value = { Listed };
 
-    ghost use Rattle.ksm_book.specs.RowEntries.{listed};
+    ghost use Rattle.std.specs.Prelude.{map};
+    ghost use Rattle.ksm_book.specs.RowEntries.{listed, row_of};
+    ghost use Rattle.ksm_book.specs.Tallied.{IsTally};
 
     ghost view = { λ r. listed r.entries.entries };
+
+    ghost invariant = { λ r. IsTally (map row_of r.entries.entries) r.tally };
 }
 
 // The row of the entry that a search found.
@@ -68,6 +75,31 @@ fn after_cursor(cursor: Option<GuestPage>) -> Bound<GuestPage>
     }
 }
 
+// Counts the rows.
+fn tally_of(entries: &BTreeMap<GuestPage, Entry>) -> Tally
+    ensures { IsTally (map row_of entries.now.entries) result }
+{
+    Tally {
+        mergeable: entries.values().filter(|entry| entry.mergeable).count(),
+        merged: entries
+            .values()
+            .filter(|entry| is_merged(entry.state))
+            .count(),
+        waiting: entries
+            .values()
+            .filter(|entry| is_waiting(entry.state))
+            .count(),
+        volatile: entries
+            .values()
+            .filter(|entry| entry.mergeable && is_private(entry.state))
+            .count(),
+        pending: entries
+            .values()
+            .filter(|entry| entry.mergeable && is_waiting(entry.state))
+            .count(),
+    }
+}
+
 impl Rows {
     /// No rows.
     pub fn new(alloc: Global) -> Rows
@@ -75,6 +107,7 @@ impl Rows {
     {
         Rows {
             entries: BTreeMap::new(alloc),
+            tally: Tally::NONE,
         }
     }
 
@@ -115,6 +148,9 @@ impl Rows {
         ensures fault { OnErr result (result ≡ Err Memory) }
     {
         let _ = self.entries.insert(row.page, Entry::new(row, frame))?;
+        // The contract of `len` says that the number fits.
+        let _ = self.entries.len();
+        self.tally = self.tally.with(&row);
         Ok(())
     }
 
@@ -126,10 +162,14 @@ impl Rows {
         ensures changed { self.new.rows ≡ change_row row.page (λ _. row) self.old.rows }
     {
         let kept = Entry::new(row, frame);
+        // The contract of `len` says that the number fits.
+        let _ = self.entries.len();
         let Some(entry) = self.entries.get_mut(&row.page) else {
             return;
         };
+        let old = entry.row(row.page);
         *entry = kept;
+        self.tally = self.tally.without(&old).with(&row);
     }
 
     /// Takes the row of a page away, which has one.
@@ -141,7 +181,10 @@ impl Rows {
     {
         // The contract of `len` says that the keys ascend, that of `remove` does so of those that are left.
         let _ = self.entries.len();
-        let _ = self.entries.remove(&page);
+        let Some(entry) = self.entries.remove(&page) else {
+            return;
+        };
+        self.tally = self.tally.without(&entry.row(page));
     }
 
     // The first row after the cursor that a search is for.
@@ -180,7 +223,7 @@ impl Rows {
     pub fn any_mergeable(&self) -> bool
         ensures { result ≡ list_any (λ r. r.mergeable) self.now.rows }
     {
-        self.entries.values().any(|entry| entry.mergeable)
+        self.tally.mergeable > 0
     }
 
     /// How many rows there are.
@@ -194,30 +237,21 @@ impl Rows {
     pub fn count_merged(&self) -> usize
         ensures { result ≡ count_by (λ r. merged_state r.state) self.now.rows }
     {
-        self.entries
-            .values()
-            .filter(|entry| is_merged(entry.state))
-            .count()
+        self.tally.merged
     }
 
     /// How many rows wait.
     pub fn count_waiting(&self) -> usize
         ensures { result ≡ count_by (λ r. waiting_state r.state) self.now.rows }
     {
-        self.entries
-            .values()
-            .filter(|entry| is_waiting(entry.state))
-            .count()
+        self.tally.waiting
     }
 
     /// How many rows are mergeable and Private.
     pub fn count_volatile(&self) -> usize
         ensures { result ≡ count_by (λ r. r.mergeable && private_state r.state) self.now.rows }
     {
-        self.entries
-            .values()
-            .filter(|entry| entry.mergeable && is_private(entry.state))
-            .count()
+        self.tally.volatile
     }
 
     // The calls that follow write every entry and drop none. They do it by `retain`, whose contract says what is
@@ -234,6 +268,7 @@ impl Rows {
             }
             true
         });
+        self.tally = self.tally.settled();
     }
 
     /// All rows of a guest become mergeable.
@@ -245,6 +280,7 @@ impl Rows {
             entry.set_row(with_mergeable(entry.row(*page), guest));
             true
         });
+        self.tally = tally_of(&self.entries);
     }
 
     /// Every row becomes Private and not unchanged.
@@ -256,6 +292,7 @@ impl Rows {
             entry.set_row(unshared(entry.row(*page)));
             true
         });
+        self.tally = self.tally.unshared();
     }
 
     /// The rows of a guest that come before the one at which an unmerging stopped, or all of them, are alone and out of
@@ -268,6 +305,7 @@ impl Rows {
             entry.set_row(let_go_before(entry.row(*page), guest, stop));
             true
         });
+        self.tally = tally_of(&self.entries);
     }
 
     /// All rows on the frame `old` go to the frame `new`.

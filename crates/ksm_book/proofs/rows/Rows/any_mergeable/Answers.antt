@@ -1,14 +1,13 @@
-use Rattle.std.proofs.Common.{refl, ◌∙◌, rules, tests}
-use Rattle.std.specs.Map.{values_of}
-use Rattle.std.proofs.lemmas.Iterator.Consumers.{YieldsList-from_rest}
-use Rattle.std.proofs.lemmas.Iterator.Search.{any_from_yields_List}
+use Rattle.std.proofs.Common.{◌∙◌, ap}
+use Rattle.std.specs.Prelude.{nat_lt}
+use Rattle.std.specs.List.{list_any}
 use Rattle.ksm_base.specs.declared.row.Row.{Row}
-use Rattle.ksm_book.specs.declared.entry.Entry.{Entry}
-use Rattle.ksm_book.proofs.RowWalks.{any_row}
+use Rattle.ksm_book.specs.Listed.{Listed}
+use Rattle.ksm_book.specs.RowEntries.{listed}
+use Rattle.ksm_book.proofs.Tallies.{any_counted}
 use Rattle.ksm_book.proofs.rows.Rows.any_mergeable.Goals as goal
 
 pub returns : goal.returns
 returns c =
-    let es = c.self.inside.entries.entries in
-    let walked = any_from_yields_List (λ (e : Entry). e.mergeable) _ _ c.any.result c.any.ensures.ran (YieldsList-from_rest (values_of es) c.values.ensures.rest) (λ x b q k. search (rules, tests)) in
-    walked ∙ any_row (λ (r : Row). r.mergeable) (λ e. e.mergeable) (λ e. refl) es c.args.self.now c.self.view_is
+    ap (nat_lt 0) c.self.invariant.mergeable ∙ any_counted (λ (r : Row). r.mergeable) (listed c.self.inside.entries.entries).rows
+    ∙ ap (λ (l : Listed). list_any (λ (r : Row). r.mergeable) l.rows) c.self.view_is

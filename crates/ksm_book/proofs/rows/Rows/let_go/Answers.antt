@@ -15,7 +15,7 @@ gone guest stop r = if is_of guest r && is_before stop r then let_go r else r
 keeps : (guest : ℕ) (stop : Option Row) (r : Row) → (gone guest stop r).page ≡ r.page
 keeps guest stop r = cond_both (is_of guest r && is_before stop r) (let_go r) r (λ x. x.page ≡ r.page) (λ _. refl) (λ _. refl)
 
-written : (c : goal.After-retain) → listed c.retain.new.self.entries ≡ record { rows = map (gone c.args.guest c.args.stop) c.args.self.now.rows; frames = c.args.self.now.frames }
+written : (c : goal.After-self-1) → listed c.retain.new.self.entries ≡ record { rows = map (gone c.args.guest c.args.stop) c.args.self.now.rows; frames = c.args.self.now.frames }
 written c = all_changed (gone c.args.guest c.args.stop) (keeps c.args.guest c.args.stop) c.self.inside.entries.entries c.retain.new.self.entries c.args.self.now c.self.view_is
     (map_pairs _ (changed (gone c.args.guest c.args.stop)) _ (λ k v b w f' t. search rules) c.self.inside.entries.entries c.retain.new.self.entries c.retain.ensures.filtered)
 

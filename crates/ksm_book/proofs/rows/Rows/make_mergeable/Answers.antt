@@ -14,7 +14,7 @@ made guest r = if is_of guest r then record r { mergeable = true } else r
 keeps : (guest : ℕ) (r : Row) → (made guest r).page ≡ r.page
 keeps guest r = cond_both (is_of guest r) (record r { mergeable = true }) r (λ x. x.page ≡ r.page) (λ _. refl) (λ _. refl)
 
-written : (c : goal.After-retain) → listed c.retain.new.self.entries ≡ record { rows = map (made c.args.guest) c.args.self.now.rows; frames = c.args.self.now.frames }
+written : (c : goal.After-self-1) → listed c.retain.new.self.entries ≡ record { rows = map (made c.args.guest) c.args.self.now.rows; frames = c.args.self.now.frames }
 written c = all_changed (made c.args.guest) (keeps c.args.guest) c.self.inside.entries.entries c.retain.new.self.entries c.args.self.now c.self.view_is
     (map_pairs _ (changed (made c.args.guest)) _ (λ k v b w f' t. search rules) c.self.inside.entries.entries c.retain.new.self.entries c.retain.ensures.filtered)
 

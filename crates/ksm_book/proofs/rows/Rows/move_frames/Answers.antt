@@ -1,6 +1,7 @@
-use Rattle.std.proofs.Common.{◌≡◌, ap, map, rules}
+use Rattle.std.proofs.Common.{◌≡◌, ◌∙◌, sym, ap, map, subst, rules}
 use Rattle.ksm_book.specs.Listed.{Listed, instead}
-use Rattle.ksm_book.specs.RowEntries.{listed}
+use Rattle.ksm_book.specs.RowEntries.{listed, row_of}
+use Rattle.ksm_book.specs.Tallied.{IsTally}
 use Rattle.ksm_book.proofs.RowWalks.{moved, map_pairs, all_moved}
 use Rattle.ksm_book.proofs.rows.Rows.move_frames.Goals as goal
 
@@ -13,3 +14,7 @@ returns-clause-rows c = ap (λ (l : Listed). l.rows) (written c)
 
 pub returns-clause-frames : goal.returns-clause-frames
 returns-clause-frames c = ap (λ (l : Listed). l.frames) (written c)
+
+pub invariant_of-self : goal.invariant_of-self
+invariant_of-self c =
+    subst (λ l. IsTally l c.self.inside.tally) (sym (ap (λ (l : Listed). l.rows) (written c) ∙ ap (λ (l : Listed). l.rows) (sym c.self.view_is))) c.self.invariant

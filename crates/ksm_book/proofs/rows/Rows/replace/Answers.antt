@@ -1,11 +1,12 @@
-use Rattle.std.proofs.Common.{◌≡◌, sym, ◌∙◌, ap, false, arith}
+use Rattle.std.proofs.Common.{◌≡◌, sym, ◌∙◌, ap, Some, false, arith}
 use Rattle.std.specs.Prelude.{is_some}
 use Rattle.std.specs.Option.{option_copied_mut}
-use Rattle.std.specs.Map.{set_value}
+use Rattle.std.specs.Map.{lookup, set_value}
 use Rattle.ksm_base.specs.Rows.{row_at}
 use Rattle.ksm_book.specs.Listed.{Listed}
 use Rattle.ksm_book.specs.RowEntries.{listed}
 use Rattle.ksm_book.proofs.RowLists.{asks, known_by, Replaced, replaced}
+use Rattle.ksm_book.proofs.Tallies.{page_counted, page_replaced, page_room}
 use Rattle.ksm_book.proofs.rows.Rows.replace.Goals as goal
 
 -- the page has a row, so it has an entry
@@ -24,7 +25,7 @@ returns-in_default-clause-frames c = absurd (never c)
 pub returns-in_default-clause-changed : goal.returns-in_default-clause-changed
 returns-in_default-clause-changed c = absurd (never c)
 
-written : (c : goal.After-self-2-1) → Replaced c.args.self.now (listed (c.get_mut.follows.lender c.new-kept.result).entries) c.args.row c.args.frame
+written : (c : goal.After-self-3-1) → Replaced c.args.self.now (listed (c.get_mut.follows.lender c.new-kept.result).entries) c.args.row c.args.frame
 written c = replaced c.self.inside.entries.entries (c.get_mut.follows.lender c.new-kept.result).entries c.args.self.now c.args.row c.args.frame c.self.view_is c.get_mut.ensures.ordered c.requires
     ((c.get_mut.follows.holds c.new-kept.result).0 ∙ ap (set_value (asks c.args.row.page) c.self.inside.entries.entries) c.new-kept.ensures)
 
@@ -36,3 +37,20 @@ returns-clause-frames c = (written c).frames
 
 pub returns-clause-changed : goal.returns-clause-changed
 returns-clause-changed c = (written c).changed
+
+pub without-requires : goal.without-requires
+without-requires c =
+    let found : lookup (asks c.args.row.page) c.self.inside.entries.entries ≡ Some c.in-Some.entry.now = sym c.get_mut.ensures.value ∙ ap option_copied_mut c.in-Some.is in
+    page_counted c.self.inside.entries.entries c.args.self.now c.args.row.page c.in-Some.entry.now c.row-old.result c.self.inside.tally c.self.view_is c.get_mut.ensures.ordered found c.row-old.ensures c.self.invariant
+
+pub with-self-inside-requires : goal.with-self-inside-requires
+with-self-inside-requires c =
+    let found : lookup (asks c.args.row.page) c.self.inside.entries.entries ≡ Some c.in-Some.entry.now = sym c.get_mut.ensures.value ∙ ap option_copied_mut c.in-Some.is in
+    page_room c.self.inside.entries.entries c.args.self.now c.args.row.page c.in-Some.entry.now c.row-old.result c.self.inside.tally c.self.view_is c.get_mut.ensures.ordered found c.row-old.ensures c.self.invariant
+    c.without.result (omega (arith, c.len.ensures.small, c.len.ensures.len)) c.without.ensures
+
+pub invariant_of-self-2 : goal.invariant_of-self-2
+invariant_of-self-2 c =
+    let found : lookup (asks c.args.row.page) c.self.inside.entries.entries ≡ Some c.in-Some.entry.now = sym c.get_mut.ensures.value ∙ ap option_copied_mut c.in-Some.is in
+    page_replaced c.self.inside.entries.entries c.args.self.now c.args.row.page c.in-Some.entry.now c.row-old.result c.self.inside.tally c.self.view_is c.get_mut.ensures.ordered found c.row-old.ensures c.self.invariant
+    c.args.row c.without.result c.with-self-inside.result _ (written c).rows c.without.ensures c.with-self-inside.ensures

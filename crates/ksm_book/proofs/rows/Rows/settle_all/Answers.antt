@@ -1,4 +1,4 @@
-use Rattle.std.proofs.Common.{◌≡◌, ◌∙◌, refl, ap, map, rules}
+use Rattle.std.proofs.Common.{◌≡◌, ◌∙◌, refl, sym, ap, map, subst, rules}
 use Rattle.std.specs.Prelude.{if◌then◌else◌}
 use Rattle.ksm_base.specs.declared.page.GuestPage.{GuestPage}
 use Rattle.ksm_base.specs.declared.row.PageState.{PageState}
@@ -6,8 +6,10 @@ use Rattle.ksm_base.specs.declared.row.PageState.TheVariants.{Private, Waiting, 
 use Rattle.ksm_base.specs.Rows.{waiting_state, settled_state, settled}
 use Rattle.ksm_book.specs.declared.entry.Entry.{Entry}
 use Rattle.ksm_book.specs.Listed.{Listed}
-use Rattle.ksm_book.specs.RowEntries.{listed}
+use Rattle.ksm_book.specs.RowEntries.{listed, row_of}
+use Rattle.ksm_book.specs.Tallied.{IsTally}
 use Rattle.ksm_book.proofs.RowWalks.{map_pairs, all_changed}
+use Rattle.ksm_book.proofs.Tallies.{tally_settled, tally_within}
 use Rattle.ksm_book.proofs.rows.Rows.settle_all.Goals as goal
 
 -- an entry that waits no more
@@ -19,7 +21,7 @@ calms Private = refl
 calms Waiting = refl
 calms (Merged number) = refl
 
-written : (c : goal.After-retain) → listed c.retain.new.self.entries ≡ record { rows = map settled c.args.self.now.rows; frames = c.args.self.now.frames }
+written : (c : goal.After-self-1) → listed c.retain.new.self.entries ≡ record { rows = map settled c.args.self.now.rows; frames = c.args.self.now.frames }
 written c =
     let es = c.self.inside.entries.entries in
     all_changed settled (λ r. refl) es c.retain.new.self.entries c.args.self.now c.self.view_is
@@ -30,3 +32,14 @@ returns-clause-rows c = ap (λ (l : Listed). l.rows) (written c)
 
 pub returns-clause-frames : goal.returns-clause-frames
 returns-clause-frames c = ap (λ (l : Listed). l.frames) (written c)
+
+pub settled-self-inside-requires : goal.settled-self-inside-requires
+settled-self-inside-requires c =
+    let rows = map row_of c.self.inside.entries.entries in
+    rw (c.self.invariant.volatile, c.self.invariant.pending, c.self.invariant.mergeable) (tally_within rows)
+
+pub invariant_of-self : goal.invariant_of-self
+invariant_of-self c =
+    let rows = map row_of c.self.inside.entries.entries in
+    subst (λ l. IsTally l c.settled-self-inside.result) (sym (ap (λ (l : Listed). l.rows) (written c) ∙ ap (λ (l : Listed). map settled l.rows) (sym c.self.view_is)))
+    (rw c.settled-self-inside.ensures (tally_settled rows c.self.inside.tally c.self.invariant))

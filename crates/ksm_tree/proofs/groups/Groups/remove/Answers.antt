@@ -1,4 +1,4 @@
-use Rattle.std.proofs.Common.{◌∙◌, length, Some, None, refl, sym, ap, subst}
+use Rattle.std.proofs.Common.{◌∙◌, length, Some, None, refl, sym, ap, subst, arith}
 use Rattle.ksm_tree.specs.Groups.{AllPeopled, chain_in}
 use Rattle.ksm_tree.specs.Places.{without}
 use Rattle.ksm_tree.proofs.Chains.{chain_here, chain_now, chain_changed, chain_same, chain_empty, none_of, some_of, peopled_changed, peopled_gone, some_peopled}
@@ -17,7 +17,7 @@ invariant_of-self c = record {
 pub invariant_of-self-else-emptied : goal.invariant_of-self-else-emptied
 invariant_of-self-else-emptied c = record {
   peopled = peopled_changed c.args.content.now c.args.self.now.chains (c.get_mut.follows.lender c.remove.new.self) (Some c.remove.new.self) ((c.get_mut.follows.holds c.remove.new.self).3 (rw (← c.in-Some.ensures.value) refl)) c.args.self.now.peopled
-      (some_peopled c.remove.new.self (some_of c.remove.new.self.list.items (sym c.is_empty-emptied.ensures ∙ c.if-emptied.false)));
+      (some_peopled c.remove.new.self (some_of c.remove.new.self.list.items (grind (arith, c.is_empty-emptied.ensures, c.if-emptied.false))));
 }
 
 pub invariant_of-self-in-None : goal.invariant_of-self-in-None
@@ -29,7 +29,7 @@ returns-then-emptied-clause-removed c t b =
     let here = chain_here c.args.content.now c.args.self.now.chains _ c.in-Some.ensures.value in
     let lent = c.get_mut.follows.lender c.remove.new.self in
     let changed = (c.get_mut.follows.holds c.remove.new.self).3 (rw (← c.in-Some.ensures.value) refl) in
-    let empty = none_of c.remove.new.self.list.items (sym c.is_empty-emptied.ensures ∙ c.if-emptied.true) in
+    let empty = none_of c.remove.new.self.list.items (grind (arith, c.is_empty-emptied.ensures, c.if-emptied.true)) in
     let left = chain_changed c.args.content.now c.args.self.now.chains lent (Some c.remove.new.self) (without place) ((c.get_mut.follows.holds c.remove.new.self).3 (rw (← c.in-Some.ensures.value) refl)) (c.remove.ensures.without ∙ ap (without place) (sym here)) in
     let gone = chain_same c.args.content.now lent c.remove-then-emptied.new.self None c.remove-then-emptied.ensures.updates (empty ∙ sym (chain_here c.args.content.now lent (Some c.remove.new.self) (sym changed.1))) in
     gone t b ∙ left t b
@@ -38,7 +38,7 @@ pub returns-then-emptied-clause-totals : goal.returns-then-emptied-clause-totals
 returns-then-emptied-clause-totals c =
     let here = chain_here c.args.content.now c.args.self.now.chains _ c.in-Some.ensures.value in
     let lent = c.get_mut.follows.lender c.remove.new.self in
-    let empty = none_of c.remove.new.self.list.items (sym c.is_empty-emptied.ensures ∙ c.if-emptied.true) in
+    let empty = none_of c.remove.new.self.list.items (grind (arith, c.is_empty-emptied.ensures, c.if-emptied.true)) in
     regrouped_as _ _ _ _ _ _ (c.len-before.ensures ∙ sym (ap length here))
     (c.len.ensures ∙ sym (ap length empty) ∙ sym (ap length (chain_now c.args.content.now lent c.remove-then-emptied.new.self None c.remove-then-emptied.ensures.updates)))
     c.regrouped-self.ensures
