@@ -5,7 +5,7 @@ ghost use Rattle.ksm_base.specs.Reading.{bytes_of};
 ghost use Rattle.ksm_base.specs.Sound.{IsSound};
 ghost use Rattle.ksm_book.specs.Carried.{CarriedOut, unjournaled};
 ghost use Rattle.ksm_book.specs.Laid.{LoadsIf};
-ghost use Rattle.ksm_book.specs.Lawful.{LieLawfully, ShareLawfully};
+ghost use Rattle.ksm_book.specs.Promised.{LiesInFrames};
 ghost use Rattle.ksm_shared.specs.Handed.{missing_of};
 ghost use Rattle.ksm_shared.specs.Locked.{Gathered, LacksOne, SeesOn, made, made_by, part_of, said_of, state_seen};
 ghost use Rattle.ksm_shared.specs.Seen.{CallersFit, IsBookSeat, OwnersBelow, caller, entries, times};
@@ -112,8 +112,7 @@ impl<N: Naming> Merge<N> {
     pub fn lies_lawfully(&self)
         ensures own { self.now.book.keeper.table ≡ N.parts.frames }
         ensures sound { IsSound self.now.book.state }
-        ensures placed { LieLawfully self.now.book.state self.now.book.keeper }
-        ensures shared { ShareLawfully self.now.book.state self.now.book.keeper }
+        ensures placed { LiesInFrames self.now.book.state self.now.book.keeper }
         ensures legal { IsLegal N.parts.frames.shape (entries self.now.log) self.now.book.state }
         ensures stored { ReadsLastStored (entries self.now.log) self.now.book.state.rows }
         ensures journal { self.now.book.journal ≡ entries self.now.log }

@@ -46,9 +46,9 @@ fn register(guest: u16, number: u32, byte: u8) -> Command {
     }
 }
 
-// The last byte that a caller stores.
-fn last_byte(guest: u16) -> u8 {
-    (guest % 4) as u8 * 50 + 100
+// The byte of a caller's j-th store.
+fn byte_of(guest: u16, j: u8) -> u8 {
+    ((guest % 4) as u8 * 50).saturating_add(j)
 }
 
 // A caller registers its page, stores to it 100 times, and stores to a page that is not there. It answers whether all went so.
@@ -60,8 +60,8 @@ fn work<N: Naming>(
 ) -> (Share<N>, bool) {
     let mut right = ksm.command(rt, &mut share, register(guest, 0, 0)).result() == DONE;
     for j in 1..101u8 {
-        let byte = last_byte(guest) - 100 + j;
-        right &= ksm.command(rt, &mut share, store(guest, 0, byte)).result() == DONE;
+        let command = store(guest, 0, byte_of(guest, j));
+        right &= ksm.command(rt, &mut share, command).result() == DONE;
     }
     let missing = ksm.command(rt, &mut share, store(guest, 9, 1)).result();
     (share, right && missing == Err(Fault::UnknownPage))
@@ -86,7 +86,7 @@ fn four_work<N: Naming + Send + Sync, R: Threads + Wait + Abort + Sync>(
     let mut last = three.0;
     for guest in 0..4 {
         let bytes = ksm.read(rt, &mut last, page(guest, 0));
-        assert_eq!(rt; bytes, Some(filled(last_byte(guest))));
+        assert_eq!(rt; bytes, Some(filled(byte_of(guest, 100))));
     }
     shares.push(zero.0)?;
     shares.push(one.0)?;
@@ -116,4 +116,114 @@ fn four<N: Naming + Send + Sync, R: Threads + Wait + Abort + Sync>(
 fn four_callers_keep_one_journal(rt: HostRuntime) -> Result<(), Fail> {
     let parts = Parts::open(rt.alloc(), SHAPE, 4)?;
     four::<Brand, _>(&rt, parts)
+}
+
+// Two pages of one content, merged by the second pass.
+fn merge_two<N: Naming>(rt: &impl Wait, ksm: &Ksm<N>, share: &mut Share<N>) -> bool {
+    let scan = Command::Scan { visits: 4 };
+    let mut right = ksm.command(rt, share, register(0, 0, 10)).result() == DONE;
+    right &= ksm.command(rt, share, register(0, 1, 10)).result() == DONE;
+    right &= ksm.command(rt, share, Command::SetRun(1)).result() == DONE;
+    right & ksm.command(rt, share, scan).result().is_ok()
+}
+
+// What is counted once two pages are merged.
+const TWO_MERGED: Counters = Counters {
+    shared: 1,
+    sharing: 1,
+    unshared: 0,
+    volatile: 0,
+    chains: 0,
+    dups: 0,
+    full_scans: 2,
+};
+
+// What the locked reads answer of two merged pages, and what the share then tells.
+fn reads<N: Naming, R: Wait + Abort>(
+    rt: &R,
+    alloc: Global,
+    ksm: &Ksm<N>,
+    mut shares: Vec<Share<N>>,
+) -> Result<u64, Fail> {
+    let mut one = shares.pop().ok_or("share")?;
+    let share = &mut one;
+    assert!(rt; merge_two(rt, ksm, share));
+    assert_eq!(rt; ksm.read(rt, share, page(0, 1)), Some(filled(10)));
+    assert_eq!(rt; ksm.read(rt, share, page(0, 2)), None);
+    assert_eq!(rt; ksm.ticket(rt, share, page(0, 1)), Some(0));
+    assert_eq!(rt; ksm.registered(rt, share, page(0, 1)), true);
+    assert_eq!(rt; ksm.registered(rt, share, page(1, 1)), false);
+    assert_eq!(rt; ksm.counters(rt, share), TWO_MERGED);
+    let knobs = Knobs {
+        run: 1,
+        ..Knobs::DEFAULT
+    };
+    assert_eq!(rt; ksm.knobs(rt, share), knobs);
+    let mappers = match ksm.mappers(rt, alloc, share, 0) {
+        Ok(Some(pages)) => pages.len(),
+        _ => 0,
+    };
+    assert_eq!(rt; mappers, 2);
+    shares.push(one)?;
+    let tally = gather(rt, ksm, shares).ok().ok_or("all")?;
+    Ok(tally.entries)
+}
+
+// What a lookup of the first place answers while the same thread has the merge lock: whether the frame was held, and the pass.
+fn looks_while_locked<N: Naming>(rt: &impl Wait, ksm: &Ksm<N>, pass: Pass) -> (bool, Pass)
+    requires pass { pass.table ≡ N.parts.frames }
+    requires places { frames_of N.parts.frames.shape ≡ 8 }
+    ensures { result.1.table ≡ N.parts.frames }
+{
+    let merge = ksm.merge.lock(rt);
+    let found = ksm.find(pass, 0);
+    MutexGuard::unlock(merge);
+    match found {
+        Found::Held(held) => (true, held.leave(ksm.table())),
+        Found::Gone(pass, _) => (false, pass),
+        Found::Busy(pass) => (false, pass),
+    }
+}
+
+// Whether the first place's frame has just these bytes.
+fn looks_equal<N: Naming>(ksm: &Ksm<N>, pass: Pass, bytes: &PageBytes) -> (bool, Pass)
+    requires pass { pass.table ≡ N.parts.frames }
+    requires places { frames_of N.parts.frames.shape ≡ 8 }
+    ensures { result.1.table ≡ N.parts.frames }
+{
+    match ksm.find_equal(pass, 0, bytes) {
+        FoundEqual::Held(held) => (true, held.leave(ksm.table())),
+        FoundEqual::Differs(held) => (false, held.leave(ksm.table())),
+        FoundEqual::Gone(pass, _) => (false, pass),
+        FoundEqual::Busy(pass) => (false, pass),
+    }
+}
+
+fn one<N: Naming, R: Wait + Abort>(rt: &R, alloc: Global, parts: Parts) -> Result<(), Fail>
+    requires name { parts ≡ N.parts }
+    requires places { frames_of parts.frames.shape ≡ 8 }
+    requires passes { parts.frames.shape.passes ≡ 2 }
+{
+    let (ksm, mut passes, shares) = Ksm::<N>::open(parts)?;
+    let Some(pass) = passes.pop() else {
+        unreachable!()
+    };
+    let entries = reads(rt, alloc, &ksm, shares);
+    let (held, pass) = looks_while_locked(rt, &ksm, pass);
+    let (equal, pass) = looks_equal(&ksm, pass, &filled(10));
+    let (other, pass) = looks_equal(&ksm, pass, &filled(11));
+    passes.push_reserved(pass);
+    let closed = ksm.close(rt, passes);
+    assert_eq!(rt; entries?, 4);
+    assert!(rt; held && equal && !other);
+    assert_eq!(rt; (closed.place(0), closed.count(0)), (1024, 2));
+    Ok(())
+}
+
+// One caller makes each call; and a lookup returns though the thread that makes it has the merge lock.
+#[test]
+fn lookups_take_no_lock(rt: HostRuntime) -> Result<(), Fail> {
+    let alloc = rt.alloc();
+    let parts = Parts::open(alloc, SHAPE, 1)?;
+    one::<Brand, _>(&rt, alloc, parts)
 }
