@@ -9,7 +9,7 @@ use Rattle.std.proofs.KnownBytes.{Appends-trans, Appends-kept}
 use Rattle.std.specs.Prelude.{IfErr, IsErrAnd}
 use Rattle.ksm_script.specs.declared.script.RunFault.{RunFault}
 use Rattle.ksm_script.specs.declared.script.RunFault.TheVariants.{Write}
-use Rattle.ksm_script.specs.Texts.{AppendsPart}
+use Rattle.ksm_script.specs.Texts.{AppendsBroken, AppendsPart}
 
 pub one_more : (a b c : Option (List ℕ)) (text : List ℕ) (n m : ℕ)
     → Appends a b (take n text) → Appends b c (take m (take (length text - n) (drop n text))) → Appends a c (take (n + m) text)
@@ -29,6 +29,10 @@ pub part_after : (a b c : Option (List ℕ)) (text next : List ℕ)
     → Appends a b text → AppendsPart b c next → AppendsPart a c (text ++ next)
 part_after a b c text next p q =
     (text ++ q.0, q.1, append_assoc text q.0 q.1 ∙ ap (λ (t : List ℕ). text ++ t) q.2, Appends-trans a b c _ _ p q.3)
+
+-- a text behind which another one is broken off
+pub broken_after : (a b c : Option (List ℕ)) (text next : List ℕ) → Appends a b text → AppendsPart b c next → AppendsBroken a c text next
+broken_after a b c text next p q = (q.0, q.1, q.2, Appends-trans a b c _ _ p q.3)
 
 -- what is a beginning of a text is one of a longer text
 pub part_longer : (a b : Option (List ℕ)) (text next : List ℕ) → AppendsPart a b text → AppendsPart a b (text ++ next)

@@ -1,5 +1,5 @@
 -- A run goes on by one line.
-use Rattle.std.proofs.Common.{◌≡◌, ◌≢◌, ℕ, ◌+◌, ◌≤◌, List, [], ◌∷◌, ◌++◌, length, Option, Result, Ok, Err, ap, ◌∙◌, sym, subst, append_assoc, inl, inr, refl}
+use Rattle.std.proofs.Common.{◌≡◌, ◌≢◌, ℕ, ◌+◌, ◌≤◌, List, [], ◌∷◌, ◌++◌, length, Option, Some, Result, Ok, Err, ap, ◌∙◌, sym, subst, append_assoc, inl, inr, refl}
 use Rattle.std.specs.Io.KnownBytes.{Appends, Consumes, IsAtEnd, Keeps}
 use Rattle.std.proofs.KnownBytes.{Appends-kept, Appends-nil, Appends-trans, Consumes-nil, Consumes-trans}
 use Rattle.ksm_base.specs.State.{BookState}
@@ -14,6 +14,7 @@ use Rattle.ksm_script.specs.declared.input.LineEnd.TheVariants.{Newline, Input, 
 use Rattle.ksm_script.specs.Grammar.{Writes}
 use Rattle.ksm_script.specs.Input.{EndsAs, IsPlain}
 use Rattle.ksm_script.specs.Answering.{Answers, reply_text}
+use Rattle.ksm_script.specs.Replies.{text_of}
 use Rattle.ksm_script.specs.Script.{Answered, none, more, ReadFor, AnsweredAll, IsNoLine, IsBad, IsReadAs, AnsweredToBad}
 
 abbrev pub ended : End → Result End RunFault
@@ -124,3 +125,8 @@ module _ (first now later : Option (List ℕ)) (begun written : Option (List ℕ
   pub answered_to_bad : (fault : LineFault) → IsReadAs (Err fault) end line → AnsweredToBad first later from state so.text so.count
   answered_to_bad fault bad =
       (line, read.bytes, end, (so.lines, so.answered, consumed_then), read.plain, read.ends, bad_of later end line bad read.last)
+
+-- the same where the reply is known
+pub answered_told : (old new : Option (List ℕ)) (from to : BookState) (text : List ℕ) (reply : Option LineReply) (told : LineReply) → reply ≡ Some told
+    → AnsweredAll old new from to (text ++ reply_text reply) → AnsweredAll old new from to (text ++ text_of told)
+answered_told old new from to text reply told is all = subst (λ (r : Option LineReply). AnsweredAll old new from to (text ++ reply_text r)) is all

@@ -1,5 +1,5 @@
 -- The texts of numbers, pages and contents, and what a writer has of a text (own).
-use Rattle.std.specs.Prelude.{◌≡◌, ℕ, ◌/◌, ◌%◌, ◌==◌, false, List, [], ◌∷◌, ◌++◌, Option, slice_index, if◌then◌else◌}
+use Rattle.std.specs.Prelude.{◌≡◌, ℕ, ◌/◌, ◌%◌, false, List, [], ◌∷◌, ◌++◌, Option}
 use Rattle.std.specs.Fmt.{digit_glyph}
 use Rattle.std.specs.Int.{w64, to_le_bytes}
 use Rattle.std.specs.List.{flat_map}
@@ -8,6 +8,10 @@ use Rattle.std.specs.Io.KnownBytes.{Appends}
 -- known bytes grow by a beginning of a text
 abbrev pub AppendsPart : Option (List ℕ) → Option (List ℕ) → List ℕ → Type 0
 AppendsPart old new text = (part : List ℕ) × (rest : List ℕ) × (part ++ rest ≡ text) × Appends old new part
+
+-- known bytes grow by a text, and by a beginning of the next one
+abbrev pub AppendsBroken : Option (List ℕ) → Option (List ℕ) → List ℕ → List ℕ → Type 0
+AppendsBroken old new text next = (part : List ℕ) × (rest : List ℕ) × (part ++ rest ≡ next) × Appends old new (text ++ part)
 
 -- a byte in two hexadecimal digits, lower case
 abbrev pub byte_digits : ℕ → List ℕ
@@ -20,7 +24,3 @@ word_digits word = flat_map byte_digits (to_le_bytes w64 word)
 -- the content of a page: its bytes in order
 abbrev pub content_text : List ℕ → List ℕ
 content_text content = flat_map word_digits content
-
--- digit k of some bytes, the higher half of each before the lower
-abbrev pub nibble_at : List ℕ → ℕ → ℕ
-nibble_at bytes k = digit_glyph false (if k % 2 == 0 then slice_index bytes (k / 2) / 16 else slice_index bytes (k / 2) % 16)

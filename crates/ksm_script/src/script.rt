@@ -1,13 +1,14 @@
 //! Runs of a session over a reader and a writer.
-ghost use Rattle.std.specs.Prelude.{◌≡◌, ◌+◌, ◌≤◌, ◌++◌, ◌⊎◌, ℕ, List, length, Ok, Err, OnOk, IfErr};
+ghost use Rattle.std.specs.Prelude.{◌≡◌, ◌+◌, ◌≤◌, ◌++◌, ◌⊎◌, ℕ, List, length, Some, Ok, Err, OnOk, IfErr};
 ghost use Rattle.std.specs.Io.Buffered.{reader_remaining, writer_contents};
 ghost use Rattle.std.specs.Io.KnownBytes.{Appends, IsAtEnd};
+ghost use Rattle.ksm_script.specs.declared.reply.LineReply.{LineReply};
 ghost use Rattle.ksm_script.specs.declared.reply.LineReply.TheVariants.{BadLine as bad_line};
 ghost use Rattle.ksm_script.specs.Answering.{reply_text};
 ghost use Rattle.ksm_script.specs.Input.{IsPlain};
 ghost use Rattle.ksm_script.specs.Replies.{text_of};
 ghost use Rattle.ksm_script.specs.Script.{AnsweredAll, AnsweredBefore, AnsweredToBad, IsReadAs};
-ghost use Rattle.ksm_script.specs.Texts.{AppendsPart};
+ghost use Rattle.ksm_script.specs.Texts.{AppendsBroken, AppendsPart};
 
 use crate::input::{ByBlocks, ByBytes, LineEnd, TakesLines};
 use crate::line::{Line, LineFault, read_line};
@@ -40,7 +41,7 @@ pub enum End {
 ///
 /// Lines are numbered from 1; those of no bytes count, and have no reply. Each fault of a read or a write ends the run, an
 /// interrupted one too. At `RunFault::Read` the replies to the whole lines read are written. At `RunFault::Write` a beginning of
-/// the replies is written, and the lines read were all carried out.
+/// the last line's reply is written behind whole replies to the lines before, and no further line is read.
 pub fn run<R: Read, W: Write>(
     reader: &mut R,
     writer: &mut W,
@@ -56,12 +57,12 @@ pub fn run<R: Read, W: Write>(
     ensures read_fault { result ≡ Err RunFault.Read → (text : List ℕ) × (count : ℕ) × (rest : List ℕ) × IsPlain rest × (length rest ≤ 256)
         × AnsweredBefore (R.remaining reader.old) (R.remaining reader.new) session.old.state session.new.state text count rest
         × Appends (W.contents writer.old) (W.contents writer.new) text }
-    ensures write_fault { result ≡ Err RunFault.Write → ((text : List ℕ)
-        × AnsweredAll (R.remaining reader.old) (R.remaining reader.new) session.old.state session.new.state text
-        × AppendsPart (W.contents writer.old) (W.contents writer.new) text)
+    ensures write_fault { result ≡ Err RunFault.Write → ((text : List ℕ) × (reply : LineReply)
+        × AnsweredAll (R.remaining reader.old) (R.remaining reader.new) session.old.state session.new.state (text ++ text_of reply)
+        × AppendsBroken (W.contents writer.old) (W.contents writer.new) text (text_of reply))
         ⊎ ((text : List ℕ) × (count : ℕ)
         × AnsweredToBad (R.remaining reader.old) (R.remaining reader.new) session.old.state session.new.state text count
-        × AppendsPart (W.contents writer.old) (W.contents writer.new) (text ++ text_of (bad_line (count + 1)))) }
+        × AppendsBroken (W.contents writer.old) (W.contents writer.new) text (text_of (bad_line (count + 1)))) }
     ensures table { session.new.keeper.table ≡ session.old.keeper.table }
 {
     run_by::<ByBytes, R, W>(reader, writer, session)
@@ -86,12 +87,12 @@ pub fn run_buffered<R: Read, W: Write + Drop>(
     ensures read_fault { result ≡ Err RunFault.Read → (text : List ℕ) × (count : ℕ) × (rest : List ℕ) × IsPlain rest × (length rest ≤ 256)
         × AnsweredBefore (reader_remaining R.remaining reader.old) (reader_remaining R.remaining reader.new) session.old.state session.new.state text count rest
         × Appends (writer_contents W.contents writer.old) (writer_contents W.contents writer.new) text }
-    ensures write_fault { result ≡ Err RunFault.Write → ((text : List ℕ)
-        × AnsweredAll (reader_remaining R.remaining reader.old) (reader_remaining R.remaining reader.new) session.old.state session.new.state text
-        × AppendsPart (writer_contents W.contents writer.old) (writer_contents W.contents writer.new) text)
+    ensures write_fault { result ≡ Err RunFault.Write → ((text : List ℕ) × (reply : LineReply)
+        × AnsweredAll (reader_remaining R.remaining reader.old) (reader_remaining R.remaining reader.new) session.old.state session.new.state (text ++ text_of reply)
+        × AppendsBroken (writer_contents W.contents writer.old) (writer_contents W.contents writer.new) text (text_of reply))
         ⊎ ((text : List ℕ) × (count : ℕ)
         × AnsweredToBad (reader_remaining R.remaining reader.old) (reader_remaining R.remaining reader.new) session.old.state session.new.state text count
-        × AppendsPart (writer_contents W.contents writer.old) (writer_contents W.contents writer.new) (text ++ text_of (bad_line (count + 1)))) }
+        × AppendsBroken (writer_contents W.contents writer.old) (writer_contents W.contents writer.new) text (text_of (bad_line (count + 1)))) }
     ensures table { session.new.keeper.table ≡ session.old.keeper.table }
 {
     run_by::<ByBlocks, BufReader<R>, BufWriter<W>>(reader, writer, session)
@@ -113,12 +114,12 @@ fn run_by<M: TakesLines<R, W>, R, W: Write>(
     ensures read_fault { result ≡ Err RunFault.Read → (text : List ℕ) × (count : ℕ) × (rest : List ℕ) × IsPlain rest × (length rest ≤ 256)
         × AnsweredBefore (M.remaining reader.old) (M.remaining reader.new) session.old.state session.new.state text count rest
         × Appends (W.contents writer.old) (W.contents writer.new) text }
-    ensures write_fault { result ≡ Err RunFault.Write → ((text : List ℕ)
-        × AnsweredAll (M.remaining reader.old) (M.remaining reader.new) session.old.state session.new.state text
-        × AppendsPart (W.contents writer.old) (W.contents writer.new) text)
+    ensures write_fault { result ≡ Err RunFault.Write → ((text : List ℕ) × (reply : LineReply)
+        × AnsweredAll (M.remaining reader.old) (M.remaining reader.new) session.old.state session.new.state (text ++ text_of reply)
+        × AppendsBroken (W.contents writer.old) (W.contents writer.new) text (text_of reply))
         ⊎ ((text : List ℕ) × (count : ℕ)
         × AnsweredToBad (M.remaining reader.old) (M.remaining reader.new) session.old.state session.new.state text count
-        × AppendsPart (W.contents writer.old) (W.contents writer.new) (text ++ text_of (bad_line (count + 1)))) }
+        × AppendsBroken (W.contents writer.old) (W.contents writer.new) text (text_of (bad_line (count + 1)))) }
     ensures table { session.new.keeper.table ≡ session.old.keeper.table }
 {
     'lines: for number in 1..u64::MAX {
@@ -151,8 +152,8 @@ fn line_of(session: &Session, end: LineEnd) -> Result<Line, LineFault>
 /// Writes the reply to a line, if it has one.
 fn write_answer<W: Write>(writer: &mut W, reply: Option<LineReply>) -> Result<(), RunFault>
     ensures whole { OnOk result (Appends (W.contents writer.old) (W.contents writer.new) (reply_text reply)) }
-    ensures fault { IfErr result (λ e. (e ≡ RunFault.Write)
-        × AppendsPart (W.contents writer.old) (W.contents writer.new) (reply_text reply)) }
+    ensures fault { IfErr result (λ e. (e ≡ RunFault.Write) × (told : LineReply) × (reply ≡ Some told)
+        × AppendsPart (W.contents writer.old) (W.contents writer.new) (text_of told)) }
 {
     match reply {
         None => Ok(()),

@@ -1,4 +1,5 @@
 //! Runs over memory, by worked scripts.
+mod faults;
 mod selftests;
 
 use super::*;

@@ -7,8 +7,8 @@ use Rattle.ksm_script.specs.declared.reply.LineReply.TheVariants.{BadLine as bad
 use Rattle.ksm_script.specs.Answering.{reply_text}
 use Rattle.ksm_script.specs.Replies.{text_of}
 use Rattle.ksm_script.specs.Texts.{AppendsPart}
-use Rattle.ksm_script.proofs.Parts.{part_after}
-use Rattle.ksm_script.proofs.Turns.{IsDone, read_as, nothing_yet, in_state, answered_all, goes_on, answered_to_bad, number_is}
+use Rattle.ksm_script.proofs.Parts.{broken_after}
+use Rattle.ksm_script.proofs.Turns.{IsDone, read_as, nothing_yet, in_state, answered_all, answered_told, goes_on, answered_to_bad, number_is}
 use Rattle.ksm_script.proofs.script.run_by.Goals as goal
 
 pub lines-init : goal.lines-init
@@ -21,7 +21,7 @@ returns-in_err-write_reply-clause-write_fault g c =
     let so = in_state _ _ _ _ _ _ _ _ _ now.state now.kept c.lines.invariant.0 in
     let read = read_as _ _ _ c.in_ok-end.end now.read now.plain now.end in
     let part = subst (λ (n : ℕ). AppendsPart (g.W.Write.contents c.read_next.new.writer) (g.W.Write.contents c.write_reply.new.writer) (text_of (bad_line n))) (sym so.counted) c.in_err-write_reply.ensures.fault.1 in
-    λ _. inr (so.text, so.count, answered_to_bad _ _ _ _ _ _ _ _ _ _ so read c.in_default.field-0 c.in_default.ensures, part_after _ _ _ so.text _ so.appended part)
+    λ _. inr (so.text, so.count, answered_to_bad _ _ _ _ _ _ _ _ _ _ so read c.in_default.field-0 c.in_default.ensures, broken_after _ _ _ so.text _ so.appended part)
 
 pub returns-in_default-clause-bad : goal.returns-in_default-clause-bad
 returns-in_default-clause-bad g c =
@@ -41,7 +41,10 @@ returns-in_err-write_answer-clause-write_fault g c =
     let read = read_as _ _ _ c.in_ok-end.end now.read now.plain now.end in
     let did : IsDone _ c.answer.new.self.state _ c.in_ok-end.end c.in-Ok.line c.answer.result =
     record { short = c.in-Ok.ensures.0; written = c.in-Ok.ensures.1; answers = c.answer.ensures.answers } in
-    λ _. inl (so.text ++ reply_text c.answer.result, answered_all _ _ _ _ _ _ _ _ _ _ so read _ _ _ did, part_after _ _ _ so.text _ so.appended c.in_err-write_answer.ensures.fault.1)
+    let broken = c.in_err-write_answer.ensures.fault in
+    let told = broken.1 in
+    let all = answered_all _ _ _ _ _ _ _ _ _ _ so read _ _ _ did in
+    λ _. inl (so.text, told, answered_told _ _ _ _ _ _ _ broken.2 all, broken_after _ _ _ so.text _ so.appended broken.3)
 
 pub returns-then-eq-2-clause-all : goal.returns-then-eq-2-clause-all
 returns-then-eq-2-clause-all g c =
