@@ -47,7 +47,8 @@ def fetch(line):
         package = package_of(line)
         os.makedirs(CACHE, exist_ok=True)
         with tempfile.TemporaryDirectory(dir=CACHE) as download:
-            subprocess.run(["apt-get", "download", package], cwd=download, check=True, stdout=subprocess.DEVNULL)
+            words = ["apt-get", "--option", "APT::Sandbox::User=root", "download", package]
+            subprocess.run(words, cwd=download, check=True, stdout=subprocess.DEVNULL)
             archive, = os.listdir(download)
             unpacked = os.path.join(download, "unpacked")
             subprocess.run(["dpkg-deb", "--extract", archive, unpacked], cwd=download, check=True)
