@@ -91,7 +91,7 @@ def boot(kernel, scripts, folder):
     build(root)
     image, log, replies = (os.path.join(folder, name) for name in ("initrd", "log", "replies"))
     pack(root, image)
-    words = ["timeout", str(BOOT_SECONDS), "qemu-system-x86_64", *MACHINE, "-serial", f"file:{log}",
+    words = ["timeout", "--foreground", str(BOOT_SECONDS), "qemu-system-x86_64", *MACHINE, "-serial", f"file:{log}",
              "-serial", f"file:{replies}", "-kernel", kernel, "-initrd", image, "-append", WORDS]
     status = subprocess.run(words, stdin=subprocess.DEVNULL, check=False).returncode
     with open(replies, encoding="ascii") as file:
