@@ -47,7 +47,8 @@ def fetch(line):
         package = package_of(line)
         os.makedirs(CACHE, exist_ok=True)
         with tempfile.TemporaryDirectory(dir=CACHE) as download:
-            subprocess.run(["apt-get", "download", package], cwd=download, check=True, stdout=subprocess.DEVNULL)
+            words = ["apt-get", "--option", "APT::Sandbox::User=root", "download", package]
+            subprocess.run(words, cwd=download, check=True, stdout=subprocess.DEVNULL)
             archive, = os.listdir(download)
             unpacked = os.path.join(download, "unpacked")
             subprocess.run(["dpkg-deb", "--extract", archive, unpacked], cwd=download, check=True)
@@ -90,7 +91,7 @@ def boot(kernel, scripts, folder):
     build(root)
     image, log, replies = (os.path.join(folder, name) for name in ("initrd", "log", "replies"))
     pack(root, image)
-    words = ["timeout", str(BOOT_SECONDS), "qemu-system-x86_64", *MACHINE, "-serial", f"file:{log}",
+    words = ["timeout", "--foreground", str(BOOT_SECONDS), "qemu-system-x86_64", *MACHINE, "-serial", f"file:{log}",
              "-serial", f"file:{replies}", "-kernel", kernel, "-initrd", image, "-append", WORDS]
     status = subprocess.run(words, stdin=subprocess.DEVNULL, check=False).returncode
     with open(replies, encoding="ascii") as file:

@@ -18,6 +18,13 @@ enum { FIRST_SLEEP = 10000000, LOOKS = 100000, LOOK_NANOSECONDS = 100000, PIDS =
 static long sleep_millisecs = FIRST_SLEEP;
 static char ksmd_stat[64];
 
+/* What a script finds: what the kernel has at its start, or where that is of no use here another value. */
+static struct { const char *name; long value; } knobs[] = {
+	{ "merge_across_nodes", -1 }, { "max_page_sharing", -1 }, { "use_zero_pages", 0 }, { "smart_scan", 0 },
+	{ "stable_node_chains_prune_millisecs", 0 }, { "run", -1 },
+};
+enum { KNOBS = sizeof knobs / sizeof *knobs };
+
 /* Reads a small file as text. The number of bytes, or -1. */
 static ssize_t read_text(const char *path, char *text, size_t size)
 {
@@ -91,14 +98,6 @@ void ksmd_batch(unsigned long steps)
 	wait_for_ksmd();
 	ksm_write("pages_to_scan", 0);
 }
-
-/* What a script finds: what the kernel has at its start, or where that is of no use here another value. */
-static struct { const char *name; long value; } knobs[] = {
-	{ "merge_across_nodes", -1 }, { "max_page_sharing", -1 }, { "use_zero_pages", 0 }, { "smart_scan", 0 },
-	{ "stable_node_chains_prune_millisecs", 0 }, { "run", -1 },
-};
-
-enum { KNOBS = sizeof knobs / sizeof *knobs };
 
 unsigned long ksm_start(void)
 {

@@ -257,7 +257,8 @@ static void do_scan(char **words)
 	fprintf(out, "scanned %lu\n", wanted);
 }
 
-static void do_prune(char **words)
+/* A line that Linux does not have. */
+static void do_nothing(char **words)
 {
 	(void)words;
 	say("-");
@@ -419,7 +420,7 @@ static void do_leave(char **words)
 static const struct { const char *name; int words; void (*act)(char **); } forms[] = {
 	{ "reg", 5, do_reg }, { "drop", 3, do_drop }, { "put", 4, do_put }, { "get", 3, do_get },
 	{ "ticket", 3, do_ticket }, { "rmap", 2, do_rmap }, { "scan", 1, do_scan }, { "scan", 2, do_scan },
-	{ "prune", 1, do_prune }, { "unmerge", 2, do_unmerge }, { "mergeable", 2, do_mergeable },
+	{ "nothing", 1, do_nothing }, { "unmerge", 2, do_unmerge }, { "mergeable", 2, do_mergeable },
 	{ "move", 4, do_move }, { "movedup", 3, do_movedup }, { "set", 3, do_set }, { "show", 2, do_show },
 	{ "stat", 1, do_stat }, { "frames", 1, do_frames }, { "hold", 3, do_hold }, { "look", 1, do_look },
 	{ "leave", 1, do_leave },
