@@ -16,7 +16,8 @@ use Rattle.frame_core.specs.State.{State, word_of}
 use Rattle.frame_core.specs.KeeperSteps.{keeper_step}
 use Rattle.frame_core.specs.ReaderSteps.{is_still, load_place_step, load_frame_step, exchange_step, leave_step, load_word_step, given_back, at_seat, at_both, reader_step}
 use Rattle.frame_core.specs.Steps.{step, answer, after}
-use Rattle.frame_core.specs.Ledger.{note_of, ledger_of, ledger_after}
+use Rattle.frame_core.specs.Notes.{note_of}
+use Rattle.frame_core.specs.Ledger.{ledger_of, ledger_after}
 use Rattle.frame_core.specs.Knowing.{FollowsLedger, LedgerTells, ChangesOwnView}
 use Rattle.frame_core.specs.Rule.{Rule}
 use Rattle.frame_core.proofs.Lists.{set_self, get_set_else}

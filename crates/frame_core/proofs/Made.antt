@@ -5,6 +5,7 @@ use Rattle.frame_core.specs.declared.frame.Frame.{Frame}
 use Rattle.frame_core.specs.declared.frame.Kind.TheVariants.{Free, Filling, Private, Stable, Dying, Retired}
 use Rattle.frame_core.specs.declared.seat.Life.{Life}
 use Rattle.frame_core.specs.State.{State, word_of}
+use Rattle.frame_core.specs.Notes.{note_of, noted, reaped}
 use Rattle.frame_core.specs.KeeperSteps.{only_if, is_free, is_filling, is_private, is_stable, is_dying, reap_step, put_step, raise_step, open_step, add_step, sub_step, freeze_step, word_step, at_frame, is_live, publish_step, withdraw_step}
 use Rattle.frame_core.proofs.Parts.{Parts, parts, map_parts, then_parts, only_if_parts}
 use Rattle.frame_core.proofs.Frames.{free_is, filling_is, private_is, stable_is, dying_is}
@@ -15,9 +16,9 @@ pub at_frame_made : (s : State) (f : ℕ) (change : Frame → Option (ℕ × Fra
 at_frame_made s f change r e = parts (slice_get s.frames f) change (λ (x : ℕ × Frame). (x.0, record s { frames = slice_set s.frames f x.1 })) r e
 
 pub reap_made : (last : ℕ) (fr : Frame) (r : ℕ × Frame) → reap_step last fr ≡ Some r
-    → (fr.kind ≡ Dying) × ((word_of fr, record fr { kind = if fr.count == 0 then (if fr.generation == last then Retired else Free) else Dying }) ≡ r)
+    → (fr.kind ≡ Dying) × ((word_of fr, if fr.count == 0 then noted fr.count (reaped last (note_of fr)) else fr) ≡ r)
 reap_made last fr r e =
-    let p = only_if_parts (is_dying fr.kind) (word_of fr, record fr { kind = if fr.count == 0 then (if fr.generation == last then Retired else Free) else Dying }) r e in
+    let p = only_if_parts (is_dying fr.kind) (word_of fr, if fr.count == 0 then noted fr.count (reaped last (note_of fr)) else fr) r e in
     (dying_is fr.kind p.0, p.1)
 
 pub put_made : (i w : ℕ) (fr : Frame) (r : ℕ × Frame) → put_step i w fr ≡ Some r

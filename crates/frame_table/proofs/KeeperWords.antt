@@ -16,7 +16,8 @@ use Rattle.frame_core.specs.declared.ledger.Note.{Note}
 use Rattle.frame_core.specs.declared.seat.Life.{Life}
 use Rattle.frame_core.specs.State.{State, place_word, frame_word, word_of}
 use Rattle.frame_core.specs.Words.{words_of, frame_words, frame_offset}
-use Rattle.frame_core.specs.Ledger.{ledger_of, note_of, frame_at}
+use Rattle.frame_core.specs.Notes.{note_of, noted, reaped}
+use Rattle.frame_core.specs.Ledger.{ledger_of, frame_at}
 use Rattle.frame_core.specs.KeeperSteps.{keeper_step, at_frame, only_if, reap_step, put_step, raise_step, open_step, add_step, sub_step, freeze_step, word_step, publish_step, withdraw_step, is_live, is_free, is_filling, is_private, is_stable, is_dying}
 use Rattle.frame_core.specs.Rule.{Rule, CountFits, GenerationFits}
 use Rattle.frame_core.proofs.Parts.{parts, map_parts, then_parts, only_if_parts}
@@ -62,7 +63,12 @@ module _ (s : State) (rule : Rule s) where
       ))
 
   reaps : (f : ℕ) (fr : Frame) (r : ℕ × Frame) → reap_step s.shape.last_generation fr ≡ Some r → Leaves (Reap f) 0 fr r
-  reaps f fr r is = subst (Leaves (Reap f) 0 fr) (reap_made s.shape.last_generation fr r is).1 (refl, refl, tt)
+  reaps f fr r is = subst (Leaves (Reap f) 0 fr) (reap_made s.shape.last_generation fr r is).1 (same (fr.count == 0), refl, tt)
+    where
+      same : (b : Bool) → frame_words fr ≡ frame_words (cond b (noted fr.count (reaped s.shape.last_generation (note_of fr))) fr)
+      same true = refl
+      same false = refl
+
 
   puts : (f i w : ℕ) (fr : Frame) (r : ℕ × Frame) → put_step i w fr ≡ Some r → Leaves (Put f i w) (1 + i) fr r
   puts f i w fr r is =
