@@ -203,7 +203,11 @@ module _ (s : State) (rule : Rule s) where
   pub step_knows : (e : KeeperStep) (r : ℕ × State) → keeper_step s e ≡ Some r → Knows e r
   step_knows (keeper.Reap f) =
       at_frame_knows (keeper.Reap f) f (reap_step s.shape.last_generation) (λ fr x at is. let m = reap_made s.shape.last_generation fr x is in
-      subst (KnowsFrame (keeper.Reap f) f) m.1 (by_count f fr at (λ n. ledger_of (record s { frames = slice_set s.frames f (if fr.count == 0 then noted fr.count (reaped s.shape.last_generation (note_of fr)) else fr) })
+      subst (KnowsFrame (keeper.Reap f) f) m.1 (by_count f fr at
+      (λ n. ledger_of (record s {
+        frames = slice_set s.frames f
+            (if fr.count == 0 then noted fr.count (reaped s.shape.last_generation (note_of fr)) else fr);
+      })
       ≡ cond (n == 0) (with_frame (ledger_of s) f (reaped s.shape.last_generation (frame_at (ledger_of s) f))) (ledger_of s))
       (reap_knows f fr at (fr.count == 0))))
   step_knows (keeper.Put f i w) =
@@ -217,7 +221,8 @@ module _ (s : State) (rule : Rule s) where
   step_knows (keeper.Open f) =
       at_frame_knows (keeper.Open f) f open_step (λ fr x at is.
       subst (KnowsFrame (keeper.Open f) f) (open_made fr x is).1
-      (note_changed s f fr (record fr { count = fr.count + 1; kind = Private; base = 1 }) (λ n. record { kind = Private; base = 1; generation = n.generation; content = n.content }) at refl))
+      (note_changed s f fr (record fr { count = fr.count + 1; kind = Private; base = 1 })
+      (λ n. record { kind = Private; base = 1; generation = n.generation; content = n.content }) at refl))
   step_knows (keeper.Add f) =
       at_frame_knows (keeper.Add f) f add_step (λ fr x at is.
       subst (KnowsFrame (keeper.Add f) f) (add_made fr x is).2
@@ -232,8 +237,16 @@ module _ (s : State) (rule : Rule s) where
   step_knows (keeper.Freeze f) =
       at_frame_knows (keeper.Freeze f) f freeze_step (λ fr x at is.
       subst (KnowsFrame (keeper.Freeze f) f) (freeze_made fr x is).1
-      (by_count f fr at (λ c. ledger_of (record s { frames = slice_set s.frames f (if fr.count == fr.base then record fr { count = 0; base = 0; kind = Dying } else fr) })
-      ≡ cond (c == (frame_at (ledger_of s) f).base) (with_frame (ledger_of s) f record { kind = Dying; base = 0; generation = (frame_at (ledger_of s) f).generation; content = (frame_at (ledger_of s) f).content }) (ledger_of s))
+      (by_count f fr at (λ c. ledger_of (record s
+      { frames = slice_set s.frames f (if fr.count == fr.base then record fr { count = 0; base = 0; kind = Dying } else fr) })
+      ≡ cond (c == (frame_at (ledger_of s) f).base)
+      (with_frame (ledger_of s) f record {
+        kind = Dying;
+        base = 0;
+        generation = (frame_at (ledger_of s) f).generation;
+        content =
+            (frame_at (ledger_of s) f).content;
+      }) (ledger_of s))
       (by_note f fr at (λ (n : Note). ledger_of (record s { frames = slice_set s.frames f (if fr.count == fr.base then record fr { count = 0; base = 0; kind = Dying } else fr) })
       ≡ cond (fr.count == n.base) (with_frame (ledger_of s) f record { kind = Dying; base = 0; generation = (frame_at (ledger_of s) f).generation; content = (frame_at (ledger_of s) f).content }) (ledger_of s))
       (freeze_knows f fr at (fr.count == fr.base)))))

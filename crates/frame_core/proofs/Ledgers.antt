@@ -50,8 +50,14 @@ exchange_cases frames f fr false at = refl
 
 exchange_notes : (tries : ℕ) (frames : List Frame) (phase : Phase) (r : ℕ × List Frame × Phase) → exchange_step tries frames phase ≡ Some r → map note_of r.1 ≡ map note_of frames
 exchange_notes tries frames (Counted aim failures count) r e =
-    let P = map_parts (λ (fr : Frame). (word_of fr, (if is_still aim.life.generation count fr then slice_set frames aim.life.frame (record fr { count = fr.count + 1 }) else frames), (if is_still aim.life.generation count fr then Held aim (replicate PAGE_WORDS None) else if leb tries (failures + 1) then Idle else Placed aim (failures + 1)))) (slice_get frames aim.life.frame) r e in
-    subst (λ (x : ℕ × List Frame × Phase). map note_of x.1 ≡ map note_of frames) P.2 (exchange_cases frames aim.life.frame P.0 (is_still aim.life.generation count P.0) P.1)
+    let P = map_parts (λ (fr : Frame). (
+      word_of fr,
+      (if is_still aim.life.generation count fr then slice_set frames aim.life.frame (record fr { count = fr.count + 1 }) else frames),
+      (if is_still aim.life.generation count fr then Held aim (replicate PAGE_WORDS None) else if leb tries (failures + 1) then Idle else Placed aim
+          (failures + 1)),
+    )) (slice_get frames aim.life.frame) r e in
+    subst (λ (x : ℕ × List Frame × Phase). map note_of x.1 ≡ map note_of frames) P.2
+    (exchange_cases frames aim.life.frame P.0 (is_still aim.life.generation count P.0) P.1)
 exchange_notes tries frames Idle r e = absurd (cc (e))
 exchange_notes tries frames (Placed aim failures) r e = absurd (cc (e))
 exchange_notes tries frames (Held aim known) r e = absurd (cc (e))
@@ -59,7 +65,8 @@ exchange_notes tries frames Spent r e = absurd (cc (e))
 
 given_back_notes : (frames : List Frame) (aim : Aim) (r : ℕ × List Frame × Phase) → given_back frames aim ≡ Some r → map note_of r.1 ≡ map note_of frames
 given_back_notes frames aim r e =
-    let P = map_parts (λ (fr : Frame). (word_of fr, slice_set frames aim.life.frame (record fr { count = fr.count - 1 }), Idle)) (slice_get frames aim.life.frame) r e in
+    let P = map_parts (λ (fr : Frame). (word_of fr, slice_set frames aim.life.frame (record fr { count = fr.count - 1 }), Idle))
+    (slice_get frames aim.life.frame) r e in
     subst (λ (x : ℕ × List Frame × Phase). map note_of x.1 ≡ map note_of frames) P.2 (recount_notes frames aim.life.frame P.0 (P.0.count - 1) P.1)
 
 leave_notes : (frames : List Frame) (phase : Phase) (r : ℕ × List Frame × Phase) → leave_step frames phase ≡ Some r → map note_of r.1 ≡ map note_of frames

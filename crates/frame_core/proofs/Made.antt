@@ -28,17 +28,20 @@ put_made i w fr r e =
     let both = and_parts (is_filling fr.kind || is_private fr.kind) (ltb i (length fr.content)) p.0 in
     (both.0, ltb-true i (length fr.content) both.1, p.1)
 
-pub raise_made : (fr : Frame) (r : ℕ × Frame) → raise_step fr ≡ Some r → (fr.kind ≡ Free) × ((word_of fr, record fr { generation = fr.generation + 1; kind = Filling }) ≡ r)
+pub raise_made : (fr : Frame) (r : ℕ × Frame) → raise_step fr ≡ Some r
+    → (fr.kind ≡ Free) × ((word_of fr, record fr { generation = fr.generation + 1; kind = Filling }) ≡ r)
 raise_made fr r e =
     let p = only_if_parts (is_free fr.kind) (word_of fr, record fr { generation = fr.generation + 1; kind = Filling }) r e in
     (free_is fr.kind p.0, p.1)
 
-pub open_made : (fr : Frame) (r : ℕ × Frame) → open_step fr ≡ Some r → (fr.kind ≡ Filling) × ((word_of fr, record fr { count = fr.count + 1; kind = Private; base = 1 }) ≡ r)
+pub open_made : (fr : Frame) (r : ℕ × Frame) → open_step fr ≡ Some r
+    → (fr.kind ≡ Filling) × ((word_of fr, record fr { count = fr.count + 1; kind = Private; base = 1 }) ≡ r)
 open_made fr r e =
     let p = only_if_parts (is_filling fr.kind) (word_of fr, record fr { count = fr.count + 1; kind = Private; base = 1 }) r e in
     (filling_is fr.kind p.0, p.1)
 
-pub add_made : (fr : Frame) (r : ℕ × Frame) → add_step fr ≡ Some r → (1 ≤ fr.base) × (fr.base ≤ 1023) × ((word_of fr, record fr { count = fr.count + 1; base = fr.base + 1 }) ≡ r)
+pub add_made : (fr : Frame) (r : ℕ × Frame) → add_step fr ≡ Some r
+    → (1 ≤ fr.base) × (fr.base ≤ 1023) × ((word_of fr, record fr { count = fr.count + 1; base = fr.base + 1 }) ≡ r)
 add_made fr r e =
     let p = only_if_parts (leb 1 fr.base && leb fr.base 1023) (word_of fr, record fr { count = fr.count + 1; base = fr.base + 1 }) r e in
     let both = and_parts (leb 1 fr.base) (leb fr.base 1023) p.0 in
@@ -47,7 +50,10 @@ add_made fr r e =
 pub sub_made : (fr : Frame) (r : ℕ × Frame) → sub_step fr ≡ Some r
     → (1 ≤ fr.base) × ((word_of fr, record fr { count = fr.count - 1; base = fr.base - 1; kind = if fr.base == 1 then Dying else fr.kind }) ≡ r)
 sub_made fr r e =
-    let p = only_if_parts (leb 1 fr.base) (word_of fr, record fr { count = fr.count - 1; base = fr.base - 1; kind = if fr.base == 1 then Dying else fr.kind }) r e in
+    let p = only_if_parts (leb 1 fr.base) (
+      word_of fr,
+      record fr { count = fr.count - 1; base = fr.base - 1; kind = if fr.base == 1 then Dying else fr.kind },
+    ) r e in
     (leb-true 1 fr.base p.0, p.1)
 
 pub freeze_made : (fr : Frame) (r : ℕ × Frame) → freeze_step fr ≡ Some r

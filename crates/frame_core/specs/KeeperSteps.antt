@@ -99,8 +99,14 @@ abbrev pub publish_step : State → ℕ → ℕ → Option (ℕ × State)
 publish_step s p f =
     option_and_then
     (λ place. option_and_then
-    (λ fr. only_if (is_private fr.kind && not (is_live s.frames place))
-    (0, record s { frames = slice_set s.frames f (noted fr.count (shown (note_of fr))); places = slice_set s.places p (Some record { frame = f; generation = fr.generation }) }))
+    (λ fr. only_if (is_private fr.kind && not (is_live s.frames place)) (
+      0,
+      record s {
+        frames = slice_set s.frames f (noted fr.count (shown (note_of fr)));
+        places =
+            slice_set s.places p (Some record { frame = f; generation = fr.generation });
+      },
+    ))
     (slice_get s.frames f))
     (slice_get s.places p)
 

@@ -76,7 +76,11 @@ module _ (sh : Shape) (k : Ledger) where
   ledger_after (Open f) n = with_frame k f (opened (frame_at k f))
   ledger_after (Add f) n = with_frame k f (added (frame_at k f))
   ledger_after (Sub f) n = with_frame k f (lowered (frame_at k f))
-  ledger_after (Publish p f) n = record { frames = slice_set k.frames f (shown (frame_at k f)); places = slice_set k.places p (Some (record { frame = f; generation = (frame_at k f).generation })) }
+  ledger_after (Publish p f) n = record {
+    frames = slice_set k.frames f (shown (frame_at k f));
+    places =
+        slice_set k.places p (Some (record { frame = f; generation = (frame_at k f).generation }));
+  }
   ledger_after (Withdraw p) n = record { frames = k.frames; places = slice_set k.places p None }
   ledger_after (Freeze f) n = cond (count_in n == (frame_at k f).base) (with_frame k f (frozen (frame_at k f))) k
   ledger_after (Word f i) n = k
