@@ -1,5 +1,5 @@
 -- Every run keeps the rule, and its state and its trace go together.
-use Rattle.std.proofs.Common.{◌≡◌, ℕ, ◌&&◌, not, ap, ◌+◌, ◌-◌, ◌==◌, ◌||◌, leb, Bool, true, false, if◌then◌else◌, List, [], ◌∷◌, Option, Some, None, replicate, slice_get, slice_set, fold, subst, sym, refl}
+use Rattle.std.proofs.Common.{◌≡◌, ℕ, not, ap, ◌+◌, ◌-◌, ◌==◌, ◌||◌, leb, Bool, true, false, if◌then◌else◌, List, [], ◌∷◌, Option, Some, None, replicate, slice_get, slice_set, fold, subst, sym, refl}
 use Rattle.std.proofs.lemmas.Bool.{eqb-true, and_parts}
 use Rattle.ksm_base.specs.declared.shape.Shape.{Shape}
 use Rattle.ksm_base.specs.declared.page.TheConstants.{PAGE_WORDS}

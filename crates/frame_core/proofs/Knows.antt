@@ -7,8 +7,7 @@ use Rattle.ksm_base.specs.Values.{frames_of}
 use Rattle.frame_core.specs.declared.event.KeeperStep.{KeeperStep}
 use Rattle.frame_core.specs.declared.event.KeeperStep.TheVariants as keeper
 use Rattle.frame_core.specs.declared.frame.Frame.{Frame}
-use Rattle.frame_core.specs.declared.frame.Kind.{Kind}
-use Rattle.frame_core.specs.declared.frame.Kind.TheVariants.{Free, Filling, Private, Stable, Dying, Retired}
+use Rattle.frame_core.specs.declared.frame.Kind.TheVariants.{Free, Filling, Private, Stable, Dying}
 use Rattle.frame_core.specs.declared.ledger.Ledger.{Ledger}
 use Rattle.frame_core.specs.declared.ledger.Note.{Note}
 use Rattle.frame_core.specs.declared.seat.Life.{Life}
@@ -16,7 +15,7 @@ use Rattle.frame_core.specs.State.{State, word_of, count_in}
 use Rattle.frame_core.specs.KeeperSteps.{only_if, is_free, is_filling, is_private, is_stable, is_dying, reap_step, put_step, raise_step, open_step, add_step, sub_step, freeze_step, word_step, at_frame, is_live, publish_step, withdraw_step, keeper_step}
 use Rattle.frame_core.specs.Notes.{note_of, noted, reaped}
 use Rattle.frame_core.specs.Ledger.{ledger_of, frame_at, named_at, with_frame, IsWritable, IsReadable, IsLoose, MayStep, ledger_after}
-use Rattle.frame_core.specs.Rule.{Rule, BaseFits}
+use Rattle.frame_core.specs.Rule.{Rule}
 use Rattle.frame_core.proofs.Lists.{set_self}
 use Rattle.frame_core.proofs.Packed.{count_packed}
 use Rattle.frame_core.proofs.Moves.LoadFrame.{count_at_most}

@@ -1,5 +1,5 @@
 -- After every event, what the keeper knows is as its ledger says, and what the other seats know is as it was.
-use Rattle.std.proofs.Common.{◌≡◌, ◌≢◌, ℕ, ◌+◌, ◌-◌, ◌==◌, leb, Bool, true, false, if◌then◌else◌, List, map, replicate, Option, Some, None, slice_get, slice_set, subst, sym, ap, ◌∙◌, refl}
+use Rattle.std.proofs.Common.{◌≡◌, ◌≢◌, ℕ, ◌+◌, ◌-◌, leb, Bool, true, false, if◌then◌else◌, List, map, replicate, Option, Some, None, slice_get, slice_set, subst, sym, ap, ◌∙◌, refl}
 use Rattle.std.proofs.lemmas.List.{map-set}
 use Rattle.ksm_base.specs.declared.page.TheConstants.{PAGE_WORDS}
 use Rattle.frame_core.specs.declared.event.Event.{Event}

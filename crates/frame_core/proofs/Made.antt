@@ -2,7 +2,7 @@
 use Rattle.std.proofs.Common.{◌≡◌, ℕ, ◌+◌, ◌-◌, ◌<◌, ◌≤◌, ◌==◌, ◌&&◌, ◌||◌, not, ltb, leb, Bool, true, false, if◌then◌else◌, length, Option, Some, None, option_map, option_and_then, slice_get, slice_set, refl}
 use Rattle.std.proofs.lemmas.Bool.{and_parts, leb-true, ltb-true}
 use Rattle.frame_core.specs.declared.frame.Frame.{Frame}
-use Rattle.frame_core.specs.declared.frame.Kind.TheVariants.{Free, Filling, Private, Stable, Dying, Retired}
+use Rattle.frame_core.specs.declared.frame.Kind.TheVariants.{Free, Filling, Private, Stable, Dying}
 use Rattle.frame_core.specs.declared.seat.Life.{Life}
 use Rattle.frame_core.specs.State.{State, word_of}
 use Rattle.frame_core.specs.Notes.{note_of, noted, reaped}

@@ -1,5 +1,5 @@
 -- What each step of the keeper asks of the table.
-use Rattle.std.proofs.Common.{◌≡◌, ℕ, ◌+◌, ◌-◌, ◌*◌, ◌%◌, ◌^◌, ◌<◌, ◌≤◌, Bool, true, false, cond, eqb, [], Some, get_or, refl, ap, subst, ◌∙◌, arith}
+use Rattle.std.proofs.Common.{◌≡◌, ℕ, ◌+◌, ◌-◌, ◌*◌, ◌%◌, ◌^◌, ◌<◌, ◌≤◌, Bool, true, false, cond, eqb, [], Some, get_or, refl, subst, ◌∙◌, arith}
 use prog.Atomic.{either}
 use Rattle.atomic_table.specs.Table.{carried_after}
 use Rattle.ksm_base.specs.declared.page.TheConstants.{PAGE_WORDS}

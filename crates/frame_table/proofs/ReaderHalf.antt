@@ -1,5 +1,5 @@
 -- A step of a reader, as its seat sees it, is the core's step of the same name.
-use Rattle.std.proofs.Common.{◌≡◌, ℕ, suc, ◌+◌, ◌-◌, ◌*◌, ◌/◌, ◌%◌, ◌<◌, ◌≤◌, ◌==◌, ◌&&◌, not, Bool, true, false, cond, eqb, nat_le, List, ◌∷◌, replicate, map, length, set, get_or, slice_get, slice_set, Option, Some, None, option_map, option_and_then, subst, refl, ap, sym, ◌∙◌, arith, eq-eqb, ne_eqb}
+use Rattle.std.proofs.Common.{◌≡◌, ℕ, suc, ◌+◌, ◌-◌, ◌*◌, ◌/◌, ◌%◌, ◌<◌, ◌≤◌, ◌==◌, ◌&&◌, not, Bool, true, false, cond, eqb, nat_le, List, ◌∷◌, replicate, map, set, get_or, slice_get, slice_set, Option, Some, None, option_map, option_and_then, subst, refl, ap, sym, ◌∙◌, arith, eq-eqb, ne_eqb}
 use Rattle.std.proofs.lemmas.List.{length-map, set-get_or, get_or_append_left}
 use Rattle.std.proofs.lemmas.Option.{same_Some, slice_get-map, slice_get_within, get_or_from_slice_get}
 use Rattle.std.proofs.Math.Nat.{mul-le-mul_right}
@@ -14,7 +14,7 @@ use Rattle.frame_core.specs.declared.seat.Life.{Life}
 use Rattle.frame_core.specs.declared.seat.Aim.{Aim}
 use Rattle.frame_core.specs.declared.seat.Phase.{Phase}
 use Rattle.frame_core.specs.declared.seat.Phase.TheVariants.{Idle, Placed, Counted, Held}
-use Rattle.frame_core.specs.State.{State, place_word, frame_word, word_of as packed, count_in, life_in}
+use Rattle.frame_core.specs.State.{State, place_word, word_of as packed, count_in, life_in}
 use Rattle.frame_core.specs.Words.{words_of, frame_words, frame_word_at, content_at}
 use Rattle.frame_core.specs.ReaderSteps.{reader_step, at_seat, aimed_at, is_alive, is_still, load_place_step, load_frame_step, load_word_step, exchange_step, leave_step}
 use Rattle.frame_core.specs.Rule.{Rule, is_on}

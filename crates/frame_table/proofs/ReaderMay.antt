@@ -1,13 +1,12 @@
 -- Whatever the table is, a step of a reader that the core allows keeps the table's rule.
-use Rattle.std.proofs.Common.{◌≡◌, ℕ, zero, suc, ◌+◌, ◌<◌, ◌≢◌, ◌==◌, Bool, true, false, cond, eqb, List, [], ◌∷◌, ◌++◌, replicate, map, length, set, get_or, slice_get, slice_set, count_by, Some, refl, ap, sym, subst, ◌∙◌, ⊎_elim, arith, eq-eqb, ne_eqb}
+use Rattle.std.proofs.Common.{◌≡◌, ℕ, zero, suc, ◌<◌, ◌≢◌, Bool, true, cond, List, [], ◌∷◌, ◌++◌, replicate, map, set, get_or, slice_get, slice_set, count_by, Some, refl, ap, sym, subst, ◌∙◌, ⊎_elim, arith, eq-eqb, ne_eqb}
 use Rattle.std.proofs.lemmas.List.{map-set, set-append_left}
 use Rattle.std.proofs.lemmas.Option.{slice_get_within}
 use mathlib.Core.Option.{some}
 use lib.ListN.{get_elem?}
-use Rattle.atomic_table.specs.Table.{State, keeps, stepped, Allows, Act, Valid, carried_after}
+use Rattle.atomic_table.specs.Table.{State, keeps, Allows}
 use Rattle.atomic_table.proofs.Lists.{at_set, at_map, at_longer}
 use Rattle.ksm_base.specs.declared.shape.Shape.{Shape}
-use Rattle.frame_core.specs.declared.event.Event.{Event}
 use Rattle.frame_core.specs.declared.event.Event.TheVariants as event
 use Rattle.frame_core.specs.declared.event.ReaderStep.{ReaderStep}
 use Rattle.frame_core.specs.declared.seat.Phase.{Phase}
@@ -16,7 +15,7 @@ use Rattle.frame_core.specs.State as core
 use Rattle.frame_core.specs.Steps as core_steps
 use Rattle.frame_core.specs.Words.{words_of}
 use Rattle.frame_core.specs.Ledger.{ledger_of}
-use Rattle.frame_core.specs.Trace.{History, Entry, run_of, log_of}
+use Rattle.frame_core.specs.Trace.{History, run_of, log_of}
 use Rattle.frame_core.specs.Rule as core_rule
 use Rattle.frame_core.proofs.Given.{run_shape}
 use Rattle.frame_core.proofs.Histories.{run_sound}

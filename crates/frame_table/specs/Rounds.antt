@@ -1,5 +1,5 @@
 -- One round of a lookup (own).
-use Rattle.std.specs.Prelude.{◌≡◌, ℕ, ◌+◌, nat_le, cond, [], ◌∷◌, ◌++◌}
+use Rattle.std.specs.Prelude.{◌≡◌, ◌+◌, nat_le, cond, [], ◌∷◌, ◌++◌}
 use Rattle.frame_core.specs.declared.seat.Phase.TheVariants.{Idle, Placed, Held}
 use Rattle.frame_core.specs.declared.event.ReaderStep.TheVariants.{LoadFrame, Exchange}
 use Rattle.frame_core.specs.State.{count_in, life_in}

@@ -1,5 +1,5 @@
 -- A seat loads the frame word of the frame that it is after.
-use Rattle.std.proofs.Common.{◌≡◌, not, ◌&&◌, ℕ, ◌≤◌, ◌==◌, Bool, true, false, if◌then◌else◌, Some, slice_get, slice_set, subst, refl, arith}
+use Rattle.std.proofs.Common.{◌≡◌, not, ℕ, ◌≤◌, ◌==◌, Bool, true, false, if◌then◌else◌, Some, slice_get, slice_set, subst, refl, arith}
 use Rattle.std.proofs.lemmas.Bool.{not-true, and_parts, eqb-false}
 use Rattle.std.proofs.lemmas.List.Sums.{count_by-le-length}
 use Rattle.frame_core.specs.declared.frame.Frame.{Frame}

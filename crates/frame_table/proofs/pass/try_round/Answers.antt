@@ -1,4 +1,4 @@
-use Rattle.std.proofs.Common.{◌≡◌, ap, sym, ◌∙◌, subst}
+use Rattle.std.proofs.Common.{ap, sym, ◌∙◌}
 use Rattle.frame_core.specs.State.{count_in}
 use Rattle.frame_table.proofs.Looks.{counted}
 use Rattle.frame_table.proofs.pass.try_round.Goals as goal

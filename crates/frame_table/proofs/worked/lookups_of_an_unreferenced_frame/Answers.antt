@@ -1,4 +1,4 @@
-use Rattle.std.proofs.Common.{◌≡◌, ◌<◌, [], ◌∷◌, refl, arith}
+use Rattle.std.proofs.Common.{[], ◌∷◌, refl, arith}
 use Rattle.frame_table.proofs.NoLookups.{zero_after_all_tries, zero_after_no_loss, zero_referenced}
 use Rattle.frame_table.proofs.worked.lookups_of_an_unreferenced_frame.Goals as goal
 
