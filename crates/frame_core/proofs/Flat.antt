@@ -4,7 +4,6 @@ use Rattle.std.specs.List.{flat_map}
 use Rattle.std.proofs.lemmas.List.{length-map, map-set, set-append_left, get_or-append-add, get_or_append_left}
 use Rattle.std.proofs.lemmas.Option.{same_Some}
 use Rattle.std.proofs.Math.Nat.{suc-mul}
-use Rattle.ksm_base.specs.declared.page.TheConstants.{PAGE_WORDS}
 use Rattle.ksm_base.specs.Values.{frames_of}
 use Rattle.frame_core.specs.declared.frame.Frame.{Frame}
 use Rattle.frame_core.specs.declared.seat.Life.{Life}
@@ -70,7 +69,8 @@ module _ (s : State) (rule : Rule s) where
       ∙ ap (λ (w : List ℕ). map place_word s.places ++ w) (flat_set frame_words (FRAME_WORDS) s.frames f j v fr next blocks_fit at below is))
 
   -- what stands there
-  pub words_get : (f j : ℕ) (fr : Frame) → slice_get s.frames f ≡ Some fr → j < FRAME_WORDS → get_or (words_of s) (frame_offset (frames_of s.shape) f + j) 0 ≡ get_or (frame_words fr) j 0
+  pub words_get : (f j : ℕ) (fr : Frame) → slice_get s.frames f ≡ Some fr → j < FRAME_WORDS
+      → get_or (words_of s) (frame_offset (frames_of s.shape) f + j) 0 ≡ get_or (frame_words fr) j 0
   words_get f j fr at below =
       let moved : frame_offset (frames_of s.shape) f + j ≡ length (map place_word s.places) + (f * (FRAME_WORDS) + j) = omega (arith, places_long) in
       ap (λ (m : ℕ). get_or (words_of s) m 0) moved

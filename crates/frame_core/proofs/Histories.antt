@@ -1,5 +1,5 @@
 -- Every run keeps the rule, and its state and its trace go together.
-use Rattle.std.proofs.Common.{◌≡◌, ℕ, ◌&&◌, not, ap, ◌+◌, ◌-◌, ◌==◌, ◌||◌, leb, Bool, true, false, if◌then◌else◌, List, [], ◌∷◌, Option, Some, None, replicate, slice_get, slice_set, fold, subst, sym, refl}
+use Rattle.std.proofs.Common.{◌≡◌, ℕ, not, ap, ◌+◌, ◌-◌, ◌==◌, ◌||◌, leb, Bool, true, false, if◌then◌else◌, List, [], ◌∷◌, Option, Some, None, replicate, slice_get, slice_set, fold, subst, sym, refl}
 use Rattle.std.proofs.lemmas.Bool.{eqb-true, and_parts}
 use Rattle.ksm_base.specs.declared.shape.Shape.{Shape}
 use Rattle.ksm_base.specs.declared.page.TheConstants.{PAGE_WORDS}
@@ -106,12 +106,14 @@ told_load_place s t q p told (Counted aim failures count) at r e = absurd (cc (e
 told_load_place s t q p told (Held aim known) at r e = absurd (cc (e))
 told_load_place s t q p told Spent at r e = absurd (cc (e))
 
-told_load_frame : (s : State) (t : List Entry) (q : ℕ) → Told s (tale_of t) → (old : Phase) → slice_get s.seats q ≡ Some old → (r : ℕ × Phase) → load_frame_step s.frames old ≡ Some r → ToldSeat s t q reader.LoadFrame r
+told_load_frame : (s : State) (t : List Entry) (q : ℕ) → Told s (tale_of t) → (old : Phase) → slice_get s.seats q ≡ Some old → (r : ℕ × Phase)
+    → load_frame_step s.frames old ≡ Some r → ToldSeat s t q reader.LoadFrame r
 told_load_frame s t q told (Placed aim failures) at r e =
     let test : Frame → Bool = is_alive aim.life.generation in
     let P = map_parts (λ (fr : Frame). (word_of fr, if test fr then Counted aim failures fr.count else Idle)) (slice_get s.frames aim.life.frame) r e in
     subst (ToldSeat s t q reader.LoadFrame) P.2 (tell_load_frame s (tale_of t) q (word_of P.0) P.0.count aim failures (test P.0)
-    (λ h. ap (λ (g : ℕ). frame_word g P.0.count) (eqb-true P.0.generation aim.life.generation (and_parts (not (P.0.count == 0)) (P.0.generation == aim.life.generation) h).1)) at told)
+    (λ h. ap (λ (g : ℕ). frame_word g P.0.count)
+    (eqb-true P.0.generation aim.life.generation (and_parts (not (P.0.count == 0)) (P.0.generation == aim.life.generation) h).1)) at told)
 told_load_frame s t q told Idle at r e = absurd (cc (e))
 told_load_frame s t q told (Counted aim failures count) at r e = absurd (cc (e))
 told_load_frame s t q told (Held aim known) at r e = absurd (cc (e))
@@ -140,9 +142,15 @@ recounted_if s T f fr false at told = told
 told_exchange : (s : State) (t : List Entry) (q : ℕ) → Told s (tale_of t) → (old : Phase) → slice_get s.seats q ≡ Some old → (r : ℕ × List Frame × Phase) → exchange_step s.shape.tries s.frames old ≡ Some r → ToldBoth s t q reader.Exchange r
 told_exchange s t q told (Counted aim failures count) at r e =
     let test : Frame → Bool = is_still aim.life.generation count in
-    let P = map_parts (λ (fr : Frame). (word_of fr, (if test fr then slice_set s.frames aim.life.frame (record fr { count = fr.count + 1 }) else s.frames), (if test fr then Held aim (replicate PAGE_WORDS None) else if leb s.shape.tries (failures + 1) then Idle else Placed aim (failures + 1)))) (slice_get s.frames aim.life.frame) r e in
+    let P = map_parts (λ (fr : Frame). (
+      word_of fr,
+      (if test fr then slice_set s.frames aim.life.frame (record fr { count = fr.count + 1 }) else s.frames),
+      (if test fr then Held aim (replicate PAGE_WORDS None) else if leb s.shape.tries (failures + 1) then Idle else Placed aim (failures + 1)),
+    ))
+    (slice_get s.frames aim.life.frame) r e in
     subst (ToldBoth s t q reader.Exchange) P.2
-    (tell_exchange (record s { frames = if test P.0 then slice_set s.frames aim.life.frame (record P.0 { count = P.0.count + 1 }) else s.frames }) (tale_of t) q (word_of P.0) count aim failures (replicate PAGE_WORDS None) (leb s.shape.tries (failures + 1)) at
+    (tell_exchange (record s { frames = if test P.0 then slice_set s.frames aim.life.frame (record P.0 { count = P.0.count + 1 }) else s.frames })
+    (tale_of t) q (word_of P.0) count aim failures (replicate PAGE_WORDS None) (leb s.shape.tries (failures + 1)) at
     (recounted_if s (tale_of t) aim.life.frame P.0 (test P.0) P.1 told))
 told_exchange s t q told Idle at r e = absurd (cc (e))
 told_exchange s t q told (Placed aim failures) at r e = absurd (cc (e))
@@ -151,7 +159,8 @@ told_exchange s t q told Spent at r e = absurd (cc (e))
 
 told_given_back : (s : State) (t : List Entry) (q : ℕ) → Told s (tale_of t) → (aim : Aim) (r : ℕ × List Frame × Phase) → given_back s.frames aim ≡ Some r → ToldBoth s t q reader.Leave r
 told_given_back s t q told aim r e =
-    let P = map_parts (λ (fr : Frame). (word_of fr, slice_set s.frames aim.life.frame (record fr { count = fr.count - 1 }), Idle)) (slice_get s.frames aim.life.frame) r e in
+    let P = map_parts (λ (fr : Frame). (word_of fr, slice_set s.frames aim.life.frame (record fr { count = fr.count - 1 }), Idle))
+    (slice_get s.frames aim.life.frame) r e in
     subst (ToldBoth s t q reader.Leave) P.2
     (tell_leave (record s { frames = slice_set s.frames aim.life.frame (record P.0 { count = P.0.count - 1 }) }) (tale_of t) q
     (tell_quiet s (tale_of t) aim.life.frame P.0 (record P.0 { count = P.0.count - 1 }) P.1 (recounted P.0 (P.0.count - 1)) told))

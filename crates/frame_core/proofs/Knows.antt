@@ -7,15 +7,15 @@ use Rattle.ksm_base.specs.Values.{frames_of}
 use Rattle.frame_core.specs.declared.event.KeeperStep.{KeeperStep}
 use Rattle.frame_core.specs.declared.event.KeeperStep.TheVariants as keeper
 use Rattle.frame_core.specs.declared.frame.Frame.{Frame}
-use Rattle.frame_core.specs.declared.frame.Kind.{Kind}
-use Rattle.frame_core.specs.declared.frame.Kind.TheVariants.{Free, Filling, Private, Stable, Dying, Retired}
+use Rattle.frame_core.specs.declared.frame.Kind.TheVariants.{Free, Filling, Private, Stable, Dying}
 use Rattle.frame_core.specs.declared.ledger.Ledger.{Ledger}
 use Rattle.frame_core.specs.declared.ledger.Note.{Note}
 use Rattle.frame_core.specs.declared.seat.Life.{Life}
 use Rattle.frame_core.specs.State.{State, word_of, count_in}
 use Rattle.frame_core.specs.KeeperSteps.{only_if, is_free, is_filling, is_private, is_stable, is_dying, reap_step, put_step, raise_step, open_step, add_step, sub_step, freeze_step, word_step, at_frame, is_live, publish_step, withdraw_step, keeper_step}
-use Rattle.frame_core.specs.Ledger.{note_of, ledger_of, frame_at, named_at, with_frame, IsWritable, IsReadable, IsLoose, MayStep, ledger_after}
-use Rattle.frame_core.specs.Rule.{Rule, BaseFits}
+use Rattle.frame_core.specs.Notes.{note_of, noted, reaped}
+use Rattle.frame_core.specs.Ledger.{ledger_of, frame_at, named_at, with_frame, IsWritable, IsReadable, IsLoose, MayStep, ledger_after}
+use Rattle.frame_core.specs.Rule.{Rule}
 use Rattle.frame_core.proofs.Lists.{set_self}
 use Rattle.frame_core.proofs.Packed.{count_packed}
 use Rattle.frame_core.proofs.Moves.LoadFrame.{count_at_most}
@@ -167,15 +167,11 @@ module _ (s : State) (rule : Rule s) where
   same_knows : (f : ℕ) (fr : Frame) → slice_get s.frames f ≡ Some fr → ledger_of (record s { frames = slice_set s.frames f fr }) ≡ ledger_of s
   same_knows f fr at = ap (λ (frames : List Frame). ledger_of (record s { frames = frames })) (set_self s.frames f fr at)
 
-  reap_knows : (f : ℕ) (fr : Frame) → slice_get s.frames f ≡ Some fr → fr.kind ≡ Dying → (b : Bool) → (fr.count == 0) ≡ b
-      → ledger_of (record s { frames = slice_set s.frames f (record fr { kind = if b then (if fr.generation == s.shape.last_generation then Retired else Free) else Dying }) })
-      ≡ cond b (with_frame (ledger_of s) f record { kind = cond ((frame_at (ledger_of s) f).generation == s.shape.last_generation) Retired Free; base = 0; generation = (frame_at (ledger_of s) f).generation; content = (frame_at (ledger_of s) f).content }) (ledger_of s)
-  reap_knows f fr at kind true is =
-      let none : fr.base ≡ 0 = subst (λ (k : Kind). BaseFits k fr.base) kind (rule.frames f fr at).base in
-      note_changed s f fr (record fr { kind = if fr.generation == s.shape.last_generation then Retired else Free })
-      (λ n. record { kind = cond (n.generation == s.shape.last_generation) Retired Free; base = 0; generation = n.generation; content = n.content }) at
-      (ap (λ (base : ℕ). record { kind = cond (fr.generation == s.shape.last_generation) Retired Free; base = base; generation = fr.generation; content = fr.content }) none)
-  reap_knows f fr at kind false is = subst (λ (k : Kind). ledger_of (record s { frames = slice_set s.frames f (record fr { kind = k }) }) ≡ ledger_of s) kind (same_knows f fr at)
+  reap_knows : (f : ℕ) (fr : Frame) → slice_get s.frames f ≡ Some fr → (b : Bool)
+      → ledger_of (record s { frames = slice_set s.frames f (if b then noted fr.count (reaped s.shape.last_generation (note_of fr)) else fr) })
+      ≡ cond b (with_frame (ledger_of s) f (reaped s.shape.last_generation (frame_at (ledger_of s) f))) (ledger_of s)
+  reap_knows f fr at true = note_changed s f fr (noted fr.count (reaped s.shape.last_generation (note_of fr))) (reaped s.shape.last_generation) at refl
+  reap_knows f fr at false = same_knows f fr at
 
   freeze_knows : (f : ℕ) (fr : Frame) → slice_get s.frames f ≡ Some fr → (b : Bool)
       → ledger_of (record s { frames = slice_set s.frames f (if b then record fr { count = 0; base = 0; kind = Dying } else fr) })
@@ -206,9 +202,13 @@ module _ (s : State) (rule : Rule s) where
   pub step_knows : (e : KeeperStep) (r : ℕ × State) → keeper_step s e ≡ Some r → Knows e r
   step_knows (keeper.Reap f) =
       at_frame_knows (keeper.Reap f) f (reap_step s.shape.last_generation) (λ fr x at is. let m = reap_made s.shape.last_generation fr x is in
-      subst (KnowsFrame (keeper.Reap f) f) m.1 (by_count f fr at (λ n. ledger_of (record s { frames = slice_set s.frames f (record fr { kind = if fr.count == 0 then (if fr.generation == s.shape.last_generation then Retired else Free) else Dying }) })
-      ≡ cond (n == 0) (with_frame (ledger_of s) f record { kind = cond ((frame_at (ledger_of s) f).generation == s.shape.last_generation) Retired Free; base = 0; generation = (frame_at (ledger_of s) f).generation; content = (frame_at (ledger_of s) f).content }) (ledger_of s))
-      (reap_knows f fr at m.0 (fr.count == 0) refl)))
+      subst (KnowsFrame (keeper.Reap f) f) m.1 (by_count f fr at
+      (λ n. ledger_of (record s {
+        frames = slice_set s.frames f
+            (if fr.count == 0 then noted fr.count (reaped s.shape.last_generation (note_of fr)) else fr);
+      })
+      ≡ cond (n == 0) (with_frame (ledger_of s) f (reaped s.shape.last_generation (frame_at (ledger_of s) f))) (ledger_of s))
+      (reap_knows f fr at (fr.count == 0))))
   step_knows (keeper.Put f i w) =
       at_frame_knows (keeper.Put f i w) f (put_step i w) (λ fr x at is.
       subst (KnowsFrame (keeper.Put f i w) f) (put_made i w fr x is).2
@@ -220,7 +220,8 @@ module _ (s : State) (rule : Rule s) where
   step_knows (keeper.Open f) =
       at_frame_knows (keeper.Open f) f open_step (λ fr x at is.
       subst (KnowsFrame (keeper.Open f) f) (open_made fr x is).1
-      (note_changed s f fr (record fr { count = fr.count + 1; kind = Private; base = 1 }) (λ n. record { kind = Private; base = 1; generation = n.generation; content = n.content }) at refl))
+      (note_changed s f fr (record fr { count = fr.count + 1; kind = Private; base = 1 })
+      (λ n. record { kind = Private; base = 1; generation = n.generation; content = n.content }) at refl))
   step_knows (keeper.Add f) =
       at_frame_knows (keeper.Add f) f add_step (λ fr x at is.
       subst (KnowsFrame (keeper.Add f) f) (add_made fr x is).2
@@ -235,8 +236,16 @@ module _ (s : State) (rule : Rule s) where
   step_knows (keeper.Freeze f) =
       at_frame_knows (keeper.Freeze f) f freeze_step (λ fr x at is.
       subst (KnowsFrame (keeper.Freeze f) f) (freeze_made fr x is).1
-      (by_count f fr at (λ c. ledger_of (record s { frames = slice_set s.frames f (if fr.count == fr.base then record fr { count = 0; base = 0; kind = Dying } else fr) })
-      ≡ cond (c == (frame_at (ledger_of s) f).base) (with_frame (ledger_of s) f record { kind = Dying; base = 0; generation = (frame_at (ledger_of s) f).generation; content = (frame_at (ledger_of s) f).content }) (ledger_of s))
+      (by_count f fr at (λ c. ledger_of (record s
+      { frames = slice_set s.frames f (if fr.count == fr.base then record fr { count = 0; base = 0; kind = Dying } else fr) })
+      ≡ cond (c == (frame_at (ledger_of s) f).base)
+      (with_frame (ledger_of s) f record {
+        kind = Dying;
+        base = 0;
+        generation = (frame_at (ledger_of s) f).generation;
+        content =
+            (frame_at (ledger_of s) f).content;
+      }) (ledger_of s))
       (by_note f fr at (λ (n : Note). ledger_of (record s { frames = slice_set s.frames f (if fr.count == fr.base then record fr { count = 0; base = 0; kind = Dying } else fr) })
       ≡ cond (fr.count == n.base) (with_frame (ledger_of s) f record { kind = Dying; base = 0; generation = (frame_at (ledger_of s) f).generation; content = (frame_at (ledger_of s) f).content }) (ledger_of s))
       (freeze_knows f fr at (fr.count == fr.base)))))

@@ -1,5 +1,5 @@
 -- After every event, what the keeper knows is as its ledger says, and what the other seats know is as it was.
-use Rattle.std.proofs.Common.{◌≡◌, ◌≢◌, ℕ, ◌+◌, ◌-◌, ◌==◌, leb, Bool, true, false, if◌then◌else◌, List, map, replicate, Option, Some, None, slice_get, slice_set, subst, sym, ap, ◌∙◌, refl}
+use Rattle.std.proofs.Common.{◌≡◌, ◌≢◌, ℕ, ◌+◌, ◌-◌, leb, Bool, true, false, if◌then◌else◌, List, map, replicate, Option, Some, None, slice_get, slice_set, subst, sym, ap, ◌∙◌, refl}
 use Rattle.std.proofs.lemmas.List.{map-set}
 use Rattle.ksm_base.specs.declared.page.TheConstants.{PAGE_WORDS}
 use Rattle.frame_core.specs.declared.event.Event.{Event}
@@ -16,7 +16,8 @@ use Rattle.frame_core.specs.State.{State, word_of}
 use Rattle.frame_core.specs.KeeperSteps.{keeper_step}
 use Rattle.frame_core.specs.ReaderSteps.{is_still, load_place_step, load_frame_step, exchange_step, leave_step, load_word_step, given_back, at_seat, at_both, reader_step}
 use Rattle.frame_core.specs.Steps.{step, answer, after}
-use Rattle.frame_core.specs.Ledger.{note_of, ledger_of, ledger_after}
+use Rattle.frame_core.specs.Notes.{note_of}
+use Rattle.frame_core.specs.Ledger.{ledger_of, ledger_after}
 use Rattle.frame_core.specs.Knowing.{FollowsLedger, LedgerTells, ChangesOwnView}
 use Rattle.frame_core.specs.Rule.{Rule}
 use Rattle.frame_core.proofs.Lists.{set_self, get_set_else}
@@ -49,8 +50,14 @@ exchange_cases frames f fr false at = refl
 
 exchange_notes : (tries : ℕ) (frames : List Frame) (phase : Phase) (r : ℕ × List Frame × Phase) → exchange_step tries frames phase ≡ Some r → map note_of r.1 ≡ map note_of frames
 exchange_notes tries frames (Counted aim failures count) r e =
-    let P = map_parts (λ (fr : Frame). (word_of fr, (if is_still aim.life.generation count fr then slice_set frames aim.life.frame (record fr { count = fr.count + 1 }) else frames), (if is_still aim.life.generation count fr then Held aim (replicate PAGE_WORDS None) else if leb tries (failures + 1) then Idle else Placed aim (failures + 1)))) (slice_get frames aim.life.frame) r e in
-    subst (λ (x : ℕ × List Frame × Phase). map note_of x.1 ≡ map note_of frames) P.2 (exchange_cases frames aim.life.frame P.0 (is_still aim.life.generation count P.0) P.1)
+    let P = map_parts (λ (fr : Frame). (
+      word_of fr,
+      (if is_still aim.life.generation count fr then slice_set frames aim.life.frame (record fr { count = fr.count + 1 }) else frames),
+      (if is_still aim.life.generation count fr then Held aim (replicate PAGE_WORDS None) else if leb tries (failures + 1) then Idle else Placed aim
+          (failures + 1)),
+    )) (slice_get frames aim.life.frame) r e in
+    subst (λ (x : ℕ × List Frame × Phase). map note_of x.1 ≡ map note_of frames) P.2
+    (exchange_cases frames aim.life.frame P.0 (is_still aim.life.generation count P.0) P.1)
 exchange_notes tries frames Idle r e = absurd (cc (e))
 exchange_notes tries frames (Placed aim failures) r e = absurd (cc (e))
 exchange_notes tries frames (Held aim known) r e = absurd (cc (e))
@@ -58,7 +65,8 @@ exchange_notes tries frames Spent r e = absurd (cc (e))
 
 given_back_notes : (frames : List Frame) (aim : Aim) (r : ℕ × List Frame × Phase) → given_back frames aim ≡ Some r → map note_of r.1 ≡ map note_of frames
 given_back_notes frames aim r e =
-    let P = map_parts (λ (fr : Frame). (word_of fr, slice_set frames aim.life.frame (record fr { count = fr.count - 1 }), Idle)) (slice_get frames aim.life.frame) r e in
+    let P = map_parts (λ (fr : Frame). (word_of fr, slice_set frames aim.life.frame (record fr { count = fr.count - 1 }), Idle))
+    (slice_get frames aim.life.frame) r e in
     subst (λ (x : ℕ × List Frame × Phase). map note_of x.1 ≡ map note_of frames) P.2 (recount_notes frames aim.life.frame P.0 (P.0.count - 1) P.1)
 
 leave_notes : (frames : List Frame) (phase : Phase) (r : ℕ × List Frame × Phase) → leave_step frames phase ≡ Some r → map note_of r.1 ≡ map note_of frames

@@ -2,9 +2,10 @@
 use Rattle.std.proofs.Common.{◌≡◌, ℕ, ◌+◌, ◌-◌, ◌<◌, ◌≤◌, ◌==◌, ◌&&◌, ◌||◌, not, ltb, leb, Bool, true, false, if◌then◌else◌, length, Option, Some, None, option_map, option_and_then, slice_get, slice_set, refl}
 use Rattle.std.proofs.lemmas.Bool.{and_parts, leb-true, ltb-true}
 use Rattle.frame_core.specs.declared.frame.Frame.{Frame}
-use Rattle.frame_core.specs.declared.frame.Kind.TheVariants.{Free, Filling, Private, Stable, Dying, Retired}
+use Rattle.frame_core.specs.declared.frame.Kind.TheVariants.{Free, Filling, Private, Stable, Dying}
 use Rattle.frame_core.specs.declared.seat.Life.{Life}
 use Rattle.frame_core.specs.State.{State, word_of}
+use Rattle.frame_core.specs.Notes.{note_of, noted, reaped}
 use Rattle.frame_core.specs.KeeperSteps.{only_if, is_free, is_filling, is_private, is_stable, is_dying, reap_step, put_step, raise_step, open_step, add_step, sub_step, freeze_step, word_step, at_frame, is_live, publish_step, withdraw_step}
 use Rattle.frame_core.proofs.Parts.{Parts, parts, map_parts, then_parts, only_if_parts}
 use Rattle.frame_core.proofs.Frames.{free_is, filling_is, private_is, stable_is, dying_is}
@@ -15,9 +16,9 @@ pub at_frame_made : (s : State) (f : ℕ) (change : Frame → Option (ℕ × Fra
 at_frame_made s f change r e = parts (slice_get s.frames f) change (λ (x : ℕ × Frame). (x.0, record s { frames = slice_set s.frames f x.1 })) r e
 
 pub reap_made : (last : ℕ) (fr : Frame) (r : ℕ × Frame) → reap_step last fr ≡ Some r
-    → (fr.kind ≡ Dying) × ((word_of fr, record fr { kind = if fr.count == 0 then (if fr.generation == last then Retired else Free) else Dying }) ≡ r)
+    → (fr.kind ≡ Dying) × ((word_of fr, if fr.count == 0 then noted fr.count (reaped last (note_of fr)) else fr) ≡ r)
 reap_made last fr r e =
-    let p = only_if_parts (is_dying fr.kind) (word_of fr, record fr { kind = if fr.count == 0 then (if fr.generation == last then Retired else Free) else Dying }) r e in
+    let p = only_if_parts (is_dying fr.kind) (word_of fr, if fr.count == 0 then noted fr.count (reaped last (note_of fr)) else fr) r e in
     (dying_is fr.kind p.0, p.1)
 
 pub put_made : (i w : ℕ) (fr : Frame) (r : ℕ × Frame) → put_step i w fr ≡ Some r
@@ -27,17 +28,20 @@ put_made i w fr r e =
     let both = and_parts (is_filling fr.kind || is_private fr.kind) (ltb i (length fr.content)) p.0 in
     (both.0, ltb-true i (length fr.content) both.1, p.1)
 
-pub raise_made : (fr : Frame) (r : ℕ × Frame) → raise_step fr ≡ Some r → (fr.kind ≡ Free) × ((word_of fr, record fr { generation = fr.generation + 1; kind = Filling }) ≡ r)
+pub raise_made : (fr : Frame) (r : ℕ × Frame) → raise_step fr ≡ Some r
+    → (fr.kind ≡ Free) × ((word_of fr, record fr { generation = fr.generation + 1; kind = Filling }) ≡ r)
 raise_made fr r e =
     let p = only_if_parts (is_free fr.kind) (word_of fr, record fr { generation = fr.generation + 1; kind = Filling }) r e in
     (free_is fr.kind p.0, p.1)
 
-pub open_made : (fr : Frame) (r : ℕ × Frame) → open_step fr ≡ Some r → (fr.kind ≡ Filling) × ((word_of fr, record fr { count = fr.count + 1; kind = Private; base = 1 }) ≡ r)
+pub open_made : (fr : Frame) (r : ℕ × Frame) → open_step fr ≡ Some r
+    → (fr.kind ≡ Filling) × ((word_of fr, record fr { count = fr.count + 1; kind = Private; base = 1 }) ≡ r)
 open_made fr r e =
     let p = only_if_parts (is_filling fr.kind) (word_of fr, record fr { count = fr.count + 1; kind = Private; base = 1 }) r e in
     (filling_is fr.kind p.0, p.1)
 
-pub add_made : (fr : Frame) (r : ℕ × Frame) → add_step fr ≡ Some r → (1 ≤ fr.base) × (fr.base ≤ 1023) × ((word_of fr, record fr { count = fr.count + 1; base = fr.base + 1 }) ≡ r)
+pub add_made : (fr : Frame) (r : ℕ × Frame) → add_step fr ≡ Some r
+    → (1 ≤ fr.base) × (fr.base ≤ 1023) × ((word_of fr, record fr { count = fr.count + 1; base = fr.base + 1 }) ≡ r)
 add_made fr r e =
     let p = only_if_parts (leb 1 fr.base && leb fr.base 1023) (word_of fr, record fr { count = fr.count + 1; base = fr.base + 1 }) r e in
     let both = and_parts (leb 1 fr.base) (leb fr.base 1023) p.0 in
@@ -46,7 +50,10 @@ add_made fr r e =
 pub sub_made : (fr : Frame) (r : ℕ × Frame) → sub_step fr ≡ Some r
     → (1 ≤ fr.base) × ((word_of fr, record fr { count = fr.count - 1; base = fr.base - 1; kind = if fr.base == 1 then Dying else fr.kind }) ≡ r)
 sub_made fr r e =
-    let p = only_if_parts (leb 1 fr.base) (word_of fr, record fr { count = fr.count - 1; base = fr.base - 1; kind = if fr.base == 1 then Dying else fr.kind }) r e in
+    let p = only_if_parts (leb 1 fr.base) (
+      word_of fr,
+      record fr { count = fr.count - 1; base = fr.base - 1; kind = if fr.base == 1 then Dying else fr.kind },
+    ) r e in
     (leb-true 1 fr.base p.0, p.1)
 
 pub freeze_made : (fr : Frame) (r : ℕ × Frame) → freeze_step fr ≡ Some r

@@ -11,7 +11,8 @@ use Rattle.frame_core.specs.declared.ledger.Note.{Note}
 use Rattle.frame_core.specs.declared.seat.Life.{Life}
 use Rattle.frame_core.specs.State.{State, opening, new_frame}
 use Rattle.frame_core.specs.KeeperSteps.{is_filling, is_private, is_stable, is_dying, is_life, is_live}
-use Rattle.frame_core.specs.Ledger.{note_of, ledger_of, blank, first_ledger, frame_at, with_frame, IsWritable, IsReadable, IsLoose}
+use Rattle.frame_core.specs.Notes.{note_of}
+use Rattle.frame_core.specs.Ledger.{ledger_of, blank, first_ledger, frame_at, with_frame, IsWritable, IsReadable, IsLoose}
 use Rattle.frame_core.proofs.Frames.{stable_is}
 
 -- the note of a frame, if there is one

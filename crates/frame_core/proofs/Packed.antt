@@ -1,5 +1,5 @@
 -- The parts of a frame word.
-use Rattle.std.proofs.Common.{◌≡◌, ℕ, ◌+◌, ◌*◌, ◌/◌, ◌%◌, ◌<◌, ◌≤◌, arith}
+use Rattle.std.proofs.Common.{◌≡◌, ℕ, ◌<◌, arith}
 use Rattle.frame_core.specs.State.{frame_word, count_in, life_in}
 
 pub count_packed : (generation count : ℕ) → count < 65536 → count_in (frame_word generation count) ≡ count

@@ -215,12 +215,15 @@ tell_load_place s T q p place at named told = record {
 }
 
 -- a frame word is loaded
-counted_told : (T : Tale) (q w count : ℕ) (aim : Aim) (failures : ℕ) (b : Bool) → (b ≡ true → w ≡ frame_word aim.life.generation count) → SeatTold T.life T.named (T.seat q) (Placed aim failures)
+counted_told : (T : Tale) (q w count : ℕ) (aim : Aim) (failures : ℕ) (b : Bool) → (b ≡ true → w ≡ frame_word aim.life.generation count)
+    → SeatTold T.life T.named (T.seat q) (Placed aim failures)
     → SeatTold T.life T.named (record (T.seat q) { counted = w }) (if b then Counted aim failures count else Idle)
 counted_told T q w count aim failures false is told = told.0
-counted_told T q w count aim failures true is told = (told.0, record { loaded_is = told.1.loaded_is; below = told.1.below; was_named = told.1.was_named; not_given = told.1.not_given }, is refl)
+counted_told T q w count aim failures true is told =
+    (told.0, record { loaded_is = told.1.loaded_is; below = told.1.below; was_named = told.1.was_named; not_given = told.1.not_given }, is refl)
 
-pub tell_load_frame : (s : State) (T : Tale) (q w count : ℕ) (aim : Aim) (failures : ℕ) (b : Bool) → (b ≡ true → w ≡ frame_word aim.life.generation count) → slice_get s.seats q ≡ Some (Placed aim failures) → Told s T
+pub tell_load_frame : (s : State) (T : Tale) (q w count : ℕ) (aim : Aim) (failures : ℕ) (b : Bool) → (b ≡ true → w ≡ frame_word aim.life.generation count)
+    → slice_get s.seats q ≡ Some (Placed aim failures) → Told s T
     → Told (record s { seats = slice_set s.seats q (if b then Counted aim failures count else Idle) })
     (record T { seat = λ k. record (T.seat k) { counted = if q == k then w else (T.seat k).counted } })
 tell_load_frame s T q w count aim failures b is at told = record {
@@ -238,27 +241,43 @@ frame_of_word : (g f : ℕ) → f < 1024 → (g * 1024 + f) % 1024 ≡ f
 frame_of_word g f below = omega arith
 
 -- an exchange is tried. The frames change in their counts alone
-exchanged_told : (T : Tale) (q w count : ℕ) (aim : Aim) (failures : ℕ) (known : List (Option ℕ)) (b c : Bool) → (w == frame_word aim.life.generation count) ≡ b → SeatTold T.life T.named (T.seat q) (Counted aim failures count)
-    → SeatTold T.life T.named (record (T.seat q) { held = if w == (T.seat q).counted then frame_in (T.seat q).loaded else (T.seat q).held; read = [] }) (if b then Held aim known else if c then Idle else Placed aim (failures + 1))
+exchanged_told : (T : Tale) (q w count : ℕ) (aim : Aim) (failures : ℕ) (known : List (Option ℕ)) (b c : Bool)
+    → (w == frame_word aim.life.generation count) ≡ b → SeatTold T.life T.named (T.seat q) (Counted aim failures count)
+    → SeatTold T.life T.named (record (T.seat q) { held = if w == (T.seat q).counted then frame_in (T.seat q).loaded else (T.seat q).held; read = [] })
+    (if b then Held aim known else if c then Idle else Placed aim (failures + 1))
 exchanged_told T q w count aim failures known true c is told =
     let a = told.1 in
     let held : (if w == (T.seat q).counted then frame_in (T.seat q).loaded else (T.seat q).held) ≡ Some aim.life.frame
-    = rw (told.2, is, a.loaded_is) (ap (λ (k : ℕ). Some k) (frame_of_word aim.life.generation aim.life.frame a.below)) in
-    (held, record { loaded_is = a.loaded_is; below = a.below; was_named = a.was_named; not_given = a.not_given }, All-nil (λ (r : ℕ × ℕ). T.named aim.life.frame aim.life.generation r.0 ≡ Some r.1))
+    = rw (told.2, is, a.loaded_is) (ap (λ (k : ℕ). Some k) (frame_of_word aim.life.generation aim.life.frame a.below)) in (
+      held,
+      record { loaded_is = a.loaded_is; below = a.below; was_named = a.was_named; not_given = a.not_given },
+      All-nil (λ (r : ℕ × ℕ). T.named aim.life.frame aim.life.generation r.0 ≡ Some r.1),
+    )
 exchanged_told T q w count aim failures known false true is told = rw (told.2, is) told.0
 exchanged_told T q w count aim failures known false false is told =
     let a = told.1 in
     let held : (if w == (T.seat q).counted then frame_in (T.seat q).loaded else (T.seat q).held) ≡ None = rw (told.2, is) told.0 in
     (held, record { loaded_is = a.loaded_is; below = a.below; was_named = a.was_named; not_given = a.not_given })
 
-pub tell_exchange : (s : State) (T : Tale) (q w count : ℕ) (aim : Aim) (failures : ℕ) (known : List (Option ℕ)) (c : Bool) → slice_get s.seats q ≡ Some (Counted aim failures count) → Told s T
-    → Told (record s { seats = slice_set s.seats q (if w == frame_word aim.life.generation count then Held aim known else if c then Idle else Placed aim (failures + 1)) })
-    (record T { seat = λ k. record (T.seat k) { held = if q == k && w == (T.seat k).counted then frame_in (T.seat k).loaded else (T.seat k).held; read = if q == k then [] else (T.seat k).read } })
+pub tell_exchange : (s : State) (T : Tale) (q w count : ℕ) (aim : Aim) (failures : ℕ) (known : List (Option ℕ)) (c : Bool)
+    → slice_get s.seats q ≡ Some (Counted aim failures count) → Told s T
+    → Told (record s {
+      seats = slice_set s.seats q
+          (if w == frame_word aim.life.generation count then Held aim known else if c then Idle else Placed aim (failures + 1));
+    })
+    (record T {
+      seat = λ k. record (T.seat k)
+          { held = if q == k && w == (T.seat k).counted then frame_in (T.seat k).loaded else (T.seat k).held; read = if q == k then [] else (T.seat k).read };
+    })
 tell_exchange s T q w count aim failures known c at told = record {
   frames = told.frames;
   places = told.places;
   seats = tell_seats s T q (if w == frame_word aim.life.generation count then Held aim known else if c then Idle else Placed aim (failures + 1))
-      (λ k b. record (T.seat k) { held = if b && w == (T.seat k).counted then frame_in (T.seat k).loaded else (T.seat k).held; read = if b then [] else (T.seat k).read })
+      (λ k b. record (T.seat k) {
+        held = if b && w == (T.seat k).counted then frame_in (T.seat k).loaded else (T.seat k).held;
+        read =
+            if b then [] else (T.seat k).read;
+      })
       (λ k. refl)
       (exchanged_told T q w count aim failures known (w == frame_word aim.life.generation count) c refl (told.seats q (Counted aim failures count) at))
       told;

@@ -4,9 +4,10 @@ use Rattle.frame_core.specs.declared.event.KeeperStep.{KeeperStep}
 use Rattle.frame_core.specs.declared.event.KeeperStep.TheVariants as keeper
 use Rattle.frame_core.specs.declared.frame.Frame.{Frame}
 use Rattle.frame_core.specs.declared.frame.Kind.{Kind}
-use Rattle.frame_core.specs.declared.frame.Kind.TheVariants.{Free, Filling, Private, Stable, Dying, Retired}
+use Rattle.frame_core.specs.declared.frame.Kind.TheVariants.{Free, Filling, Private, Stable, Dying}
 use Rattle.frame_core.specs.declared.seat.Life.{Life}
 use Rattle.frame_core.specs.State.{State, word_of}
+use Rattle.frame_core.specs.Notes.{note_of, noted, reaped, filled, raised, opened, added, lowered, shown, frozen}
 
 -- ---------------------------------------------------------------- tests
 
@@ -40,37 +41,37 @@ is_dying _ = false
 abbrev pub reap_step : ℕ → Frame → Option (ℕ × Frame)
 reap_step last fr =
     only_if (is_dying fr.kind)
-    (word_of fr, record fr { kind = if fr.count == 0 then (if fr.generation == last then Retired else Free) else Dying })
+    (word_of fr, if fr.count == 0 then noted fr.count (reaped last (note_of fr)) else fr)
 
 -- put, a store to the content word i: where the frame is filled, or private
 abbrev pub put_step : ℕ → ℕ → Frame → Option (ℕ × Frame)
 put_step i w fr =
     only_if ((is_filling fr.kind || is_private fr.kind) && nat_lt i (length fr.content))
-    (0, record fr { content = slice_set fr.content i w })
+    (0, noted fr.count (filled i w (note_of fr)))
 
 -- raise, a fetch_add of 65536 to the frame word: a free frame begins its next life
 abbrev pub raise_step : Frame → Option (ℕ × Frame)
-raise_step fr = only_if (is_free fr.kind) (word_of fr, record fr { generation = fr.generation + 1; kind = Filling })
+raise_step fr = only_if (is_free fr.kind) (word_of fr, noted fr.count (raised (note_of fr)))
 
 -- open, a fetch_add of 1 to the frame word: a frame that was filled has one reference, the keeper's
 abbrev pub open_step : Frame → Option (ℕ × Frame)
-open_step fr = only_if (is_filling fr.kind) (word_of fr, record fr { count = fr.count + 1; kind = Private; base = 1 })
+open_step fr = only_if (is_filling fr.kind) (word_of fr, noted (fr.count + 1) (opened (note_of fr)))
 
 -- add, a fetch_add of 1 to the frame word: one reference more of a keeper that has 1 to 1,023
 abbrev pub add_step : Frame → Option (ℕ × Frame)
-add_step fr = only_if (nat_le 1 fr.base && nat_le fr.base 1023) (word_of fr, record fr { count = fr.count + 1; base = fr.base + 1 })
+add_step fr = only_if (nat_le 1 fr.base && nat_le fr.base 1023) (word_of fr, noted (fr.count + 1) (added (note_of fr)))
 
 -- sub, a fetch_sub of 1 from the frame word: the keeper gives a reference back, and the frame dies with its last one
 abbrev pub sub_step : Frame → Option (ℕ × Frame)
 sub_step fr =
     only_if (nat_le 1 fr.base)
-    (word_of fr, record fr { count = fr.count - 1; base = fr.base - 1; kind = if fr.base == 1 then Dying else fr.kind })
+    (word_of fr, noted (fr.count - 1) (lowered (note_of fr)))
 
 -- freeze, a compare_exchange of the frame word from the base to 0 in its count: where no reader counts, a stable frame dies at once
 abbrev pub freeze_step : Frame → Option (ℕ × Frame)
 freeze_step fr =
     only_if (is_stable fr.kind)
-    (word_of fr, if fr.count == fr.base then record fr { count = 0; base = 0; kind = Dying } else fr)
+    (word_of fr, if fr.count == fr.base then noted 0 (frozen (note_of fr)) else fr)
 
 -- word, a load of the content word i: of a private, stable or dying frame
 abbrev pub word_step : ℕ → Frame → Option (ℕ × Frame)
@@ -98,8 +99,14 @@ abbrev pub publish_step : State → ℕ → ℕ → Option (ℕ × State)
 publish_step s p f =
     option_and_then
     (λ place. option_and_then
-    (λ fr. only_if (is_private fr.kind && not (is_live s.frames place))
-    (0, record s { frames = slice_set s.frames f (record fr { kind = Stable }); places = slice_set s.places p (Some record { frame = f; generation = fr.generation }) }))
+    (λ fr. only_if (is_private fr.kind && not (is_live s.frames place)) (
+      0,
+      record s {
+        frames = slice_set s.frames f (noted fr.count (shown (note_of fr)));
+        places =
+            slice_set s.places p (Some record { frame = f; generation = fr.generation });
+      },
+    ))
     (slice_get s.frames f))
     (slice_get s.places p)
 

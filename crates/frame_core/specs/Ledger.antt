@@ -1,21 +1,17 @@
 -- What the keeper knows, where each of its steps is allowed, and what it knows after it: a function of what it knew, the step and the word found.
-use Rattle.std.specs.Prelude.{◌≡◌, ℕ, ◌+◌, ◌-◌, ◌<◌, ◌≤◌, ◌==◌, cond, map, replicate, slice_index_or, slice_set, Option, Some, None}
+use Rattle.std.specs.Prelude.{◌≡◌, ℕ, ◌<◌, ◌≤◌, ◌==◌, cond, map, replicate, slice_index_or, slice_set, Option, Some, None}
 use Rattle.ksm_base.specs.declared.page.TheConstants.{PAGE_WORDS}
 use Rattle.ksm_base.specs.declared.shape.Shape.{Shape}
 use Rattle.ksm_base.specs.Values.{frames_of}
 use Rattle.frame_core.specs.declared.event.KeeperStep.{KeeperStep}
 use Rattle.frame_core.specs.declared.event.KeeperStep.TheVariants.{Reap, Put, Raise, Open, Add, Sub, Publish, Withdraw, Freeze, Word}
-use Rattle.frame_core.specs.declared.frame.Frame.{Frame}
 use Rattle.frame_core.specs.declared.frame.Kind.{Kind}
-use Rattle.frame_core.specs.declared.frame.Kind.TheVariants.{Free, Filling, Private, Stable, Dying, Retired}
+use Rattle.frame_core.specs.declared.frame.Kind.TheVariants.{Free, Filling, Private, Stable, Dying}
 use Rattle.frame_core.specs.declared.ledger.Ledger.{Ledger}
 use Rattle.frame_core.specs.declared.ledger.Note.{Note}
 use Rattle.frame_core.specs.declared.seat.Life.{Life}
 use Rattle.frame_core.specs.State.{State, count_in}
-
--- what the keeper knows of a frame
-abbrev pub note_of : Frame → Note
-note_of fr = record { kind = fr.kind; base = fr.base; generation = fr.generation; content = fr.content }
+use Rattle.frame_core.specs.Notes.{note_of, reaped, filled, raised, opened, added, lowered, shown, frozen}
 
 -- what the keeper knows in a state
 abbrev pub ledger_of : State → Ledger
@@ -38,10 +34,6 @@ named_at k p = slice_index_or k.places p None
 
 abbrev pub with_frame : Ledger → ℕ → Note → Ledger
 with_frame k f note = record { frames = slice_set k.frames f note; places = k.places }
-
--- the frame has this kind and so many references of the keeper
-abbrev pub referred : Ledger → ℕ → Kind → ℕ → Ledger
-referred k f kind base = with_frame k f record { kind = kind; base = base; generation = (frame_at k f).generation; content = (frame_at k f).content }
 
 -- a frame of this kind may be written
 abbrev pub IsWritable : Kind → Type 0
@@ -77,16 +69,17 @@ module _ (sh : Shape) (k : Ledger) where
 
   -- what the keeper knows after a step that found the word n
   abbrev pub ledger_after : KeeperStep → ℕ → Ledger
-  ledger_after (Reap f) n = cond (count_in n == 0) (referred k f (cond ((frame_at k f).generation == sh.last_generation) Retired Free) 0) k
-  ledger_after (Put f i w) n = with_frame k f record { kind = (frame_at k f).kind; base = (frame_at k f).base; generation = (frame_at k f).generation; content = slice_set (frame_at k f).content i w }
-  ledger_after (Raise f) n = with_frame k f record { kind = Filling; base = (frame_at k f).base; generation = (frame_at k f).generation + 1; content = (frame_at k f).content }
-  ledger_after (Open f) n = referred k f Private 1
-  ledger_after (Add f) n = referred k f (frame_at k f).kind ((frame_at k f).base + 1)
-  ledger_after (Sub f) n = referred k f (cond ((frame_at k f).base == 1) Dying (frame_at k f).kind) ((frame_at k f).base - 1)
+  ledger_after (Reap f) n = cond (count_in n == 0) (with_frame k f (reaped sh.last_generation (frame_at k f))) k
+  ledger_after (Put f i w) n = with_frame k f (filled i w (frame_at k f))
+  ledger_after (Raise f) n = with_frame k f (raised (frame_at k f))
+  ledger_after (Open f) n = with_frame k f (opened (frame_at k f))
+  ledger_after (Add f) n = with_frame k f (added (frame_at k f))
+  ledger_after (Sub f) n = with_frame k f (lowered (frame_at k f))
   ledger_after (Publish p f) n = record {
-    frames = slice_set k.frames f record { kind = Stable; base = (frame_at k f).base; generation = (frame_at k f).generation; content = (frame_at k f).content };
-    places = slice_set k.places p (Some (record { frame = f; generation = (frame_at k f).generation }));
+    frames = slice_set k.frames f (shown (frame_at k f));
+    places =
+        slice_set k.places p (Some (record { frame = f; generation = (frame_at k f).generation }));
   }
   ledger_after (Withdraw p) n = record { frames = k.frames; places = slice_set k.places p None }
-  ledger_after (Freeze f) n = cond (count_in n == (frame_at k f).base) (referred k f Dying 0) k
+  ledger_after (Freeze f) n = cond (count_in n == (frame_at k f).base) (with_frame k f (frozen (frame_at k f))) k
   ledger_after (Word f i) n = k

@@ -1,4 +1,5 @@
 pub mod State
+pub mod Notes
 pub mod KeeperSteps
 pub mod ReaderSteps
 pub mod Steps

@@ -47,14 +47,16 @@ load_word_step frames i _ = None
 abbrev pub is_still : ℕ → ℕ → Frame → Bool
 is_still generation count fr = word_of fr == frame_word generation count
 
--- the frame word is exchanged for one more, where it is still the one that was loaded, and the frame is held; the failure that makes `tries` of them ends the lookup
+-- the frame word is exchanged for one more, where it is still the one that was loaded, and the frame is held; the failure that makes `tries` of them ends
+-- the lookup
 abbrev pub exchange_step : ℕ → List Frame → Phase → Option (ℕ × List Frame × Phase)
 exchange_step tries frames (Counted aim failures count) =
     option_map
     (λ fr. (
       word_of fr,
       (if is_still aim.life.generation count fr then slice_set frames aim.life.frame (record fr { count = fr.count + 1 }) else frames),
-      (if is_still aim.life.generation count fr then Held aim (replicate PAGE_WORDS None) else if nat_le tries (failures + 1) then Idle else Placed aim (failures + 1)),
+      (if is_still aim.life.generation count fr then Held aim (replicate PAGE_WORDS None) else if nat_le tries (failures + 1) then Idle else Placed aim
+          (failures + 1)),
     ))
     (slice_get frames aim.life.frame)
 exchange_step tries frames _ = None

@@ -1,9 +1,9 @@
 -- Worked runs of the least table, one frame, one place and one seat: what is told from their traces. Own.
-use Rattle.std.specs.Prelude.{ℕ, List, [], ◌∷◌, ◌++◌}
+use Rattle.std.specs.Prelude.{List, [], ◌∷◌, ◌++◌}
 use Rattle.ksm_base.specs.declared.shape.Shape.{Shape}
 use Rattle.frame_core.specs.declared.event.Event.{Event}
 use Rattle.frame_core.specs.declared.event.Event.TheVariants.{Reader, Keeper}
-use Rattle.frame_core.specs.declared.event.ReaderStep.TheVariants.{LoadPlace, LoadFrame, Exchange, LoadWord, Leave}
+use Rattle.frame_core.specs.declared.event.ReaderStep.TheVariants.{LoadPlace, LoadFrame, Exchange, LoadWord}
 use Rattle.frame_core.specs.declared.event.KeeperStep.TheVariants.{Put, Raise, Open, Add, Sub, Reap, Publish}
 use Rattle.frame_core.specs.Trace.{Entry, run_of}
 

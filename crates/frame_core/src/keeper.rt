@@ -20,6 +20,7 @@ impl Frame {
             Kind::Dying => {
                 let before = self.word_of();
                 if self.count == 0 {
+                    self.base = 0;
                     self.kind = if self.generation == last_generation {
                         Kind::Retired
                     } else {

@@ -1,5 +1,5 @@
 -- What each step of the keeper asks of the table.
-use Rattle.std.proofs.Common.{◌≡◌, ℕ, ◌+◌, ◌-◌, ◌*◌, ◌%◌, ◌^◌, ◌<◌, ◌≤◌, Bool, true, false, cond, eqb, [], Some, get_or, refl, ap, subst, ◌∙◌, arith}
+use Rattle.std.proofs.Common.{◌≡◌, ℕ, ◌+◌, ◌-◌, ◌*◌, ◌%◌, ◌^◌, ◌<◌, ◌≤◌, Bool, true, false, cond, eqb, [], Some, get_or, refl, subst, ◌∙◌, arith}
 use prog.Atomic.{either}
 use Rattle.atomic_table.specs.Table.{carried_after}
 use Rattle.ksm_base.specs.declared.page.TheConstants.{PAGE_WORDS}
@@ -36,42 +36,83 @@ module _ (slots id : ℕ) (sh : Shape) (k : Ledger) (tally : Tally) (log : Keepe
   -- of each frame, or word of a frame, that lies where the step worked, the step is told: that is the one
   pub may_reap : (f : ℕ) → MayStep sh k (Reap f) → MayLoad reaps slots id sh (frame_word_at F f) me
   may_reap f may t h size at small =
-      let r = keeper_may slots (Reap f) (λ n. n) log sh k tally id may (λ n small told. refl) t h size at small in
-      (r.0, r.1, r.2, r.3, λ g is. let same : f ≡ g = omega arith in subst (λ (x : ℕ). Keeps (Reap x) me (get_or t.words (frame_word_at F f) 0) (r.0, carried_after [] r.1)) same r.4)
+      let r = keeper_may slots (Reap f) (λ n. n) log sh k tally id may (λ n small told. refl) t h size at small in (
+        r.0,
+        r.1,
+        r.2,
+        r.3,
+        λ g is. let same : f ≡ g = omega arith in
+            subst (λ (x : ℕ). Keeps (Reap x) me (get_or t.words (frame_word_at F f) 0) (r.0, carried_after [] r.1)) same r.4,
+      )
 
   pub may_raise : (f : ℕ) → MayStep sh k (Raise f) → MayAdd raises slots id 65536 sh (frame_word_at F f) me
   may_raise f may t h size at small =
-      let r = keeper_may slots (Raise f) (λ n. (n + 65536) % 2 ^ 64) log sh k tally id may (λ n small told. raised n 65536 (omega arith) (omega (arith, told.0, told.1))) t h size at small in
-      (r.0, r.1, r.2, r.3, λ g is. let same : f ≡ g = omega arith in subst (λ (x : ℕ). Keeps (Raise x) me (get_or t.words (frame_word_at F f) 0) (r.0, carried_after [] r.1)) same r.4)
+      let r = keeper_may slots (Raise f) (λ n. (n + 65536) % 2 ^ 64) log sh k tally id may
+      (λ n small told. raised n 65536 (omega arith) (omega (arith, told.0, told.1))) t h size at small in (
+        r.0,
+        r.1,
+        r.2,
+        r.3,
+        λ g is. let same : f ≡ g = omega arith in
+            subst (λ (x : ℕ). Keeps (Raise x) me (get_or t.words (frame_word_at F f) 0) (r.0, carried_after [] r.1)) same r.4,
+      )
 
   pub may_open : (f : ℕ) → MayStep sh k (Open f) → MayAdd opens slots id 1 sh (frame_word_at F f) me
   may_open f may t h size at small =
-      let r = keeper_may slots (Open f) (λ n. (n + 1) % 2 ^ 64) log sh k tally id may (λ n small told. raised n 1 (omega arith) (omega (arith, told.0, told.1))) t h size at small in
-      (r.0, r.1, r.2, r.3, λ g is. let same : f ≡ g = omega arith in subst (λ (x : ℕ). Keeps (Open x) me (get_or t.words (frame_word_at F f) 0) (r.0, carried_after [] r.1)) same r.4)
+      let r = keeper_may slots (Open f) (λ n. (n + 1) % 2 ^ 64) log sh k tally id may
+      (λ n small told. raised n 1 (omega arith) (omega (arith, told.0, told.1))) t h size at small in (
+        r.0,
+        r.1,
+        r.2,
+        r.3,
+        λ g is. let same : f ≡ g = omega arith in
+            subst (λ (x : ℕ). Keeps (Open x) me (get_or t.words (frame_word_at F f) 0) (r.0, carried_after [] r.1)) same r.4,
+      )
 
   pub may_add : (f : ℕ) → MayStep sh k (Add f) → MayAdd adds slots id 1 sh (frame_word_at F f) me
   may_add f may t h size at small =
-      let r = keeper_may slots (Add f) (λ n. (n + 1) % 2 ^ 64) log sh k tally id may (λ n small told. raised n 1 (omega arith) (omega (arith, told))) t h size at small in
-      (r.0, r.1, r.2, r.3, λ g is. let same : f ≡ g = omega arith in subst (λ (x : ℕ). Keeps (Add x) me (get_or t.words (frame_word_at F f) 0) (r.0, carried_after [] r.1)) same r.4)
+      let r = keeper_may slots (Add f) (λ n. (n + 1) % 2 ^ 64) log sh k tally id may
+      (λ n small told. raised n 1 (omega arith) (omega (arith, told))) t h size at small in (
+        r.0,
+        r.1,
+        r.2,
+        r.3,
+        λ g is. let same : f ≡ g = omega arith in
+            subst (λ (x : ℕ). Keeps (Add x) me (get_or t.words (frame_word_at F f) 0) (r.0, carried_after [] r.1)) same r.4,
+      )
 
   pub may_sub : (f : ℕ) → MayStep sh k (Sub f) → MaySubOne subs slots id sh (frame_word_at F f) me
   may_sub f may t h size at small =
-      let r = keeper_may slots (Sub f) (λ n. (n + (2 ^ 64 - 1)) % 2 ^ 64) log sh k tally id may (λ n small told. lowered n told small) t h size at small in
-      (r.0, r.1, r.2, r.3, λ g is. let same : f ≡ g = omega arith in subst (λ (x : ℕ). Keeps (Sub x) me (get_or t.words (frame_word_at F f) 0) (r.0, carried_after [] r.1)) same r.4)
+      let r = keeper_may slots (Sub f) (λ n. (n + (2 ^ 64 - 1)) % 2 ^ 64) log sh k tally id may (λ n small told. lowered n told small) t h size at small in (
+        r.0,
+        r.1,
+        r.2,
+        r.3,
+        λ g is. let same : f ≡ g = omega arith in
+            subst (λ (x : ℕ). Keeps (Sub x) me (get_or t.words (frame_word_at F f) 0) (r.0, carried_after [] r.1)) same r.4,
+      )
 
   -- as the machine exchanges, and as the step says
   exchanged : (b : Bool) (m n : ℕ) → either b m n ≡ cond b m n
   exchanged true m n = refl
   exchanged false m n = refl
 
-  pub may_freeze : (f alone none : ℕ) → alone ≡ frame_word (frame_at k f).generation (frame_at k f).base % 2 ^ 64 → none ≡ frame_word (frame_at k f).generation 0 % 2 ^ 64
+  pub may_freeze : (f alone none : ℕ) → alone ≡ frame_word (frame_at k f).generation (frame_at k f).base % 2 ^ 64
+      → none ≡ frame_word (frame_at k f).generation 0 % 2 ^ 64
       → MayStep sh k (Freeze f) → MayExchange freezes slots id alone none sh (frame_word_at F f) me
   may_freeze f alone none is is_none may t h size at small =
       let g = (frame_at k f).generation in
       let base = (frame_at k f).base in
       let r = keeper_may slots (Freeze f) (λ n. either (eqb n alone) none n) log sh k tally id may
-      (λ n small told. (λ i. either (eqb n (fits n g base alone small told.0 told.1 is i)) (fits n g 0 none small told.0 (omega arith) is_none i) n) ∙ exchanged (eqb n (frame_word g base)) (frame_word g 0) n) t h size at small in
-      (r.0, r.1, r.2, r.3, λ g is. let same : f ≡ g = omega arith in subst (λ (x : ℕ). Keeps (Freeze x) me (get_or t.words (frame_word_at F f) 0) (r.0, carried_after [] r.1)) same r.4)
+      (λ n small told. (λ i. either (eqb n (fits n g base alone small told.0 told.1 is i)) (fits n g 0 none small told.0 (omega arith) is_none i) n)
+      ∙ exchanged (eqb n (frame_word g base)) (frame_word g 0) n) t h size at small in (
+        r.0,
+        r.1,
+        r.2,
+        r.3,
+        λ g is. let same : f ≡ g = omega arith in
+            subst (λ (x : ℕ). Keeps (Freeze x) me (get_or t.words (frame_word_at F f) 0) (r.0, carried_after [] r.1)) same r.4,
+      )
 
   -- a word of the table is one word of one page
   one_word : (f i g j : ℕ) → i < PAGE_WORDS → j < PAGE_WORDS → content_at F f i ≡ content_at F g j → (f ≡ g) × (i ≡ j)
@@ -88,7 +129,8 @@ module _ (slots id : ℕ) (sh : Shape) (k : Ledger) (tally : Tally) (log : Keepe
       (r.0, r.1, r.2, r.3, λ g j below is. let same = one_word f i g j may.1 below is in subst (λ (x : ℕ × ℕ). Keeps (Word x.0 x.1) me (get_or t.words (content_at F f i) 0) (r.0, carried_after [] r.1)) (λ y. (same.0 y, same.1 y)) r.4)
 
   -- the word of a place names the frame in its lowest bits
-  pub may_publish : (p f w : ℕ) → f < 1024 → w ≡ place_word (Some record { frame = f; generation = (frame_at k f).generation }) % 2 ^ 64 → MayStep sh k (Publish p f) → MayStore publishes slots id w sh p me
+  pub may_publish : (p f w : ℕ) → f < 1024 → w ≡ place_word (Some record { frame = f; generation = (frame_at k f).generation }) % 2 ^ 64
+      → MayStep sh k (Publish p f) → MayStore publishes slots id w sh p me
   may_publish p f w low is may t h size at small =
       let r = keeper_may slots (Publish p f) (λ _. w) log sh k tally id may (λ n small told. named (frame_at k f).generation f w low told is) t h size at small in
       let same : f ≡ w % 1024 = omega arith in

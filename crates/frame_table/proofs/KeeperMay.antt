@@ -1,9 +1,9 @@
 -- Whatever the table is, a step of the keeper that the core allows keeps the table's rule.
-use Rattle.std.proofs.Common.{◌≡◌, ℕ, zero, suc, ◌+◌, ◌<◌, ◌≢◌, List, [], ◌∷◌, ◌++◌, replicate, map, set, get_or, Some, refl, ap, sym, subst, ◌∙◌, ⊎_elim}
+use Rattle.std.proofs.Common.{◌≡◌, ℕ, zero, suc, ◌<◌, ◌≢◌, List, [], ◌∷◌, ◌++◌, replicate, set, get_or, Some, refl, ap, sym, subst, ◌∙◌, ⊎_elim}
 use Rattle.std.proofs.lemmas.List.{map-set}
 use mathlib.Core.Option.{some}
 use lib.ListN.{get_elem?}
-use Rattle.atomic_table.specs.Table.{keeps, stepped, Allows, Act, Valid, carried_after}
+use Rattle.atomic_table.specs.Table.{keeps, Allows}
 use Rattle.atomic_table.proofs.Lists.{at_set, at_longer}
 use Rattle.ksm_base.specs.declared.shape.Shape.{Shape}
 use Rattle.ksm_base.specs.Values.{frames_of}
@@ -39,14 +39,16 @@ keeper_step_is s e rule may =
     record { found = half.0.0; next = half.0.1; steps = half.1; word = one.1; words = one.0; shape = half.4; seats = half.3; ledger = half.2; told = one.2 }
 
 -- of a seat that is not the keeper's, what is told does not speak of the keeper
-pub still_tied : (sh : Shape) (h g : History) (tally tally' : Tally) (j : ℕ) (v : View) → ((q : ℕ) → log_of q g.trace ≡ log_of q h.trace) → j ≢ 0 → Tied sh h tally j v → Tied sh g tally' j v
+pub still_tied : (sh : Shape) (h g : History) (tally tally' : Tally) (j : ℕ) (v : View) → ((q : ℕ) → log_of q g.trace ≡ log_of q h.trace) → j ≢ 0
+    → Tied sh h tally j v → Tied sh g tally' j v
 still_tied sh h g tally tally' zero v same ne tied = absurd (ne refl)
 still_tied sh h g tally tally' (suc q) (Reader sh' phase log) same ne tied = (tied.0, tied.1 ∙ sym (same q))
 still_tied sh h g tally tally' (suc q) Spent same ne tied = tt
 still_tied sh h g tally tally' (suc q) (Keeper sh' ledger t log) same ne tied = absurd tied
 
 -- the words and views where the keeper's view alone changes
-pub keeper_changes : (sh : Shape) (h g : History) (tally tally' : Tally) (words words' : List ℕ) (views : List View) (v w : View) → ((q : ℕ) → log_of q g.trace ≡ log_of q h.trace) → g.state.seats ≡ h.state.seats → words' ≡ words_of g.state
+pub keeper_changes : (sh : Shape) (h g : History) (tally tally' : Tally) (words words' : List ℕ) (views : List View) (v w : View)
+    → ((q : ℕ) → log_of q g.trace ≡ log_of q h.trace) → g.state.seats ≡ h.state.seats → words' ≡ words_of g.state
     → phase_of w ≡ spent_phase → Tied sh g tally' 0 w → get_elem? views 0 ≡ some v → IsAfter sh h tally words views → IsAfter sh g tally' words' (set views 0 w)
 keeper_changes sh h g tally tally' words words' views v w logs seats same keeper told at is = record {
   words_are = same;
@@ -68,11 +70,14 @@ module _ (slots : ℕ) (e : KeeperStep) (f : ℕ → ℕ) (log : KeeperLog) wher
   abbrev Owes : Shape → Ledger → Tally → Tally → History → St → Type 0
   Owes sh k mine tally h t = let i : ℕ = keeper_word (frames_of sh) e in let n : ℕ = get_or t.words i 0 in
       (r : ℕ × core.State) × (core_steps.step h.state (event.Keeper e) ≡ Some r)
-      × IsAfter sh (made h r) tally (set t.words i (f n)) (all_views sh tally (set t.views 0 (Keeper sh (ledger_after sh k e (found_by e n)) mine (log ++ (e, found_by e n) ∷ [])))) × knows k e (found_by e n)
+      × IsAfter sh (made h r) tally (set t.words i (f n))
+      (all_views sh tally (set t.views 0 (Keeper sh (ledger_after sh k e (found_by e n)) mine (log ++ (e, found_by e n) ∷ [])))) × knows k e (found_by e n)
 
-  here : (h : History) (t : St) (mine tally : Tally) → core_rule.Rule h.state → IsAfter h.state.shape h tally t.words (all_views h.state.shape tally t.views) → MayStep h.state.shape (ledger_of h.state) e
+  here : (h : History) (t : St) (mine tally : Tally) → core_rule.Rule h.state → IsAfter h.state.shape h tally t.words (all_views h.state.shape tally t.views)
+      → MayStep h.state.shape (ledger_of h.state) e
       → ((n : ℕ) → n < 18446744073709551616 → knows (ledger_of h.state) e (found_by e n) → f n ≡ keeper_written (ledger_of h.state) e n)
-      → get_elem? t.views 0 ≡ some (Keeper h.state.shape (ledger_of h.state) mine log) → get_or t.words (keeper_word (frames_of h.state.shape) e) 0 < 18446744073709551616 → Owes h.state.shape (ledger_of h.state) mine tally h t
+      → get_elem? t.views 0 ≡ some (Keeper h.state.shape (ledger_of h.state) mine log)
+      → get_or t.words (keeper_word (frames_of h.state.shape) e) 0 < 18446744073709551616 → Owes h.state.shape (ledger_of h.state) mine tally h t
   here h t mine tally rule is may writes at small =
       let s = h.state in
       let sh = s.shape in
@@ -108,8 +113,10 @@ module _ (slots : ℕ) (e : KeeperStep) (f : ℕ → ℕ) (log : KeeperLog) wher
       let i : ℕ = keeper_word (frames_of sh) e in
       let n : ℕ = get_or t.words i 0 in
       let w : View = Keeper sh (ledger_after sh k e (found_by e n)) tally (log ++ (e, found_by e n) ∷ []) in
-      let owes = subst (λ (x : Shape × Ledger). IsAfter x.0 past h.tally t.words (all_views x.0 h.tally t.views) → MayStep x.0 x.1 e → ((n : ℕ) → n < 18446744073709551616 → knows x.1 e (found_by e n) → f n ≡ keeper_written x.1 e n)
-      → get_elem? t.views 0 ≡ some (Keeper x.0 x.1 tally log) → get_or t.words (keeper_word (frames_of x.0) e) 0 < 18446744073709551616 → Owes x.0 x.1 tally h.tally past t) (λ j. (run_shape sh h.shape h.events j, sym (seen sh t h 0 v at).1 j))
+      let owes = subst (λ (x : Shape × Ledger). IsAfter x.0 past h.tally t.words (all_views x.0 h.tally t.views) → MayStep x.0 x.1 e
+      → ((n : ℕ) → n < 18446744073709551616 → knows x.1 e (found_by e n) → f n ≡ keeper_written x.1 e n)
+      → get_elem? t.views 0 ≡ some (Keeper x.0 x.1 tally log) → get_or t.words (keeper_word (frames_of x.0) e) 0 < 18446744073709551616
+      → Owes x.0 x.1 tally h.tally past t) (λ j. (run_shape sh h.shape h.events j, sym (seen sh t h 0 v at).1 j))
       (here past t tally h.tally (run_sound sh h.shape h.events).rule) h.after may writes at small in (
         w,
         keeps,
@@ -118,7 +125,8 @@ module _ (slots : ℕ) (e : KeeperStep) (f : ℕ → ℕ) (log : KeeperLog) wher
           shape = h.shape;
           events = h.events ++ event.Keeper e ∷ [];
           tally = h.tally;
-          after = subst (λ (x : History). IsAfter sh x h.tally (set t.words i (f n)) (all_views sh h.tally (set t.views 0 w))) (sym (run_step sh h.events (event.Keeper e) owes.0 owes.1)) owes.2;
+          after = subst (λ (x : History). IsAfter sh x h.tally (set t.words i (f n)) (all_views sh h.tally (set t.views 0 w)))
+              (sym (run_step sh h.events (event.Keeper e) owes.0 owes.1)) owes.2;
           out = out_same t.views 0 v w at refl ∙ h.out;
         },
         (refl, owes.3),

@@ -1,5 +1,5 @@
 -- A step of the keeper changes one word of the table, and is told what it found there.
-use Rattle.std.proofs.Common.{◌≡◌, ℕ, zero, suc, ◌+◌, ◌-◌, ◌*◌, ◌<◌, ◌≤◌, ◌==◌, ◌&&◌, ◌||◌, Bool, true, false, not, cond, eqb, nat_le, nat_lt, List, [], ◌∷◌, ◌++◌, map, length, set, get_or, slice_get, slice_set, Option, Some, None, option_and_then, refl, ap, sym, subst, ◌∙◌, arith}
+use Rattle.std.proofs.Common.{◌≡◌, ℕ, zero, suc, ◌+◌, ◌-◌, ◌<◌, ◌≤◌, ◌==◌, ◌&&◌, ◌||◌, Bool, true, false, not, cond, eqb, nat_lt, List, [], ◌∷◌, ◌++◌, map, length, set, get_or, slice_get, slice_set, Option, Some, None, option_and_then, refl, ap, sym, subst, ◌∙◌, arith}
 use Rattle.std.proofs.lemmas.List.{set-get_or}
 use Rattle.std.proofs.lemmas.Bool.{ltb-true, eqb-true, eqb-false, eq-eqb, ne_eqb}
 use Rattle.std.proofs.lemmas.Option.{same_Some, slice_get_within, get_or_from_slice_get}
@@ -10,14 +10,15 @@ use Rattle.frame_core.specs.declared.event.KeeperStep.{KeeperStep}
 use Rattle.frame_core.specs.declared.event.KeeperStep.TheVariants.{Reap, Put, Raise, Open, Add, Sub, Publish, Withdraw, Freeze, Word}
 use Rattle.frame_core.specs.declared.frame.Frame.{Frame}
 use Rattle.frame_core.specs.declared.frame.Kind.{Kind}
-use Rattle.frame_core.specs.declared.frame.Kind.TheVariants.{Free, Filling, Private, Stable, Dying, Retired}
+use Rattle.frame_core.specs.declared.frame.Kind.TheVariants.{Free, Filling, Private, Stable, Dying}
 use Rattle.frame_core.specs.declared.ledger.Ledger.{Ledger}
 use Rattle.frame_core.specs.declared.ledger.Note.{Note}
 use Rattle.frame_core.specs.declared.seat.Life.{Life}
 use Rattle.frame_core.specs.State.{State, place_word, frame_word, word_of}
 use Rattle.frame_core.specs.Words.{words_of, frame_words, frame_offset}
-use Rattle.frame_core.specs.Ledger.{ledger_of, note_of, frame_at}
-use Rattle.frame_core.specs.KeeperSteps.{keeper_step, at_frame, only_if, reap_step, put_step, raise_step, open_step, add_step, sub_step, freeze_step, word_step, publish_step, withdraw_step, is_live, is_free, is_filling, is_private, is_stable, is_dying}
+use Rattle.frame_core.specs.Notes.{note_of, noted, reaped}
+use Rattle.frame_core.specs.Ledger.{ledger_of, frame_at}
+use Rattle.frame_core.specs.KeeperSteps.{keeper_step, at_frame, only_if, reap_step, put_step, raise_step, open_step, add_step, sub_step, freeze_step, word_step, publish_step, withdraw_step, is_live, is_filling, is_private, is_stable, is_dying}
 use Rattle.frame_core.specs.Rule.{Rule, CountFits, GenerationFits}
 use Rattle.frame_core.proofs.Parts.{parts, map_parts, then_parts, only_if_parts}
 use Rattle.frame_core.proofs.Notes.{note_at}
@@ -45,7 +46,9 @@ module _ (s : State) (rule : Rule s) where
   abbrev Leaves : KeeperStep → ℕ → Frame → ℕ × Frame → Type 0
   Leaves e j fr r = let n : ℕ = get_or (frame_words fr) j 0 in (set (frame_words fr) j (keeper_written k e n) ≡ frame_words r.1) × (found_by e n ≡ r.0) × knows k e r.0
 
-  at_one_frame : (e : KeeperStep) (f j : ℕ) (change : Frame → Option (ℕ × Frame)) → ((fr : Frame) (r : ℕ × Frame) → slice_get s.frames f ≡ Some fr → change fr ≡ Some r → j < FRAME_WORDS) → keeper_word (frames_of s.shape) e ≡ frame_offset (frames_of s.shape) f + j
+  at_one_frame : (e : KeeperStep) (f j : ℕ) (change : Frame → Option (ℕ × Frame))
+      → ((fr : Frame) (r : ℕ × Frame) → slice_get s.frames f ≡ Some fr → change fr ≡ Some r → j < FRAME_WORDS)
+      → keeper_word (frames_of s.shape) e ≡ frame_offset (frames_of s.shape) f + j
       → ((fr : Frame) (r : ℕ × Frame) → frame_at k f ≡ note_of fr → slice_get s.frames f ≡ Some fr → change fr ≡ Some r → Leaves e j fr r)
       → (r : ℕ × State) → at_frame s f change ≡ Some r → OneWord s e r
   at_one_frame e f j change below word leaves r is =
@@ -62,7 +65,11 @@ module _ (s : State) (rule : Rule s) where
       ))
 
   reaps : (f : ℕ) (fr : Frame) (r : ℕ × Frame) → reap_step s.shape.last_generation fr ≡ Some r → Leaves (Reap f) 0 fr r
-  reaps f fr r is = subst (Leaves (Reap f) 0 fr) (reap_made s.shape.last_generation fr r is).1 (refl, refl, tt)
+  reaps f fr r is = subst (Leaves (Reap f) 0 fr) (reap_made s.shape.last_generation fr r is).1 (same (fr.count == 0), refl, tt)
+    where
+      same : (b : Bool) → frame_words fr ≡ frame_words (cond b (noted fr.count (reaped s.shape.last_generation (note_of fr))) fr)
+      same true = refl
+      same false = refl
 
   puts : (f i w : ℕ) (fr : Frame) (r : ℕ × Frame) → put_step i w fr ≡ Some r → Leaves (Put f i w) (1 + i) fr r
   puts f i w fr r is =
@@ -78,14 +85,19 @@ module _ (s : State) (rule : Rule s) where
   empty_word f fr note none = (λ i. frame_word fr.generation (none i)) ∙ ap (λ (x : Note). frame_word x.generation 0) (sym note)
 
   life_low : (f : ℕ) (fr : Frame) → slice_get s.frames f ≡ Some fr → fr.generation ≤ 1099511627776
-  life_low f fr at = omega (arith, generation_at_most s.shape.last_generation fr.kind fr.generation (rule.frames f fr at).generation, rule.shape.generation_high)
+  life_low f fr at = omega (
+    arith,
+    generation_at_most s.shape.last_generation fr.kind fr.generation (rule.frames f fr at).generation,
+    rule.shape.generation_high,
+  )
 
   raises : (f : ℕ) (fr : Frame) (r : ℕ × Frame) → frame_at k f ≡ note_of fr → slice_get s.frames f ≡ Some fr → raise_step fr ≡ Some r → Leaves (Raise f) 0 fr r
   raises f fr r note at is =
       let m = raise_made fr r is in
       let frame = rule.frames f fr at in
       let none : CountFits Free fr.count = subst (λ (x : Kind). CountFits x fr.count) m.0 frame.count in
-      let low : GenerationFits s.shape.last_generation Free fr.generation = subst (λ (x : Kind). GenerationFits s.shape.last_generation x fr.generation) m.0 frame.generation in
+      let low : GenerationFits s.shape.last_generation Free fr.generation =
+      subst (λ (x : Kind). GenerationFits s.shape.last_generation x fr.generation) m.0 frame.generation in
       subst (Leaves (Raise f) 0 fr) m.1 (
         reworded fr (record fr { generation = fr.generation + 1; kind = Filling }) (word_of fr + 65536) (omega arith) refl,
         refl,
@@ -103,15 +115,19 @@ module _ (s : State) (rule : Rule s) where
       )
 
   adds : (f : ℕ) (fr : Frame) (r : ℕ × Frame) → slice_get s.frames f ≡ Some fr → add_step fr ≡ Some r → Leaves (Add f) 0 fr r
-  adds f fr r at is = subst (Leaves (Add f) 0 fr) (add_made fr r is).2
-      (reworded fr (record fr { count = fr.count + 1; base = fr.base + 1 }) (word_of fr + 1) (omega arith) refl, refl, omega (arith, count_at_most s f fr at rule, life_low f fr at))
+  adds f fr r at is = subst (Leaves (Add f) 0 fr) (add_made fr r is).2 (
+    reworded fr (record fr { count = fr.count + 1; base = fr.base + 1 }) (word_of fr + 1) (omega arith) refl,
+    refl,
+    omega (arith, count_at_most s f fr at rule, life_low f fr at),
+  )
 
   subs : (f : ℕ) (fr : Frame) (r : ℕ × Frame) → slice_get s.frames f ≡ Some fr → sub_step fr ≡ Some r → Leaves (Sub f) 0 fr r
   subs f fr r at is =
       let m = sub_made fr r is in
       let some : 1 ≤ fr.count = omega (arith, m.0, (rule.frames f fr at).counted) in
       subst (Leaves (Sub f) 0 fr) m.1 (
-        reworded fr (record fr { count = fr.count - 1; base = fr.base - 1; kind = cond (fr.base == 1) Dying fr.kind }) (word_of fr - 1) (omega (arith, some)) refl,
+        reworded fr (record fr { count = fr.count - 1; base = fr.base - 1; kind = cond (fr.base == 1) Dying fr.kind }) (word_of fr - 1)
+            (omega (arith, some)) refl,
         refl,
         subst (λ (n : ℕ). 1 ≤ n) (sym (count_packed fr.generation fr.count (omega (arith, count_at_most s f fr at rule)))) some,
       )
@@ -121,19 +137,24 @@ module _ (s : State) (rule : Rule s) where
   same_life g c d true is = eq-eqb (frame_word g c) (frame_word g d) (ap (frame_word g) (eqb-true c d is))
   same_life g c d false is = ne_eqb (frame_word g c) (frame_word g d) (λ e. eqb-false c d is (omega (arith, e)))
 
-  frozen : (b : Bool) (fr : Frame) → set (frame_words fr) 0 (cond b (frame_word fr.generation 0) (word_of fr)) ≡ frame_words (cond b (record fr { count = 0; base = 0; kind = Dying }) fr)
+  frozen : (b : Bool) (fr : Frame) → set (frame_words fr) 0 (cond b (frame_word fr.generation 0) (word_of fr))
+      ≡ frame_words (cond b (record fr { count = 0; base = 0; kind = Dying }) fr)
   frozen true fr = refl
   frozen false fr = refl
 
-  freezes : (f : ℕ) (fr : Frame) (r : ℕ × Frame) → frame_at k f ≡ note_of fr → slice_get s.frames f ≡ Some fr → freeze_step fr ≡ Some r → Leaves (Freeze f) 0 fr r
+  freezes : (f : ℕ) (fr : Frame) (r : ℕ × Frame) → frame_at k f ≡ note_of fr → slice_get s.frames f ≡ Some fr → freeze_step fr ≡ Some r
+      → Leaves (Freeze f) 0 fr r
   freezes f fr r note at is =
       let b : Bool = fr.count == fr.base in
       subst (Leaves (Freeze f) 0 fr) (freeze_made fr r is).1 (
         ap (λ (x : Note). set (frame_words fr) 0 (cond (word_of fr == frame_word x.generation x.base) (frame_word x.generation 0) (word_of fr))) note
-            ∙ (ap (λ (c : Bool). set (frame_words fr) 0 (cond c (frame_word fr.generation 0) (word_of fr))) (same_life fr.generation fr.count fr.base b refl) ∙ frozen b fr),
+            ∙ (ap (λ (c : Bool). set (frame_words fr) 0 (cond c (frame_word fr.generation 0) (word_of fr))) (same_life fr.generation fr.count fr.base b refl)
+            ∙ frozen b fr),
         refl,
-        (life_packed fr.generation fr.count (omega (arith, count_at_most s f fr at rule)) ∙ ap (λ (x : Note). x.generation) (sym note),
-            subst (λ (x : Note). x.base ≤ 1024) (sym note) (base_at_most fr.kind fr.base (rule.frames f fr at).base)),
+        (
+          life_packed fr.generation fr.count (omega (arith, count_at_most s f fr at rule)) ∙ ap (λ (x : Note). x.generation) (sym note),
+          subst (λ (x : Note). x.base ≤ 1024) (sym note) (base_at_most fr.kind fr.base (rule.frames f fr at).base),
+        ),
       )
 
   if_parts : (b : Bool) (o : Option (ℕ × Frame)) (r : ℕ × Frame) → cond b o None ≡ Some r → o ≡ Some r
@@ -181,7 +202,8 @@ module _ (s : State) (rule : Rule s) where
       let life : Option Life = Some (record { frame = f; generation = fr.generation }) in
       let within : p < frames_of s.shape = omega (arith, slice_get_within s.places p P.0 P.1, rule.place_count) in
       subst (OneWord s (Publish p f)) last.1 (
-        ap (λ (x : Note). set (words_of s) p (place_word (Some record { frame = f; generation = x.generation }))) (note_at s f fr Q.1) ∙ (words_set_place s rule p life within
+        ap (λ (x : Note). set (words_of s) p (place_word (Some record { frame = f; generation = x.generation }))) (note_at s f fr Q.1)
+            ∙ (words_set_place s rule p life within
             ∙ ap (λ (w : List ℕ). map place_word (slice_set s.places p life) ++ w) (sym (flat_same frame_words s.frames f fr (record fr { kind = Stable }) Q.1 refl))),
         refl,
         subst (λ (x : Note). x.generation ≤ 1099511627776) (sym (note_at s f fr Q.1))
@@ -197,8 +219,10 @@ module _ (s : State) (rule : Rule s) where
   -- ---------------------------------------------------------------- any of them
 
   pub keeper_words : (e : KeeperStep) (r : ℕ × State) → keeper_step s e ≡ Some r → OneWord s e r
-  keeper_words (Reap f) r is = at_one_frame (Reap f) f 0 (reap_step s.shape.last_generation) (λ fr x at gives. omega arith) refl (λ fr x note at. reaps f fr x) r is
-  keeper_words (Put f i w) r is = at_one_frame (Put f i w) f (1 + i) (put_step i w) (λ fr x at gives. put_below f i w fr x at gives) refl (λ fr x note at. puts f i w fr x) r is
+  keeper_words (Reap f) r is = at_one_frame (Reap f) f 0 (reap_step s.shape.last_generation) (λ fr x at gives. omega arith) refl
+      (λ fr x note at. reaps f fr x) r is
+  keeper_words (Put f i w) r is = at_one_frame (Put f i w) f (1 + i) (put_step i w) (λ fr x at gives. put_below f i w fr x at gives) refl
+      (λ fr x note at. puts f i w fr x) r is
   keeper_words (Raise f) r is = at_one_frame (Raise f) f 0 raise_step (λ fr x at gives. omega arith) refl (λ fr x note at. raises f fr x note at) r is
   keeper_words (Open f) r is = at_one_frame (Open f) f 0 open_step (λ fr x at gives. omega arith) refl (λ fr x note at. opens f fr x note at) r is
   keeper_words (Add f) r is = at_one_frame (Add f) f 0 add_step (λ fr x at gives. omega arith) refl (λ fr x note at. adds f fr x at) r is
@@ -206,4 +230,5 @@ module _ (s : State) (rule : Rule s) where
   keeper_words (Publish p f) r is = publishes p f r is
   keeper_words (Withdraw p) r is = withdraws p r is
   keeper_words (Freeze f) r is = at_one_frame (Freeze f) f 0 freeze_step (λ fr x at gives. omega arith) refl (λ fr x note at. freezes f fr x note at) r is
-  keeper_words (Word f i) r is = at_one_frame (Word f i) f (1 + i) (word_step i) (λ fr x at gives. word_below f i fr x at gives) refl (λ fr x note at. reads f i fr x note) r is
+  keeper_words (Word f i) r is = at_one_frame (Word f i) f (1 + i) (word_step i) (λ fr x at gives. word_below f i fr x at gives) refl
+      (λ fr x note at. reads f i fr x note) r is

@@ -1,5 +1,5 @@
 -- The steps of a lookup, put together.
-use Rattle.std.proofs.Common.{◌≡◌, ℕ, ◌+◌, ◌*◌, ◌/◌, ◌%◌, ◌==◌, ◌&&◌, not, ◌<◌, ◌≤◌, eqb, nat_le, Bool, true, false, cond, Some, None, List, [], ◌∷◌, ◌++◌, length, sym, refl, ap, ◌∙◌, subst, arith, ne_eqb, eq-eqb, append_assoc, length-append}
+use Rattle.std.proofs.Common.{◌≡◌, ℕ, ◌+◌, ◌<◌, ◌≤◌, eqb, nat_le, Bool, true, false, cond, Some, None, List, [], ◌∷◌, ◌++◌, length, sym, refl, ap, ◌∙◌, subst, arith, ne_eqb, eq-eqb, append_assoc, length-append}
 use Rattle.std.proofs.lemmas.Bool.{lt-leb, eqb-false}
 use Rattle.std.proofs.lemmas.Option.{same_Some}
 use Rattle.ksm_base.specs.declared.shape.Shape.{Shape}
@@ -22,7 +22,8 @@ is_in sh phase log m e = e ∙ ap (sits sh phase) (sym (ap log_in e))
 
 -- after i rounds that were lost
 abbrev pub Tries : Shape → Log → ℕ → ℕ → ℕ → Sat → Type 0
-Tries sh log p w i m = (xs : List (ℕ × ℕ)) × AllLost (life_at w).generation xs × (length xs ≡ i) × (m ≡ sits sh (cond (nat_le sh.tries i) Idle (Placed (aim_of p w) i)) (log ++ opening p w xs))
+Tries sh log p w i m = (xs : List (ℕ × ℕ)) × AllLost (life_at w).generation xs × (length xs ≡ i)
+    × (m ≡ sits sh (cond (nat_le sh.tries i) Idle (Placed (aim_of p w) i)) (log ++ opening p w xs))
 
 module _ (sh : Shape) (p w : ℕ) where
   abbrev at : ℕ → Phase
@@ -62,16 +63,22 @@ module _ (sh : Shape) (p w : ℕ) where
         let n = t.2 in
         let xs : List (ℕ × ℕ) = t.0 ++ (c, d) ∷ [] in
         let phase : Phase = cond (nat_le sh.tries (i + 1)) Idle (at (i + 1)) in
-        let same : so_far ++ (LoadFrame, c) ∷ (Exchange, d) ∷ [] ≡ log ++ opening p w xs = append_assoc log (opening p w t.0) _ ∙ ap (λ (l : Log). log ++ (LoadPlace p, w) ∷ l) (sym (rounds_more t.0 c d)) in
+        let same : so_far ++ (LoadFrame, c) ∷ (Exchange, d) ∷ [] ≡ log ++ opening p w xs = append_assoc log (opening p w t.0) _
+        ∙ ap (λ (l : Log). log ++ (LoadPlace p, w) ∷ l) (sym (rounds_more t.0 c d)) in
         (xs, lost_more (life_at w).generation t.0 c d t.1 g.0 g.1, omega (arith, length-append t.0 ((c, d) ∷ [])), g.2 ∙ ap (sits sh phase) same)
 
 -- a frame word of the life named, with a reference, was loaded
-pub counted : (sh : Shape) (aim : Aim) (failures n : ℕ) (me m : Sat) → IsIn sh (Placed aim failures) me → Steps LoadFrame me n m → IsAlive aim.life.generation n → (n ≡ frame_word aim.life.generation (count_in n)) × IsIn sh (Counted aim failures (count_in n)) m
+pub counted : (sh : Shape) (aim : Aim) (failures n : ℕ) (me m : Sat) → IsIn sh (Placed aim failures) me → Steps LoadFrame me n m
+    → IsAlive aim.life.generation n → (n ≡ frame_word aim.life.generation (count_in n)) × IsIn sh (Counted aim failures (count_in n)) m
 counted sh aim failures n me m is s alive =
     let log : Log = log_in me ++ (LoadFrame, n) ∷ [] in
     let test : is_alive aim.life.generation n ≡ true = rw (ne_eqb (count_in n) 0 alive.0, eq-eqb (life_in n) aim.life.generation alive.1) refl in
-    let e : m ≡ sits sh (cond (is_alive aim.life.generation n) (Counted aim failures (count_in n)) Idle) log = s ∙ ap (λ (x : Sat). (reader_after LoadFrame x.0 n, x.1)) is in
-    (omega (arith, alive.1), is_in sh (Counted aim failures (count_in n)) log m (e ∙ ap (λ (b : Bool). sits sh (cond b (Counted aim failures (count_in n)) Idle) log) test))
+    let e : m ≡ sits sh (cond (is_alive aim.life.generation n) (Counted aim failures (count_in n)) Idle) log = s
+    ∙ ap (λ (x : Sat). (reader_after LoadFrame x.0 n, x.1)) is in (
+      omega (arith, alive.1),
+      is_in sh (Counted aim failures (count_in n)) log m
+          (e ∙ ap (λ (b : Bool). sits sh (cond b (Counted aim failures (count_in n)) Idle) log) test),
+    )
 
 -- what the word of a place names, where it names something
 pub named : (w : ℕ) (life : Life) (b : Bool) → eqb w 0 ≡ b → cond b None (Some (life_at w)) ≡ Some life → ¬ (w ≡ 0) × (life_at w ≡ life)

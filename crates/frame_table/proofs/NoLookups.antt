@@ -1,5 +1,5 @@
 -- Logs that are no lookup.
-use Rattle.std.proofs.Common.{◌≡◌, ℕ, ◌+◌, ◌*◌, ◌/◌, ◌%◌, ◌<◌, List, [], ◌∷◌, ◌++◌, map, length, refl, ap, sym, ◌∙◌, arith}
+use Rattle.std.proofs.Common.{◌≡◌, ℕ, ◌<◌, List, [], ◌∷◌, ◌++◌, map, length, ap, sym, ◌∙◌, arith}
 use Rattle.frame_core.specs.declared.event.ReaderStep.{ReaderStep}
 use Rattle.frame_core.specs.declared.event.ReaderStep.TheVariants.{LoadFrame, Exchange}
 use Rattle.frame_core.specs.State.{life_at, count_in, life_in}
@@ -22,7 +22,8 @@ module _ (word : ℕ) where
   abbrev loaded : List (ℕ × ℕ) → ℕ → Log
   loaded xs last = opening 1 word xs ++ (LoadFrame, last) ∷ []
 
-  pub zero_after_all_tries : (xs : List (ℕ × ℕ)) (last : ℕ) → length xs < 2 → ¬ (named ∷ loads 3 2 ∷ finds 3 1 ∷ loads 3 1 ∷ finds 3 2 ∷ loads 3 0 ∷ [] ≡ loaded xs last)
+  pub zero_after_all_tries : (xs : List (ℕ × ℕ)) (last : ℕ) → length xs < 2
+      → ¬ (named ∷ loads 3 2 ∷ finds 3 1 ∷ loads 3 1 ∷ finds 3 2 ∷ loads 3 0 ∷ [] ≡ loaded xs last)
   zero_after_all_tries [] last few e = cc (e)
   zero_after_all_tries (x ∷ []) last few e = cc (e)
   zero_after_all_tries (x ∷ y ∷ xs) last few e = omega arith
@@ -36,7 +37,8 @@ module _ (word : ℕ) where
   zero_referenced (x ∷ xs) last none e = cc (e)
 
   pub old_same_life : (xs : List (ℕ × ℕ)) (last : ℕ) → ¬ (life_in last ≡ life) → ¬ (named ∷ loads 3 2 ∷ [] ≡ loaded xs last)
-  old_same_life [] last another e = let w : 196610 ≡ last = cc (words e) in let p : 3072 ≡ word = cc (words e) in another (sym (ap life_in w) ∙ ap (λ (n : ℕ). (life_at n).generation) p)
+  old_same_life [] last another e = let w : 196610 ≡ last = cc (words e) in let p : 3072 ≡ word = cc (words e) in
+      another (sym (ap life_in w) ∙ ap (λ (n : ℕ). (life_at n).generation) p)
   old_same_life (x ∷ xs) last another e = cc (e)
 
   pub old_unreferenced : (xs : List (ℕ × ℕ)) (last : ℕ) → ¬ (count_in last ≡ 0) → ¬ (named ∷ loads 4 0 ∷ [] ≡ loaded xs last)
@@ -63,7 +65,8 @@ module _ (word : ℕ) where
   busy_one_try (x ∷ []) two e = cc (two)
   busy_one_try (x ∷ y ∷ xs) two e = cc (e)
 
-  pub busy_three_tries : (xs : List (ℕ × ℕ)) → length xs ≡ 2 → ¬ (named ∷ loads 3 2 ∷ finds 3 1 ∷ loads 3 1 ∷ finds 3 2 ∷ loads 3 2 ∷ finds 3 1 ∷ [] ≡ opening 1 word xs)
+  pub busy_three_tries : (xs : List (ℕ × ℕ)) → length xs ≡ 2
+      → ¬ (named ∷ loads 3 2 ∷ finds 3 1 ∷ loads 3 1 ∷ finds 3 2 ∷ loads 3 2 ∷ finds 3 1 ∷ [] ≡ opening 1 word xs)
   busy_three_tries [] two e = cc (two)
   busy_three_tries (x ∷ []) two e = cc (two)
   busy_three_tries (x ∷ y ∷ []) two e = cc (e)
@@ -97,7 +100,8 @@ module _ (word : ℕ) where
   held_from_zero (x ∷ []) last alive e = cc (e)
   held_from_zero (x ∷ y ∷ xs) last alive e = cc (e)
 
-  pub held_after_all_tries : (xs : List (ℕ × ℕ)) (last : ℕ) → length xs < 2 → ¬ (named ∷ loads 3 2 ∷ finds 3 1 ∷ loads 3 1 ∷ finds 3 2 ∷ loads 3 2 ∷ finds 3 2 ∷ [] ≡ held xs last)
+  pub held_after_all_tries : (xs : List (ℕ × ℕ)) (last : ℕ) → length xs < 2
+      → ¬ (named ∷ loads 3 2 ∷ finds 3 1 ∷ loads 3 1 ∷ finds 3 2 ∷ loads 3 2 ∷ finds 3 2 ∷ [] ≡ held xs last)
   held_after_all_tries [] last few e = cc (e)
   held_after_all_tries (x ∷ []) last few e = cc (e)
   held_after_all_tries (x ∷ y ∷ xs) last few e = omega arith

@@ -1,16 +1,14 @@
 -- The words and the views of a table that was just opened.
-use Rattle.std.proofs.Common.{◌≡◌, ℕ, zero, suc, ◌+◌, ◌*◌, List, [], ◌∷◌, ◌++◌, replicate, cond, None, sym, refl, ap, ◌∙◌, subst, arith}
+use Rattle.std.proofs.Common.{◌≡◌, ℕ, zero, suc, ◌+◌, ◌*◌, List, [], ◌∷◌, ◌++◌, replicate, None, sym, refl, ap, ◌∙◌, subst, arith}
 use Rattle.std.proofs.lemmas.List.{replicate-append-replicate}
-use Rattle.std.proofs.lemmas.List.Folds.{sum_by-replicate}
 use Rattle.std.proofs.Math.Nat.{suc-mul}
 use Rattle.std.specs.List.{flat_map}
-use mathlib.Core.Option.{some, some-injective, some-ne-none}
+use mathlib.Core.Option.{some, some-injective}
 use lib.ListN.{get_elem?}
 use Rattle.atomic_table.specs.Table as table
 use Rattle.frame_core.specs.declared.frame.TheConstants.{FRAME_WORDS}
 use Rattle.ksm_base.specs.declared.shape.Shape.{Shape}
 use Rattle.ksm_base.specs.Values.{IsShape, frames_of}
-use Rattle.frame_core.specs.declared.ledger.Ledger.{Ledger}
 use Rattle.frame_core.specs.declared.seat.Phase.{Phase}
 use Rattle.frame_core.specs.declared.seat.Phase.TheVariants.{Idle, Spent as spent_phase}
 use Rattle.frame_core.specs.State.{opening, new_frame, place_word}
@@ -36,14 +34,17 @@ opening_words : (sh : Shape) → words_of (opening sh) ≡ replicate (frames_of 
 opening_words sh =
     let n : ℕ = frames_of sh in
     let e : n + n * (FRAME_WORDS) ≡ n * (1 + FRAME_WORDS) = omega arith in
-    (λ i. map_replicate place_word n None i ++ flat_zeros frame_words (FRAME_WORDS) n new_frame refl i) ∙ (replicate-append-replicate n (n * (FRAME_WORDS)) 0 ∙ ap (λ (k : ℕ). replicate k 0) e)
+    (λ i. map_replicate place_word n None i ++ flat_zeros frame_words (FRAME_WORDS) n new_frame refl i)
+    ∙ (replicate-append-replicate n (n * (FRAME_WORDS)) 0 ∙ ap (λ (k : ℕ). replicate k 0) e)
 
 abbrev opened : Shape → History
 opened sh = record { state = opening sh; trace = [] }
 
-first_tied : (sh : Shape) (j : ℕ) (v : View) → get_elem? (all_views sh (tally_of sh.passes 0) (first_view sh ∷ [])) j ≡ some v → Tied sh (opened sh) (tally_of sh.passes 0) j v
+first_tied : (sh : Shape) (j : ℕ) (v : View) → get_elem? (all_views sh (tally_of sh.passes 0) (first_view sh ∷ [])) j ≡ some v
+    → Tied sh (opened sh) (tally_of sh.passes 0) j v
 first_tied sh zero v at = subst (Tied sh (opened sh) (tally_of sh.passes 0) 0) (some-injective (first_view sh) v at) (refl, sym (opening_ledger sh), refl, refl)
-first_tied sh (suc j) v at = subst (Tied sh (opened sh) (tally_of sh.passes 0) (suc j)) (in_replicate sh.passes j (Reader sh Idle []) v (got (replicate sh.passes (Reader sh Idle [])) j v at)) (refl, refl)
+first_tied sh (suc j) v at = subst (Tied sh (opened sh) (tally_of sh.passes 0) (suc j))
+    (in_replicate sh.passes j (Reader sh Idle []) v (got (replicate sh.passes (Reader sh Idle [])) j v at)) (refl, refl)
 
 -- a table whose words are all 0, with the keeper alone, is in the opening state of the core
 pub may_begin : (sh : Shape) → IsShape sh → Holds sh (table.opening (replicate (frames_of sh * (1 + FRAME_WORDS)) 0) [] (first_view sh))
@@ -51,7 +52,12 @@ may_begin sh fits = record {
   shape = fits;
   events = [];
   tally = tally_of sh.passes 0;
-  after = record { words_are = sym (opening_words sh); phases_are = ap (λ (l : List Phase). spent_phase ∷ l) (map_replicate phase_of sh.passes (Reader sh Idle [])); tied = first_tied sh };
+  after = record {
+    words_are = sym (opening_words sh);
+    phases_are =
+        ap (λ (l : List Phase). spent_phase ∷ l) (map_replicate phase_of sh.passes (Reader sh Idle []));
+    tied = first_tied sh;
+  };
   out = refl;
 }
 

@@ -22,7 +22,8 @@ module _ (slots id : ℕ) (sh : Shape) (log : Log) where
       let r = reader_may slots (LoadPlace p) Idle log (λ n. n) sh id below (λ n small told. refl) t h size at small in
       (r.0, r.1, r.2, r.3, λ o is. subst (λ (k : ℕ). Makes (LoadPlace k) (sits sh Idle log) (get_or t.words p 0) (r.0, carried_after [] r.1)) is r.4)
 
-  pub may_load_frame : (aim : Aim) (failures : ℕ) → MayLoad loads_frame slots id sh (frame_word_at (frames_of sh) aim.life.frame) (sits sh (Placed aim failures) log)
+  pub may_load_frame : (aim : Aim) (failures : ℕ)
+      → MayLoad loads_frame slots id sh (frame_word_at (frames_of sh) aim.life.frame) (sits sh (Placed aim failures) log)
   may_load_frame aim failures t h size at small =
       let r = reader_may slots LoadFrame (Placed aim failures) log (λ n. n) sh id tt (λ n small told. refl) t h size at small in (r.0, r.1, r.2, r.3, λ is. r.4)
 
@@ -30,15 +31,21 @@ module _ (slots id : ℕ) (sh : Shape) (log : Log) where
   exchanged n c true is = let e : n ≡ c = eqb-true n c is in ap (λ (m : ℕ). m + 1) (sym e)
   exchanged n c false is = refl
 
-  pub may_exchange : (aim : Aim) (failures count loaded : ℕ) → loaded ≡ frame_word aim.life.generation count → MayExchange exchanges slots id loaded (loaded + 1) sh (frame_word_at (frames_of sh) aim.life.frame) (sits sh (Counted aim failures count) log)
-  may_exchange aim failures count loaded is = subst (λ (w : ℕ). MayExchange exchanges slots id w (w + 1) sh (frame_word_at (frames_of sh) aim.life.frame) (sits sh (Counted aim failures count) log)) (sym is) (λ t h size at small.
+  pub may_exchange : (aim : Aim) (failures count loaded : ℕ) → loaded ≡ frame_word aim.life.generation count
+      → MayExchange exchanges slots id loaded (loaded + 1) sh (frame_word_at (frames_of sh) aim.life.frame) (sits sh (Counted aim failures count) log)
+  may_exchange aim failures count loaded is =
+      subst (λ (w : ℕ). MayExchange exchanges slots id w (w + 1) sh (frame_word_at (frames_of sh) aim.life.frame) (sits sh (Counted aim failures count) log))
+      (sym is) (λ t h size at small.
       let w : ℕ = frame_word aim.life.generation count in
-      let r = reader_may slots Exchange (Counted aim failures count) log (λ n. either (eqb n w) (w + 1) n) sh id tt (λ n small told. exchanged n w (eqb n w) refl) t h size at small in
+      let r = reader_may slots Exchange (Counted aim failures count) log (λ n. either (eqb n w) (w + 1) n) sh id tt
+      (λ n small told. exchanged n w (eqb n w) refl) t h size at small in
       (r.0, r.1, r.2, r.3, λ is. r.4))
 
-  pub may_leave : (aim : Aim) (known : List (Option ℕ)) → MaySubOne leaves slots id sh (frame_word_at (frames_of sh) aim.life.frame) (sits sh (Held aim known) log)
+  pub may_leave : (aim : Aim) (known : List (Option ℕ))
+      → MaySubOne leaves slots id sh (frame_word_at (frames_of sh) aim.life.frame) (sits sh (Held aim known) log)
   may_leave aim known t h size at small =
-      let r = reader_may slots Leave (Held aim known) log (λ n. (n + (2 ^ 64 - 1)) % 2 ^ 64) sh id tt (λ n small told. lowered n told small) t h size at small in (r.0, r.1, r.2, r.3, λ is. r.4)
+      let r = reader_may slots Leave (Held aim known) log (λ n. (n + (2 ^ 64 - 1)) % 2 ^ 64) sh id tt
+      (λ n small told. lowered n told small) t h size at small in (r.0, r.1, r.2, r.3, λ is. r.4)
 
   -- which word of the page a word of the table is
   pub may_load_word : (aim : Aim) (known : List (Option ℕ)) (i : ℕ) → i < PAGE_WORDS → MayLoad loads_word slots id sh (content_at (frames_of sh) aim.life.frame i) (sits sh (Held aim known) log)

@@ -1,5 +1,5 @@
 -- A step of a reader, as its seat sees it, is the core's step of the same name.
-use Rattle.std.proofs.Common.{◌≡◌, ℕ, suc, ◌+◌, ◌-◌, ◌*◌, ◌/◌, ◌%◌, ◌<◌, ◌≤◌, ◌==◌, ◌&&◌, not, Bool, true, false, cond, eqb, nat_le, List, ◌∷◌, replicate, map, length, set, get_or, slice_get, slice_set, Option, Some, None, option_map, option_and_then, subst, refl, ap, sym, ◌∙◌, arith, eq-eqb, ne_eqb}
+use Rattle.std.proofs.Common.{◌≡◌, ℕ, suc, ◌+◌, ◌-◌, ◌*◌, ◌/◌, ◌%◌, ◌<◌, ◌≤◌, ◌==◌, ◌&&◌, not, Bool, true, false, cond, eqb, nat_le, List, ◌∷◌, replicate, map, set, get_or, slice_get, slice_set, Option, Some, None, option_map, option_and_then, subst, refl, ap, sym, ◌∙◌, arith, eq-eqb, ne_eqb}
 use Rattle.std.proofs.lemmas.List.{length-map, set-get_or, get_or_append_left}
 use Rattle.std.proofs.lemmas.Option.{same_Some, slice_get-map, slice_get_within, get_or_from_slice_get}
 use Rattle.std.proofs.Math.Nat.{mul-le-mul_right}
@@ -14,7 +14,7 @@ use Rattle.frame_core.specs.declared.seat.Life.{Life}
 use Rattle.frame_core.specs.declared.seat.Aim.{Aim}
 use Rattle.frame_core.specs.declared.seat.Phase.{Phase}
 use Rattle.frame_core.specs.declared.seat.Phase.TheVariants.{Idle, Placed, Counted, Held}
-use Rattle.frame_core.specs.State.{State, place_word, frame_word, word_of as packed, count_in, life_in}
+use Rattle.frame_core.specs.State.{State, place_word, word_of as packed, count_in, life_in}
 use Rattle.frame_core.specs.Words.{words_of, frame_words, frame_word_at, content_at}
 use Rattle.frame_core.specs.ReaderSteps.{reader_step, at_seat, aimed_at, is_alive, is_still, load_place_step, load_frame_step, load_word_step, exchange_step, leave_step}
 use Rattle.frame_core.specs.Rule.{Rule, is_on}
@@ -93,11 +93,16 @@ module _ (s : State) (rule : Rule s) (q : ℕ) where
       (ap (option_map (λ place. (place_word place, aimed_at p place))) here.1) (place_read p here.0 here.1) refl (aimed p here.0 here.1) (names_frame p here.0 here.1)
 
   -- the parts of the word of a frame that is there
-  parts_there : (f : ℕ) (fr : Frame) → slice_get s.frames f ≡ Some fr → (fr.count ≡ count_in (packed fr)) × (fr.generation ≡ life_in (packed fr)) × (fr.count ≤ 1040) × (packed fr < 144115188075855872)
+  parts_there : (f : ℕ) (fr : Frame) → slice_get s.frames f ≡ Some fr
+      → (fr.count ≡ count_in (packed fr)) × (fr.generation ≡ life_in (packed fr)) × (fr.count ≤ 1040) × (packed fr < 144115188075855872)
   parts_there f fr at =
       let most = count_at_most s f fr at rule in
-      let life = generation_at_most s.shape.last_generation fr.kind fr.generation (rule.frames f fr at).generation in
-      (sym (count_packed fr.generation fr.count (omega (arith, most))), sym (life_packed fr.generation fr.count (omega (arith, most))), most, omega (arith, most, life, rule.shape.generation_high))
+      let life = generation_at_most s.shape.last_generation fr.kind fr.generation (rule.frames f fr at).generation in (
+        sym (count_packed fr.generation fr.count (omega (arith, most))),
+        sym (life_packed fr.generation fr.count (omega (arith, most))),
+        most,
+        omega (arith, most, life, rule.shape.generation_high),
+      )
 
   loads_frame : (aim : Aim) (failures : ℕ) → slice_get s.seats q ≡ Some (Placed aim failures) → IsReaderStep s q LoadFrame (Placed aim failures)
   loads_frame aim failures at =
@@ -129,22 +134,30 @@ module _ (s : State) (rule : Rule s) (q : ℕ) where
   -- ---------------------------------------------------------------- steps that change a count
 
   -- the word of a frame becomes that of another with the same content
-  reworded : (f v : ℕ) (fr next : Frame) → slice_get s.frames f ≡ Some fr → v ≡ packed next → fr.content ≡ next.content → set (words_of s) (frame_word_at F f) v ≡ words_of (record s { frames = slice_set s.frames f next })
+  reworded : (f v : ℕ) (fr next : Frame) → slice_get s.frames f ≡ Some fr → v ≡ packed next → fr.content ≡ next.content
+      → set (words_of s) (frame_word_at F f) v ≡ words_of (record s { frames = slice_set s.frames f next })
   reworded f v fr next at is same = words_set s rule f 0 v fr next at (omega arith) (λ i. is i ∷ same i)
 
   -- the frames after an exchange that was made, or was not
   abbrev frames_if : Bool → ℕ → Frame → List Frame
   frames_if b f fr = cond b (slice_set s.frames f (record fr { count = fr.count + 1 })) s.frames
 
-  words_if : (b : Bool) (f : ℕ) (fr : Frame) → slice_get s.frames f ≡ Some fr → set (words_of s) (frame_word_at F f) (cond b (packed fr + 1) (packed fr)) ≡ words_of (record s { frames = frames_if b f fr })
+  words_if : (b : Bool) (f : ℕ) (fr : Frame) → slice_get s.frames f ≡ Some fr
+      → set (words_of s) (frame_word_at F f) (cond b (packed fr + 1) (packed fr)) ≡ words_of (record s { frames = frames_if b f fr })
   words_if true f fr at = reworded f (packed fr + 1) fr (record fr { count = fr.count + 1 }) at (omega arith) refl
-  words_if false f fr at = ap (λ (m : ℕ). set (words_of s) (frame_word_at F f) m) (sym (words_get s rule f 0 fr at (omega arith))) ∙ set-get_or (words_of s) (frame_word_at F f) 0
+  words_if false f fr at = ap (λ (m : ℕ). set (words_of s) (frame_word_at F f) m) (sym (words_get s rule f 0 fr at (omega arith)))
+      ∙ set-get_or (words_of s) (frame_word_at F f) 0
 
   abbrev build : ℕ × List Frame × Phase → ℕ × State
   build r = (r.0, record s { frames = r.1; seats = slice_set s.seats q r.2 })
 
   abbrev tried : Aim → ℕ → ℕ → Frame → ℕ × List Frame × Phase
-  tried aim failures count fr = (packed fr, frames_if (is_still aim.life.generation count fr) aim.life.frame fr, cond (is_still aim.life.generation count fr) (Held aim (replicate PAGE_WORDS None)) (cond (nat_le s.shape.tries (failures + 1)) Idle (Placed aim (failures + 1))))
+  tried aim failures count fr = (
+    packed fr,
+    frames_if (is_still aim.life.generation count fr) aim.life.frame fr,
+    cond (is_still aim.life.generation count fr) (Held aim (replicate PAGE_WORDS None))
+        (cond (nat_le s.shape.tries (failures + 1)) Idle (Placed aim (failures + 1))),
+  )
 
   exchanges : (aim : Aim) (failures count : ℕ) → slice_get s.seats q ≡ Some (Counted aim failures count) → IsReaderStep s q Exchange (Counted aim failures count)
   exchanges aim failures count at =
@@ -173,7 +186,8 @@ module _ (s : State) (rule : Rule s) (q : ℕ) where
       let here = get_inside s.frames f (rule.seats q (Held aim known) at).0.inside in
       let fr = here.0 in
       let some : 1 ≤ fr.count = omega (arith, (rule.frames f fr here.1).counted, count_one (is_on f) s.seats q (Held aim known) at (eq-eqb f f refl)) in
-      let made : reader_step s q Leave ≡ Some (build (released aim fr)) = ap (option_and_then (λ p. option_map build (leave_step s.frames p))) at ∙ ap (λ (o : Option Frame). option_map build (option_map (released aim) o)) here.1 in
+      let made : reader_step s q Leave ≡ Some (build (released aim fr)) = ap (option_and_then (λ p. option_map build (leave_step s.frames p))) at
+      ∙ ap (λ (o : Option Frame). option_map build (option_map (released aim) o)) here.1 in
       record {
         found = packed fr;
         next = (build (released aim fr)).1;

@@ -1,5 +1,5 @@
 -- The rule of the table says that it runs safely.
-use Rattle.std.proofs.Common.{◌≡◌, ◌≢◌, ℕ, suc, ◌+◌, ◌<◌, List, [], replicate, length, take, get_or, map, slice_get, Option, Some, ap, sym, ◌∙◌, subst, refl, arith}
+use Rattle.std.proofs.Common.{◌≡◌, ℕ, suc, ◌+◌, ◌<◌, List, [], replicate, length, take, get_or, slice_get, Option, Some, ap, sym, ◌∙◌, subst, arith}
 use mathlib.Core.Option.{some}
 use lib.ListN.{get_elem?}
 use Rattle.atomic_table.proofs.Lists.{at_longer}
@@ -42,7 +42,8 @@ held_unwritten Private held written = held
 held_unwritten Retired held written = held
 
 -- what a seat holds is not written
-not_written : (s : State) (q : ℕ) (aim : Aim) (known : List (Option ℕ)) → Rule s → slice_get s.seats q ≡ Some (Held aim known) → ¬ IsWritable (frame_at (ledger_of s) aim.life.frame).kind
+not_written : (s : State) (q : ℕ) (aim : Aim) (known : List (Option ℕ)) → Rule s → slice_get s.seats q ≡ Some (Held aim known)
+    → ¬ IsWritable (frame_at (ledger_of s) aim.life.frame).kind
 not_written s q aim known rule at =
     let held = rule.seats q (Held aim known) at in
     let fr = get_inside s.frames aim.life.frame held.0.inside in
@@ -50,15 +51,17 @@ not_written s q aim known rule at =
 
 -- the count of a frame, as the words have it
 count_is : (h : History) → Rule h.state → IsSafe h → (f : ℕ) → f < frames_of h.state.shape
-    → count_in (get_or (words_of h.state) (frame_word_at (frames_of h.state.shape) f) 0) ≡ (frame_at (ledger_of h.state) f).base + length (holders h.state.shape.passes f h.trace)
+    → count_in (get_or (words_of h.state) (frame_word_at (frames_of h.state.shape) f) 0)
+    ≡ (frame_at (ledger_of h.state) f).base + length (holders h.state.shape.passes f h.trace)
 count_is h rule safe f below =
     let fr = get_inside h.state.frames f (omega (arith, rule.frame_count)) in
     let most = count_at_most h.state f fr.0 fr.1 rule in
     ap count_in (words_get h.state rule f 0 fr.0 fr.1 (omega arith)) ∙ (count_packed fr.0.generation fr.0.count (omega (arith, most))
-        ∙ (safe.counted f fr.0 fr.1 ∙ ap (λ (n : Note). n.base + length (holders h.state.shape.passes f h.trace)) (sym (note_at h.state f fr.0 fr.1))))
+    ∙ (safe.counted f fr.0 fr.1 ∙ ap (λ (n : Note). n.base + length (holders h.state.shape.passes f h.trace)) (sym (note_at h.state f fr.0 fr.1))))
 
 -- how far a seat has come in the core
-seated : (sh : Shape) (t : St) (h : Holds sh t) (q : ℕ) (phase : Phase) (log : Log) → get_elem? t.views (suc q) ≡ some (Reader sh phase log) → slice_get (run_of sh h.events).state.seats q ≡ Some phase
+seated : (sh : Shape) (t : St) (h : Holds sh t) (q : ℕ) (phase : Phase) (log : Log) → get_elem? t.views (suc q) ≡ some (Reader sh phase log)
+    → slice_get (run_of sh h.events).state.seats q ≡ Some phase
 seated sh t h q phase log at =
     seat_there (all_views sh h.tally t.views) (run_of sh h.events).state.seats q (Reader sh phase log) h.after.phases_are
     (at_longer t.views (replicate h.tally.unmade (Reader sh Idle [])) (suc q) (Reader sh phase log) at)
@@ -75,8 +78,10 @@ runs_safely sh t h =
       given = run_given sh h.shape h.events;
       safe = λ n. run_safe sh h.shape (take n h.events);
       rightly = λ q aim known log at. safe.rightly q aim known (seated sh t h q (Held aim known) log at);
-      unwritten = λ ledger tally kept q aim known log keeper at. subst (λ (k : Ledger). ¬ IsWritable (frame_at k aim.life.frame).kind) (sym (seen sh t h 0 _ keeper).1) (not_written past.state q aim known rule (seated sh t h q (Held aim known) log at));
+      unwritten = λ ledger tally kept q aim known log keeper at. subst (λ (k : Ledger). ¬ IsWritable (frame_at k aim.life.frame).kind)
+          (sym (seen sh t h 0 _ keeper).1) (not_written past.state q aim known rule (seated sh t h q (Held aim known) log at));
       counted = λ ledger tally log at f below. ap (λ (l : List ℕ). count_in (get_or l (frame_word_at (frames_of sh) f) 0)) h.after.words_are
-          ∙ subst (λ (x : Ledger × Shape). count_in (get_or (words_of past.state) (frame_word_at (frames_of x.1) f) 0) ≡ (frame_at x.0 f).base + length (holders x.1.passes f past.trace)) (λ i. (sym (seen sh t h 0 _ at).1 i, run_shape sh h.shape h.events i))
+          ∙ subst (λ (x : Ledger × Shape). count_in (get_or (words_of past.state) (frame_word_at (frames_of x.1) f) 0)
+          ≡ (frame_at x.0 f).base + length (holders x.1.passes f past.trace)) (λ i. (sym (seen sh t h 0 _ at).1 i, run_shape sh h.shape h.events i))
           (count_is past rule safe f (subst (λ (x : Shape). f < frames_of x) (sym (run_shape sh h.shape h.events)) below));
     }

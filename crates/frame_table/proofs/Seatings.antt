@@ -1,5 +1,5 @@
 -- The table's rule where a pass is made, where one is given back, and what it says at the end.
-use Rattle.std.proofs.Common.{◌≡◌, ℕ, zero, suc, ◌+◌, ◌-◌, ◌<◌, ◌≤◌, ◌≢◌, Bool, true, false, cond, eqb, List, [], ◌∷◌, ◌++◌, map, set, replicate, slice_get, count_by, Some, None, sym, refl, ap, ◌∙◌, subst, ⊎_elim, arith, append_assoc, append-nil}
+use Rattle.std.proofs.Common.{◌≡◌, ℕ, zero, suc, ◌+◌, ◌-◌, ◌<◌, ◌≤◌, ◌≢◌, Bool, true, false, cond, List, [], ◌∷◌, ◌++◌, map, set, replicate, slice_get, count_by, Some, None, sym, refl, ap, ◌∙◌, subst, ⊎_elim, arith, append_assoc, append-nil}
 use Rattle.std.proofs.lemmas.List.{map-set}
 use Rattle.std.proofs.lemmas.List.Sums.{sum_by-append, sum_by-cons}
 use Rattle.std.proofs.lemmas.Option.{get_or_from_slice_get}
@@ -49,10 +49,12 @@ module _ (sh : Shape) where
   one_idle_less (suc n) few = let e : suc n - 1 ≡ n = omega arith in ap (λ (m : ℕ). idle ∷ replicate m idle) e
 
   -- a pass that was given back is as one that is idle
-  spent_is_idle : (h : History) (tally : Tally) (words : List ℕ) (views : List View) (q : ℕ) (log : Log) → get_elem? views (suc q) ≡ some (Reader sh Idle log) → IsAfter sh h tally words views → IsAfter sh h tally words (set views (suc q) Spent)
+  spent_is_idle : (h : History) (tally : Tally) (words : List ℕ) (views : List View) (q : ℕ) (log : Log)
+      → get_elem? views (suc q) ≡ some (Reader sh Idle log) → IsAfter sh h tally words views → IsAfter sh h tally words (set views (suc q) Spent)
   spent_is_idle h tally words views q log at is = record {
     words_are = is.words_are;
-    phases_are = map-set phase_of views (suc q) Spent ∙ (set_again (map phase_of views) (suc q) Idle (at_map phase_of views (suc q) (Reader sh Idle log) at) ∙ is.phases_are);
+    phases_are = map-set phase_of views (suc q) Spent
+        ∙ (set_again (map phase_of views) (suc q) Idle (at_map phase_of views (suc q) (Reader sh Idle log) at) ∙ is.phases_are);
     tied = λ j v of. ⊎_elim (λ (k : (j ≡ suc q) × (Spent ≡ v)). subst (λ (x : ℕ × View). Tied sh h tally x.0 x.1) (λ i. (sym k.0 i, k.1 i)) tt)
         (λ (k : (j ≢ suc q) × (get_elem? views j ≡ some v)). is.tied j v k.1) (at_set views (suc q) j Spent v of);
   }
@@ -62,12 +64,15 @@ module _ (sh : Shape) (k : Ledger) (tally : Tally) (log : KeeperLog) where
   keeper = Keeper sh k tally log
 
   -- the keeper's view tells another tally, of as many passes that are still to be made
-  retold : (t : St) (tally' : Tally) (h : Holds sh t) → get_elem? t.views 0 ≡ some keeper → IsAfter sh (run_of sh h.events) tally' t.words (set (all_views sh tally t.views) 0 (Keeper sh k tally' log))
+  retold : (t : St) (tally' : Tally) (h : Holds sh t) → get_elem? t.views 0 ≡ some keeper
+      → IsAfter sh (run_of sh h.events) tally' t.words (set (all_views sh tally t.views) 0 (Keeper sh k tally' log))
   retold t tally' h at =
       let past = run_of sh h.events in
       let tied = seen sh t h 0 keeper at in
-      keeper_changes sh past past h.tally tally' t.words t.words (all_views sh tally t.views) keeper (Keeper sh k tally' log) (λ q. refl) refl h.after.words_are refl (refl, tied.1, refl, tied.3)
-      (at_longer t.views (replicate tally.unmade (Reader sh Idle [])) 0 keeper at) (subst (λ (x : Tally). IsAfter sh past h.tally t.words (all_views sh x t.views)) (sym tied.2) h.after)
+      keeper_changes sh past past h.tally tally' t.words t.words (all_views sh tally t.views) keeper (Keeper sh k tally' log)
+      (λ q. refl) refl h.after.words_are refl (refl, tied.1, refl, tied.3)
+      (at_longer t.views (replicate tally.unmade (Reader sh Idle [])) 0 keeper at)
+      (subst (λ (x : Tally). IsAfter sh past h.tally t.words (all_views sh x t.views)) (sym tied.2) h.after)
 
   passes_out : (t : St) (h : Holds sh t) → get_elem? t.views 0 ≡ some keeper → count_by is_out t.views ≡ tally.out
   passes_out t h at = h.out ∙ ap (λ (x : Tally). x.out) (sym (seen sh t h 0 keeper at).2)
@@ -81,7 +86,8 @@ module _ (sh : Shape) (k : Ledger) (tally : Tally) (log : KeeperLog) where
       let next : View = Keeper sh k tally' log in
       let views : List View = set t.views 0 next in
       let same : all_views sh tally' (views ++ idle sh ∷ []) ≡ set (all_views sh tally t.views) 0 next =
-      append_assoc views (idle sh ∷ []) (replicate (tally.unmade - 1) (idle sh)) ∙ (ap (λ (l : List View). views ++ l) (one_idle_less sh tally.unmade few) ∙ all_set sh tally t.views 0 keeper next at) in
+      append_assoc views (idle sh ∷ []) (replicate (tally.unmade - 1) (idle sh))
+      ∙ (ap (λ (l : List View). views ++ l) (one_idle_less sh tally.unmade few) ∙ all_set sh tally t.views 0 keeper next at) in
       record {
         shape = h.shape;
         events = h.events;
@@ -99,14 +105,21 @@ module _ (sh : Shape) (k : Ledger) (tally : Tally) (log : KeeperLog) where
       let next : View = Keeper sh k tally' log in
       let views : List View = set t.views 0 next in
       let past = run_of sh h.events in
-      let retold_all : IsAfter sh past tally' t.words (all_views sh tally' views) = subst (IsAfter sh past tally' t.words) (sym (all_set sh tally t.views 0 keeper next at)) (retold t tally' h at) in
+      let retold_all : IsAfter sh past tally' t.words (all_views sh tally' views) =
+      subst (IsAfter sh past tally' t.words) (sym (all_set sh tally t.views 0 keeper next at)) (retold t tally' h at) in
       let at_all = at_longer views (replicate tally.unmade (Reader sh Idle [])) (suc q) (Reader sh Idle mine) there in
       record {
         shape = h.shape;
         events = h.events;
         tally = tally';
-        after = subst (IsAfter sh past tally' t.words) (sym (all_set sh tally' views (suc q) (Reader sh Idle mine) Spent there)) (spent_is_idle sh past tally' t.words (all_views sh tally' views) q mine at_all retold_all);
-        out = omega (arith, count_set is_out views (suc q) (Reader sh Idle mine) Spent (got views (suc q) (Reader sh Idle mine) there), out_same t.views 0 keeper next at refl, passes_out t h at);
+        after = subst (IsAfter sh past tally' t.words) (sym (all_set sh tally' views (suc q) (Reader sh Idle mine) Spent there))
+            (spent_is_idle sh past tally' t.words (all_views sh tally' views) q mine at_all retold_all);
+        out = omega (
+          arith,
+          count_set is_out views (suc q) (Reader sh Idle mine) Spent (got views (suc q) (Reader sh Idle mine) there),
+          out_same t.views 0 keeper next at refl,
+          passes_out t h at,
+        );
       }
 
   pub may_give : (id other : ℕ) (mine : Log) → 0 < tally.out → Joins (Holds sh) id keeper other (Reader sh Idle mine) (one_less keeper (Reader sh Idle mine)) Spent
@@ -129,18 +142,28 @@ module _ (sh : Shape) (k : Ledger) (tally : Tally) (log : KeeperLog) where
   on_at_most_out : (f : ℕ) (views : List View) → count_by (is_on f) (map phase_of views) ≤ count_by is_out views
   on_at_most_out f [] = omega arith
   on_at_most_out f (v ∷ vs) =
-      omega (arith, sum_by-cons (λ (p : Phase). cond (is_on f p) 1 0) (phase_of v) (map phase_of vs), sum_by-cons (λ (x : View). cond (is_out x) 1 0) v vs, none_on f v, on_at_most_out f vs)
+      omega (
+        arith,
+        sum_by-cons (λ (p : Phase). cond (is_on f p) 1 0) (phase_of v) (map phase_of vs),
+        sum_by-cons (λ (x : View). cond (is_out x) 1 0) v vs,
+        none_on f v,
+        on_at_most_out f vs,
+      )
 
   ends_here : (s : core.State) → core_rule.Rule s → ((f : ℕ) → readers_on f s.seats ≡ 0) → Ends (ledger_of s) record { shape = s.shape; words = words_of s }
   ends_here s rule free =
       let there = λ (f : ℕ) (inside : f < frames_of s.shape). get_inside s.frames f (omega (arith, rule.frame_count)) in
-      let low = λ (f : ℕ) (fr : Frame) (at : slice_get s.frames f ≡ Some fr). let most = count_at_most s f fr at rule in let below : fr.count < 65536 = omega (arith, most) in below in
+      let low = λ (f : ℕ) (fr : Frame) (at : slice_get s.frames f ≡ Some fr). let most = count_at_most s f fr at rule in let below : fr.count < 65536 =
+      omega (arith, most) in below in
       let place = λ (p : ℕ) (inside : p < frames_of s.shape). get_inside s.places p (omega (arith, rule.place_count)) in
       record {
-        counts = λ f inside. let fr = there f inside in let c = (rule.frames f fr.0 fr.1).counted in let same : fr.0.count ≡ fr.0.base = omega (arith, c, free f) in
-            ap count_in (words_get s rule f 0 fr.0 fr.1 (omega arith)) ∙ (count_packed fr.0.generation fr.0.count (low f fr.0 fr.1) ∙ (same ∙ ap (λ (n : Note). n.base) (sym (note_at s f fr.0 fr.1))));
+        counts = λ f inside. let fr = there f inside in let c = (rule.frames f fr.0 fr.1).counted in let same : fr.0.count ≡ fr.0.base =
+            omega (arith, c, free f) in
+            ap count_in (words_get s rule f 0 fr.0 fr.1 (omega arith))
+            ∙ (count_packed fr.0.generation fr.0.count (low f fr.0 fr.1) ∙ (same ∙ ap (λ (n : Note). n.base) (sym (note_at s f fr.0 fr.1))));
         generations = λ f inside. let fr = there f inside in
-            ap life_in (words_get s rule f 0 fr.0 fr.1 (omega arith)) ∙ (life_packed fr.0.generation fr.0.count (low f fr.0 fr.1) ∙ ap (λ (n : Note). n.generation) (sym (note_at s f fr.0 fr.1)));
+            ap life_in (words_get s rule f 0 fr.0 fr.1 (omega arith))
+            ∙ (life_packed fr.0.generation fr.0.count (low f fr.0 fr.1) ∙ ap (λ (n : Note). n.generation) (sym (note_at s f fr.0 fr.1)));
         places = λ p inside. let o = place p inside in place_read s rule 0 p o.0 o.1 ∙ ap place_word (sym (get_or_from_slice_get s.places p o.0 None o.1));
       }
 
@@ -155,6 +178,8 @@ module _ (sh : Shape) (k : Ledger) (tally : Tally) (log : KeeperLog) where
       let views : all_views sh h.tally t.views ≡ t.views = ap (λ (n : ℕ). t.views ++ replicate n (Reader sh Idle [])) unmade ∙ append-nil t.views in
       let phases : map phase_of t.views ≡ spent_phase ∷ s.seats = ap (map phase_of) (sym views) ∙ h.after.phases_are in
       let free = λ (f : ℕ). let some = sum_by-cons (λ (p : Phase). cond (is_on f p) 1 0) spent_phase s.seats in
-      let most : count_by (is_on f) (spent_phase ∷ s.seats) ≤ count_by is_out t.views = subst (λ (l : List Phase). count_by (is_on f) l ≤ count_by is_out t.views) phases (on_at_most_out f t.views) in
+      let most : count_by (is_on f) (spent_phase ∷ s.seats) ≤ count_by is_out t.views =
+      subst (λ (l : List Phase). count_by (is_on f) l ≤ count_by is_out t.views) phases (on_at_most_out f t.views) in
       let none : readers_on f s.seats ≡ 0 = omega (arith, some, most, passes_out t h final.1.1, none_out) in none in
-      subst (λ (x : Ledger × Shape × List ℕ). Ends x.0 record { shape = x.1; words = x.2 }) (λ i. (sym tied.1 i, run_shape sh h.shape h.events i, (sym h.after.words_are ∙ final.2) i)) (ends_here s (run_sound sh h.shape h.events).rule free)
+      subst (λ (x : Ledger × Shape × List ℕ). Ends x.0 record { shape = x.1; words = x.2 })
+      (λ i. (sym tied.1 i, run_shape sh h.shape h.events i, (sym h.after.words_are ∙ final.2) i)) (ends_here s (run_sound sh h.shape h.events).rule free)

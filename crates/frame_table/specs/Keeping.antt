@@ -1,5 +1,5 @@
 -- What each step of the keeper tells its seat (own).
-use Rattle.std.specs.Prelude.{◌≡◌, ℕ, Some, ◌+◌, ◌-◌, ◌*◌, ◌%◌, ◌<◌, ◌≤◌, ◌==◌, cond, [], ◌∷◌, ◌++◌, slice_index}
+use Rattle.std.specs.Prelude.{◌≡◌, ℕ, Some, ◌+◌, ◌-◌, ◌%◌, ◌<◌, ◌≤◌, ◌==◌, cond, [], ◌∷◌, ◌++◌, slice_index}
 use Rattle.atomic_table.specs.Table.{Step}
 use Rattle.ksm_base.specs.declared.page.TheConstants.{PAGE_WORDS}
 use Rattle.ksm_base.specs.Values.{frames_of}

@@ -38,17 +38,20 @@ abbrev pub IsVacant : ℕ → Log → Type 0
 IsVacant place log = log ≡ (LoadPlace place, 0) ∷ []
 
 abbrev pub IsZero : Shape → ℕ → Log → Type 0
-IsZero sh place log = (word : ℕ) × (xs : List (ℕ × ℕ)) × (last : ℕ) × GoesOn sh word xs × (count_in last ≡ 0) × (log ≡ opening place word xs ++ (LoadFrame, last) ∷ [])
+IsZero sh place log = (word : ℕ) × (xs : List (ℕ × ℕ)) × (last : ℕ) × GoesOn sh word xs × (count_in last ≡ 0)
+    × (log ≡ opening place word xs ++ (LoadFrame, last) ∷ [])
 
 abbrev pub IsOld : Shape → ℕ → Log → Type 0
 IsOld sh place log = (word : ℕ) × (xs : List (ℕ × ℕ)) × (last : ℕ) × GoesOn sh word xs × ¬ (count_in last ≡ 0) × ¬ (life_in last ≡ (life_at word).generation)
     × (log ≡ opening place word xs ++ (LoadFrame, last) ∷ [])
 
 abbrev pub IsBusy : Shape → ℕ → Log → Type 0
-IsBusy sh place log = (word : ℕ) × (xs : List (ℕ × ℕ)) × ¬ (word ≡ 0) × AllLost (life_at word).generation xs × (length xs ≡ sh.tries) × (log ≡ opening place word xs)
+IsBusy sh place log = (word : ℕ) × (xs : List (ℕ × ℕ)) × ¬ (word ≡ 0) × AllLost (life_at word).generation xs × (length xs ≡ sh.tries)
+    × (log ≡ opening place word xs)
 
 abbrev pub IsFound : Shape → ℕ → ℕ → ℕ → Log → Type 0
-IsFound sh place frame generation log = (word : ℕ) × (xs : List (ℕ × ℕ)) × (last : ℕ) × GoesOn sh word xs × IsAlive generation last × (frame ≡ (life_at word).frame) × (generation ≡ (life_at word).generation)
+IsFound sh place frame generation log = (word : ℕ) × (xs : List (ℕ × ℕ)) × (last : ℕ) × GoesOn sh word xs × IsAlive generation last
+    × (frame ≡ (life_at word).frame) × (generation ≡ (life_at word).generation)
     × (log ≡ opening place word xs ++ (LoadFrame, last) ∷ (Exchange, last) ∷ [])
 
 -- the log is longer by a part that meets P

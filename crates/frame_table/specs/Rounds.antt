@@ -1,5 +1,5 @@
 -- One round of a lookup (own).
-use Rattle.std.specs.Prelude.{◌≡◌, ℕ, ◌+◌, nat_le, cond, [], ◌∷◌, ◌++◌}
+use Rattle.std.specs.Prelude.{◌≡◌, ◌+◌, nat_le, cond, [], ◌∷◌, ◌++◌}
 use Rattle.frame_core.specs.declared.seat.Phase.TheVariants.{Idle, Placed, Held}
 use Rattle.frame_core.specs.declared.event.ReaderStep.TheVariants.{LoadFrame, Exchange}
 use Rattle.frame_core.specs.State.{count_in, life_in}
@@ -15,6 +15,9 @@ use Rattle.frame_table.specs.Views.{Sat, sits}
 abbrev pub GoesRound : View → Round → Sat → Type 0
 GoesRound (Reader sh (Placed aim t) log) (Zero w) m = (count_in w ≡ 0) × (m ≡ sits sh Idle (log ++ (LoadFrame, w) ∷ []))
 GoesRound (Reader sh (Placed aim t) log) (Old w) m = ¬ (count_in w ≡ 0) × ¬ (life_in w ≡ aim.life.generation) × (m ≡ sits sh Idle (log ++ (LoadFrame, w) ∷ []))
-GoesRound (Reader sh (Placed aim t) log) (Lost w d) m = IsAlive aim.life.generation w × ¬ (d ≡ w) × (m ≡ sits sh (cond (nat_le sh.tries (t + 1)) Idle (Placed aim (t + 1))) (log ++ (LoadFrame, w) ∷ (Exchange, d) ∷ []))
-GoesRound (Reader sh (Placed aim t) log) (Won w) m = IsAlive aim.life.generation w × (m ≡ sits sh (Held aim nothing_known) (log ++ (LoadFrame, w) ∷ (Exchange, w) ∷ []))
+GoesRound (Reader sh (Placed aim t) log) (Lost w d) m =
+    IsAlive aim.life.generation w × ¬ (d ≡ w)
+    × (m ≡ sits sh (cond (nat_le sh.tries (t + 1)) Idle (Placed aim (t + 1))) (log ++ (LoadFrame, w) ∷ (Exchange, d) ∷ []))
+GoesRound (Reader sh (Placed aim t) log) (Won w) m =
+    IsAlive aim.life.generation w × (m ≡ sits sh (Held aim nothing_known) (log ++ (LoadFrame, w) ∷ (Exchange, w) ∷ []))
 GoesRound _ _ m = ⊥

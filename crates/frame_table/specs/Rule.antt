@@ -1,4 +1,5 @@
--- The rule of the table, true between any two steps of any threads: there are events after which the words are the core's, and each seat knows how far it has come there and logs just its own part of their trace (own).
+-- The rule of the table, true between any two steps of any threads: there are events after which the words are the core's, and each seat knows how far it
+-- has come there and logs just its own part of their trace (own).
 use Rattle.std.specs.Prelude.{◌≡◌, ℕ, zero, suc, Bool, true, false, List, [], ◌∷◌, ◌++◌, map, replicate, count_by}
 use mathlib.Core.Option.{some}
 use lib.ListN.{get_elem?}
@@ -24,7 +25,8 @@ is_out _ = false
 abbrev pub all_views : Shape → Tally → List View → List View
 all_views sh tally views = views ++ replicate tally.unmade (Reader sh Idle [])
 
--- what the view of a seat tells of its steps: the keeper has the seat 0, and the reader on the core's seat q has the seat q + 1; of a pass that was given back nothing is told
+-- what the view of a seat tells of its steps: the keeper has the seat 0, and the reader on the core's seat q has the seat q + 1; of a pass that was given
+-- back nothing is told
 abbrev pub Tied : Shape → History → Tally → ℕ → View → Type 0
 Tied sh h tally zero (Keeper sh' ledger tally' log) = (sh' ≡ sh) × (ledger ≡ ledger_of h.state) × (tally' ≡ tally) × (log ≡ keeper_log_of h.trace)
 Tied sh h tally (suc q) (Reader sh' phase log) = (sh' ≡ sh) × (log ≡ log_of q h.trace)

@@ -66,7 +66,8 @@ module _ (sh : Shape) where
   abbrev pub seat_after : ReaderStep → Phase → ℕ → Phase
   seat_after (LoadPlace p) Idle n = cond (n == 0) Idle (Placed (aim_of p n) 0)
   seat_after LoadFrame (Placed aim failures) n = cond (is_alive aim.life.generation n) (Counted aim failures (count_in n)) Idle
-  seat_after Exchange (Counted aim failures count) n = cond (n == frame_word aim.life.generation count) (Held aim nothing_known) (cond (nat_le sh.tries (failures + 1)) Idle (Placed aim (failures + 1)))
+  seat_after Exchange (Counted aim failures count) n =
+      cond (n == frame_word aim.life.generation count) (Held aim nothing_known) (cond (nat_le sh.tries (failures + 1)) Idle (Placed aim (failures + 1)))
   seat_after Leave phase n = Idle
   seat_after (LoadWord i) (Held aim known) n = Held aim (slice_set known i (Some n))
   seat_after _ phase n = phase

@@ -184,7 +184,13 @@ impl FrameTable {
     }
 
     // Exchanges the frame word for one without a reference, if it is the one with the keeper's alone.
-    pub(crate) fn freeze_at(&self, seat: &mut Seat<(), View>, frame: u32, alone: u64, none: u64) -> u64
+    pub(crate) fn freeze_at(
+        &self,
+        seat: &mut Seat<(), View>,
+        frame: u32,
+        alone: u64,
+        none: u64,
+    ) -> u64
         requires own { seat.old.table_id ≡ self.now.id }
         requires keeper { IsKeeper self.now.shape seat.old.me }
         requires may { MayStep self.now.shape (ledger_in seat.old.me) (keeper.Freeze frame) }

@@ -1,4 +1,4 @@
-use Rattle.std.proofs.Common.{◌≡◌, ap, sym, ◌∙◌, subst}
+use Rattle.std.proofs.Common.{ap, sym, ◌∙◌}
 use Rattle.frame_core.specs.State.{count_in}
 use Rattle.frame_table.proofs.Looks.{counted}
 use Rattle.frame_table.proofs.pass.try_round.Goals as goal
@@ -7,5 +7,9 @@ pub exchange-found-requires-clause-phase : goal.exchange-found-requires-clause-p
 exchange-found-requires-clause-phase c =
     let at = c.requires.phase in
     let n = c.load_frame-loaded.result in
-    let r = counted c.args.table.now.shape at.0 at.1 n c.args.seat.now.me c.load_frame-loaded.new.seat.me at.3 c.load_frame-loaded.ensures.step.0 ((λ e. c.if-word-eq0.false (c.unpack-word.ensures.count ∙ e)), sym c.unpack-word.ensures.life ∙ (c.if-word-life.false ∙ sym (ap (λ l. l.generation) at.2))) in
+    let r = counted c.args.table.now.shape at.0 at.1 n c.args.seat.now.me c.load_frame-loaded.new.seat.me at.3 c.load_frame-loaded.ensures.step.0 (
+      (λ e. c.if-word-eq0.false (c.unpack-word.ensures.count ∙ e)),
+      sym c.unpack-word.ensures.life
+          ∙ (c.if-word-life.false ∙ sym (ap (λ l. l.generation) at.2)),
+    ) in
     (at.0, at.1, count_in n, ap (λ l. l.frame) at.2, r.0, r.1)

@@ -1,5 +1,4 @@
-use Rattle.std.proofs.Common.{◌≡◌, ◌<◌, [], ◌∷◌, refl, arith}
-use Rattle.frame_core.specs.State.{frame_word}
+use Rattle.std.proofs.Common.{[], ◌∷◌, refl, arith}
 use Rattle.frame_table.proofs.NoLookups.{old_same_life, old_unreferenced, old_exchanged, old_tried_there}
 use Rattle.frame_table.proofs.worked.lookups_of_an_old_life.Goals as goal
 

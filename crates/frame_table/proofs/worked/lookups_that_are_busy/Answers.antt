@@ -1,4 +1,4 @@
-use Rattle.std.proofs.Common.{◌≡◌, [], ◌∷◌, refl, arith}
+use Rattle.std.proofs.Common.{[], ◌∷◌, refl, arith}
 use Rattle.frame_table.proofs.NoLookups.{busy_one_try, busy_three_tries, busy_no_loss, busy_from_zero}
 use Rattle.frame_table.proofs.worked.lookups_that_are_busy.Goals as goal
 

@@ -1,4 +1,4 @@
-use Rattle.std.proofs.Common.{◌≡◌, ◌<◌, [], ◌∷◌, refl, arith}
+use Rattle.std.proofs.Common.{[], ◌∷◌, refl, arith}
 use Rattle.frame_table.proofs.NoLookups.{held_another_life, held_another_frame, held_uncompared, held_lost, held_from_zero, held_after_all_tries, held_not_exchanged}
 use Rattle.frame_table.proofs.worked.lookups_that_hold.Goals as goal
 

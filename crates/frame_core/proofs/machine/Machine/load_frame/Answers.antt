@@ -7,5 +7,6 @@ use Rattle.frame_core.proofs.machine.Machine.load_frame.Goals as goal
 pub returns : goal.returns
 returns c =
     let s = state_of c.args.self.now in
-    seat_performed s c.args.seat (load_frame_step s.frames) (λ t. at_seat t c.args.seat (load_frame_step t.frames)) c.in-Some.phase _ _ _ refl (sym c.in-Some.ensures)
+    seat_performed s c.args.seat (load_frame_step s.frames) (λ t. at_seat t c.args.seat (load_frame_step t.frames)) c.in-Some.phase _ _ _ refl
+    (sym c.in-Some.ensures)
     (rw c.as_slice.ensures.value at c.load_frame-step.ensures) c.set_seat.ensures

@@ -6,5 +6,9 @@ use Rattle.frame_table.proofs.table.FrameTable.open_at.Goals as goal
 
 pub fetch_add-requires : goal.fetch_add-requires
 fetch_add-requires c =
-    let key : c.self.inside.table.shared.key ≡ c.args.self.now.shape = c.self.invariant.0 ∙ ap (λ n. n.shape) c.self.view_is in
-    (search rules, search rules, turned (MayAdd opens _ _ 1) _ _ _ _ _ _ key c.frame_word-word.ensures.at c.requires.keeper (may_open _ _ _ _ _ _ c.args.frame c.requires.may))
+    let key : c.self.inside.table.shared.key ≡ c.args.self.now.shape = c.self.invariant.0 ∙ ap (λ n. n.shape) c.self.view_is in (
+      search rules,
+      search rules,
+      turned (MayAdd opens _ _ 1) _ _ _ _ _ _ key c.frame_word-word.ensures.at c.requires.keeper
+          (may_open _ _ _ _ _ _ c.args.frame c.requires.may),
+    )

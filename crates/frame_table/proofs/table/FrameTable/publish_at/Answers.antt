@@ -16,6 +16,7 @@ store-requires c =
 -- the name tells the frame in its lowest bits
 pub returns-clause-step : goal.returns-clause-step
 returns-clause-step c =
-    let few : frames_of c.args.self.now.shape ≤ 1024 = frames_at_most c.args.self.now.shape (subst IsShape (ap (λ n. n.shape) c.self.view_is) c.self.invariant.3) in
+    let few : frames_of c.args.self.now.shape ≤ 1024 =
+    frames_at_most c.args.self.now.shape (subst IsShape (ap (λ n. n.shape) c.self.view_is) c.self.invariant.3) in
     let same : c.args.name % 1024 ≡ c.args.frame = omega (arith, few, c.requires.may.1, c.requires.name) in
     subst (λ (f : ℕ). Keeps (Publish c.args.place f) c.args.seat.now.me 0 c.store.new.seat.me) same (c.store.ensures.2 c.args.place refl)
