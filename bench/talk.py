@@ -2,9 +2,13 @@
 
 import os
 import subprocess
+import threading
 
 TOP = os.path.dirname(os.path.dirname(os.path.abspath(__file__)))
 PROGRAM = os.path.join(TOP, "crates", "ksm_tool", "out", "ksm_tool")
+
+
+PLAIN = os.path.join(TOP, "bench", "plain", "target", "release", "plain")
 
 
 def build():
@@ -13,12 +17,18 @@ def build():
     subprocess.run(words, stdin=subprocess.DEVNULL, check=True)
 
 
+def build_plain():
+    """Builds the program of the same language in plain Rust, which ksmbook is compared with."""
+    subprocess.run(["cargo", "build", "--quiet", "--release", "--offline"],
+                   cwd=os.path.join(TOP, "bench", "plain"), check=True)
+
+
 class Talk:
     """A running program: a line is sent, and its reply is read before the next one is sent."""
 
-    def __init__(self, *options, **more):
+    def __init__(self, *options, program=PROGRAM, **more):
         pipe = subprocess.PIPE
-        self.process = subprocess.Popen([PROGRAM, *options], stdin=pipe, stdout=pipe, stderr=pipe,
+        self.process = subprocess.Popen([program, *options], stdin=pipe, stdout=pipe, stderr=pipe,
                                         bufsize=0, **more)
         self.replies = os.fdopen(os.dup(self.process.stdout.fileno()), "rb")
 
@@ -29,6 +39,16 @@ class Talk:
         except BrokenPipeError:
             return None
         return self.replies.readline().decode().rstrip("\n") or None
+
+    def ask_all(self, lines):
+        """Sends the lines, each of which has a reply, while the replies are read. Tells the last reply."""
+        text = "".join(f"{line}\n" for line in lines).encode()
+        sender = threading.Thread(target=self.process.stdin.write, args=(text,))
+        sender.start()
+        for _ in lines:
+            last = self.replies.readline()
+        sender.join()
+        return last.decode().rstrip("\n")
 
     def end(self):
         """Ends the input: the status, what is left of the output, and standard error."""

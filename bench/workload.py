@@ -1,10 +1,20 @@
 """Writes scripts for measuring: pages on four nodes of 256 frames, the same script each time."""
 
+import os
 import random
+import re
+
+import talk
 
 NODES = 4
 OPTIONS = ["--nodes", str(NODES), "--frames", "256"]
 PAGES = NODES * 256
+
+
+def page_words():
+    """The words of a page, from where ksmbook has them."""
+    with open(os.path.join(talk.TOP, "crates", "ksm_base", "src", "page.rt"), encoding="utf-8") as source:
+        return int(re.search(r"^pub const PAGE_WORDS: usize = (\d+);", source.read(), re.MULTILINE)[1])
 
 
 class Script:
@@ -30,6 +40,13 @@ class Script:
 
     def store(self, number, content):
         self.add(f"put {number % NODES} {number // NODES} {content:02x}")
+
+    def store_words(self, number, words):
+        """Stores so many words at random, hardly two alike."""
+        self.add(f"put {number % NODES} {number // NODES} {self.numbers.getrandbits(64 * words):0{16 * words}x}")
+
+    def read(self, number):
+        self.add(f"get {number % NODES} {number // NODES}")
 
     def drop(self, number):
         self.add(f"drop {number % NODES} {number // NODES}")
@@ -90,4 +107,79 @@ def write_settled(file, pages, is_enough):
     script.add("stat")
     while not is_enough(script):
         script.scan(100_000)
+    return script
+
+
+def write_stores(file, pages, is_enough):
+    """Stores and reads in equal parts, on pages of their own."""
+    script = Script(file, pages)
+    for number in range(pages):
+        script.register(number, number % 256)
+    while not is_enough(script):
+        script.store(script.any_page(), script.numbers.randrange(256))
+        script.read(script.any_page())
+    return script
+
+
+def write_full_stores(file, pages, is_enough):
+    """The same with every digit of a page written."""
+    script = Script(file, pages)
+    words = page_words()
+    for number in range(pages):
+        script.register(number, number % 256)
+    while not is_enough(script):
+        script.store_words(script.any_page(), words)
+        script.read(script.any_page())
+    return script
+
+
+def write_counting(file, pages, is_enough):
+    """Three lines of `stat` for each store, among pages merged in chains, and two passes now and then."""
+    script = Script(file, pages)
+    script.add("set max_page_sharing 4")
+    script.add("set run 1")
+    for number in range(pages):
+        script.register(number, script.numbers.randrange(64))
+    script.two_passes()
+    while not is_enough(script):
+        for _ in range(256):
+            script.store(script.any_page(), script.numbers.randrange(64))
+            for _ in range(3):
+                script.add("stat")
+        script.two_passes()
+        script.add("prune")
+    return script
+
+
+def write_lookups(file, pages, is_enough):
+    """Lookups of places that merged pages share, a few of them empty, each read and left."""
+    script = Script(file, pages)
+    script.add("set max_page_sharing 2")
+    script.add("set run 1")
+    for number in range(pages):
+        script.register(number, number // 4)
+    script.two_passes()
+    while not is_enough(script):
+        reader, place = script.numbers.randrange(2), script.numbers.randrange(pages * 17 // 32)
+        if script.numbers.randrange(5) == 0:
+            script.add(f"equal {reader} {place} {script.numbers.randrange(256):02x}")
+        else:
+            script.add(f"find {reader} {place}")
+        script.add(f"look {reader}")
+        script.add(f"leave {reader}")
+    return script
+
+
+def write_broken_scans(file, pages, is_enough):
+    """Long scans, with a store to a merged page between: seven in eight pages merged in chains, one waiting."""
+    script = Script(file, pages)
+    script.add("set max_page_sharing 4")
+    script.add("set run 1")
+    for number in range(pages):
+        script.register(number, 16 + number // 8 if number % 8 == 7 else script.numbers.randrange(4))
+    script.two_passes()
+    while not is_enough(script):
+        script.scan(100_000)
+        number = 8 * script.numbers.randrange(pages // 8) + script.numbers.randrange(7)
+        script.store(number, script.numbers.randrange(4))
     return script

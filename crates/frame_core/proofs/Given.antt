@@ -83,6 +83,11 @@ going_fold : (shape : Shape) (h : History) (events : List Event) → Going shape
 going_fold shape h [] going = going
 going_fold shape h (e ∷ events) going = going_fold shape (history_after h e) events (going_added shape h e (step h.state e) refl going (sound_after h e going.sound))
 
+run_going : (shape : Shape) → IsShape shape → (events : List Event) → Going shape (run_of shape events)
+run_going shape valid events = going_fold shape record { state = opening shape; trace = [] } events record { sound = run_sound shape valid []; same = refl; given = tt }
+
 pub run_given : (shape : Shape) → IsShape shape → (events : List Event) → GivenUnheld shape.passes (run_of shape events).trace
-run_given shape valid events =
-    (going_fold shape record { state = opening shape; trace = [] } events record { sound = run_sound shape valid []; same = refl; given = tt }).given
+run_given shape valid events = (run_going shape valid events).given
+
+pub run_shape : (shape : Shape) → IsShape shape → (events : List Event) → (run_of shape events).state.shape ≡ shape
+run_shape shape valid events = (run_going shape valid events).same

@@ -1,9 +1,11 @@
 -- What was done, the newest step first, and what can be told from it: lives, holders, words stored and words read. No count and no phase is read here. Source: own.
-use Rattle.std.specs.Prelude.{ℕ, ◌≡◌, ◌+◌, ◌*◌, ◌%◌, ◌<◌, Bool, true, false, ◌&&◌, ◌==◌, if◌then◌else◌, List, [], ◌∷◌, filter, All, Option, None, Some, fold}
+use Rattle.std.specs.Prelude.{ℕ, ◌≡◌, ◌+◌, ◌*◌, ◌%◌, ◌<◌, Bool, true, false, ◌&&◌, ◌==◌, if◌then◌else◌, List, [], ◌∷◌, ◌++◌, filter, All, Option, None, Some, fold}
 use Rattle.std.specs.List.{range_with_len}
 use Rattle.ksm_base.specs.declared.shape.Shape.{Shape}
 use Rattle.frame_core.specs.declared.event.Event.{Event}
 use Rattle.frame_core.specs.declared.event.Event.TheVariants.{Reader, Keeper}
+use Rattle.frame_core.specs.declared.event.ReaderStep.{ReaderStep}
+use Rattle.frame_core.specs.declared.event.KeeperStep.{KeeperStep}
 use Rattle.frame_core.specs.declared.event.ReaderStep.TheVariants.{LoadPlace, LoadCount, Exchange, LoadGeneration, Leave, LoadWord}
 use Rattle.frame_core.specs.declared.event.KeeperStep.TheVariants.{Put, Raise, Open, Publish}
 use Rattle.frame_core.specs.declared.seat.Aim.{Aim}
@@ -43,6 +45,24 @@ life_after f before _ = before
 abbrev pub life_of : ℕ → List Entry → ℕ
 life_of f [] = 0
 life_of f (e ∷ t) = life_after f (life_of f t) e.event
+
+-- the steps of the reader on a seat, the oldest first, each with the word that it found: its part of the trace
+abbrev pub logged_after : ℕ → List (ReaderStep × ℕ) → ℕ → Event → List (ReaderStep × ℕ)
+logged_after seat before w (Reader q e) = if q == seat then before ++ (e, w) ∷ [] else before
+logged_after seat before w (Keeper e) = before
+
+abbrev pub log_of : ℕ → List Entry → List (ReaderStep × ℕ)
+log_of seat [] = []
+log_of seat (e ∷ t) = logged_after seat (log_of seat t) e.word e.event
+
+-- the same of the keeper
+abbrev pub keeper_logged_after : List (KeeperStep × ℕ) → ℕ → Event → List (KeeperStep × ℕ)
+keeper_logged_after before w (Reader q e) = before
+keeper_logged_after before w (Keeper e) = before ++ (e, w) ∷ []
+
+abbrev pub keeper_log_of : List Entry → List (KeeperStep × ℕ)
+keeper_log_of [] = []
+keeper_log_of (e ∷ t) = keeper_logged_after (keeper_log_of t) e.word e.event
 
 -- the last place that the seat loaded, with the word found there, if it loaded any
 abbrev pub place_loaded_after : ℕ → Option (ℕ × ℕ) → ℕ → Event → Option (ℕ × ℕ)

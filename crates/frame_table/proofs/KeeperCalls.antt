@@ -84,7 +84,9 @@ module _ (slots id : ℕ) (sh : Shape) (k : Ledger) (tally : Tally) (log : Keepe
   may_publish p f w low is may t h size at small =
       let r = keeper_may slots (Publish p f) (λ _. w) log sh k tally id may (λ n small told. named (frame_at k f).generation f w low told is) t h size at small in
       let same : f ≡ w % 1024 = omega arith in
-      (r.0, r.1, r.2, r.3, subst (λ (x : ℕ). Keeps (Publish p x) me 0 (r.0, carried_after [] r.1)) same r.4)
+      (r.0, r.1, r.2, r.3, λ q at. subst (λ (x : ℕ × ℕ). Keeps (Publish x.0 x.1) me 0 (r.0, carried_after [] r.1)) (λ y. (at y, same y)) r.4)
 
   pub may_withdraw : (p : ℕ) → MayStep sh k (Withdraw p) → MayStore withdraws slots id 0 sh p me
-  may_withdraw p may = keeper_may slots (Withdraw p) (λ _. 0) log sh k tally id may (λ n small told. refl)
+  may_withdraw p may t h size at small =
+      let r = keeper_may slots (Withdraw p) (λ _. 0) log sh k tally id may (λ n small told. refl) t h size at small in
+      (r.0, r.1, r.2, r.3, λ q at. subst (λ (x : ℕ). Keeps (Withdraw x) me 0 (r.0, carried_after [] r.1)) at r.4)

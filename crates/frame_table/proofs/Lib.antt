@@ -11,3 +11,5 @@ pub mod Compared
 pub mod Opening
 pub mod Seatings
 pub mod Elements
+pub mod Running
+pub mod NoLookups

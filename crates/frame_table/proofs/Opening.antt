@@ -12,15 +12,17 @@ use Rattle.ksm_base.specs.declared.shape.Shape.{Shape}
 use Rattle.ksm_base.specs.Values.{IsShape, frames_of}
 use Rattle.frame_core.specs.declared.ledger.Ledger.{Ledger}
 use Rattle.frame_core.specs.declared.seat.Phase.{Phase}
-use Rattle.frame_core.specs.declared.seat.Phase.TheVariants.{Idle}
+use Rattle.frame_core.specs.declared.seat.Phase.TheVariants.{Idle, Spent as spent_phase}
 use Rattle.frame_core.specs.State.{opening, new_frame, place_word}
 use Rattle.frame_core.specs.Words.{words_of, frame_words}
-use Rattle.frame_core.specs.Ledger.{first_ledger}
-use Rattle.frame_core.proofs.Keeps.{opening_rule}
+use Rattle.frame_core.specs.Trace.{History}
+use Rattle.frame_core.proofs.Keeps.{in_replicate}
 use Rattle.frame_core.proofs.Notes.{map_replicate, opening_ledger}
 use Rattle.frame_table.specs.declared.view.View.{View}
-use Rattle.frame_table.specs.Views.{tally_of}
-use Rattle.frame_table.specs.Rule.{Holds, Tied, is_out, first_view}
+use Rattle.frame_table.specs.declared.view.View.TheVariants.{Reader}
+use Rattle.frame_table.specs.Views.{phase_of, tally_of}
+use Rattle.frame_table.proofs.Looked.{got}
+use Rattle.frame_table.specs.Rule.{Holds, Tied, all_views, first_view}
 
 -- so many blocks of zeros are zeros
 flat_zeros : {A : Type 0} (g : A → List ℕ) (w n : ℕ) (a : A) → g a ≡ replicate w 0 → flat_map g (replicate n a) ≡ replicate (n * w) 0
@@ -36,21 +38,21 @@ opening_words sh =
     let e : n + n * (2 + PAGE_WORDS) ≡ n * (3 + PAGE_WORDS) = omega arith in
     (λ i. map_replicate place_word n None i ++ flat_zeros frame_words (2 + PAGE_WORDS) n new_frame refl i) ∙ (replicate-append-replicate n (n * (2 + PAGE_WORDS)) 0 ∙ ap (λ (k : ℕ). replicate k 0) e)
 
-only_keeper : (sh : Shape) (j : ℕ) (v : View) → get_elem? (first_view sh ∷ []) j ≡ some v → Tied sh (first_ledger sh) (tally_of sh.passes 0) j v
-only_keeper sh zero v at = subst (Tied sh (first_ledger sh) (tally_of sh.passes 0) 0) (some-injective (first_view sh) v at) (refl, refl, refl, refl)
-only_keeper sh (suc j) v at = absurd (some-ne-none v (sym at))
+abbrev opened : Shape → History
+opened sh = record { state = opening sh; trace = [] }
+
+first_tied : (sh : Shape) (j : ℕ) (v : View) → get_elem? (all_views sh (tally_of sh.passes 0) (first_view sh ∷ [])) j ≡ some v → Tied sh (opened sh) (tally_of sh.passes 0) j v
+first_tied sh zero v at = subst (Tied sh (opened sh) (tally_of sh.passes 0) 0) (some-injective (first_view sh) v at) (refl, sym (opening_ledger sh), refl, refl)
+first_tied sh (suc j) v at = subst (Tied sh (opened sh) (tally_of sh.passes 0) (suc j)) (in_replicate sh.passes j (Reader sh Idle []) v (got (replicate sh.passes (Reader sh Idle [])) j v at)) (refl, refl)
 
 -- a table whose words are all 0, with the keeper alone, is in the opening state of the core
 pub may_begin : (sh : Shape) → IsShape sh → Holds sh (table.opening (replicate (frames_of sh * (3 + PAGE_WORDS)) 0) [] (first_view sh))
 may_begin sh fits = record {
-  state = opening sh;
+  shape = fits;
+  events = [];
   tally = tally_of sh.passes 0;
-  shape = refl;
-  rule = opening_rule sh fits;
-  words = sym (opening_words sh);
-  seats = refl;
-  out = omega (arith, sum_by-replicate (λ (phase : Phase). cond (is_out phase) 1 0) sh.passes Idle);
-  views = λ j v at. subst (λ (k : Ledger). Tied sh k (tally_of sh.passes 0) j v) (sym (opening_ledger sh)) (only_keeper sh j v at);
+  after = record { words_are = sym (opening_words sh); phases_are = ap (λ (l : List Phase). spent_phase ∷ l) (map_replicate phase_of sh.passes (Reader sh Idle [])); tied = first_tied sh };
+  out = refl;
 }
 
 module _ {A : Type 0} where

@@ -19,23 +19,30 @@ use Rattle.frame_table.proofs.ReaderMay.{reader_may}
 
 module _ (slots id : ℕ) (sh : Shape) (log : Log) where
   pub may_load_place : (p : ℕ) → p < frames_of sh → MayLoad loads_place slots id sh p (sits sh Idle log)
-  may_load_place p below = reader_may slots (LoadPlace p) Idle log (λ n. n) sh id below (λ n small told. refl)
+  may_load_place p below t h size at small =
+      let r = reader_may slots (LoadPlace p) Idle log (λ n. n) sh id below (λ n small told. refl) t h size at small in
+      (r.0, r.1, r.2, r.3, λ o is. subst (λ (k : ℕ). Makes (LoadPlace k) (sits sh Idle log) (get_or t.words p 0) (r.0, carried_after [] r.1)) is r.4)
 
   pub may_load_count : (aim : Aim) (failures : ℕ) → MayLoad loads_count slots id sh (count_at (frames_of sh) aim.life.frame) (sits sh (Placed aim failures) log)
-  may_load_count aim failures = reader_may slots LoadCount (Placed aim failures) log (λ n. n) sh id tt (λ n small told. refl)
+  may_load_count aim failures t h size at small =
+      let r = reader_may slots LoadCount (Placed aim failures) log (λ n. n) sh id tt (λ n small told. refl) t h size at small in (r.0, r.1, r.2, r.3, λ is. r.4)
 
   exchanged : (n c : ℕ) (b : Bool) → eqb n c ≡ b → either b (c + 1) n ≡ cond b (n + 1) n
   exchanged n c true is = let e : n ≡ c = eqb-true n c is in ap (λ (m : ℕ). m + 1) (sym e)
   exchanged n c false is = refl
 
   pub may_exchange : (aim : Aim) (failures c : ℕ) → MayExchange exchanges slots id c (c + 1) sh (count_at (frames_of sh) aim.life.frame) (sits sh (Counted aim failures c) log)
-  may_exchange aim failures c = reader_may slots Exchange (Counted aim failures c) log (λ n. either (eqb n c) (c + 1) n) sh id tt (λ n small told. exchanged n c (eqb n c) refl)
+  may_exchange aim failures c t h size at small =
+      let r = reader_may slots Exchange (Counted aim failures c) log (λ n. either (eqb n c) (c + 1) n) sh id tt (λ n small told. exchanged n c (eqb n c) refl) t h size at small in
+      (r.0, r.1, r.2, r.3, λ is. r.4)
 
   pub may_load_generation : (aim : Aim) → MayLoad loads_generation slots id sh (generation_at (frames_of sh) aim.life.frame) (sits sh (Doubt aim) log)
-  may_load_generation aim = reader_may slots LoadGeneration (Doubt aim) log (λ n. n) sh id tt (λ n small told. refl)
+  may_load_generation aim t h size at small =
+      let r = reader_may slots LoadGeneration (Doubt aim) log (λ n. n) sh id tt (λ n small told. refl) t h size at small in (r.0, r.1, r.2, r.3, λ is. r.4)
 
   pub may_leave : (aim : Aim) (phase : Phase) → MayRead sh Leave phase → word_of sh Leave phase ≡ count_at (frames_of sh) aim.life.frame → MaySubOne leaves slots id sh (count_at (frames_of sh) aim.life.frame) (sits sh phase log)
-  may_leave aim phase may word = subst (λ (i : ℕ). MaySubOne leaves slots id sh i (sits sh phase log)) word (reader_may slots Leave phase log (λ n. (n + (2 ^ 64 - 1)) % 2 ^ 64) sh id may (λ n small told. lowered n told small))
+  may_leave aim phase may word = subst (λ (i : ℕ). MaySubOne leaves slots id sh i (sits sh phase log)) word (λ t h size at small.
+      let r = reader_may slots Leave phase log (λ n. (n + (2 ^ 64 - 1)) % 2 ^ 64) sh id may (λ n small told. lowered n told small) t h size at small in (r.0, r.1, r.2, r.3, λ is. r.4))
 
   -- which word of the page a word of the table is
   pub may_load_word : (aim : Aim) (known : List (Option ℕ)) (i : ℕ) → i < PAGE_WORDS → MayLoad loads_word slots id sh (content_at (frames_of sh) aim.life.frame i) (sits sh (Held aim known) log)

@@ -1,176 +1,155 @@
 -- The table's rule where a pass is made, where one is given back, and what it says at the end.
-use Rattle.std.proofs.Common.{◌≡◌, ℕ, zero, suc, ◌+◌, ◌-◌, ◌<◌, ◌≤◌, ◌≢◌, Bool, true, false, cond, eqb, List, [], ◌∷◌, ◌++◌, map, set, slice_set, replicate, count_by, None, sym, refl, ap, ◌∙◌, subst, ⊎_elim, arith, append_assoc}
-use Rattle.std.proofs.lemmas.List.Sums.{sum_by-le-sum_by}
+use Rattle.std.proofs.Common.{◌≡◌, ℕ, zero, suc, ◌+◌, ◌-◌, ◌<◌, ◌≤◌, ◌≢◌, Bool, true, false, cond, eqb, List, [], ◌∷◌, ◌++◌, map, set, replicate, count_by, None, sym, refl, ap, ◌∙◌, subst, ⊎_elim, arith, append_assoc, append-nil}
+use Rattle.std.proofs.lemmas.List.{map-set}
+use Rattle.std.proofs.lemmas.List.Sums.{sum_by-append, sum_by-cons}
 use Rattle.std.proofs.lemmas.Option.{get_or_from_slice_get}
-use mathlib.Core.Option.{some, some-ne-none}
-use mathlib.Core.List.{map-append}
+use mathlib.Core.Option.{some}
 use lib.ListN.{get_elem?}
 use Rattle.atomic_table.specs.Table.{Splits, Joins, Seen, Final}
-use Rattle.atomic_table.proofs.Lists.{at_set, at_snoc}
+use Rattle.atomic_table.proofs.Lists.{at_set, at_map, at_longer, set_again}
 use Rattle.ksm_base.specs.declared.shape.Shape.{Shape}
 use Rattle.ksm_base.specs.Values.{frames_of}
 use Rattle.frame_core.specs.declared.ledger.Ledger.{Ledger}
 use Rattle.frame_core.specs.declared.ledger.Note.{Note}
 use Rattle.frame_core.specs.declared.seat.Phase.{Phase}
-use Rattle.frame_core.specs.declared.seat.Phase.TheVariants.{Idle, Placed, Counted, Doubt, Held, Spent as spent_phase}
+use Rattle.frame_core.specs.declared.seat.Phase.TheVariants.{Idle, Spent as spent_phase}
 use Rattle.frame_core.specs.State as core
 use Rattle.frame_core.specs.State.{place_word}
 use Rattle.frame_core.specs.Words.{words_of}
 use Rattle.frame_core.specs.Ledger.{ledger_of}
+use Rattle.frame_core.specs.Trace.{History, run_of}
 use Rattle.frame_core.specs.Rule as core_rule
 use Rattle.frame_core.specs.Rule.{is_on, readers_on}
-use Rattle.frame_core.proofs.Changes.{seat_changed}
 use Rattle.frame_core.proofs.Fitting.{get_inside}
 use Rattle.frame_core.proofs.Flat.{words_get}
+use Rattle.frame_core.proofs.Given.{run_shape}
+use Rattle.frame_core.proofs.Histories.{run_sound}
 use Rattle.frame_core.proofs.Lists.{count_set}
 use Rattle.frame_core.proofs.Notes.{note_at}
 use Rattle.frame_table.specs.declared.view.Tally.{Tally}
 use Rattle.frame_table.specs.declared.view.View.{View}
 use Rattle.frame_table.specs.declared.view.View.TheVariants.{Keeper, Reader, Spent}
 use Rattle.frame_table.specs.Views.{Log, KeeperLog, phase_of, tally_of}
-use Rattle.frame_table.specs.Rule.{Holds, Tied, is_out}
+use Rattle.frame_table.specs.Rule.{Holds, IsAfter, Tied, all_views, is_out}
 use Rattle.frame_table.specs.Seats.{one_more, newcomer, one_less, Ends}
+use Rattle.frame_table.proofs.Looked.{got}
 use Rattle.frame_table.proofs.ReaderHalf.{place_read}
-use Rattle.frame_table.proofs.ReaderMay.{St, seat_there, seats_set}
-use Rattle.frame_table.proofs.KeeperMay.{phases_stay, tied_again}
+use Rattle.frame_table.proofs.ReaderMay.{St, all_set, out_same}
+use Rattle.frame_table.proofs.KeeperMay.{seen, keeper_changes}
 
--- the first view of a list that has one stays first, where more come
-first_stays : (views more : List View) (v w x : View) → get_elem? views 0 ≡ some v → get_elem? (set views 0 w ++ more) 0 ≡ some x → get_elem? (set views 0 w) 0 ≡ some x
-first_stays [] more v w x some_view at = absurd (some-ne-none v (sym some_view))
-first_stays (y ∷ ys) more v w x some_view at = at
+module _ (sh : Shape) where
+  abbrev idle : View
+  idle = Reader sh Idle []
 
-at_most_one : (b : Bool) → cond b 1 0 ≤ 1
-at_most_one true = omega arith
-at_most_one false = omega arith
+  one_idle_less : (n : ℕ) → 0 < n → (idle ∷ []) ++ replicate (n - 1) idle ≡ replicate n idle
+  one_idle_less zero few = absurd (omega arith)
+  one_idle_less (suc n) few = let e : suc n - 1 ≡ n = omega arith in ap (λ (m : ℕ). idle ∷ replicate m idle) e
 
--- where no pass is out, nobody has a reference on a frame
-none_on : (f : ℕ) (phase : Phase) → cond (is_on f phase) 1 0 ≤ cond (is_out phase) 1 0
-none_on f Idle = omega arith
-none_on f (Placed aim failures) = omega arith
-none_on f (Counted aim failures count) = omega arith
-none_on f (Doubt aim) = at_most_one (eqb aim.life.frame f)
-none_on f (Held aim known) = at_most_one (eqb aim.life.frame f)
-none_on f spent_phase = omega arith
+  -- a pass that was given back is as one that is idle
+  spent_is_idle : (h : History) (tally : Tally) (words : List ℕ) (views : List View) (q : ℕ) (log : Log) → get_elem? views (suc q) ≡ some (Reader sh Idle log) → IsAfter sh h tally words views → IsAfter sh h tally words (set views (suc q) Spent)
+  spent_is_idle h tally words views q log at is = record {
+    words_are = is.words_are;
+    phases_are = map-set phase_of views (suc q) Spent ∙ (set_again (map phase_of views) (suc q) Idle (at_map phase_of views (suc q) (Reader sh Idle log) at) ∙ is.phases_are);
+    tied = λ j v of. ⊎_elim (λ (k : (j ≡ suc q) × (Spent ≡ v)). subst (λ (x : ℕ × View). Tied sh h tally x.0 x.1) (λ i. (sym k.0 i, k.1 i)) tt)
+        (λ (k : (j ≢ suc q) × (get_elem? views j ≡ some v)). is.tied j v k.1) (at_set views (suc q) j Spent v of);
+  }
 
 module _ (sh : Shape) (k : Ledger) (tally : Tally) (log : KeeperLog) where
   abbrev keeper : View
   keeper = Keeper sh k tally log
 
-  -- the state of the core, as the keeper's view tells of it
-  record SeenFrom (t : St) : Type 0 where
-    state : core.State
-    rule : core_rule.Rule state
-    shape : state.shape ≡ sh
-    words : t.words ≡ words_of state
-    seats : map phase_of t.views ++ replicate tally.unmade Idle ≡ spent_phase ∷ state.seats
-    out : count_by is_out state.seats ≡ tally.unmade + tally.out
-    ledger : k ≡ ledger_of state
-    views : (j : ℕ) (v : View) → get_elem? t.views j ≡ some v → Tied sh k tally j v
+  -- the keeper's view tells another tally, of as many passes that are still to be made
+  retold : (t : St) (tally' : Tally) (h : Holds sh t) → get_elem? t.views 0 ≡ some keeper → IsAfter sh (run_of sh h.events) tally' t.words (set (all_views sh tally t.views) 0 (Keeper sh k tally' log))
+  retold t tally' h at =
+      let past = run_of sh h.events in
+      let tied = seen sh t h 0 keeper at in
+      keeper_changes sh past past h.tally tally' t.words t.words (all_views sh tally t.views) keeper (Keeper sh k tally' log) (λ q. refl) refl h.after.words_are refl (refl, tied.1, refl, tied.3)
+      (at_longer t.views (replicate tally.unmade (Reader sh Idle [])) 0 keeper at) (subst (λ (x : Tally). IsAfter sh past h.tally t.words (all_views sh x t.views)) (sym tied.2) h.after)
 
-  seen : (t : St) (id : ℕ) → Holds sh t → get_elem? t.views id ≡ some keeper → (id ≡ 0) × SeenFrom t
-  seen t id h at =
-      let tied : Tied sh (ledger_of h.state) h.tally id keeper = h.views id _ at in
-      let back : h.tally ≡ tally = sym tied.2 in (
-        tied.3,
-        record {
-          state = h.state;
-          rule = h.rule;
-          shape = h.shape;
-          words = h.words;
-          seats = subst (λ (x : Tally). map phase_of t.views ++ replicate x.unmade Idle ≡ spent_phase ∷ h.state.seats) back h.seats;
-          out = subst (λ (x : Tally). count_by is_out h.state.seats ≡ x.unmade + x.out) back h.out;
-          ledger = tied.1;
-          views = λ j v is. subst (λ (x : Ledger × Tally). Tied sh x.0 x.1 j v) (λ i. (sym tied.1 i, back i)) (h.views j v is);
-        },
-      )
+  passes_out : (t : St) (h : Holds sh t) → get_elem? t.views 0 ≡ some keeper → count_by is_out t.views ≡ tally.out
+  passes_out t h at = h.out ∙ ap (λ (x : Tally). x.out) (sym (seen sh t h 0 keeper at).2)
 
   -- ---------------------------------------------------------------- a pass is made
 
-  one_idle_less : (n : ℕ) → 0 < n → (Idle ∷ []) ++ replicate (n - 1) Idle ≡ replicate n Idle
-  one_idle_less zero few = absurd (omega arith)
-  one_idle_less (suc n) few = let e : suc n - 1 ≡ n = omega arith in ap (λ (m : ℕ). Idle ∷ replicate m Idle) e
-
-  tied_more : (t : St) → SeenFrom t → get_elem? t.views 0 ≡ some keeper → (j : ℕ) (v : View) → get_elem? (set t.views 0 (one_more keeper) ++ newcomer keeper ∷ []) j ≡ some v → Tied sh k (tally_of (tally.unmade - 1) (tally.out + 1)) j v
-  tied_more t s at zero v is = tied_again t.views sh k k tally (tally_of (tally.unmade - 1) (tally.out + 1)) log s.views zero v (first_stays t.views (newcomer keeper ∷ []) keeper (one_more keeper) v at is)
-  tied_more t s at (suc j) v is =
-      ⊎_elim (tied_again t.views sh k k tally (tally_of (tally.unmade - 1) (tally.out + 1)) log s.views (suc j) v)
-      (λ (e : newcomer keeper ≡ v). subst (Tied sh k (tally_of (tally.unmade - 1) (tally.out + 1)) (suc j)) e (refl, omega arith)) (at_snoc (set t.views 0 (one_more keeper)) (newcomer keeper) v (suc j) is)
-
-  made_here : (t : St) → 0 < tally.unmade → Holds sh t → get_elem? t.views 0 ≡ some keeper → Holds sh record { words = t.words; homes = t.homes; views = set t.views 0 (one_more keeper) ++ newcomer keeper ∷ [] }
-  made_here t few h at =
-      let s = (seen t 0 h at).1 in
-      let tally' : Tally = tally_of (tally.unmade - 1) (tally.out + 1) in
-      let views : List View = set t.views 0 (one_more keeper) in
-      let phases : map phase_of (views ++ newcomer keeper ∷ []) ≡ map phase_of t.views ++ Idle ∷ [] = map-append phase_of views (newcomer keeper ∷ []) ∙ ap (λ (l : List Phase). l ++ Idle ∷ []) (phases_stay t.views sh sh k k tally tally' log log at) in
-      record {
-        state = s.state;
-        tally = tally';
-        shape = s.shape;
-        rule = s.rule;
-        words = s.words;
-        seats = ap (λ (l : List Phase). l ++ replicate (tally.unmade - 1) Idle) phases ∙ (append_assoc (map phase_of t.views) (Idle ∷ []) (replicate (tally.unmade - 1) Idle)
-            ∙ (ap (λ (l : List Phase). map phase_of t.views ++ l) (one_idle_less tally.unmade few) ∙ s.seats));
-        out = omega (arith, s.out);
-        views = λ j v is. subst (λ (x : Ledger). Tied sh x tally' j v) s.ledger (tied_more t s at j v is);
-      }
-
   pub may_make : (id : ℕ) → 0 < tally.unmade → Splits (Holds sh) id keeper (one_more keeper) (newcomer keeper)
-  may_make id few t h at = let first = (seen t id h at).0 in
-      subst (λ (i : ℕ). Holds sh record { words = t.words; homes = t.homes; views = set t.views i (one_more keeper) ++ newcomer keeper ∷ [] }) (sym first)
-      (made_here t few h (subst (λ (i : ℕ). get_elem? t.views i ≡ some keeper) first at))
+  may_make (suc id) few t h at = absurd (seen sh t h (suc id) keeper at)
+  may_make zero few t h at =
+      let tally' : Tally = tally_of (tally.unmade - 1) (tally.out + 1) in
+      let next : View = Keeper sh k tally' log in
+      let views : List View = set t.views 0 next in
+      let same : all_views sh tally' (views ++ idle sh ∷ []) ≡ set (all_views sh tally t.views) 0 next =
+      append_assoc views (idle sh ∷ []) (replicate (tally.unmade - 1) (idle sh)) ∙ (ap (λ (l : List View). views ++ l) (one_idle_less sh tally.unmade few) ∙ all_set sh tally t.views 0 keeper next at) in
+      record {
+        shape = h.shape;
+        events = h.events;
+        tally = tally';
+        after = subst (IsAfter sh (run_of sh h.events) tally' t.words) (sym same) (retold t tally' h at);
+        out = omega (arith, sum_by-append (λ (v : View). cond (is_out v) 1 0) views (idle sh ∷ []), out_same t.views 0 keeper next at refl, passes_out t h at);
+      }
 
   -- ---------------------------------------------------------------- a pass is given back
 
   given_here : (t : St) (q : ℕ) (mine : Log) → 0 < tally.out → Holds sh t → get_elem? t.views 0 ≡ some keeper → get_elem? (set t.views 0 (one_less keeper (Reader sh Idle mine))) (suc q) ≡ some (Reader sh Idle mine)
       → Holds sh record { words = t.words; homes = t.homes; views = set (set t.views 0 (one_less keeper (Reader sh Idle mine))) (suc q) Spent }
   given_here t q mine few h at there =
-      let s = (seen t 0 h at).1 in
       let tally' : Tally = tally_of tally.unmade (tally.out - 1) in
-      let more : List Phase = replicate tally.unmade Idle in
-      let views : List View = set t.views 0 (Keeper sh k tally' log) in
-      let phases : map phase_of views ++ more ≡ spent_phase ∷ s.state.seats = ap (λ (l : List Phase). l ++ more) (phases_stay t.views sh sh k k tally tally' log log at) ∙ s.seats in
-      let seat = seat_there views s.state.seats more q (Reader sh Idle mine) phases there in
-      let count = count_set is_out s.state.seats q Idle spent_phase seat in
+      let next : View = Keeper sh k tally' log in
+      let views : List View = set t.views 0 next in
+      let past = run_of sh h.events in
+      let retold_all : IsAfter sh past tally' t.words (all_views sh tally' views) = subst (IsAfter sh past tally' t.words) (sym (all_set sh tally t.views 0 keeper next at)) (retold t tally' h at) in
+      let at_all = at_longer views (replicate tally.unmade (Reader sh Idle [])) (suc q) (Reader sh Idle mine) there in
       record {
-        state = record s.state { seats = slice_set s.state.seats q spent_phase };
+        shape = h.shape;
+        events = h.events;
         tally = tally';
-        shape = s.shape;
-        rule = seat_changed s.state q Idle spent_phase seat (λ f. refl) tt s.rule;
-        words = s.words;
-        seats = seats_set views s.state.seats more q (Reader sh Idle mine) Spent phases there;
-        out = omega (arith, count, s.out);
-        views = λ j v is. subst (λ (x : Ledger). Tied sh x tally' j v) s.ledger
-            (⊎_elim (λ (e : (j ≡ suc q) × (Spent ≡ v)). subst (λ (x : ℕ × View). Tied sh k tally' x.0 x.1) (λ i. (sym e.0 i, e.1 i)) (omega arith))
-            (λ (e : (j ≢ suc q) × (get_elem? views j ≡ some v)). tied_again t.views sh k k tally tally' log s.views j v e.1) (at_set views (suc q) j Spent v is));
+        after = subst (IsAfter sh past tally' t.words) (sym (all_set sh tally' views (suc q) (Reader sh Idle mine) Spent there)) (spent_is_idle sh past tally' t.words (all_views sh tally' views) q mine at_all retold_all);
+        out = omega (arith, count_set is_out views (suc q) (Reader sh Idle mine) Spent (got views (suc q) (Reader sh Idle mine) there), out_same t.views 0 keeper next at refl, passes_out t h at);
       }
 
-  given_at : (t : St) (other : ℕ) (mine : Log) → 0 < tally.out → Holds sh t → get_elem? t.views 0 ≡ some keeper → ¬ (other ≡ 0) → get_elem? (set t.views 0 (one_less keeper (Reader sh Idle mine))) other ≡ some (Reader sh Idle mine)
-      → Holds sh record { words = t.words; homes = t.homes; views = set (set t.views 0 (one_less keeper (Reader sh Idle mine))) other Spent }
-  given_at t zero mine few h at apart there = absurd (apart refl)
-  given_at t (suc q) mine few h at apart there = given_here t q mine few h at there
-
   pub may_give : (id other : ℕ) (mine : Log) → 0 < tally.out → Joins (Holds sh) id keeper other (Reader sh Idle mine) (one_less keeper (Reader sh Idle mine)) Spent
-  may_give id other mine few t h at apart there =
-      subst (λ (i : ℕ). get_elem? t.views i ≡ some keeper → ¬ (other ≡ i) → get_elem? (set t.views i (one_less keeper (Reader sh Idle mine))) other ≡ some (Reader sh Idle mine)
-      → Holds sh record { words = t.words; homes = t.homes; views = set (set t.views i (one_less keeper (Reader sh Idle mine))) other Spent }) (sym (seen t id h at).0)
-      (λ at apart there. given_at t other mine few h at apart there) at apart there
+  may_give (suc id) other mine few t h at apart there = absurd (seen sh t h (suc id) keeper at)
+  may_give zero zero mine few t h at apart there = absurd (apart refl)
+  may_give zero (suc q) mine few t h at apart there = given_here t q mine few h at there
 
   -- ---------------------------------------------------------------- the end
 
-  ends_here : (t : St) → tally.unmade ≡ 0 → tally.out ≡ 0 → (s : SeenFrom t) → Ends (ledger_of s.state) record { shape = s.state.shape; words = words_of s.state }
-  ends_here t none_unmade none_out s =
-      let there = λ (f : ℕ) (inside : f < frames_of s.state.shape). get_inside s.state.frames f (omega (arith, s.rule.frame_count)) in
-      let place = λ (p : ℕ) (inside : p < frames_of s.state.shape). get_inside s.state.places p (omega (arith, s.rule.place_count)) in
-      let free = λ (f : ℕ). sum_by-le-sum_by (λ (phase : Phase). cond (is_on f phase) 1 0) (λ (phase : Phase). cond (is_out phase) 1 0) s.state.seats (none_on f) in
+  at_most_one : (b : Bool) → cond b 1 0 ≤ 1
+  at_most_one true = omega arith
+  at_most_one false = omega arith
+
+  -- where no pass is out, nobody has a reference on a frame
+  none_on : (f : ℕ) (v : View) → cond (is_on f (phase_of v)) 1 0 ≤ cond (is_out v) 1 0
+  none_on f (Reader sh' phase mine) = at_most_one (is_on f phase)
+  none_on f (Keeper sh' k' t mine) = omega arith
+  none_on f Spent = omega arith
+
+  on_at_most_out : (f : ℕ) (views : List View) → count_by (is_on f) (map phase_of views) ≤ count_by is_out views
+  on_at_most_out f [] = omega arith
+  on_at_most_out f (v ∷ vs) =
+      omega (arith, sum_by-cons (λ (p : Phase). cond (is_on f p) 1 0) (phase_of v) (map phase_of vs), sum_by-cons (λ (x : View). cond (is_out x) 1 0) v vs, none_on f v, on_at_most_out f vs)
+
+  ends_here : (s : core.State) → core_rule.Rule s → ((f : ℕ) → readers_on f s.seats ≡ 0) → Ends (ledger_of s) record { shape = s.shape; words = words_of s }
+  ends_here s rule free =
+      let there = λ (f : ℕ) (inside : f < frames_of s.shape). get_inside s.frames f (omega (arith, rule.frame_count)) in
+      let place = λ (p : ℕ) (inside : p < frames_of s.shape). get_inside s.places p (omega (arith, rule.place_count)) in
       record {
-        counts = λ f inside. let fr = there f inside in let c = (s.rule.frames f fr.0 fr.1).counted in let same : fr.0.count ≡ fr.0.base = omega (arith, c, free f, s.out) in
-            words_get s.state s.rule f 0 fr.0 fr.1 (omega arith) ∙ (same ∙ ap (λ (n : Note). n.base) (sym (note_at s.state f fr.0 fr.1)));
-        generations = λ f inside. let fr = there f inside in words_get s.state s.rule f 1 fr.0 fr.1 (omega arith) ∙ ap (λ (n : Note). n.generation) (sym (note_at s.state f fr.0 fr.1));
-        places = λ p inside. let o = place p inside in place_read s.state s.rule 0 p o.0 o.1 ∙ ap place_word (sym (get_or_from_slice_get s.state.places p o.0 None o.1));
+        counts = λ f inside. let fr = there f inside in let c = (rule.frames f fr.0 fr.1).counted in let same : fr.0.count ≡ fr.0.base = omega (arith, c, free f) in
+            words_get s rule f 0 fr.0 fr.1 (omega arith) ∙ (same ∙ ap (λ (n : Note). n.base) (sym (note_at s f fr.0 fr.1)));
+        generations = λ f inside. let fr = there f inside in words_get s rule f 1 fr.0 fr.1 (omega arith) ∙ ap (λ (n : Note). n.generation) (sym (note_at s f fr.0 fr.1));
+        places = λ p inside. let o = place p inside in place_read s rule 0 p o.0 o.1 ∙ ap place_word (sym (get_or_from_slice_get s.places p o.0 None o.1));
       }
 
   pub ends : (id : ℕ) (ws : List ℕ) (xs : List (Unit {0})) → tally.unmade ≡ 0 → tally.out ≡ 0 → Final (Seen (Holds sh) id keeper) ws xs → Ends k record { shape = sh; words = ws }
-  ends id ws xs none_unmade none_out final =
+  ends (suc id) ws xs none_unmade none_out final = absurd (seen sh final.0 final.1.0 (suc id) keeper final.1.1)
+  ends zero ws xs none_unmade none_out final =
       let t = final.0 in
-      let s = (seen t id final.1.0 final.1.1).1 in
-      subst (λ (x : Ledger × Shape × List ℕ). Ends x.0 record { shape = x.1; words = x.2 }) (λ i. (sym s.ledger i, s.shape i, (sym s.words ∙ final.2) i)) (ends_here t none_unmade none_out s)
+      let h = final.1.0 in
+      let s = (run_of sh h.events).state in
+      let tied = seen sh t h 0 keeper final.1.1 in
+      let unmade : h.tally.unmade ≡ 0 = ap (λ (x : Tally). x.unmade) (sym tied.2) ∙ none_unmade in
+      let views : all_views sh h.tally t.views ≡ t.views = ap (λ (n : ℕ). t.views ++ replicate n (Reader sh Idle [])) unmade ∙ append-nil t.views in
+      let phases : map phase_of t.views ≡ spent_phase ∷ s.seats = ap (map phase_of) (sym views) ∙ h.after.phases_are in
+      let free = λ (f : ℕ). let some = sum_by-cons (λ (p : Phase). cond (is_on f p) 1 0) spent_phase s.seats in
+      let most : count_by (is_on f) (spent_phase ∷ s.seats) ≤ count_by is_out t.views = subst (λ (l : List Phase). count_by (is_on f) l ≤ count_by is_out t.views) phases (on_at_most_out f t.views) in
+      let none : readers_on f s.seats ≡ 0 = omega (arith, some, most, passes_out t h final.1.1, none_out) in none in
+      subst (λ (x : Ledger × Shape × List ℕ). Ends x.0 record { shape = x.1; words = x.2 }) (λ i. (sym tied.1 i, run_shape sh h.shape h.events i, (sym h.after.words_are ∙ final.2) i)) (ends_here s (run_sound sh h.shape h.events).rule free)

@@ -67,36 +67,36 @@ knows_view _ e n = Unit {0}
 abbrev pub Keeps : KeeperStep → Sat → ℕ → Sat → Type 0
 Keeps e m n m' = (m' ≡ (keeper_after e m.0 n, m.1)) × knows_view m.0 e n
 
-abbrev pub places_in : Sat → ℕ
-places_in m = frames_of (shape_in m)
+-- an operation on the word on which the step works makes the step
+abbrev pub KeepsAt : KeeperStep → Step (Unit {0}) → Sat → ℕ → Sat → Type 0
+KeepsAt e st m n m' = st.word ≡ keeper_word (frames_of (shape_in m)) e → Keeps e m n m'
 
--- the step of this kind that works on this word was made
 abbrev pub reaps : Step (Unit {0}) → Sat → ℕ → Sat → Type 0
-reaps st m n m' = (f : ℕ) → st.word ≡ count_at (places_in m) f → Keeps (Reap f) m n m'
+reaps st m n m' = (f : ℕ) → KeepsAt (Reap f) st m n m'
 
 abbrev pub puts : Step (Unit {0}) → Sat → ℕ → Sat → Type 0
-puts st m n m' = (f i : ℕ) → i < PAGE_WORDS → st.word ≡ content_at (places_in m) f i → Keeps (Put f i st.first) m 0 m'
+puts st m n m' = (f i : ℕ) → i < PAGE_WORDS → KeepsAt (Put f i st.first) st m 0 m'
 
 abbrev pub raises : Step (Unit {0}) → Sat → ℕ → Sat → Type 0
-raises st m n m' = (f : ℕ) → st.word ≡ generation_at (places_in m) f → Keeps (Raise f) m n m'
+raises st m n m' = (f : ℕ) → KeepsAt (Raise f) st m n m'
 
 abbrev pub opens : Step (Unit {0}) → Sat → ℕ → Sat → Type 0
-opens st m n m' = (f : ℕ) → st.word ≡ count_at (places_in m) f → Keeps (Open f) m 0 m'
+opens st m n m' = (f : ℕ) → KeepsAt (Open f) st m 0 m'
 
 abbrev pub adds : Step (Unit {0}) → Sat → ℕ → Sat → Type 0
-adds st m n m' = (f : ℕ) → st.word ≡ count_at (places_in m) f → Keeps (Add f) m n m'
+adds st m n m' = (f : ℕ) → KeepsAt (Add f) st m n m'
 
 abbrev pub subs : Step (Unit {0}) → Sat → ℕ → Sat → Type 0
-subs st m n m' = (f : ℕ) → st.word ≡ count_at (places_in m) f → Keeps (Sub f) m n m'
+subs st m n m' = (f : ℕ) → KeepsAt (Sub f) st m n m'
 
 abbrev pub publishes : Step (Unit {0}) → Sat → ℕ → Sat → Type 0
-publishes st m n m' = Keeps (Publish st.word (st.first % 1024)) m 0 m'
+publishes st m n m' = (p : ℕ) → KeepsAt (Publish p (st.first % 1024)) st m 0 m'
 
 abbrev pub withdraws : Step (Unit {0}) → Sat → ℕ → Sat → Type 0
-withdraws st m n m' = Keeps (Withdraw st.word) m 0 m'
+withdraws st m n m' = (p : ℕ) → KeepsAt (Withdraw p) st m 0 m'
 
 abbrev pub freezes : Step (Unit {0}) → Sat → ℕ → Sat → Type 0
-freezes st m n m' = (f : ℕ) → st.word ≡ count_at (places_in m) f → Keeps (Freeze f) m n m'
+freezes st m n m' = (f : ℕ) → KeepsAt (Freeze f) st m n m'
 
 abbrev pub shows : Step (Unit {0}) → Sat → ℕ → Sat → Type 0
-shows st m n m' = (f i : ℕ) → i < PAGE_WORDS → st.word ≡ content_at (places_in m) f i → Keeps (Word f i) m n m'
+shows st m n m' = (f i : ℕ) → i < PAGE_WORDS → KeepsAt (Word f i) st m n m'

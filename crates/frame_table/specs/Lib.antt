@@ -10,3 +10,5 @@ pub mod Rounds
 pub mod Lookup
 pub mod Equal
 pub mod Seats
+pub mod Running
+pub mod Worked

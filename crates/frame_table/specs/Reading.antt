@@ -52,25 +52,29 @@ tells_view e _ n = Unit {0}
 abbrev pub Makes : ReaderStep → Sat → ℕ → Sat → Type 0
 Makes e m n m' = Steps e m n m' × tells_view e m.0 n
 
-abbrev pub content_word : ℕ → View → ℕ
-content_word i (Reader sh phase log) = word_of sh (LoadWord i) phase
-content_word i _ = 0
+-- the word on which a step works
+abbrev pub word_at : ReaderStep → View → ℕ
+word_at e (Reader sh phase log) = word_of sh e phase
+word_at e _ = 0
 
--- by the word that a step works on, which step it was
+-- an operation on that word makes the step
+abbrev pub MakesAt : ReaderStep → Step (Unit {0}) → Sat → ℕ → Sat → Type 0
+MakesAt e st m n m' = st.word ≡ word_at e m.0 → Makes e m n m'
+
 abbrev pub loads_place : Step (Unit {0}) → Sat → ℕ → Sat → Type 0
-loads_place st m n m' = Makes (LoadPlace st.word) m n m'
+loads_place st m n m' = (p : ℕ) → MakesAt (LoadPlace p) st m n m'
 
 abbrev pub loads_count : Step (Unit {0}) → Sat → ℕ → Sat → Type 0
-loads_count st m n m' = Makes LoadCount m n m'
+loads_count st m n m' = MakesAt LoadCount st m n m'
 
 abbrev pub exchanges : Step (Unit {0}) → Sat → ℕ → Sat → Type 0
-exchanges st m n m' = Makes Exchange m n m'
+exchanges st m n m' = MakesAt Exchange st m n m'
 
 abbrev pub loads_generation : Step (Unit {0}) → Sat → ℕ → Sat → Type 0
-loads_generation st m n m' = Makes LoadGeneration m n m'
+loads_generation st m n m' = MakesAt LoadGeneration st m n m'
 
 abbrev pub leaves : Step (Unit {0}) → Sat → ℕ → Sat → Type 0
-leaves st m n m' = Makes Leave m n m'
+leaves st m n m' = MakesAt Leave st m n m'
 
 abbrev pub loads_word : Step (Unit {0}) → Sat → ℕ → Sat → Type 0
-loads_word st m n m' = (i : ℕ) → i < PAGE_WORDS → st.word ≡ content_word i m.0 → Makes (LoadWord i) m n m'
+loads_word st m n m' = (i : ℕ) → i < PAGE_WORDS → MakesAt (LoadWord i) st m n m'

@@ -1,42 +1,48 @@
--- The rule of the table, true between any two steps of any threads: its words and views are those of a core state that keeps the core's rule (own).
-use Rattle.std.specs.Prelude.{◌≡◌, ℕ, ◌+◌, ◌<◌, Bool, true, false, [], ◌∷◌, ◌++◌, map, replicate, count_by}
+-- The rule of the table, true between any two steps of any threads: there are events after which the words are the core's, and each seat knows how far it has come there and logs just its own part of their trace (own).
+use Rattle.std.specs.Prelude.{◌≡◌, ℕ, zero, suc, Bool, true, false, List, [], ◌∷◌, ◌++◌, map, replicate, count_by}
 use mathlib.Core.Option.{some}
 use lib.ListN.{get_elem?}
 use Rattle.atomic_table.specs.Table as table
 use Rattle.ksm_base.specs.declared.shape.Shape.{Shape}
-use Rattle.frame_core.specs.declared.ledger.Ledger.{Ledger}
-use Rattle.frame_core.specs.declared.seat.Phase.{Phase}
+use Rattle.ksm_base.specs.Values.{IsShape}
+use Rattle.frame_core.specs.declared.event.Event.{Event}
 use Rattle.frame_core.specs.declared.seat.Phase.TheVariants.{Idle, Spent as spent_phase}
-use Rattle.frame_core.specs.State.{State}
 use Rattle.frame_core.specs.Words.{words_of}
 use Rattle.frame_core.specs.Ledger.{ledger_of, first_ledger}
-use Rattle.frame_core.specs.Rule as core
+use Rattle.frame_core.specs.Trace.{History, run_of, log_of, keeper_log_of}
 use Rattle.frame_table.specs.declared.view.Tally.{Tally}
 use Rattle.frame_table.specs.declared.view.View.{View}
 use Rattle.frame_table.specs.declared.view.View.TheVariants.{Keeper, Reader, Spent}
 use Rattle.frame_table.specs.Views.{phase_of, tally_of}
 
--- a pass was not given back
-abbrev pub is_out : Phase → Bool
-is_out spent_phase = false
-is_out _ = true
+-- the view is that of a pass that was made and not given back
+abbrev pub is_out : View → Bool
+is_out (Reader sh phase log) = true
+is_out _ = false
 
--- the keeper is the seat 0, and what it knows is the ledger; of logs nothing is said
-abbrev pub Tied : Shape → Ledger → Tally → ℕ → View → Type 0
-Tied sh ledger tally j (Keeper sh' ledger' tally' log) = (sh' ≡ sh) × (ledger' ≡ ledger) × (tally' ≡ tally) × (j ≡ 0)
-Tied sh ledger tally j (Reader sh' phase log) = (sh' ≡ sh) × (0 < j)
-Tied sh ledger tally j Spent = 0 < j
+-- the views of all seats: a pass that is still to be made is idle, and has made no step
+abbrev pub all_views : Shape → Tally → List View → List View
+all_views sh tally views = views ++ replicate tally.unmade (Reader sh Idle [])
+
+-- what the view of a seat tells of its steps: the keeper has the seat 0, and the reader on the core's seat q has the seat q + 1; of a pass that was given back nothing is told
+abbrev pub Tied : Shape → History → Tally → ℕ → View → Type 0
+Tied sh h tally zero (Keeper sh' ledger tally' log) = (sh' ≡ sh) × (ledger ≡ ledger_of h.state) × (tally' ≡ tally) × (log ≡ keeper_log_of h.trace)
+Tied sh h tally (suc q) (Reader sh' phase log) = (sh' ≡ sh) × (log ≡ log_of q h.trace)
+Tied sh h tally (suc q) Spent = Unit {0}
+Tied sh h tally _ _ = ⊥
+
+-- words and views are those of the core after these steps, but that a pass given back is idle there
+pub record IsAfter (sh : Shape) (h : History) (tally : Tally) (words : List ℕ) (views : List View) : Type 0 where
+  pub words_are : words ≡ words_of h.state
+  pub phases_are : map phase_of views ≡ spent_phase ∷ h.state.seats
+  pub tied : (j : ℕ) (v : View) → get_elem? views j ≡ some v → Tied sh h tally j v
 
 pub record Holds (sh : Shape) (t : table.State (Unit {0}) View) : Type 0 where
-  pub state : State
+  pub shape : IsShape sh
+  pub events : List Event
   pub tally : Tally
-  pub shape : state.shape ≡ sh
-  pub rule : core.Rule state
-  pub words : t.words ≡ words_of state
-  -- the seats of the core are the readers' phases, and idle ones for the passes that are still to be made
-  pub seats : map phase_of t.views ++ replicate tally.unmade Idle ≡ spent_phase ∷ state.seats
-  pub out : count_by is_out state.seats ≡ tally.unmade + tally.out
-  pub views : (j : ℕ) (v : View) → get_elem? t.views j ≡ some v → Tied sh (ledger_of state) tally j v
+  pub after : IsAfter sh (run_of sh events) tally t.words (all_views sh tally t.views)
+  pub out : count_by is_out t.views ≡ tally.out
 
 -- the keeper before any pass is made
 abbrev pub first_view : Shape → View

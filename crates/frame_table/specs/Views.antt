@@ -6,7 +6,7 @@ use Rattle.frame_core.specs.declared.event.KeeperStep.{KeeperStep}
 use Rattle.frame_core.specs.declared.event.ReaderStep.{ReaderStep}
 use Rattle.frame_core.specs.declared.ledger.Ledger.{Ledger}
 use Rattle.frame_core.specs.declared.seat.Phase.{Phase}
-use Rattle.frame_core.specs.declared.seat.Phase.TheVariants.{Held, Spent as spent_phase}
+use Rattle.frame_core.specs.declared.seat.Phase.TheVariants.{Idle, Held, Spent as spent_phase}
 use Rattle.frame_table.specs.declared.view.Tally.{Tally}
 use Rattle.frame_table.specs.declared.view.View.{View}
 use Rattle.frame_table.specs.declared.view.View.TheVariants.{Keeper, Reader, Spent}
@@ -23,10 +23,11 @@ KeeperLog = List (KeeperStep × ℕ)
 abbrev pub Sat : Type 0
 Sat = Me (Unit {0}) View
 
--- how far a seat has come; the keeper's is no reader's, and is as one given back
+-- how far a seat has come: a pass that was given back is idle, and the keeper's seat is no reader's
 abbrev pub phase_of : View → Phase
 phase_of (Reader sh phase log) = phase
-phase_of _ = spent_phase
+phase_of Spent = Idle
+phase_of (Keeper sh ledger tally log) = spent_phase
 
 abbrev pub no_shape : Shape
 no_shape = record { nodes = 0; frames_per_node = 0; passes = 0; last_generation = 0; tries = 0 }

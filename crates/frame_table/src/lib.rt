@@ -15,12 +15,13 @@ mod pass;
 mod reader_steps;
 mod table;
 mod view;
+mod worked;
 
 pub use closed::ClosedTable;
 pub use equal::FoundEqual;
 pub use held::Held;
 pub use keeper::Keeper;
-pub use laws::steps_are_the_cores;
+pub use laws::{steps_are_the_cores, the_running_table_is_safe};
 pub use pass::{Found, Pass, Why};
 pub use table::FrameTable;
 pub use view::{FrameRule, Tally, View};

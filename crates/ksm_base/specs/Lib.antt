@@ -14,4 +14,8 @@ pub mod WorkedMerging
 pub mod WorkedKnobs
 pub mod WorkedFrames
 pub mod WorkedEdges
+pub mod WorkedRefusals
+pub mod WorkedPlaces
+pub mod WorkedPasses
+pub mod WorkedFlags
 pub mod WorkedSelftests

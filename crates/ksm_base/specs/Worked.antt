@@ -1,8 +1,11 @@
 -- Worked scripts, by which the definitions are tried: what a line may be, and when a book plays a script. Own.
-use Rattle.std.specs.Prelude.{◌≡◌, ℕ, ◌-◌, ◌*◌, ◌^◌, List, [], ◌∷◌, ◌++◌, Option, None, Some, Ok, Err}
+use Rattle.std.specs.Prelude.{◌≡◌, ℕ, ◌-◌, ◌*◌, ◌^◌, Bool, List, [], ◌∷◌, ◌++◌, Option, None, Some, Ok, Err}
 use Rattle.std.specs.List.{repeat}
 use Rattle.ksm_base.specs.declared.page.GuestPage.{GuestPage}
 use Rattle.ksm_base.specs.declared.page.TheConstants.{PAGE_WORDS}
+use Rattle.ksm_base.specs.declared.row.PageState.{PageState}
+use Rattle.ksm_base.specs.declared.row.Row.{Row}
+use Rattle.ksm_base.specs.declared.row.DupRow.{DupRow}
 use Rattle.ksm_base.specs.declared.command.Command.{Command}
 use Rattle.ksm_base.specs.declared.command.Command.TheVariants.{Register, Drop, Store, Scan, Prune, Unmerge, SetRun}
 use Rattle.ksm_base.specs.declared.reply.Reply.TheVariants.{Done, Scanned, Pruned, Unmerged}
@@ -11,6 +14,7 @@ use Rattle.ksm_base.specs.declared.fault.Fault.TheVariants.{NoFrame}
 use Rattle.ksm_base.specs.declared.knobs.Knobs.{Knobs}
 use Rattle.ksm_base.specs.declared.counters.Counters.{Counters}
 use Rattle.ksm_base.specs.declared.shape.Shape.{Shape}
+use Rattle.ksm_base.specs.Rows.{row_at}
 use Rattle.ksm_base.specs.State.{BookState}
 use Rattle.ksm_base.specs.Answers.{Answer, IsAnswer}
 use Rattle.ksm_base.specs.Apply.{after}
@@ -33,6 +37,10 @@ pub data Line : Type 0 where
   lies_at : GuestPage → Option ℕ → Line
   -- these pages are merged into the dup with items at a place, if one stands there
   maps : ℕ → Option (List GuestPage) → Line
+  -- a page has this row, or none
+  rows_at : GuestPage → Option Row → Line
+  -- the dups stand so, in the order of their places
+  stands : List DupRow → Line
 
 -- a book plays a script: each answer is one that its command may have there, each that
 -- never comes is none, and each reading is what the state then shows
@@ -45,6 +53,8 @@ Plays b (shows knob value ∷ later) = (knob b.knobs ≡ value) × Plays b later
 Plays b (reads page bytes ∷ later) = (bytes_of page b ≡ bytes) × Plays b later
 Plays b (lies_at page place ∷ later) = (ticket_of page b ≡ place) × Plays b later
 Plays b (maps place pages ∷ later) = (mappers_of place b ≡ pages) × Plays b later
+Plays b (rows_at page row ∷ later) = (row_at page b.rows ≡ row) × Plays b later
+Plays b (stands dups ∷ later) = (b.dups ≡ dups) × Plays b later
 
 -- a shape of so many nodes and frames a node
 abbrev pub shape : ℕ → ℕ → Shape
@@ -118,6 +128,22 @@ get guest page byte = reads (at guest page) (Some (full byte))
 -- a page is merged into the dup at a place
 abbrev pub ticket : ℕ → ℕ → ℕ → Line
 ticket guest page place = lies_at (at guest page) (Some place)
+
+-- a page has a row: its home, the byte that it is full of, whether it is mergeable and unchanged, and its state
+abbrev pub lies : ℕ → ℕ → ℕ → ℕ → Bool → Bool → PageState → Line
+lies guest page home byte mergeable unchanged state =
+    rows_at (at guest page) (Some (record {
+      page = at guest page;
+      home = home;
+      bytes = full byte;
+      mergeable = mergeable;
+      unchanged = unchanged;
+      state = state;
+    }))
+
+-- a dup: its number, its place, its tree, and the byte that its page is full of
+abbrev pub dup : ℕ → ℕ → ℕ → ℕ → DupRow
+dup number place tree byte = record { number = number; place = place; tree = tree; bytes = full byte }
 
 -- two equal pages of guest 0, scanned twice
 abbrev pub merged : List Line

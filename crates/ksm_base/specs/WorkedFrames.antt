@@ -1,8 +1,10 @@
 -- Worked scripts of commands that need frames: moves, copies, and what is answered where no frame is free. Own.
-use Rattle.std.specs.Prelude.{List, [], ◌∷◌, ◌++◌, None}
+use Rattle.std.specs.Prelude.{List, [], ◌∷◌, ◌++◌, None, Some, Ok, Err, true, false}
 use Rattle.ksm_base.specs.declared.command.Command.TheVariants.{Register, Store, Scan, Unmerge, MovePage, MoveDup, SetRun, SetAcross}
+use Rattle.ksm_base.specs.declared.row.PageState.TheVariants.{Private}
+use Rattle.ksm_base.specs.declared.reply.Reply.TheVariants.{Unmerged}
 use Rattle.ksm_base.specs.declared.fault.Fault.TheVariants.{NoFrame, NotRunning, InUse, CrossesNodes, UnknownPlace, BadNode}
-use Rattle.ksm_base.specs.Worked.{Line, lies_at, shows, at, full, ok, refused, reg, put, drop, scan, prune, stopped, stat, get, ticket, merged}
+use Rattle.ksm_base.specs.Worked.{Line, never, lies_at, shows, at, full, lies, ok, refused, reg, put, drop, scan, prune, stopped, stat, get, ticket, merged}
 
 -- a page that moves to another node gets a frame there and leaves its dup
 abbrev pub moved_page_leaves_its_dup : List Line
@@ -54,3 +56,18 @@ no_frame_everywhere =
     ∷ refused (NoFrame 0) (Register (at 0 3) 0 (full 0xdd)) ∷ refused (NoFrame 0) (MoveDup 0 0) ∷ stopped (Unmerge 0) 0 0
     ∷ reg 1 0 1 0xee ∷ reg 1 1 1 0xee ∷ refused (NoFrame 1) (MovePage (at 0 2) 1) ∷ stopped (SetRun 2) 0 0
     ∷ stat 1 1 0 3 0 0 2 ∷ refused NotRunning (Scan 1) ∷ get 0 0 0xaa ∷ []
+
+-- a copy wants a frame of its page's home, wherever the dup lies; a move wants one of the node it goes to
+abbrev pub frame_is_missed_where_it_is_wanted : List Line
+frame_is_missed_where_it_is_wanted =
+    reg 0 0 0 0xaa ∷ reg 0 1 1 0xaa ∷ ok (SetRun 1) ∷ scan 4 ∷ reg 1 0 1 0xbb ∷ reg 1 1 1 0xcc
+    ∷ refused (NoFrame 1) (Store (at 0 1) (full 0xdd)) ∷ refused (NoFrame 1) (MoveDup 0 1) ∷ never (MoveDup 0 1) (Err (NoFrame 0))
+    ∷ refused (NoFrame 1) (MovePage (at 0 0) 1) ∷ never (MovePage (at 0 0) 1) (Err (NoFrame 0))
+    ∷ never (Unmerge 0) (Ok (Unmerged 1 (Some (NoFrame 0)))) ∷ never (SetRun 2) (Ok (Unmerged 1 (Some (NoFrame 0))))
+    ∷ stopped (Unmerge 0) 1 1 ∷ ticket 0 1 0 ∷ []
+
+-- a page moves to a lower node as it moves to a higher one
+abbrev pub page_moves_to_a_lower_node : List Line
+page_moves_to_a_lower_node =
+    reg 0 0 1 0xaa ∷ reg 0 1 0 0xbb ∷ refused (NoFrame 0) (MovePage (at 0 0) 0) ∷ lies 0 0 1 0xaa true false Private ∷ drop 0 1
+    ∷ ok (MovePage (at 0 0) 0) ∷ lies 0 0 0 0xaa true false Private ∷ []

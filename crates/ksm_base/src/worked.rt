@@ -6,7 +6,12 @@ ghost use Rattle.ksm_base.specs.WorkedMerging;
 ghost use Rattle.ksm_base.specs.WorkedKnobs;
 ghost use Rattle.ksm_base.specs.WorkedFrames;
 ghost use Rattle.ksm_base.specs.WorkedEdges;
+ghost use Rattle.ksm_base.specs.WorkedRefusals;
+ghost use Rattle.ksm_base.specs.WorkedPlaces;
+ghost use Rattle.ksm_base.specs.WorkedPasses;
+ghost use Rattle.ksm_base.specs.WorkedFlags;
 ghost use Rattle.ksm_base.specs.WorkedSelftests;
+ghost use Rattle.std.specs.Prelude.{◌-◌, ◌^◌};
 
 /// All counters start at zero.
 pub fn counters_at_opening()
@@ -261,4 +266,189 @@ pub fn unmerging_leaves_none_merged()
 /// Unmerging takes the pages that are left of a guest.
 pub fn unmerging_after_discarding()
     ensures { Plays (opening (shape 1 5)) WorkedSelftests.unmerging_after_discarding }
+{}
+
+/// The settings at the start.
+pub fn settings_at_opening()
+    ensures { Plays (opening (shape 1 4)) WorkedRefusals.settings_at_opening }
+{}
+
+/// Of two refusals that a command meets the first in order is given.
+pub fn the_first_of_two_refusals()
+    ensures { Plays (opening (shape 1 4)) WorkedRefusals.the_first_of_two_refusals }
+{}
+
+/// Each setting may have the least and the greatest value of its range, and none beside it.
+pub fn ranges_have_both_ends()
+    ensures { Plays (opening (shape 1 4)) WorkedRefusals.ranges_have_both_ends }
+{}
+
+/// Neither knob of sharing changes while pages are shared, whether the scan runs or not, to a higher or a lower value.
+pub fn shared_pages_hold_both_knobs()
+    ensures { Plays (opening (shape 1 4)) WorkedRefusals.shared_pages_hold_both_knobs }
+{}
+
+/// A page that has no row, and a guest that has none, are refused beside others that have some.
+pub fn pages_and_guests_without_rows()
+    ensures { Plays (opening (shape 1 4)) WorkedRefusals.pages_and_guests_without_rows }
+{}
+
+/// No scan runs with run 0, and none with run 2.
+pub fn no_scan_but_with_run_one()
+    ensures { Plays (opening (shape 1 4)) WorkedRefusals.no_scan_but_with_run_one }
+{}
+
+/// All but the scan is done whether it runs or not.
+pub fn all_but_the_scan_goes_on()
+    ensures { Plays (opening (shape 1 4)) WorkedRefusals.all_but_the_scan_goes_on }
+{}
+
+/// A run of 0 or 1 is done, and answers nothing else; a run of 2 that lets no page go tells so.
+pub fn answers_of_a_run()
+    ensures { Plays (opening (shape 1 4)) WorkedRefusals.answers_of_a_run }
+{}
+
+/// Dups are numbered as they are made, and a new one takes the least empty place; the others stay, and each page joins its own.
+pub fn places_and_numbers_part()
+    ensures { Plays (opening (shape 1 8)) WorkedPlaces.places_and_numbers_part }
+{}
+
+/// Where every place is taken, the stale dup at the least place goes, whatever its number, and those with items stay.
+pub fn least_stale_place_is_taken()
+    ensures { Plays (opening (shape 1 4)) WorkedPlaces.least_stale_place_is_taken }
+{}
+
+/// Two contents make two chains, each counted once, in whatever order its dups were made.
+pub fn two_chains()
+    ensures { Plays (opening (shape 1 12)) WorkedPlaces.two_chains }
+{}
+
+/// With merge_across_nodes 0 equal dups of two nodes make no chain.
+pub fn each_node_has_chains_of_its_own()
+    ensures { Plays (opening (shape 2 4)) WorkedPlaces.each_node_has_chains_of_its_own }
+{}
+
+/// A dup of a node's tree stays on that node, and a page of a lower node doesn't join it.
+pub fn dup_of_a_higher_node()
+    ensures { Plays (opening (shape 2 8)) WorkedPlaces.dup_of_a_higher_node }
+{}
+
+/// With merge_across_nodes 0 a page doesn't merge with one that waits on a higher node.
+pub fn page_of_a_higher_node_waits_alone()
+    ensures { Plays (opening (shape 2 4)) WorkedPlaces.page_of_a_higher_node_waits_alone }
+{}
+
+/// A stale dup has no items to show and does not move, and a run of 2 leaves it.
+pub fn stale_dup_is_at_no_place()
+    ensures { Plays (opening (shape 1 4)) WorkedPlaces.stale_dup_is_at_no_place }
+{}
+
+/// A dup keeps its row where it moves, and where its items leave it.
+pub fn dup_keeps_its_row()
+    ensures { Plays (opening (shape 2 4)) WorkedPlaces.dup_keeps_its_row }
+{}
+
+/// A pass goes on where it was after other knobs and after an unmerging.
+pub fn pass_goes_on_behind_knobs()
+    ensures { Plays (opening (shape 2 4)) WorkedPasses.pass_goes_on_behind_knobs }
+{}
+
+/// A pass goes on behind the page visited last, where that was dropped.
+pub fn pass_goes_on_behind_a_dropped_page()
+    ensures { Plays (opening (shape 1 4)) WorkedPasses.pass_goes_on_behind_a_dropped_page }
+{}
+
+/// A pass visits the pages behind its cursor alone, also those that came late.
+pub fn pages_that_come_late()
+    ensures { Plays (opening (shape 1 4)) WorkedPasses.pages_that_come_late }
+{}
+
+/// A pass that ends before a visit ends the waiting too.
+pub fn pass_that_ends_early_ends_the_waiting()
+    ensures { Plays (opening (shape 1 4)) WorkedPasses.pass_that_ends_early_ends_the_waiting }
+{}
+
+/// Another limit, a run of 0 and the unmerging of another guest leave the waiting pages.
+pub fn knobs_leave_the_waiting()
+    ensures { Plays (opening (shape 1 4)) WorkedPasses.knobs_leave_the_waiting }
+{}
+
+/// A run of 2 that stops keeps the cursor, the flags and the pages that wait; the pages that it took are not unchanged.
+pub fn stopped_run_of_two_keeps_the_cursor()
+    ensures { Plays (opening (shape 1 4)) WorkedPasses.stopped_run_of_two_keeps_the_cursor }
+{}
+
+/// How many passes have ended is counted up to the greatest number of 64 bits, and stays there.
+pub fn passes_stay_at_the_greatest_number()
+    ensures { Plays (record (opening (shape 1 4)) { passes = 2 ^ 64 - 2 }) WorkedPasses.passes_stay_at_the_greatest_number }
+{}
+
+/// Where no page is mergeable a scan makes no visit: the pass doesn't end, and pages that are registered later are visited in it.
+pub fn scan_of_nothing_ends_no_pass()
+    ensures { Plays (opening (shape 1 4)) WorkedPasses.scan_of_nothing_ends_no_pass }
+{}
+
+/// There, none of these commands changes any other page, a dup, or the pass.
+pub fn nothing_else_changes()
+    ensures { Plays (opening (shape 2 8)) WorkedPasses.nothing_else_changes }
+{}
+
+/// Pages of two guests are two pages, though they have one number.
+pub fn pages_of_two_guests()
+    ensures { Plays (opening (shape 1 4)) WorkedFlags.pages_of_two_guests }
+{}
+
+/// What a row has from its registering to its unmerging.
+pub fn life_of_a_row()
+    ensures { Plays (opening (shape 2 4)) WorkedFlags.life_of_a_row }
+{}
+
+/// A store to a waiting page ends its waiting, and it keeps unchanged exactly where the bytes are equal.
+pub fn store_ends_the_waiting()
+    ensures { Plays (opening (shape 1 4)) WorkedFlags.store_ends_the_waiting }
+{}
+
+/// A page that moves leaves its dup or ends its waiting, and keeps both flags; a move to its home changes nothing.
+pub fn move_keeps_both_flags()
+    ensures { Plays (opening (shape 2 4)) WorkedFlags.move_keeps_both_flags }
+{}
+
+/// A page that was left out of the scan is not taken in again by a store, a move or a run of 2; unmerging takes pages that are not merged too.
+pub fn unmerged_page_stays_left_out()
+    ensures { Plays (opening (shape 2 4)) WorkedFlags.unmerged_page_stays_left_out }
+{}
+
+/// A store of equal bytes makes no page unchanged.
+pub fn equal_store_makes_no_page_unchanged()
+    ensures { Plays (opening (shape 1 4)) WorkedFlags.equal_store_makes_no_page_unchanged }
+{}
+
+/// A page that joins a dup is not unchanged by that.
+pub fn joined_page_keeps_its_flag()
+    ensures { Plays (opening (shape 1 4)) WorkedFlags.joined_page_keeps_its_flag }
+{}
+
+/// A guest that is made mergeable keeps what is unchanged.
+pub fn mergeable_keeps_unchanged()
+    ensures { Plays (opening (shape 1 4)) WorkedFlags.mergeable_keeps_unchanged }
+{}
+
+/// Other knobs of sharing keep both flags, homes and bytes.
+pub fn knobs_keep_both_flags()
+    ensures { Plays (opening (shape 2 4)) WorkedFlags.knobs_keep_both_flags }
+{}
+
+/// A run of 2 clears unchanged, of merged pages and of others, and keeps mergeable, homes and bytes.
+pub fn run_of_two_keeps_mergeable()
+    ensures { Plays (opening (shape 2 4)) WorkedFlags.run_of_two_keeps_mergeable }
+{}
+
+/// A copy wants a frame of its page's home, wherever the dup lies; a move wants one of the node it goes to.
+pub fn frame_is_missed_where_it_is_wanted()
+    ensures { Plays (opening (shape 2 2)) WorkedFrames.frame_is_missed_where_it_is_wanted }
+{}
+
+/// A page moves to a lower node as it moves to a higher one.
+pub fn page_moves_to_a_lower_node()
+    ensures { Plays (opening (shape 2 1)) WorkedFrames.page_moves_to_a_lower_node }
 {}

@@ -23,3 +23,5 @@ pub mod DupMoves
 pub mod Linking
 pub mod Partners
 pub mod Onward
+pub mod Entering
+pub mod Journaled

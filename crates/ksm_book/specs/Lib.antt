@@ -12,3 +12,5 @@ pub mod Mounted
 pub mod Lawful
 pub mod Scanned
 pub mod Wanted
+pub mod Entered
+pub mod Carried

@@ -1,37 +1,51 @@
 //! The book of page sharing.
 
-ghost use Rattle.std.specs.Prelude.{◌≡◌, IfOk, IfErr, option_map};
+ghost use Rattle.std.specs.Prelude.{◌≡◌, [], Some, IfOk, IfErr, IfSome, option_map};
 ghost use Rattle.ksm_base.specs.Answers.{IsAnswerOrMemory};
 ghost use Rattle.ksm_base.specs.Apply.{after};
 ghost use Rattle.ksm_base.specs.Counting.{counters_of};
+ghost use Rattle.ksm_base.specs.Journal.{IsLegal, ReadsLastStored, journal_after, last_stored};
 ghost use Rattle.ksm_base.specs.Reading.{bytes_of, mappers_of, ticket_of};
 ghost use Rattle.ksm_base.specs.Refusals.{is_known};
 ghost use Rattle.ksm_base.specs.State.{opening};
 ghost use Rattle.ksm_base.specs.Values.{IsShape};
 ghost use Rattle.frame_core.specs.Ledger.{first_ledger};
+ghost use Rattle.ksm_book.specs.Carried.{CarriedOut, unjournaled};
 ghost use Rattle.ksm_book.specs.Laid.{LoadsIf};
 ghost use Rattle.ksm_base.specs.Sound.{IsSound};
 ghost use Rattle.ksm_book.specs.Lawful.{LieLawfully, ShareLawfully};
 ghost use Rattle.ksm_book.specs.Steps.{Does};
 ghost use Rattle.ksm_book.specs.Whole.{nodes_got, HasShown};
 
+use crate::journal::Journal;
 use crate::state::State;
 use frame_table::{FrameTable, Keeper};
-use ksm_base::{Command, Counters, Fault, GuestPage, Knobs, PageBytes, Reply, Shape};
+use ksm_base::laws::a_journal_goes_on;
+use ksm_base::{
+    Command, Counters, Fault, GuestPage, Knobs, PageBytes, Reply, Shape,
+    each_page_has_what_was_stored_last,
+};
 use std::alloc::Global;
 use std::marker::Model;
 
-/// The pages of the guests and the dups into which they are merged, in the frames of a keeper. Contracts see the state of the book, and the keeper.
+/// The pages of the guests and the dups into which they are merged, in the frames of a keeper, with the journal of all commands. Contracts
+/// see the state of the book, the keeper, and the entries of the journal.
+///
+/// The journal is legal: it leads from the opening book to the state as it is.
 pub struct Book {
     state: State,
+    journal: Journal,
 }
 
 impl Model for Book {
-    ghost use Rattle.ksm_book.specs.Whole.{BookView};
+    ghost use Rattle.ksm_base.specs.Journal.{IsLegal};
+    ghost use Rattle.ksm_book.specs.Carried.{JournaledBook};
 
-    ghost Value = { BookView };
+    ghost Value = { JournaledBook };
 
-    ghost view = { λ b. b.state };
+    ghost view = { λ b. record { state = b.state.state; keeper = b.state.keeper; journal = b.journal.entries } };
+
+    ghost invariant = { λ b. IsLegal b.state.keeper.table.shape b.journal.entries b.state.state };
 }
 
 impl Book {
@@ -40,39 +54,39 @@ impl Book {
         requires shape { IsShape shape }
         requires same { keeper.table.shape ≡ shape }
         requires new { keeper.ledger ≡ first_ledger shape }
-        ensures opened { IfOk result (λ b. b ≡ record { state = opening shape; keeper = keeper }) }
+        ensures opened { IfOk result (λ b. b ≡ record { state = opening shape; keeper = keeper; journal = [] }) }
         ensures refused { IfErr result (λ e. (e.0 ≡ keeper) × (e.1 ≡ Fault.Memory)) }
     {
         Ok(Book {
             state: State::open(alloc, keeper, shape)?,
+            journal: Journal::new(alloc),
         })
     }
 
-    /// Does a command: a step of the book. `Err` is a refusal, and changes no page, dup or knob; `Fault::Memory` may come in place of any answer, and the keeper has then given no frame.
+    /// Does a command: a step of the book, and an entry of the journal. `Err` is a refusal, and changes no page, dup or knob.
+    /// `Fault::Memory` may come in place of any answer; then the keeper has given no frame, and there is no entry.
     pub fn apply(&mut self, table: &FrameTable, command: Command) -> Result<Reply, Fault>
         requires own { self.old.keeper.table ≡ table.now }
-        ensures own { self.new.keeper.table ≡ self.old.keeper.table }
         ensures answer { IsAnswerOrMemory self.old.state command result }
         ensures state { self.new.state ≡ after self.old.state command result }
-        ensures frames { Does self.old.keeper self.new.keeper (nodes_got self.old.state result command) }
-        ensures shown { HasShown self.old.state self.old.keeper self.new.keeper result command }
+        ensures carried { CarriedOut (unjournaled self.old) (unjournaled self.new) command result }
+        ensures journal { self.new.journal ≡ journal_after self.old.journal command result }
     {
-        let state = &mut self.state;
-        match command {
-            Command::Register { page, node, bytes } => state.register(table, page, node, bytes),
-            Command::Drop { page } => state.drop_page(table, page),
-            Command::Store { page, bytes } => state.store(table, page, bytes),
-            Command::Scan { visits } => state.scan(table, visits),
-            Command::Prune => state.prune(table),
-            Command::Unmerge { guest } => state.unmerge(table, guest),
-            Command::Mergeable { guest } => state.mergeable(guest),
-            Command::MovePage { page, node } => state.move_page(table, page, node),
-            Command::MoveDup { place, node } => state.move_dup(table, place, node),
-            Command::SetRun(run) => state.set_run(table, run),
-            Command::SetPagesToScan(pages) => state.set_pages_to_scan(pages),
-            Command::SetAcross(across) => state.set_across(table, across),
-            Command::SetLimit(limit) => state.set_limit(table, limit),
+        a_journal_goes_on();
+        self.journal.reserve()?;
+        let answer = carry_out(&mut self.state, table, command);
+        match answer {
+            Err(Fault::Memory) => {}
+            _ => self.journal.add(command, answer),
         }
+        answer
+    }
+
+    /// The journal: every command with its answer, in order, but those refused for memory.
+    pub fn journal(&self) -> &Journal
+        ensures { result.now.entries ≡ self.now.journal }
+    {
+        &self.journal
     }
 
     /// A law, which costs nothing to call: what is true of the book and of its frames whenever no call is under way.
@@ -80,18 +94,24 @@ impl Book {
         ensures sound { IsSound self.now.state }
         ensures placed { LieLawfully self.now.state self.now.keeper }
         ensures shared { ShareLawfully self.now.state self.now.keeper }
+        ensures legal { IsLegal self.now.keeper.table.shape self.now.journal self.now.state }
+        ensures stored { ReadsLastStored self.now.journal self.now.state.rows }
     {
+        each_page_has_what_was_stored_last();
         self.state.lies_lawfully();
     }
 
-    /// The bytes of a page, loaded from the words of its frame; none where it has no row.
+    /// The bytes of a page, loaded from the words of its frame; none where it has no row. They are those stored last by the journal.
     pub fn read(&mut self, table: &FrameTable, page: GuestPage) -> Option<PageBytes>
         requires own { self.old.keeper.table ≡ table.now }
         ensures own { self.new.keeper.table ≡ self.old.keeper.table }
         ensures bytes { result ≡ bytes_of page self.old.state }
+        ensures stored { IfSome result (λ bytes. last_stored page self.old.journal ≡ Some bytes) }
         ensures state { self.new.state ≡ self.old.state }
+        ensures journal { self.new.journal ≡ self.old.journal }
         ensures loads { LoadsIf result self.old.keeper self.new.keeper }
     {
+        each_page_has_what_was_stored_last();
         self.state.read(table, page)
     }
 
@@ -135,7 +155,33 @@ impl Book {
     pub fn close(self) -> Keeper
         ensures { result ≡ self.keeper }
     {
-        let Book { state } = self;
+        let Book { state, journal: _ } = self;
         state.close()
+    }
+}
+
+/// Does a command on the state.
+fn carry_out(state: &mut State, table: &FrameTable, command: Command) -> Result<Reply, Fault>
+    requires own { state.old.keeper.table ≡ table.now }
+    ensures own { state.new.keeper.table ≡ state.old.keeper.table }
+    ensures answer { IsAnswerOrMemory state.old.state command result }
+    ensures state { state.new.state ≡ after state.old.state command result }
+    ensures frames { Does state.old.keeper state.new.keeper (nodes_got state.old.state result command) }
+    ensures shown { HasShown state.old.state state.old.keeper state.new.keeper result command }
+{
+    match command {
+        Command::Register { page, node, bytes } => state.register(table, page, node, bytes),
+        Command::Drop { page } => state.drop_page(table, page),
+        Command::Store { page, bytes } => state.store(table, page, bytes),
+        Command::Scan { visits } => state.scan(table, visits),
+        Command::Prune => state.prune(table),
+        Command::Unmerge { guest } => state.unmerge(table, guest),
+        Command::Mergeable { guest } => state.mergeable(guest),
+        Command::MovePage { page, node } => state.move_page(table, page, node),
+        Command::MoveDup { place, node } => state.move_dup(table, place, node),
+        Command::SetRun(run) => state.set_run(table, run),
+        Command::SetPagesToScan(pages) => state.set_pages_to_scan(pages),
+        Command::SetAcross(across) => state.set_across(table, across),
+        Command::SetLimit(limit) => state.set_limit(table, limit),
     }
 }

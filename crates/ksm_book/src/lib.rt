@@ -4,6 +4,7 @@
 mod book;
 mod entry;
 mod frames;
+mod journal;
 mod knobs;
 mod layout;
 mod mounting;
@@ -16,6 +17,7 @@ mod state;
 mod unmerging;
 
 pub use book::Book;
+pub use journal::Journal;
 
 #[cfg(test)]
 mod tests;

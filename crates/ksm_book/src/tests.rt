@@ -210,3 +210,23 @@ fn held_dup_moves_once_it_is_left(rt: HostRuntime) -> Result<(), Fail> {
     assert_eq!(rt; closed.place(0), 2 * 1024 + 1);
     Ok(())
 }
+
+// The journal has each command with its answer, in order, those refused included.
+#[test]
+fn journal_tells_each_command(rt: HostRuntime) -> Result<(), Fail> {
+    let (table, mut book, passes) = opened(rt.alloc(), SHAPE)?;
+    assert_eq!(rt; book.journal().get(0), None);
+    merge_two(&rt, &table, &mut book);
+    let refused = book.apply(&table, registered(0, 0));
+    assert_eq!(rt; refused, Err(Fault::AlreadyRegistered));
+    assert_eq!(rt; book.apply(&table, stored(1)), DONE);
+    assert_eq!(rt; book.journal().len(), 6);
+    assert_eq!(rt; book.journal().get(0), Some((registered(0, 0), DONE)));
+    let scan = Scan { visits: 4 };
+    assert_eq!(rt; book.journal().get(3), Some((scan, scanned(4))));
+    assert_eq!(rt; book.journal().get(4), Some((registered(0, 0), refused)));
+    assert_eq!(rt; book.journal().get(5), Some((stored(1), DONE)));
+    assert_eq!(rt; book.journal().get(6), None);
+    let _ = table.close(book.close(), passes);
+    Ok(())
+}

@@ -3,6 +3,8 @@ pub mod Words
 pub mod Numbers
 pub mod Fields
 pub mod Lines
+pub mod Blocks
+pub mod Hex
 pub mod Parts
 pub mod Decimals
 pub mod Turns

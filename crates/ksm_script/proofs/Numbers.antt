@@ -1,5 +1,5 @@
 -- A word is read as a number exactly where it is the number's decimal text.
-use Rattle.std.proofs.Common.{◌≡◌, ℕ, ◌^◌, ◌<◌, ◌≤◌, Bool, true, false, not, ◌&&◌, ◌||◌, ltb, eqb, List, length, get_or, eq-eqb, Some, None, Result, Ok, Err, inl, inr, refl, sym, ap, subst, ◌∙◌, rules, arith}
+use Rattle.std.proofs.Common.{◌≡◌, ℕ, ◌+◌, ◌-◌, ◌*◌, ◌^◌, ◌<◌, ◌≤◌, Bool, true, false, not, ◌&&◌, ◌||◌, ltb, eqb, List, length, take, get_or, eq-eqb, Some, None, Result, Ok, Err, inl, inr, refl, sym, ap, ap₂, subst, ◌∙◌, rules, arith}
 use Rattle.std.specs.Prelude.{MatchResult, decimal}
 use Rattle.std.specs.Char.{is_ascii_digit}
 use Rattle.std.specs.List.{list_all}
@@ -9,8 +9,13 @@ use Rattle.std.proofs.lemmas.Bool.{cases_lt, le-ltb, lt-ltb, ltb-true, eqb-true}
 use Rattle.std.proofs.lemmas.Fmt.{IsAscii-from_digits, decimal_digit, decimal_nonempty, first_decimal, digits_decimal, digits_value-decimal, decimal-digits_value}
 use Rattle.std.proofs.lemmas.Str.{IsUtf8-from_ascii}
 use Rattle.std.proofs.lemmas.Str.Parse.{IsNumeralModel, numerals_by_value, parse_digits}
-use Rattle.ksm_script.specs.Reading.{is_plain, number_below}
-use Rattle.ksm_script.proofs.Booleans.{is_chosen, first_true, second_true}
+use Rattle.ksm_script.specs.Digits.{digits_of}
+use Rattle.ksm_script.specs.Reading.{is_plain, number_below, number_of}
+use Rattle.std.proofs.lemmas.Str.Parse.{digits_value-take-le}
+use Rattle.std.proofs.lemmas.Int.Digits.{digits_value_more}
+use Rattle.std.proofs.lemmas.List.Folds.{list_all_more}
+use Rattle.std.specs.Char.{digit_value}
+use Rattle.ksm_script.proofs.Booleans.{chosen, is_chosen, first_true, second_true}
 
 -- decimal digits, as a test
 own : IsNumeralModel (λ word. list_all is_ascii_digit word ≡ true) (digits_value 10)
@@ -35,30 +40,35 @@ plain_parts word e =
       no_zero = λ h. eqb-true _ _ (zero_alone (eqb (get_or word 0 0) 48) _ zero (eq-eqb _ _ h));
     }
 
--- a plain word is a text
-pub plain_text : (word : List ℕ) → is_plain word ≡ true → IsUtf8 word
-plain_text word e = IsUtf8-from_ascii word (IsAscii-from_digits word (own.to word (plain_parts word e).digits))
+not_zero : (a b : Bool) → (a ≡ true → b ≡ true) → (not a || b) ≡ true
+not_zero true b h = h refl
+not_zero false b h = refl
 
--- what `parse` says of a plain word
-pub parsed : {E : Type 0} (word : List ℕ) (r : Result ℕ E) → is_plain word ≡ true → ParsesUnsigned 32 10 word r
-    → MatchResult r (λ n. number_below (2 ^ 32) word ≡ Some n) (λ _. number_below (2 ^ 32) word ≡ None)
-parsed {E = E} word (Ok n) e h =
-    let is = parse_digits own {E = E} 32 word (Ok n) h (plain_parts word e).digits in
-    rw (e, lt-ltb _ _ is.0.1, is.1) refl
-parsed {E = E} word (Err f) e h =
-    let is = parse_digits own {E = E} 32 word (Err f) h (plain_parts word e).digits in
-    let high : ltb (digits_value 10 word) (2 ^ 32) ≡ false =
-    elim (cases_lt (digits_value 10 word) (2 ^ 32)) [
-      | inl lt ↦ absurd (is ((plain_parts word e).long, lt))
-      | inr le ↦ le-ltb _ _ le
-    ] in
-    rw (e, high) refl
+-- the digits as far as they are read
+abbrev pub IsReadTo : ℕ → List ℕ → ℕ → Type 0
+IsReadTo i word value = (list_all is_ascii_digit (take i word) ≡ true) × (value ≡ digits_value 10 (take i word)) × (value < 2 ^ 32)
 
--- what a fault of `parse` says of a plain word
-pub not_parsed : {E : Type 0} (word text : List ℕ) (r : Result ℕ E) (f : E) → is_plain word ≡ true → text ≡ word → r ≡ Err f
-    → ParsesUnsigned 32 10 text r → number_below (2 ^ 32) word ≡ None
-not_parsed {E = E} word text r f plain same is h =
-    parsed word (Err f) plain (subst (λ (x : Result ℕ E). ParsesUnsigned 32 10 word x) is (subst (λ (t : List ℕ). ParsesUnsigned 32 10 t r) same h))
+-- digits that write a number out of range
+pub no_digits_high : (word : List ℕ) (i value : ℕ) → value ≡ digits_value 10 (take i word) → 2 ^ 32 ≤ value → digits_of word ≡ None
+no_digits_high word i value is high =
+    let all : 2 ^ 32 ≤ digits_value 10 word = omega (arith, digits_value-take-le 10 word i (omega arith)) in
+    rw (le-ltb _ _ all) (neither (list_all is_ascii_digit word))
+  where
+    neither : (b : Bool) → chosen (b && false) (digits_value 10 word) ≡ None
+    neither true = refl
+    neither false = refl
+
+digit_value_of : (c : ℕ) → 48 ≤ c → c ≤ 57 → digit_value c ≡ c - 48
+digit_value_of c low high = let less : c < 58 = omega arith in rw (le-ltb _ _ low, lt-ltb _ _ less) refl
+
+-- one digit more
+module _ (word : List ℕ) (i value digit : ℕ) (lt : i < length word) (low : 48 ≤ get_or word i 0) (high : get_or word i 0 ≤ 57) (is : digit ≡ get_or word i 0 - 48)
+    (read : IsReadTo i word value) where
+  pub value_more : value * 10 + digit ≡ digits_value 10 (take (i + 1) word)
+  value_more = ap₂ (λ v d. v * 10 + d) read.1 (is ∙ sym (digit_value_of (get_or word i 0) low high)) ∙ sym (digits_value_more 10 word i lt)
+
+  pub read_more : is_ascii_digit (get_or word i 0) ≡ true → value * 10 + digit < 2 ^ 32 → IsReadTo (i + 1) word (value * 10 + digit)
+  read_more digits small = (list_all_more is_ascii_digit word i 0 lt ∙ ap₂ (λ a b. a && b) read.0 digits, value_more, small)
 
 -- ---- the number's decimal text
 
@@ -73,10 +83,6 @@ number_takes limit word n small e =
     let wide : digits_value 10 word < 2 ^ 64 = below_all (digits_value 10 word) limit lt small in
     let text = decimal-digits_value own word plain.digits plain.long plain.no_zero wide in
     (subst (λ k. k < limit) (sym is.1) lt, sym text ∙ ap decimal (sym is.1))
-
-not_zero : (a b : Bool) → (a ≡ true → b ≡ true) → (not a || b) ≡ true
-not_zero true b h = h refl
-not_zero false b h = refl
 
 zero_short : (n : ℕ) → n < 2 ^ 64 → get_or (decimal n) 0 0 ≡ 48 → length (decimal n) ≡ 1
 zero_short n lt e =

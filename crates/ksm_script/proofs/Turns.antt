@@ -1,7 +1,7 @@
 -- A run goes on by one line.
 use Rattle.std.proofs.Common.{◌≡◌, ◌≢◌, ℕ, ◌+◌, ◌≤◌, List, [], ◌∷◌, ◌++◌, length, Option, Result, Ok, Err, ap, ◌∙◌, sym, subst, append_assoc, inl, inr, refl}
-use Rattle.std.specs.Io.KnownBytes.{Appends, Consumes, IsAtEnd}
-use Rattle.std.proofs.KnownBytes.{Appends-nil, Appends-trans, Consumes-nil, Consumes-trans}
+use Rattle.std.specs.Io.KnownBytes.{Appends, Consumes, IsAtEnd, Keeps}
+use Rattle.std.proofs.KnownBytes.{Appends-kept, Appends-nil, Appends-trans, Consumes-nil, Consumes-trans}
 use Rattle.ksm_base.specs.State.{BookState}
 use Rattle.ksm_script.specs.declared.line.Line.{Line}
 use Rattle.ksm_script.specs.declared.line.LineFault.{LineFault}
@@ -33,9 +33,20 @@ pub nothing_yet : (reader writer : Option (List ℕ)) (state : BookState) → Is
 nothing_yet reader writer state =
     record { lines = []; text = []; count = 0; counted = refl; answered = none; consumed = Consumes-nil reader; appended = Appends-nil writer }
 
-pub in_state : (first now : Option (List ℕ)) (begun written : Option (List ℕ)) (from state same : BookState) (number : ℕ) → same ≡ state
-    → IsSoFar first now begun written from state number → IsSoFar first now begun written from same number
-in_state first now begun written from state same number e s = subst (λ (b : BookState). IsSoFar first now begun written from b number) (sym e) s
+-- the same after a line was read
+pub in_state : (first now : Option (List ℕ)) (begun written kept : Option (List ℕ)) (from state same : BookState) (number : ℕ) → same ≡ state
+    → Keeps written kept → IsSoFar first now begun written from state number → IsSoFar first now begun kept from same number
+in_state first now begun written kept from state same number e k s =
+    let stays : Appends begun kept s.text = Appends-kept begun written kept s.text s.appended k in
+    record {
+      lines = s.lines;
+      text = s.text;
+      count = s.count;
+      counted = s.counted;
+      answered = subst (λ (b : BookState). Answered from s.lines s.text s.count b) (sym e) s.answered;
+      consumed = s.consumed;
+      appended = stays;
+    }
 
 -- a line as it was read, which ended so
 pub record IsRead (now next : Option (List ℕ)) (line : List ℕ) (end : LineEnd) : Type 0 where

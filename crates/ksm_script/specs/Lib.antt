@@ -2,11 +2,13 @@ pub mod Content
 pub mod Knobs
 pub mod Grammar
 pub mod Reading
+pub mod Digits
 pub mod Forms
 pub mod Texts
 pub mod Pieces
 pub mod Replies
 pub mod Input
+pub mod Takes
 pub mod Answering
 pub mod Script
 pub mod Seen

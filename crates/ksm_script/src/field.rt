@@ -1,10 +1,11 @@
 //! The fields of a line: its words, read one by one.
 ghost use Rattle.std.specs.Prelude.{◌≡◌, ◌+◌, ◌*◌, ◌<◌, ◌≤◌, ◌==◌, ◌∷◌, length, bytes_eq, position};
-ghost use Rattle.std.specs.Char.{is_ascii_digit, is_ascii_hexdigit};
+ghost use Rattle.std.specs.Char.{is_ascii_hexdigit};
 ghost use Rattle.std.specs.List.{list_all};
 ghost use Rattle.ksm_script.specs.Content.{hex_value, byte_at, word_at, page_of, content_of};
 ghost use Rattle.ksm_script.specs.Grammar.{words_of};
-ghost use Rattle.ksm_script.specs.Reading.{Gives, GivesField, words_left, is_plain, field, guest_of, number_of, page_at, alone, page_alone, knob_of, ended};
+ghost use Rattle.ksm_script.specs.Digits.{digits_of};
+ghost use Rattle.ksm_script.specs.Reading.{Gives, GivesField, words_left, field, guest_of, number_of, page_at, alone, page_alone, knob_of, ended};
 
 use crate::knob::{Knob, knob_named};
 use crate::line::LineFault;
@@ -13,6 +14,19 @@ use std::array;
 
 /// How many digits a page is written in.
 const PAGE_DIGITS: usize = 16 * PAGE_WORDS;
+
+/// The value of each byte as a hexadecimal digit, 0 of any other byte.
+const DIGIT_VALUES: [u8; 256] = [
+    0, 0, 0, 0, 0, 0, 0, 0, 0, 0, 0, 0, 0, 0, 0, 0, 0, 0, 0, 0, 0, 0, 0, 0, 0, 0, 0, 0, 0, 0, 0, 0,
+    0, 0, 0, 0, 0, 0, 0, 0, 0, 0, 0, 0, 0, 0, 0, 0, 0, 1, 2, 3, 4, 5, 6, 7, 8, 9, 0, 0, 0, 0, 0, 0,
+    0, 10, 11, 12, 13, 14, 15, 0, 0, 0, 0, 0, 0, 0, 0, 0, 0, 0, 0, 0, 0, 0, 0, 0, 0, 0, 0, 0, 0, 0,
+    0, 0, 0, 10, 11, 12, 13, 14, 15, 0, 0, 0, 0, 0, 0, 0, 0, 0, 0, 0, 0, 0, 0, 0, 0, 0, 0, 0, 0, 0,
+    0, 0, 0, 0, 0, 0, 0, 0, 0, 0, 0, 0, 0, 0, 0, 0, 0, 0, 0, 0, 0, 0, 0, 0, 0, 0, 0, 0, 0, 0, 0, 0,
+    0, 0, 0, 0, 0, 0, 0, 0, 0, 0, 0, 0, 0, 0, 0, 0, 0, 0, 0, 0, 0, 0, 0, 0, 0, 0, 0, 0, 0, 0, 0, 0,
+    0, 0, 0, 0, 0, 0, 0, 0, 0, 0, 0, 0, 0, 0, 0, 0, 0, 0, 0, 0, 0, 0, 0, 0, 0, 0, 0, 0, 0, 0, 0, 0,
+    0, 0, 0, 0, 0, 0, 0, 0, 0, 0, 0, 0, 0, 0, 0, 0, 0, 0, 0, 0, 0, 0, 0, 0, 0, 0, 0, 0, 0, 0, 0, 0,
+    0, 0, 0, 0,
+];
 
 /// Where the first space of a text is.
 fn first_space(text: &[u8]) -> Option<usize>
@@ -48,44 +62,46 @@ pub fn ended(left: Option<&[u8]>) -> Result<(), LineFault>
     }
 }
 
-/// Whether a word has decimal digits alone, and no leading zero but in `0` itself.
-fn is_plain(word: &[u8]) -> bool
-    ensures { result ≡ is_plain word.now }
-{
-    match word {
-        [] => false,
-        [first, ..] => are_digits(word) && (*first != b'0' || word.len() == 1),
-    }
-}
-
-/// Whether each byte is a decimal digit.
-fn are_digits(word: &[u8]) -> bool
-    ensures { result ≡ list_all is_ascii_digit word.now }
-{
-    word.iter().all(|byte| byte.is_ascii_digit())
-}
-
 /// Whether each byte is a hexadecimal digit.
 fn are_hex_digits(word: &[u8]) -> bool
     ensures { result ≡ list_all is_ascii_hexdigit word.now }
 {
-    word.iter().all(|byte| byte.is_ascii_hexdigit())
+    word.iter().all(|byte| is_hex_digit(*byte))
+}
+
+/// Whether a byte is a hexadecimal digit.
+fn is_hex_digit(byte: u8) -> bool
+    ensures { result ≡ is_ascii_hexdigit byte }
+{
+    digit(byte) != 0 || byte == b'0'
 }
 
 /// The number that a word writes in decimal digits without leading zeros.
 fn number_in(word: &[u8]) -> Result<u32, LineFault>
     ensures { Gives result (number_of word.now) }
 {
-    if !is_plain(word) {
-        return Err(LineFault::Bad);
+    match word {
+        [] => Err(LineFault::Bad),
+        [b'0', _, ..] => Err(LineFault::Bad),
+        _ => digits_in(word),
     }
-    let Ok(text) = str::from_utf8(word) else {
-        return Err(LineFault::Bad);
-    };
-    match text.parse::<u32>() {
-        Ok(number) => Ok(number),
-        Err(_) => Err(LineFault::Bad),
+}
+
+/// The number that decimal digits write, leading zeros included.
+fn digits_in(word: &[u8]) -> Result<u32, LineFault>
+    ensures { Gives result (digits_of word.now) }
+{
+    let mut value: u64 = 0;
+    for byte in word {
+        if !byte.is_ascii_digit() {
+            return Err(LineFault::Bad);
+        }
+        value = value * 10 + u64::from(*byte - b'0');
+        if value > u64::from(u32::MAX) {
+            return Err(LineFault::Bad);
+        }
     }
+    Ok(value as u32)
 }
 
 /// The next word as a number.
@@ -173,10 +189,7 @@ fn digit(byte: u8) -> u8
     ensures value { result ≡ hex_value byte }
     ensures small { result < 16 }
 {
-    match char::from(byte).to_digit(16) {
-        Some(value) => value as u8,
-        None => 0,
-    }
+    DIGIT_VALUES[byte as usize]
 }
 
 /// Word i of the page that the digits write.

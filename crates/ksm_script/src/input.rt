@@ -1,10 +1,13 @@
 //! Lines from a reader.
-ghost use Rattle.std.specs.Prelude.{◌≡◌, ◌+◌, ◌<◌, ◌≤◌, ◌++◌, ◌∷◌, [], ℕ, List, length, take, IfOk, IfErr, IfNone, IsTrue, ◌↔◌, option_to_list};
+ghost use Rattle.std.specs.Prelude.{◌≡◌, ◌≢◌, ◌+◌, ◌<◌, ◌≤◌, ◌++◌, ◌∷◌, ◌⊎◌, [], ℕ, List, Option, Some, Ok, length, take, IfOk, IfErr, IfNone, IsTrue, ◌↔◌, option_to_list};
+ghost use Rattle.std.specs.Io.Buffered.{reader_inner, reader_remaining, writer_buffer, writer_contents};
 ghost use Rattle.std.specs.Io.KnownBytes.{Consumes, Keeps, IsAtEnd};
+ghost use Rattle.ksm_script.specs.Takes.{Takes};
 ghost use Rattle.ksm_script.specs.Input.{EndsAs, IsPlain};
 
 use crate::script::RunFault;
-use std::io::Read;
+use memchr::memchr;
+use std::io::{BufRead, BufReader, BufWriter, Read, Write};
 use std::marker::Model;
 
 /// How many bytes are read of a line: one more than a line may have.
@@ -71,6 +74,23 @@ impl LineBuffer {
         self.len += 1;
     }
 
+    /// How many bytes more it can have.
+    pub fn room(&self) -> usize
+        ensures { result + length self.now ≡ 257 }
+    {
+        LINE_ROOM - self.len
+    }
+
+    /// Adds some bytes, where there is room.
+    pub fn extend(&mut self, bytes: &[u8])
+        requires { length self.old + length bytes.now ≤ 257 }
+        ensures { self.new ≡ self.old ++ bytes.now }
+    {
+        let end = self.len + bytes.len();
+        self.bytes[self.len..end].copy_from_slice(bytes);
+        self.len = end;
+    }
+
     /// The bytes.
     pub fn as_slice(&self) -> &[u8]
         ensures value { result.now ≡ self.now }
@@ -94,6 +114,52 @@ fn next_byte<R: Read>(reader: &mut R) -> Result<Option<u8>, RunFault>
     }
 }
 
+/// Adds the next byte to a line, and tells how the line ended with it, if it has.
+fn take_byte<R: Read>(reader: &mut R, line: &mut LineBuffer) -> Result<Option<LineEnd>, RunFault>
+    requires plain { IsPlain line.old }
+    requires room { length line.old ≤ 256 }
+    ensures taken { IfOk result (λ end. Takes end line.old line.new (R.remaining reader.old) (R.remaining reader.new)) }
+    ensures plain { IsPlain line.new }
+    ensures end { result ≡ Ok (Some LineEnd.Input) → IsAtEnd (R.remaining reader.new) }
+    ensures fault { IfErr result (λ e. (e ≡ RunFault.Read) × (line.new ≡ line.old)
+        × Keeps (R.remaining reader.old) (R.remaining reader.new)) }
+{
+    let Some(byte) = next_byte(reader)? else {
+        return Ok(Some(LineEnd::Input));
+    };
+    if byte == b'\n' {
+        return Ok(Some(LineEnd::Newline));
+    }
+    line.push(byte);
+    Ok(line.is_too_long().then_some(LineEnd::TooLong))
+}
+
+/// Adds what the reader has in its buffer of a line, and tells how the line ended with it, if it has.
+fn take_block<R: Read>(reader: &mut BufReader<R>, line: &mut LineBuffer) -> Option<LineEnd>
+    requires plain { IsPlain line.old }
+    requires room { length line.old ≤ 256 }
+    ensures taken { Takes result line.old line.new (reader_remaining R.remaining reader.old) (reader_remaining R.remaining reader.new) }
+    ensures plain { IsPlain line.new }
+    ensures end { result ≢ Some LineEnd.Input }
+    ensures source { reader_inner reader.new ≡ reader_inner reader.old }
+{
+    let buffer = reader.buffer();
+    let block = &buffer[..buffer.len().min(line.room())];
+    match memchr(b'\n', block) {
+        Some(at) => {
+            line.extend(&block[..at]);
+            reader.consume(at + 1);
+            Some(LineEnd::Newline)
+        }
+        None => {
+            line.extend(block);
+            let taken = block.len();
+            reader.consume(taken);
+            line.is_too_long().then_some(LineEnd::TooLong)
+        }
+    }
+}
+
 /// Reads a line up to its newline, to the end of the input, or to its 257th byte. At a fault the line has what was read of it.
 pub fn next_line<R: Read>(reader: &mut R, line: &mut LineBuffer) -> Result<LineEnd, RunFault>
     ensures read { IfOk result (λ end. (bytes : List ℕ) × EndsAs end line.new bytes
@@ -105,16 +171,87 @@ pub fn next_line<R: Read>(reader: &mut R, line: &mut LineBuffer) -> Result<LineE
 {
     line.clear();
     'bytes: for _ in 0..u64::MAX {
-        let Some(byte) = next_byte(reader)? else {
-            return Ok(LineEnd::Input);
-        };
-        if byte == b'\n' {
-            return Ok(LineEnd::Newline);
-        }
-        line.push(byte);
-        if line.is_too_long() {
-            return Ok(LineEnd::TooLong);
+        if let Some(end) = take_byte(reader, line)? {
+            return Ok(end);
         }
     }
     Err(RunFault::Read)
+}
+
+/// How a run takes lines from a reader, while a writer has the replies.
+pub(crate) trait TakesLines<R, W: Write> {
+    /// The bytes that the reader still gives, where they are known.
+    ghost remaining: { R → Option (List ℕ) };
+
+    /// Reads a line up to its newline, to the end of the input, or to its 257th byte. At a fault the line has what was read of it.
+    fn next_line(reader: &mut R, writer: &mut W, line: &mut LineBuffer) -> Result<LineEnd, RunFault>
+        ensures read { IfOk result (λ end. (bytes : List ℕ) × EndsAs end line.new bytes
+            × Consumes (remaining reader.old) (remaining reader.new) bytes) }
+        ensures plain { IsPlain line.new }
+        ensures end { result ≡ Ok LineEnd.Input → IsAtEnd (remaining reader.new) }
+        ensures fault { IfErr result (λ e. (e ≡ RunFault.Read) × (length line.new ≤ 256)
+            × Consumes (remaining reader.old) (remaining reader.new) line.new) }
+        ensures kept { Keeps (W.contents writer.old) (W.contents writer.new) };
+}
+
+/// Byte by byte, from any reader.
+pub(crate) struct ByBytes;
+
+impl<R: Read, W: Write> TakesLines<R, W> for ByBytes {
+    ghost remaining = { R.remaining };
+
+    fn next_line(
+        reader: &mut R,
+        _writer: &mut W,
+        line: &mut LineBuffer,
+    ) -> Result<LineEnd, RunFault> {
+        next_line(reader, line)
+    }
+}
+
+/// Out of a reader's buffer. Before the reader waits for more input, the replies are sent.
+pub(crate) struct ByBlocks;
+
+impl<R: Read, W: Write + Drop> TakesLines<BufReader<R>, BufWriter<W>> for ByBlocks {
+    ghost remaining = { reader_remaining R.remaining };
+
+    fn next_line(
+        reader: &mut BufReader<R>,
+        writer: &mut BufWriter<W>,
+        line: &mut LineBuffer,
+    ) -> Result<LineEnd, RunFault> {
+        line.clear();
+        'turns: for _ in 0..u64::MAX {
+            if let Some(end) = take_more(reader, writer, line)? {
+                return Ok(end);
+            }
+        }
+        Err(RunFault::Read)
+    }
+}
+
+/// Adds more bytes to a line, and tells how the line ended with them, if it has. Before the reader waits for more input, the
+/// replies are sent; a failed sending is a failed read, and reads nothing.
+fn take_more<R: Read, W: Write + Drop>(
+    reader: &mut BufReader<R>,
+    writer: &mut BufWriter<W>,
+    line: &mut LineBuffer,
+) -> Result<Option<LineEnd>, RunFault>
+    requires plain { IsPlain line.old }
+    requires room { length line.old ≤ 256 }
+    ensures taken { IfOk result (λ end. Takes end line.old line.new (reader_remaining R.remaining reader.old) (reader_remaining R.remaining reader.new)) }
+    ensures plain { IsPlain line.new }
+    ensures end { result ≡ Ok (Some LineEnd.Input) → IsAtEnd (reader_remaining R.remaining reader.new) }
+    ensures fault { IfErr result (λ e. (e ≡ RunFault.Read) × (line.new ≡ line.old)
+        × Keeps (reader_remaining R.remaining reader.old) (reader_remaining R.remaining reader.new)) }
+    ensures kept { Keeps (writer_contents W.contents writer.old) (writer_contents W.contents writer.new) }
+    ensures sent { (reader_inner reader.new ≡ reader_inner reader.old) ⊎ (writer_buffer writer.new ≡ []) }
+{
+    if !reader.buffer().is_empty() {
+        return Ok(take_block(reader, line));
+    }
+    if writer.flush().is_err() {
+        return Err(RunFault::Read);
+    }
+    take_byte(reader, line)
 }

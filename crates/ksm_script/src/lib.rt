@@ -15,5 +15,5 @@ mod tests;
 pub use knob::Knob;
 pub use line::{Line, LineFault, read_line};
 pub use reply::{LineReply, write_reply};
-pub use script::{End, RunFault, run};
+pub use script::{End, RunFault, run, run_buffered};
 pub use session::Session;

@@ -1,9 +1,8 @@
 //! Texts on a writer, whole or, at a fault, a beginning.
-ghost use Rattle.std.specs.Prelude.{◌≡◌, ◌+◌, ◌<◌, ◌≤◌, false, length, map, drop, OnOk, IfErr, decimal};
-ghost use Rattle.std.specs.Fmt.{digit_glyph};
-ghost use Rattle.std.specs.List.{flat_map, range_with_len};
+ghost use Rattle.std.specs.Prelude.{◌≡◌, ◌+◌, ◌<◌, ◌≤◌, length, drop, OnOk, IfErr, decimal};
+ghost use Rattle.std.specs.List.{flat_map};
 ghost use Rattle.std.specs.Io.KnownBytes.{Appends};
-ghost use Rattle.ksm_script.specs.Texts.{AppendsPart, word_digits, nibble_at, content_text};
+ghost use Rattle.ksm_script.specs.Texts.{AppendsPart, word_digits, content_text};
 ghost use Rattle.ksm_script.specs.Pieces.{piece_text};
 
 use crate::script::RunFault;
@@ -71,43 +70,13 @@ fn write_number<W: Write>(writer: &mut W, number: u64) -> Result<(), RunFault>
     write_text(writer, &buffer[at..])
 }
 
-/// The hexadecimal digit of a value, in lower case.
-fn hex_digit(value: u8) -> u8
-    requires { value < 16 }
-    ensures { result ≡ digit_glyph false value }
-{
-    if value < 10 {
-        b'0' + value
-    } else {
-        b'a' + value - 10
-    }
-}
-
-/// Digit k of some bytes, the higher half of each before the lower.
-fn digit_of(bytes: &[u8; 8], k: usize) -> u8
-    requires { k < 16 }
-    ensures { result ≡ nibble_at bytes.now k }
-{
-    let byte = bytes[k / 2];
-    hex_digit(if k % 2 == 0 { byte / 16 } else { byte % 16 })
-}
-
-/// The digits of some bytes.
-fn digits_from(bytes: &[u8; 8]) -> [u8; 16]
-    ensures { result ≡ map (nibble_at bytes.now) (range_with_len 0 16) }
-{
-    let mut digits = [0; 16];
-    for k in 0..16 {
-        digits[k] = digit_of(bytes, k);
-    }
-    digits
-}
-
 /// The digits of a word of a page, from its lowest byte on.
 fn digits_of(word: u64) -> [u8; 16]
     ensures { result ≡ word_digits word }
 {
-    digits_from(&word.to_le_bytes())
+    let mut digits = [0; 16];
+    let _ = hex::encode_to_slice(&word.to_le_bytes(), &mut digits);
+    digits
 }
 
 /// Writes the content of a page, its bytes in order, two digits each.

@@ -1,5 +1,6 @@
 //! Runs of a session over a reader and a writer.
 ghost use Rattle.std.specs.Prelude.{◌≡◌, ◌+◌, ◌≤◌, ◌++◌, ◌⊎◌, ℕ, List, length, Ok, Err, OnOk, IfErr};
+ghost use Rattle.std.specs.Io.Buffered.{reader_remaining, writer_contents};
 ghost use Rattle.std.specs.Io.KnownBytes.{Appends, IsAtEnd};
 ghost use Rattle.ksm_script.specs.declared.reply.LineReply.TheVariants.{BadLine as bad_line};
 ghost use Rattle.ksm_script.specs.Answering.{reply_text};
@@ -8,11 +9,11 @@ ghost use Rattle.ksm_script.specs.Replies.{text_of};
 ghost use Rattle.ksm_script.specs.Script.{AnsweredAll, AnsweredBefore, AnsweredToBad, IsReadAs};
 ghost use Rattle.ksm_script.specs.Texts.{AppendsPart};
 
-use crate::input::LineEnd;
+use crate::input::{ByBlocks, ByBytes, LineEnd, TakesLines};
 use crate::line::{Line, LineFault, read_line};
 use crate::reply::{LineReply, write_reply};
 use crate::session::Session;
-use std::io::{Read, Write};
+use std::io::{BufReader, BufWriter, Read, Write};
 use thiserror::Error;
 
 /// Why a run broke off.
@@ -63,8 +64,65 @@ pub fn run<R: Read, W: Write>(
         × AppendsPart (W.contents writer.old) (W.contents writer.new) (text ++ text_of (bad_line (count + 1)))) }
     ensures table { session.new.keeper.table ≡ session.old.keeper.table }
 {
+    run_by::<ByBytes, R, W>(reader, writer, session)
+}
+
+/// Answers each line as [`run`] does, out of the reader's buffer.
+///
+/// Before the reader waits for more input, the replies are sent; where that fails, it is a failed read. Nothing is sent at the
+/// end.
+pub fn run_buffered<R: Read, W: Write + Drop>(
+    reader: &mut BufReader<R>,
+    writer: &mut BufWriter<W>,
+    session: &mut Session,
+) -> Result<End, RunFault>
+    ensures all { result ≡ Ok End.AllRead → (text : List ℕ)
+        × AnsweredAll (reader_remaining R.remaining reader.old) (reader_remaining R.remaining reader.new) session.old.state session.new.state text
+        × Appends (writer_contents W.contents writer.old) (writer_contents W.contents writer.new) text
+        × IsAtEnd (reader_remaining R.remaining reader.new) }
+    ensures bad { (number : ℕ) → result ≡ Ok (End.BadLine number) → (text : List ℕ) × (count : ℕ) × (number ≡ count + 1)
+        × AnsweredToBad (reader_remaining R.remaining reader.old) (reader_remaining R.remaining reader.new) session.old.state session.new.state text count
+        × Appends (writer_contents W.contents writer.old) (writer_contents W.contents writer.new) (text ++ text_of (bad_line number)) }
+    ensures read_fault { result ≡ Err RunFault.Read → (text : List ℕ) × (count : ℕ) × (rest : List ℕ) × IsPlain rest × (length rest ≤ 256)
+        × AnsweredBefore (reader_remaining R.remaining reader.old) (reader_remaining R.remaining reader.new) session.old.state session.new.state text count rest
+        × Appends (writer_contents W.contents writer.old) (writer_contents W.contents writer.new) text }
+    ensures write_fault { result ≡ Err RunFault.Write → ((text : List ℕ)
+        × AnsweredAll (reader_remaining R.remaining reader.old) (reader_remaining R.remaining reader.new) session.old.state session.new.state text
+        × AppendsPart (writer_contents W.contents writer.old) (writer_contents W.contents writer.new) text)
+        ⊎ ((text : List ℕ) × (count : ℕ)
+        × AnsweredToBad (reader_remaining R.remaining reader.old) (reader_remaining R.remaining reader.new) session.old.state session.new.state text count
+        × AppendsPart (writer_contents W.contents writer.old) (writer_contents W.contents writer.new) (text ++ text_of (bad_line (count + 1)))) }
+    ensures table { session.new.keeper.table ≡ session.old.keeper.table }
+{
+    run_by::<ByBlocks, BufReader<R>, BufWriter<W>>(reader, writer, session)
+}
+
+/// Answers each line, taken in this way.
+fn run_by<M: TakesLines<R, W>, R, W: Write>(
+    reader: &mut R,
+    writer: &mut W,
+    session: &mut Session,
+) -> Result<End, RunFault>
+    ensures all { result ≡ Ok End.AllRead → (text : List ℕ)
+        × AnsweredAll (M.remaining reader.old) (M.remaining reader.new) session.old.state session.new.state text
+        × Appends (W.contents writer.old) (W.contents writer.new) text
+        × IsAtEnd (M.remaining reader.new) }
+    ensures bad { (number : ℕ) → result ≡ Ok (End.BadLine number) → (text : List ℕ) × (count : ℕ) × (number ≡ count + 1)
+        × AnsweredToBad (M.remaining reader.old) (M.remaining reader.new) session.old.state session.new.state text count
+        × Appends (W.contents writer.old) (W.contents writer.new) (text ++ text_of (bad_line number)) }
+    ensures read_fault { result ≡ Err RunFault.Read → (text : List ℕ) × (count : ℕ) × (rest : List ℕ) × IsPlain rest × (length rest ≤ 256)
+        × AnsweredBefore (M.remaining reader.old) (M.remaining reader.new) session.old.state session.new.state text count rest
+        × Appends (W.contents writer.old) (W.contents writer.new) text }
+    ensures write_fault { result ≡ Err RunFault.Write → ((text : List ℕ)
+        × AnsweredAll (M.remaining reader.old) (M.remaining reader.new) session.old.state session.new.state text
+        × AppendsPart (W.contents writer.old) (W.contents writer.new) text)
+        ⊎ ((text : List ℕ) × (count : ℕ)
+        × AnsweredToBad (M.remaining reader.old) (M.remaining reader.new) session.old.state session.new.state text count
+        × AppendsPart (W.contents writer.old) (W.contents writer.new) (text ++ text_of (bad_line (count + 1)))) }
+    ensures table { session.new.keeper.table ≡ session.old.keeper.table }
+{
     'lines: for number in 1..u64::MAX {
-        let end = session.read_next(reader)?;
+        let end = session.read_next::<M, R, W>(reader, writer)?;
         if end == LineEnd::Input && session.line().is_empty() {
             return Ok(End::AllRead);
         }

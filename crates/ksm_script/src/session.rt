@@ -1,6 +1,6 @@
 //! A table with its passes, and the book on it.
 ghost use Rattle.std.specs.Prelude.{◌≡◌, ◌≤◌, ℕ, List, length, Ok, Some, IfOk, IfErr};
-ghost use Rattle.std.specs.Io.KnownBytes.{Consumes, IsAtEnd};
+ghost use Rattle.std.specs.Io.KnownBytes.{Consumes, IsAtEnd, Keeps};
 ghost use Rattle.ksm_base.specs.State.{opening};
 ghost use Rattle.ksm_base.specs.Values.{IsShape};
 ghost use Rattle.ksm_base.specs.Reading.{bytes_of, ticket_of, mappers_of};
@@ -13,7 +13,7 @@ ghost use Rattle.frame_table.specs.Seats.{Ends};
 ghost use Rattle.ksm_script.specs.Answering.{Answers, Commands, IsMappers, reply_to, content_reply, ticket_reply};
 ghost use Rattle.ksm_script.specs.Input.{EndsAs, IsPlain};
 
-use crate::input::{LineBuffer, LineEnd, next_line};
+use crate::input::{LineBuffer, LineEnd, TakesLines};
 use crate::knob::Knob;
 use crate::line::Line;
 use crate::reply::LineReply;
@@ -22,7 +22,7 @@ use frame_table::{ClosedTable, FrameTable, Pass};
 use ksm_base::{Command, Fault, GuestPage, Reply, Shape};
 use ksm_book::Book;
 use std::alloc::Global;
-use std::io::Read;
+use std::io::Write;
 use std::marker::Model;
 
 /// What a run works on. It must be closed.
@@ -85,17 +85,22 @@ impl Session {
     }
 
     /// Reads the next line. It takes no memory.
-    pub(crate) fn read_next<R: Read>(&mut self, reader: &mut R) -> Result<LineEnd, RunFault>
+    pub(crate) fn read_next<M: TakesLines<R, W>, R, W: Write>(
+        &mut self,
+        reader: &mut R,
+        writer: &mut W,
+    ) -> Result<LineEnd, RunFault>
         ensures state { self.new.state ≡ self.old.state }
         ensures keeper { self.new.keeper ≡ self.old.keeper }
         ensures read { IfOk result (λ end. (bytes : List ℕ) × EndsAs end self.new.line bytes
-            × Consumes (R.remaining reader.old) (R.remaining reader.new) bytes) }
+            × Consumes (M.remaining reader.old) (M.remaining reader.new) bytes) }
         ensures plain { IsPlain self.new.line }
-        ensures end { result ≡ Ok LineEnd.Input → IsAtEnd (R.remaining reader.new) }
+        ensures end { result ≡ Ok LineEnd.Input → IsAtEnd (M.remaining reader.new) }
         ensures fault { IfErr result (λ e. (e ≡ RunFault.Read) × (length self.new.line ≤ 256)
-            × Consumes (R.remaining reader.old) (R.remaining reader.new) self.new.line) }
+            × Consumes (M.remaining reader.old) (M.remaining reader.new) self.new.line) }
+        ensures kept { Keeps (W.contents writer.old) (W.contents writer.new) }
     {
-        next_line(reader, &mut self.line)
+        M::next_line(reader, writer, &mut self.line)
     }
 
     /// The bytes of the line that was read last.

@@ -3,6 +3,7 @@ pub mod AnyWord
 pub mod Numbers
 pub mod Plain
 pub mod Rows
+pub mod Sent
 pub mod Steps
 pub mod Taken
 pub mod Turns

@@ -1,8 +1,10 @@
 //! The exit status of the program.
-ghost use Rattle.std.specs.Prelude.{◌≡◌};
-ghost use Rattle.ksm_tool.specs.Statuses.{status_after};
+ghost use Rattle.std.specs.Prelude.{◌≡◌, ◌≢◌};
+ghost use Rattle.ksm_tool.specs.Statuses.{status_after, status_at_options};
 
+use clap::error::ErrorKind;
 use ksm_script::{End, RunFault};
+use std::io::ErrorKind as Fault;
 use std::process::ExitCode;
 
 /// How the program ends.
@@ -19,6 +21,27 @@ pub enum Status {
 }
 
 impl Status {
+    /// The status where the program's words cannot be read: for want of memory, or as one is not UTF-8.
+    pub fn at_words(kind: Fault) -> Status
+        ensures memory { kind ≡ Fault.OutOfMemory → result ≡ Status.NoMemory }
+        ensures other { kind ≢ Fault.OutOfMemory → result ≡ Status.NotUnderstood }
+    {
+        match kind {
+            Fault::OutOfMemory => Status::NoMemory,
+            _ => Status::NotUnderstood,
+        }
+    }
+
+    /// The status where clap answers something else than a parse. Help is not asked for by a script, and is no success.
+    pub fn at_options(kind: ErrorKind) -> Status
+        ensures { result ≡ status_at_options kind }
+    {
+        match kind {
+            ErrorKind::OutOfMemory => Status::NoMemory,
+            _ => Status::NotUnderstood,
+        }
+    }
+
     /// The status after a run of the script, whose last replies `are_sent` or not.
     pub fn after(ended: Result<End, RunFault>, are_sent: bool) -> Status
         ensures { result ≡ status_after ended are_sent }

@@ -1,16 +1,19 @@
 -- The chain of a group after its entry in the map has changed.
-use Rattle.std.proofs.Common.{◌≡◌, ◌∙◌, ℕ, List, [], ◌∷◌, Option, None, Some, Bool, true, false, cond, sym, ap, refl, arith}
-use Rattle.std.specs.Prelude.{◌&&◌, ◌==◌, bytes_eq, length, if◌then◌else◌}
-use Rattle.std.specs.BTreeMap.{BTreeMap, get, UpdatesBy}
+use Rattle.std.proofs.Common.{length-append, ◌≡◌, ◌∙◌, ℕ, ◌<◌, List, [], ◌∷◌, Option, None, Some, Bool, true, false, cond, sym, ap, refl, subst, arith}
+use Rattle.std.specs.Prelude.{◌&&◌, ◌==◌, nat_lt, bytes_eq, filter, length, Result, Ok, Err, OnOk, OnErr, if◌then◌else◌}
+use Rattle.std.specs.BTreeMap.{BTreeMap, get, IsUnchanged, UpdatesBy}
 use Rattle.std.specs.Ordering.{is_eq}
+use Rattle.std.proofs.lemmas.Option.{none-some, same_Some}
 use Rattle.std.specs.Map.{lookup}
+use Rattle.std.specs.Option.{ForSome}
 use Rattle.std.proofs.lemmas.Bool.{and_parts}
 use Rattle.std.proofs.lemmas.Bool.Decides.{nat_tests}
 use Rattle.std.proofs.lemmas.Slice.Eq.{bytes_eq-Decides}
 use Rattle.ksm_tree.specs.declared.content.Content.{Content}
 use Rattle.ksm_tree.specs.declared.places.Places.{Places}
 use Rattle.ksm_tree.specs.contracts.content.ContentOrd.TheImpl as content_ord
-use Rattle.ksm_tree.specs.Groups.{chain_in}
+use Rattle.ksm_tree.specs.Groups.{AllPeopled, chain_in}
+use Rattle.ksm_tree.specs.Places.{with_place}
 use Rattle.ksm_tree.proofs.Keys.{same_content}
 
 -- what a look-up of a chain shows
@@ -78,3 +81,48 @@ chain_here key old chain is = chain_found key old.entries ∙ ap listed (sym is)
 pub none_of : (xs : List ℕ) → (length xs == 0) ≡ true → [] ≡ xs
 none_of [] none = refl
 none_of (x ∷ xs) none = grind (arith, nat_tests, none)
+
+-- the chain of a key after its entry has changed
+pub chain_now : (key : Content) (old new : BTreeMap Content Places) (w : Option Places) → UpdatesBy content_ord.ghosts.cmp (content_ord.ghosts.cmp key) old new w → chain_in key.tree key.bytes new.entries ≡ listed w
+chain_now key old new w updates = chain_here key new w (sym updates.1)
+
+-- each group has a place, where the one changed has
+abbrev pub IsPeopled : Option Places → Type 0
+IsPeopled o = ForSome o (λ chain. 0 < length chain.list.items)
+
+cond_peopled : (s : Bool) (v w : Option Places) → IsPeopled v → IsPeopled w → IsPeopled (cond s v w)
+cond_peopled true v w first second = first
+cond_peopled false v w first second = second
+
+pub peopled_changed : (key : Content) (old new : BTreeMap Content Places) (w : Option Places) → UpdatesBy content_ord.ghosts.cmp (content_ord.ghosts.cmp key) old new w → AllPeopled old → IsPeopled w → AllPeopled new
+peopled_changed key old new w updates was is content =
+    subst IsPeopled (sym (updates.0 content)) (cond_peopled (is_eq (content_ord.ghosts.cmp key content)) w (get content_ord.ghosts.cmp old content) is (was content))
+
+pub none_peopled : IsPeopled None
+none_peopled chain is = absurd (none-some chain is)
+
+pub some_peopled : (chain : Places) → 0 < length chain.list.items → IsPeopled (Some chain)
+some_peopled chain more other is = subst (λ (p : Places). 0 < length p.list.items) (same_Some chain other is) more
+
+-- a place that was put in is there
+pub with_peopled : (place : ℕ) (places : List ℕ) → 0 < length (with_place place places)
+with_peopled place places = let n = length-append (filter (λ p. nat_lt p place) places) (place ∷ filter (λ p. nat_lt place p) places) in omega (arith, n)
+
+pub some_of : (xs : List ℕ) → (length xs == 0) ≡ false → 0 < length xs
+some_of xs more = grind (arith, nat_tests, more)
+
+-- one entry put in, or refused
+pub peopled_inserted : {T E : Type 0} (key : Content) (old new : BTreeMap Content Places) (w : Option Places) (r : Result T E) → OnOk r (UpdatesBy content_ord.ghosts.cmp (content_ord.ghosts.cmp key) old new w) → OnErr r (IsUnchanged old new) → AllPeopled old → IsPeopled w → AllPeopled new
+peopled_inserted key old new w (Ok x) updates kept was is = peopled_changed key old new w updates was is
+peopled_inserted key old new w (Err e) updates kept was is =
+    λ content chain found. was content chain (ap (lookup (λ k. is_eq (content_ord.ghosts.cmp content k))) (sym kept) ∙ found)
+
+-- one entry changed, and taken out then
+gone_peopled : (s : Bool) (v w : Option Places) → IsPeopled v → IsPeopled (cond s None (cond s w v))
+gone_peopled true v w is = none_peopled
+gone_peopled false v w is = is
+
+pub peopled_gone : (key : Content) (old lent new : BTreeMap Content Places) (w : Option Places) → UpdatesBy content_ord.ghosts.cmp (content_ord.ghosts.cmp key) old lent w → UpdatesBy content_ord.ghosts.cmp (content_ord.ghosts.cmp key) lent new None → AllPeopled old → AllPeopled new
+peopled_gone key old lent new w first second was content =
+    let s = is_eq (content_ord.ghosts.cmp key content) in
+    subst IsPeopled (sym (second.0 content ∙ ap (cond s None) (first.0 content))) (gone_peopled s (get content_ord.ghosts.cmp old content) w (was content))

@@ -1,6 +1,6 @@
 -- The index over dups: what it finds, and how it stays with a change of items and with a dup that goes.
 use Rattle.std.proofs.Common.{◌≡◌, ◌∙◌, ℕ, ◌<◌, Bool, true, false, List, [], ◌∷◌, Option, None, Some, refl, sym, ap, inl, inr, arith}
-use Rattle.std.specs.Prelude.{◌==◌, ◌&&◌, not, All, find, option_map, is_some, bytes_eq, if◌then◌else◌}
+use Rattle.std.specs.Prelude.{◌==◌, ◌&&◌, not, All, filter, find, length, option_map, is_some, bytes_eq, if◌then◌else◌}
 use Rattle.std.proofs.lemmas.Bool.{cases_Bool, eqb-true, false≢true}
 use Rattle.std.proofs.lemmas.Bool.Decides.{nat_tests}
 use Rattle.std.proofs.lemmas.Option.{none-some}
@@ -17,7 +17,9 @@ use Rattle.ksm_tree.specs.Dups.{rows_of, has_number, stands_at, dup_of, dup_at, 
 use Rattle.ksm_tree.specs.Index.{AreIndexed, in_group, place_of, places_of, row_place, group_places}
 use Rattle.ksm_tree.specs.Places.{without}
 use Rattle.ksm_tree.specs.Slots.{SlotsState, change_at}
-use Rattle.ksm_tree.proofs.Keys.{eq_bytes}
+use Rattle.ksm_tree.specs.Totals.{IsRegrouped, Tells}
+use Rattle.ksm_tree.proofs.Grouped.{chains_kept, dups_kept, more_there, totals_moved, totals_tell}
+use Rattle.ksm_tree.proofs.Keys.{own_group, self_group}
 use Rattle.ksm_tree.proofs.Rows.{Comes, only_one, place_gone, group_elsewhere, group_unlike, found_passes, IsOne}
 use Rattle.ksm_tree.proofs.Changes.{all_rows, rows_changed, rows_without, row_found, number_place_found, number_place_changed, unknown_found, unknown_changed}
 
@@ -54,6 +56,8 @@ module _ (s : SlotsState) (next : ℕ) (index : Index) (h : AreIndexed s next in
   stays_indexed p f =
       let same = rows_changed p f s.dups in
       record {
+        few = h.few;
+        counted = rw same h.counted;
         lawful = record {
           in_place_order = rw same h.lawful.in_place_order;
           places_below = rw same h.lawful.places_below;
@@ -63,9 +67,10 @@ module _ (s : SlotsState) (next : ℕ) (index : Index) (h : AreIndexed s next in
         grouped = λ t b. h.grouped t b ∙ ap (group_places t b) (sym same);
       }
 
--- whether a content is a row's
-pub own_group : (t : ℕ) (b : List ℕ) (row : DupRow) → in_group t b row ≡ (t == row.tree && bytes_eq b row.bytes)
-own_group t b row = let swapped = eq_bytes row.bytes b in grind (arith, nat_tests, swapped)
+-- the totals tell of each group
+pub told : (s : SlotsState) (next : ℕ) (index : Index) → AreIndexed s next index → (t : ℕ) (b : List ℕ) → Tells (length (places_of t b index)) index.groups.totals
+told s next index h t b =
+    rw (h.grouped t b) (totals_tell t b s.places (rows_of s.dups) index.groups.totals h.few h.lawful.places_below h.lawful.in_place_order h.counted)
 
 -- the row of the dup at a place
 pub row_at_place : (p : ℕ) (dups : List Dup) (d : Option Dup) → dup_at p dups ≡ d → find (λ r. r.place == p) (rows_of dups) ≡ option_map (λ e. e.row) d
@@ -86,11 +91,27 @@ cond_if true x y z yes_case no_case = yes_case refl
 cond_if false x y z yes_case no_case = no_case refl
 
 -- a dup goes from its place and from the index
-pub gone_indexed : (s : SlotsState) (next : ℕ) (index new : Index) (p : ℕ) (d : Dup) → AreIndexed s next index → dup_at p s.dups ≡ Some d → d.row.place ≡ p → ((q : ℕ) → place_of q new ≡ (if q == d.row.number then None else place_of q index)) → ((t : ℕ) (b : List ℕ) → places_of t b new ≡ (if t == d.row.tree && bytes_eq b d.row.bytes then without d.row.place (places_of t b index) else places_of t b index)) → AreIndexed (record { places = s.places; dups = without_place p s.dups }) next new
-gone_indexed s next index new p d h found at numbers groups =
+pub gone_indexed : (s : SlotsState) (next : ℕ) (index new : Index) (p : ℕ) (d : Dup) → AreIndexed s next index → dup_at p s.dups ≡ Some d → d.row.place ≡ p → ((q : ℕ) → place_of q new ≡ (if q == d.row.number then None else place_of q index)) → ((t : ℕ) (b : List ℕ) → places_of t b new ≡ (if t == d.row.tree && bytes_eq b d.row.bytes then without d.row.place (places_of t b index) else places_of t b index))
+    → IsRegrouped (length (places_of d.row.tree d.row.bytes index)) (length (places_of d.row.tree d.row.bytes new)) index.groups.totals new.groups.totals → AreIndexed (record { places = s.places; dups = without_place p s.dups }) next new
+gone_indexed s next index new p d h found at numbers groups regrouped =
     let rows = rows_of s.dups in
     let left = rows_without p s.dups in
+    let t = d.row.tree in
+    let b = d.row.bytes in
+    let mid = filter (λ r. not (r.place == p)) rows in
+    let rise = AllPairs-filter (λ a b. (a.place < b.place) × ((a.number == b.number) ≡ false)) (λ r. not (r.place == p)) rows h.lawful.in_place_order in
+    let grouped : (t : ℕ) (b : List ℕ) → places_of t b new ≡ group_places t b mid = λ t b.
+    groups t b
+    ∙ (λ i. if sym (own_group t b d.row) i then without (at i) (h.grouped t b i) else h.grouped t b i)
+    ∙ sym (cond_if (in_group t b d.row) (without p (group_places t b rows)) (group_places t b rows) (without p (group_places t b rows)) (λ _. refl)
+    (λ outside. group_unlike p t b rows (not_in_group p t b s.dups d h.lawful.in_place_order found outside)))
+    ∙ sym (group_elsewhere p t b rows) in
+    let more = more_there p rows d.row h.lawful.in_place_order (row_at_place p s.dups (Some d) found) in
+    let own = self_group d.row in
     record {
+      few = h.few;
+      counted = rw left (totals_moved t b rows mid index.groups.totals new.groups.totals h.lawful.in_place_order rise
+          (sym (dups_kept t b d.row mid rows more own)) (sym (chains_kept t b d.row mid rows more own)) (rw (← h.grouped t b, ← grouped t b) regrouped) h.counted);
       lawful = record {
         in_place_order = rw left (AllPairs-filter (λ a b. (a.place < b.place) × ((a.number == b.number) ≡ false)) (λ r. not (r.place == p)) rows h.lawful.in_place_order);
         places_below = rw left (All-filter (λ r. not (r.place == p)) (λ r. r.place < s.places) rows h.lawful.places_below);
@@ -101,13 +122,7 @@ gone_indexed s next index new p d h found at numbers groups =
           ∙ ap (λ v. if q == d.row.number then None else v) (h.numbered q)
           ∙ sym (place_gone p q rows d.row h.lawful.in_place_order (row_at_place p s.dups (Some d) found))
           ∙ ap (row_place q) (sym left);
-      grouped = λ t b.
-          groups t b
-          ∙ (λ i. if sym (own_group t b d.row) i then without (at i) (h.grouped t b i) else h.grouped t b i)
-          ∙ sym (cond_if (in_group t b d.row) (without p (group_places t b rows)) (group_places t b rows) (without p (group_places t b rows)) (λ _. refl)
-          (λ outside. group_unlike p t b rows (not_in_group p t b s.dups d h.lawful.in_place_order found outside)))
-          ∙ sym (group_elsewhere p t b rows)
-          ∙ ap (group_places t b) (sym left);
+      grouped = λ t b. grouped t b ∙ ap (group_places t b) (sym left);
     }
 
 -- the dup found at a place stands there

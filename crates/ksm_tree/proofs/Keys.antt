@@ -1,13 +1,17 @@
 -- The keys of the maps: equal where tree and bytes are.
-use Rattle.std.proofs.Common.{◌≡◌, ◌∙◌, ℕ, List, [], ◌∷◌, nat_cmp, Less, Equal, Greater, refl, arith}
+use Rattle.std.proofs.Common.{◌≡◌, ◌∙◌, ℕ, List, [], ◌∷◌, true, nat_cmp, Less, Equal, Greater, refl, arith}
 use Rattle.std.specs.Prelude.{map, ◌&&◌, ◌==◌, bytes_eq}
 use Rattle.std.specs.Ordering.{is_eq, ordering_then}
 use Rattle.std.specs.declared.cmp.Ordering.{Ordering}
 use Rattle.std.specs.Cmp.Lexicographic.{slice_cmp}
+use Rattle.std.proofs.lemmas.Bool.{and_parts}
 use Rattle.std.proofs.lemmas.Bool.Decides.{nat_tests}
+use Rattle.std.proofs.lemmas.Slice.Eq.{bytes_eq-Decides}
 use Rattle.std.proofs.lemmas.Map.Text.{is_eq-slice_cmp}
 use Rattle.std.specs.Map.{lookup}
 use Rattle.ksm_base.specs.declared.page.GuestPage.{GuestPage}
+use Rattle.ksm_base.specs.declared.row.DupRow.{DupRow}
+use Rattle.ksm_tree.specs.Index.{in_group}
 use Rattle.ksm_tree.specs.Waits.{waiting_page, waiting_at}
 use Rattle.ksm_tree.specs.declared.content.Content.{Content}
 use Rattle.ksm_tree.specs.contracts.content.ContentOrd.TheImpl as content_ord
@@ -39,3 +43,17 @@ waiting_found t b (e ∷ es) =
     let rest = waiting_found t b es in
     let here = same_content (record { tree = t; bytes = b }) e.0 in
     grind (arith, rest, here)
+
+-- whether a content is a row's
+pub own_group : (t : ℕ) (b : List ℕ) (row : DupRow) → in_group t b row ≡ (t == row.tree && bytes_eq b row.bytes)
+own_group t b row = let swapped = eq_bytes row.bytes b in grind (arith, nat_tests, swapped)
+
+pub self_group : (row : DupRow) → in_group row.tree row.bytes row ≡ true
+self_group row = let bytes = (bytes_eq-Decides row.bytes row.bytes).1 refl in grind (arith, nat_tests, bytes)
+
+-- a row of a group has its content
+pub own_tree : (t : ℕ) (b : List ℕ) (row : DupRow) → in_group t b row ≡ true → row.tree ≡ t
+own_tree t b row inside = let tree = (and_parts (row.tree == t) (bytes_eq row.bytes b) inside).0 in grind (arith, nat_tests, tree)
+
+pub own_bytes : (t : ℕ) (b : List ℕ) (row : DupRow) → in_group t b row ≡ true → row.bytes ≡ b
+own_bytes t b row inside = (bytes_eq-Decides row.bytes b).0 (and_parts (row.tree == t) (bytes_eq row.bytes b) inside).1

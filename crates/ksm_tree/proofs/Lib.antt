@@ -3,6 +3,7 @@ pub mod Bridge
 pub mod Chains
 pub mod Changes
 pub mod Counts
+pub mod Grouped
 pub mod Indexed
 pub mod Keys
 pub mod LetGo
@@ -13,4 +14,5 @@ pub mod Opened
 pub mod Rows
 pub mod Tied
 pub mod Ties
+pub mod Regrouped
 pub mod Waiters

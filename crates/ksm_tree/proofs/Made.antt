@@ -1,10 +1,11 @@
 -- The index once a new dup has taken its place.
-use Rattle.std.proofs.Common.{◌≡◌, ◌∙◌, ℕ, ◌+◌, ◌<◌, Bool, true, false, List, [], ◌∷◌, Option, None, Some, refl, sym, ap, inl, inr, arith}
-use Rattle.std.specs.Prelude.{◌==◌, ◌&&◌, not, All, filter, find, option_map, bytes_eq, if◌then◌else◌}
+use Rattle.std.proofs.Common.{◌≡◌, ◌∙◌, ℕ, ◌+◌, ◌<◌, Bool, true, false, List, [], ◌∷◌, Option, None, Some, refl, sym, ap, subst, inl, inr, arith}
+use Rattle.std.specs.Prelude.{◌==◌, ◌&&◌, not, All, filter, find, length, option_map, bytes_eq, if◌then◌else◌}
 use Rattle.std.proofs.lemmas.Bool.{cases_Bool, ne_eqb, eqb-true}
 use Rattle.std.proofs.lemmas.Bool.Decides.{nat_tests}
 use Rattle.std.proofs.lemmas.Option.{none-some}
 use Rattle.std.proofs.lemmas.List.Elements.{All-head, All-tail, All-weaker, All-cons}
+use Rattle.std.proofs.lemmas.List.Kept.{AllPairs-filter}
 use Rattle.ksm_base.specs.declared.row.DupRow.{DupRow}
 use Rattle.ksm_base.specs.Rows.{InPlaceOrder, with_dup}
 use Rattle.ksm_rmap.proofs.Ordered.{filter_all}
@@ -15,7 +16,10 @@ use Rattle.ksm_tree.specs.Index.{AreIndexed, dups_seen, in_group, place_of, plac
 use Rattle.ksm_tree.specs.Places.{with_place, without}
 use Rattle.ksm_tree.specs.Slots.{SlotsState}
 use Rattle.ksm_tree.proofs.Changes.{rows_new}
-use Rattle.ksm_tree.proofs.Indexed.{own_group, row_at_place, not_in_group, cond_if, found_stands}
+use Rattle.ksm_tree.specs.Totals.{AreTotals, IsRegrouped, Tells}
+use Rattle.ksm_tree.proofs.Grouped.{IsMore, chains_kept, dups_kept, more_with, more_there, places_size, totals_apart, totals_between, totals_few, totals_moved, totals_same}
+use Rattle.ksm_tree.proofs.Keys.{own_bytes, own_group, own_tree, self_group}
+use Rattle.ksm_tree.proofs.Indexed.{row_at_place, not_in_group, cond_if, found_stands, told}
 use Rattle.ksm_tree.proofs.Rows.{rows_with, all_with, place_new, place_kept, place_gone, group_joined, group_passed, group_unlike, found_in}
 
 none_found : {X : Type 0} (test : X → Bool) (xs : List X) → find test xs ≡ None → All (λ x. test x ≡ false) xs
@@ -60,25 +64,34 @@ module _ (s : SlotsState) (next : ℕ) (index new : Index) (dup : Dup) (h : AreI
       }
 
   -- at a place that was empty
-  pub fresh_indexed : None ≡ dup_at dup.row.place s.dups → ((q : ℕ) → place_of q new ≡ (if q == dup.row.number then Some dup.row.place else place_of q index)) → ((t : ℕ) (b : List ℕ) → places_of t b new ≡ (if t == dup.row.tree && bytes_eq b dup.row.bytes then with_place dup.row.place (places_of t b index) else places_of t b index)) → AreIndexed (record { places = s.places; dups = with_new dup s.dups }) (next + 1) new
-  fresh_indexed none numbers groups =
+  pub fresh_indexed : None ≡ dup_at dup.row.place s.dups → ((q : ℕ) → place_of q new ≡ (if q == dup.row.number then Some dup.row.place else place_of q index)) → ((t : ℕ) (b : List ℕ) → places_of t b new ≡ (if t == dup.row.tree && bytes_eq b dup.row.bytes then with_place dup.row.place (places_of t b index) else places_of t b index))
+      → IsRegrouped (length (places_of dup.row.tree dup.row.bytes index)) (length (places_of dup.row.tree dup.row.bytes new)) index.groups.totals new.groups.totals → AreIndexed (record { places = s.places; dups = with_new dup s.dups }) (next + 1) new
+  fresh_indexed none numbers groups regrouped =
       let rows = rows_of s.dups in
       let p = dup.row.place in
       let apart = none_found (λ r. r.place == p) rows (row_at_place p s.dups None (sym none)) in
       let kept = filter_all (λ r. not (r.place == p)) rows (All-weaker (λ r. (r.place == p) ≡ false) (λ r. not (r.place == p) ≡ true) (λ r e. ap not e) rows apart) in
+      let grouped : (t : ℕ) (b : List ℕ) → places_of t b new ≡ group_places t b (with_dup dup.row rows) = λ t b.
+      let unlike = group_unlike p t b rows (All-weaker (λ r. (r.place == p) ≡ false) (λ r. (r.place == p && in_group t b r) ≡ false) (λ r e. grind (arith, e)) rows apart) in
+      groups t b
+      ∙ (λ i. if sym (own_group t b dup.row) i then with_place p (h.grouped t b i) else (h.grouped t b ∙ sym unlike) i)
+      ∙ sym (group_with t b dup.row rows h.lawful.in_place_order) in
+      let t = dup.row.tree in
+      let b = dup.row.bytes in
+      let more = subst (λ l. IsMore dup.row l (with_dup dup.row rows)) kept (more_with dup.row rows h.lawful.in_place_order) in
+      let own = self_group dup.row in
+      let counted = totals_moved t b rows (with_dup dup.row rows) index.groups.totals new.groups.totals h.lawful.in_place_order (rows_with dup.row rows h.lawful.in_place_order fresh)
+      (dups_kept t b dup.row rows (with_dup dup.row rows) more own) (chains_kept t b dup.row rows (with_dup dup.row rows) more own) (rw (← h.grouped t b, ← grouped t b) regrouped) h.counted in
       record {
+        few = h.few;
+        counted = subst (λ l. AreTotals l new.groups.totals) (sym (rows_new dup s.dups)) counted;
         lawful = lawful_new;
         numbered = λ q.
             numbers q
             ∙ ap (λ v. if q == dup.row.number then Some p else v) (h.numbered q ∙ ap (row_place q) (sym kept))
             ∙ sym (place_with q dup.row rows h.lawful.in_place_order fresh)
             ∙ ap (row_place q) (sym (rows_new dup s.dups));
-        grouped = λ t b.
-            let unlike = group_unlike p t b rows (All-weaker (λ r. (r.place == p) ≡ false) (λ r. (r.place == p && in_group t b r) ≡ false) (λ r e. grind (arith, e)) rows apart) in
-            groups t b
-            ∙ (λ i. if sym (own_group t b dup.row) i then with_place p (h.grouped t b i) else (h.grouped t b ∙ sym unlike) i)
-            ∙ sym (group_with t b dup.row rows h.lawful.in_place_order)
-            ∙ ap (group_places t b) (sym (rows_new dup s.dups));
+        grouped = λ t b. grouped t b ∙ ap (group_places t b) (sym (rows_new dup s.dups));
       }
 
   swap_tests : (q m n : ℕ) (x y z : Option ℕ) → (m == n) ≡ false → (if q == m then x else (if q == n then y else z)) ≡ (if q == n then y else (if q == m then x else z))
@@ -94,21 +107,110 @@ module _ (s : SlotsState) (next : ℕ) (index new : Index) (dup : Dup) (h : AreI
   group_swap false true p group unlike = refl
   group_swap false false p group unlike = sym (unlike refl)
 
+  -- the rows as they were, those that stay, and those that are there then
+  record Swapped (old : Dup) : Type 0 where
+    less : List DupRow
+    there : IsMore old.row less (rows_of s.dups)
+    here : IsMore dup.row less (with_dup dup.row (rows_of s.dups))
+    less_rise : InPlaceOrder less
+    new_rise : InPlaceOrder (with_dup dup.row (rows_of s.dups))
+
+  swapped : (old : Dup) → Some old ≡ dup_at dup.row.place s.dups → Swapped old
+  swapped old found = record {
+    less = filter (λ r. not (r.place == dup.row.place)) (rows_of s.dups);
+    there = more_there dup.row.place (rows_of s.dups) old.row h.lawful.in_place_order (row_at_place dup.row.place s.dups (Some old) (sym found));
+    here = more_with dup.row (rows_of s.dups) h.lawful.in_place_order;
+    less_rise = AllPairs-filter (λ a b. (a.place < b.place) × ((a.number == b.number) ≡ false)) (λ r. not (r.place == dup.row.place)) (rows_of s.dups) h.lawful.in_place_order;
+    new_rise = rows_with dup.row (rows_of s.dups) h.lawful.in_place_order fresh;
+  }
+
+  -- the index between: the new dup is in, and the old one not yet out
+  abbrev IsJoined : Index → Type 0
+  IsJoined mid = (t : ℕ) (b : List ℕ) → places_of t b mid ≡ (if t == dup.row.tree && bytes_eq b dup.row.bytes then with_place dup.row.place (places_of t b index) else places_of t b index)
+
+  joined_in : (mid : Index) → IsJoined mid → (t : ℕ) (b : List ℕ) → in_group t b dup.row ≡ true → places_of t b mid ≡ group_places t b (with_dup dup.row (rows_of s.dups))
+  joined_in mid groups t b inside =
+      groups t b
+      ∙ (λ i. if (sym (own_group t b dup.row) ∙ inside) i then with_place dup.row.place (h.grouped t b i) else h.grouped t b i)
+      ∙ sym (group_joined t b dup.row (rows_of s.dups) inside)
+
+  joined_own : (mid : Index) → IsJoined mid → places_of dup.row.tree dup.row.bytes mid ≡ group_places dup.row.tree dup.row.bytes (with_dup dup.row (rows_of s.dups))
+  joined_own mid groups = joined_in mid groups dup.row.tree dup.row.bytes (self_group dup.row)
+
+  -- the old one's group has as many places as before
+  left_size : (mid : Index) (old : Dup) → Swapped old → IsJoined mid → length (places_of old.row.tree old.row.bytes mid) ≡ length (places_of old.row.tree old.row.bytes index)
+  left_size mid old swap groups =
+      let t = old.row.tree in
+      let b = old.row.bytes in
+      let own = self_group old.row in
+      let was = ap length (h.grouped t b) ∙ places_size t b (rows_of s.dups) in
+      elim (cases_Bool (in_group t b dup.row)) [
+        | inl inside ↦
+            let now = ap length (joined_in mid groups t b inside) ∙ places_size t b (with_dup dup.row (rows_of s.dups)) in
+            let one = swap.there.counts (in_group t b) in
+            let two = swap.here.counts (in_group t b) in
+            grind (arith, was, now, one, two, own, inside)
+        | inr outside ↦ ap length (groups t b ∙ rw (sym (own_group t b dup.row) ∙ outside) refl)
+      ]
+
+  pub told_between : (mid : Index) (old : Dup) → Some old ≡ dup_at dup.row.place s.dups → IsJoined mid
+      → IsRegrouped (length (places_of dup.row.tree dup.row.bytes index)) (length (places_of dup.row.tree dup.row.bytes mid)) index.groups.totals mid.groups.totals → Tells (length (places_of old.row.tree old.row.bytes mid)) mid.groups.totals
+  told_between mid old found groups regrouped =
+      let r = dup.row in
+      let rows = rows_of s.dups in
+      let swap = swapped old found in
+      let few = totals_few s.places rows index.groups.totals h.few h.lawful.places_below h.lawful.in_place_order h.counted in
+      rw (left_size mid old swap groups) (totals_between old.row r swap.less rows (with_dup r rows) swap.there swap.here h.lawful.in_place_order swap.less_rise swap.new_rise
+      index.groups.totals mid.groups.totals (rw (← h.grouped r.tree r.bytes, ← joined_own mid groups) regrouped) (length (places_of old.row.tree old.row.bytes index)) few.0 few.1 (told s next index h old.row.tree old.row.bytes))
+
   -- at the place of a dup that goes
   pub taken_indexed : (mid : Index) (old : Dup) → Some old ≡ dup_at dup.row.place s.dups
       → ((q : ℕ) → place_of q mid ≡ (if q == dup.row.number then Some dup.row.place else place_of q index))
       → ((t : ℕ) (b : List ℕ) → places_of t b mid ≡ (if t == dup.row.tree && bytes_eq b dup.row.bytes then with_place dup.row.place (places_of t b index) else places_of t b index))
       → ((q : ℕ) → place_of q new ≡ (if q == old.row.number then None else place_of q mid))
       → ((t : ℕ) (b : List ℕ) → places_of t b new ≡ (if (t == old.row.tree && bytes_eq b old.row.bytes) && not (t == dup.row.tree && bytes_eq b dup.row.bytes) then without old.row.place (places_of t b mid) else places_of t b mid))
+      → IsRegrouped (length (places_of dup.row.tree dup.row.bytes index)) (length (places_of dup.row.tree dup.row.bytes mid)) index.groups.totals mid.groups.totals
+      → IsRegrouped (length (places_of old.row.tree old.row.bytes mid)) (length (places_of old.row.tree old.row.bytes new)) mid.groups.totals new.groups.totals
       → AreIndexed (record { places = s.places; dups = with_new dup s.dups }) (next + 1) new
-  taken_indexed mid old found numbers groups left_numbers left_groups =
+  taken_indexed mid old found numbers groups left_numbers left_groups joined left =
       let rows = rows_of s.dups in
       let p = dup.row.place in
       let at = found_stands p s.dups old (sym found) in
       let row_found = row_at_place p s.dups (Some old) (sym found) in
       let older : old.row.number < dup.row.number = found_in (λ r. r.number < dup.row.number) (λ r. r.place == p) rows old.row fresh row_found in
       let apart : (old.row.number == dup.row.number) ≡ false = ne_eqb old.row.number dup.row.number (λ e. omega (arith, older, e)) in
+      let grouped : (t : ℕ) (b : List ℕ) → places_of t b new ≡ group_places t b (with_dup dup.row rows) = λ t b.
+      let g = group_places t b rows in
+      let old_group = in_group t b old.row in
+      let new_group = in_group t b dup.row in
+      left_groups t b
+      ∙ (λ i.
+      let mid_group : List ℕ = (groups t b ∙ (λ j. if sym (own_group t b dup.row) j then with_place p (h.grouped t b j) else h.grouped t b j)) i in
+      if sym (own_group t b old.row) i && not (sym (own_group t b dup.row) i) then without (at i) mid_group else mid_group)
+      ∙ group_swap old_group new_group p g (λ outside. group_unlike p t b rows (not_in_group p t b s.dups old h.lawful.in_place_order (sym found) outside))
+      ∙ sym (group_with t b dup.row rows h.lawful.in_place_order) in
+      let swap = swapped old found in
+      let r = dup.row in
+      let all = with_dup r rows in
+      let first : IsRegrouped (length (group_places r.tree r.bytes rows)) (length (places_of r.tree r.bytes mid)) index.groups.totals mid.groups.totals = rw (← h.grouped r.tree r.bytes) joined in
+      let counted : AreTotals all new.groups.totals = elim (cases_Bool (in_group r.tree r.bytes old.row)) [
+        | inl same ↦
+            let tree : old.row.tree ≡ r.tree = own_tree r.tree r.bytes old.row same in
+            let bytes : old.row.bytes ≡ r.bytes = own_bytes r.tree r.bytes old.row same in
+            let second : IsRegrouped (length (places_of r.tree r.bytes mid)) (length (group_places r.tree r.bytes all)) mid.groups.totals new.groups.totals =
+            rw (← grouped r.tree r.bytes) (subst (λ x. IsRegrouped (length (places_of x r.bytes mid)) (length (places_of x r.bytes new)) mid.groups.totals new.groups.totals) tree
+            (subst (λ x. IsRegrouped (length (places_of old.row.tree x mid)) (length (places_of old.row.tree x new)) mid.groups.totals new.groups.totals) bytes left)) in
+            totals_same old.row r swap.less rows all swap.there swap.here h.lawful.in_place_order swap.less_rise swap.new_rise index.groups.totals mid.groups.totals new.groups.totals (length (places_of r.tree r.bytes mid)) same first second h.counted
+        | inr other ↦
+            let at_r : length (places_of r.tree r.bytes mid) ≡ length (group_places r.tree r.bytes all) = ap length (joined_own mid groups) in
+            let at_old : length (places_of old.row.tree old.row.bytes mid) ≡ length (group_places old.row.tree old.row.bytes rows) =
+            ap length (groups old.row.tree old.row.bytes ∙ rw other refl ∙ h.grouped old.row.tree old.row.bytes) in
+            totals_apart old.row r swap.less rows all swap.there swap.here h.lawful.in_place_order swap.less_rise swap.new_rise index.groups.totals mid.groups.totals new.groups.totals other
+            (rw (← at_r) first) (rw (← at_old, ← grouped old.row.tree old.row.bytes) left) h.counted
+      ] in
       record {
+        few = h.few;
+        counted = subst (λ l. AreTotals l new.groups.totals) (sym (rows_new dup s.dups)) counted;
         lawful = lawful_new;
         numbered = λ q.
             left_numbers q
@@ -117,17 +219,7 @@ module _ (s : SlotsState) (next : ℕ) (index new : Index) (dup : Dup) (h : AreI
             ∙ ap (λ v. if q == dup.row.number then Some p else v) (sym (place_gone p q rows old.row h.lawful.in_place_order row_found))
             ∙ sym (place_with q dup.row rows h.lawful.in_place_order fresh)
             ∙ ap (row_place q) (sym (rows_new dup s.dups));
-        grouped = λ t b.
-            let g = group_places t b rows in
-            let old_group = in_group t b old.row in
-            let new_group = in_group t b dup.row in
-            left_groups t b
-            ∙ (λ i.
-            let mid_group : List ℕ = (groups t b ∙ (λ j. if sym (own_group t b dup.row) j then with_place p (h.grouped t b j) else h.grouped t b j)) i in
-            if sym (own_group t b old.row) i && not (sym (own_group t b dup.row) i) then without (at i) mid_group else mid_group)
-            ∙ group_swap old_group new_group p g (λ outside. group_unlike p t b rows (not_in_group p t b s.dups old h.lawful.in_place_order (sym found) outside))
-            ∙ sym (group_with t b dup.row rows h.lawful.in_place_order)
-            ∙ ap (group_places t b) (sym (rows_new dup s.dups));
+        grouped = λ t b. grouped t b ∙ ap (group_places t b) (sym (rows_new dup s.dups));
       }
 
 -- the next number is that of no dup

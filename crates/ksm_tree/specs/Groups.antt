@@ -1,5 +1,8 @@
 -- The groups: the dups of one tree and one content (mm/ksm: a chain links the copies of one content).
-use Rattle.std.specs.Prelude.{ℕ, Bool, ◌&&◌, ◌==◌, List, [], bytes_eq, find, Option, Some, None}
+use Rattle.std.specs.Prelude.{ℕ, ◌<◌, Bool, ◌&&◌, ◌==◌, List, [], bytes_eq, find, length, Option, Some, None}
+use Rattle.std.specs.Option.{ForSome}
+use Rattle.std.specs.BTreeMap.{BTreeMap, get}
+use Rattle.ksm_tree.specs.contracts.content.ContentOrd.TheImpl as content_ord
 use Rattle.ksm_tree.specs.declared.content.Content.{Content}
 use Rattle.ksm_tree.specs.declared.places.Places.{Places}
 
@@ -13,3 +16,7 @@ places_in (Some entry) = entry.1.list.items
 -- the places of the group of a tree and bytes
 abbrev pub chain_in : ℕ → List ℕ → List (Content × Places) → List ℕ
 chain_in tree bytes entries = places_in (find (is_content tree bytes) entries)
+
+-- each group that is there has a place
+abbrev pub AllPeopled : BTreeMap Content Places → Type 0
+AllPeopled groups = (content : Content) → ForSome (get content_ord.ghosts.cmp groups content) (λ chain. 0 < length chain.list.items)

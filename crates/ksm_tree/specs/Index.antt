@@ -1,5 +1,5 @@
 -- Where a dup of a number, and the dups of a tree and bytes, are found. (own)
-use Rattle.std.specs.Prelude.{◌≡◌, ℕ, Bool, false, ◌&&◌, ◌==◌, nat_lt, List, [], ◌∷◌, length, map, filter, find, option_map, Option, bytes_eq}
+use Rattle.std.specs.Prelude.{◌≡◌, ℕ, ◌≤◌, Bool, ◌&&◌, ◌==◌, List, map, filter, find, option_map, Option, bytes_eq}
 use Rattle.std.specs.BTreeMap.{get}
 use Rattle.std.specs.Ordering.{nat_cmp}
 use Rattle.ksm_base.specs.declared.row.DupRow.{DupRow}
@@ -7,6 +7,7 @@ use Rattle.ksm_tree.specs.declared.index.Index.{Index}
 use Rattle.ksm_tree.specs.Dups.{DupsState, AreDups, rows_of}
 use Rattle.ksm_tree.specs.Groups.{chain_in}
 use Rattle.ksm_tree.specs.Slots.{SlotsState}
+use Rattle.ksm_tree.specs.Totals.{AreTotals}
 
 -- the place that an index has for a number, and the places that it has for a tree and bytes
 abbrev pub place_of : ℕ → Index → Option ℕ
@@ -26,24 +27,13 @@ row_place number rows = option_map (λ r. r.place) (find (λ r. r.number == numb
 abbrev pub group_places : ℕ → List ℕ → List DupRow → List ℕ
 group_places tree bytes rows = map (λ r. r.place) (filter (in_group tree bytes) rows)
 
--- whether places begin with one
-abbrev pub begin_with : ℕ → List ℕ → Bool
-begin_with place [] = false
-begin_with place (p ∷ places) = p == place
-
--- whether an index has two places or more for the group of a row
-abbrev pub is_chained : Index → DupRow → Bool
-is_chained index r = nat_lt 1 (length (places_of r.tree r.bytes index))
-
--- whether it has, and the row's is the first of them
-abbrev pub leads_chain : Index → DupRow → Bool
-leads_chain index r = is_chained index r && begin_with r.place (places_of r.tree r.bytes index)
-
 abbrev pub dups_seen : SlotsState → ℕ → DupsState
 dups_seen s next = record { places = s.places; dups = s.dups; next = next }
 
--- the dups are lawful, and the index finds just them
+-- the dups are lawful, and the index finds and counts just them
 pub record AreIndexed (s : SlotsState) (next : ℕ) (index : Index) : Type 0 where
+  pub few : s.places ≤ 1024
   pub lawful : AreDups (dups_seen s next)
   pub numbered : (number : ℕ) → place_of number index ≡ row_place number (rows_of s.dups)
+  pub counted : AreTotals (rows_of s.dups) index.groups.totals
   pub grouped : (tree : ℕ) (bytes : List ℕ) → places_of tree bytes index ≡ group_places tree bytes (rows_of s.dups)

@@ -5,4 +5,5 @@ pub mod Groups
 pub mod Index
 pub mod Places
 pub mod Slots
+pub mod Totals
 pub mod Waits

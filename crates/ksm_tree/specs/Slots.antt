@@ -2,7 +2,6 @@
 use Rattle.std.specs.Prelude.{◌≡◌, ℕ, suc, ◌≤◌, Bool, true, false, List, [], ◌∷◌, length, map, Option, Some, None, if◌then◌else◌}
 use Rattle.smallvec.specs.SmallVec.{SmallVec}
 use Rattle.ksm_base.specs.declared.page.GuestPage.{GuestPage}
-use Rattle.ksm_base.specs.declared.row.DupRow.{DupRow}
 use Rattle.ksm_tree.specs.declared.dup.Dup.{Dup}
 use Rattle.ksm_tree.specs.Dups.{stands_at, is_stale}
 
@@ -27,11 +26,6 @@ is_empty_slot (Some d) = false
 abbrev pub is_stale_slot : Option Dup → Bool
 is_stale_slot None = false
 is_stale_slot (Some d) = is_stale d
-
--- whether a slot holds a dup whose row passes a test
-abbrev pub row_passes : (DupRow → Bool) → Option Dup → Bool
-row_passes test None = false
-row_passes test (Some d) = test d.row
 
 -- the places from k on whose slots pass a test
 abbrev pub places_where : (Option Dup → Bool) → ℕ → List (Option Dup) → List ℕ

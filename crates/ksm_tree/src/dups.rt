@@ -4,8 +4,6 @@ ghost use Rattle.ksm_base.specs.Rows.{same_page};
 ghost use Rattle.ksm_rmap.specs.Items.{has_item, with_item, without_item};
 ghost use Rattle.ksm_tree.specs.Choosing.{best_of, better as better_dup, choice_of, is_no_worse as no_worse_than};
 ghost use Rattle.ksm_tree.specs.Dups.{AreDups, change_items, dup_at, dup_of, is_live, is_stale, items_of, rows_of, stands_at, with_new, without_place};
-ghost use Rattle.ksm_tree.specs.Index.{is_chained, leads_chain as is_first_of_chain};
-ghost use Rattle.ksm_tree.specs.Slots.{row_passes};
 
 use crate::choice::Choice;
 use crate::content::Content;
@@ -19,7 +17,7 @@ use std::marker::Model;
 
 /// The dups with their items, by place, by number, and by tree and bytes (mm/ksm, stable nodes and their chains).
 ///
-/// A look-up by number or by content costs the logarithm of how many there are, and `best` the length of the chain too. Room for every place is taken at the start, so only a new dup and a new item may want memory.
+/// A look-up by number or by content costs the logarithm of how many there are, and `best` the length of the chain too; what is counted is known. Room for every place is taken at the start, so only a new dup and a new item may want memory.
 #[derive(Drop)]
 pub struct Dups {
     alloc: Global,
@@ -125,8 +123,9 @@ impl Dups {
             bytes: *bytes,
         };
         let items = pair(self.alloc, first, second)?;
+        let old = self.slots.at(place);
         self.index.add(self.alloc, &row)?;
-        match self.slots.at(place) {
+        match old {
             Some(old) => self.index.replace(&old.row, &row),
             None => {}
         }
@@ -244,14 +243,14 @@ impl Dups {
     pub fn count_grouped(&self) -> usize
         ensures { result ≡ count_by (in_chain (rows_of self.now.dups)) (rows_of self.now.dups) }
     {
-        count_in_chains(&self.index, self.slots.list())
+        self.index.groups.totals.dups
     }
 
     /// How many groups have two dups or more.
     pub fn count_chains(&self) -> usize
         ensures { result ≡ count_by (λ d. in_chain (rows_of self.now.dups) d && leads_group (rows_of self.now.dups) d) (rows_of self.now.dups) }
     {
-        count_leaders(&self.index, self.slots.list())
+        self.index.groups.totals.chains
     }
 
     fn find(&self, number: u64) -> Option<&Dup>
@@ -261,38 +260,6 @@ impl Dups {
             Some(place) => self.slots.at(place),
             None => None,
         }
-    }
-}
-
-/// How many slots hold a dup of a group of two or more.
-fn count_in_chains(index: &Index, slots: &[Option<Dup>]) -> usize
-    ensures { result ≡ count_by (row_passes (is_chained index.now)) slots.now }
-{
-    slots.iter().filter(|slot| is_in_chain(index, slot)).count()
-}
-
-/// How many slots hold the first dup of a group of two or more.
-fn count_leaders(index: &Index, slots: &[Option<Dup>]) -> usize
-    ensures { result ≡ count_by (row_passes (is_first_of_chain index.now)) slots.now }
-{
-    slots.iter().filter(|slot| leads_chain(index, slot)).count()
-}
-
-fn is_in_chain(index: &Index, slot: &Option<Dup>) -> bool
-    ensures { result ≡ row_passes (is_chained index.now) slot.now }
-{
-    match slot {
-        Some(dup) => index.is_in_chain(&dup.row),
-        None => false,
-    }
-}
-
-fn leads_chain(index: &Index, slot: &Option<Dup>) -> bool
-    ensures { result ≡ row_passes (is_first_of_chain index.now) slot.now }
-{
-    match slot {
-        Some(dup) => index.leads_chain(&dup.row),
-        None => false,
     }
 }
 

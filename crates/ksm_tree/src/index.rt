@@ -1,5 +1,6 @@
-ghost use Rattle.std.specs.Prelude.{◌≡◌, ℕ, List, [], ◌&&◌, ◌==◌, not, None, Some, IfErr, OnErr, OnOk, bytes_eq, if◌then◌else◌};
+ghost use Rattle.std.specs.Prelude.{◌≡◌, ℕ, List, [], ◌&&◌, ◌==◌, not, None, Some, IfErr, OnErr, OnOk, bytes_eq, length, if◌then◌else◌};
 ghost use Rattle.ksm_tree.specs.Places.{with_place, without};
+ghost use Rattle.ksm_tree.specs.Totals.{IsRegrouped, Tells};
 
 use crate::content::Content;
 use crate::groups::Groups;
@@ -15,12 +16,13 @@ pub struct Index {
 }
 
 impl Index {
-    ghost use Rattle.ksm_tree.specs.Index.{is_chained, leads_chain as is_first_of_chain, place_of, places_of};
+    ghost use Rattle.ksm_tree.specs.Index.{place_of, places_of};
 
     /// An index of no dups.
     pub fn new(alloc: Global) -> Index
         ensures numbers { (q : ℕ) → place_of q result ≡ None }
         ensures groups { (t : ℕ) (b : List ℕ) → places_of t b result ≡ [] }
+        ensures totals { result.groups.totals ≡ record { chains = 0; dups = 0 } }
     {
         Index {
             numbers: BTreeMap::new(alloc),
@@ -42,29 +44,18 @@ impl Index {
         self.groups.chain(&Content::of(tree, bytes))
     }
 
-    /// Whether the group of a row has two dups or more.
-    pub fn is_in_chain(&self, row: &DupRow) -> bool
-        ensures { result ≡ is_chained self.now row.now }
-    {
-        self.places(row.tree, &row.bytes).len() > 1
-    }
-
-    /// Whether the group of a row has two dups or more, and the row's is the first of them.
-    pub fn leads_chain(&self, row: &DupRow) -> bool
-        ensures { result ≡ is_first_of_chain self.now row.now }
-    {
-        let places = self.places(row.tree, &row.bytes);
-        places.len() > 1 && places[0] == row.place
-    }
-
     /// Enters a row whose number is new. The one fault is `Memory`, and then nothing changes.
     pub fn add(&mut self, alloc: Global, row: &DupRow) -> Result<(), Fault>
-        requires { place_of row.now.number self.old ≡ None }
+        requires fresh { place_of row.now.number self.old ≡ None }
+        requires told { Tells (length (places_of row.now.tree row.now.bytes self.old)) self.old.groups.totals }
         ensures numbers { OnOk result ((q : ℕ) → place_of q self.new ≡ (if q == row.now.number then Some row.now.place else place_of q self.old)) }
         ensures groups { OnOk result ((t : ℕ) (b : List ℕ) → places_of t b self.new
             ≡ (if t == row.now.tree && bytes_eq b row.now.bytes then with_place row.now.place (places_of t b self.old) else places_of t b self.old)) }
+        ensures totals { OnOk result (IsRegrouped (length (places_of row.now.tree row.now.bytes self.old)) (length (places_of row.now.tree row.now.bytes self.new))
+            self.old.groups.totals self.new.groups.totals) }
         ensures kept_numbers { OnErr result ((q : ℕ) → place_of q self.new ≡ place_of q self.old) }
         ensures kept_groups { OnErr result ((t : ℕ) (b : List ℕ) → places_of t b self.new ≡ places_of t b self.old) }
+        ensures kept_totals { OnErr result (self.new.groups.totals ≡ self.old.groups.totals) }
         ensures memory { IfErr result (λ fault. fault ≡ Fault.Memory) }
     {
         self.numbers.insert(row.number, row.place)?;
@@ -79,9 +70,12 @@ impl Index {
 
     /// Takes a row out of its group and its number out.
     pub fn remove(&mut self, row: &DupRow)
+        requires { Tells (length (places_of row.now.tree row.now.bytes self.old)) self.old.groups.totals }
         ensures numbers { (q : ℕ) → place_of q self.new ≡ (if q == row.now.number then None else place_of q self.old) }
         ensures groups { (t : ℕ) (b : List ℕ) → places_of t b self.new
             ≡ (if t == row.now.tree && bytes_eq b row.now.bytes then without row.now.place (places_of t b self.old) else places_of t b self.old) }
+        ensures totals { IsRegrouped (length (places_of row.now.tree row.now.bytes self.old)) (length (places_of row.now.tree row.now.bytes self.new))
+            self.old.groups.totals self.new.groups.totals }
     {
         self.numbers.remove(&row.number);
         self.groups
@@ -90,10 +84,13 @@ impl Index {
 
     /// Takes a row out, where another has been entered at its place.
     pub fn replace(&mut self, old: &DupRow, new: &DupRow)
+        requires { Tells (length (places_of old.now.tree old.now.bytes self.old)) self.old.groups.totals }
         ensures numbers { (q : ℕ) → place_of q self.new ≡ (if q == old.now.number then None else place_of q self.old) }
         ensures groups { (t : ℕ) (b : List ℕ) → places_of t b self.new
             ≡ (if (t == old.now.tree && bytes_eq b old.now.bytes) && not (t == new.now.tree && bytes_eq b new.now.bytes)
             then without old.now.place (places_of t b self.old) else places_of t b self.old) }
+        ensures totals { IsRegrouped (length (places_of old.now.tree old.now.bytes self.old)) (length (places_of old.now.tree old.now.bytes self.new))
+            self.old.groups.totals self.new.groups.totals }
     {
         if old.tree == new.tree && old.bytes == new.bytes {
             self.numbers.remove(&old.number);

@@ -10,6 +10,7 @@ mod index;
 pub mod laws;
 mod places;
 mod slots;
+mod totals;
 mod waiting;
 pub mod waiting_laws;
 

@@ -70,6 +70,7 @@ impl Places {
     pub fn insert(&mut self, place: u32)
         requires { HasRoomFor self.old.list 1 }
         ensures with { self.new.list.items ≡ with_place place self.old.list.items }
+        ensures one { length self.new.list.items ≤ length self.old.list.items + 1 }
         ensures capacity { self.new.list.capacity ≡ self.old.list.capacity }
     {
         let at = place_in(self.list.as_slice(), place);
@@ -81,6 +82,7 @@ impl Places {
     /// The place is not there from now on.
     pub fn remove(&mut self, place: u32)
         ensures without { self.new.list.items ≡ without place self.old.list.items }
+        ensures less { length self.new.list.items ≤ length self.old.list.items }
         ensures capacity { self.new.list.capacity ≡ self.old.list.capacity }
     {
         let at = place_in(self.list.as_slice(), place);

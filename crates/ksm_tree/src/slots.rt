@@ -2,7 +2,7 @@ ghost use Rattle.std.specs.Prelude.{◌≡◌, ◌<◌, ◌≤◌, [], true, fal
 ghost use Rattle.ksm_base.specs.Visit.{empty_place};
 ghost use Rattle.ksm_rmap.specs.Items.{has_item, with_item, without_item};
 ghost use Rattle.ksm_tree.specs.Dups.{dup_at, items_in, is_live, is_stale, rows_of, with_new, without_place};
-ghost use Rattle.ksm_tree.specs.Slots.{change_at, present};
+ghost use Rattle.ksm_tree.specs.Slots.{change_at};
 
 use crate::dup::Dup;
 use crate::places::Places;
@@ -68,13 +68,6 @@ impl Slots {
         ensures { result ≡ option_map (λ d. d.row.place) (find is_stale self.now.dups) }
     {
         self.stale.first()
-    }
-
-    /// A slot for each place.
-    pub fn list(&self) -> &[Option<Dup>]
-        ensures { present result.now ≡ self.now.dups }
-    {
-        self.dups.as_slice()
     }
 
     /// How many dups have an item.

@@ -2,11 +2,9 @@ use Rattle.std.proofs.Common.{◌∙◌, count_by, ap}
 use Rattle.std.specs.Prelude.{◌&&◌}
 use Rattle.ksm_base.specs.Counting.{in_chain, leads_group}
 use Rattle.ksm_tree.specs.Dups.{rows_of}
-use Rattle.ksm_tree.proofs.Counts.{chains_counted}
 use Rattle.ksm_tree.proofs.dups.Dups.count_chains.Goals as goal
 
 pub returns : goal.returns
 returns c =
-    c.count_leaders.ensures
-    ∙ chains_counted c.self.inside.slots c.self.inside.next c.self.inside.index c.self.invariant c.list.result.now c.list.ensures
+    c.self.invariant.counted.chains
     ∙ ap (λ s. count_by (λ d. in_chain (rows_of s.dups) d && leads_group (rows_of s.dups) d) (rows_of s.dups)) c.self.view_is

@@ -1,0 +1,17 @@
+-- What a legal journal says of the state to which it leads.
+use Rattle.std.proofs.Common.{◌≡◌, ℕ, List, Option, Some, None, IfSome, sym, ap, ◌∙◌, subst}
+use Rattle.ksm_base.specs.declared.page.GuestPage.{GuestPage}
+use Rattle.ksm_base.specs.declared.shape.Shape.{Shape}
+use Rattle.ksm_base.specs.Journal.{Entry, IsLegal, replay, last_stored, ReadsLastStored}
+use Rattle.ksm_base.specs.Reading.{bytes_of}
+use Rattle.ksm_base.specs.State.{BookState, opening}
+
+-- what is stored last by a legal journal
+pub rows_stored : (shape : Shape) (journal : List Entry) (b : BookState) → ReadsLastStored journal (replay (opening shape) journal).rows → IsLegal shape journal b → ReadsLastStored journal b.rows
+rows_stored shape journal b law legal = subst (λ (x : BookState). ReadsLastStored journal x.rows) (sym legal.leads) law
+
+pub page_stored : (shape : Shape) (journal : List Entry) (b : BookState) (page : GuestPage) (read : Option (List ℕ))
+    → ((bytes : List ℕ) → bytes_of page (replay (opening shape) journal) ≡ Some bytes → last_stored page journal ≡ Some bytes) → IsLegal shape journal b → read ≡ bytes_of page b
+    → IfSome read (λ bytes. last_stored page journal ≡ Some bytes)
+page_stored shape journal b page None law legal is = tt
+page_stored shape journal b page (Some bytes) law legal is = law bytes (ap (bytes_of page) (sym legal.leads) ∙ sym is)

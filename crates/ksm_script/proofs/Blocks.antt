@@ -1,0 +1,58 @@
+-- What a reader's buffer has of a line.
+use Rattle.std.proofs.Common.{◌≡◌, ◌≢◌, ◌==◌, ℕ, ◌+◌, ◌<◌, ◌≤◌, min, Bool, true, false, cond, List, [], ◌∷◌, ◌++◌, Option, None, Some, All, length, take, drop, get_or, refl, sym, ap, subst, ◌∙◌, arith, zero-le, append_assoc, take-append-drop, take-take}
+use Rattle.std.specs.Prelude.{if◌then◌else◌, option_map, IsTrue, ◌↔◌}
+use Rattle.std.specs.Bool.{then_some}
+use Rattle.ksm_script.specs.declared.input.LineEnd.TheVariants.{TooLong}
+use Rattle.ksm_script.specs.Takes.{Extends}
+use Rattle.std.specs.Io.KnownBytes.{Consumes, prepend_known}
+use Rattle.std.proofs.lemmas.Bool.{eq-eqb, eqb-true}
+use Rattle.std.proofs.lemmas.List.{take_more, get_or-take, get_or_default, length-take, take_min}
+use Rattle.std.proofs.lemmas.List.Elements.{All-append}
+use Rattle.memchr.specs.Find.{Nowhere, Passes, is_byte}
+use Rattle.ksm_script.specs.Input.{IsPlain}
+
+-- bytes that are taken from a buffer are read; with no capacity nothing is known
+pub taken_from : (n m : ℕ) (a b : Option (List ℕ)) (buffer rest bytes : List ℕ) → m ≡ n → b ≡ a → buffer ≡ bytes ++ rest
+    → Consumes (if n == 0 then None else prepend_known buffer a) (if m == 0 then None else prepend_known rest b) bytes
+taken_from n m a b buffer rest bytes room same split = rw (room, same) (go (n == 0) a)
+  where
+    go : (none : Bool) (a : Option (List ℕ)) → Consumes (cond none None (prepend_known buffer a)) (cond none None (prepend_known rest a)) bytes
+    go true a = tt
+    go false None = tt
+    go false (Some xs) = ap (λ l. l ++ xs) split ∙ append_assoc bytes rest xs
+
+-- a buffer up to the first newline of its beginning
+pub up_to_newline : (buffer : List ℕ) (n at : ℕ) → at < length (take n buffer) → is_byte 10 (get_or (take n buffer) at 0) ≡ true
+    → buffer ≡ (take at (take n buffer) ++ 10 ∷ []) ++ drop (at + 1) buffer
+up_to_newline buffer n at lt found =
+    let shorter : at + 1 ≤ n = omega (arith, length-take n buffer) in
+    let more : take (at + 1) buffer ≡ take at (take n buffer) ++ 10 ∷ [] =
+    sym (take-take (at + 1) n buffer shorter) ∙ take_more (take n buffer) at 0 lt ∙ ap (λ x. take at (take n buffer) ++ x ∷ []) (eqb-true _ _ found) in
+    sym (take-append-drop (at + 1) buffer) ∙ ap (λ l. l ++ drop (at + 1) buffer) more
+
+-- a beginning in which no newline was found
+pub is_plain_before : (block : List ℕ) (at : ℕ) → at ≤ length block → Nowhere (Passes (is_byte 10) block) 0 at → IsPlain (take at block)
+is_plain_before block at fits none = λ k d lt is.
+    let low : k < at = omega (arith, lt, length-take at block) in
+    none k zero-le low (eq-eqb _ _ (get_or_default block k 0 d (omega arith) ∙ sym (get_or-take at block k d low) ∙ is))
+
+pub is_plain_block : (block : List ℕ) → Nowhere (Passes (is_byte 10) block) 0 (length block) → IsPlain block
+is_plain_block block none = λ k d lt is. none k zero-le lt (eq-eqb _ _ (get_or_default block k 0 d lt ∙ is))
+
+-- a buffer up to the end of its beginning
+pub up_to_end : (buffer : List ℕ) (n : ℕ) → buffer ≡ take n buffer ++ drop (length (take n buffer)) buffer
+up_to_end buffer n =
+    let same : take (length (take n buffer)) buffer ≡ take n buffer = ap (λ k. take k buffer) (length-take n buffer) ∙ take_min n buffer in
+    sym (take-append-drop (length (take n buffer)) buffer) ∙ ap (λ l. l ++ drop (length (take n buffer)) buffer) same
+
+pub plain_with : (line part : List ℕ) → IsPlain line → IsPlain part → IsPlain (line ++ part)
+plain_with line part = All-append (λ byte. byte ≢ 10) line part
+
+-- a line that a part is added to is too long, or goes on
+pub extends_so : (long : Bool) (before line part : List ℕ) → line ≡ before ++ part → IsTrue long ↔ (length line ≡ 257) → length line ≤ 257
+    → Extends (then_some long TooLong) before line part
+extends_so true before line part is full room = (sym is, full.0 refl)
+extends_so false before line part is full room = (is, less (λ e. let h = full.1 e in absurd cc))
+  where
+    less : length line ≢ 257 → length line ≤ 256
+    less other = omega (arith, other)

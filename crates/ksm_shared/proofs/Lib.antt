@@ -1,0 +1,5 @@
+pub mod Lists
+pub mod Rule
+pub mod Wrote
+pub mod Extended
+pub mod Gathering

@@ -1,0 +1,45 @@
+use Rattle.std.proofs.Common.{◌≡◌, ◌∙◌, ◌++◌, ◌<◌, ℕ, ap, subst}
+use Rattle.ksm_shared.specs.declared.seen.Caller.{Caller}
+use Rattle.ksm_shared.specs.Seen.{first}
+use Rattle.ksm_shared.specs.Locked.{SeesOn, made_by}
+use Rattle.ksm_shared.proofs.Extended.{answers_seen, book_seat_is, new_journal, new_log, new_owners, part_grows, sees_on, shown_all}
+use Rattle.ksm_shared.proofs.merge.Merge.command.Given.{Over}
+use Rattle.ksm_shared.proofs.merge.Merge.command.Goals as goal
+
+module _ (g : Over) (c : goal.After-write g) where
+  abbrev number : ℕ
+  number = (first c.share.inside.seat.me.0.callers).number
+
+  log : c.write.new.book.me.0.log ≡ c.self.inside.seat.me.0.log ++ made_by number c.args.command c.apply-result.result
+  log = new_log _ c.share.inside.seat.me _ _ _ c.args.command c.apply-result.result c.share.invariant.1 c.said-said.ensures c.write.ensures.wrote
+
+  count : c.self.inside.seat.me.0.shares ≡ g.N.Naming.parts.callers
+  count = ap (λ m. m.0.shares) c.self.invariant.5
+
+  below : number < g.N.Naming.parts.callers
+  below = subst (λ (n : ℕ). number < n) count c.write.ensures.wrote.number
+
+pub invariant_of-self : goal.invariant_of-self
+invariant_of-self g c =
+    let i = c.self.invariant in
+    let w = c.write.ensures in (
+      c.apply-result.ensures.carried.own ∙ i.0,
+      new_journal _ _ _ _ _ _ _ i.1 c.apply-result.ensures.journal (log g c),
+      i.2,
+      i.3,
+      w.table.0 ∙ i.2,
+      book_seat_is _ _ _ c.write.new.book.me _ _ w.book w.wrote (count g c),
+      new_owners _ _ _ (number g c) _ _ (below g c) i.6 (log g c),
+      i.7,
+    )
+
+pub returns-clause-seen : goal.returns-clause-seen
+returns-clause-seen g c =
+    let w = c.write.ensures in
+    let now = invariant_of-self g c in
+    let legal = answers_seen g.N.Naming.parts c.apply-result.new.self _ now.0 now.1 c.lies_lawfully.ensures.legal in
+    subst (λ (o : Caller). SeesOn g.N.Naming.parts o (first c.write.new.share.me.0.callers) (made_by o.number c.args.command c.apply-result.result)) c.share.view_is
+    (sees_on g.N.Naming.parts (first c.share.inside.seat.me.0.callers) _ _ _ _ (log g c) (shown_all _ _ _ _ _ w.wrote) w.wrote.begins (below g c) now.6 legal)
+
+pub returns-clause-part : goal.returns-clause-part
+returns-clause-part g c = part_grows _ _ _ _ _ (returns-clause-seen g c)

@@ -1,0 +1,4 @@
+pub mod Seen
+pub mod Named
+pub mod Locked
+pub mod Handed

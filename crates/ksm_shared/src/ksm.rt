@@ -1,0 +1,254 @@
+//! What callers share: the table of frames, and the book behind the merge lock.
+ghost use Rattle.std.specs.Prelude.{◌≡◌, ◌++◌, ◌<◌, ◌≤◌, [], Some, All, IfOk, IfErr, IfSome, option_map, replicate, vec_len, vec_capacity};
+ghost use Rattle.ksm_base.specs.Counting.{counters_of};
+ghost use Rattle.ksm_base.specs.Journal.{last_stored};
+ghost use Rattle.ksm_base.specs.Reading.{bytes_of, mappers_of, ticket_of};
+ghost use Rattle.ksm_base.specs.Refusals.{is_known};
+ghost use Rattle.ksm_base.specs.Values.{frames_of};
+ghost use Rattle.frame_table.specs.Equal.{LooksUpEqual};
+ghost use Rattle.frame_table.specs.Lookup.{LooksUp};
+ghost use Rattle.frame_table.specs.Seats.{new_pass};
+ghost use Rattle.ksm_shared.specs.Locked.{EndsLawfully, SeesOn, StepsAlone, fresh, made, made_by, part_of, state_seen};
+ghost use Rattle.ksm_shared.specs.Seen.{book_view, entries};
+
+use crate::answer::Answer;
+use crate::merge::Merge;
+use crate::naming::Naming;
+use crate::parts::Parts;
+use crate::seen::{SeenSeat, SeenWords};
+use crate::share::Share;
+use crate::writing::mint;
+use frame_table::{ClosedTable, Found, FoundEqual, FrameTable, Pass};
+use ksm_base::laws::a_journal_goes_on;
+use ksm_base::{Command, Counters, Fault, GuestPage, Knobs, PageBytes};
+use ksm_book::Book;
+use std::alloc::Global;
+use std::marker::{Model, PhantomData};
+use std::sync::{Mutex, MutexGuard, Wait};
+
+/// One book for several callers. Each call that takes the lock is handed the caller's share; lookups take no lock.
+///
+/// It must be closed.
+pub struct Ksm<N: Naming> {
+    frames: FrameTable,
+    pub(crate) merge: Mutex<Merge<N>>,
+}
+
+impl<N: Naming> Model for Ksm<N> {
+    ghost use Rattle.std.specs.Prelude.{◌≡◌};
+    ghost use Rattle.frame_table.specs.Named.{TableName};
+
+    ghost Value = { TableName };
+
+    ghost view = { λ k. k.frames };
+
+    ghost invariant = { λ k. k.frames ≡ N.parts.frames };
+}
+
+impl<N: Naming> Ksm<N> {
+    /// The opening book, with its passes and a share for each caller. Refused for memory alone; what was opened by then is closed.
+    pub fn open(parts: Parts) -> Result<(Ksm<N>, Vec<Pass>, Vec<Share<N>>), Fault>
+        requires { parts ≡ N.parts }
+        ensures passes { IfOk result (λ opened. opened.1.items ≡ replicate N.parts.frames.shape.passes (new_pass N.parts.frames)) }
+        ensures shares { IfOk result (λ opened. opened.2.items ≡ fresh N.parts.callers) }
+        ensures memory { IfErr result (λ fault. fault ≡ Fault.Memory) }
+    {
+        let Parts {
+            alloc,
+            shape,
+            frames,
+            keeper,
+            passes,
+            seen,
+            mut seat,
+            callers,
+        } = parts;
+        let Ok(mut shares) = Vec::with_capacity(alloc, callers as usize) else {
+            drop(frames.close(keeper, passes));
+            return Err(Fault::Memory);
+        };
+        let book = match Book::open(alloc, keeper, shape) {
+            Ok(book) => book,
+            Err((keeper, fault)) => {
+                drop(frames.close(keeper, passes));
+                return Err(fault);
+            }
+        };
+        mint_all(&seen.shared, &mut seat, &mut shares, callers);
+        let merge = Mutex::new(Merge {
+            book,
+            seen,
+            seat,
+            callers,
+            of: PhantomData,
+        });
+        Ok((Ksm { frames, merge }, passes, shares))
+    }
+
+    /// Makes a command. The share owns its entry, but for want of memory, and has then seen a legal journal that ends with it.
+    pub fn command<R: Wait>(&self, rt: &R, share: &mut Share<N>, command: Command) -> Answer<N>
+        ensures seen { SeesOn N.parts share.old share.new (made_by share.old.number command result.result) }
+        ensures part { part_of share.new ≡ part_of share.old ++ made command result.result }
+        ensures alone { StepsAlone N.parts share.old share.new command result.result }
+    {
+        a_journal_goes_on();
+        let mut merge = self.merge.lock(rt);
+        let answer = merge.command(&self.frames, share, command);
+        MutexGuard::unlock(merge);
+        answer
+    }
+
+    /// The bytes of a page, loaded from the words of its frame; none where it has no row. They are those stored last by the journal that the
+    /// share then has seen.
+    pub fn read<R: Wait>(&self, rt: &R, share: &mut Share<N>, page: GuestPage) -> Option<PageBytes>
+        ensures seen { SeesOn N.parts share.old share.new [] }
+        ensures part { part_of share.new ≡ part_of share.old }
+        ensures alone { N.parts.callers ≡ 1 → share.new ≡ share.old }
+        ensures bytes { result ≡ bytes_of page (state_seen N.parts share.new) }
+        ensures stored { IfSome result (λ bytes. last_stored page (entries share.new.seen) ≡ Some bytes) }
+    {
+        let mut merge = self.merge.lock(rt);
+        merge.show(share);
+        let bytes = merge.read(&self.frames, page);
+        MutexGuard::unlock(merge);
+        bytes
+    }
+
+    /// The place of the dup into which a page is merged; none where it is not merged.
+    pub fn ticket<R: Wait>(&self, rt: &R, share: &mut Share<N>, page: GuestPage) -> Option<u32>
+        ensures seen { SeesOn N.parts share.old share.new [] }
+        ensures part { part_of share.new ≡ part_of share.old }
+        ensures alone { N.parts.callers ≡ 1 → share.new ≡ share.old }
+        ensures ticket { result ≡ ticket_of page (state_seen N.parts share.new) }
+    {
+        let mut merge = self.merge.lock(rt);
+        merge.show(share);
+        let place = merge.book().ticket(page);
+        MutexGuard::unlock(merge);
+        place
+    }
+
+    /// Whether the page is registered.
+    pub fn registered<R: Wait>(&self, rt: &R, share: &mut Share<N>, page: GuestPage) -> bool
+        ensures seen { SeesOn N.parts share.old share.new [] }
+        ensures part { part_of share.new ≡ part_of share.old }
+        ensures alone { N.parts.callers ≡ 1 → share.new ≡ share.old }
+        ensures registered { result ≡ is_known (state_seen N.parts share.new) page }
+    {
+        let mut merge = self.merge.lock(rt);
+        merge.show(share);
+        let known = merge.book().registered(page);
+        MutexGuard::unlock(merge);
+        known
+    }
+
+    /// The counters.
+    pub fn counters<R: Wait>(&self, rt: &R, share: &mut Share<N>) -> Counters
+        ensures seen { SeesOn N.parts share.old share.new [] }
+        ensures part { part_of share.new ≡ part_of share.old }
+        ensures alone { N.parts.callers ≡ 1 → share.new ≡ share.old }
+        ensures counters { result ≡ counters_of (state_seen N.parts share.new) }
+    {
+        let mut merge = self.merge.lock(rt);
+        merge.show(share);
+        let counters = merge.book().counters();
+        MutexGuard::unlock(merge);
+        counters
+    }
+
+    /// The knobs.
+    pub fn knobs<R: Wait>(&self, rt: &R, share: &mut Share<N>) -> Knobs
+        ensures seen { SeesOn N.parts share.old share.new [] }
+        ensures part { part_of share.new ≡ part_of share.old }
+        ensures alone { N.parts.callers ≡ 1 → share.new ≡ share.old }
+        ensures knobs { result ≡ (state_seen N.parts share.new).knobs }
+    {
+        let mut merge = self.merge.lock(rt);
+        merge.show(share);
+        let knobs = merge.book().knobs();
+        MutexGuard::unlock(merge);
+        knobs
+    }
+
+    /// The pages merged into the dup at a place, ascending; none where no dup with items stands there. Refused for memory alone.
+    pub fn mappers<R: Wait>(
+        &self,
+        rt: &R,
+        alloc: Global,
+        share: &mut Share<N>,
+        place: u32,
+    ) -> Result<Option<Vec<GuestPage>>, Fault>
+        ensures seen { SeesOn N.parts share.old share.new [] }
+        ensures part { part_of share.new ≡ part_of share.old }
+        ensures alone { N.parts.callers ≡ 1 → share.new ≡ share.old }
+        ensures mappers { IfOk result (λ pages. option_map (λ v. v.items) pages ≡ mappers_of place (state_seen N.parts share.new)) }
+        ensures memory { IfErr result (λ fault. fault ≡ Fault.Memory) }
+    {
+        let mut merge = self.merge.lock(rt);
+        merge.show(share);
+        let mappers = merge.book().mappers(alloc, place);
+        MutexGuard::unlock(merge);
+        mappers
+    }
+
+    /// The table of frames, for lookups. It takes no lock.
+    pub fn table(&self) -> &FrameTable
+        ensures { result.now ≡ N.parts.frames }
+    {
+        &self.frames
+    }
+
+    /// Looks a place up, and takes a reference on the frame that it names. It takes no lock.
+    pub fn find(&self, pass: Pass, place: u32) -> Found
+        requires own { pass.table ≡ N.parts.frames }
+        requires inside { place < frames_of N.parts.frames.shape }
+        ensures { LooksUp pass place result }
+    {
+        pass.find(&self.frames, place)
+    }
+
+    /// Looks a place up as `find` does, and compares the words of the frame with the page. It takes no lock.
+    pub fn find_equal(&self, pass: Pass, place: u32, page: &PageBytes) -> FoundEqual
+        requires own { pass.table ≡ N.parts.frames }
+        requires inside { place < frames_of N.parts.frames.shape }
+        ensures { LooksUpEqual pass place page.now result }
+    {
+        pass.find_equal(&self.frames, place, page)
+    }
+
+    /// Ends the book, with all its passes. Nobody holds a frame then: each count is the keeper's own references.
+    pub fn close<R: Wait>(self, _rt: &R, passes: Vec<Pass>) -> ClosedTable
+        requires all { vec_len passes ≡ N.parts.frames.shape.passes }
+        requires passes { All (λ p. p.table ≡ N.parts.frames) passes.items }
+        ensures shape { result.shape ≡ N.parts.frames.shape }
+        ensures ends { EndsLawfully N.parts result }
+    {
+        let Ksm { frames, merge } = self;
+        let merge = merge.into_inner();
+        merge.lies_lawfully();
+        frames.close(merge.close(), passes)
+    }
+}
+
+// A share for each caller.
+fn mint_all<N: Naming>(
+    table: &SeenWords,
+    book: &mut SeenSeat,
+    shares: &mut Vec<Share<N>>,
+    callers: u32,
+)
+    requires table { (book.old.table_id ≡ table.now.table_id) × (N.parts.seen ≡ table.now.table_id) × (0 < table.now.table_id.words) }
+    requires book { book.old.me ≡ (book_view [] 0, []) }
+    requires room { (shares.old.items ≡ []) × (vec_len shares.old ≡ 0) × (callers ≤ vec_capacity shares.old) }
+    ensures table { book.new.table_id ≡ table.now.table_id }
+    ensures book { book.new.me ≡ (book_view [] callers, []) }
+    ensures shares { shares.new.items ≡ fresh callers }
+{
+    for _ in 0..callers {
+        let seat = mint(table, book);
+        shares.push_reserved(Share {
+            seat,
+            of: PhantomData,
+        });
+    }
+}

@@ -1,0 +1,180 @@
+//! What lies under the merge lock.
+ghost use Rattle.std.specs.Prelude.{◌≡◌, ◌++◌, ◌<◌, ◌≤◌, ℕ, [], Some, length, IfOk, IfErr, IfSome};
+ghost use Rattle.ksm_base.specs.Journal.{IsLegal, ReadsLastStored, journal_after, last_stored};
+ghost use Rattle.ksm_base.specs.Reading.{bytes_of};
+ghost use Rattle.ksm_base.specs.Sound.{IsSound};
+ghost use Rattle.ksm_book.specs.Carried.{CarriedOut, unjournaled};
+ghost use Rattle.ksm_book.specs.Laid.{LoadsIf};
+ghost use Rattle.ksm_book.specs.Lawful.{LieLawfully, ShareLawfully};
+ghost use Rattle.ksm_shared.specs.Handed.{missing_of};
+ghost use Rattle.ksm_shared.specs.Locked.{Gathered, LacksOne, SeesOn, made, made_by, part_of, said_of, state_seen};
+ghost use Rattle.ksm_shared.specs.Seen.{CallersFit, IsBookSeat, OwnersBelow, caller, entries, times};
+
+use crate::answer::Answer;
+use crate::naming::Naming;
+use crate::seen::{Entry, SeenSeat, SeenTable, SeenWords, Shares, Writing};
+use crate::share::Share;
+use crate::tally::{GatherFault, Tally};
+use crate::writing::write;
+use frame_table::{FrameTable, Keeper};
+use ksm_base::laws::a_journal_goes_on;
+use ksm_base::{Command, Fault, GuestPage, PageBytes, Reply};
+use ksm_book::Book;
+use std::marker::{Model, PhantomData};
+
+/// The book with the keeper of its frames, and its seat among the shares. Contracts see the book, and the entries of its journal with their
+/// owners.
+///
+/// Whenever the lock is free: the book lies lawfully in the frames of the table of `N`, its journal is legal and leads to its state, and
+/// each entry is owned by one of the shares of `N` (`lies_lawfully`).
+pub struct Merge<N: Naming> {
+    pub(crate) book: Book,
+    pub(crate) seen: SeenTable,
+    pub(crate) seat: SeenSeat,
+    pub(crate) callers: u32,
+    pub(crate) of: PhantomData<N>,
+}
+
+impl<N: Naming> Model for Merge<N> {
+    ghost use Rattle.std.specs.Prelude.{◌≡◌, []};
+    ghost use Rattle.ksm_shared.specs.Locked.{Locked};
+    ghost use Rattle.ksm_shared.specs.Seen.{OwnersBelow, book_view, entries};
+
+    ghost Value = { Locked };
+
+    ghost view = { λ m. record { book = m.book; log = m.seat.me.0.log } };
+
+    ghost invariant = { λ m. (m.book.keeper.table ≡ N.parts.frames) × (m.book.journal ≡ entries m.seat.me.0.log) × (m.seen.shared.table_id ≡ N.parts.seen) × (m.seen.shared.table_id.words ≡ 1) × (m.seat.table_id ≡ N.parts.seen) × (m.seat.me ≡ (book_view m.seat.me.0.log N.parts.callers, [])) × OwnersBelow N.parts.callers m.seat.me.0.log × (m.callers ≡ N.parts.callers) };
+}
+
+impl<N: Naming> Merge<N> {
+    /// Makes a command for the share's caller. The share owns its entry, and has then seen the whole journal.
+    pub fn command(
+        &mut self,
+        frames: &FrameTable,
+        share: &mut Share<N>,
+        command: Command,
+    ) -> Answer<N>
+        requires own { frames.now ≡ N.parts.frames }
+        ensures carried { CarriedOut (unjournaled self.old.book) (unjournaled self.new.book) command result.result }
+        ensures journal { self.new.book.journal ≡ journal_after self.old.book.journal command result.result }
+        ensures log { self.new.log ≡ self.old.log ++ made_by share.old.number command result.result }
+        ensures share { share.new ≡ caller share.old.number self.new.log }
+        ensures seen { SeesOn N.parts share.old share.new (made_by share.old.number command result.result) }
+        ensures part { part_of share.new ≡ part_of share.old ++ made command result.result }
+    {
+        a_journal_goes_on();
+        let result = self.book.apply(frames, command);
+        self.book.lies_lawfully();
+        let said = said(command, result);
+        let table = &self.seen;
+        write(&table.shared, &mut self.seat, &mut share.seat, &said);
+        Answer {
+            result,
+            of: PhantomData,
+        }
+    }
+
+    /// Shows the share the whole journal, and adds no entry.
+    pub fn show(&mut self, share: &mut Share<N>)
+        ensures kept { self.new ≡ self.old }
+        ensures share { share.new ≡ caller share.old.number self.old.log }
+        ensures seen { SeesOn N.parts share.old share.new [] }
+        ensures part { part_of share.new ≡ part_of share.old }
+        ensures alone { N.parts.callers ≡ 1 → share.new ≡ share.old }
+        ensures state { self.old.book.state ≡ state_seen N.parts share.new }
+    {
+        self.book.lies_lawfully();
+        let table = &self.seen;
+        write(&table.shared, &mut self.seat, &mut share.seat, &None);
+    }
+
+    /// The book, for what is read without a step.
+    pub fn book(&self) -> &Book
+        ensures { result.now ≡ self.now.book }
+    {
+        &self.book
+    }
+
+    /// The bytes of a page, loaded from the words of its frame; none where it has no row. They are those stored last by the journal.
+    pub fn read(&mut self, frames: &FrameTable, page: GuestPage) -> Option<PageBytes>
+        requires own { frames.now ≡ N.parts.frames }
+        ensures bytes { result ≡ bytes_of page self.old.book.state }
+        ensures stored { IfSome result (λ bytes. last_stored page (entries self.old.log) ≡ Some bytes) }
+        ensures state { self.new.book.state ≡ self.old.book.state }
+        ensures log { self.new.log ≡ self.old.log }
+        ensures loads { LoadsIf result self.old.book.keeper self.new.book.keeper }
+    {
+        self.book.read(frames, page)
+    }
+
+    /// A law, which costs nothing to call: what is true of the locked book whenever the lock is free.
+    pub fn lies_lawfully(&self)
+        ensures own { self.now.book.keeper.table ≡ N.parts.frames }
+        ensures sound { IsSound self.now.book.state }
+        ensures placed { LieLawfully self.now.book.state self.now.book.keeper }
+        ensures shared { ShareLawfully self.now.book.state self.now.book.keeper }
+        ensures legal { IsLegal N.parts.frames.shape (entries self.now.log) self.now.book.state }
+        ensures stored { ReadsLastStored (entries self.now.log) self.now.book.state.rows }
+        ensures journal { self.now.book.journal ≡ entries self.now.log }
+        ensures owners { OwnersBelow N.parts.callers self.now.log }
+    {
+        self.book.lies_lawfully();
+    }
+
+    /// How many entries all shares own together, where all shares are here; they are spent. Else they come back.
+    pub fn gather(&mut self, shares: Vec<Share<N>>) -> Result<Tally, GatherFault<N>>
+        ensures kept { self.new ≡ self.old }
+        ensures all { IfOk result (λ tally. Gathered N.parts.callers self.old.log shares.items × (tally.entries ≡ length self.old.log)) }
+        ensures missing { IfErr result (λ fault. (missing_of fault ≡ shares.items) × LacksOne N.parts.callers shares.items) }
+    {
+        if shares.len() < self.callers as usize {
+            return Err(GatherFault::Missing(shares));
+        }
+        let table = &self.seen;
+        join_all(&table.shared, &mut self.seat, shares);
+        let entries = self.book.journal().len() as u64;
+        Ok(Tally { entries })
+    }
+
+    /// The keeper, as it is.
+    pub(crate) fn close(self) -> Keeper
+        ensures { result ≡ self.book.keeper }
+    {
+        let Merge {
+            book,
+            seen: _,
+            seat: _,
+            callers: _,
+            of: _,
+        } = self;
+        book.close()
+    }
+}
+
+// Joins the shares to the book's seat, looks, and lets them go.
+fn join_all<N: Naming>(table: &SeenWords, book: &mut SeenSeat, shares: Vec<Share<N>>)
+    requires table { (book.old.table_id ≡ table.now.table_id) × (N.parts.seen ≡ table.now.table_id) × (0 < table.now.table_id.words) }
+    requires book { IsBookSeat book.old.me }
+    ensures table { book.new.table_id ≡ book.old.table_id }
+    ensures book { book.new.me ≡ book.old.me }
+    ensures fits { CallersFit book.old.me.0.log book.old.me.0.shares shares.items }
+    ensures once { (number : ℕ) → times number shares.items ≤ 1 }
+{
+    for share in shares {
+        let Share { seat, of: _ } = share;
+        table.join_seat::<Shares>(book, seat);
+    }
+    table.compare_exchange_with::<Writing>(book, 0, 0, 0, &None);
+    let _gone = table.split_seat::<Shares>(book);
+}
+
+// The entry of a command; none where it was refused for memory.
+fn said(command: Command, answer: Result<Reply, Fault>) -> Option<Entry>
+    ensures { result ≡ said_of command answer }
+{
+    match answer {
+        Err(Fault::Memory) => None,
+        _ => Some((command, answer)),
+    }
+}

@@ -1,0 +1,338 @@
+-- The dups of one group, and all others: what each makes of the totals, and what a dup that comes or goes changes of them.
+use Rattle.std.proofs.Common.{◌≡◌, ◌∙◌, ℕ, suc, ◌+◌, ◌<◌, ◌≤◌, Bool, true, false, List, [], ◌∷◌, ◌++◌, length, get_or, Some, refl, sym, ap, inl, inr, arith}
+use Rattle.std.specs.Prelude.{◌==◌, ◌&&◌, ◌||◌, not, nat_lt, nat_le, All, count_by, filter, find, bytes_eq, if◌then◌else◌}
+use Rattle.std.specs.List.{list_all}
+use Rattle.std.proofs.lemmas.Bool.{and_parts, cases_Bool}
+use Rattle.std.proofs.lemmas.Bool.Decides.{nat_tests}
+use Rattle.std.proofs.lemmas.Option.{none-some, same_Some}
+use Rattle.std.proofs.lemmas.Slice.Eq.{bytes_eq-Decides}
+use Rattle.std.proofs.lemmas.List.{length-map}
+use Rattle.std.proofs.lemmas.List.Elements.{All-head, All-tail, All-weaker}
+use Rattle.std.proofs.lemmas.List.Sums.{length-filter, list_all-from_AllPass, count_by-le-length}
+use Rattle.ksm_base.specs.declared.row.DupRow.{DupRow}
+use Rattle.ksm_base.specs.Counting.{group_size, in_chain, leads_group}
+use Rattle.ksm_base.specs.Rows.{InPlaceOrder, same_group, with_dup}
+use Rattle.ksm_base.proofs.Edits.{count_more, count-append}
+use Rattle.ksm_rmap.proofs.Ordered.{pairs_head, pairs_tail, filter_all}
+use Rattle.ksm_tree.specs.Index.{in_group, group_places}
+use Rattle.ksm_tree.specs.Totals.{AreTotals, IsRegrouped, Tells, chained_of, chains_of}
+use Rattle.ksm_tree.specs.declared.totals.Totals.{Totals}
+use Rattle.ksm_tree.proofs.Counts.{count_alike}
+use Rattle.ksm_tree.proofs.Keys.{own_group, self_group}
+use Rattle.ksm_tree.proofs.Rows.{Comes, rows_parted}
+
+-- ---------------------------------------------------------------- one row more
+
+-- rows count as others do with one row more
+pub record IsMore (r : DupRow) (less more : List DupRow) : Type 0 where
+  pub counts : (p : DupRow → Bool) → count_by p more ≡ (if p r then 1 else 0) + count_by p less
+  pub all : (p : DupRow → Bool) → list_all p more ≡ (p r && list_all p less)
+
+all_append : (p : DupRow → Bool) (xs ys : List DupRow) → list_all p (xs ++ ys) ≡ (list_all p xs && list_all p ys)
+all_append p [] ys = refl
+all_append p (x ∷ xs) ys = let rest = all_append p xs ys in grind (arith, rest)
+
+more_between : (r : DupRow) (xs ys : List DupRow) → IsMore r (xs ++ ys) (xs ++ r ∷ ys)
+more_between r xs ys = record {
+  counts = λ p. (let first = count-append p xs (r ∷ ys) in
+      let second = count-append p xs ys in
+      let more = count_more p r ys in
+      omega (arith, first, second, more));
+  all = λ p. (let first = all_append p xs (r ∷ ys) in
+      let second = all_append p xs ys in
+      grind (arith, first, second));
+}
+
+-- with a new row, beside those at other places
+pub more_with : (r : DupRow) (rows : List DupRow) → InPlaceOrder rows → IsMore r (filter (λ e. not (e.place == r.place)) rows) (with_dup r rows)
+more_with r rows rise =
+    rw (rows_parted r.place rows rise) (more_between r (filter (λ e. nat_lt e.place r.place) rows) (filter (λ e. nat_lt r.place e.place) rows))
+
+-- with the row that stands at a place
+pub more_there : (p : ℕ) (rows : List DupRow) (e : DupRow) → InPlaceOrder rows → find (λ r. r.place == p) rows ≡ Some e → IsMore e (filter (λ r. not (r.place == p)) rows) rows
+more_there p [] e rise found = absurd (none-some e found)
+more_there p (r ∷ rows) e rise found =
+    let first = pairs_head Comes r rows rise in
+    elim (cases_Bool (r.place == p)) [
+      | inl here ↦
+          let same : r ≡ e = same_Some r e (grind (arith, here, found)) in
+          let kept = filter_all (λ s. not (s.place == p)) rows (All-weaker (Comes r) (λ s. not (s.place == p) ≡ true) (λ s h. let later = h.0 in grind (arith, nat_tests, here, later)) rows first) in
+          record {
+            counts = λ q. (let more = count_more q r rows in grind (arith, here, kept, same, more));
+            all = λ q. grind (arith, here, kept, same);
+          }
+      | inr away ↦
+          let rest = more_there p rows e (pairs_tail Comes r rows rise) (grind (arith, away, found)) in
+          record {
+            counts = λ q. (let one = rest.counts q in let more = count_more q r rows in let less = count_more q r (filter (λ s. not (s.place == p)) rows) in grind (arith, away, one, more, less));
+            all = λ q. (let one = rest.all q in grind (arith, away, one));
+          }
+    ]
+
+-- ---------------------------------------------------------------- counts by two tests
+
+count_parts : (s p : DupRow → Bool) (rows : List DupRow) → count_by p rows ≡ count_by (λ d. s d && p d) rows + count_by (λ d. not (s d) && p d) rows
+count_parts s p [] = refl
+count_parts s p (r ∷ rows) =
+    let rest = count_parts s p rows in
+    let all = count_more p r rows in
+    let first = count_more (λ d. s d && p d) r rows in
+    let second = count_more (λ d. not (s d) && p d) r rows in
+    grind (arith, rest, all, first, second)
+
+count_where : (s : DupRow → Bool) (b : Bool) (rows : List DupRow) → count_by (λ d. s d && b) rows ≡ (if b then count_by s rows else 0)
+count_where s b [] = elim (cases_Bool b) [
+  | inl is ↦ rw is refl
+  | inr is ↦ rw is refl
+]
+count_where s b (r ∷ rows) =
+    let rest = count_where s b rows in
+    let all = count_more s r rows in
+    let both = count_more (λ d. s d && b) r rows in
+    grind (arith, rest, all, both)
+
+count_none : (p : DupRow → Bool) (rows : List DupRow) → All (λ d. p d ≡ false) rows → count_by p rows ≡ 0
+count_none p [] none = refl
+count_none p (r ∷ rows) none =
+    let here = All-head (λ d. p d ≡ false) r rows none in
+    let rest = count_none p rows (All-tail (λ d. p d ≡ false) r rows none) in
+    let more = count_more p r rows in
+    grind (arith, here, rest, more)
+
+-- ---------------------------------------------------------------- one group
+
+module _ (t : ℕ) (b : List ℕ) where
+  abbrev of_it : DupRow → Bool
+  of_it d = in_group t b d
+
+  -- a dup of the group has just the group's dups beside it, and another none of them
+  group_own : (d e : DupRow) → of_it d ≡ true → same_group d e ≡ of_it e
+  group_own d e inside =
+      let parts = and_parts (d.tree == t) (bytes_eq d.bytes b) inside in
+      let tree : d.tree ≡ t = grind (arith, nat_tests, parts.0) in
+      let bytes : d.bytes ≡ b = (bytes_eq-Decides d.bytes b).0 parts.1 in
+      (λ i. tree i == e.tree && bytes_eq (bytes i) e.bytes) ∙ sym (own_group t b e)
+
+  group_apart : (d e : DupRow) → of_it d ≡ false → of_it e ≡ true → same_group d e ≡ false
+  group_apart d e outside inside =
+      let parts = and_parts (e.tree == t) (bytes_eq e.bytes b) inside in
+      let tree : e.tree ≡ t = grind (arith, nat_tests, parts.0) in
+      let bytes : e.bytes ≡ b = (bytes_eq-Decides e.bytes b).0 parts.1 in
+      (λ i. d.tree == tree i && bytes_eq d.bytes (bytes i)) ∙ outside
+
+  -- how many dups the group has
+  abbrev pub size : List DupRow → ℕ
+  size rows = count_by of_it rows
+
+  pub places_size : (rows : List DupRow) → length (group_places t b rows) ≡ size rows
+  places_size rows = length-map (filter of_it rows) (λ r. r.place) ∙ length-filter of_it rows
+
+  -- what the other groups make of the totals
+  abbrev pub dups_apart : List DupRow → ℕ
+  dups_apart rows = count_by (λ d. not (of_it d) && in_chain rows d) rows
+
+  abbrev leads : List DupRow → DupRow → Bool
+  leads rows d = in_chain rows d && leads_group rows d
+
+  abbrev pub chains_apart : List DupRow → ℕ
+  chains_apart rows = count_by (λ d. not (of_it d) && leads rows d) rows
+
+  own_size : (rows : List DupRow) (d : DupRow) → of_it d ≡ true → group_size rows d ≡ size rows
+  own_size rows d inside = count_alike (same_group d) of_it rows (λ k e lt. group_own d (get_or rows k e) inside)
+
+  -- of a group one dup leads
+  one_leads : (rows : List DupRow) → InPlaceOrder rows → count_by (λ d. of_it d && leads_group rows d) rows ≡ (if size rows == 0 then 0 else 1)
+  one_leads [] rise = refl
+  one_leads (r ∷ rows) rise =
+      let first = pairs_head Comes r rows rise in
+      let more = count_more of_it r rows in
+      let also = count_more (λ d. of_it d && leads_group (r ∷ rows) d) r rows in
+      elim (cases_Bool (of_it r)) [
+        | inl inside ↦
+            let none = count_none (λ d. of_it d && leads_group (r ∷ rows) d) rows
+            (All-weaker (Comes r) (λ d. (of_it d && leads_group (r ∷ rows) d) ≡ false) (λ d h. let later = h.0 in
+            elim (cases_Bool (of_it d)) [
+              | inl too ↦ let own : same_group d r ≡ true = group_own d r too ∙ inside in grind (arith, nat_tests, own, later)
+              | inr apart ↦ grind (arith, apart)
+            ]) rows first) in
+            let behind = list_all-from_AllPass (λ e. not (same_group r e) || nat_le r.place e.place) rows
+            (All-weaker (Comes r) (λ e. (not (same_group r e) || nat_le r.place e.place) ≡ true) (λ e h. let later = h.0 in grind (arith, nat_tests, later)) rows first) in
+            let leader : leads_group (r ∷ rows) r ≡ true = grind (arith, nat_tests, behind) in
+            grind (arith, nat_tests, inside, more, also, none, leader)
+        | inr outside ↦
+            let alike = count_alike (λ d. of_it d && leads_group (r ∷ rows) d) (λ d. of_it d && leads_group rows d) rows
+            (λ k e lt. let d = get_or rows k e in elim (cases_Bool (of_it d)) [
+              | inl too ↦ let apart : same_group d r ≡ false = group_own d r too ∙ outside in grind (arith, too, apart)
+              | inr apart ↦ grind (arith, apart)
+            ]) in
+            let rest = one_leads rows (pairs_tail Comes r rows rise) in
+            grind (arith, nat_tests, outside, more, also, alike, rest)
+      ]
+
+  -- the totals are what the group makes of them, and what the others do
+  pub dups_parted : (rows : List DupRow) → count_by (in_chain rows) rows ≡ chained_of (size rows) + dups_apart rows
+  dups_parted rows =
+      let parts = count_parts of_it (in_chain rows) rows in
+      let own = count_alike (λ d. of_it d && in_chain rows d) (λ d. of_it d && nat_lt 1 (size rows)) rows
+      (λ k e lt. let d = get_or rows k e in elim (cases_Bool (of_it d)) [
+        | inl inside ↦ ap (λ n. of_it d && nat_lt 1 n) (own_size rows d inside)
+        | inr outside ↦ grind (arith, outside)
+      ]) in
+      let all = count_where of_it (nat_lt 1 (size rows)) rows in
+      omega (arith, parts, own, all)
+
+  pub chains_parted : (rows : List DupRow) → InPlaceOrder rows → count_by (leads rows) rows ≡ chains_of (size rows) + chains_apart rows
+  chains_parted rows rise =
+      let parts = count_parts of_it (leads rows) rows in
+      let own = count_alike (λ d. of_it d && leads rows d) (λ d. (of_it d && leads_group rows d) && nat_lt 1 (size rows)) rows
+      (λ k e lt. let d = get_or rows k e in elim (cases_Bool (of_it d)) [
+        | inl inside ↦ let n = own_size rows d inside in grind (arith, inside, n)
+        | inr outside ↦ grind (arith, outside)
+      ]) in
+      let all = count_where (λ d. of_it d && leads_group rows d) (nat_lt 1 (size rows)) rows in
+      let one = one_leads rows rise in
+      grind (arith, nat_tests, parts, own, all, one)
+
+  -- another group's row changes nothing of what the others make
+  module _ (r : DupRow) (less more : List DupRow) (h : IsMore r less more) (inside : of_it r ≡ true) where
+    same_size : (d : DupRow) → of_it d ≡ false → group_size more d ≡ group_size less d
+    same_size d outside = let one = h.counts (same_group d) in let apart = group_apart d r outside inside in grind (arith, one, apart)
+
+    pub dups_kept : dups_apart more ≡ dups_apart less
+    dups_kept =
+        let one = h.counts (λ d. not (of_it d) && in_chain more d) in
+        let alike = count_alike (λ d. not (of_it d) && in_chain more d) (λ d. not (of_it d) && in_chain less d) less
+        (λ k e lt. let d = get_or less k e in elim (cases_Bool (of_it d)) [
+          | inl too ↦ grind (arith, too)
+          | inr outside ↦ ap (λ n. not (of_it d) && nat_lt 1 n) (same_size d outside)
+        ]) in
+        grind (arith, one, alike, inside)
+
+    pub chains_kept : chains_apart more ≡ chains_apart less
+    chains_kept =
+        let one = h.counts (λ d. not (of_it d) && leads more d) in
+        let alike = count_alike (λ d. not (of_it d) && leads more d) (λ d. not (of_it d) && leads less d) less
+        (λ k e lt. let d = get_or less k e in elim (cases_Bool (of_it d)) [
+          | inl too ↦ grind (arith, too)
+          | inr outside ↦
+              let n = same_size d outside in
+              let apart = group_apart d r outside inside in
+              let every = h.all (λ e. not (same_group d e) || nat_le d.place e.place) in
+              grind (arith, outside, n, apart, every)
+        ]) in
+        grind (arith, one, alike, inside)
+
+-- ---------------------------------------------------------------- the totals
+
+-- they tell of each group, and are small
+rows_fit : (k p : ℕ) (rows : List DupRow) → k ≤ p → All (λ r. k ≤ r.place) rows → All (λ r. r.place < p) rows → InPlaceOrder rows → length rows + k ≤ p
+rows_fit k p [] least above below rise = omega arith
+rows_fit k p (r ∷ rows) least above below rise =
+    let here = All-head (λ e. k ≤ e.place) r rows above in
+    let under = All-head (λ e. e.place < p) r rows below in
+    let first = pairs_head Comes r rows rise in
+    let rest = rows_fit (suc r.place) p rows (omega (arith, under)) (All-weaker (Comes r) (λ e. suc r.place ≤ e.place) (λ e h. let later = h.0 in omega (arith, later)) rows first) (All-tail (λ e. e.place < p) r rows below) (pairs_tail Comes r rows rise) in
+    omega (arith, rest, here)
+
+pub totals_few : (p : ℕ) (rows : List DupRow) (totals : Totals) → p ≤ 1024 → All (λ r. r.place < p) rows → InPlaceOrder rows → AreTotals rows totals → (totals.chains ≤ 1024) × (totals.dups ≤ 1024)
+totals_few p rows totals few below rise are =
+    let fit = rows_fit 0 p rows (omega arith) (λ k d lt. omega arith) below rise in
+    let dups = count_by-le-length (in_chain rows) rows in
+    let chains = count_by-le-length (λ d. in_chain rows d && leads_group rows d) rows in
+    let first = are.chains in
+    let second = are.dups in
+    (omega (arith, first, chains, fit, few), omega (arith, second, dups, fit, few))
+
+pub totals_tell : (t : ℕ) (b : List ℕ) (p : ℕ) (rows : List DupRow) (totals : Totals) → p ≤ 1024 → All (λ r. r.place < p) rows → InPlaceOrder rows → AreTotals rows totals → Tells (length (group_places t b rows)) totals
+totals_tell t b p rows totals few below rise are =
+    let n = places_size t b rows in
+    let dups = dups_parted t b rows in
+    let chains = chains_parted t b rows rise in
+    let small = totals_few p rows totals few below rise are in
+    let first = are.chains in
+    let second = are.dups in
+    record {
+      chains = rw n (omega (arith, first, chains));
+      dups = rw n (omega (arith, second, dups));
+      few = omega (arith, small.0);
+      small = omega (arith, small.1);
+    }
+
+-- once one group has changed
+pub totals_moved : (t : ℕ) (b : List ℕ) (rows new : List DupRow) (old_totals new_totals : Totals) → InPlaceOrder rows → InPlaceOrder new → dups_apart t b new ≡ dups_apart t b rows → chains_apart t b new ≡ chains_apart t b rows
+    → IsRegrouped (length (group_places t b rows)) (length (group_places t b new)) old_totals new_totals → AreTotals rows old_totals → AreTotals new new_totals
+totals_moved t b rows new old_totals new_totals rise new_rise dups chains regrouped are =
+    let r : IsRegrouped (size t b rows) (size t b new) old_totals new_totals = rw (← places_size t b rows, ← places_size t b new) regrouped in
+    let d_old = dups_parted t b rows in
+    let d_new = dups_parted t b new in
+    let c_old = chains_parted t b rows rise in
+    let c_new = chains_parted t b new new_rise in
+    record {
+      chains = omega (arith, r.chains, are.chains, c_old, c_new, chains);
+      dups = omega (arith, r.dups, are.dups, d_old, d_new, dups);
+    }
+
+-- twice in one group
+regrouped_twice : (a b c : ℕ) (t u v : Totals) → IsRegrouped a b t u → IsRegrouped b c u v → IsRegrouped a c t v
+regrouped_twice a b c t u v first second = record {
+  chains = omega (arith, first.chains, second.chains);
+  dups = omega (arith, first.dups, second.dups);
+}
+
+-- a row in the stead of another: first the one comes, then the other goes
+module _ (old r : DupRow) (less rows new : List DupRow) (there : IsMore old less rows) (here : IsMore r less new)
+    (rise : InPlaceOrder rows) (less_rise : InPlaceOrder less) (new_rise : InPlaceOrder new) where
+  -- of one group
+  pub totals_same : (t u v : Totals) (n : ℕ) → in_group r.tree r.bytes old ≡ true
+      → IsRegrouped (length (group_places r.tree r.bytes rows)) n t u → IsRegrouped n (length (group_places r.tree r.bytes new)) u v → AreTotals rows t → AreTotals new v
+  totals_same t u v n same first second are =
+      let own = self_group r in
+      totals_moved r.tree r.bytes rows new t v rise new_rise
+      (dups_kept r.tree r.bytes r less new here own ∙ sym (dups_kept r.tree r.bytes old less rows there same))
+      (chains_kept r.tree r.bytes r less new here own ∙ sym (chains_kept r.tree r.bytes old less rows there same))
+      (regrouped_twice _ n _ t u v first second) are
+
+  -- of two groups
+  pub totals_apart : (t u v : Totals) → in_group r.tree r.bytes old ≡ false
+      → IsRegrouped (length (group_places r.tree r.bytes rows)) (length (group_places r.tree r.bytes new)) t u
+      → IsRegrouped (length (group_places old.tree old.bytes rows)) (length (group_places old.tree old.bytes new)) u v → AreTotals rows t → AreTotals new v
+  totals_apart t u v other first second are =
+      let also : in_group old.tree old.bytes r ≡ false = sym (own_group r.tree r.bytes old) ∙ other in
+      let from : IsRegrouped (size r.tree r.bytes rows) (size r.tree r.bytes new) t u = rw (← places_size r.tree r.bytes rows, ← places_size r.tree r.bytes new) first in
+      let to : IsRegrouped (size old.tree old.bytes rows) (size old.tree old.bytes new) u v = rw (← places_size old.tree old.bytes rows, ← places_size old.tree old.bytes new) second in
+      let one : size r.tree r.bytes rows ≡ size r.tree r.bytes less = (let h = there.counts (in_group r.tree r.bytes) in grind (arith, h, other)) in
+      let two : size old.tree old.bytes new ≡ size old.tree old.bytes less = (let h = here.counts (in_group old.tree old.bytes) in grind (arith, h, also)) in
+      let d1 = dups_parted old.tree old.bytes rows in
+      let d2 = dups_parted old.tree old.bytes less in
+      let d3 = dups_parted r.tree r.bytes less in
+      let d4 = dups_parted r.tree r.bytes new in
+      let dk = dups_kept old.tree old.bytes old less rows there (self_group old) in
+      let dm = dups_kept r.tree r.bytes r less new here (self_group r) in
+      let c1 = chains_parted old.tree old.bytes rows rise in
+      let c2 = chains_parted old.tree old.bytes less less_rise in
+      let c3 = chains_parted r.tree r.bytes less less_rise in
+      let c4 = chains_parted r.tree r.bytes new new_rise in
+      let ck = chains_kept old.tree old.bytes old less rows there (self_group old) in
+      let cm = chains_kept r.tree r.bytes r less new here (self_group r) in
+      let same_d1 = ap chained_of one in
+      let same_d2 = ap chained_of two in
+      let same_c1 = ap chains_of one in
+      let same_c2 = ap chains_of two in
+      record {
+        chains = omega (arith, from.chains, to.chains, are.chains, c1, c2, c3, c4, ck, cm, same_c1, same_c2);
+        dups = omega (arith, from.dups, to.dups, are.dups, d1, d2, d3, d4, dk, dm, same_d1, same_d2);
+      }
+
+  -- between the two the totals tell of the group of the one that goes
+  pub totals_between : (t u : Totals) → IsRegrouped (length (group_places r.tree r.bytes rows)) (length (group_places r.tree r.bytes new)) t u → (n : ℕ) → t.chains ≤ 1024 → t.dups ≤ 1024 → Tells n t → Tells n u
+  totals_between t u first n few small tells =
+      let from : IsRegrouped (size r.tree r.bytes rows) (size r.tree r.bytes new) t u = rw (← places_size r.tree r.bytes rows, ← places_size r.tree r.bytes new) first in
+      let one = there.counts (in_group r.tree r.bytes) in
+      let two = here.counts (in_group r.tree r.bytes) in
+      let own = self_group r in
+      record {
+        chains = grind (arith, nat_tests, from.chains, one, two, own, tells.chains);
+        dups = grind (arith, nat_tests, from.dups, one, two, own, tells.dups);
+        few = grind (arith, nat_tests, from.chains, few);
+        small = grind (arith, nat_tests, from.dups, one, two, own, small);
+      }

@@ -1,0 +1,29 @@
+ghost use Rattle.ksm_tree.specs.Totals.{IsRegrouped, Tells};
+ghost use Rattle.std.specs.Prelude.{◌≤◌, ◌+◌};
+
+/// How many groups are chains, of two dups or more, and how many dups are in chains (mm/ksm: stable_node_chains, stable_node_dups).
+#[derive(Clone, Copy)]
+pub struct Totals {
+    pub chains: usize,
+    pub dups: usize,
+}
+
+impl Totals {
+    /// The totals once a group of `before` dups has `after`.
+    pub fn regrouped(self, before: usize, after: usize) -> Totals
+        requires told { Tells before self }
+        requires step { after ≤ before + 1 }
+        ensures { IsRegrouped before after self result }
+    {
+        let mut totals = self;
+        if before > 1 {
+            totals.chains -= 1;
+            totals.dups -= before;
+        }
+        if after > 1 {
+            totals.chains += 1;
+            totals.dups += after;
+        }
+        totals
+    }
+}
