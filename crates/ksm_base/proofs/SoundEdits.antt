@@ -11,7 +11,7 @@ use Rattle.ksm_base.specs.declared.row.Row.{Row}
 use Rattle.ksm_base.specs.declared.row.DupRow.{DupRow}
 use Rattle.ksm_base.specs.declared.knobs.Knobs.{Knobs}
 use Rattle.ksm_base.specs.Rows.{InPageOrder, comes_before, private_state, waiting_state, merged_into, item_count, has_items, with_row, change_rows}
-use Rattle.ksm_base.specs.State.{BookState, place_count, without_stale}
+use Rattle.ksm_base.specs.State.{BookState, without_stale}
 use Rattle.ksm_base.specs.Visit.{waits_for, partner}
 use Rattle.ksm_base.specs.Counting.{shared_count}
 use Rattle.ksm_base.specs.Sound.{IsDupOf, IsSound}

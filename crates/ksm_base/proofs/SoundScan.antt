@@ -10,7 +10,7 @@ use Rattle.ksm_base.specs.declared.row.DupRow.{DupRow}
 use Rattle.ksm_base.specs.declared.fault.Fault.{Fault}
 use Rattle.ksm_base.specs.Rows.{same_page, private_state, merged_state, settled_state, settled, change_row}
 use Rattle.ksm_base.specs.State.{BookState, place_count, with_none_waiting, pass_ended}
-use Rattle.ksm_base.specs.Visit.{after_cursor, next_row, best_dup, partner, new_place, pass_ended_at_last, pass_begun, visit_begun, made_dup, paired, handled, row_visited, visit_of, visits}
+use Rattle.ksm_base.specs.Visit.{after_cursor, next_row, best_dup, partner, new_place, pass_ended_at_last, pass_begun, visit_begun, paired, handled, row_visited, visit_of, visits}
 use Rattle.ksm_base.specs.Apply.{scan_stopped}
 use Rattle.ksm_base.specs.Sound.{IsSound}
 use Rattle.ksm_base.proofs.Edits.{find_passes, find_all}

@@ -10,8 +10,8 @@ use Rattle.ksm_base.specs.declared.row.PageState.TheVariants.{Private, Waiting, 
 use Rattle.ksm_base.specs.declared.row.Row.{Row}
 use Rattle.ksm_base.specs.declared.row.DupRow.{DupRow}
 use Rattle.ksm_base.specs.Rows.{same_page, change_rows, settled_state, settled, merged_state}
-use Rattle.ksm_base.specs.State.{BookState, place_count, with_none_waiting, pass_ended}
-use Rattle.ksm_base.specs.Visit.{next_row, best_dup, partner, pass_ended_at_last, visit_begun, new_place, made_dup, paired, handled, row_visited, visit_of, visits}
+use Rattle.ksm_base.specs.State.{BookState, with_none_waiting, pass_ended}
+use Rattle.ksm_base.specs.Visit.{next_row, best_dup, partner, pass_ended_at_last, visit_begun, paired, handled, row_visited, visit_of, visits}
 
 -- a row with another state or flag: page, home, bytes and mergeable are the same
 pub record IsSameBut (old new : Row) : Type 0 where

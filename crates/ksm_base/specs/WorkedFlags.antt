@@ -1,7 +1,7 @@
 -- Worked scripts of what is kept of a row: home, bytes, mergeable, unchanged and state. Own.
-use Rattle.std.specs.Prelude.{List, [], ◌∷◌, ◌++◌, None, Some, Ok, true, false}
+use Rattle.std.specs.Prelude.{List, [], ◌∷◌, ◌++◌, None, Ok, true, false}
 use Rattle.ksm_base.specs.declared.row.PageState.TheVariants.{Private, Waiting, Merged}
-use Rattle.ksm_base.specs.declared.command.Command.TheVariants.{Store, Scan, Unmerge, Mergeable, MovePage, SetRun, SetAcross, SetLimit}
+use Rattle.ksm_base.specs.declared.command.Command.TheVariants.{Store, Scan, Mergeable, MovePage, SetRun, SetAcross, SetLimit}
 use Rattle.ksm_base.specs.declared.reply.Reply.TheVariants.{Scanned, Unmerged}
 use Rattle.ksm_base.specs.declared.fault.Fault.TheVariants.{UnknownPage}
 use Rattle.ksm_base.specs.Worked.{Line, gives, shows, rows_at, reads, lies, at, full, ok, refused, reg, put, drop, scan, unmerge, stat, get, merged}

@@ -4,7 +4,7 @@ use Rattle.ksm_base.specs.declared.row.PageState.TheVariants.{Private, Waiting, 
 use Rattle.ksm_base.specs.declared.command.Command.TheVariants.{Scan, Mergeable, MovePage, MoveDup, SetRun, SetPagesToScan, SetAcross, SetLimit}
 use Rattle.ksm_base.specs.declared.reply.Reply.TheVariants.{Scanned, Unmerged}
 use Rattle.ksm_base.specs.declared.fault.Fault.TheVariants.{Memory}
-use Rattle.ksm_base.specs.Worked.{Line, gives, shows, stands, lies_at, at, dup, lies, ok, reg, put, drop, scan, prune, unmerge, stopped, stat, get}
+use Rattle.ksm_base.specs.Worked.{Line, gives, shows, stands, lies_at, at, dup, lies, ok, reg, put, drop, scan, prune, unmerge, stopped, stat}
 
 -- a pass goes on where it was after other knobs and after an unmerging
 abbrev pub pass_goes_on_behind_knobs : List Line

@@ -1,5 +1,5 @@
 -- Worked scripts of refusals: which comes first, where a range ends, and what is refused for nothing. Own.
-use Rattle.std.specs.Prelude.{List, [], ◌∷◌, ◌++◌, None, Some, Ok, Err}
+use Rattle.std.specs.Prelude.{List, [], ◌∷◌, ◌++◌, None, Ok, Err}
 use Rattle.ksm_base.specs.declared.command.Command.TheVariants.{Register, Drop, Store, Scan, Unmerge, Mergeable, MovePage, MoveDup, SetRun, SetPagesToScan, SetAcross, SetLimit}
 use Rattle.ksm_base.specs.declared.reply.Reply.TheVariants.{Unmerged}
 use Rattle.ksm_base.specs.declared.fault.Fault.TheVariants.{UnknownPage, NotRunning, SharedPages, BadValue, UnknownPlace, BadNode}
