@@ -1,5 +1,6 @@
 -- What an audit answers (own).
-use Rattle.std.specs.Prelude.{◌≡◌, ◌==◌, ℕ, ◌⊎◌, ◌+◌, ◌<◌, ◌≤◌, if◌then◌else◌, List, [], ◌∷◌, ◌++◌, length, slice_get, Some}
+use Rattle.std.specs.Prelude.{◌≡◌, ◌==◌, ℕ, ◌⊎◌, ◌+◌, ◌<◌, ◌≤◌, if◌then◌else◌, List, [], ◌∷◌, ◌++◌, length, slice_get, Some, Result, Ok, Err}
+use Rattle.std.specs.Global.{Vec}
 use Rattle.std.specs.List.{AllZip}
 use Rattle.ksm_base.specs.declared.shape.Shape.{Shape}
 use Rattle.ksm_base.specs.Values.{frames_of}
@@ -56,6 +57,12 @@ pub record Audited (sh : Shape) (passes : List PassView) (rows : List Row) (back
 pub record Stopped (sh : Shape) (passes back : List PassView) : Type 0 where
   pub gain : AllZip Gains passes back
   pub most : (p : ℕ) → loads_of p back ≤ loads_of p passes + once_below p (frames_of sh)
+
+-- the passes that come back
+abbrev pub passes_of : Result (List Row × Vec PassView) AuditFault → Vec PassView
+passes_of (Ok answer) = answer.1
+passes_of (Err (Memory back)) = back
+passes_of (Err (Gate back place)) = back
 
 -- why there is no report: memory was refused, and the passes did nothing, or the gate refused a place that it may refuse
 abbrev pub Faulted : (ℕ → Type 0) → Shape → List PassView → AuditFault → Type 0

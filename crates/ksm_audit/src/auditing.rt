@@ -1,9 +1,9 @@
 //! The audit itself.
-ghost use Rattle.std.specs.Prelude.{◌≡◌, ℕ, ◌<◌, IfOk, IfErr, All, length, slice_index_or, vec_len};
+ghost use Rattle.std.specs.Prelude.{◌≡◌, ℕ, ◌<◌, IfOk, IfErr, All, length, slice_index_or, vec_len, vec_capacity};
 ghost use Rattle.ksm_base.specs.Values.{frames_of};
 ghost use Rattle.ksm_audit.specs.declared.job.Job.{Job};
 ghost use Rattle.ksm_audit.specs.Working.{IsReady, Works};
-ghost use Rattle.ksm_audit.specs.Answered.{Audited, Faulted};
+ghost use Rattle.ksm_audit.specs.Answered.{Audited, Faulted, passes_of};
 
 use crate::claims::ClaimWord;
 use crate::gate::Gate;
@@ -50,7 +50,7 @@ fn work_all<R: Threads + Sync, G: Gate + Sync>(
 /// Looks every place up once, by one worker for each pass, and says how each lookup ended.
 ///
 /// Workers run in threads of their own; one whose thread can't be started runs in the caller's. The passes come back in the order in which
-/// they were handed in, and none of them holds. All memory is taken before the first lookup.
+/// they were handed in, in their vector, and none of them holds. All memory is taken before the first lookup.
 pub fn audit<R: Threads + Sync, G: Gate + Sync>(
     rt: &R,
     alloc: Global,
@@ -62,6 +62,7 @@ pub fn audit<R: Threads + Sync, G: Gate + Sync>(
     requires own { All (λ p. p.table ≡ table.now) passes.items }
     ensures report { IfOk result (λ r. Audited table.now.shape passes.items r.0 r.1.items) }
     ensures fault { IfErr result (λ fault. Faulted (G.may_refuse gate.now) table.now.shape passes.items fault) }
+    ensures room { vec_capacity (passes_of result) ≡ vec_capacity passes }
 {
     let Ok(room) = Room::take(alloc, passes.len(), table.places()) else {
         return Err(AuditFault::Memory(passes));

@@ -56,6 +56,7 @@ pub(crate) fn unload(
     requires through { All (IsThrough claims.now.table_id) jobs.items }
     requires room { vec_len passes.old + vec_len jobs ≤ vec_capacity passes.old }
     ensures passes { passes.new.items ≡ passes.old.items ++ loaded jobs.items }
+    ensures capacity { vec_capacity passes.new ≡ vec_capacity passes.old }
     ensures below { AllBelow result jobs.items }
     ensures drawn { (x : ℕ) → drawn_total x jobs.items ≡ once_below x result }
 {

@@ -17,6 +17,7 @@ mod work;
 pub use auditing::{AuditFault, audit};
 pub use gate::{Gate, OpenGate};
 pub use report::{Report, Row};
+pub use visit::read_page;
 
 #[cfg(test)]
 mod tests;

@@ -27,6 +27,7 @@ jobs-preserved c =
       parts = omega (arith, parts, workers, t.parts, i.parts, c.in-Some.ensures.cases);
       vain = omega (arith, parts, past, t.parts, t.vain, i.vain);
       through = all_left through c.jobs.jobs.items c.pop.new.self.items c.pop.result c.pop.ensures.items i.through;
+      capacity = c.push_reserved.ensures.capacity ∙ i.capacity;
       room = omega (arith, i.room, c.in-Some.ensures.cases, c.push_reserved.ensures.len, c.push_reserved.ensures.capacity);
       gathered = gathers_more c.args.jobs.items c.jobs.jobs.items c.pop.new.self.items c.in-Some.job c.args.passes.now.items c.jobs.passes.items c.push_reserved.new.self.items c.in-Some-pass.pass c.jobs.own.me c.join_seat.new.seat.me i.gathered c.in-Some.ensures.items c.in-Some-pass.is c.push_reserved.ensures.items joined;
     }

@@ -11,6 +11,7 @@ invariant-jobs l = record {
   parts : l.own.me.0.parts + vec_len l.jobs ≡ l.own.me.0.deal.workers + 1;
   vain : l.own.me.0.past < l.own.me.0.parts;
   through : All (λ (j : Job). IsThrough l.claims.table_id j) l.jobs.items;
+  capacity : vec_capacity l.passes ≡ vec_capacity l.fn.passes;
   room : vec_len l.passes + vec_len l.jobs ≤ vec_capacity l.passes;
   gathered : Gathered l.fn.jobs.items l.jobs.items l.fn.passes.items l.passes.items l.own.me;
 }
