@@ -5,4 +5,5 @@ pub mod Fields
 pub mod Lines
 pub mod Parts
 pub mod Decimals
+pub mod Slots
 pub mod Turns

@@ -2,7 +2,7 @@
 use Rattle.std.proofs.Common.{◌≡◌, ◌≢◌, ℕ, ◌+◌, ◌≤◌, List, [], ◌∷◌, ◌++◌, length, Option, Result, Ok, Err, ap, ◌∙◌, sym, subst, append_assoc, inl, inr, refl}
 use Rattle.std.specs.Io.KnownBytes.{Appends, Consumes, IsAtEnd}
 use Rattle.std.proofs.KnownBytes.{Appends-nil, Appends-trans, Consumes-nil, Consumes-trans}
-use Rattle.ksm_base.specs.State.{BookState}
+use Rattle.ksm_script.specs.State.{ScriptState}
 use Rattle.ksm_script.specs.declared.line.Line.{Line}
 use Rattle.ksm_script.specs.declared.line.LineFault.{LineFault}
 use Rattle.ksm_script.specs.declared.reply.LineReply.{LineReply}
@@ -20,7 +20,7 @@ abbrev pub ended : End → Result End RunFault
 ended end = Ok end
 
 -- what a run read, did and wrote before the line of a number
-pub record IsSoFar (first now : Option (List ℕ)) (begun written : Option (List ℕ)) (from state : BookState) (number : ℕ) : Type 0 where
+pub record IsSoFar (first now : Option (List ℕ)) (begun written : Option (List ℕ)) (from state : ScriptState) (number : ℕ) : Type 0 where
   pub lines : List ℕ
   pub text : List ℕ
   pub count : ℕ
@@ -29,13 +29,13 @@ pub record IsSoFar (first now : Option (List ℕ)) (begun written : Option (List
   pub consumed : Consumes first now lines
   pub appended : Appends begun written text
 
-pub nothing_yet : (reader writer : Option (List ℕ)) (state : BookState) → IsSoFar reader reader writer writer state state 1
+pub nothing_yet : (reader writer : Option (List ℕ)) (state : ScriptState) → IsSoFar reader reader writer writer state state 1
 nothing_yet reader writer state =
     record { lines = []; text = []; count = 0; counted = refl; answered = none; consumed = Consumes-nil reader; appended = Appends-nil writer }
 
-pub in_state : (first now : Option (List ℕ)) (begun written : Option (List ℕ)) (from state same : BookState) (number : ℕ) → same ≡ state
+pub in_state : (first now : Option (List ℕ)) (begun written : Option (List ℕ)) (from state same : ScriptState) (number : ℕ) → same ≡ state
     → IsSoFar first now begun written from state number → IsSoFar first now begun written from same number
-in_state first now begun written from state same number e s = subst (λ (b : BookState). IsSoFar first now begun written from b number) (sym e) s
+in_state first now begun written from state same number e s = subst (λ (b : ScriptState). IsSoFar first now begun written from b number) (sym e) s
 
 -- a line as it was read, which ended so
 pub record IsRead (now next : Option (List ℕ)) (line : List ℕ) (end : LineEnd) : Type 0 where
@@ -54,7 +54,7 @@ read_as now next line end read plain last =
     record { bytes = read.0; ends = read.1; consumed = read.2; plain = plain; last = λ e. last (ap (λ (x : LineEnd). found x) e) }
 
 -- a line that was carried out
-pub record IsDone (state next : BookState) (line : List ℕ) (end : LineEnd) (form : Line) (reply : Option LineReply) : Type 0 where
+pub record IsDone (state next : ScriptState) (line : List ℕ) (end : LineEnd) (form : Line) (reply : Option LineReply) : Type 0 where
   pub short : end ≢ TooLong
   pub written : Writes form line
   pub answers : Answers form state reply next
@@ -85,12 +85,12 @@ bad_of left TooLong line bad last = tt
 pub number_is : (number told : ℕ) → ended (BadLine number) ≡ ended (BadLine told) → number ≡ told
 number_is number told e = cc
 
-module _ (first now later : Option (List ℕ)) (begun written : Option (List ℕ)) (from state : BookState) (number : ℕ) (line : List ℕ) (end : LineEnd)
+module _ (first now later : Option (List ℕ)) (begun written : Option (List ℕ)) (from state : ScriptState) (number : ℕ) (line : List ℕ) (end : LineEnd)
     (so : IsSoFar first now begun written from state number) (read : IsRead now later line end) where
   consumed_then : Consumes first later (so.lines ++ read.bytes)
   consumed_then = Consumes-trans first now later so.lines read.bytes so.consumed read.consumed
 
-  module _ (next : BookState) (form : Line) (reply : Option LineReply) (did : IsDone state next line end form reply) where
+  module _ (next : ScriptState) (form : Line) (reply : Option LineReply) (did : IsDone state next line end form reply) where
     pub turned : Answered from (so.lines ++ (line ++ 10 ∷ [])) (so.text ++ reply_text reply) (so.count + 1) next
     turned = more so.answered line form reply next read.plain (not_long end line read.bytes did.short read.ends) did.written did.answers
 

@@ -7,6 +7,9 @@ pub mod Texts
 pub mod Pieces
 pub mod Replies
 pub mod Input
+pub mod Lookups
+pub mod Slots
+pub mod State
 pub mod Answering
 pub mod Script
 pub mod Seen

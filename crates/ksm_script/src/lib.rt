@@ -1,4 +1,4 @@
-//! The script language of the book: lines in, reply lines out.
+//! The script language: lines in, reply lines out. A line is a command of the book, or a lookup by one of the passes.
 #![tactic(auto)]
 
 mod field;
@@ -6,6 +6,9 @@ mod input;
 mod knob;
 mod line;
 mod output;
+mod pass_state;
+mod passes;
+mod refusal;
 mod reply;
 mod script;
 mod session;
@@ -14,6 +17,8 @@ mod tests;
 
 pub use knob::Knob;
 pub use line::{Line, LineFault, read_line};
+pub use pass_state::PassState;
+pub use refusal::Refusal;
 pub use reply::{LineReply, write_reply};
 pub use script::{End, RunFault, run};
 pub use session::Session;

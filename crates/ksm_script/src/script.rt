@@ -1,11 +1,12 @@
 //! Runs of a session over a reader and a writer.
-ghost use Rattle.std.specs.Prelude.{◌≡◌, ◌+◌, ◌≤◌, ◌++◌, ◌⊎◌, ℕ, List, length, Ok, Err, OnOk, IfErr};
+ghost use Rattle.std.specs.Prelude.{◌≡◌, ◌+◌, ◌≤◌, ◌++◌, ◌⊎◌, ℕ, List, All, length, Ok, Err, OnOk, IfErr};
 ghost use Rattle.std.specs.Io.KnownBytes.{Appends, IsAtEnd};
 ghost use Rattle.ksm_script.specs.declared.reply.LineReply.TheVariants.{BadLine as bad_line};
 ghost use Rattle.ksm_script.specs.Answering.{reply_text};
 ghost use Rattle.ksm_script.specs.Input.{IsPlain};
 ghost use Rattle.ksm_script.specs.Replies.{text_of};
-ghost use Rattle.ksm_script.specs.Script.{AnsweredAll, AnsweredBefore, AnsweredToBad, IsReadAs};
+ghost use Rattle.ksm_script.specs.Lookups.{IsIdle};
+ghost use Rattle.ksm_script.specs.Script.{AnsweredAll, AnsweredBefore, AnsweredToBad, RunsThrough, RunsBefore, RunsToBad, IsReadAs};
 ghost use Rattle.ksm_script.specs.Texts.{AppendsPart};
 
 use crate::input::LineEnd;
@@ -13,6 +14,7 @@ use crate::line::{Line, LineFault, read_line};
 use crate::reply::{LineReply, write_reply};
 use crate::session::Session;
 use std::io::{Read, Write};
+use std::thread::Threads;
 use thiserror::Error;
 
 /// Why a run broke off.
@@ -39,8 +41,40 @@ pub enum End {
 ///
 /// Lines are numbered from 1; those of no bytes count, and have no reply. Each fault of a read or a write ends the run, an
 /// interrupted one too. At `RunFault::Read` the replies to the whole lines read are written. At `RunFault::Write` a beginning of
-/// the replies is written, and the lines read were all carried out.
-pub fn run<R: Read, W: Write>(
+/// the replies is written, and the lines read were all carried out. At each end all holds are given back.
+pub fn run<T: Threads + Sync, R: Read, W: Write>(
+    rt: &T,
+    reader: &mut R,
+    writer: &mut W,
+    session: &mut Session,
+) -> Result<End, RunFault>
+    ensures all { result ≡ Ok End.AllRead → (text : List ℕ)
+        × RunsThrough (R.remaining reader.old) (R.remaining reader.new) session.old.state session.new.state text
+        × Appends (W.contents writer.old) (W.contents writer.new) text
+        × IsAtEnd (R.remaining reader.new) }
+    ensures bad { (number : ℕ) → result ≡ Ok (End.BadLine number) → (text : List ℕ) × (count : ℕ) × (number ≡ count + 1)
+        × RunsToBad (R.remaining reader.old) (R.remaining reader.new) session.old.state session.new.state text count
+        × Appends (W.contents writer.old) (W.contents writer.new) (text ++ text_of (bad_line number)) }
+    ensures read_fault { result ≡ Err RunFault.Read → (text : List ℕ) × (count : ℕ) × (rest : List ℕ) × IsPlain rest × (length rest ≤ 256)
+        × RunsBefore (R.remaining reader.old) (R.remaining reader.new) session.old.state session.new.state text count rest
+        × Appends (W.contents writer.old) (W.contents writer.new) text }
+    ensures write_fault { result ≡ Err RunFault.Write → ((text : List ℕ)
+        × RunsThrough (R.remaining reader.old) (R.remaining reader.new) session.old.state session.new.state text
+        × AppendsPart (W.contents writer.old) (W.contents writer.new) text)
+        ⊎ ((text : List ℕ) × (count : ℕ)
+        × RunsToBad (R.remaining reader.old) (R.remaining reader.new) session.old.state session.new.state text count
+        × AppendsPart (W.contents writer.old) (W.contents writer.new) (text ++ text_of (bad_line (count + 1)))) }
+    ensures table { session.new.keeper.table ≡ session.old.keeper.table }
+    ensures idle { All IsIdle session.new.state.passes }
+{
+    let ended = answer_lines(rt, reader, writer, session);
+    session.give_back();
+    ended
+}
+
+/// Answers each line of the reader, up to the end of the input or to a bad line.
+fn answer_lines<T: Threads + Sync, R: Read, W: Write>(
+    rt: &T,
     reader: &mut R,
     writer: &mut W,
     session: &mut Session,
@@ -72,7 +106,7 @@ pub fn run<R: Read, W: Write>(
             write_reply(writer, &LineReply::BadLine(number))?;
             return Ok(End::BadLine(number));
         };
-        write_answer(writer, session.answer(line))?;
+        write_answer(writer, session.answer(rt, line))?;
         if end == LineEnd::Input {
             return Ok(End::AllRead);
         }

@@ -9,7 +9,7 @@ use Rattle.ksm_script.specs.Replies.{text_of}
 use Rattle.ksm_script.specs.Texts.{AppendsPart}
 use Rattle.ksm_script.proofs.Parts.{part_after}
 use Rattle.ksm_script.proofs.Turns.{IsDone, read_as, nothing_yet, in_state, answered_all, goes_on, answered_to_bad, number_is}
-use Rattle.ksm_script.proofs.script.run.Goals as goal
+use Rattle.ksm_script.proofs.script.answer_lines.Goals as goal
 
 pub lines-init : goal.lines-init
 lines-init g c = (nothing_yet _ _ _, refl)

@@ -1,6 +1,6 @@
 use Rattle.std.proofs.Common.{◌≡◌}
 use Rattle.ksm_script.proofs.Turns.{IsSoFar}
-use Rattle.ksm_script.proofs.script.run.Given as goal
+use Rattle.ksm_script.proofs.script.answer_lines.Given as goal
 
 abbrev pub invariant-lines : goal.invariant-lines
 invariant-lines g l =

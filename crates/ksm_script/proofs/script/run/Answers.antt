@@ -1,0 +1,17 @@
+use Rattle.std.proofs.Common.{⊎_elim, inl, inr}
+use Rattle.ksm_script.proofs.Slots.{ends_idle}
+use Rattle.ksm_script.proofs.script.run.Goals as goal
+
+pub returns-clause-bad : goal.returns-clause-bad
+returns-clause-bad g c = λ number e.
+    let b = c.answer_lines-ended.ensures.bad number e in
+    (b.0, b.1, b.2, (c.answer_lines-ended.new.session.state, b.3, c.give_back.ensures.given), b.4)
+
+pub returns-clause-write_fault : goal.returns-clause-write_fault
+returns-clause-write_fault g c = λ e.
+    let last = c.answer_lines-ended.new.session.state in
+    let given = c.give_back.ensures.given in
+    ⊎_elim (λ a. inl (a.0, (last, a.1, given), a.2)) (λ b. inr (b.0, b.1, (last, b.2, given), b.3)) (c.answer_lines-ended.ensures.write_fault e)
+
+pub returns-clause-idle : goal.returns-clause-idle
+returns-clause-idle g c = ends_idle c.answer_lines-ended.new.session.state.passes c.give_back.new.self.state.passes c.give_back.ensures.given.0
