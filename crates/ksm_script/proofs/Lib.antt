@@ -7,3 +7,4 @@ pub mod Parts
 pub mod Decimals
 pub mod Slots
 pub mod Turns
+pub mod WorkedLines

@@ -13,3 +13,4 @@ pub mod State
 pub mod Answering
 pub mod Script
 pub mod Seen
+pub mod Worked

@@ -43,6 +43,11 @@ abbrev pub IsRefused : LineReply → PassState → LineReply → PassState → T
 IsRefused refusal state reply next = (reply ≡ refusal) × (next ≡ state)
 
 -- a lookup is refused where the pass holds, and then where there is no such place
+abbrev pub RefusesLookup : ℕ → PassState → LineReply → Type 0
+RefusesLookup place (Holding h) reply = reply ≡ Refused PassHolds
+RefusesLookup place (Idle v) reply = (frames_of v.table.shape ≤ place) × (reply ≡ Refused (Book UnknownPlace))
+
+-- refused, a lookup leaves the pass as it is
 abbrev pub LooksUpBy : (PassView → LineReply → PassState → Type 0) → ℕ → PassState → LineReply → PassState → Type 0
 LooksUpBy Looks place (Holding h) reply next = IsRefused (Refused PassHolds) (Holding h) reply next
 LooksUpBy Looks place (Idle v) reply next =

@@ -14,6 +14,7 @@ mod script;
 mod session;
 #[cfg(test)]
 mod tests;
+mod worked;
 
 pub use knob::Knob;
 pub use line::{Line, LineFault, read_line};
@@ -22,3 +23,4 @@ pub use refusal::Refusal;
 pub use reply::{LineReply, write_reply};
 pub use script::{End, RunFault, run};
 pub use session::Session;
+pub use worked::{bad_lines, command_lines, lookup_lines, reading_lines};

@@ -1,6 +1,8 @@
 //! A pass of a session, and what a line does with it.
-ghost use Rattle.std.specs.Prelude.{◌≡◌};
-ghost use Rattle.ksm_script.specs.Lookups.{table_of, Finds, Equals, LooksAt, GivesUp, Acts, IsGivenBack};
+ghost use Rattle.std.specs.Prelude.{◌≡◌, ◌<◌, IfOk, IfErr};
+ghost use Rattle.ksm_base.specs.Values.{frames_of};
+ghost use Rattle.ksm_script.specs.declared.pass_state.PassState.TheVariants.{Idle as idle, Holding as holding};
+ghost use Rattle.ksm_script.specs.Lookups.{table_of, RefusesLookup, Finds, Equals, LooksAt, GivesUp, Acts, IsGivenBack};
 
 use crate::refusal::Refusal;
 use crate::reply::LineReply;
@@ -29,24 +31,28 @@ pub enum Act {
     Leave,
 }
 
-/// The reply to a lookup that holds a frame.
-fn held_reply(held: &Held) -> LineReply
-    ensures { result ≡ LineReply.Held held.now.frame held.now.generation }
+/// The pass holds the frame that it found.
+fn found(held: Held) -> (PassState, LineReply)
+    ensures state { result.0 ≡ holding held }
+    ensures reply { result.1 ≡ LineReply.Held held.frame held.generation }
 {
-    LineReply::Held {
+    let reply = LineReply::Held {
         frame: held.frame(),
         generation: held.generation(),
-    }
+    };
+    (PassState::Holding(held), reply)
 }
 
-/// The reply to a comparison that holds a frame of other content.
-fn differs_reply(held: &Held) -> LineReply
-    ensures { result ≡ LineReply.Differs held.now.frame held.now.generation }
+/// The pass holds the frame that it found, whose content is another.
+fn differs(held: Held) -> (PassState, LineReply)
+    ensures state { result.0 ≡ holding held }
+    ensures reply { result.1 ≡ LineReply.Differs held.frame held.generation }
 {
-    LineReply::Differs {
+    let reply = LineReply::Differs {
         frame: held.frame(),
         generation: held.generation(),
-    }
+    };
+    (PassState::Holding(held), reply)
 }
 
 impl PassState {
@@ -64,30 +70,38 @@ impl PassState {
         }
     }
 
+    // The pass, if it may look the place up; else it comes back with the refusal.
+    fn ready(self, table: &FrameTable, place: u32) -> Result<Pass, (PassState, LineReply)>
+        requires own { table_of self ≡ table.now }
+        ensures may { IfOk result (λ p. (self ≡ idle p) × (place < frames_of table.now.shape)) }
+        ensures refused { IfErr result (λ r. (r.0 ≡ self) × RefusesLookup place self r.1) }
+    {
+        let pass = match self {
+            PassState::Idle(pass) => pass,
+            PassState::Holding(held) => {
+                let refusal = Refusal::Holding;
+                return Err((PassState::Holding(held), LineReply::Refused(refusal)));
+            }
+        };
+        if place >= table.places() {
+            let refusal = Refusal::Book(Fault::UnknownPlace);
+            return Err((PassState::Idle(pass), LineReply::Refused(refusal)));
+        }
+        Ok(pass)
+    }
+
     // Looks a place up.
     fn find(self, table: &FrameTable, place: u32) -> (PassState, LineReply)
         requires own { table_of self ≡ table.now }
         ensures finds { Finds place self result.1 result.0 }
         ensures own { table_of result.0 ≡ table.now }
     {
-        let pass = match self {
-            PassState::Idle(pass) => pass,
-            PassState::Holding(held) => {
-                return (
-                    PassState::Holding(held),
-                    LineReply::Refused(Refusal::Holding),
-                );
-            }
+        let pass = match self.ready(table, place) {
+            Ok(pass) => pass,
+            Err(refused) => return refused,
         };
-        if place >= table.places() {
-            let refusal = Refusal::Book(Fault::UnknownPlace);
-            return (PassState::Idle(pass), LineReply::Refused(refusal));
-        }
         match pass.find(table, place) {
-            Found::Held(held) => {
-                let reply = held_reply(&held);
-                (PassState::Holding(held), reply)
-            }
+            Found::Held(held) => found(held),
             Found::Gone(pass, why) => (PassState::Idle(pass), LineReply::Gone(why)),
             Found::Busy(pass) => (PassState::Idle(pass), LineReply::Busy),
         }
@@ -99,28 +113,13 @@ impl PassState {
         ensures finds { Equals place page.now self result.1 result.0 }
         ensures own { table_of result.0 ≡ table.now }
     {
-        let pass = match self {
-            PassState::Idle(pass) => pass,
-            PassState::Holding(held) => {
-                return (
-                    PassState::Holding(held),
-                    LineReply::Refused(Refusal::Holding),
-                );
-            }
+        let pass = match self.ready(table, place) {
+            Ok(pass) => pass,
+            Err(refused) => return refused,
         };
-        if place >= table.places() {
-            let refusal = Refusal::Book(Fault::UnknownPlace);
-            return (PassState::Idle(pass), LineReply::Refused(refusal));
-        }
         match pass.find_equal(table, place, page) {
-            FoundEqual::Held(held) => {
-                let reply = held_reply(&held);
-                (PassState::Holding(held), reply)
-            }
-            FoundEqual::Differs(held) => {
-                let reply = differs_reply(&held);
-                (PassState::Holding(held), reply)
-            }
+            FoundEqual::Held(held) => found(held),
+            FoundEqual::Differs(held) => differs(held),
             FoundEqual::Gone(pass, why) => (PassState::Idle(pass), LineReply::Gone(why)),
             FoundEqual::Busy(pass) => (PassState::Idle(pass), LineReply::Busy),
         }

@@ -5,7 +5,7 @@
 ghost use Rattle.std.specs.Prelude.{◌≡◌, ℕ, List, Option, Err, IfErr, IfOk, map, string_bytes};
 ghost use Rattle.std.specs.Io.KnownBytes.{IsAtEnd};
 ghost use Rattle.ksm_base.specs.Values.{IsShape};
-ghost use Rattle.ksm_script.specs.Script.{AnsweredAll, AnsweredToBad};
+ghost use Rattle.ksm_script.specs.Script.{RunsThrough, RunsToBad};
 ghost use Rattle.ksm_tool.specs.Settings.{Given};
 ghost use Rattle.ksm_tool.specs.Statuses.{IsBeforeRun};
 ghost use Rattle.ksm_tool.specs.Told.{IsToldBy, Tells};
@@ -24,6 +24,7 @@ use std::fmt::Display;
 use std::io::{self, BufReader};
 use std::process::ExitCode;
 use std::rt::Env;
+use std::thread::Threads;
 
 fn main(rt: HostRuntime) -> ExitCode {
     let status = match shape(&rt) {
@@ -80,7 +81,7 @@ fn not_understood<R: Eprint, T: Display + Drop>(rt: &R, why: T) -> Status
 }
 
 /// Answers the script on standard input over a table of this shape.
-fn serve<R: Input + Print + AllocGlobal>(rt: &R, shape: Shape) -> Status
+fn serve<R: Input + Print + AllocGlobal + Threads + Sync>(rt: &R, shape: Shape) -> Status
     requires { IsShape shape }
 {
     let Ok(mut session) = Session::open(rt.alloc(), shape) else {
@@ -88,7 +89,7 @@ fn serve<R: Input + Print + AllocGlobal>(rt: &R, shape: Shape) -> Status
     };
     let status = match Console::new(rt.alloc(), io::writer(rt)) {
         Ok(console) => {
-            let status = answer(rt.alloc(), rt.reader(), &console, &mut session);
+            let status = answer(rt, rt.alloc(), rt.reader(), &console, &mut session);
             console.close();
             status
         }
@@ -100,23 +101,24 @@ fn serve<R: Input + Print + AllocGlobal>(rt: &R, shape: Shape) -> Status
 
 /// Answers the script that `input` holds. At `Done` all of it was read, and each line carried out; at
 /// `NotUnderstood` it was read to a bad line. With no memory for the reading nothing is done.
-fn answer<I: io::Read + Drop, O: io::Write + Drop>(
+fn answer<T: Threads + Sync, I: io::Read + Drop, O: io::Write + Drop>(
+    rt: &T,
     alloc: Global,
     input: I,
     console: &Console<O>,
     session: &mut Session,
 ) -> Status
     ensures done { result ≡ Status.Done → (text : List ℕ) × (left : Option (List ℕ))
-        × AnsweredAll (I.remaining input) left session.old.state session.new.state text × IsAtEnd left }
+        × RunsThrough (I.remaining input) left session.old.state session.new.state text × IsAtEnd left }
     ensures bad { result ≡ Status.NotUnderstood → (text : List ℕ) × (count : ℕ) × (left : Option (List ℕ))
-        × AnsweredToBad (I.remaining input) left session.old.state session.new.state text count }
+        × RunsToBad (I.remaining input) left session.old.state session.new.state text count }
     ensures memory { result ≡ Status.NoMemory → session.new ≡ session.old }
 {
     let Ok(input) = BufReader::with_capacity(alloc, BLOCK, input) else {
         return Status::NoMemory;
     };
     let mut requests = Requests { input, console };
-    let ended = run(&mut requests, &mut Replies(console), session);
+    let ended = run(rt, &mut requests, &mut Replies(console), session);
     let are_sent = ended.is_ok() && console.send().is_ok();
     Status::after(ended, are_sent)
 }
