@@ -7,4 +7,6 @@ pub mod Blocks
 pub mod Hex
 pub mod Parts
 pub mod Decimals
+pub mod Slots
 pub mod Turns
+pub mod WorkedLines

@@ -3,14 +3,14 @@ use Rattle.std.proofs.Common.{◌≡◌, ℕ, true, false, cond, List, [], ◌�
 use Rattle.std.specs.Prelude.{codes, bytes_eq, option_map, IfOk}
 use Rattle.std.proofs.lemmas.Slice.Eq.{bytes_eq-Decides}
 use Rattle.ksm_script.specs.declared.line.Line.{Line}
-use Rattle.ksm_script.specs.declared.line.Line.TheVariants.{Empty, Register, Drop, Store, Get, Ticket, Mappers, ScanPages, Scan, Prune, Unmerge, Mergeable, MovePage, MoveDup, Set, Show, Stat}
+use Rattle.ksm_script.specs.declared.line.Line.TheVariants.{Empty, Register, Drop, Store, Get, Ticket, Mappers, ScanPages, Scan, Prune, Unmerge, Mergeable, MovePage, MoveDup, Set, Show, Stat, Find, Equal, Look, Leave, Audit}
 use Rattle.ksm_script.specs.declared.line.LineFault.{LineFault}
 use Rattle.ksm_script.specs.Grammar.{Part, name, guest, number, content, IsWritten, AreWritten, parts_of}
 use Rattle.ksm_script.specs.Content.{content_of}
 use Rattle.ksm_script.specs.Knobs.{knob_name}
 use Rattle.ksm_base.specs.declared.page.GuestPage.{GuestPage}
 use Rattle.ksm_script.specs.Reading.{◌>>=◌, Gives, field, guest_of, number_of, page_at, ended, alone, page_alone, knob_of}
-use Rattle.ksm_script.specs.Forms.{name_alone, register_at, store_at, move_page_at, move_dup_at, set_at, scan_at, Form, forms, named_line, line_at}
+use Rattle.ksm_script.specs.Forms.{name_alone, register_at, store_at, move_page_at, move_dup_at, set_at, scan_at, find_at, equal_at, Form, forms, named_line, line_at}
 use Rattle.ksm_script.proofs.Fields.{bind_some, mapped, some_is, none_some, field_takes, page_takes, ended_takes, words_are, behind_word, behind_page, page_alone_takes, alone_takes, number_written, guest_written, knob_written}
 use Rattle.ksm_script.proofs.Fields as fields
 
@@ -88,6 +88,24 @@ line_again (Show knob) words h =
 line_again Stat words h =
     let a = named_again (codes "stat") [] words h in
     rw (a.is, fields.ended_again a.rest a.others) refl
+line_again (Find pass place) words h =
+    let a = named_again (codes "find") (number pass ∷ number place ∷ []) words h in
+    let p = fields.number_again_field pass (number place ∷ []) a.rest a.others in
+    rw (a.is, p.is, fields.number_alone_again place p.rest p.others) refl
+line_again (Equal pass place bytes) words h =
+    let a = named_again (codes "equal") (number pass ∷ number place ∷ content bytes ∷ []) words h in
+    let p = fields.number_again_field pass (number place ∷ content bytes ∷ []) a.rest a.others in
+    let n = fields.number_again_field place (content bytes ∷ []) p.rest p.others in
+    rw (a.is, p.is, n.is, fields.content_alone_again bytes n.rest n.others) refl
+line_again (Look pass) words h =
+    let a = named_again (codes "look") (number pass ∷ []) words h in
+    rw (a.is, fields.number_alone_again pass a.rest a.others) refl
+line_again (Leave pass) words h =
+    let a = named_again (codes "leave") (number pass ∷ []) words h in
+    rw (a.is, fields.number_alone_again pass a.rest a.others) refl
+line_again Audit words h =
+    let a = named_again (codes "audit") [] words h in
+    rw (a.is, fields.ended_again a.rest a.others) refl
 
 -- ---- what is read is written
 
@@ -149,6 +167,27 @@ move_dup_takes words line e =
     line_is (codes "movedup") words (pw.word ∷ nw.0 ∷ []) (MoveDup p.0.0 n.0) line n.2 (behind_word words p.0.1 (nw.0 ∷ []) pw.word pw.is nw.1)
     (refl, (number_written p.0.0 pw.word pw.reads, (number_written n.0 nw.0 nw.2, tt)))
 
+find_takes : Takes (codes "find", find_at)
+find_takes words line e =
+    let p = bind_some (field number_of words) (λ p. alone number_of p.1 >>= λ n. Some (Find p.0 n)) line e in
+    let n = bind_some (alone number_of p.0.1) (λ n. Some (Find p.0.0 n)) line p.2 in
+    let pw = field_takes number_of words p.0 p.1 in
+    let nw = alone_takes number_of p.0.1 n.0 n.1 in
+    line_is (codes "find") words (pw.word ∷ nw.0 ∷ []) (Find p.0.0 n.0) line n.2 (behind_word words p.0.1 (nw.0 ∷ []) pw.word pw.is nw.1)
+    (refl, (number_written p.0.0 pw.word pw.reads, (number_written n.0 nw.0 nw.2, tt)))
+
+equal_takes : Takes (codes "equal", equal_at)
+equal_takes words line e =
+    let p = bind_some (field number_of words) (λ p. field number_of p.1 >>= λ n. alone content_of n.1 >>= λ b. Some (Equal p.0 n.0 b)) line e in
+    let n = bind_some (field number_of p.0.1) (λ n. alone content_of n.1 >>= λ b. Some (Equal p.0.0 n.0 b)) line p.2 in
+    let b = bind_some (alone content_of n.0.1) (λ b. Some (Equal p.0.0 n.0.0 b)) line n.2 in
+    let pw = field_takes number_of words p.0 p.1 in
+    let nw = field_takes number_of p.0.1 n.0 n.1 in
+    let bw = alone_takes content_of n.0.1 b.0 b.1 in
+    let place_end = behind_word p.0.1 n.0.1 (bw.0 ∷ []) nw.word nw.is bw.1 in
+    line_is (codes "equal") words (pw.word ∷ nw.word ∷ bw.0 ∷ []) (Equal p.0.0 n.0.0 b.0) line b.2 (behind_word words p.0.1 (nw.word ∷ bw.0 ∷ []) pw.word pw.is place_end)
+    (refl, (number_written p.0.0 pw.word pw.reads, (number_written n.0.0 nw.word nw.reads, (bw.2, tt))))
+
 set_takes : Takes (codes "set", set_at)
 set_takes words line e =
     let k = bind_some (field knob_of words) (λ k. alone number_of k.1 >>= λ n. Some (Set k.0 n)) line e in
@@ -184,6 +223,23 @@ abbrev AllTake : List Form → Type 0
 AllTake [] = Unit {0}
 AllTake (form ∷ later) = Takes form × AllTake later
 
+look_ups_take : AllTake (
+    (codes "find", find_at) ∷ (codes "equal", equal_at) ∷ (codes "look", λ words. option_map Look (alone number_of words))
+    ∷ (codes "leave", λ words. option_map Leave (alone number_of words)) ∷ (codes "audit", name_alone Audit) ∷ [])
+look_ups_take = (
+  find_takes,
+  (
+    equal_takes,
+    (
+      word_form_takes (codes "look") number_of Look number (λ a. refl) number_written,
+      (
+        word_form_takes (codes "leave") number_of Leave number (λ a. refl) number_written,
+        (name_alone_takes (codes "audit") Audit (refl, tt), tt),
+      ),
+    ),
+  ),
+)
+
 all_take : AllTake forms
 all_take = (
   name_alone_takes [] Empty (refl, tt),
@@ -215,7 +271,7 @@ all_take = (
                             set_takes,
                             (
                               word_form_takes (codes "show") knob_of Show (λ knob. name (knob_name knob)) (λ a. refl) knob_written,
-                              (name_alone_takes (codes "stat") Stat (refl, tt), tt),
+                              (name_alone_takes (codes "stat") Stat (refl, tt), look_ups_take),
                             ),
                           ),
                         ),

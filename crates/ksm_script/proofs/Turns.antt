@@ -2,7 +2,7 @@
 use Rattle.std.proofs.Common.{◌≡◌, ◌≢◌, ℕ, ◌+◌, ◌≤◌, List, [], ◌∷◌, ◌++◌, length, Option, Some, Result, Ok, Err, ap, ◌∙◌, sym, subst, append_assoc, inl, inr, refl}
 use Rattle.std.specs.Io.KnownBytes.{Appends, Consumes, IsAtEnd, Keeps}
 use Rattle.std.proofs.KnownBytes.{Appends-kept, Appends-nil, Appends-trans, Consumes-nil, Consumes-trans}
-use Rattle.ksm_base.specs.State.{BookState}
+use Rattle.ksm_script.specs.State.{ScriptState}
 use Rattle.ksm_script.specs.declared.line.Line.{Line}
 use Rattle.ksm_script.specs.declared.line.LineFault.{LineFault}
 use Rattle.ksm_script.specs.declared.reply.LineReply.{LineReply}
@@ -21,7 +21,7 @@ abbrev pub ended : End → Result End RunFault
 ended end = Ok end
 
 -- what a run read, did and wrote before the line of a number
-pub record IsSoFar (first now : Option (List ℕ)) (begun written : Option (List ℕ)) (from state : BookState) (number : ℕ) : Type 0 where
+pub record IsSoFar (first now : Option (List ℕ)) (begun written : Option (List ℕ)) (from state : ScriptState) (number : ℕ) : Type 0 where
   pub lines : List ℕ
   pub text : List ℕ
   pub count : ℕ
@@ -30,12 +30,12 @@ pub record IsSoFar (first now : Option (List ℕ)) (begun written : Option (List
   pub consumed : Consumes first now lines
   pub appended : Appends begun written text
 
-pub nothing_yet : (reader writer : Option (List ℕ)) (state : BookState) → IsSoFar reader reader writer writer state state 1
+pub nothing_yet : (reader writer : Option (List ℕ)) (state : ScriptState) → IsSoFar reader reader writer writer state state 1
 nothing_yet reader writer state =
     record { lines = []; text = []; count = 0; counted = refl; answered = none; consumed = Consumes-nil reader; appended = Appends-nil writer }
 
 -- the same after a line was read
-pub in_state : (first now : Option (List ℕ)) (begun written kept : Option (List ℕ)) (from state same : BookState) (number : ℕ) → same ≡ state
+pub in_state : (first now : Option (List ℕ)) (begun written kept : Option (List ℕ)) (from state same : ScriptState) (number : ℕ) → same ≡ state
     → Keeps written kept → IsSoFar first now begun written from state number → IsSoFar first now begun kept from same number
 in_state first now begun written kept from state same number e k s =
     let stays : Appends begun kept s.text = Appends-kept begun written kept s.text s.appended k in
@@ -44,7 +44,7 @@ in_state first now begun written kept from state same number e k s =
       text = s.text;
       count = s.count;
       counted = s.counted;
-      answered = subst (λ (b : BookState). Answered from s.lines s.text s.count b) (sym e) s.answered;
+      answered = subst (λ (b : ScriptState). Answered from s.lines s.text s.count b) (sym e) s.answered;
       consumed = s.consumed;
       appended = stays;
     }
@@ -66,7 +66,7 @@ read_as now next line end read plain last =
     record { bytes = read.0; ends = read.1; consumed = read.2; plain = plain; last = λ e. last (ap (λ (x : LineEnd). found x) e) }
 
 -- a line that was carried out
-pub record IsDone (state next : BookState) (line : List ℕ) (end : LineEnd) (form : Line) (reply : Option LineReply) : Type 0 where
+pub record IsDone (state next : ScriptState) (line : List ℕ) (end : LineEnd) (form : Line) (reply : Option LineReply) : Type 0 where
   pub short : end ≢ TooLong
   pub written : Writes form line
   pub answers : Answers form state reply next
@@ -97,12 +97,12 @@ bad_of left TooLong line bad last = tt
 pub number_is : (number told : ℕ) → ended (BadLine number) ≡ ended (BadLine told) → number ≡ told
 number_is number told e = cc
 
-module _ (first now later : Option (List ℕ)) (begun written : Option (List ℕ)) (from state : BookState) (number : ℕ) (line : List ℕ) (end : LineEnd)
+module _ (first now later : Option (List ℕ)) (begun written : Option (List ℕ)) (from state : ScriptState) (number : ℕ) (line : List ℕ) (end : LineEnd)
     (so : IsSoFar first now begun written from state number) (read : IsRead now later line end) where
   consumed_then : Consumes first later (so.lines ++ read.bytes)
   consumed_then = Consumes-trans first now later so.lines read.bytes so.consumed read.consumed
 
-  module _ (next : BookState) (form : Line) (reply : Option LineReply) (did : IsDone state next line end form reply) where
+  module _ (next : ScriptState) (form : Line) (reply : Option LineReply) (did : IsDone state next line end form reply) where
     pub turned : Answered from (so.lines ++ (line ++ 10 ∷ [])) (so.text ++ reply_text reply) (so.count + 1) next
     turned = more so.answered line form reply next read.plain (not_long end line read.bytes did.short read.ends) did.written did.answers
 

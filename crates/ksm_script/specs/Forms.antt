@@ -1,7 +1,7 @@
 -- Reading a line, by its first word.
 use Rattle.std.specs.Prelude.{List, ℕ, [], ◌∷◌, Option, Some, None, option_map, codes, bytes_eq, if◌then◌else◌}
 use Rattle.ksm_script.specs.declared.line.Line.{Line}
-use Rattle.ksm_script.specs.declared.line.Line.TheVariants.{Empty, Register, Drop, Store, Get, Ticket, Mappers, ScanPages, Scan, Prune, Unmerge, Mergeable, MovePage, MoveDup, Set, Show, Stat}
+use Rattle.ksm_script.specs.declared.line.Line.TheVariants.{Empty, Register, Drop, Store, Get, Ticket, Mappers, ScanPages, Scan, Prune, Unmerge, Mergeable, MovePage, MoveDup, Set, Show, Stat, Find, Equal, Look, Leave, Audit}
 use Rattle.ksm_script.specs.Content.{content_of}
 use Rattle.ksm_script.specs.Reading.{◌>>=◌, field, guest_of, number_of, page_at, ended, alone, page_alone, knob_of}
 
@@ -35,6 +35,19 @@ set_at words = do
   knob ← field knob_of words
   value ← alone number_of knob.1
   Some (Set knob.0 value)
+
+abbrev pub find_at : List (List ℕ) → Option Line
+find_at words = do
+  pass ← field number_of words
+  place ← alone number_of pass.1
+  Some (Find pass.0 place)
+
+abbrev pub equal_at : List (List ℕ) → Option Line
+equal_at words = do
+  pass ← field number_of words
+  place ← field number_of pass.1
+  bytes ← alone content_of place.1
+  Some (Equal pass.0 place.0 bytes)
 
 -- with a number of visits, or without one
 abbrev pub scan_when : Option (Unit {0}) → List (List ℕ) → Option Line
@@ -72,6 +85,11 @@ forms =
     ∷ (codes "set", set_at)
     ∷ (codes "show", λ words. option_map Show (alone knob_of words))
     ∷ (codes "stat", name_alone Stat)
+    ∷ (codes "find", find_at)
+    ∷ (codes "equal", equal_at)
+    ∷ (codes "look", λ words. option_map Look (alone number_of words))
+    ∷ (codes "leave", λ words. option_map Leave (alone number_of words))
+    ∷ (codes "audit", name_alone Audit)
     ∷ []
 
 -- the line that begins with a name

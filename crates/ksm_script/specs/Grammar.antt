@@ -2,7 +2,7 @@
 use Rattle.std.specs.Prelude.{◌≡◌, ℕ, ◌^◌, ◌<◌, ◌==◌, List, [], ◌∷◌, Some, codes, decimal}
 use Rattle.std.specs.List.{slice_split}
 use Rattle.ksm_script.specs.declared.line.Line.{Line}
-use Rattle.ksm_script.specs.declared.line.Line.TheVariants.{Empty, Register, Drop, Store, Get, Ticket, Mappers, ScanPages, Scan, Prune, Unmerge, Mergeable, MovePage, MoveDup, Set, Show, Stat}
+use Rattle.ksm_script.specs.declared.line.Line.TheVariants.{Empty, Register, Drop, Store, Get, Ticket, Mappers, ScanPages, Scan, Prune, Unmerge, Mergeable, MovePage, MoveDup, Set, Show, Stat, Find, Equal, Look, Leave, Audit}
 use Rattle.ksm_script.specs.Content.{content_of}
 use Rattle.ksm_script.specs.Knobs.{knob_name}
 
@@ -50,6 +50,11 @@ parts_of (MoveDup place node) = name (codes "movedup") ∷ number place ∷ numb
 parts_of (Set knob value) = name (codes "set") ∷ name (knob_name knob) ∷ number value ∷ []
 parts_of (Show knob) = name (codes "show") ∷ name (knob_name knob) ∷ []
 parts_of Stat = name (codes "stat") ∷ []
+parts_of (Find pass place) = name (codes "find") ∷ number pass ∷ number place ∷ []
+parts_of (Equal pass place bytes) = name (codes "equal") ∷ number pass ∷ number place ∷ content bytes ∷ []
+parts_of (Look pass) = name (codes "look") ∷ number pass ∷ []
+parts_of (Leave pass) = name (codes "leave") ∷ number pass ∷ []
+parts_of Audit = name (codes "audit") ∷ []
 
 -- the bytes are the line: single spaces stand between its words, and none at the ends
 abbrev pub Writes : Line → List ℕ → Type 0

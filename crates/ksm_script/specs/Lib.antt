@@ -9,6 +9,10 @@ pub mod Pieces
 pub mod Replies
 pub mod Input
 pub mod Takes
+pub mod Lookups
+pub mod Slots
+pub mod State
 pub mod Answering
 pub mod Script
 pub mod Seen
+pub mod Worked

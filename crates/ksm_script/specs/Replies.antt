@@ -6,8 +6,12 @@ use Rattle.ksm_base.specs.declared.counters.Counters.{Counters}
 use Rattle.ksm_base.specs.declared.fault.Fault.{Fault}
 use Rattle.ksm_base.specs.Values.{fault_number}
 use Rattle.ksm_script.specs.declared.reply.LineReply.{LineReply}
-use Rattle.ksm_script.specs.declared.reply.LineReply.TheVariants.{Done, Content, Place, Private, Mappers, Scanned, Pruned, Unmerged, Value, Counters as CountersReply, Refused, BadLine}
-use Rattle.ksm_script.specs.Texts.{content_text}
+use Rattle.ksm_script.specs.declared.reply.LineReply.TheVariants.{Done, Content, Place, Private, Mappers, Scanned, Pruned, Unmerged, Value, Counters as CountersReply, Held, Differs, Gone, Busy, Audit, Refused, BadLine}
+use Rattle.frame_table.specs.declared.pass.Why.{Why}
+use Rattle.frame_table.specs.declared.pass.Why.TheVariants.{Vacant, Zero, Generation}
+use Rattle.ksm_audit.specs.declared.report.Row.{Row}
+use Rattle.ksm_audit.specs.declared.report.Row.TheVariants as rows
+use Rattle.ksm_script.specs.Texts.{content_text, refusal_number}
 
 -- a name and a number
 abbrev pub counted_text : List ℕ → ℕ → List ℕ
@@ -34,6 +38,26 @@ mapper_text page = concat (codes " " ∷ decimal page.guest ∷ codes ":" ∷ de
 abbrev pub mappers_text : List GuestPage → List ℕ
 mappers_text pages = concat (codes "rmap" ∷ flat_map mapper_text pages ∷ codes "\n" ∷ [])
 
+-- why there was nothing to hold
+abbrev pub why_number : Why → ℕ
+why_number Vacant = 1
+why_number Zero = 2
+why_number Generation = 3
+
+-- a name, and the frame that is held in a life
+abbrev pub held_text : List ℕ → ℕ → ℕ → List ℕ
+held_text name frame generation = concat (name ∷ decimal frame ∷ codes " " ∷ decimal generation ∷ codes "\n" ∷ [])
+
+-- how the lookup of a place ended
+abbrev pub row_text : Row → List ℕ
+row_text (rows.Found generation bytes) = concat (codes " found:" ∷ decimal generation ∷ codes ":" ∷ content_text bytes ∷ [])
+row_text (rows.Gone why) = concat (codes " gone:" ∷ decimal (why_number why) ∷ [])
+row_text rows.Busy = codes " busy"
+
+-- the rows of an audit
+abbrev pub audit_text : List Row → List ℕ
+audit_text rows = concat (codes "audit" ∷ flat_map row_text rows ∷ codes "\n" ∷ [])
+
 -- the line of a reply
 abbrev pub text_of : LineReply → List ℕ
 text_of Done = codes "ok\n"
@@ -46,5 +70,10 @@ text_of (Pruned count) = counted_text (codes "pruned ") count
 text_of (Unmerged pages stop) = stopped_text (codes "unmerged ") pages stop
 text_of (Value value) = counted_text [] value
 text_of (CountersReply counters) = counters_text counters
-text_of (Refused fault) = counted_text (codes "refused ") (fault_number fault)
+text_of (Held frame generation) = held_text (codes "held ") frame generation
+text_of (Differs frame generation) = held_text (codes "differs ") frame generation
+text_of (Gone why) = counted_text (codes "gone ") (why_number why)
+text_of Busy = codes "busy\n"
+text_of (Audit rows) = audit_text rows
+text_of (Refused refusal) = counted_text (codes "refused ") (refusal_number refusal)
 text_of (BadLine number) = counted_text (codes "bad line ") number

@@ -1,4 +1,4 @@
-//! The script language of the book: lines in, reply lines out.
+//! The script language: lines in, reply lines out. A line is a command of the book, or a lookup by one of the passes.
 #![tactic(auto)]
 
 mod field;
@@ -6,14 +6,21 @@ mod input;
 mod knob;
 mod line;
 mod output;
+mod pass_state;
+mod passes;
+mod refusal;
 mod reply;
 mod script;
 mod session;
 #[cfg(test)]
 mod tests;
+mod worked;
 
 pub use knob::Knob;
 pub use line::{Line, LineFault, read_line};
+pub use pass_state::PassState;
+pub use refusal::Refusal;
 pub use reply::{LineReply, write_reply};
 pub use script::{End, RunFault, run, run_buffered};
 pub use session::Session;
+pub use worked::{bad_lines, command_lines, lookup_lines, reading_lines};

@@ -3,7 +3,7 @@ ghost use Rattle.std.specs.Prelude.{◌≡◌, IfOk, Ok};
 ghost use Rattle.ksm_script.specs.declared.line.Line.{Line};
 ghost use Rattle.ksm_script.specs.Grammar.{Writes};
 ghost use Rattle.ksm_script.specs.Reading.{Gives, words_left};
-ghost use Rattle.ksm_script.specs.Forms.{forms, named_line, name_alone, register_at, store_at, scan_at, move_page_at, move_dup_at, set_at};
+ghost use Rattle.ksm_script.specs.Forms.{forms, named_line, name_alone, register_at, store_at, scan_at, move_page_at, move_dup_at, set_at, find_at, equal_at};
 
 use crate::field::{
     content_alone, cut, ended, guest_alone, is, knob, knob_alone, number, number_alone, page,
@@ -82,6 +82,27 @@ pub enum Line {
     },
     /// `stat`
     Stat,
+    /// `find K PLACE`
+    Find {
+        pass: u32,
+        place: u32,
+    },
+    /// `equal K PLACE HEX`
+    Equal {
+        pass: u32,
+        place: u32,
+        bytes: PageBytes,
+    },
+    /// `look K`
+    Look {
+        pass: u32,
+    },
+    /// `leave K`
+    Leave {
+        pass: u32,
+    },
+    /// `audit`
+    Audit,
 }
 
 /// Why bytes are no line.
@@ -137,6 +158,16 @@ fn named(name: &[u8], left: Option<&[u8]>) -> Result<Line, LineFault>
         knob_alone(left).map(|knob| Line::Show { knob })
     } else if is(name, "stat") {
         alone(Line::Stat, left)
+    } else if is(name, "find") {
+        find(left)
+    } else if is(name, "equal") {
+        equal(left)
+    } else if is(name, "look") {
+        number_alone(left).map(|pass| Line::Look { pass })
+    } else if is(name, "leave") {
+        number_alone(left).map(|pass| Line::Leave { pass })
+    } else if is(name, "audit") {
+        alone(Line::Audit, left)
     } else {
         Err(LineFault::Bad)
     }
@@ -198,4 +229,21 @@ fn set(left: Option<&[u8]>) -> Result<Line, LineFault>
     let (knob, left) = knob(left)?;
     let value = number_alone(left)?;
     Ok(Line::Set { knob, value })
+}
+
+fn find(left: Option<&[u8]>) -> Result<Line, LineFault>
+    ensures { Gives result (find_at (words_left left.entry)) }
+{
+    let (pass, left) = number(left)?;
+    let place = number_alone(left)?;
+    Ok(Line::Find { pass, place })
+}
+
+fn equal(left: Option<&[u8]>) -> Result<Line, LineFault>
+    ensures { Gives result (equal_at (words_left left.entry)) }
+{
+    let (pass, left) = number(left)?;
+    let (place, left) = number(left)?;
+    let bytes = content_alone(left)?;
+    Ok(Line::Equal { pass, place, bytes })
 }

@@ -3,10 +3,13 @@ ghost use Rattle.std.specs.Prelude.{◌≡◌, OnOk, IfErr};
 ghost use Rattle.std.specs.List.{concat, flat_map};
 ghost use Rattle.std.specs.Io.KnownBytes.{Appends};
 ghost use Rattle.ksm_script.specs.Texts.{AppendsPart};
-ghost use Rattle.ksm_script.specs.Replies.{text_of, counted_text, stopped_text, counters_text, mapper_text, mappers_text};
+ghost use Rattle.ksm_script.specs.Replies.{text_of, counted_text, stopped_text, counters_text, mapper_text, mappers_text, why_number, held_text, row_text, audit_text};
 
 use crate::output::{Piece, write_pieces, write_text};
+use crate::refusal::Refusal;
 use crate::script::RunFault;
+use frame_table::Why;
+use ksm_audit::{Report, Row};
 use ksm_base::{Counters, Fault, GuestPage, PageBytes};
 use std::io::Write;
 
@@ -33,8 +36,18 @@ pub enum LineReply {
     Value(u32),
     /// `stat shared=..`
     Counters(Counters),
+    /// `held FRAME GENERATION`: the frame that is held, in this life.
+    Held { frame: u32, generation: u64 },
+    /// `differs FRAME GENERATION`: the same, and the frame's content is another.
+    Differs { frame: u32, generation: u64 },
+    /// `gone WHY`: there was nothing to hold.
+    Gone(Why),
+    /// `busy`: the lookup lost all of its exchanges.
+    Busy,
+    /// `audit ROW ROW ..`, a row for each place.
+    Audit(Report),
     /// `refused NUMBER`
-    Refused(Fault),
+    Refused(Refusal),
     /// `bad line NUMBER`, lines being numbered from 1.
     BadLine(u64),
 }
@@ -59,7 +72,14 @@ pub fn write_reply<W: Write>(writer: &mut W, reply: &LineReply) -> Result<(), Ru
         LineReply::Unmerged { pages, stop } => write_stopped(writer, "unmerged ", *pages, *stop),
         LineReply::Value(value) => write_count(writer, "", u64::from(*value)),
         LineReply::Counters(counters) => write_counters(writer, counters),
-        LineReply::Refused(fault) => write_count(writer, "refused ", u64::from(fault.number())),
+        LineReply::Held { frame, generation } => write_held(writer, "held ", *frame, *generation),
+        LineReply::Differs { frame, generation } => {
+            write_held(writer, "differs ", *frame, *generation)
+        }
+        LineReply::Gone(why) => write_count(writer, "gone ", why_number(*why)),
+        LineReply::Busy => write_text(writer, b"busy\n"),
+        LineReply::Audit(report) => write_audit(writer, report.rows()),
+        LineReply::Refused(refusal) => write_count(writer, "refused ", u64::from(refusal.number())),
         LineReply::BadLine(number) => write_count(writer, "bad line ", *number),
     }
 }
@@ -167,5 +187,86 @@ fn write_mappers<W: Write>(writer: &mut W, pages: &[GuestPage]) -> Result<(), Ru
 {
     write_text(writer, b"rmap")?;
     write_pages(writer, pages)?;
+    write_text(writer, b"\n")
+}
+
+/// The number of why there was nothing to hold.
+fn why_number(why: Why) -> u64
+    ensures { result ≡ why_number why }
+{
+    match why {
+        Why::Vacant => 1,
+        Why::Zero => 2,
+        Why::Generation => 3,
+    }
+}
+
+/// Writes a name, and the frame that is held in a life.
+fn write_held<W: Write>(
+    writer: &mut W,
+    name: &str,
+    frame: u32,
+    generation: u64,
+) -> Result<(), RunFault>
+    ensures whole { OnOk result (Appends (W.contents writer.old) (W.contents writer.new) (held_text name.now frame generation)) }
+    ensures fault { IfErr result (λ e. (e ≡ RunFault.Write)
+        × AppendsPart (W.contents writer.old) (W.contents writer.new) (held_text name.now frame generation)) }
+{
+    write_pieces(
+        writer,
+        &[
+            Piece::Text(name),
+            Piece::Number(u64::from(frame)),
+            Piece::Text(" "),
+            Piece::Number(generation),
+            Piece::Text("\n"),
+        ],
+    )
+}
+
+/// Writes how the lookup of one place ended.
+fn write_row<W: Write>(writer: &mut W, row: Row) -> Result<(), RunFault>
+    ensures whole { OnOk result (Appends (W.contents writer.old) (W.contents writer.new) (row_text row)) }
+    ensures fault { IfErr result (λ e. (e ≡ RunFault.Write)
+        × AppendsPart (W.contents writer.old) (W.contents writer.new) (row_text row)) }
+{
+    match row {
+        Row::Found { generation, bytes } => write_pieces(
+            writer,
+            &[
+                Piece::Text(" found:"),
+                Piece::Number(generation),
+                Piece::Text(":"),
+                Piece::Content(bytes),
+            ],
+        ),
+        Row::Gone(why) => write_pieces(
+            writer,
+            &[Piece::Text(" gone:"), Piece::Number(why_number(why))],
+        ),
+        Row::Busy => write_text(writer, b" busy"),
+    }
+}
+
+/// Writes the rows of an audit, each behind a space.
+fn write_rows<W: Write>(writer: &mut W, rows: &[Row]) -> Result<(), RunFault>
+    ensures whole { OnOk result (Appends (W.contents writer.old) (W.contents writer.new) (flat_map row_text rows.now)) }
+    ensures fault { IfErr result (λ e. (e ≡ RunFault.Write)
+        × AppendsPart (W.contents writer.old) (W.contents writer.new) (flat_map row_text rows.now)) }
+{
+    for row in rows {
+        write_row(writer, *row)?;
+    }
+    Ok(())
+}
+
+/// Writes the line of an audit.
+fn write_audit<W: Write>(writer: &mut W, rows: &[Row]) -> Result<(), RunFault>
+    ensures whole { OnOk result (Appends (W.contents writer.old) (W.contents writer.new) (audit_text rows.now)) }
+    ensures fault { IfErr result (λ e. (e ≡ RunFault.Write)
+        × AppendsPart (W.contents writer.old) (W.contents writer.new) (audit_text rows.now)) }
+{
+    write_text(writer, b"audit")?;
+    write_rows(writer, rows)?;
     write_text(writer, b"\n")
 }

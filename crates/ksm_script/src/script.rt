@@ -1,5 +1,5 @@
 //! Runs of a session over a reader and a writer.
-ghost use Rattle.std.specs.Prelude.{◌≡◌, ◌+◌, ◌≤◌, ◌++◌, ◌⊎◌, ℕ, List, length, Some, Ok, Err, OnOk, IfErr};
+ghost use Rattle.std.specs.Prelude.{◌≡◌, ◌+◌, ◌≤◌, ◌++◌, ◌⊎◌, ℕ, List, All, length, Some, Ok, Err, OnOk, IfErr};
 ghost use Rattle.std.specs.Io.Buffered.{reader_remaining, writer_contents};
 ghost use Rattle.std.specs.Io.KnownBytes.{Appends, IsAtEnd};
 ghost use Rattle.ksm_script.specs.declared.reply.LineReply.{LineReply};
@@ -7,7 +7,8 @@ ghost use Rattle.ksm_script.specs.declared.reply.LineReply.TheVariants.{BadLine 
 ghost use Rattle.ksm_script.specs.Answering.{reply_text};
 ghost use Rattle.ksm_script.specs.Input.{IsPlain};
 ghost use Rattle.ksm_script.specs.Replies.{text_of};
-ghost use Rattle.ksm_script.specs.Script.{AnsweredAll, AnsweredBefore, AnsweredToBad, IsReadAs};
+ghost use Rattle.ksm_script.specs.Lookups.{IsIdle};
+ghost use Rattle.ksm_script.specs.Script.{AnsweredAll, AnsweredBefore, AnsweredToBad, RunsThrough, RunsBefore, RunsToBad, IsReadAs};
 ghost use Rattle.ksm_script.specs.Texts.{AppendsBroken, AppendsPart};
 
 use crate::input::{ByBlocks, ByBytes, LineEnd, TakesLines};
@@ -15,6 +16,7 @@ use crate::line::{Line, LineFault, read_line};
 use crate::reply::{LineReply, write_reply};
 use crate::session::Session;
 use std::io::{BufReader, BufWriter, Read, Write};
+use std::thread::Threads;
 use thiserror::Error;
 
 /// Why a run broke off.
@@ -41,65 +43,75 @@ pub enum End {
 ///
 /// Lines are numbered from 1; those of no bytes count, and have no reply. Each fault of a read or a write ends the run, an
 /// interrupted one too. At `RunFault::Read` the replies to the whole lines read are written. At `RunFault::Write` a beginning of
-/// the last line's reply is written behind whole replies to the lines before, and no further line is read.
-pub fn run<R: Read, W: Write>(
+/// the last line's reply is written behind whole replies to the lines before, and no further line is read. At each end all holds are
+/// given back.
+pub fn run<T: Threads + Sync, R: Read, W: Write>(
+    rt: &T,
     reader: &mut R,
     writer: &mut W,
     session: &mut Session,
 ) -> Result<End, RunFault>
     ensures all { result ≡ Ok End.AllRead → (text : List ℕ)
-        × AnsweredAll (R.remaining reader.old) (R.remaining reader.new) session.old.state session.new.state text
+        × RunsThrough (R.remaining reader.old) (R.remaining reader.new) session.old.state session.new.state text
         × Appends (W.contents writer.old) (W.contents writer.new) text
         × IsAtEnd (R.remaining reader.new) }
     ensures bad { (number : ℕ) → result ≡ Ok (End.BadLine number) → (text : List ℕ) × (count : ℕ) × (number ≡ count + 1)
-        × AnsweredToBad (R.remaining reader.old) (R.remaining reader.new) session.old.state session.new.state text count
+        × RunsToBad (R.remaining reader.old) (R.remaining reader.new) session.old.state session.new.state text count
         × Appends (W.contents writer.old) (W.contents writer.new) (text ++ text_of (bad_line number)) }
     ensures read_fault { result ≡ Err RunFault.Read → (text : List ℕ) × (count : ℕ) × (rest : List ℕ) × IsPlain rest × (length rest ≤ 256)
-        × AnsweredBefore (R.remaining reader.old) (R.remaining reader.new) session.old.state session.new.state text count rest
+        × RunsBefore (R.remaining reader.old) (R.remaining reader.new) session.old.state session.new.state text count rest
         × Appends (W.contents writer.old) (W.contents writer.new) text }
     ensures write_fault { result ≡ Err RunFault.Write → ((text : List ℕ) × (reply : LineReply)
-        × AnsweredAll (R.remaining reader.old) (R.remaining reader.new) session.old.state session.new.state (text ++ text_of reply)
+        × RunsThrough (R.remaining reader.old) (R.remaining reader.new) session.old.state session.new.state (text ++ text_of reply)
         × AppendsBroken (W.contents writer.old) (W.contents writer.new) text (text_of reply))
         ⊎ ((text : List ℕ) × (count : ℕ)
-        × AnsweredToBad (R.remaining reader.old) (R.remaining reader.new) session.old.state session.new.state text count
+        × RunsToBad (R.remaining reader.old) (R.remaining reader.new) session.old.state session.new.state text count
         × AppendsBroken (W.contents writer.old) (W.contents writer.new) text (text_of (bad_line (count + 1)))) }
     ensures table { session.new.keeper.table ≡ session.old.keeper.table }
+    ensures idle { All IsIdle session.new.state.passes }
 {
-    run_by::<ByBytes, R, W>(reader, writer, session)
+    let ended = run_by::<ByBytes, T, R, W>(rt, reader, writer, session);
+    session.give_back();
+    ended
 }
 
 /// Answers each line as [`run`] does, out of the reader's buffer.
 ///
 /// Before the reader waits for more input, the replies are sent; where that fails, it is a failed read. Nothing is sent at the
 /// end.
-pub fn run_buffered<R: Read, W: Write + Drop>(
+pub fn run_buffered<T: Threads + Sync, R: Read, W: Write + Drop>(
+    rt: &T,
     reader: &mut BufReader<R>,
     writer: &mut BufWriter<W>,
     session: &mut Session,
 ) -> Result<End, RunFault>
     ensures all { result ≡ Ok End.AllRead → (text : List ℕ)
-        × AnsweredAll (reader_remaining R.remaining reader.old) (reader_remaining R.remaining reader.new) session.old.state session.new.state text
+        × RunsThrough (reader_remaining R.remaining reader.old) (reader_remaining R.remaining reader.new) session.old.state session.new.state text
         × Appends (writer_contents W.contents writer.old) (writer_contents W.contents writer.new) text
         × IsAtEnd (reader_remaining R.remaining reader.new) }
     ensures bad { (number : ℕ) → result ≡ Ok (End.BadLine number) → (text : List ℕ) × (count : ℕ) × (number ≡ count + 1)
-        × AnsweredToBad (reader_remaining R.remaining reader.old) (reader_remaining R.remaining reader.new) session.old.state session.new.state text count
+        × RunsToBad (reader_remaining R.remaining reader.old) (reader_remaining R.remaining reader.new) session.old.state session.new.state text count
         × Appends (writer_contents W.contents writer.old) (writer_contents W.contents writer.new) (text ++ text_of (bad_line number)) }
     ensures read_fault { result ≡ Err RunFault.Read → (text : List ℕ) × (count : ℕ) × (rest : List ℕ) × IsPlain rest × (length rest ≤ 256)
-        × AnsweredBefore (reader_remaining R.remaining reader.old) (reader_remaining R.remaining reader.new) session.old.state session.new.state text count rest
+        × RunsBefore (reader_remaining R.remaining reader.old) (reader_remaining R.remaining reader.new) session.old.state session.new.state text count rest
         × Appends (writer_contents W.contents writer.old) (writer_contents W.contents writer.new) text }
     ensures write_fault { result ≡ Err RunFault.Write → ((text : List ℕ) × (reply : LineReply)
-        × AnsweredAll (reader_remaining R.remaining reader.old) (reader_remaining R.remaining reader.new) session.old.state session.new.state (text ++ text_of reply)
+        × RunsThrough (reader_remaining R.remaining reader.old) (reader_remaining R.remaining reader.new) session.old.state session.new.state (text ++ text_of reply)
         × AppendsBroken (writer_contents W.contents writer.old) (writer_contents W.contents writer.new) text (text_of reply))
         ⊎ ((text : List ℕ) × (count : ℕ)
-        × AnsweredToBad (reader_remaining R.remaining reader.old) (reader_remaining R.remaining reader.new) session.old.state session.new.state text count
+        × RunsToBad (reader_remaining R.remaining reader.old) (reader_remaining R.remaining reader.new) session.old.state session.new.state text count
         × AppendsBroken (writer_contents W.contents writer.old) (writer_contents W.contents writer.new) text (text_of (bad_line (count + 1)))) }
     ensures table { session.new.keeper.table ≡ session.old.keeper.table }
+    ensures idle { All IsIdle session.new.state.passes }
 {
-    run_by::<ByBlocks, BufReader<R>, BufWriter<W>>(reader, writer, session)
+    let ended = run_by::<ByBlocks, T, BufReader<R>, BufWriter<W>>(rt, reader, writer, session);
+    session.give_back();
+    ended
 }
 
 /// Answers each line, taken in this way.
-fn run_by<M: TakesLines<R, W>, R, W: Write>(
+fn run_by<M: TakesLines<R, W>, T: Threads + Sync, R, W: Write>(
+    rt: &T,
     reader: &mut R,
     writer: &mut W,
     session: &mut Session,
@@ -131,7 +143,7 @@ fn run_by<M: TakesLines<R, W>, R, W: Write>(
             write_reply(writer, &LineReply::BadLine(number))?;
             return Ok(End::BadLine(number));
         };
-        write_answer(writer, session.answer(line))?;
+        write_answer(writer, session.answer(rt, line))?;
         if end == LineEnd::Input {
             return Ok(End::AllRead);
         }

@@ -1,5 +1,5 @@
 //! A table with its passes, and the book on it.
-ghost use Rattle.std.specs.Prelude.{◌≡◌, ◌≤◌, ℕ, List, length, Ok, Some, IfOk, IfErr};
+ghost use Rattle.std.specs.Prelude.{◌≡◌, ◌≤◌, ℕ, List, length, replicate, Ok, Some, IfOk, IfErr};
 ghost use Rattle.std.specs.Io.KnownBytes.{Consumes, IsAtEnd, Keeps};
 ghost use Rattle.ksm_base.specs.State.{opening};
 ghost use Rattle.ksm_base.specs.Values.{IsShape};
@@ -9,67 +9,86 @@ ghost use Rattle.ksm_base.specs.declared.command.Command.TheVariants.{Scan as sc
 ghost use Rattle.ksm_script.specs.Knobs.{value_in};
 ghost use Rattle.ksm_base.specs.Counting.{counters_of};
 ghost use Rattle.ksm_script.specs.declared.reply.LineReply.TheVariants.{Counters as counters_reply, Value as value_reply};
-ghost use Rattle.frame_table.specs.Seats.{Ends};
-ghost use Rattle.ksm_script.specs.Answering.{Answers, Commands, IsMappers, reply_to, content_reply, ticket_reply};
+ghost use Rattle.frame_table.specs.Seats.{Ends, new_pass};
+ghost use Rattle.ksm_script.specs.declared.pass_state.PassState.TheVariants.{Idle as idle_state};
+ghost use Rattle.ksm_script.specs.Answering.{Answers, AllGivenBack, OnBook, OnPasses, Commands, IsMappers, reply_to, content_reply, ticket_reply};
 ghost use Rattle.ksm_script.specs.Input.{EndsAs, IsPlain};
+ghost use Rattle.ksm_script.specs.Lookups.{Acts, AtPass, Audits};
 
 use crate::input::{LineBuffer, LineEnd, TakesLines};
 use crate::knob::Knob;
 use crate::line::Line;
+use crate::pass_state::Act;
+use crate::passes::Passes;
+use crate::refusal::Refusal;
 use crate::reply::LineReply;
 use crate::script::RunFault;
-use frame_table::{ClosedTable, FrameTable, Pass};
+use frame_table::{ClosedTable, FrameTable};
 use ksm_base::{Command, Fault, GuestPage, Reply, Shape};
 use ksm_book::Book;
 use std::alloc::Global;
 use std::io::Write;
 use std::marker::Model;
+use std::thread::Threads;
 
 /// What a run works on. It must be closed.
 pub struct Session {
     alloc: Global,
     table: FrameTable,
-    passes: Vec<Pass>,
+    passes: Passes,
     book: Book,
     line: LineBuffer,
 }
 
 impl Model for Session {
-    ghost use Rattle.std.specs.Prelude.{◌≡◌, All, vec_len};
+    ghost use Rattle.std.specs.Prelude.{◌≡◌, All, length};
+    ghost use Rattle.ksm_script.specs.Lookups.{table_of};
     ghost use Rattle.ksm_script.specs.Seen.{SessionView};
 
     ghost Value = { SessionView };
 
-    ghost view = { λ s. record { state = s.book.state; keeper = s.book.keeper; line = s.line } };
+    ghost view = { λ s. record { state = record { book = s.book.state; passes = s.passes }; keeper = s.book.keeper; line = s.line } };
 
-    ghost invariant = { λ s. (s.book.keeper.table ≡ s.table) × (vec_len s.passes ≡ s.table.shape.passes) × All (λ p. p.table ≡ s.table) s.passes.items };
+    ghost invariant = { λ s. (s.book.keeper.table ≡ s.table) × (length s.passes ≡ s.table.shape.passes) × All (λ p. table_of p ≡ s.table) s.passes };
 }
 
 impl Session {
     /// A session whose book has no pages. Refused for memory alone; what was opened by then is closed.
     pub fn open(alloc: Global, shape: Shape) -> Result<Session, Fault>
         requires { IsShape shape }
-        ensures state { IfOk result (λ s. s.state ≡ opening shape) }
+        ensures state { IfOk result (λ s. s.state.book ≡ opening shape) }
+        ensures passes { IfOk result (λ s. s.state.passes ≡ replicate shape.passes (idle_state (new_pass s.keeper.table))) }
         ensures shape { IfOk result (λ s. s.keeper.table.shape ≡ shape) }
         ensures memory { IfErr result (λ fault. fault ≡ Fault.Memory) }
     {
-        let (table, keeper, passes) = FrameTable::open(alloc, shape)?;
+        let slots = Vec::with_capacity(alloc, shape.passes as usize)?;
+        let (table, keeper, passes) = match FrameTable::open(alloc, shape) {
+            Ok(opened) => opened,
+            Err(fault) => {
+                slots.destroy_empty();
+                return Err(fault);
+            }
+        };
         match Book::open(alloc, keeper, shape) {
-            Ok(book) => Ok(Session {
-                alloc,
-                table,
-                passes,
-                book,
-                line: LineBuffer::new(),
-            }),
+            Ok(book) => {
+                let passes = Passes::new(&table, slots, passes);
+                Ok(Session {
+                    alloc,
+                    table,
+                    passes,
+                    book,
+                    line: LineBuffer::new(),
+                })
+            }
             Err((keeper, fault)) => {
+                slots.destroy_empty();
                 drop(table.close(keeper, passes));
                 Err(fault)
             }
         }
     }
 
-    /// The table of the session, as its keeper left it.
+    /// The table of the session, as its keeper left it. Holds are given back before.
     pub fn close(self) -> ClosedTable
         ensures shape { result.shape ≡ self.keeper.table.shape }
         ensures ends { Ends self.keeper.ledger result }
@@ -81,6 +100,7 @@ impl Session {
             book,
             line: _,
         } = self;
+        let passes = passes.close(&table);
         table.close(book.close(), passes)
     }
 
@@ -111,7 +131,7 @@ impl Session {
     }
 
     /// Does what a line says.
-    pub(crate) fn answer(&mut self, line: Line) -> Option<LineReply>
+    pub(crate) fn answer<R: Threads + Sync>(&mut self, rt: &R, line: Line) -> Option<LineReply>
         ensures answers { Answers line self.old.state result self.new.state }
         ensures table { self.new.keeper.table ≡ self.old.keeper.table }
     {
@@ -137,11 +157,40 @@ impl Session {
             Line::Set { knob, value } => Some(self.command(knob.setting(value))),
             Line::Show { knob } => Some(self.value(knob)),
             Line::Stat => Some(self.counters()),
+            Line::Find { pass, place } => Some(self.act(pass, Act::Find { place })),
+            Line::Equal { pass, place, bytes } => {
+                Some(self.act(pass, Act::Equal { place, bytes }))
+            }
+            Line::Look { pass } => Some(self.act(pass, Act::Look)),
+            Line::Leave { pass } => Some(self.act(pass, Act::Leave)),
+            Line::Audit => Some(self.audit(rt)),
         }
     }
 
+    /// Gives all holds back.
+    pub(crate) fn give_back(&mut self)
+        ensures given { AllGivenBack self.old.state self.new.state }
+        ensures table { self.new.keeper.table ≡ self.old.keeper.table }
+    {
+        self.passes.give_back(&self.table);
+    }
+
+    fn act(&mut self, pass: u32, act: Act) -> LineReply
+        ensures answers { OnPasses (AtPass pass (Acts act)) self.old.state (Some result) self.new.state }
+        ensures table { self.new.keeper.table ≡ self.old.keeper.table }
+    {
+        self.passes.act(&self.table, pass, act)
+    }
+
+    fn audit<R: Threads + Sync>(&mut self, rt: &R) -> LineReply
+        ensures answers { OnPasses Audits self.old.state (Some result) self.new.state }
+        ensures table { self.new.keeper.table ≡ self.old.keeper.table }
+    {
+        self.passes.audit(rt, self.alloc, &self.table)
+    }
+
     fn scan_pages(&mut self) -> LineReply
-        ensures answers { Commands (scan self.old.state.knobs.pages_to_scan) self.old.state (Some result) self.new.state }
+        ensures answers { OnBook (Commands (scan self.old.state.book.knobs.pages_to_scan)) self.old.state (Some result) self.new.state }
         ensures table { self.new.keeper.table ≡ self.old.keeper.table }
     {
         let visits = u64::from(self.book.knobs().pages_to_scan);
@@ -149,10 +198,10 @@ impl Session {
     }
 
     fn ticket(&self, page: GuestPage) -> LineReply
-        ensures { result ≡ ticket_reply (is_known self.now.state page) (ticket_of page self.now.state) }
+        ensures { result ≡ ticket_reply (is_known self.now.state.book page) (ticket_of page self.now.state.book) }
     {
         if !self.book.registered(page) {
-            return LineReply::Refused(Fault::UnknownPage);
+            return LineReply::Refused(Refusal::Book(Fault::UnknownPage));
         }
         match self.book.ticket(page) {
             None => LineReply::Private,
@@ -161,41 +210,41 @@ impl Session {
     }
 
     fn mappers(&self, place: u32) -> LineReply
-        ensures { IsMappers (mappers_of place self.now.state) result }
+        ensures { IsMappers (mappers_of place self.now.state.book) result }
     {
         match self.book.mappers(self.alloc, place) {
             Ok(Some(pages)) => LineReply::Mappers(pages),
-            Ok(None) => LineReply::Refused(Fault::UnknownPlace),
-            Err(fault) => LineReply::Refused(fault),
+            Ok(None) => LineReply::Refused(Refusal::Book(Fault::UnknownPlace)),
+            Err(fault) => LineReply::Refused(Refusal::Book(fault)),
         }
     }
 
     fn value(&self, knob: Knob) -> LineReply
-        ensures { result ≡ value_reply (value_in knob self.now.state.knobs) }
+        ensures { result ≡ value_reply (value_in knob self.now.state.book.knobs) }
     {
         LineReply::Value(knob.value_in(&self.book.knobs()))
     }
 
     fn command(&mut self, command: Command) -> LineReply
-        ensures answers { Commands command self.old.state (Some result) self.new.state }
+        ensures answers { OnBook (Commands command) self.old.state (Some result) self.new.state }
         ensures table { self.new.keeper.table ≡ self.old.keeper.table }
     {
         reply_to(self.book.apply(&self.table, command))
     }
 
     fn counters(&self) -> LineReply
-        ensures { result ≡ counters_reply (counters_of self.now.state) }
+        ensures { result ≡ counters_reply (counters_of self.now.state.book) }
     {
         LineReply::Counters(self.book.counters())
     }
 
     fn content(&mut self, page: GuestPage) -> LineReply
-        ensures reply { result ≡ content_reply (bytes_of page self.old.state) }
+        ensures reply { result ≡ content_reply (bytes_of page self.old.state.book) }
         ensures state { self.new.state ≡ self.old.state }
         ensures table { self.new.keeper.table ≡ self.old.keeper.table }
     {
         match self.book.read(&self.table, page) {
-            None => LineReply::Refused(Fault::UnknownPage),
+            None => LineReply::Refused(Refusal::Book(Fault::UnknownPage)),
             Some(content) => LineReply::Content(content),
         }
     }
@@ -210,6 +259,6 @@ fn reply_to(answer: Result<Reply, Fault>) -> LineReply
         Ok(Reply::Scanned { visits, stop }) => LineReply::Scanned { visits, stop },
         Ok(Reply::Pruned(count)) => LineReply::Pruned(count),
         Ok(Reply::Unmerged { pages, stop }) => LineReply::Unmerged { pages, stop },
-        Err(fault) => LineReply::Refused(fault),
+        Err(fault) => LineReply::Refused(Refusal::Book(fault)),
     }
 }

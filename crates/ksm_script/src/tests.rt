@@ -1,5 +1,6 @@
 //! Runs over memory, by worked scripts.
 mod faults;
+mod lookups;
 mod selftests;
 
 use super::*;
@@ -8,6 +9,7 @@ use std::alloc::Global;
 use std::io::{self, Read, Write};
 use std::process::Abort;
 use std::test::Fail;
+use std::thread::Threads;
 
 /// A script, the sizes of its table, what it writes and how it ends.
 #[derive(Clone, Copy, Debug)]
@@ -15,30 +17,32 @@ struct Row<'a> {
     name: &'a str,
     nodes: u32,
     frames: u32,
+    passes: u32,
     last_generation: u64,
     input: &'a [u8],
     output: &'a [u8],
     end: End,
 }
 
-/// One node of four frames, which live long.
+/// One node of four frames, which live long, and two passes.
 const ROW: Row = Row {
     name: "",
     nodes: 1,
     frames: 4,
+    passes: 2,
     last_generation: 1 << 40,
     input: b"",
     output: b"",
     end: End::AllRead,
 };
 
-/// A session of these sizes.
-fn open(alloc: Global, nodes: u32, frames: u32, last_generation: u64) -> Result<Session, Fault> {
+/// A session of the row's sizes.
+fn open(alloc: Global, row: Row) -> Result<Session, Fault> {
     let shape = Shape {
-        nodes,
-        frames_per_node: frames,
-        passes: 2,
-        last_generation,
+        nodes: row.nodes,
+        frames_per_node: row.frames,
+        passes: row.passes,
+        last_generation: row.last_generation,
         tries: 8,
     };
     if !shape.check() {
@@ -49,20 +53,24 @@ fn open(alloc: Global, nodes: u32, frames: u32, last_generation: u64) -> Result<
 
 impl Row<'_> {
     /// What a new session writes, and how the run ends.
-    fn play(&self, alloc: Global) -> Result<(Vec<u8>, Result<End, RunFault>), Fault> {
-        let mut session = open(alloc, self.nodes, self.frames, self.last_generation)?;
+    fn play<T: Threads + Sync>(
+        &self,
+        rt: &T,
+        alloc: Global,
+    ) -> Result<(Vec<u8>, Result<End, RunFault>), Fault> {
+        let mut session = open(alloc, *self)?;
         let mut reader = self.input;
         let mut written = Vec::new(alloc);
-        let outcome = run(&mut reader, &mut written, &mut session);
+        let outcome = run(rt, &mut reader, &mut written, &mut session);
         drop(session.close());
         Ok((written, outcome))
     }
 }
 
 /// Each script writes what its row says, and ends so.
-fn play_all(rt: &impl Abort, alloc: Global, rows: &[Row]) -> Result<(), Fail> {
+fn play_all<T: Abort + Threads + Sync>(rt: &T, alloc: Global, rows: &[Row]) -> Result<(), Fail> {
     for row in rows.iter() {
-        let (written, outcome) = row.play(alloc)?;
+        let (written, outcome) = row.play(rt, alloc)?;
         assert_eq!(rt; outcome, Ok(row.end), "{}", row.name);
         assert_eq!(rt; written.as_slice(), row.output, "{}", row.name);
     }
@@ -269,7 +277,7 @@ fn moving_rows(rt: HostRuntime) -> Result<(), Fail> {
 }
 
 /// None of these is a line of the language.
-const BAD_LINES: [&[u8]; 40] = [
+const BAD_LINES: [&[u8]; 56] = [
     b"reg 0 0 0",
     b"reg 00 0 0 aa",
     b"reg 0 01 0 aa",
@@ -310,6 +318,22 @@ const BAD_LINES: [&[u8]; 40] = [
     b"set run 1 1",
     b"show",
     b"show run 1",
+    b"find",
+    b"find 0",
+    b"find 0 0 0",
+    b"find 00 0",
+    b"find 0 4294967296",
+    b"equal 0 0",
+    b"equal 0 0 b",
+    b"equal 0 0 aa aa",
+    b"look",
+    b"look 0 0",
+    b"look -1",
+    b"leave",
+    b"leave 0 0",
+    b"audit 0",
+    b"audit ",
+    b"Audit",
 ];
 
 /// Each of the bad lines is bad, and no reply comes before.
@@ -317,10 +341,10 @@ const BAD_LINES: [&[u8]; 40] = [
 fn every_bad_line(rt: HostRuntime) -> Result<(), Fail> {
     for line in BAD_LINES {
         assert_eq!(rt; read_line(line), Err(LineFault::Bad), "{line:?}");
-        let mut session = open(rt.alloc(), 1, 4, 1 << 40)?;
+        let mut session = open(rt.alloc(), ROW)?;
         let mut reader = line;
         let mut written = Vec::new(rt.alloc());
-        let outcome = run(&mut reader, &mut written, &mut session);
+        let outcome = run(&rt, &mut reader, &mut written, &mut session);
         drop(session.close());
         assert_eq!(rt; outcome, Ok(End::BadLine(1)), "{line:?}");
         assert_eq!(rt; written.as_slice(), b"bad line 1\n".as_slice(), "{line:?}");
@@ -331,20 +355,20 @@ fn every_bad_line(rt: HostRuntime) -> Result<(), Fail> {
 /// Empty lines count and have no reply; nothing behind the newline of a bad line is read; of a long one 257 bytes are.
 #[test]
 fn lines_are_counted(rt: HostRuntime) -> Result<(), Fail> {
-    let mut session = open(rt.alloc(), 1, 4, 1 << 40)?;
+    let mut session = open(rt.alloc(), ROW)?;
     let mut reader: &[u8] = b"\n\nreg 0 0 0 AA\nget 0 0\n\nSTAT\nget 0 0\n";
     let mut written = Vec::new(rt.alloc());
-    let outcome = run(&mut reader, &mut written, &mut session);
+    let outcome = run(&rt, &mut reader, &mut written, &mut session);
     assert_eq!(rt; outcome, Ok(End::BadLine(6)));
     assert_eq!(rt; reader, b"get 0 0\n".as_slice());
     assert_eq!(rt;
-        run(&mut reader, &mut written, &mut session),
+        run(&rt, &mut reader, &mut written, &mut session),
         Ok(End::AllRead)
     );
     let long = [b'a'; 300];
     let mut reader: &[u8] = &long;
     assert_eq!(rt;
-        run(&mut reader, &mut written, &mut session),
+        run(&rt, &mut reader, &mut written, &mut session),
         Ok(End::BadLine(1))
     );
     assert_eq!(rt; reader.len(), 43);
@@ -410,20 +434,20 @@ const REPLIES: &[u8] =
 fn a_writer_that_fails_at_each_byte(rt: HostRuntime) -> Result<(), Fail> {
     for fails in [false, true] {
         for left in 0..REPLIES.len() {
-            let mut session = open(rt.alloc(), 1, 4, 1 << 40)?;
+            let mut session = open(rt.alloc(), ROW)?;
             let mut reader = LINES;
             let mut writer = Narrow {
                 taken: Vec::new(rt.alloc()),
                 left,
                 fails,
             };
-            let outcome = run(&mut reader, &mut writer, &mut session);
+            let outcome = run(&rt, &mut reader, &mut writer, &mut session);
             assert_eq!(rt; outcome, Err(RunFault::Write));
             assert!(rt; REPLIES.starts_with(writer.taken.as_slice()));
             assert_eq!(rt; writer.taken.len(), left);
             let mut again: &[u8] = b"reg 0 0 0 aa\n";
             let mut written = Vec::new(rt.alloc());
-            let outcome = run(&mut again, &mut written, &mut session);
+            let outcome = run(&rt, &mut again, &mut written, &mut session);
             drop(session.close());
             assert_eq!(rt; outcome, Ok(End::AllRead));
             assert_eq!(rt; written.as_slice(), b"refused 3\n".as_slice());
@@ -436,10 +460,10 @@ fn a_writer_that_fails_at_each_byte(rt: HostRuntime) -> Result<(), Fail> {
 #[test]
 fn a_reader_that_fails_at_each_byte(rt: HostRuntime) -> Result<(), Fail> {
     for left in 0..LINES.len() {
-        let mut session = open(rt.alloc(), 1, 4, 1 << 40)?;
+        let mut session = open(rt.alloc(), ROW)?;
         let mut reader = Broken { bytes: LINES, left };
         let mut written = Vec::new(rt.alloc());
-        let outcome = run(&mut reader, &mut written, &mut session);
+        let outcome = run(&rt, &mut reader, &mut written, &mut session);
         drop(session.close());
         assert_eq!(rt; outcome, Err(RunFault::Read));
         let lines = LINES

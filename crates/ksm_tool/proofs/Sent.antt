@@ -3,7 +3,7 @@ use Rattle.std.proofs.Common.{◌≡◌, ℕ, ◌+◌, ◌≤◌, ◌++◌, ◌�
 use Rattle.std.proofs.lemmas.List.{append-nil}
 use Rattle.std.specs.Io.KnownBytes.{Appends, IsAtEnd, Keeps}
 use Rattle.std.proofs.KnownBytes.{Appends-kept}
-use Rattle.ksm_base.specs.State.{BookState}
+use Rattle.ksm_script.specs.State.{ScriptState}
 use Rattle.ksm_script.specs.declared.reply.LineReply.{LineReply}
 use Rattle.ksm_script.specs.declared.reply.LineReply.TheVariants.{BadLine as bad_line}
 use Rattle.ksm_script.specs.declared.script.End.{End}
@@ -12,14 +12,14 @@ use Rattle.ksm_script.specs.declared.script.RunFault.{RunFault}
 use Rattle.ksm_script.specs.declared.script.RunFault.TheVariants.{Read, Write}
 use Rattle.ksm_script.specs.Input.{IsPlain}
 use Rattle.ksm_script.specs.Replies.{text_of}
-use Rattle.ksm_script.specs.Script.{AnsweredAll, AnsweredBefore, AnsweredToBad}
+use Rattle.ksm_script.specs.Script.{RunsThrough, RunsBefore, RunsToBad}
 use Rattle.ksm_script.specs.Texts.{AppendsBroken, AppendsPart}
 use Rattle.ksm_tool.specs.Sent.{Replies}
 
 whole : (begun written : Option (List ℕ)) (text : List ℕ) → Appends begun written text → AppendsPart begun written text
 whole begun written text h = (text, [], append-nil text, h)
 
-module _ (old new : Option (List ℕ)) (from to : BookState) (begun written : Option (List ℕ)) where
+module _ (old new : Option (List ℕ)) (from to : ScriptState) (begun written : Option (List ℕ)) where
   -- the replies, and what was written of them
   abbrev pub Stands : Option (List ℕ) → Type 0
   Stands now = (text : List ℕ) × Replies old new from to text × AppendsPart begun now text
@@ -33,13 +33,13 @@ module _ (old new : Option (List ℕ)) (from to : BookState) (begun written : Op
   stands_sent now kept s = (s.0, s.1, (s.2.0, s.2.1, s.2.2, Appends-kept begun written now s.2.0 s.2.3 kept))
 
   pub stands_after : (r : Result End RunFault)
-      → (r ≡ Ok AllRead → (text : List ℕ) × AnsweredAll old new from to text × Appends begun written text × IsAtEnd new)
-      → ((number : ℕ) → r ≡ Ok (BadLine number) → (text : List ℕ) × (count : ℕ) × (number ≡ count + 1) × AnsweredToBad old new from to text count
+      → (r ≡ Ok AllRead → (text : List ℕ) × RunsThrough old new from to text × Appends begun written text × IsAtEnd new)
+      → ((number : ℕ) → r ≡ Ok (BadLine number) → (text : List ℕ) × (count : ℕ) × (number ≡ count + 1) × RunsToBad old new from to text count
       × Appends begun written (text ++ text_of (bad_line number)))
       → (r ≡ Err Read → (text : List ℕ) × (count : ℕ) × (rest : List ℕ) × IsPlain rest × (length rest ≤ 256)
-      × AnsweredBefore old new from to text count rest × Appends begun written text)
-      → (r ≡ Err Write → ((text : List ℕ) × (reply : LineReply) × AnsweredAll old new from to (text ++ text_of reply) × AppendsBroken begun written text (text_of reply))
-      ⊎ ((text : List ℕ) × (count : ℕ) × AnsweredToBad old new from to text count × AppendsBroken begun written text (text_of (bad_line (count + 1)))))
+      × RunsBefore old new from to text count rest × Appends begun written text)
+      → (r ≡ Err Write → ((text : List ℕ) × (reply : LineReply) × RunsThrough old new from to (text ++ text_of reply) × AppendsBroken begun written text (text_of reply))
+      ⊎ ((text : List ℕ) × (count : ℕ) × RunsToBad old new from to text count × AppendsBroken begun written text (text_of (bad_line (count + 1)))))
       → Stands written
   stands_after (Ok AllRead) all bad read write = let a = all refl in (a.0, inl a.1, whole begun written a.0 a.2)
   stands_after (Ok (BadLine number)) all bad read write =

@@ -4,37 +4,39 @@ ghost use Rattle.std.specs.Io.Buffered.{reader_remaining, writer_contents, write
 ghost use Rattle.std.specs.Io.KnownBytes.{Appends, IsAtEnd};
 ghost use Rattle.ksm_script.specs.declared.reply.LineReply.TheVariants.{BadLine as bad_line};
 ghost use Rattle.ksm_script.specs.Replies.{text_of};
-ghost use Rattle.ksm_script.specs.Script.{AnsweredAll, AnsweredToBad};
+ghost use Rattle.ksm_script.specs.Script.{RunsThrough, RunsToBad};
 ghost use Rattle.ksm_script.specs.Texts.{AppendsPart};
 ghost use Rattle.ksm_tool.specs.Sent.{Replies};
 
 use crate::status::Status;
 use ksm_script::{Session, run_buffered};
 use std::io::{BufReader, BufWriter, Read, Write};
+use std::thread::Threads;
 
 /// Answers the script that the reader holds, and sends the replies.
 ///
 /// At `Done` all of it was read, each line carried out, and each reply sent. At `NotUnderstood` it was read to a bad line, and
 /// the replies up to `bad line` are sent. Else a read or a write failed: what is sent, and what waits in the writer behind it, is a
 /// beginning of the replies to what was read.
-pub fn answer<I: Read, O: Write + Drop>(
+pub fn answer<T: Threads + Sync, I: Read, O: Write + Drop>(
+    rt: &T,
     reader: &mut BufReader<I>,
     writer: &mut BufWriter<O>,
     session: &mut Session,
 ) -> Status
     ensures done { result ≡ Status.Done → (text : List ℕ)
-        × AnsweredAll (reader_remaining I.remaining reader.old) (reader_remaining I.remaining reader.new) session.old.state session.new.state text
+        × RunsThrough (reader_remaining I.remaining reader.old) (reader_remaining I.remaining reader.new) session.old.state session.new.state text
         × IsAtEnd (reader_remaining I.remaining reader.new)
         × Appends (writer_contents O.contents writer.old) (O.contents (writer_inner writer.new)) text }
     ensures bad { result ≡ Status.NotUnderstood → (text : List ℕ) × (count : ℕ)
-        × AnsweredToBad (reader_remaining I.remaining reader.old) (reader_remaining I.remaining reader.new) session.old.state session.new.state text count
+        × RunsToBad (reader_remaining I.remaining reader.old) (reader_remaining I.remaining reader.new) session.old.state session.new.state text count
         × Appends (writer_contents O.contents writer.old) (O.contents (writer_inner writer.new)) (text ++ text_of (bad_line (count + 1))) }
     ensures written { (text : List ℕ)
         × Replies (reader_remaining I.remaining reader.old) (reader_remaining I.remaining reader.new) session.old.state session.new.state text
         × AppendsPart (writer_contents O.contents writer.old) (writer_contents O.contents writer.new) text }
     ensures began { result ≢ Status.NoMemory }
 {
-    let ended = run_buffered(reader, writer, session);
+    let ended = run_buffered(rt, reader, writer, session);
     let are_sent = ended.is_ok() && writer.flush().is_ok();
     Status::after(ended, are_sent)
 }

@@ -16,6 +16,7 @@ use status::Status;
 use std::io::{self, BufReader, BufWriter};
 use std::process::ExitCode;
 use std::rt::Env;
+use std::thread::Threads;
 
 /// How many bytes are read or sent at once, at most.
 const BLOCK: usize = 65536;
@@ -25,7 +26,7 @@ fn main(rt: HostRuntime) -> ExitCode {
 }
 
 /// How the program ends, from its words on.
-fn ran<R: Env + Input + Print + Eprint + AllocGlobal>(rt: &R) -> Status {
+fn ran<R: Env + Input + Print + Eprint + AllocGlobal + Threads + Sync>(rt: &R) -> Status {
     let session = words(rt).and_then(|words| opened(rt, words.as_slice()));
     match session {
         Ok(session) => served(rt, session),
@@ -34,12 +35,12 @@ fn ran<R: Env + Input + Print + Eprint + AllocGlobal>(rt: &R) -> Status {
 }
 
 /// Answers the script on standard input. What could not be sent is let go, and not tried again.
-fn served<R: Input + Print + AllocGlobal>(rt: &R, mut session: Session) -> Status {
+fn served<R: Input + Print + AllocGlobal + Threads + Sync>(rt: &R, mut session: Session) -> Status {
     let reader = BufReader::with_capacity(rt.alloc(), BLOCK, rt.reader());
     let writer = BufWriter::with_capacity(rt.alloc(), BLOCK, io::writer(rt));
     let status = match (reader, writer) {
         (Ok(mut reader), Ok(mut writer)) => {
-            let status = answer(&mut reader, &mut writer, &mut session);
+            let status = answer(rt, &mut reader, &mut writer, &mut session);
             let _ = writer.into_parts();
             status
         }

@@ -1,6 +1,8 @@
 //! From the program's words to the opened session.
-ghost use Rattle.std.specs.Prelude.{◌≡◌, List, Err, IfErr, IfOk, map, string_bytes};
+ghost use Rattle.std.specs.Prelude.{◌≡◌, List, Err, IfErr, IfOk, map, replicate, string_bytes};
 ghost use Rattle.ksm_base.specs.State.{opening};
+ghost use Rattle.frame_table.specs.Seats.{new_pass};
+ghost use Rattle.ksm_script.specs.declared.pass_state.PassState.TheVariants.{Idle};
 ghost use Rattle.ksm_tool.specs.Settings.{Given};
 ghost use Rattle.ksm_tool.specs.Statuses.{IsBeforeRun, told_of};
 ghost use Rattle.ksm_tool.specs.Told.{IsToldBy, Tells};
@@ -33,7 +35,8 @@ pub fn words<R: Env + Eprint + AllocGlobal>(rt: &R) -> Result<Vec<String>, Statu
 /// The session that these words open. They are not understood only where they tell no shape.
 pub fn opened<R: Eprint + AllocGlobal>(rt: &R, words: &[String]) -> Result<Session, Status>
     ensures told { IfOk result (λ s. IsToldBy (map string_bytes words.now) s.keeper.table.shape) }
-    ensures book { IfOk result (λ s. s.state ≡ opening s.keeper.table.shape) }
+    ensures book { IfOk result (λ s. s.state.book ≡ opening s.keeper.table.shape) }
+    ensures passes { IfOk result (λ s. s.state.passes ≡ replicate s.keeper.table.shape.passes (Idle (new_pass s.keeper.table))) }
     ensures status { IfErr result IsBeforeRun }
     ensures refused { result ≡ Err Status.NotUnderstood → (given : List Given) → ¬ (Tells (map string_bytes words.now) given) }
 {

@@ -24,7 +24,8 @@ fn small(alloc: Global) -> Option<Session> {
 }
 
 /// Answers the script of a reader on a writer, in blocks of so many bytes.
-fn answered<I: Read + Drop, O: Write + Drop>(
+fn answered<T: Threads + Sync, I: Read + Drop, O: Write + Drop>(
+    rt: &T,
     alloc: Global,
     block: usize,
     input: I,
@@ -33,7 +34,7 @@ fn answered<I: Read + Drop, O: Write + Drop>(
     let mut reader = BufReader::with_capacity(alloc, block, input).ok()?;
     let mut writer = BufWriter::with_capacity(alloc, block, output).ok()?;
     let mut session = small(alloc)?;
-    let status = answer(&mut reader, &mut writer, &mut session);
+    let status = answer(rt, &mut reader, &mut writer, &mut session);
     drop(session.close());
     let (output, _) = writer.into_parts();
     Some((status, reader, output))
@@ -63,7 +64,7 @@ fn scripts_are_answered_to_their_end(rt: HostRuntime) -> Result<(), Fail> {
     for (script, wanted, end) in cases {
         for block in [1, 2, 7, 64, 65536] {
             let output = Vec::new(rt.alloc());
-            let run = answered(rt.alloc(), block, script, output).expect(&rt, "memory");
+            let run = answered(&rt, rt.alloc(), block, script, output).expect(&rt, "memory");
             assert_eq!(rt; run.0, end, "{script:?}");
             assert_eq!(rt; run.2.as_slice(), wanted, "{script:?}");
         }
@@ -123,7 +124,7 @@ fn nothing_is_sent_after_a_failed_write(rt: HostRuntime) -> Result<(), Fail> {
                     taken: Vec::new(rt.alloc()),
                     room: Some(room),
                 };
-                let run = answered(rt.alloc(), block, script, output).expect(&rt, "memory");
+                let run = answered(&rt, rt.alloc(), block, script, output).expect(&rt, "memory");
                 let status = if room == wanted.len() {
                     end
                 } else {
@@ -182,7 +183,7 @@ fn the_input_is_not_asked_again(rt: HostRuntime) -> Result<(), Fail> {
             calls: 0,
         };
         let output = Vec::new(rt.alloc());
-        let run = answered(rt.alloc(), 64, input, output).expect(&rt, "memory");
+        let run = answered(&rt, rt.alloc(), 64, input, output).expect(&rt, "memory");
         assert_eq!(rt; run.0, end);
         assert_eq!(rt; run.1.get_ref().calls, 2);
         assert_eq!(rt; run.2.as_slice(), wanted);

@@ -3,24 +3,37 @@
 //! `lookup_times PLACES THREADS ROUNDS`. Every place is published on the frame of its number, word i of its page being 16 times that number,
 //! and i + 1. Each of 1 to 4 threads makes so many lookups, each a find, a read of all words and a leave: of the place 0 where PLACES is
 //! `hot`, else of a place far from the one before. What it prints is the wrapping sum of all words read.
+//!
+//! `lookup_times audit WORKERS ROUNDS` makes so many audits of the table, by 1 to 4 workers, and prints how many places were found.
 #![tactic(auto)]
 
+ghost use Rattle.std.specs.Prelude.{◌<◌};
+
+mod audits;
 mod table;
 mod worker;
 
+use audits::run_audits;
 use std::{env, io};
 use table::run;
 
 /// Where lookups go, in how many threads, and how many each makes.
 #[derive(Clone, Copy)]
 struct Asked {
+    audit: bool,
     spread: bool,
     threads: usize,
     rounds: u64,
 }
 
-fn read_words(words: &[String]) -> Asked {
+fn read_words(words: &[String]) -> Asked
+    ensures { result.threads < 5 }
+{
     Asked {
+        audit: match words.get(1) {
+            Some(word) => word.as_str() == "audit",
+            None => false,
+        },
         spread: match words.get(1) {
             Some(word) => word.as_str() != "hot",
             None => true,
@@ -40,7 +53,13 @@ fn number(word: Option<&String>) -> u64 {
 fn main(rt: HostRuntime) -> io::Result<()> {
     let words = env::args(&rt)?.collect::<Vec<String>>(rt.alloc())?;
     let asked = read_words(words.as_slice());
-    match run(&rt, rt.alloc(), asked.spread, asked.threads, asked.rounds) {
+    let made = if asked.audit {
+        let workers = if asked.threads == 0 { 1 } else { asked.threads };
+        run_audits(&rt, rt.alloc(), workers, asked.rounds)
+    } else {
+        run(&rt, rt.alloc(), asked.spread, asked.threads, asked.rounds)
+    };
+    match made {
         Ok(sum) => println!(rt; "{sum}"),
         Err(fault) => println!(rt; "refused {}", fault.number()),
     }

@@ -11,7 +11,7 @@ use ksm_base::{Fault, PAGE_WORDS, Shape};
 use std::alloc::Global;
 use std::thread::{Threads, for_each_mut};
 
-const SHAPE: Shape = Shape {
+pub const SHAPE: Shape = Shape {
     nodes: 4,
     frames_per_node: 256,
     passes: 4,
@@ -44,7 +44,7 @@ fn publish(table: &FrameTable, keeper: &mut Keeper, frame: u32)
     keeper.publish(table, frame, frame);
 }
 
-fn publish_all(table: &FrameTable, keeper: &mut Keeper)
+pub fn publish_all(table: &FrameTable, keeper: &mut Keeper)
     requires new { keeper.old ≡ new_keeper table.now }
     requires shape { frames_of table.now.shape ≡ 1024 }
     ensures own { keeper.new.table ≡ table.now }

@@ -44,7 +44,7 @@ fn the_reader_is_not_asked_again(rt: HostRuntime) -> Result<(), Fail> {
             calls: 0,
         };
         let mut written = Vec::new(rt.alloc());
-        let outcome = run(&mut reader, &mut written, &mut session);
+        let outcome = run(&rt, &mut reader, &mut written, &mut session);
         let wanted = if fails {
             Err(RunFault::Read)
         } else {
@@ -60,7 +60,7 @@ fn the_reader_is_not_asked_again(rt: HostRuntime) -> Result<(), Fail> {
         assert_eq!(rt; written.as_slice(), text);
         let mut rest: &[u8] = b"get 0 0\n";
         let mut more = Vec::new(rt.alloc());
-        assert_eq!(rt; run(&mut rest, &mut more, &mut session), Ok(End::AllRead));
+        assert_eq!(rt; run(&rt, &mut rest, &mut more, &mut session), Ok(End::AllRead));
         let line = format!(in rt.alloc(); "{page}\n")?;
         assert_eq!(rt; more.as_slice(), line.as_bytes());
         drop(session.close());
@@ -110,7 +110,7 @@ fn nothing_is_written_after_a_fault(rt: HostRuntime) -> Result<(), Fail> {
             taken: Vec::new(rt.alloc()),
             room: Some(room),
         };
-        let outcome = run(&mut reader, &mut writer, &mut session);
+        let outcome = run(&rt, &mut reader, &mut writer, &mut session);
         assert_eq!(rt; outcome, Err(RunFault::Write), "{room}");
         assert_eq!(rt; writer.taken.as_slice(), &whole[..room], "{room}");
         let left = if room < 3 {

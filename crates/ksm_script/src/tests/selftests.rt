@@ -46,7 +46,7 @@ fn replies(alloc: Global, pages: u8, limit: u8) -> Result<String, AllocError>
     Ok(replies)
 }
 
-fn at_each_limit(rt: &impl Abort, alloc: Global, pages: u8) -> Result<(), Fail> {
+fn at_each_limit<T: Abort + Threads + Sync>(rt: &T, alloc: Global, pages: u8) -> Result<(), Fail> {
     for limit in 2..9 {
         let input = equal_pages(alloc, pages, limit)?;
         let output = replies(alloc, pages, limit)?;
@@ -56,7 +56,7 @@ fn at_each_limit(rt: &impl Abort, alloc: Global, pages: u8) -> Result<(), Fail> 
             output: output.as_bytes(),
             ..ROW
         };
-        let (written, outcome) = row.play(alloc)?;
+        let (written, outcome) = row.play(rt, alloc)?;
         assert_eq!(rt; outcome, Ok(row.end), "{pages} pages at limit {limit}");
         assert_eq!(rt;
             written.as_slice(),

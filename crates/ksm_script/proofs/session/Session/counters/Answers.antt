@@ -5,4 +5,4 @@ use Rattle.ksm_script.specs.Seen.{SessionView}
 use Rattle.ksm_script.proofs.session.Session.counters.Goals as goal
 
 pub returns : goal.returns
-returns c = ap (λ counters. Counters counters) (c.counters.ensures ∙ ap (λ (v : SessionView). counters_of v.state) c.self.view_is)
+returns c = ap (λ counters. Counters counters) (c.counters.ensures ∙ ap (λ (v : SessionView). counters_of v.state.book) c.self.view_is)
