@@ -25,10 +25,8 @@ kind_of_item n OwnPage e = absurd (grind (arith, e))
 kind_of_item n Waiting e = absurd (grind (arith, e))
 kind_of_item n (Merged d) e = refl
 
-pub share_lawfully : (b : BookState) (k : KeeperView) → IsSound b → LieLawfully b k → ShareLawfully b k
-share_lawfully b k s lies row dup in_rows in_dups item =
-    let frames : List ℕ = lies.0 in
-    let p = lies.1 in
+pub share_lawfully : (b : BookState) (frames : List ℕ) (k : KeeperView) → IsSound b → LieLawfully b frames k → ShareLawfully b k
+share_lawfully b frames k s p row dup in_rows in_dups item =
     let i : ℕ = in_rows.0 in
     let n : ℕ = in_dups.0 in
     let f : ℕ = slice_index frames i in

@@ -1,6 +1,7 @@
 pub mod Paired
 pub mod Moves
 pub mod Logs
+pub mod Made
 pub mod Keeping
 pub mod Filling
 pub mod Lists
@@ -23,3 +24,4 @@ pub mod DupMoves
 pub mod Linking
 pub mod Partners
 pub mod Onward
+pub mod Resettling

@@ -12,7 +12,7 @@ use Rattle.frame_core.specs.declared.ledger.Note.{Note}
 use Rattle.frame_core.specs.Ledger.{frame_at, with_frame}
 use Rattle.frame_table.specs.Named.{KeeperView}
 use Rattle.ksm_book.specs.Placement.{Placed, node_of}
-use Rattle.ksm_book.specs.Steps.{Log, Did, Does, HasNoFree, puts, loads}
+use Rattle.ksm_book.specs.Steps.{Log, Did, Does, HasNoFree, count_found, puts, loads}
 
 -- every lawful placement is still lawful, with another frame in hand
 abbrev pub Keeps : KeeperView → KeeperView → Option ℕ → Option ℕ → Type 0
@@ -50,7 +50,7 @@ pub record Loaded (v w : KeeperView) (f : ℕ) (bytes : List ℕ) : Type 0 where
 
 -- of each of these frames that is dying still, a count above zero was read in the part
 abbrev pub HasWaited : KeeperView → ℕ → ℕ → Log → Type 0
-HasWaited w low count part = (f : ℕ) → low ≤ f → f < low + count → (frame_at w.ledger f).kind ≡ Dying → (n : ℕ) × (1 ≤ n) × Contains part (Reap f, n)
+HasWaited w low count part = (f : ℕ) → low ≤ f → f < low + count → (frame_at w.ledger f).kind ≡ Dying → (n : ℕ) × (1 ≤ count_found n) × Contains part (Reap f, n)
 
 -- no frame of the node is free, though each dying one was read: so no frame was given
 pub record NoneLeft (v w : KeeperView) (node : ℕ) : Type 0 where

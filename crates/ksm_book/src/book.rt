@@ -1,19 +1,18 @@
 //! The book of page sharing.
 
-ghost use Rattle.std.specs.Prelude.{◌≡◌, IfOk, IfErr, option_map};
-ghost use Rattle.ksm_base.specs.Answers.{IsAnswerOrMemory};
-ghost use Rattle.ksm_base.specs.Apply.{after};
+ghost use Rattle.std.specs.Prelude.{◌≡◌, [], IfOk, IfErr, option_map};
 ghost use Rattle.ksm_base.specs.Counting.{counters_of};
 ghost use Rattle.ksm_base.specs.Reading.{bytes_of, mappers_of, ticket_of};
 ghost use Rattle.ksm_base.specs.Refusals.{is_known};
 ghost use Rattle.ksm_base.specs.State.{opening};
 ghost use Rattle.ksm_base.specs.Values.{IsShape};
 ghost use Rattle.frame_core.specs.Ledger.{first_ledger};
+ghost use Rattle.ksm_book.specs.Commands.{frame_of};
 ghost use Rattle.ksm_book.specs.Laid.{LoadsIf};
 ghost use Rattle.ksm_base.specs.Sound.{IsSound};
 ghost use Rattle.ksm_book.specs.Lawful.{LieLawfully, ShareLawfully};
-ghost use Rattle.ksm_book.specs.Steps.{Does};
-ghost use Rattle.ksm_book.specs.Whole.{nodes_got, HasShown};
+ghost use Rattle.ksm_book.specs.Carried.{CarriedOut};
+ghost use Rattle.ksm_book.specs.Whole.{rows_in};
 
 use crate::state::State;
 use frame_table::{FrameTable, Keeper};
@@ -21,7 +20,7 @@ use ksm_base::{Command, Counters, Fault, GuestPage, Knobs, PageBytes, Reply, Sha
 use std::alloc::Global;
 use std::marker::Model;
 
-/// The pages of the guests and the dups into which they are merged, in the frames of a keeper. Contracts see the state of the book, and the keeper.
+/// The pages of the guests and the dups into which they are merged, in the frames of a keeper. Contracts see the state of the book, the frame of each page, and the keeper.
 pub struct Book {
     state: State,
 }
@@ -40,7 +39,7 @@ impl Book {
         requires shape { IsShape shape }
         requires same { keeper.table.shape ≡ shape }
         requires new { keeper.ledger ≡ first_ledger shape }
-        ensures opened { IfOk result (λ b. b ≡ record { state = opening shape; keeper = keeper }) }
+        ensures opened { IfOk result (λ b. b ≡ record { state = opening shape; frames = []; keeper = keeper }) }
         ensures refused { IfErr result (λ e. (e.0 ≡ keeper) × (e.1 ≡ Fault.Memory)) }
     {
         Ok(Book {
@@ -48,14 +47,10 @@ impl Book {
         })
     }
 
-    /// Does a command: a step of the book. `Err` is a refusal, and changes no page, dup or knob; `Fault::Memory` may come in place of any answer, and the keeper has then given no frame.
+    /// Does a command: a step of the book. `Err` is a refusal, and changes no page, dup or knob; `Fault::Memory` may come in place of any answer, and no step was made on a frame then. The steps that it makes on the frames are told by its answer, and so is the frame on which each page lies then.
     pub fn apply(&mut self, table: &FrameTable, command: Command) -> Result<Reply, Fault>
         requires own { self.old.keeper.table ≡ table.now }
-        ensures own { self.new.keeper.table ≡ self.old.keeper.table }
-        ensures answer { IsAnswerOrMemory self.old.state command result }
-        ensures state { self.new.state ≡ after self.old.state command result }
-        ensures frames { Does self.old.keeper self.new.keeper (nodes_got self.old.state result command) }
-        ensures shown { HasShown self.old.state self.old.keeper self.new.keeper result command }
+        ensures { CarriedOut self.old self.new command result }
     {
         let state = &mut self.state;
         match command {
@@ -78,7 +73,7 @@ impl Book {
     /// A law, which costs nothing to call: what is true of the book and of its frames whenever no call is under way.
     pub fn lies_lawfully(&self)
         ensures sound { IsSound self.now.state }
-        ensures placed { LieLawfully self.now.state self.now.keeper }
+        ensures placed { LieLawfully self.now.state self.now.frames self.now.keeper }
         ensures shared { ShareLawfully self.now.state self.now.keeper }
     {
         self.state.lies_lawfully();
@@ -90,7 +85,8 @@ impl Book {
         ensures own { self.new.keeper.table ≡ self.old.keeper.table }
         ensures bytes { result ≡ bytes_of page self.old.state }
         ensures state { self.new.state ≡ self.old.state }
-        ensures loads { LoadsIf result self.old.keeper self.new.keeper }
+        ensures frames { self.new.frames ≡ self.old.frames }
+        ensures loads { LoadsIf (frame_of (rows_in self.old) page) result self.old.keeper self.new.keeper }
     {
         self.state.read(table, page)
     }

@@ -8,5 +8,6 @@ use Rattle.ksm_book.proofs.state.State.lies_lawfully.Goals as goal
 pub returns-clause-shared : goal.returns-clause-shared
 returns-clause-shared c =
     let s = c.self.inside in
-    let lies : LieLawfully (state_of s.layout s.cursor s.passes) s.layout.keeper = c.lies_lawfully.ensures in
-    subst (λ (x : BookView). ShareLawfully x.state x.keeper) c.self.view_is (share_lawfully (state_of s.layout s.cursor s.passes) s.layout.keeper c.self.invariant lies)
+    let lies : LieLawfully (state_of s.layout s.cursor s.passes) s.layout.frames s.layout.keeper = c.lies_lawfully.ensures in
+    subst (λ (x : BookView). ShareLawfully x.state x.keeper) c.self.view_is
+    (share_lawfully (state_of s.layout s.cursor s.passes) s.layout.frames s.layout.keeper c.self.invariant lies)
