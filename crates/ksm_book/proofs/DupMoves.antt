@@ -1,6 +1,6 @@
 -- What is answered where a dup is to move.
 use Rattle.std.proofs.Common.{inl, inr, ◌≡◌, ℕ, ◌<◌, true, false, Some, None, sym, ap, ◌∙◌, subst, arith, eq-eqb}
-use Rattle.std.specs.Prelude.{find, ◌==◌, ◌&&◌, nat_le, is_none, Ok, Err}
+use Rattle.std.specs.Prelude.{find, ◌==◌, ◌&&◌, nat_le, is_none, Ok, Err, MatchOption}
 use Rattle.std.proofs.lemmas.Bool.{cases_Bool, and_parts, eqb-true, leb-true}
 use Rattle.ksm_base.specs.declared.row.DupRow.{DupRow}
 use Rattle.ksm_base.specs.declared.command.Command.TheVariants.{MoveDup}
@@ -13,9 +13,12 @@ use Rattle.ksm_base.specs.State.{BookState}
 use Rattle.ksm_base.proofs.Edits.{find_passes}
 use Rattle.frame_table.specs.Named.{KeeperView}
 use Rattle.ksm_base.specs.declared.reply.Reply.TheVariants.{Done}
+use Rattle.ksm_book.specs.Carried.{TakesSteps}
+use Rattle.ksm_book.specs.Commands.{Mapped, TurnsAway, Moves, FindsHeld}
 use Rattle.ksm_book.specs.Keeping.{NoneLeft}
+use Rattle.ksm_book.specs.Laid.{Lay, MovesOr, mapped_lay}
 use Rattle.ksm_book.specs.Mounted.{IsMoved}
-use Rattle.ksm_book.specs.Whole.{HasShown}
+use Rattle.ksm_book.specs.Whole.{BookView, HasShown, mapped}
 
 module _ (b : BookState) (place node : ℕ) (dup : DupRow) (found : Some dup ≡ live_dup_at b place) where
   pub place_is : dup.place ≡ place
@@ -75,3 +78,24 @@ moved_shown X b v w place node q same InUse h = h
 moved_shown X b v w place node q same CrossesNodes h = absurd h
 moved_shown X b v w place node q same UnknownPlace h = absurd h
 moved_shown X b v w place node q same BadNode h = absurd h
+
+-- the steps of an answer
+module _ (v w : BookView) (old new : Lay) (place node : ℕ) (dup : DupRow) (found : Some dup ≡ live_dup_at v.state place)
+    (before : mapped_lay old ≡ mapped v) (behind : mapped_lay new ≡ mapped w) where
+  pub done_steps : Moves (mapped_lay old) (mapped_lay new) dup node → TakesSteps v w (MoveDup place node) (Ok Done)
+  done_steps h = subst (λ o. MatchOption o ⊥ (λ d. Moves (mapped v) (mapped w) d node)) found
+      (subst (λ (z : Mapped × Mapped). Moves z.0 z.1 dup node) (λ i. (before i, behind i)) h)
+
+  pub fault_steps : (X : Type 0) (f : Fault) → MovesOr {X = X} old new dup node (Err f) → TakesSteps v w (MoveDup place node) (Err f)
+  fault_steps X Memory h = absurd h
+  fault_steps X UnknownPage h = absurd h
+  fault_steps X AlreadyRegistered h = absurd h
+  fault_steps X (NoFrame n) h = subst (λ (z : Mapped × Mapped). TurnsAway z.0 z.1 n) (λ i. (before i, behind i)) h
+  fault_steps X NotRunning h = absurd h
+  fault_steps X SharedPages h = absurd h
+  fault_steps X BadValue h = absurd h
+  fault_steps X InUse h = subst (λ o. MatchOption o ⊥ (λ d. FindsHeld (mapped v) (mapped w) d node)) found
+      (subst (λ (z : Mapped × Mapped). FindsHeld z.0 z.1 dup node) (λ i. (before i, behind i)) h)
+  fault_steps X CrossesNodes h = absurd h
+  fault_steps X UnknownPlace h = absurd h
+  fault_steps X BadNode h = absurd h

@@ -206,8 +206,16 @@ pub relisted : (p q : PagesView) (k : KeeperView) → q ≡ record p { listed = 
 relisted p q k rest h = subst (λ (z : PagesView). IsLaid z.shape z.listed z.dups z.knobs z.next k) (sym rest) h
 
 -- the layout of such pages, with another keeper
-pub relaid : (p q : PagesView) (now : Lay) (v k : KeeperView) (rows : List Row) → q ≡ record p { listed = q.listed } → lay_of p v ≡ now → q.listed.rows ≡ rows → lay_of q k ≡ record now { rows = rows; keeper = k }
-relaid p q now v k rows rest view same = ap (λ (z : PagesView). lay_of z k) rest ∙ (λ t. record (view t) { rows = same t; keeper = k })
+pub relaid : (p q : PagesView) (now : Lay) (v k : KeeperView) (rows : List Row) → q ≡ record p { listed = q.listed } → lay_of p v ≡ now
+    → q.listed.rows ≡ rows → lay_of q k ≡ record now { rows = rows; frames = q.listed.frames; keeper = k }
+relaid p q now v k rows rest view same = ap (λ (z : PagesView). lay_of z k) rest
+    ∙ (λ t. record (view t) { rows = same t; frames = q.listed.frames; keeper = k })
+
+-- the same, where each row stays on its frame
+pub relaid_there : (p q : PagesView) (now : Lay) (v k : KeeperView) (rows : List Row) → q ≡ record p { listed = q.listed } → lay_of p v ≡ now
+    → q.listed.rows ≡ rows → q.listed.frames ≡ p.listed.frames → lay_of q k ≡ record now { rows = rows; keeper = k }
+relaid_there p q now v k rows rest view same frames = relaid p q now v k rows rest view same
+    ∙ (λ t. record now { rows = rows; frames = (frames ∙ ap (λ (x : Lay). x.frames) view) t; keeper = k })
 
 pub rest_again : (p q r : PagesView) → q ≡ record p { listed = q.listed } → r ≡ record q { listed = r.listed } → r ≡ record p { listed = r.listed }
 rest_again p q r first second = second ∙ ap (λ (z : PagesView). record z { listed = r.listed }) first

@@ -1,6 +1,7 @@
 pub mod Paired
 pub mod Moves
 pub mod Logs
+pub mod Made
 pub mod Keeping
 pub mod Filling
 pub mod Lists
@@ -27,3 +28,4 @@ pub mod Onward
 pub mod Entering
 pub mod Journaled
 pub mod Tallies
+pub mod Resettling

@@ -1,5 +1,5 @@
 -- A dup moves to another frame.
-use Rattle.std.proofs.Common.{◌≡◌, ◌≢◌, ℕ, ◌+◌, ◌-◌, ◌<◌, ◌≤◌, List, [], ◌∷◌, ◌++◌, length, set, Some, refl, sym, ap, ◌∙◌, subst, arith, get_or-set_other}
+use Rattle.std.proofs.Common.{◌≡◌, ◌≢◌, ℕ, ◌+◌, ◌-◌, ◌<◌, ◌≤◌, List, [], ◌∷◌, ◌++◌, length, replicate, set, Some, refl, sym, ap, ◌∙◌, subst, arith, get_or-set_other}
 use Rattle.std.proofs.lemmas.List.Elements.{Contains-append_left, Contains-append_right, Contains-push}
 use Rattle.ksm_base.specs.Values.{frames_of}
 use Rattle.frame_core.specs.declared.event.KeeperStep.TheVariants.{Raise, Open, Add, Publish}
@@ -12,9 +12,11 @@ use Rattle.frame_table.specs.Named.{KeeperView}
 use Rattle.frame_table.specs.Kept.{did}
 use Rattle.ksm_book.specs.Keeping.{Wrote, Loaded, holding}
 use Rattle.ksm_book.specs.Mounted.{Added, Mounted, referring, shown_on}
-use Rattle.ksm_book.specs.Steps.{Log, Did, puts, loads}
+use Rattle.ksm_book.specs.Commands.{mounting}
+use Rattle.ksm_book.specs.Steps.{Log, Did, Made, steps_of, puts, loads}
 use Rattle.ksm_book.proofs.Filling.{again, at_again, as_it_was}
 use Rattle.ksm_book.proofs.Logs.{chained, one_step, nothing_done}
+use Rattle.ksm_book.proofs.Made.{made_one, made_part, made_then}
 
 -- references come one by one
 pub added_none : (v w : KeeperView) (f : ℕ) → w ≡ v → Added v w f 0
@@ -118,6 +120,15 @@ module _ (v v1 v2 v3 v4 v5 v6 : KeeperView) (f g place count found opened : ℕ)
         (Contains-append_right last _ _ (Contains-push adds.does.0 (Publish place g, 0)))));
     ledger = after_show;
   }
+
+  -- by these steps and no others
+  pub mounts_made : Made v4 v5 (replicate (count - 1) (Add g)) → Made v v6 (mounting f g place count (frame_at k f).content)
+  mounts_made added = subst (λ (bs : List ℕ). Made v v6 (mounting f g place count bs)) read
+      (made_then v v1 v6 (Raise g ∷ []) _ (made_one v v1 (Raise g) found raises)
+      (made_then v1 v2 v6 (steps_of (loads f 0 bytes)) _ (made_part v1 v2 [] (loads f 0 bytes) loads'.did)
+      (made_then v2 v3 v6 (steps_of (puts g 0 bytes)) _ (made_part v2 v3 [] (puts g 0 bytes) writes.did)
+      (made_then v3 v4 v6 (Open g ∷ []) _ (made_one v3 v4 (Open g) 0 opens)
+      (made_then v4 v5 v6 (replicate (count - 1) (Add g)) _ added (made_one v5 v6 (Publish place g) 0 shows))))))
 
 -- frames of other kinds are others
 free_not_dying : Free ≡ Dying → ⊥

@@ -1,8 +1,8 @@
 -- Where the rows stand after one of them was replaced, and how a new dup of two lies in the frames.
 use Rattle.std.proofs.Common.{inl, inr, ◌≡◌, ◌∙◌, ℕ, zero, suc, ◌+◌, ◌<◌, ◌≤◌, ◌≢◌, true, false, List, [], ◌∷◌, length, get_or, set, None, Some, refl, sym, ap, subst, arith}
-use Rattle.std.specs.Prelude.{Contains}
+use Rattle.std.specs.Prelude.{Contains, slice_index}
 use Rattle.std.proofs.lemmas.Bool.{cases_Bool, false≢true}
-use Rattle.std.proofs.lemmas.List.{get_or-set_same, get_or-set_other, length-set}
+use Rattle.std.proofs.lemmas.List.{get_or-set_same, get_or-set_other, length-set, set-get_or}
 use Rattle.ksm_base.specs.declared.page.GuestPage.{GuestPage}
 use Rattle.ksm_base.specs.declared.row.PageState.TheVariants.{Merged}
 use Rattle.ksm_base.specs.declared.row.Row.{Row}
@@ -72,6 +72,14 @@ module _ (v w : Listed) (old row : Row) (f g : ℕ) (at : StandsAt v row.page ol
       elsewhere e =
           let one : row.page ≡ other.page = sym same_page_there ∙ ap (λ n. (get_or v.rows n no_row).page) (sym e) ∙ ap (λ (r : Row). r.page) there.row_is in
           false≢true (sym apart ∙ ap (same_page row.page) (sym one) ∙ same_page_refl row.page)
+
+-- two rows were replaced, and the first stays on its frame: the second alone comes to lie on another
+pub both_frames : (v w : Listed) (old r s : Row) (f : ℕ) (at : StandsAt v r.page old f) (both : ReplacedBoth v w r s f)
+    → w.frames ≡ set v.frames (rank s.page v.rows) (slice_index v.frames (rank r.page v.rows))
+both_frames v w old r s f at both =
+    let there = at.frame_is in
+    both.second.frames ∙ (λ t. set ((both.first.frames ∙ ap (set v.frames (rank r.page v.rows)) (sym there) ∙ set-get_or v.frames (rank r.page v.rows) 0) t)
+    (same_rank v both.between old r f f at both.first s.page t) (sym there t))
 
 -- a new dup of two rows stands on the frame of the first
 module _ (p : PagesView) (k : KeeperView) (h : IsLaid p.shape p.listed p.dups p.knobs p.next k) (now : Lay) (seen : lay_of p k ≡ now) (place : ℕ) (first second : Row)

@@ -24,7 +24,7 @@ use Rattle.frame_core.specs.Ledger.{frame_at, named_at}
 use Rattle.frame_table.specs.Named.{KeeperView}
 use Rattle.ksm_book.specs.Lawful.{LieLawfully}
 use Rattle.ksm_book.specs.Placement.{row_in, no_row, uses, kind_for, FitsBase, life_or, place_frame, place_life, IsInLife, Placed}
-use Rattle.ksm_book.specs.Promised.{own_frames, dup_frames, is_in_use, HasItsOwn, StandsOn, IsOutlived, LieOn, LiesInFrames}
+use Rattle.ksm_book.specs.Promised.{own_frames, dup_frames, is_in_use, HasItsOwn, StandsOn, IsOutlived, LieOn}
 use Rattle.ksm_book.proofs.Laying.{own_kind}
 use Rattle.ksm_book.proofs.Moves.{base_is_items, stale_is_loose, uses_some}
 use Rattle.ksm_book.proofs.Standing.{Lives, frames_apart, lives}
@@ -272,5 +272,5 @@ module _ (b : BookState) (k : Ledger) (s : IsSound b) (frames : List ℕ) (p : P
     empty = p.empty;
   }
 
-pub lies_in_frames : (b : BookState) (k : KeeperView) → IsSound b → LieLawfully b k → LiesInFrames b k
-lies_in_frames b k s lies = (lies.0, lie_on b k.ledger s lies.0 lies.1)
+pub lies_on : (b : BookState) (frames : List ℕ) (k : KeeperView) → IsSound b → LieLawfully b frames k → LieOn b frames k.ledger
+lies_on b frames k s lies = lie_on b k.ledger s frames lies

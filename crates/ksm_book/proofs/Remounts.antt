@@ -31,16 +31,18 @@ use Rattle.frame_table.specs.Named.{KeeperView}
 use Rattle.frame_table.specs.Kept.{did}
 use Rattle.ksm_book.specs.Placement.{node_of, kind_for, life_or, place_frame, IsInLife, Agrees, DupFits, Placed}
 use Rattle.ksm_book.specs.Keeping.{past_lives, spent_on, spent}
-use Rattle.ksm_book.specs.Laid.{Lay, IsLaid, state_of, lay_of}
+use Rattle.ksm_book.specs.Commands.{Finds, Moves, FindsHeld, dup_frame, frame_found, mounting}
+use Rattle.ksm_book.specs.Laid.{Lay, IsLaid, state_of, lay_of, mapped_lay}
 use Rattle.ksm_book.specs.Linked.{PagesView}
 use Rattle.ksm_book.specs.Listed.{Listed, rank, StandsAt, instead}
 use Rattle.ksm_book.specs.Mounted.{FoundFree, Mounted}
-use Rattle.ksm_book.specs.Steps.{Log, Did, IsLowestFree, free_kind}
+use Rattle.ksm_book.specs.Steps.{Log, Did, Made, IsLowestFree, free_kind}
 use Rattle.ksm_book.specs.Whole.{HasLost, HasMoved}
 use Rattle.ksm_book.proofs.Filling.{at_again, node_end, on_node}
 use Rattle.ksm_book.proofs.Keeping.{spent_set}
 use Rattle.ksm_book.proofs.Laying.{kept, shape_same}
 use Rattle.ksm_book.proofs.Logs.{chained, one_step}
+use Rattle.ksm_book.proofs.Made.{made_one}
 use Rattle.ksm_book.proofs.Moves.{Serves, base_is_items}
 use Rattle.ksm_book.proofs.Remounted.{remounted}
 
@@ -144,6 +146,10 @@ module _ (pages : PagesView) (k : KeeperView) (h : IsLaid pages.shape pages.list
       is_item : merged_into dup.number item.state ≡ true
       is_item = subst (λ (x : Row). merged_into dup.number x.state ≡ true) (same_Some _ _ (sym first_known ∙ at.found)) (find_passes by_item v.rows first (sym searched))
 
+      -- the frame of the dup is its first item's
+      dup_frame_is : dup_frame v dup.number ≡ g
+      dup_frame_is = ap (frame_found v) (sym searched) ∙ at.frame_is
+
       -- once the dying frames were reaped
       module _ (w : KeeperView) (same : w.table ≡ k.table) (node f : ℕ) (less' : node < now.shape.nodes) (home' : now.knobs.merge_across_nodes ≡ 0 → node ≡ dup.tree) (free : FoundFree k w node f) where
         less : node < sh.nodes
@@ -171,6 +177,9 @@ module _ (pages : PagesView) (k : KeeperView) (h : IsLaid pages.shape pages.list
         base = ap (λ x. (frame_at w.ledger x).base) on_frame.0
             ∙ find_all test (λ d. IsInLife w.ledger d.place → (frame_at w.ledger (place_frame w.ledger d.place)).base ≡ item_count v.rows d) dups dup live
             (λ i d lt. base_is_items sh across w.ledger v.rows v.frames dups p i d lt) on_frame.1
+
+        bytes : n.content ≡ dup.bytes
+        bytes = ap (λ x. (frame_at w.ledger x).content) on_frame.0 ∙ (find_all test (DupFits sh across w.ledger) dups dup live p.each_dup).content on_frame.1
 
         shape_is : w.table.shape ≡ sh
         shape_is = shape_same sh k w h.same same
@@ -204,6 +213,9 @@ module _ (pages : PagesView) (k : KeeperView) (h : IsLaid pages.shape pages.list
           so_far : Did k u [] part
           so_far = chained k w u [] [] free.reaped.part ((Freeze g, found) ∷ []) free.reaped.did tried
 
+          by_freeze : Made w u (Freeze g ∷ [])
+          by_freeze = made_one w u (Freeze g) found freezes
+
           table_is : u.table ≡ w.table
           table_is = ap (λ (z : KeeperView). z.table) freezes
 
@@ -220,6 +232,16 @@ module _ (pages : PagesView) (k : KeeperView) (h : IsLaid pages.shape pages.list
               found = found;
               tried = Contains-push free.reaped.part (Freeze g, found);
               other = λ e. other (e ∙ ap (λ (z : Ledger). (frame_at z g).base) still);
+            })
+
+            pub found_held : Finds k w node f → FindsHeld (mapped_lay now) (mapped_lay (lay_of pages u)) dup node
+            found_held found = subst (λ (x : Lay). FindsHeld (mapped_lay x) (mapped_lay (lay_of pages u)) dup node) is (record {
+              frame = f;
+              searched = w;
+              finds = found;
+              freezes = subst (λ x. Made w u (Freeze x ∷ [])) (sym dup_frame_is) by_freeze;
+              kept = ap (λ x. (frame_at u.ledger x).kind) dup_frame_is ∙ ap (λ (z : Ledger). (frame_at z g).kind) still ∙ stable;
+              frames = refl;
             })
 
             pub laid_lost : IsLaid sh v dups knobs next u
@@ -297,6 +319,20 @@ module _ (pages : PagesView) (k : KeeperView) (h : IsLaid pages.shape pages.list
                     raised = Contains-append_right part mounted.part _ mounted.raised;
                     published = Contains-append_right part mounted.part _ mounted.published;
                   })
+
+              pub moves : Finds k w node f → Made u x (mounting g f dup.place n.base (frame_at u.ledger g).content) → (pages' : PagesView)
+                  → pages'.listed.frames ≡ map (instead g f) v.frames → Moves (mapped_lay now) (mapped_lay (lay_of pages' x)) dup node
+              moves found mounts pages' frames = subst (λ (y : Lay). Moves (mapped_lay y) (mapped_lay (lay_of pages' x)) dup node) is (record {
+                frame = f;
+                searched = w;
+                finds = found;
+                frozen = u;
+                freezes = subst (λ y. Made w u (Freeze y ∷ [])) (sym dup_frame_is) by_freeze;
+                exchanged = ap (λ y. (frame_at u.ledger y).kind) dup_frame_is ∙ mount_dying;
+                mounts = subst (λ (z : ℕ × ℕ × List ℕ). Made u x (mounting z.0 f dup.place z.1 z.2))
+                    (λ t. (sym dup_frame_is t, base t, (ap (λ (y : Note). y.content) at_g ∙ bytes) t)) mounts;
+                frames = frames ∙ ap (λ y. map (instead y f) v.frames) (sym dup_frame_is);
+              })
 
               abbrev full : Note
               full = record { kind = Stable; base = n.base; generation = (frame_at w.ledger f).generation + 1; content = n.content }

@@ -173,19 +173,19 @@ found_at test (x ∷ xs) r found = elim (cases_Bool (test x)) [
 ]
 
 -- so the waiting page leaves a place for the dup that is made of it
-pub partner_finds_place : (lay : Lay) (cursor : Option GuestPage) (passes : ℕ) (row w : Row) → IsSound (state_of lay cursor passes) → partner lay.knobs lay.rows row ≡ Some w → LieLawfully (state_of lay cursor passes) lay.keeper
+pub partner_finds_place : (lay : Lay) (cursor : Option GuestPage) (passes : ℕ) (row w : Row) → IsSound (state_of lay cursor passes) → partner lay.knobs lay.rows row ≡ Some w → LieLawfully (state_of lay cursor passes) lay.frames lay.keeper
     → new_place (place_count lay.shape) lay.rows lay.dups < place_count lay.shape
 partner_finds_place lay cursor passes row w s waits lies =
     let test = waits_for lay.knobs row in
     let at = found_at test lay.rows w waits in
     let tells = waits_tells lay.knobs row w (find_passes test lay.rows w waits) in
-    finds_place lay.shape lay.knobs.merge_across_nodes lay.keeper.ledger lay.rows lies.0 lay.dups lies.1 s.dups_rise at.0 at.1
+    finds_place lay.shape lay.knobs.merge_across_nodes lay.keeper.ledger lay.rows lay.frames lay.dups lies s.dups_rise at.0 at.1
     (ap (λ (r : Row). merged_state r.state) at.2 ∙ waiting_is_alone w.state tells.state)
 
 -- and so does each page with a frame of its own
-pub finds_places : (b : BookState) (k : KeeperView) → IsSound b → LieLawfully b k → FindsPlace b
-finds_places b k s lies row in_rows alone =
-    finds_place b.shape b.knobs.merge_across_nodes k.ledger b.rows lies.0 b.dups lies.1 s.dups_rise in_rows.0 in_rows.1
+pub finds_places : (b : BookState) (frames : List ℕ) (k : KeeperView) → IsSound b → LieLawfully b frames k → FindsPlace b
+finds_places b frames k s lies row in_rows alone =
+    finds_place b.shape b.knobs.merge_across_nodes k.ledger b.rows frames b.dups lies s.dups_rise in_rows.0 in_rows.1
     (ap (λ (r : Row). merged_state r.state) (sym (get_or_default b.rows in_rows.0 row no_row in_rows.1) ∙ in_rows.2) ∙ alone)
 
 -- no number reaches that of the next dup

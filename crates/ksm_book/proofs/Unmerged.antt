@@ -262,7 +262,7 @@ none_left guest stop rows now made = subst (All (λ r. reached guest stop r ≡ 
         by false h = h refl
 
 pub unmerged_state : (guest : ℕ) (lay mid new : Lay) (k : ℕ) (stop : Option Row) (cursor : Option GuestPage) (passes : ℕ) → InPageOrder lay.rows
-    → mid ≡ record lay { rows = first_changed (is_merged_of (Some guest)) unshared k lay.rows; keeper = mid.keeper }
+    → mid ≡ record lay { rows = first_changed (is_merged_of (Some guest)) unshared k lay.rows; frames = mid.frames; keeper = mid.keeper }
     → IsStop (filter (is_merged_of (Some guest)) lay.rows) k stop
     → new ≡ record mid { rows = change_rows (reached guest stop) let_go mid.rows }
     → state_of new cursor passes ≡ record (state_of lay cursor passes) { rows = change_rows (λ r. is_of guest r && is_before (slice_get (filter (is_merged_of (Some guest)) lay.rows) k) r) let_go lay.rows }
@@ -303,7 +303,7 @@ all_unshared rows now k rise made = made ∙ all_before (is_merged_of None) unsh
 
 -- where it stopped
 pub stopped_state : (lay mid new : Lay) (k : ℕ) (knobs : Knobs) (cursor : Option GuestPage) (passes : ℕ) → InPageOrder lay.rows
-    → mid ≡ record lay { rows = first_changed (is_merged_of None) unshared k lay.rows; keeper = mid.keeper }
+    → mid ≡ record lay { rows = first_changed (is_merged_of None) unshared k lay.rows; frames = mid.frames; keeper = mid.keeper }
     → knobs ≡ mid.knobs → new ≡ record mid { knobs = record knobs { run = 0 } }
     → state_of new cursor passes ≡ record (state_of lay cursor passes) { rows = unshared_before k lay.rows; knobs = record lay.knobs { run = 0 } }
 stopped_state lay mid new k knobs cursor passes rise made same set =
@@ -322,7 +322,7 @@ unshared_twice test (r ∷ rows) = by (test r) (unshared_twice test rows)
 
 -- where it went through
 pub ended_state : (lay mid wide new : Lay) (k : ℕ) (knobs : Knobs) (cursor : Option GuestPage) (passes : ℕ) → InPageOrder lay.rows
-    → mid ≡ record lay { rows = first_changed (is_merged_of None) unshared k lay.rows; keeper = mid.keeper }
+    → mid ≡ record lay { rows = first_changed (is_merged_of None) unshared k lay.rows; frames = mid.frames; keeper = mid.keeper }
     → knobs ≡ mid.knobs → wide ≡ record mid { rows = map unshared mid.rows } → new ≡ record wide { knobs = record knobs { run = 2 } }
     → state_of new None passes ≡ record (state_of lay cursor passes) { rows = map unshared lay.rows; cursor = None; knobs = record lay.knobs { run = 2 } }
 ended_state lay mid wide new k knobs cursor passes rise made same alone set =

@@ -25,6 +25,7 @@ use Rattle.ksm_base.proofs.SoundScan.{next_row_visited}
 use Rattle.ksm_base.proofs.SoundPair.{IsFree, new_place_free, next_is_new, IsPair, partner_pairs, WaitsFor, waits_tells}
 use Rattle.ksm_base.proofs.SoundCounts.{joined_count}
 use Rattle.ksm_base.proofs.Pages.{same_page_eq}
+use Rattle.ksm_book.specs.Commands.{idle, handling, row_visiting}
 use Rattle.ksm_book.specs.Laid.{Lay, Joins, Founds, new_dup, state_of}
 use Rattle.ksm_book.proofs.Found.{change_known}
 
@@ -211,3 +212,9 @@ visited_by b row o alone best = ap (λ m. if m then b else handled (best_dup b.k
 
 pub marked_by : (b : BookState) (row : Row) → row.unchanged ≡ false → handled None b row ≡ record b { rows = change_row row.page (λ r. record r { unchanged = true; state = Private }) b.rows }
 marked_by b row changed = ap (λ u. if u then paired (partner b.knobs b.rows row) b row else record b { rows = change_row row.page (λ r. record r { unchanged = true; state = Private }) b.rows }) changed
+
+-- the same of what is done with the frames
+pub visiting_by : (b : BookState) (frames : List ℕ) (row : Row) (o : Option DupRow) → merged_state row.state ≡ false
+    → best_dup b.knobs b.rows b.dups row ≡ o → row_visiting b frames row ≡ handling o b frames row
+visiting_by b frames row o alone best = ap (λ m. if m then idle frames else handling (best_dup b.knobs b.rows b.dups row) b frames row) alone
+    ∙ ap (λ x. handling x b frames row) best

@@ -1,7 +1,9 @@
 -- Rows, dups and knobs, as they lie in the keeper's frames (own).
-use Rattle.std.specs.Prelude.{◌≡◌, ℕ, ◌+◌, ◌<◌, ◌≤◌, Bool, true, false, List, [], ◌∷◌, All, Contains, Option, None, Some, MatchBool, MatchOption, ◌⊎◌}
+use Rattle.std.specs.Prelude.{◌≡◌, ℕ, ◌+◌, ◌<◌, ◌≤◌, Bool, true, false, List, [], ◌∷◌, All, Contains, Option, None, Some, Result, Ok, Err, MatchBool, MatchOption, ◌⊎◌}
 use Rattle.ksm_base.specs.declared.shape.Shape.{Shape}
 use Rattle.ksm_base.specs.declared.knobs.Knobs.{Knobs}
+use Rattle.ksm_base.specs.declared.fault.Fault.{Fault}
+use Rattle.ksm_base.specs.declared.fault.Fault.TheVariants.{NoFrame, InUse}
 use Rattle.ksm_base.specs.declared.page.GuestPage.{GuestPage}
 use Rattle.ksm_base.specs.declared.row.PageState.TheVariants.{Merged}
 use Rattle.ksm_base.specs.declared.row.Row.{Row}
@@ -11,15 +13,17 @@ use Rattle.ksm_base.specs.State.{BookState}
 use Rattle.ksm_base.specs.Values.{IsShape, frames_of}
 use Rattle.frame_table.specs.Named.{KeeperView}
 use Rattle.ksm_book.specs.Placement.{Placed}
-use Rattle.ksm_book.specs.Steps.{Does, Did, puts, loads}
+use Rattle.ksm_book.specs.Steps.{Does, Did, loads}
+use Rattle.ksm_book.specs.Commands.{Mapped, Admits, Resettles, TurnsAway, Moves, FindsHeld}
 use Rattle.ksm_book.specs.Keeping.{spent, NoneLeft}
 use Rattle.ksm_book.specs.Linked.{PagesView, IsVacant, dup_of_row}
 use Rattle.ksm_book.specs.Listed.{Listed}
 
--- the rows and dups, the knobs, the number of the next dup, and the keeper of the frames
+-- the rows, the frame of each, the dups, the knobs, the number of the next dup, and the keeper of the frames
 pub record Lay : Type 0 where
   pub shape : Shape
   pub rows : List Row
+  pub frames : List ℕ
   pub dups : List DupRow
   pub knobs : Knobs
   pub next : ℕ
@@ -27,7 +31,11 @@ pub record Lay : Type 0 where
 
 -- the pages as they lie in the keeper's frames
 abbrev pub lay_of : PagesView → KeeperView → Lay
-lay_of p k = record { shape = p.shape; rows = p.listed.rows; dups = p.dups; knobs = p.knobs; next = p.next; keeper = k }
+lay_of p k = record { shape = p.shape; rows = p.listed.rows; frames = p.listed.frames; dups = p.dups; knobs = p.knobs; next = p.next; keeper = k }
+
+-- its rows with their frames, and the keeper
+abbrev pub mapped_lay : Lay → Mapped
+mapped_lay lay = record { listed = record { rows = lay.rows; frames = lay.frames }; keeper = lay.keeper }
 
 -- the state of the book, by its layout, the cursor and the passes ended
 abbrev pub state_of : Lay → Option GuestPage → ℕ → BookState
@@ -42,7 +50,7 @@ pub record IsLaid (shape : Shape) (listed : Listed) (dups : List DupRow) (knobs 
 
 -- a row got a frame of its home, with these rows after it
 pub record Housed (old new : Lay) (row : Row) (after : List Row) : Type 0 where
-  pub state : new ≡ record old { rows = after; keeper = new.keeper }
+  pub state : new ≡ record old { rows = after; frames = new.frames; keeper = new.keeper }
   pub does : Does old.keeper new.keeper (row.home ∷ [])
 
 -- no frame of the row's home was left, and nothing changed
@@ -92,10 +100,21 @@ pub record Founds (lay : Lay) (place : ℕ) (row : Row) : Type 0 where
   pub numbers : All (λ d. d.number < lay.next) lay.dups
   pub fresh : All (λ r. merged_into lay.next r.state ≡ false) lay.rows
 
--- the keeper stored the bytes to a frame, each word once
-abbrev pub Stores : KeeperView → KeeperView → List ℕ → Type 0
-Stores v w bytes = (f : ℕ) × Did v w [] (puts f 0 bytes)
+-- a row got a frame of its home and came to lie on it, or was turned away
+abbrev pub IsAdmitted : Lay → Lay → Row → Bool → Type 0
+IsAdmitted old new row got = MatchBool got (Admits (mapped_lay old) (mapped_lay new) row) (TurnsAway (mapped_lay old) (mapped_lay new) row.home)
 
--- the keeper loaded the bytes from a frame, each word once, if there was a page to read
-abbrev pub LoadsIf : Option (List ℕ) → KeeperView → KeeperView → Type 0
-LoadsIf bytes v w = MatchOption bytes (w ≡ v) (λ b. (f : ℕ) × Did v w [] (loads f 0 b))
+-- the page of a row got a frame of the row's home in the stead of its own, or was turned away
+abbrev pub IsResettled : Lay → Lay → Row → Bool → Type 0
+IsResettled old new row got = MatchBool got (Resettles (mapped_lay old) (mapped_lay new) row) (TurnsAway (mapped_lay old) (mapped_lay new) row.home)
+
+-- a dup moved to a frame of the node; or none was free; or a reader holds its frame
+abbrev pub MovesOr : {X : Type 0} → Lay → Lay → DupRow → ℕ → Result X Fault → Type 0
+MovesOr old new dup node (Ok moved) = Moves (mapped_lay old) (mapped_lay new) dup node
+MovesOr old new dup node (Err (NoFrame n)) = TurnsAway (mapped_lay old) (mapped_lay new) n
+MovesOr old new dup node (Err InUse) = FindsHeld (mapped_lay old) (mapped_lay new) dup node
+MovesOr old new dup node (Err fault) = ⊥
+
+-- the keeper loaded the bytes from the frame, each word once, if there was a page to read
+abbrev pub LoadsIf : ℕ → Option (List ℕ) → KeeperView → KeeperView → Type 0
+LoadsIf frame bytes v w = MatchOption bytes (w ≡ v) (λ b. Did v w [] (loads frame 0 b))

@@ -9,6 +9,6 @@ use Rattle.frame_core.specs.Ledger.{frame_at}
 use Rattle.frame_table.specs.Named.{KeeperView}
 use Rattle.ksm_book.specs.Placement.{Placed, node_of}
 
--- there is a frame for each row, and with these frames rows and dups lie lawfully in what the keeper knows
-abbrev pub LieLawfully : BookState → KeeperView → Type 0
-LieLawfully b k = (frames : List ℕ) × Placed b.shape b.knobs.merge_across_nodes k.ledger b.rows frames b.dups None
+-- rows, each with its frame, and dups lie lawfully in what the keeper knows
+abbrev pub LieLawfully : BookState → List ℕ → KeeperView → Type 0
+LieLawfully b frames k = Placed b.shape b.knobs.merge_across_nodes k.ledger b.rows frames b.dups None

@@ -1,12 +1,14 @@
 pub mod Placement
 pub mod Steps
-pub mod Keeping
 pub mod Listed
+pub mod Commands
+pub mod Keeping
 pub mod Linked
 pub mod RowEntries
 pub mod Plain
 pub mod Laid
 pub mod Whole
+pub mod Carried
 pub mod Unmerged
 pub mod Mounted
 pub mod Lawful

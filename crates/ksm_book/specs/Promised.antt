@@ -13,7 +13,6 @@ use Rattle.frame_core.specs.declared.frame.Kind.TheVariants.{Free, Filling, Priv
 use Rattle.frame_core.specs.declared.ledger.Ledger.{Ledger}
 use Rattle.frame_core.specs.declared.seat.Life.{Life}
 use Rattle.frame_core.specs.Ledger.{frame_at, named_at}
-use Rattle.frame_table.specs.Named.{KeeperView}
 use Rattle.ksm_book.specs.Placement.{node_of, place_frame}
 
 -- the frames of the rows that are not merged, where each row has one of these frames, in order
@@ -77,10 +76,6 @@ pub record LieOn (b : BookState) (frames : List ℕ) (k : Ledger) : Type 0 where
   pub places : All (λ d. d.place < place_count b.shape) b.dups
   pub stale : All (λ d. has_items b.rows d ≡ false → IsOutlived k d.place) b.dups
   pub empty : (p : ℕ) → All (λ d. d.place ≢ p) b.dups → named_at k p ≡ None
-
--- there is a frame for each row, on which the book lies lawfully
-abbrev pub LiesInFrames : BookState → KeeperView → Type 0
-LiesInFrames b k = (frames : List ℕ) × LieOn b frames k.ledger
 
 -- beside a page with a frame of its own a new dup finds one of the places
 abbrev pub FindsPlace : BookState → Type 0

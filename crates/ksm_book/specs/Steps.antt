@@ -1,5 +1,6 @@
 -- The part of its log that the keeper adds in a call, and the frames that it gives in it (own).
-use Rattle.std.specs.Prelude.{◌≡◌, ℕ, ◌+◌, ◌*◌, ◌<◌, ◌≤◌, Bool, true, false, List, [], ◌∷◌, ◌++◌, Option, Some, None}
+use Rattle.std.specs.Prelude.{◌≡◌, ℕ, ◌+◌, ◌*◌, ◌<◌, ◌≤◌, Bool, true, false, List, [], ◌∷◌, ◌++◌, map, filter, Option, Some, None}
+use Rattle.std.specs.List.{range_with_len}
 use Rattle.ksm_base.specs.declared.shape.Shape.{Shape}
 use Rattle.frame_core.specs.declared.event.KeeperStep.{KeeperStep}
 use Rattle.frame_core.specs.declared.event.KeeperStep.TheVariants.{Raise, Put, Word}
@@ -25,6 +26,28 @@ dying_kind _ = false
 abbrev pub replayed : Shape → Ledger → Log → Ledger
 replayed sh k [] = k
 replayed sh k (e ∷ es) = replayed sh (ledger_after sh k e.0 e.1) es
+
+-- the steps alone, without the words that they found
+abbrev pub steps_of : Log → List KeeperStep
+steps_of part = map (λ e. e.0) part
+
+-- the keeper once it has made these steps
+abbrev pub stepped : KeeperView → Log → KeeperView
+stepped v part = record { table = v.table; ledger = replayed v.table.shape v.ledger part; log = v.log ++ part }
+
+-- the keeper went from v to w by these steps in this order, and by no others
+pub record Made (v w : KeeperView) (steps : List KeeperStep) : Type 0 where
+  pub part : Log
+  pub after : w ≡ stepped v part
+  pub are : steps_of part ≡ steps
+
+-- the dying ones of so many frames from low on, ascending
+abbrev pub dying_from : Ledger → ℕ → ℕ → List ℕ
+dying_from k low count = filter (λ f. dying_kind (frame_at k f).kind) (range_with_len low count)
+
+-- the dying frames of a node, ascending
+abbrev pub dying_on : Shape → Ledger → ℕ → List ℕ
+dying_on sh k node = dying_from k (node * sh.frames_per_node) sh.frames_per_node
 
 -- no frame of the node is free
 abbrev pub HasNoFree : Shape → Ledger → ℕ → Type 0

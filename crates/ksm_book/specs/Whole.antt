@@ -12,12 +12,23 @@ use Rattle.frame_core.specs.State.{count_in}
 use Rattle.frame_core.specs.Ledger.{frame_at}
 use Rattle.frame_table.specs.Named.{KeeperView}
 use Rattle.ksm_book.specs.Steps.{Log, Did, Does}
+use Rattle.ksm_book.specs.Commands.{Mapped, listed_in}
 use Rattle.ksm_book.specs.Keeping.{NoneLeft}
+use Rattle.ksm_book.specs.Listed.{Listed}
 
--- what is seen of the book: its state, and the keeper
+-- what is seen of the book: its state, the frame of each row, in the order of the rows, and the keeper
 pub record BookView : Type 0 where
   pub state : BookState
+  pub frames : List ℕ
   pub keeper : KeeperView
+
+-- the rows with their frames
+abbrev pub rows_in : BookView → Listed
+rows_in v = listed_in v.state v.frames
+
+-- the rows with their frames, and the keeper
+abbrev pub mapped : BookView → Mapped
+mapped v = record { listed = rows_in v; keeper = v.keeper }
 
 abbrev pub listed : Option ℕ → List ℕ
 listed None = []

@@ -11,12 +11,11 @@ ghost use Rattle.ksm_base.specs.State.{opening};
 ghost use Rattle.ksm_base.specs.Values.{IsShape};
 ghost use Rattle.frame_core.specs.Ledger.{first_ledger};
 ghost use Rattle.ksm_book.specs.Carried.{CarriedOut, unjournaled};
+ghost use Rattle.ksm_book.specs.Commands.{frame_of, listed_in};
 ghost use Rattle.ksm_book.specs.Laid.{LoadsIf};
 ghost use Rattle.ksm_base.specs.Sound.{IsSound};
 ghost use Rattle.ksm_book.specs.Keeping.{spent};
-ghost use Rattle.ksm_book.specs.Promised.{FindsPlace, LiesInFrames, NumbersAreSmall};
-ghost use Rattle.ksm_book.specs.Steps.{Does};
-ghost use Rattle.ksm_book.specs.Whole.{nodes_got, HasShown};
+ghost use Rattle.ksm_book.specs.Promised.{FindsPlace, LieOn, NumbersAreSmall};
 
 use crate::journal::Journal;
 use crate::state::State;
@@ -30,7 +29,7 @@ use std::alloc::Global;
 use std::marker::Model;
 
 /// The pages of the guests and the dups into which they are merged, in the frames of a keeper, with the journal of all commands. Contracts
-/// see the state of the book, the keeper, and the entries of the journal.
+/// see the state of the book, the frame of each page, the keeper, and the entries of the journal.
 ///
 /// The journal is legal: it leads from the opening book to the state as it is.
 pub struct Book {
@@ -44,7 +43,7 @@ impl Model for Book {
 
     ghost Value = { JournaledBook };
 
-    ghost view = { λ b. record { state = b.state.state; keeper = b.state.keeper; journal = b.journal.entries } };
+    ghost view = { λ b. record { state = b.state.state; frames = b.state.frames; keeper = b.state.keeper; journal = b.journal.entries } };
 
     ghost invariant = { λ b. IsLegal b.state.keeper.table.shape b.journal.entries b.state.state };
 }
@@ -55,7 +54,7 @@ impl Book {
         requires shape { IsShape shape }
         requires same { keeper.table.shape ≡ shape }
         requires new { keeper.ledger ≡ first_ledger shape }
-        ensures opened { IfOk result (λ b. b ≡ record { state = opening shape; keeper = keeper; journal = [] }) }
+        ensures opened { IfOk result (λ b. b ≡ record { state = opening shape; frames = []; keeper = keeper; journal = [] }) }
         ensures refused { IfErr result (λ e. (e.0 ≡ keeper) × (e.1 ≡ Fault.Memory)) }
     {
         Ok(Book {
@@ -65,7 +64,8 @@ impl Book {
     }
 
     /// Does a command: a step of the book, and an entry of the journal. `Err` is a refusal, and changes no page, dup or knob.
-    /// `Fault::Memory` may come in place of any answer; then the keeper has given no frame, and there is no entry.
+    /// `Fault::Memory` may come in place of any answer; then no step was made on a frame, and there is no entry. The steps that it makes on
+    /// the frames are told by its answer, and so is the frame on which each page lies then.
     pub fn apply(&mut self, table: &FrameTable, command: Command) -> Result<Reply, Fault>
         requires own { self.old.keeper.table ≡ table.now }
         ensures answer { IsAnswerOrMemory self.old.state command result }
@@ -93,7 +93,7 @@ impl Book {
     /// A law, which costs nothing to call: what is true of the book and of its frames whenever no call is under way.
     pub fn lies_lawfully(&self)
         ensures sound { IsSound self.now.state }
-        ensures placed { LiesInFrames self.now.state self.now.keeper }
+        ensures placed { LieOn self.now.state self.now.frames self.now.keeper.ledger }
         ensures place { FindsPlace self.now.state }
         ensures lives { self.now.state.next ≤ spent self.now.keeper.ledger }
         ensures numbers { NumbersAreSmall self.now.state }
@@ -111,8 +111,9 @@ impl Book {
         ensures bytes { result ≡ bytes_of page self.old.state }
         ensures stored { IfSome result (λ bytes. last_stored page self.old.journal ≡ Some bytes) }
         ensures state { self.new.state ≡ self.old.state }
+        ensures frames { self.new.frames ≡ self.old.frames }
         ensures journal { self.new.journal ≡ self.old.journal }
-        ensures loads { LoadsIf result self.old.keeper self.new.keeper }
+        ensures loads { LoadsIf (frame_of (listed_in self.old.state self.old.frames) page) result self.old.keeper self.new.keeper }
     {
         each_page_has_what_was_stored_last();
         self.state.read(table, page)
@@ -166,11 +167,7 @@ impl Book {
 /// Does a command on the state.
 fn carry_out(state: &mut State, table: &FrameTable, command: Command) -> Result<Reply, Fault>
     requires own { state.old.keeper.table ≡ table.now }
-    ensures own { state.new.keeper.table ≡ state.old.keeper.table }
-    ensures answer { IsAnswerOrMemory state.old.state command result }
-    ensures state { state.new.state ≡ after state.old.state command result }
-    ensures frames { Does state.old.keeper state.new.keeper (nodes_got state.old.state result command) }
-    ensures shown { HasShown state.old.state state.old.keeper state.new.keeper result command }
+    ensures { CarriedOut state.old state.new command result }
 {
     match command {
         Command::Register { page, node, bytes } => state.register(table, page, node, bytes),

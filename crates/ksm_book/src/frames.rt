@@ -1,13 +1,13 @@
 //! What the book has the keeper do with frames: find one and fill it, write it and read it, share it and give it back.
 
-ghost use Rattle.std.specs.Prelude.{◌≡◌, ◌<◌, ◌≤◌, ◌+◌, ◌*◌, ℕ, false, None, Some, MatchOption, [], ◌∷◌, length, slice_set, Option};
+ghost use Rattle.std.specs.Prelude.{◌≡◌, ◌<◌, ◌≤◌, ◌+◌, ◌*◌, false, None, Some, MatchOption, [], ◌∷◌, length, map, slice_set, Option, if◌then◌else◌};
 ghost use Rattle.ksm_base.specs.declared.page.TheConstants.{PAGE_WORDS as WORDS};
 ghost use Rattle.ksm_base.specs.Values.{frames_of, IsShape};
-ghost use Rattle.frame_core.specs.declared.event.KeeperStep.TheVariants.{Raise, Open, Sub, Add};
-ghost use Rattle.frame_core.specs.declared.frame.Kind.TheVariants.{Free as FreeKind, Stable as StableKind};
+ghost use Rattle.frame_core.specs.declared.event.KeeperStep.TheVariants.{Reap, Sub, Add, Withdraw};
+ghost use Rattle.frame_core.specs.declared.frame.Kind.TheVariants.{Stable as StableKind};
 ghost use Rattle.frame_core.specs.Ledger.{frame_at, named_at, IsLoose, IsReadable, IsWritable};
-ghost use Rattle.frame_table.specs.Kept.{did};
-ghost use Rattle.ksm_book.specs.Steps.{free_kind, dying_kind, HasNoFree, IsLowestFree, Does};
+ghost use Rattle.ksm_book.specs.Steps.{free_kind, dying_kind, dying_from, HasNoFree, IsLowestFree, Does, Made};
+ghost use Rattle.ksm_book.specs.Commands.{FindsNone, Provides};
 ghost use Rattle.ksm_book.specs.Keeping.{Reaped, IsLawful, Sought, Took, Wrote, Loaded, Keeps, spent};
 
 use frame_core::Kind;
@@ -34,6 +34,7 @@ pub fn reap_node(keeper: &mut Keeper, table: &FrameTable, first: u32, count: u32
     requires lawful { IsLawful keeper.old None }
     ensures own { keeper.new.table ≡ keeper.old.table }
     ensures reaped { Reaped keeper.old keeper.new first count }
+    ensures made { Made keeper.old keeper.new (map Reap (dying_from keeper.old.ledger first count)) }
 {
     for i in 0..count {
         let frame = first + i;
@@ -106,6 +107,7 @@ pub fn take_frame(
     requires lawful { IsLawful keeper.old None }
     ensures own { keeper.new.table ≡ keeper.old.table }
     ensures took { MatchOption result (Sought keeper.old keeper.new node) (Took keeper.old keeper.new node bytes) }
+    ensures made { MatchOption result (FindsNone keeper.old keeper.new node) (Provides keeper.old keeper.new node bytes) }
 {
     reap_node(
         keeper,
@@ -128,6 +130,7 @@ pub fn release(keeper: &mut Keeper, table: &FrameTable, frame: u32)
     requires inside { frame < frames_of keeper.old.table.shape }
     requires lawful { IsLawful keeper.old (Some frame) }
     ensures own { keeper.new.table ≡ keeper.old.table }
+    ensures made { Made keeper.old keeper.new (Sub frame ∷ []) }
     ensures does { Does keeper.old keeper.new [] }
     ensures keeps { Keeps keeper.old keeper.new (Some frame) None }
     ensures spent { spent keeper.old.ledger ≤ spent keeper.new.ledger }
@@ -143,6 +146,7 @@ pub fn share(keeper: &mut Keeper, table: &FrameTable, frame: u32)
     requires stable { (frame_at keeper.old.ledger frame).kind ≡ StableKind }
     requires few { (frame_at keeper.old.ledger frame).base ≤ 1023 }
     ensures own { keeper.new.table ≡ keeper.old.table }
+    ensures made { Made keeper.old keeper.new (Add frame ∷ []) }
     ensures does { Does keeper.old keeper.new [] }
     ensures keeps { Keeps keeper.old keeper.new None (Some frame) }
     ensures spent { spent keeper.old.ledger ≤ spent keeper.new.ledger }
@@ -157,6 +161,7 @@ pub fn clear(keeper: &mut Keeper, table: &FrameTable, place: u32, taken: bool)
     requires loose { IsLoose keeper.old.ledger (named_at keeper.old.ledger place) }
     requires empty { taken ≡ false → named_at keeper.old.ledger place ≡ None }
     ensures own { keeper.new.table ≡ keeper.old.table }
+    ensures made { Made keeper.old keeper.new (if taken then Withdraw place ∷ [] else []) }
     ensures does { Does keeper.old keeper.new [] }
     ensures ledger { keeper.new.ledger ≡ record { frames = keeper.old.ledger.frames; places = slice_set keeper.old.ledger.places place None } }
 {

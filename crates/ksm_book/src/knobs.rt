@@ -1,11 +1,8 @@
 //! The commands that set a knob.
 
 ghost use Rattle.std.specs.Prelude.{◌≡◌};
-ghost use Rattle.ksm_base.specs.Answers.{IsAnswerOrMemory};
-ghost use Rattle.ksm_base.specs.Apply.{after};
 ghost use Rattle.ksm_base.specs.Refusals.{changes_while_shared};
-ghost use Rattle.ksm_book.specs.Steps.{Does};
-ghost use Rattle.ksm_book.specs.Whole.{nodes_got, HasShown};
+ghost use Rattle.ksm_book.specs.Carried.{CarriedOut};
 
 use crate::state::State;
 use frame_table::FrameTable;
@@ -14,11 +11,7 @@ use ksm_base::{Command, Fault, Knobs, Reply};
 impl State {
     /// Sets how many pages a scan visits.
     pub fn set_pages_to_scan(&mut self, pages: u32) -> Result<Reply, Fault>
-        ensures own { self.new.keeper.table ≡ self.old.keeper.table }
-        ensures answer { IsAnswerOrMemory self.old.state (Command.SetPagesToScan pages) result }
-        ensures state { self.new.state ≡ after self.old.state (Command.SetPagesToScan pages) result }
-        ensures frames { Does self.old.keeper self.new.keeper (nodes_got self.old.state result (Command.SetPagesToScan pages)) }
-        ensures shown { HasShown self.old.state self.old.keeper self.new.keeper result (Command.SetPagesToScan pages) }
+        ensures { CarriedOut self.old self.new (Command.SetPagesToScan pages) result }
     {
         if !(1..=1_000_000).contains(&pages) {
             return Err(Fault::BadValue);
@@ -41,11 +34,7 @@ impl State {
     /// Sets whether pages of different nodes may be merged.
     pub fn set_across(&mut self, table: &FrameTable, across: u32) -> Result<Reply, Fault>
         requires own { self.old.keeper.table ≡ table.now }
-        ensures own { self.new.keeper.table ≡ self.old.keeper.table }
-        ensures answer { IsAnswerOrMemory self.old.state (Command.SetAcross across) result }
-        ensures state { self.new.state ≡ after self.old.state (Command.SetAcross across) result }
-        ensures frames { Does self.old.keeper self.new.keeper (nodes_got self.old.state result (Command.SetAcross across)) }
-        ensures shown { HasShown self.old.state self.old.keeper self.new.keeper result (Command.SetAcross across) }
+        ensures { CarriedOut self.old self.new (Command.SetAcross across) result }
     {
         if across > 1 {
             return Err(Fault::BadValue);
@@ -69,11 +58,7 @@ impl State {
     /// Sets how many items a dup may have.
     pub fn set_limit(&mut self, table: &FrameTable, limit: u32) -> Result<Reply, Fault>
         requires own { self.old.keeper.table ≡ table.now }
-        ensures own { self.new.keeper.table ≡ self.old.keeper.table }
-        ensures answer { IsAnswerOrMemory self.old.state (Command.SetLimit limit) result }
-        ensures state { self.new.state ≡ after self.old.state (Command.SetLimit limit) result }
-        ensures frames { Does self.old.keeper self.new.keeper (nodes_got self.old.state result (Command.SetLimit limit)) }
-        ensures shown { HasShown self.old.state self.old.keeper self.new.keeper result (Command.SetLimit limit) }
+        ensures { CarriedOut self.old self.new (Command.SetLimit limit) result }
     {
         if !(2..=1024).contains(&limit) {
             return Err(Fault::BadValue);
@@ -96,11 +81,7 @@ impl State {
     /// Sets whether the scan stands (0) or runs (1), or unmerges all pages (2).
     pub fn set_run(&mut self, table: &FrameTable, run: u32) -> Result<Reply, Fault>
         requires own { self.old.keeper.table ≡ table.now }
-        ensures own { self.new.keeper.table ≡ self.old.keeper.table }
-        ensures answer { IsAnswerOrMemory self.old.state (Command.SetRun run) result }
-        ensures state { self.new.state ≡ after self.old.state (Command.SetRun run) result }
-        ensures frames { Does self.old.keeper self.new.keeper (nodes_got self.old.state result (Command.SetRun run)) }
-        ensures shown { HasShown self.old.state self.old.keeper self.new.keeper result (Command.SetRun run) }
+        ensures { CarriedOut self.old self.new (Command.SetRun run) result }
     {
         if run > 2 {
             return Err(Fault::BadValue);

@@ -3,7 +3,7 @@
 ghost use Rattle.std.specs.Prelude.{◌≡◌, ◌<◌, ◌≤◌, ◌+◌, ◌^◌, ◌⊎◌, [], true, false, None, Some, Err, All, count_by, filter, find, map, is_some, ◌==◌, ◌&&◌, option_map, OnOk, OnErr, IfOk, IfErr};
 ghost use Rattle.ksm_base.specs.declared.fault.Fault.TheVariants.{Memory};
 ghost use Rattle.ksm_base.specs.declared.row.PageState.TheVariants.{Private, Waiting, Merged};
-ghost use Rattle.ksm_base.specs.Rows.{row_at, with_row, with_dup, without_page, change_row, change_rows, merged_state, merged_into, waiting_state, same_page, settled, has_items, is_stale, dup_numbered};
+ghost use Rattle.ksm_base.specs.Rows.{row_at, with_row, without_page, change_row, change_rows, merged_state, merged_into, waiting_state, same_page, settled, has_items, is_stale, dup_numbered, InPlaceOrder};
 ghost use Rattle.ksm_base.specs.Counting.{counters_from, shared_count};
 ghost use Rattle.ksm_base.specs.Reading.{items_of};
 ghost use Rattle.ksm_base.specs.State.{default_knobs, place_count};
@@ -12,12 +12,13 @@ ghost use Rattle.ksm_base.specs.Apply.{is_before, let_go, unshared};
 ghost use Rattle.ksm_base.specs.Refusals.{is_of};
 ghost use Rattle.ksm_base.specs.Values.{IsShape, frames_of};
 ghost use Rattle.frame_core.specs.Ledger.{first_ledger};
-ghost use Rattle.ksm_book.specs.Laid.{IsHoused, Knows, IsOnItsOwn, LodgesAs, Joins, Founds, founded, Stores, LoadsIf};
+ghost use Rattle.ksm_book.specs.Laid.{IsHoused, IsAdmitted, IsResettled, Knows, IsOnItsOwn, LodgesAs, Joins, Founds, founded, LoadsIf, mapped_lay};
+ghost use Rattle.ksm_book.specs.Commands.{frame_of, Performs, rewriting, dismissing, joining, founding, withdrawing, pruning};
 ghost use Rattle.ksm_book.specs.Laid.{state_of};
 ghost use Rattle.ksm_book.specs.Linked.{IsVacant, elsewhere};
 ghost use Rattle.ksm_book.specs.Keeping.{spent};
 ghost use Rattle.ksm_book.specs.Lawful.{LieLawfully};
-ghost use Rattle.ksm_book.specs.Steps.{Does};
+ghost use Rattle.ksm_book.specs.Steps.{Does, Made};
 
 mod moving;
 
@@ -51,7 +52,7 @@ impl Layout {
         requires shape { IsShape shape }
         requires same { keeper.table.shape ≡ shape }
         requires new { keeper.ledger ≡ first_ledger shape }
-        ensures opened { IfOk result (λ l. l ≡ record { shape = shape; rows = []; dups = []; knobs = default_knobs; next = 0; keeper = keeper }) }
+        ensures opened { IfOk result (λ l. l ≡ record { shape = shape; rows = []; frames = []; dups = []; knobs = default_knobs; next = 0; keeper = keeper }) }
         ensures refused { IfErr result (λ e. (e.0 ≡ keeper) × (e.1 ≡ Memory)) }
     {
         match Pages::open(alloc, shape) {
@@ -73,7 +74,7 @@ impl Layout {
 
     /// A law: rows and dups lie lawfully in what the keeper knows.
     pub fn lies_lawfully(&self)
-        ensures placed { LieLawfully (state_of self.now None 0) self.now.keeper }
+        ensures placed { LieLawfully (state_of self.now None 0) self.now.frames self.now.keeper }
         ensures lives { self.now.next ≤ spent self.now.keeper.ledger }
         ensures few { self.now.next ≤ 2 ^ 50 }
     {
@@ -194,7 +195,7 @@ impl Layout {
         ensures own { self.new.keeper.table ≡ self.old.keeper.table }
         ensures bytes { result ≡ option_map (λ r. r.bytes) (row_at page self.old.rows) }
         ensures state { self.new ≡ record self.old { keeper = self.new.keeper } }
-        ensures loads { LoadsIf result self.old.keeper self.new.keeper }
+        ensures loads { LoadsIf (frame_of (mapped_lay self.old).listed page) result self.old.keeper self.new.keeper }
     {
         let Some(held) = self.pages.find(page) else {
             return None;
@@ -211,6 +212,7 @@ impl Layout {
         requires alone { row.state ≡ Private }
         ensures own { self.new.keeper.table ≡ self.old.keeper.table }
         ensures housed { IfOk result (λ got. IsHoused self.old self.new row (with_row row self.old.rows) got) }
+        ensures admitted { IfOk result (IsAdmitted self.old self.new row) }
         ensures refused { OnErr result (self.new ≡ self.old) }
         ensures fault { OnErr result (result ≡ Err Memory) }
     {
@@ -232,6 +234,7 @@ impl Layout {
         requires alone { row.state ≡ Private }
         ensures own { self.new.keeper.table ≡ self.old.keeper.table }
         ensures housed { IsHoused self.old self.new row (change_row row.page (λ _. row) self.old.rows) result }
+        ensures resettled { IsResettled self.old self.new row result }
     {
         let shape = self.pages.shape();
         let home = row.home;
@@ -253,7 +256,8 @@ impl Layout {
         requires alone { row.state ≡ Private }
         ensures own { self.new.keeper.table ≡ self.old.keeper.table }
         ensures state { self.new ≡ record self.old { rows = change_row row.page (λ _. row) self.old.rows; keeper = self.new.keeper } }
-        ensures stores { Stores self.old.keeper self.new.keeper row.bytes }
+        ensures does { Does self.old.keeper self.new.keeper [] }
+        ensures performs { Performs (mapped_lay self.old) (mapped_lay self.new) (rewriting (mapped_lay self.old).listed row) }
     {
         let Some(held) = self.pages.find(row.page) else {
             return;
@@ -296,8 +300,9 @@ impl Layout {
         requires own { self.old.keeper.table ≡ table.now }
         requires known { is_some (row_at page self.old.rows) ≡ true }
         ensures own { self.new.keeper.table ≡ self.old.keeper.table }
-        ensures state { self.new ≡ record self.old { rows = without_page page self.old.rows; keeper = self.new.keeper } }
+        ensures state { self.new ≡ record self.old { rows = without_page page self.old.rows; frames = self.new.frames; keeper = self.new.keeper } }
         ensures does { Does self.old.keeper self.new.keeper [] }
+        ensures performs { Performs (mapped_lay self.old) (mapped_lay self.new) (dismissing (mapped_lay self.old).listed page) }
     {
         let Some(gone) = self.pages.find(page) else {
             return;
@@ -350,8 +355,9 @@ impl Layout {
         requires own { self.old.keeper.table ≡ table.now }
         requires joins { Joins self.old row item }
         ensures own { self.new.keeper.table ≡ self.old.keeper.table }
-        ensures state { OnOk result (self.new ≡ record self.old { rows = change_row row.page (λ _. record row { state = item.state }) self.old.rows; keeper = self.new.keeper }) }
+        ensures state { OnOk result (self.new ≡ record self.old { rows = change_row row.page (λ _. record row { state = item.state }) self.old.rows; frames = self.new.frames; keeper = self.new.keeper }) }
         ensures does { Does self.old.keeper self.new.keeper [] }
+        ensures performs { OnOk result (Performs (mapped_lay self.old) (mapped_lay self.new) (joining (mapped_lay self.old).listed row (frame_of (mapped_lay self.old).listed item.page))) }
         ensures refused { OnErr result (self.new ≡ self.old) }
         ensures fault { OnErr result (result ≡ Err Memory) }
     {
@@ -384,8 +390,9 @@ impl Layout {
         requires second { row_at second.page self.old.rows ≡ Some second }
         requires apart { same_page first.page second.page ≡ false }
         ensures own { self.new.keeper.table ≡ self.old.keeper.table }
-        ensures state { OnOk result (self.new ≡ record (founded self.old place first) { rows = change_row second.page (λ _. record second { state = Merged self.old.next }) (founded self.old place first).rows; keeper = self.new.keeper }) }
+        ensures state { OnOk result (self.new ≡ record (founded self.old place first) { rows = change_row second.page (λ _. record second { state = Merged self.old.next }) (founded self.old place first).rows; frames = self.new.frames; keeper = self.new.keeper }) }
         ensures does { Does self.old.keeper self.new.keeper [] }
+        ensures performs { OnOk result (Performs (mapped_lay self.old) (mapped_lay self.new) (founding self.old.dups (mapped_lay self.old).listed place first second)) }
         ensures refused { OnErr result (self.new ≡ self.old) }
         ensures fault { OnErr result (result ≡ Err Memory) }
     {
@@ -412,6 +419,7 @@ impl Layout {
         ensures own { self.new.keeper.table ≡ self.old.keeper.table }
         ensures state { self.new ≡ record self.old { dups = filter (elsewhere place) self.old.dups; keeper = self.new.keeper } }
         ensures does { Does self.old.keeper self.new.keeper [] }
+        ensures made { Made self.old.keeper self.new.keeper (withdrawing self.old.dups place) }
     {
         let taken = self.pages.has_dup(place);
         clear(&mut self.keeper, table, place, taken);
@@ -421,10 +429,12 @@ impl Layout {
     /// All stale dups go. Says how many there were.
     pub fn prune(&mut self, table: &FrameTable) -> u64
         requires own { self.old.keeper.table ≡ table.now }
+        requires rise { InPlaceOrder self.old.dups }
         ensures own { self.new.keeper.table ≡ self.old.keeper.table }
         ensures state { self.new ≡ record self.old { dups = filter (has_items self.old.rows) self.old.dups; keeper = self.new.keeper } }
         ensures count { result ≡ count_by (is_stale self.old.rows) self.old.dups }
         ensures does { Does self.old.keeper self.new.keeper [] }
+        ensures performs { Performs (mapped_lay self.old) (mapped_lay self.new) (pruning self.old.dups (mapped_lay self.old).listed) }
     {
         let count = self.pages.count_stale() as u64;
         for done in 0..count {

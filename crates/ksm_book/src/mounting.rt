@@ -1,12 +1,15 @@
 //! What the book has the keeper do with the frames of a dup that moves.
 
-ghost use Rattle.std.specs.Prelude.{◌≡◌, ◌<◌, ◌≤◌, ◌+◌, ℕ, None, MatchOption, length};
+ghost use Rattle.std.specs.Prelude.{◌≡◌, ◌<◌, ◌≤◌, ◌+◌, ℕ, None, MatchOption, length, replicate};
 ghost use Rattle.ksm_base.specs.declared.page.TheConstants.{PAGE_WORDS as WORDS};
 ghost use Rattle.ksm_base.specs.Values.{frames_of, IsShape};
 ghost use Rattle.frame_core.specs.declared.frame.Kind.TheVariants.{Free as FreeKind, Dying as DyingKind};
 ghost use Rattle.frame_core.specs.Ledger.{frame_at, named_at, IsLoose};
 ghost use Rattle.ksm_book.specs.Keeping.{IsLawful, Sought};
+ghost use Rattle.frame_core.specs.declared.event.KeeperStep.TheVariants.{Add};
+ghost use Rattle.ksm_book.specs.Commands.{FindsNone, Finds, mounting};
 ghost use Rattle.ksm_book.specs.Mounted.{FoundFree, Added, Mounted};
+ghost use Rattle.ksm_book.specs.Steps.{Made};
 
 use crate::frames::{load, lowest_free, reap_node, write};
 use frame_table::{FrameTable, Keeper};
@@ -21,6 +24,7 @@ pub fn seek(keeper: &mut Keeper, table: &FrameTable, shape: Shape, node: u32) ->
     requires lawful { IsLawful keeper.old None }
     ensures own { keeper.new.table ≡ keeper.old.table }
     ensures found { MatchOption result (Sought keeper.old keeper.new node) (FoundFree keeper.old keeper.new node) }
+    ensures made { MatchOption result (FindsNone keeper.old keeper.new node) (Finds keeper.old keeper.new node) }
 {
     reap_node(
         keeper,
@@ -40,6 +44,7 @@ fn add_times(keeper: &mut Keeper, table: &FrameTable, frame: u32, count: u64)
     requires few { (frame_at keeper.old.ledger frame).base + count ≤ 1024 }
     ensures own { keeper.new.table ≡ keeper.old.table }
     ensures added { Added keeper.old keeper.new frame count }
+    ensures made { Made keeper.old keeper.new (replicate count (Add frame)) }
 {
     for done in 0..count {
         keeper.add(table, frame);
@@ -61,6 +66,7 @@ pub fn mount(keeper: &mut Keeper, table: &FrameTable, left: u32, frame: u32, pla
     requires loose { IsLoose keeper.old.ledger (named_at keeper.old.ledger place) }
     ensures own { keeper.new.table ≡ keeper.old.table }
     ensures mounted { Mounted keeper.old keeper.new left frame place count }
+    ensures made { Made keeper.old keeper.new (mounting left frame place count (frame_at keeper.old.ledger left).content) }
 {
     keeper.raise(table, frame);
     let bytes = load(keeper, table, left);

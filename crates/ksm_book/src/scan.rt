@@ -2,14 +2,14 @@
 
 ghost use Rattle.std.specs.Prelude.{◌≡◌, [], None, Some, Err, OnOk, IfOk, OnErr, IfNone, IfSome, MatchOption, false};
 ghost use Rattle.ksm_base.specs.declared.fault.Fault.TheVariants.{Memory};
-ghost use Rattle.ksm_base.specs.Answers.{IsAnswerOrMemory};
 ghost use Rattle.ksm_base.specs.Apply.{after};
 ghost use Rattle.ksm_base.specs.Rows.{merged_state};
-ghost use Rattle.ksm_base.specs.Visit.{visit, visit_begun, visit_ended, pass_ended_at_last, row_visited, paired, partner, new_place, made_dup, next_row};
-ghost use Rattle.ksm_base.specs.State.{place_count};
+ghost use Rattle.ksm_base.specs.Visit.{visit, visit_begun, visit_ended, pass_ended_at_last, row_visited, paired, partner, next_row};
 ghost use Rattle.ksm_book.specs.Scanned.{GoesOnAt};
 ghost use Rattle.ksm_book.specs.Steps.{Does};
-ghost use Rattle.ksm_book.specs.Whole.{nodes_got, HasShown};
+ghost use Rattle.ksm_book.specs.Carried.{CarriedOut};
+ghost use Rattle.ksm_book.specs.Whole.{mapped};
+ghost use Rattle.ksm_book.specs.Commands.{IsIdle, Performs, visiting, row_visiting, pairing};
 
 use crate::row::is_merged;
 use crate::state::State;
@@ -20,11 +20,7 @@ impl State {
     /// Makes visits.
     pub fn scan(&mut self, table: &FrameTable, count: u64) -> Result<Reply, Fault>
         requires own { self.old.keeper.table ≡ table.now }
-        ensures own { self.new.keeper.table ≡ self.old.keeper.table }
-        ensures answer { IsAnswerOrMemory self.old.state (Command.Scan count) result }
-        ensures state { self.new.state ≡ after self.old.state (Command.Scan count) result }
-        ensures frames { Does self.old.keeper self.new.keeper (nodes_got self.old.state result (Command.Scan count)) }
-        ensures shown { HasShown self.old.state self.old.keeper self.new.keeper result (Command.Scan count) }
+        ensures { CarriedOut self.old self.new (Command.Scan count) result }
     {
         if self.layout.knobs().run != 1 {
             return Err(Fault::NotRunning);
@@ -63,6 +59,8 @@ impl State {
         ensures err { OnErr result (self.new.state ≡ visit_begun self.old.state) }
         ensures fault { OnErr result (result ≡ Err Memory) }
         ensures does { Does self.old.keeper self.new.keeper [] }
+        ensures performs { OnOk result (Performs (mapped self.old) (mapped self.new) (visiting self.old.state self.old.frames)) }
+        ensures idle { OnErr result (IsIdle (mapped self.old) (mapped self.new)) }
     {
         let Some(row) = self.begin_visit(known) else {
             return Ok(None);
@@ -75,7 +73,7 @@ impl State {
     fn end_pass(&mut self) -> Option<Row>
         ensures state { self.new.state ≡ pass_ended_at_last self.old.state }
         ensures next { MatchOption result (self.new.state.cursor ≡ None) (GoesOnAt self.new.state) }
-        ensures keeper { self.new.keeper ≡ self.old.keeper }
+        ensures idle { IsIdle (mapped self.old) (mapped self.new) }
     {
         self.cursor?;
         let next = self.layout.rows().next(self.cursor);
@@ -92,7 +90,7 @@ impl State {
         ensures state { self.new.state ≡ visit_begun self.old.state }
         ensures next { result ≡ next_row self.new.state.cursor self.new.state.rows }
         ensures none { IfNone result (self.new.state.cursor ≡ None) }
-        ensures keeper { self.new.keeper ≡ self.old.keeper }
+        ensures idle { IsIdle (mapped self.old) (mapped self.new) }
     {
         if known.is_some() {
             return known;
@@ -109,7 +107,7 @@ impl State {
     fn end_visit(&mut self, page: GuestPage) -> Option<Row>
         ensures state { self.new.state ≡ visit_ended self.old.state page }
         ensures next { MatchOption result (self.new.state.cursor ≡ None) (GoesOnAt self.new.state) }
-        ensures keeper { self.new.keeper ≡ self.old.keeper }
+        ensures idle { IsIdle (mapped self.old) (mapped self.new) }
     {
         self.cursor = Some(page);
         self.end_pass()
@@ -124,6 +122,8 @@ impl State {
         ensures err { OnErr result (self.new.state ≡ self.old.state) }
         ensures fault { OnErr result (result ≡ Err Memory) }
         ensures does { Does self.old.keeper self.new.keeper [] }
+        ensures performs { OnOk result (Performs (mapped self.old) (mapped self.new) (row_visiting self.old.state self.old.frames row)) }
+        ensures idle { OnErr result (IsIdle (mapped self.old) (mapped self.new)) }
     {
         if is_merged(row.state) {
             return Ok(());
@@ -155,6 +155,8 @@ impl State {
         ensures err { OnErr result (self.new.state ≡ self.old.state) }
         ensures fault { OnErr result (result ≡ Err Memory) }
         ensures does { Does self.old.keeper self.new.keeper [] }
+        ensures performs { OnOk result (Performs (mapped self.old) (mapped self.new) (pairing (partner self.old.state.knobs self.old.state.rows row) self.old.state self.old.frames row)) }
+        ensures idle { OnErr result (IsIdle (mapped self.old) (mapped self.new)) }
     {
         let Some(other) = self.layout.partner(&row) else {
             self.layout.wait(row)?;

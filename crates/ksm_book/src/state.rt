@@ -1,21 +1,20 @@
 //! The state of the book, and its commands.
 
-ghost use Rattle.std.specs.Prelude.{◌≡◌, ◌≤◌, IfOk, IfErr, option_map};
+ghost use Rattle.std.specs.Prelude.{◌≡◌, ◌≤◌, [], IfOk, IfErr, option_map};
 ghost use Rattle.ksm_base.specs.Values.{IsShape};
 ghost use Rattle.ksm_base.specs.State.{opening};
-ghost use Rattle.ksm_base.specs.Answers.{IsAnswerOrMemory};
-ghost use Rattle.ksm_base.specs.Apply.{after};
 ghost use Rattle.ksm_base.specs.Counting.{counters_of};
 ghost use Rattle.ksm_base.specs.Reading.{bytes_of, mappers_of, ticket_of};
 ghost use Rattle.ksm_base.specs.declared.fault.Fault.TheVariants.{Memory};
 ghost use Rattle.ksm_base.specs.Refusals.{is_known};
 ghost use Rattle.frame_core.specs.Ledger.{first_ledger};
+ghost use Rattle.ksm_book.specs.Commands.{frame_of};
 ghost use Rattle.ksm_book.specs.Laid.{LoadsIf};
 ghost use Rattle.ksm_base.specs.Sound.{IsSound};
+ghost use Rattle.ksm_book.specs.Carried.{CarriedOut};
 ghost use Rattle.ksm_book.specs.Keeping.{spent};
-ghost use Rattle.ksm_book.specs.Promised.{FindsPlace, LiesInFrames, NumbersAreSmall};
-ghost use Rattle.ksm_book.specs.Steps.{Does};
-ghost use Rattle.ksm_book.specs.Whole.{nodes_got, HasShown};
+ghost use Rattle.ksm_book.specs.Promised.{FindsPlace, LieOn, NumbersAreSmall};
+ghost use Rattle.ksm_book.specs.Whole.{rows_in};
 
 use crate::layout::Layout;
 use crate::row::{fresh_row, is_merged, moved, stored};
@@ -38,7 +37,7 @@ impl Model for State {
 
     ghost Value = { BookView };
 
-    ghost view = { λ s. record { state = state_of s.layout s.cursor s.passes; keeper = s.layout.keeper } };
+    ghost view = { λ s. record { state = state_of s.layout s.cursor s.passes; frames = s.layout.frames; keeper = s.layout.keeper } };
 
     ghost invariant = { λ s. IsSound (state_of s.layout s.cursor s.passes) };
 }
@@ -49,7 +48,7 @@ impl State {
         requires shape { IsShape shape }
         requires same { keeper.table.shape ≡ shape }
         requires new { keeper.ledger ≡ first_ledger shape }
-        ensures opened { IfOk result (λ s. s ≡ record { state = opening shape; keeper = keeper }) }
+        ensures opened { IfOk result (λ s. s ≡ record { state = opening shape; frames = []; keeper = keeper }) }
         ensures refused { IfErr result (λ e. (e.0 ≡ keeper) × (e.1 ≡ Memory)) }
     {
         Ok(State {
@@ -74,7 +73,7 @@ impl State {
     /// A law: the facts of the book state, and how its rows and dups lie in the frames.
     pub fn lies_lawfully(&self)
         ensures sound { IsSound self.now.state }
-        ensures placed { LiesInFrames self.now.state self.now.keeper }
+        ensures placed { LieOn self.now.state self.now.frames self.now.keeper.ledger }
         ensures place { FindsPlace self.now.state }
         ensures lives { self.now.state.next ≤ spent self.now.keeper.ledger }
         ensures numbers { NumbersAreSmall self.now.state }
@@ -88,7 +87,8 @@ impl State {
         ensures own { self.new.keeper.table ≡ self.old.keeper.table }
         ensures bytes { result ≡ bytes_of page self.old.state }
         ensures state { self.new.state ≡ self.old.state }
-        ensures loads { LoadsIf result self.old.keeper self.new.keeper }
+        ensures frames { self.new.frames ≡ self.old.frames }
+        ensures loads { LoadsIf (frame_of (rows_in self.old) page) result self.old.keeper self.new.keeper }
     {
         self.layout.read(table, page)
     }
@@ -102,11 +102,7 @@ impl State {
         bytes: PageBytes,
     ) -> Result<Reply, Fault>
         requires own { self.old.keeper.table ≡ table.now }
-        ensures own { self.new.keeper.table ≡ self.old.keeper.table }
-        ensures answer { IsAnswerOrMemory self.old.state (Command.Register page node bytes) result }
-        ensures state { self.new.state ≡ after self.old.state (Command.Register page node bytes) result }
-        ensures frames { Does self.old.keeper self.new.keeper (nodes_got self.old.state result (Command.Register page node bytes)) }
-        ensures shown { HasShown self.old.state self.old.keeper self.new.keeper result (Command.Register page node bytes) }
+        ensures { CarriedOut self.old self.new (Command.Register page node bytes) result }
     {
         if node >= self.layout.shape().nodes {
             return Err(Fault::BadNode);
@@ -128,11 +124,7 @@ impl State {
         bytes: PageBytes,
     ) -> Result<Reply, Fault>
         requires own { self.old.keeper.table ≡ table.now }
-        ensures own { self.new.keeper.table ≡ self.old.keeper.table }
-        ensures answer { IsAnswerOrMemory self.old.state (Command.Store page bytes) result }
-        ensures state { self.new.state ≡ after self.old.state (Command.Store page bytes) result }
-        ensures frames { Does self.old.keeper self.new.keeper (nodes_got self.old.state result (Command.Store page bytes)) }
-        ensures shown { HasShown self.old.state self.old.keeper self.new.keeper result (Command.Store page bytes) }
+        ensures { CarriedOut self.old self.new (Command.Store page bytes) result }
     {
         let Some(row) = self.layout.row(page) else {
             return Err(Fault::UnknownPage);
@@ -150,11 +142,7 @@ impl State {
     /// Takes the row of a page away.
     pub fn drop_page(&mut self, table: &FrameTable, page: GuestPage) -> Result<Reply, Fault>
         requires own { self.old.keeper.table ≡ table.now }
-        ensures own { self.new.keeper.table ≡ self.old.keeper.table }
-        ensures answer { IsAnswerOrMemory self.old.state (Command.Drop page) result }
-        ensures state { self.new.state ≡ after self.old.state (Command.Drop page) result }
-        ensures frames { Does self.old.keeper self.new.keeper (nodes_got self.old.state result (Command.Drop page)) }
-        ensures shown { HasShown self.old.state self.old.keeper self.new.keeper result (Command.Drop page) }
+        ensures { CarriedOut self.old self.new (Command.Drop page) result }
     {
         if !self.layout.rows().has(page) {
             return Err(Fault::UnknownPage);
@@ -204,22 +192,14 @@ impl State {
     /// All stale dups go.
     pub fn prune(&mut self, table: &FrameTable) -> Result<Reply, Fault>
         requires own { self.old.keeper.table ≡ table.now }
-        ensures own { self.new.keeper.table ≡ self.old.keeper.table }
-        ensures answer { IsAnswerOrMemory self.old.state Command.Prune result }
-        ensures state { self.new.state ≡ after self.old.state Command.Prune result }
-        ensures frames { Does self.old.keeper self.new.keeper (nodes_got self.old.state result Command.Prune) }
-        ensures shown { HasShown self.old.state self.old.keeper self.new.keeper result Command.Prune }
+        ensures { CarriedOut self.old self.new Command.Prune result }
     {
         Ok(Reply::Pruned(self.layout.prune(table)))
     }
 
     /// All pages of a guest become mergeable.
     pub fn mergeable(&mut self, guest: u16) -> Result<Reply, Fault>
-        ensures own { self.new.keeper.table ≡ self.old.keeper.table }
-        ensures answer { IsAnswerOrMemory self.old.state (Command.Mergeable guest) result }
-        ensures state { self.new.state ≡ after self.old.state (Command.Mergeable guest) result }
-        ensures frames { Does self.old.keeper self.new.keeper (nodes_got self.old.state result (Command.Mergeable guest)) }
-        ensures shown { HasShown self.old.state self.old.keeper self.new.keeper result (Command.Mergeable guest) }
+        ensures { CarriedOut self.old self.new (Command.Mergeable guest) result }
     {
         if !self.layout.rows().has_guest(guest) {
             return Err(Fault::UnknownPage);
@@ -236,11 +216,7 @@ impl State {
         node: u32,
     ) -> Result<Reply, Fault>
         requires own { self.old.keeper.table ≡ table.now }
-        ensures own { self.new.keeper.table ≡ self.old.keeper.table }
-        ensures answer { IsAnswerOrMemory self.old.state (Command.MovePage page node) result }
-        ensures state { self.new.state ≡ after self.old.state (Command.MovePage page node) result }
-        ensures frames { Does self.old.keeper self.new.keeper (nodes_got self.old.state result (Command.MovePage page node)) }
-        ensures shown { HasShown self.old.state self.old.keeper self.new.keeper result (Command.MovePage page node) }
+        ensures { CarriedOut self.old self.new (Command.MovePage page node) result }
     {
         if node >= self.layout.shape().nodes {
             return Err(Fault::BadNode);

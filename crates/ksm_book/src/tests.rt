@@ -230,3 +230,18 @@ fn journal_tells_each_command(rt: HostRuntime) -> Result<(), Fail> {
     let _ = table.close(book.close(), passes);
     Ok(())
 }
+
+// A frame that a page has left is reaped and given again before a higher one is given.
+#[test]
+fn frame_left_is_given_again(rt: HostRuntime) -> Result<(), Fail> {
+    let (table, mut book, passes) = opened(rt.alloc(), SHAPE)?;
+    assert_eq!(rt; book.apply(&table, registered(0, 0)), DONE);
+    assert_eq!(rt; book.apply(&table, registered(1, 0)), DONE);
+    assert_eq!(rt; book.apply(&table, Drop { page: page(0) }), DONE);
+    assert_eq!(rt; book.apply(&table, registered(2, 0)), DONE);
+    let closed = table.close(book.close(), passes);
+    assert_eq!(rt; (closed.generation(0), closed.count(0)), (2, 1));
+    assert_eq!(rt; (closed.generation(1), closed.count(1)), (1, 1));
+    assert_eq!(rt; closed.generation(2), 0);
+    Ok(())
+}

@@ -2,11 +2,10 @@
 
 ghost use Rattle.std.specs.Prelude.{◌≡◌, ◌<◌, All, filter, map, take, option_map};
 ghost use Rattle.ksm_base.specs.declared.fault.Fault.TheVariants.{NoFrame};
-ghost use Rattle.ksm_base.specs.Answers.{IsAnswerOrMemory};
-ghost use Rattle.ksm_base.specs.Apply.{after, unshared as as_unshared};
+ghost use Rattle.ksm_base.specs.Apply.{unshared as as_unshared};
 ghost use Rattle.ksm_base.specs.Rows.{InPageOrder};
-ghost use Rattle.ksm_book.specs.Steps.{Does};
-ghost use Rattle.ksm_book.specs.Whole.{nodes_got, HasShown};
+ghost use Rattle.ksm_book.specs.Carried.{CarriedOut, UnmergesTo};
+ghost use Rattle.ksm_book.specs.Laid.{mapped_lay};
 ghost use Rattle.ksm_book.specs.Unmerged.{is_merged_of, first_changed, IsStop, Gave};
 
 use crate::layout::Layout;
@@ -26,9 +25,10 @@ pub fn unshare_merged(
     requires rise { InPageOrder layout.old.rows }
     requires homes { All (λ r. r.home < layout.old.shape.nodes) layout.old.rows }
     ensures own { layout.new.keeper.table ≡ layout.old.keeper.table }
-    ensures state { layout.new ≡ record layout.old { rows = first_changed (is_merged_of guest) as_unshared result.0 layout.old.rows; keeper = layout.new.keeper } }
+    ensures state { layout.new ≡ record layout.old { rows = first_changed (is_merged_of guest) as_unshared result.0 layout.old.rows; frames = layout.new.frames; keeper = layout.new.keeper } }
     ensures stop { IsStop (filter (is_merged_of guest) layout.old.rows) result.0 result.1 }
     ensures gave { Gave layout.old.keeper layout.new.keeper (map (λ r. r.home) (take result.0 (filter (is_merged_of guest) layout.old.rows))) result.1 }
+    ensures resettled { UnmergesTo (take result.0 (filter (is_merged_of guest) layout.old.rows)) (option_map (λ r. NoFrame r.home) result.1) (mapped_lay layout.old) (mapped_lay layout.new) }
 {
     let count = layout.rows().len() as u64;
     let mut last = None;
@@ -58,11 +58,7 @@ impl State {
     /// The merged pages of a guest get frames of their own, in order, until one finds none; the guest's pages up to there leave the scan.
     pub fn unmerge(&mut self, table: &FrameTable, guest: u16) -> Result<Reply, Fault>
         requires own { self.old.keeper.table ≡ table.now }
-        ensures own { self.new.keeper.table ≡ self.old.keeper.table }
-        ensures answer { IsAnswerOrMemory self.old.state (Command.Unmerge guest) result }
-        ensures state { self.new.state ≡ after self.old.state (Command.Unmerge guest) result }
-        ensures frames { Does self.old.keeper self.new.keeper (nodes_got self.old.state result (Command.Unmerge guest)) }
-        ensures shown { HasShown self.old.state self.old.keeper self.new.keeper result (Command.Unmerge guest) }
+        ensures { CarriedOut self.old self.new (Command.Unmerge guest) result }
     {
         if !self.layout.rows().has_guest(guest) {
             return Err(Fault::UnknownPage);
@@ -78,11 +74,7 @@ impl State {
     /// All merged pages get frames of their own, in order, until one finds none. If none is left merged, all pages are Private and not unchanged, and the next scan begins a pass; else the scan stands.
     pub fn unshare(&mut self, table: &FrameTable) -> Result<Reply, Fault>
         requires own { self.old.keeper.table ≡ table.now }
-        ensures own { self.new.keeper.table ≡ self.old.keeper.table }
-        ensures answer { IsAnswerOrMemory self.old.state (Command.SetRun 2) result }
-        ensures state { self.new.state ≡ after self.old.state (Command.SetRun 2) result }
-        ensures frames { Does self.old.keeper self.new.keeper (nodes_got self.old.state result (Command.SetRun 2)) }
-        ensures shown { HasShown self.old.state self.old.keeper self.new.keeper result (Command.SetRun 2) }
+        ensures { CarriedOut self.old self.new (Command.SetRun 2) result }
     {
         let (pages, stop) = unshare_merged(&mut self.layout, table, None);
         let knobs = self.layout.knobs();

@@ -8,7 +8,7 @@ use Rattle.ksm_base.specs.State.{BookState, opening}
 use Rattle.frame_table.specs.Named.{ClosedView}
 use Rattle.frame_table.specs.Seats.{Ends}
 use Rattle.ksm_book.specs.Carried.{JournaledBook}
-use Rattle.ksm_book.specs.Promised.{LiesInFrames}
+use Rattle.ksm_book.specs.Promised.{LieOn}
 use Rattle.ksm_shared.specs.declared.seen.Owned.{Owned}
 use Rattle.ksm_shared.specs.declared.seen.Caller.{Caller}
 use Rattle.ksm_shared.specs.Named.{PartsId}
@@ -84,5 +84,5 @@ pub record EndsLawfully (parts : PartsId) (closed : ClosedView) : Type 0 where
   pub book : JournaledBook
   pub own : book.keeper.table ≡ parts.frames
   pub legal : IsLegal parts.frames.shape book.journal book.state
-  pub placed : LiesInFrames book.state book.keeper
+  pub placed : LieOn book.state book.frames book.keeper.ledger
   pub ends : Ends book.keeper.ledger closed

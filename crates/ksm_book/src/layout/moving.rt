@@ -3,7 +3,7 @@
 ghost use Rattle.std.specs.Prelude.{◌≡◌, ◌<◌, ◌&&◌, ◌==◌, None, Some, find};
 ghost use Rattle.ksm_base.specs.Rows.{has_items};
 ghost use Rattle.ksm_base.specs.Sound.{IsSound};
-ghost use Rattle.ksm_book.specs.Laid.{state_of};
+ghost use Rattle.ksm_book.specs.Laid.{state_of, MovesOr};
 ghost use Rattle.ksm_book.specs.Mounted.{IsMoved};
 
 use crate::layout::Layout;
@@ -20,8 +20,9 @@ impl Layout {
         requires node { node < self.old.shape.nodes }
         requires home { self.old.knobs.merge_across_nodes ≡ 0 → node ≡ dup.tree }
         ensures own { self.new.keeper.table ≡ self.old.keeper.table }
-        ensures state { self.new ≡ record self.old { keeper = self.new.keeper } }
+        ensures state { self.new ≡ record self.old { frames = self.new.frames; keeper = self.new.keeper } }
         ensures moved { IsMoved self.old.keeper self.new.keeper dup.place node result }
+        ensures moves { MovesOr self.old self.new dup node result }
     {
         let Some(item) = self.pages.item(dup.number) else {
             return Ok(());

@@ -6,6 +6,7 @@ use Rattle.frame_table.specs.Named.{KeeperView}
 use Rattle.ksm_book.specs.Steps.{dying_kind}
 use Rattle.ksm_book.specs.Keeping.{Reaped}
 use Rattle.ksm_book.proofs.Keeping.{reaped_one, reaped_none}
+use Rattle.ksm_book.proofs.Made.{reap_made, pass_made}
 use Rattle.ksm_book.proofs.Filling.{is_dying_kind, not_dying_kind}
 use Rattle.ksm_book.proofs.frames.reap_node.Goals.{then-is_dying, else-is_dying}
 use Rattle.ksm_book.proofs.frames.reap_node.Goals as goal
@@ -26,13 +27,20 @@ loop-i-preserved c =
       | then-is_dying b ↦
           let dying : (frame_at w.ledger (low + n)).kind ≡ Dying = is_dying_kind _ (sym kind ∙ b.if-is_dying.true) in
           let is = b.reap.ensures in
+          let step = reap_made v w c.if-is_dying.keeper low n c.loop-i.invariant.made c.loop-i.invariant.later is.0 (sym kind ∙ b.if-is_dying.true)
+          (b.keeper-is ∙ is.1) in
           record {
             own = ap (λ x. x.table) (b.keeper-is ∙ is.1) ∙ c.loop-i.invariant.own;
             reaped = reaped_one v w c.if-is_dying.keeper low n so_far is.0 inside within dying (b.keeper-is ∙ is.1);
+            made = step.0;
+            later = step.1;
           }
       | else-is_dying b ↦
+          let step = pass_made v w c.if-is_dying.keeper low n c.loop-i.invariant.made c.loop-i.invariant.later (sym kind ∙ b.if-is_dying.false) b.keeper-is in
           record {
             own = ap (λ x. x.table) b.keeper-is ∙ c.loop-i.invariant.own;
             reaped = subst (λ (x : KeeperView). Reaped v x low (n + 1)) (sym b.keeper-is) (reaped_none v w w low n so_far (not_dying_kind _ (sym kind ∙ b.if-is_dying.false)));
+            made = step.0;
+            later = step.1;
           }
     ]

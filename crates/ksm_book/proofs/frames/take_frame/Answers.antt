@@ -6,6 +6,7 @@ use Rattle.frame_core.specs.Ledger.{frame_at, IsWritable}
 use Rattle.frame_table.specs.Named.{KeeperView}
 use Rattle.ksm_book.specs.Steps.{IsLowestFree, HasNoFree}
 use Rattle.ksm_book.specs.Keeping.{Reaped, Wrote}
+use Rattle.ksm_book.proofs.Made.{reaps_there, filled_by}
 use Rattle.ksm_book.proofs.Filling.{took, sought, inside, raised_within, raised_kind, raised_wide, written_kind}
 use Rattle.ksm_book.proofs.frames.take_frame.Goals as goal
 
@@ -26,6 +27,15 @@ returns-in_default-clause-took c =
     let v = c.args.keeper.now in
     let w = c.reap_node.new.keeper in
     sought v w c.args.node (reaped_there v w c.args.shape c.args.node c.requires.shape c.reap_node.ensures.reaped) (none_there v w c.args.node c.reap_node.ensures.own c.in_default.ensures)
+
+pub returns-in_default-clause-made : goal.returns-in_default-clause-made
+returns-in_default-clause-made c =
+    let v = c.args.keeper.now in
+    let w = c.reap_node.new.keeper in
+    record {
+      reaped = reaps_there v w c.args.shape c.args.node c.requires.shape c.reap_node.ensures.made;
+      none = none_there v w c.args.node c.reap_node.ensures.own c.in_default.ensures;
+    }
 
 pub write-requires-clause-within : goal.write-requires-clause-within
 write-requires-clause-within c =
@@ -72,3 +82,18 @@ returns-clause-took c =
     let wide : length c.args.bytes ≡ PAGE_WORDS = search rules in
     let wrote = subst (λ (x : KeeperView). Wrote x c.write.new.keeper c.in-Some.frame c.args.bytes) c.raise.ensures.1 c.write.ensures.wrote in
     took v w c.args.node c.args.bytes c.in-Some.frame c.raise.ensures.0 reaped low c.reap_node.ensures.own less c.requires.lawful c.write.new.keeper c.open.new.self _ wide wrote c.open.ensures
+
+pub returns-clause-made : goal.returns-clause-made
+returns-clause-made c =
+    let v = c.args.keeper.now in
+    let w = c.reap_node.new.keeper in
+    let g = c.in-Some.frame in
+    record {
+      searched = w;
+      finds = record {
+        reaped = reaps_there v w c.args.shape c.args.node c.requires.shape c.reap_node.ensures.made;
+        lowest = low_there v w c.args.node g c.reap_node.ensures.own c.in-Some.ensures;
+      };
+      fills = filled_by w c.raise.new.self c.write.new.keeper c.open.new.self g c.raise.ensures.0 c.args.bytes c.raise.ensures.1 c.write.ensures.wrote.did
+          c.open.ensures;
+    }

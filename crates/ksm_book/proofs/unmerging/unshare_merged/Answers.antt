@@ -1,13 +1,16 @@
-use Rattle.std.proofs.Common.{◌≡◌, ◌<◌, ◌∷◌, [], ◌++◌, map, take, length, Some, refl, sym, ap, ◌∙◌, subst, arith}
+use Rattle.std.proofs.Common.{◌≡◌, ◌<◌, ◌∷◌, [], ◌++◌, map, take, length, None, Some, refl, sym, ap, ◌∙◌, subst, arith}
 use Rattle.std.specs.Prelude.{filter, find, slice_get, is_some}
 use Rattle.std.proofs.lemmas.List.Elements.{All-filter}
 use Rattle.ksm_base.specs.declared.row.Row.{Row}
 use Rattle.ksm_base.specs.Rows.{row_at, change_row}
-use Rattle.ksm_book.specs.Laid.{Lay}
+use Rattle.ksm_book.specs.Carried.{UnmergesTo}
+use Rattle.ksm_book.specs.Commands.{FindsNone, ResettlesEach}
+use Rattle.ksm_book.specs.Laid.{Lay, mapped_lay}
 use Rattle.ksm_book.specs.Steps.{Does}
 use Rattle.ksm_book.specs.Unmerged.{is_merged_of}
 use Rattle.ksm_book.proofs.Logs.{chained}
 use Rattle.ksm_book.proofs.Onward.{IsDoneTo, found_onward, done_more}
+use Rattle.ksm_book.proofs.Resettling.{placed, resettled_as, each_more, taken_more, unmerged_end}
 use Rattle.ksm_book.proofs.Unmerged.{next_is, one_unshared, none_past, some_within, all_some, homes_more, find_known, filter_fits, order_kept, unshared_off}
 use Rattle.ksm_book.proofs.unmerging.unshare_merged.Goals as goal
 
@@ -57,14 +60,34 @@ loop-done-preserved c =
     let inside = some_within merged c.loop-done.done row at in
     record {
       own = c.resettle.ensures.own ∙ c.loop-done.invariant.own;
-      state = housed.state ∙ (λ i. record (c.loop-done.invariant.state i) { rows = rows i; keeper = c.resettle.new.self.keeper });
+      state = housed.state ∙ (λ i. record
+          (c.loop-done.invariant.state i) { rows = rows i; frames = c.resettle.new.self.frames; keeper = c.resettle.new.self.keeper });
       behind = subst (IsDoneTo (is_merged_of guest) (Some row.page)) (sym (ap (λ (x : Lay). x.rows) housed.state ∙ ap (λ (x : Row). change_row x.page (λ _. c.unshared.result) c.loop-done.layout.rows) c.unshared.ensures))
           (done_more (is_merged_of guest) c.loop-done.layout.rows row c.unshared.result off (order_kept guest c.loop-done.done old.rows c.loop-done.layout.rows c.requires.rise made) first_is);
       does = subst (λ ns. Does old.keeper c.resettle.new.self.keeper ns)
           ((λ i. map (λ (r : Row). r.home) (take c.loop-done.done merged) ++ (c.unshared.ensures i).home ∷ []) ∙ sym homes)
           (_, chained old.keeper c.loop-done.layout.keeper c.resettle.new.self.keeper (map (λ (r : Row). r.home) (take c.loop-done.done merged)) (c.unshared.result.home ∷ []) first.0 second.0 first.1 second.1);
+      resettled = subst (λ rs. ResettlesEach rs (placed old.rows old.frames old.keeper)
+          (placed old.rows c.resettle.new.self.frames c.resettle.new.self.keeper)) (sym (taken_more merged c.loop-done.done row at))
+          (each_more old.rows (take c.loop-done.done merged) old.frames c.loop-done.layout.frames c.resettle.new.self.frames old.keeper
+          c.loop-done.layout.keeper c.resettle.new.self.keeper row c.loop-done.invariant.resettled
+          (resettled_as (is_merged_of guest) c.loop-done.done old.rows c.loop-done.layout.rows c.loop-done.layout.frames c.loop-done.layout.keeper
+          (mapped_lay c.resettle.new.self) row c.unshared.result made c.unshared.ensures c.if-not-resettle.ensures.resettled));
       within = omega arith;
     }
+
+pub returns-then-not-resettle-clause-resettled : goal.returns-then-not-resettle-clause-resettled
+returns-then-not-resettle-clause-resettled c =
+    let away = c.if-not-resettle.ensures.resettled in (
+      c.loop-done.layout.keeper,
+      c.loop-done.layout.frames,
+      c.loop-done.invariant.resettled,
+      record {
+        searched = subst (FindsNone c.loop-done.layout.keeper c.resettle.new.self.keeper)
+            (ap (λ (x : Row). x.home) c.unshared.ensures) away.searched;
+        frames = away.frames;
+      },
+    )
 
 pub returns-clause-stop : goal.returns-clause-stop
 returns-clause-stop c =
@@ -72,3 +95,21 @@ returns-clause-stop c =
     let all : c.len-count.result ≡ length c.args.layout.now.rows = c.len-count.ensures ∙ ap length c.rows.ensures in
     let within = c.loop-done.invariant.within in
     omega arith
+
+pub returns-in_default-clause-resettled : goal.returns-in_default-clause-resettled
+returns-in_default-clause-resettled c =
+    let old = c.args.layout.now in
+    unmerged_end (take c.loop-done.done (filter (is_merged_of c.args.guest) old.rows)) None (mapped_lay old)
+    (placed old.rows c.loop-done.layout.frames c.loop-done.layout.keeper) (mapped_lay c.loop-done.layout) refl refl c.loop-done.invariant.resettled
+
+pub returns-clause-resettled : goal.returns-clause-resettled
+returns-clause-resettled c =
+    let old = c.args.layout.now in
+    let merged = filter (is_merged_of c.args.guest) old.rows in
+    let fits = filter_fits (is_merged_of c.args.guest) old.rows in
+    let all : c.len-count.result ≡ length old.rows = c.len-count.ensures ∙ ap length c.rows.ensures in
+    let within = c.loop-done.invariant.within in
+    let done : c.loop-done.done ≡ c.len-count.result = omega arith in
+    subst (λ n. UnmergesTo (take n merged) None (mapped_lay old) (mapped_lay c.loop-done.layout)) done
+    (unmerged_end (take c.loop-done.done merged) None (mapped_lay old) (placed old.rows c.loop-done.layout.frames c.loop-done.layout.keeper)
+    (mapped_lay c.loop-done.layout) refl refl c.loop-done.invariant.resettled)

@@ -1,11 +1,12 @@
 use Rattle.std.proofs.Common.{◌≡◌, ◌∙◌, ◌∷◌, [], refl, ap, sym, subst, arith}
 use Rattle.std.specs.Prelude.{insert, remove, slice_set}
 use Rattle.ksm_base.specs.Rows.{with_row}
+use Rattle.ksm_book.specs.Commands.{FindsNone, Provides}
 use Rattle.ksm_book.specs.Laid.{Lay}
 use Rattle.ksm_book.specs.Listed.{Listed, rank}
 use Rattle.ksm_book.specs.Steps.{Does}
 use Rattle.ksm_book.specs.Keeping.{NoneLeft}
-use Rattle.ksm_book.proofs.Laying.{laid_with, laid_kept, laid_same, relaid, relisted, rest_again}
+use Rattle.ksm_book.proofs.Laying.{laid_with, laid_kept, laid_same, relaid, relaid_there, relisted, rest_again}
 use Rattle.ksm_book.proofs.Ranks.{set_inserted, remove_inserted}
 use Rattle.ksm_book.proofs.layout.Layout.admit.Goals as goal
 
@@ -32,9 +33,17 @@ pub returns-in_default-clause-housed : goal.returns-in_default-clause-housed
 returns-in_default-clause-housed c =
     let now = c.args.self.now in
     record {
-      state = relaid c.self.inside.pages c.remove.new.self now c.self.inside.keeper c.take_frame.new.keeper now.rows (rest_again c.self.inside.pages c.insert.new.self c.remove.new.self c.in_ok-insert.ensures.rest c.remove.ensures.rest) c.self.view_is (rows_back c ∙ ap (λ (x : Lay). x.rows) c.self.view_is);
+      state = relaid_there c.self.inside.pages c.remove.new.self now c.self.inside.keeper c.take_frame.new.keeper now.rows
+          (rest_again c.self.inside.pages c.insert.new.self c.remove.new.self c.in_ok-insert.ensures.rest c.remove.ensures.rest) c.self.view_is
+          (rows_back c ∙ ap (λ (x : Lay). x.rows) c.self.view_is) (frames_back c);
       left = subst (λ (x : Lay). NoneLeft x.keeper c.take_frame.new.keeper c.args.row.home) c.self.view_is c.in_default.ensures.took.left;
     }
+
+pub returns-in_default-clause-admitted : goal.returns-in_default-clause-admitted
+returns-in_default-clause-admitted c = record {
+  searched = subst (λ (x : Lay). FindsNone x.keeper c.take_frame.new.keeper c.args.row.home) c.self.view_is c.in_default.ensures.made;
+  frames = frames_back c ∙ ap (λ (x : Lay). x.frames) c.self.view_is;
+}
 
 module _ (c : goal.After-replace) where
   rows_there : c.replace.new.self.listed.rows ≡ insert c.self.inside.pages.listed.rows (rank c.args.row.page c.self.inside.pages.listed.rows) c.args.row
@@ -55,4 +64,14 @@ returns-clause-housed c =
     record {
       state = relaid c.self.inside.pages c.replace.new.self now c.self.inside.keeper c.take_frame.new.keeper (with_row c.args.row now.rows) (rest_again c.self.inside.pages c.insert.new.self c.replace.new.self c.in_ok-insert.ensures.rest c.replace.ensures.rest) c.self.view_is (rows_there c ∙ sym c.in_ok-insert.ensures.rows ∙ c.in_ok-insert.ensures.added ∙ ap (λ (x : Lay). with_row c.args.row x.rows) c.self.view_is);
       does = subst (λ (x : Lay). Does x.keeper c.take_frame.new.keeper (c.args.row.home ∷ [])) c.self.view_is c.in-Some.ensures.took.does;
+    }
+
+pub returns-clause-admitted : goal.returns-clause-admitted
+returns-clause-admitted c =
+    let row = c.args.row in
+    let k = c.take_frame.new.keeper in
+    record {
+      frame = c.in-Some.frame;
+      provides = subst (λ (x : Lay). Provides x.keeper k row.home row.bytes c.in-Some.frame) c.self.view_is c.in-Some.ensures.made;
+      frames = frames_there c ∙ ap (λ (x : Lay). insert x.frames (rank row.page x.rows) c.in-Some.frame) c.self.view_is;
     }

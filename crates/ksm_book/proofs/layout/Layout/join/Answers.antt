@@ -1,14 +1,17 @@
-use Rattle.std.proofs.Common.{◌≡◌, ◌∙◌, [], Some, sym, ap, subst}
+use Rattle.std.proofs.Common.{◌≡◌, ◌∙◌, ℕ, [], ◌∷◌, Some, sym, ap, subst}
+use Rattle.frame_core.specs.declared.event.KeeperStep.TheVariants.{Add, Sub}
 use Rattle.ksm_base.specs.declared.row.DupRow.{DupRow}
 use Rattle.ksm_base.specs.Rows.{merged_into, item_count}
 use Rattle.std.proofs.Common.{◌≤◌, true}
 use Rattle.std.specs.Prelude.{Contains, slice_set}
-use Rattle.ksm_book.specs.Laid.{Lay, IsLaid}
+use Rattle.ksm_book.specs.Commands.{frame_of, Performs, joining}
+use Rattle.ksm_book.specs.Laid.{Lay, IsLaid, lay_of, mapped_lay}
 use Rattle.ksm_book.specs.Linked.{PagesView}
-use Rattle.ksm_book.specs.Listed.{rank}
-use Rattle.ksm_book.specs.Steps.{Does}
+use Rattle.ksm_book.specs.Listed.{Listed, rank}
+use Rattle.ksm_book.specs.Steps.{Does, Made}
 use Rattle.ksm_book.proofs.Laying.{lawful, shape_same, relisted}
 use Rattle.ksm_book.proofs.Logs.{chained}
+use Rattle.ksm_book.proofs.Made.{made_then}
 use Rattle.ksm_book.proofs.Ranks.{stands_as}
 use Rattle.ksm_book.proofs.Sharing.{item_base, joined_hand, laid_joined}
 use Rattle.ksm_book.proofs.layout.Layout.join.Goals as goal
@@ -47,3 +50,19 @@ returns-clause-does c =
     let first = c.share.ensures.does in
     let second = c.release.ensures.does in
     subst (λ (x : Lay). Does x.keeper c.release.new.keeper []) c.self.view_is (_, chained c.self.inside.keeper c.share.new.keeper c.release.new.keeper [] [] first.0 second.0 first.1 second.1)
+
+pub returns-clause-performs : goal.returns-clause-performs
+returns-clause-performs c =
+    let b = c.self.inside in
+    let old : Listed = b.pages.listed in
+    let here = c.in-Some.ensures.at.frame_is in
+    let there = c.in-Some-find.ensures.at.frame_is in
+    let both : Made b.keeper c.release.new.keeper (Add c.in-Some-find.other.frame ∷ Sub c.in-Some.lone.frame ∷ []) =
+    made_then b.keeper c.share.new.keeper c.release.new.keeper (Add c.in-Some-find.other.frame ∷ [])
+    (Sub c.in-Some.lone.frame ∷ []) c.share.ensures.made c.release.ensures.made in
+    subst (λ (x : Lay). Performs (mapped_lay x) (mapped_lay (lay_of c.join.new.self c.release.new.keeper))
+    (joining (mapped_lay x).listed c.args.row (frame_of (mapped_lay x).listed c.args.item.page))) c.self.view_is
+    (record {
+      made = subst (λ (z : ℕ × ℕ). Made b.keeper c.release.new.keeper (Add z.0 ∷ Sub z.1 ∷ [])) (λ t. (sym there t, sym here t)) both;
+      frames = c.in_ok-join.ensures.frames ∙ ap (slice_set old.frames (rank c.args.row.page old.rows)) (sym there);
+    })

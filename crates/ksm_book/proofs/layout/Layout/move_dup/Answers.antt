@@ -1,12 +1,15 @@
 use Rattle.std.proofs.Common.{◌≤◌, sym, subst, arith}
+use Rattle.frame_core.specs.Ledger.{frame_at}
+use Rattle.ksm_book.specs.Commands.{mounting}
 use Rattle.ksm_book.specs.Laid.{Lay}
+use Rattle.ksm_book.specs.Steps.{Made}
 use Rattle.ksm_book.specs.Mounted.{Mounted}
 use Rattle.std.proofs.Common.{ap, ◌∙◌}
 use Rattle.std.specs.Prelude.{find, ◌==◌, ◌&&◌}
 use Rattle.ksm_base.specs.Rows.{has_items}
 use Rattle.ksm_book.proofs.Found.{dup_known}
 use Rattle.ksm_book.proofs.Laying.{laid_kept, relisted}
-use Rattle.ksm_book.proofs.Remounts.{some_item, first_known, may_freeze, lost, laid_lost, mount_within, mount_place, mount_free, mount_dying, mount_wide, mount_some, mount_few, mount_loose, has_moved, laid_moved_dup}
+use Rattle.ksm_book.proofs.Remounts.{some_item, first_known, may_freeze, lost, laid_lost, mount_within, mount_place, mount_free, mount_dying, mount_wide, mount_some, mount_few, mount_loose, has_moved, laid_moved_dup, found_held, moves}
 use Rattle.ksm_book.proofs.layout.Layout.move_dup.Goals as goal
 
 pub item-requires : goal.item-requires
@@ -23,7 +26,8 @@ returns-in_default-clause-moved c =
 pub returns-in_default-find-clause-moved : goal.returns-in_default-find-clause-moved
 returns-in_default-find-clause-moved c =
     let b = c.self.inside in
-    let known = first_known b.pages b.keeper c.self.invariant c.args.self.now c.self.view_is c.requires.sound c.args.dup c.requires.live c.in-Some.item c.in-Some.ensures in
+    let known = first_known b.pages b.keeper c.self.invariant c.args.self.now c.self.view_is c.requires.sound c.args.dup c.requires.live c.in-Some.item
+    c.in-Some.ensures in
     absurd (grind (arith, known, c.in_default-find.ensures.at))
 
 pub invariant_of-self : goal.invariant_of-self
@@ -98,12 +102,50 @@ pub invariant_of-self-2 : goal.invariant_of-self-2
 invariant_of-self-2 c =
     let b = c.self.inside in
     let all = c.freeze.ensures.2.0 c.if-not-freeze.false in
-    let mounted = subst (λ x. Mounted c.freeze.new.self c.mount.new.keeper c.in-Some-find.held.frame c.in-Some-seek.frame c.args.dup.place x) c.base-items.ensures c.mount.ensures.mounted in
+    let mounted = subst (λ x. Mounted c.freeze.new.self c.mount.new.keeper c.in-Some-find.held.frame c.in-Some-seek.frame c.args.dup.place x)
+    c.base-items.ensures c.mount.ensures.mounted in
     relisted b.pages c.move_frames.new.self c.mount.new.keeper c.move_frames.ensures.rest (laid_moved_dup b.pages b.keeper c.self.invariant c.args.self.now c.self.view_is c.requires.sound c.args.dup c.requires.live c.in-Some.item c.in-Some.ensures c.in-Some-find.held.row c.in-Some-find.held.frame c.in-Some-find.ensures.at c.seek.new.keeper c.seek.ensures.own c.args.node c.in-Some-seek.frame c.requires.node c.requires.home c.in-Some-seek.ensures.found c.freeze.new.self c.freeze.ensures.0 c.freeze.ensures.1 all c.mount.new.keeper c.mount.ensures.own mounted c.move_frames.new.self.listed c.move_frames.ensures.rows c.move_frames.ensures.frames)
 
 pub returns-clause-moved : goal.returns-clause-moved
 returns-clause-moved c =
     let b = c.self.inside in
     let all = c.freeze.ensures.2.0 c.if-not-freeze.false in
-    let mounted = subst (λ x. Mounted c.freeze.new.self c.mount.new.keeper c.in-Some-find.held.frame c.in-Some-seek.frame c.args.dup.place x) c.base-items.ensures c.mount.ensures.mounted in
+    let mounted = subst (λ x. Mounted c.freeze.new.self c.mount.new.keeper c.in-Some-find.held.frame c.in-Some-seek.frame c.args.dup.place x)
+    c.base-items.ensures c.mount.ensures.mounted in
     has_moved b.pages b.keeper c.self.invariant c.args.self.now c.self.view_is c.requires.sound c.args.dup c.requires.live c.in-Some.item c.in-Some.ensures c.in-Some-find.held.row c.in-Some-find.held.frame c.in-Some-find.ensures.at c.seek.new.keeper c.seek.ensures.own c.args.node c.in-Some-seek.frame c.requires.node c.requires.home c.in-Some-seek.ensures.found c.freeze.new.self c.freeze.ensures.0 c.freeze.ensures.1 all c.mount.new.keeper c.mount.ensures.own mounted
+
+pub returns-in_default-clause-moves : goal.returns-in_default-clause-moves
+returns-in_default-clause-moves c =
+    let b = c.self.inside in
+    absurd (some_item b.pages b.keeper c.self.invariant c.args.self.now c.self.view_is c.requires.sound c.args.dup c.requires.live c.in_default.ensures)
+
+pub returns-in_default-find-clause-moves : goal.returns-in_default-find-clause-moves
+returns-in_default-find-clause-moves c =
+    let b = c.self.inside in
+    let known = first_known b.pages b.keeper c.self.invariant c.args.self.now c.self.view_is c.requires.sound c.args.dup c.requires.live c.in-Some.item
+    c.in-Some.ensures in
+    absurd (grind (arith, known, c.in_default-find.ensures.at))
+
+pub returns-then-not-freeze-clause-moves : goal.returns-then-not-freeze-clause-moves
+returns-then-not-freeze-clause-moves c =
+    let b = c.self.inside in
+    found_held b.pages b.keeper c.self.invariant c.args.self.now c.self.view_is c.requires.sound c.args.dup c.requires.live c.in-Some.item c.in-Some.ensures
+    c.in-Some-find.held.row c.in-Some-find.held.frame c.in-Some-find.ensures.at
+    c.seek.new.keeper c.seek.ensures.own c.args.node c.in-Some-seek.frame c.requires.node c.requires.home c.in-Some-seek.ensures.found
+    c.freeze.new.self c.freeze.ensures.0 c.freeze.ensures.1
+    (λ e. absurd (grind (arith, c.if-not-freeze.true, c.freeze.ensures.2.1 e))) c.in-Some-seek.ensures.made
+
+pub returns-clause-moves : goal.returns-clause-moves
+returns-clause-moves c =
+    let b = c.self.inside in
+    let all = c.freeze.ensures.2.0 c.if-not-freeze.false in
+    let mounted = subst (λ x. Mounted c.freeze.new.self c.mount.new.keeper c.in-Some-find.held.frame c.in-Some-seek.frame c.args.dup.place x)
+    c.base-items.ensures c.mount.ensures.mounted in
+    let made = subst (λ x. Made c.freeze.new.self c.mount.new.keeper
+    (mounting c.in-Some-find.held.frame c.in-Some-seek.frame c.args.dup.place x (frame_at c.freeze.new.self.ledger c.in-Some-find.held.frame).content))
+    c.base-items.ensures c.mount.ensures.made in
+    moves b.pages b.keeper c.self.invariant c.args.self.now c.self.view_is c.requires.sound c.args.dup c.requires.live c.in-Some.item c.in-Some.ensures
+    c.in-Some-find.held.row c.in-Some-find.held.frame c.in-Some-find.ensures.at
+    c.seek.new.keeper c.seek.ensures.own c.args.node c.in-Some-seek.frame c.requires.node c.requires.home c.in-Some-seek.ensures.found
+    c.freeze.new.self c.freeze.ensures.0 c.freeze.ensures.1 all c.mount.new.keeper c.mount.ensures.own mounted c.in-Some-seek.ensures.made made
+    c.move_frames.new.self c.move_frames.ensures.frames

@@ -1,13 +1,15 @@
-use Rattle.std.proofs.Common.{◌≡◌, ◌∙◌, ◌<◌, ◌≤◌, ◌^◌, false, [], Some, refl, sym, subst, arith}
-use Rattle.std.specs.Prelude.{All}
+use Rattle.std.proofs.Common.{◌≡◌, ◌∙◌, ◌<◌, ◌≤◌, ◌^◌, ℕ, Bool, false, [], ◌∷◌, ◌++◌, Some, refl, sym, subst, arith}
+use Rattle.std.specs.Prelude.{All, if◌then◌else◌}
 use Rattle.ksm_base.specs.Rows.{merged_into, row_at}
 use Rattle.ksm_base.specs.Values.{frames_of}
-use Rattle.frame_core.specs.declared.event.KeeperStep.TheVariants.{Publish}
-use Rattle.ksm_book.specs.Laid.{Lay, Founds, IsLaid}
-use Rattle.ksm_book.specs.Linked.{PagesView, IsVacant}
-use Rattle.ksm_book.specs.Steps.{Does}
+use Rattle.frame_core.specs.declared.event.KeeperStep.TheVariants.{Publish, Withdraw, Add, Sub}
+use Rattle.ksm_book.specs.Commands.{Performs, founding, withdrawing}
+use Rattle.ksm_book.specs.Laid.{Lay, Founds, IsLaid, lay_of, mapped_lay}
+use Rattle.ksm_book.specs.Linked.{PagesView, IsVacant, item_of_next}
+use Rattle.ksm_book.specs.Steps.{Does, Made}
 use Rattle.ksm_book.proofs.Logs.{chained, one_step}
-use Rattle.ksm_book.proofs.Paired.{few_there, first_lawful, second_lawful, laid_paired}
+use Rattle.ksm_book.proofs.Made.{made_one, made_then}
+use Rattle.ksm_book.proofs.Paired.{both_frames, few_there, first_lawful, second_lawful, laid_paired}
 use Rattle.ksm_book.proofs.Sharing.{not_taken, vacant_loose, spent_most}
 use Rattle.ksm_book.proofs.layout.Layout.pair.Goals as goal
 
@@ -81,3 +83,30 @@ returns-clause-does c =
     let two = chained k0 k1 k2 [] [] first.0 _ first.1 (one_step k1 k2 (Publish c.args.place c.in-Some.held.frame) 0 [] tt refl c.publish.ensures) in
     let three = chained k0 k2 k3 [] [] _ third.0 two third.1 in
     subst (λ (x : Lay). Does x.keeper k4 []) c.self.view_is (_, chained k0 k3 k4 [] [] _ fourth.0 three fourth.1)
+
+pub returns-clause-performs : goal.returns-clause-performs
+returns-clause-performs c =
+    let b = c.self.inside in
+    let p = b.pages in
+    let k0 = b.keeper in
+    let k1 = c.clear.new.keeper in
+    let k2 = c.publish.new.self in
+    let k3 = c.share.new.keeper in
+    let k4 = c.release.new.keeper in
+    let f : ℕ = c.in-Some.held.frame in
+    let g : ℕ = c.in-Some-find.lone.frame in
+    let place : ℕ = c.args.place in
+    let cleared : Made k0 k1 (withdrawing p.dups place) =
+    subst (λ (t : Bool). Made k0 k1 (if t then Withdraw place ∷ [] else [])) c.has_dup-taken.ensures c.clear.ensures.made in
+    let whole : Made k0 k4 (withdrawing p.dups place ++ (Publish place f ∷ Add f ∷ Sub g ∷ [])) =
+    made_then k0 k1 k4 (withdrawing p.dups place) (Publish place f ∷ Add f ∷ Sub g ∷ []) cleared
+    (made_then k1 k2 k4 (Publish place f ∷ []) (Add f ∷ Sub g ∷ []) (made_one k1 k2 (Publish place f) 0 c.publish.ensures)
+    (made_then k2 k3 k4 (Add f ∷ []) (Sub g ∷ []) c.share.ensures.made c.release.ensures.made)) in
+    subst (λ (x : Lay). Performs (mapped_lay x) (mapped_lay (lay_of c.pair.new.self k4))
+    (founding x.dups (mapped_lay x).listed place c.args.first c.args.second)) c.self.view_is
+    (record {
+      made = subst (λ (z : ℕ × ℕ). Made k0 k4 (withdrawing p.dups place ++ (Publish place z.0 ∷ Add z.0 ∷ Sub z.1 ∷ [])))
+          (λ t. (sym c.in-Some.ensures.at.frame_is t, sym c.in-Some-find.ensures.at.frame_is t)) whole;
+      frames = both_frames p.listed c.pair.new.self.listed c.in-Some.held.row (item_of_next p c.args.first)
+          (item_of_next p c.args.second) f c.in-Some.ensures.at c.in_ok-pair.ensures.rows;
+    })

@@ -1,14 +1,17 @@
 use Rattle.std.proofs.Common.{◌≡◌, ◌∙◌, ◌+◌, ◌<◌, ◌≤◌, ℕ, List, [], Some, None, sym, ap, subst, arith}
 use Rattle.std.specs.Prelude.{count_by, filter, find}
 use Rattle.ksm_base.specs.declared.shape.Shape.{Shape}
-use Rattle.ksm_base.proofs.Edits.{find_all}
+use Rattle.ksm_base.proofs.Edits.{find_all, find_none, none_counted}
+use Rattle.ksm_base.proofs.Orders.{ordered_filter}
 use Rattle.ksm_base.specs.declared.row.Row.{Row}
-use Rattle.ksm_base.specs.Rows.{has_items, is_stale}
+use Rattle.ksm_base.specs.Rows.{has_items, is_stale, InPlaceOrder}
 use Rattle.ksm_base.specs.Values.{frames_of}
 use Rattle.ksm_book.specs.Linked.{IsVacant, elsewhere}
+use Rattle.ksm_book.specs.Commands.{withdrawing}
 use Rattle.ksm_book.specs.Laid.{Lay}
+use Rattle.ksm_book.specs.Steps.{Made}
 use Rattle.ksm_book.proofs.Logs.{chained}
-use Rattle.ksm_book.proofs.Pruning.{none_stale, none_left, live_elsewhere, fewer_stale, dup_at, no_dup_at}
+use Rattle.ksm_book.proofs.Pruning.{none_stale, none_left, live_elsewhere, fewer_stale, dup_at, no_dup_at, Withdraws, withdraws_more, withdraws_all}
 use Rattle.ksm_book.proofs.layout.Layout.prune.Goals as goal
 
 pub loop-done-preserved : goal.loop-done-preserved
@@ -34,6 +37,40 @@ loop-done-preserved c =
       live = ap (filter (has_items now.rows)) dups ∙ live_elsewhere now.rows p l.dups vacant ∙ i.live;
       few = subst (λ ds. count_by (is_stale now.rows) ds + (c.loop-done.done + 1) ≤ count_by (is_stale now.rows) now.dups) (sym dups) (omega (arith, so_far, fewer));
       does = (_, chained now.keeper l.keeper new.keeper [] [] first.0 second.0 first.1 second.1);
+      rise = subst InPlaceOrder (sym dups) (ordered_filter (elsewhere p) l.dups i.rise);
+      withdraws = subst (Withdraws now.keeper new.keeper now.rows now.dups) (ap (λ q. filter (elsewhere q) l.dups) stale.2 ∙ sym dups)
+          (withdraws_more now.keeper l.keeper new.keeper now.rows now.dups l.dups stale.0 i.rise
+          (ap (λ r. find (is_stale r) l.dups) (sym rows) ∙ found) i.withdraws
+          (subst (λ q. Made l.keeper new.keeper (withdrawing l.dups q)) (sym stale.2) c.drop_stale.ensures.made));
+    }
+
+-- the places of all stale dups were withdrawn
+pub returns-in_default-clause-performs : goal.returns-in_default-clause-performs
+returns-in_default-clause-performs c =
+    let l : Lay = c.loop-done.self in
+    let i = c.loop-done.invariant in
+    let now : Lay = c.args.self.now in
+    let rows : l.rows ≡ now.rows = ap (λ (x : Lay). x.rows) i.state in
+    let none : find (is_stale now.rows) l.dups ≡ None = ap (λ r. find (is_stale r) l.dups) (sym rows)
+    ∙ ap (λ (x : Lay). find (is_stale x.rows) x.dups) (sym c.self-in-loop-done.view_is) ∙ no_dup_at _ c.in_default.ensures.place in
+    record {
+      made = withdraws_all now.keeper l.keeper now.rows now.dups l.dups (find_none (is_stale now.rows) l.dups none) i.withdraws;
+      frames = ap (λ (x : Lay). x.frames) i.state;
+    }
+
+pub returns-clause-performs : goal.returns-clause-performs
+returns-clause-performs c =
+    let l : Lay = c.loop-done.self in
+    let i = c.loop-done.invariant in
+    let now : Lay = c.args.self.now in
+    let count : c.count_stale-count.result ≡ count_by (is_stale now.rows) now.dups = c.count_stale-count.ensures
+    ∙ ap (λ (x : Lay). count_by (is_stale x.rows) x.dups) c.self.view_is in
+    let few = i.few in
+    let past = c.loop-done-test.false in
+    let none : count_by (is_stale now.rows) l.dups ≡ 0 = omega (arith, few, past, count) in
+    record {
+      made = withdraws_all now.keeper l.keeper now.rows now.dups l.dups (none_counted (is_stale now.rows) l.dups none) i.withdraws;
+      frames = ap (λ (x : Lay). x.frames) i.state;
     }
 
 -- no dup is stale any more
@@ -43,7 +80,8 @@ returns-in_default-clause-state c =
     let i = c.loop-done.invariant in
     let now : Lay = c.args.self.now in
     let rows : l.rows ≡ now.rows = ap (λ (x : Lay). x.rows) i.state in
-    let none : find (is_stale now.rows) l.dups ≡ None = ap (λ r. find (is_stale r) l.dups) (sym rows) ∙ ap (λ (x : Lay). find (is_stale x.rows) x.dups) (sym c.self-in-loop-done.view_is) ∙ no_dup_at _ c.in_default.ensures.place in
+    let none : find (is_stale now.rows) l.dups ≡ None = ap (λ r. find (is_stale r) l.dups) (sym rows)
+    ∙ ap (λ (x : Lay). find (is_stale x.rows) x.dups) (sym c.self-in-loop-done.view_is) ∙ no_dup_at _ c.in_default.ensures.place in
     i.state ∙ (λ t. record now { dups = (sym (none_stale now.rows l.dups none) ∙ i.live) t; keeper = l.keeper })
 
 pub returns-clause-state : goal.returns-clause-state
@@ -51,7 +89,8 @@ returns-clause-state c =
     let l : Lay = c.loop-done.self in
     let i = c.loop-done.invariant in
     let now : Lay = c.args.self.now in
-    let count : c.count_stale-count.result ≡ count_by (is_stale now.rows) now.dups = c.count_stale-count.ensures ∙ ap (λ (x : Lay). count_by (is_stale x.rows) x.dups) c.self.view_is in
+    let count : c.count_stale-count.result ≡ count_by (is_stale now.rows) now.dups = c.count_stale-count.ensures
+    ∙ ap (λ (x : Lay). count_by (is_stale x.rows) x.dups) c.self.view_is in
     let few = i.few in
     let past = c.loop-done-test.false in
     let none : filter (has_items now.rows) l.dups ≡ l.dups = none_left now.rows l.dups (omega (arith, few, past, count)) in

@@ -12,13 +12,20 @@ use Rattle.ksm_book.specs.Whole.{BookView}
 use Rattle.ksm_book.proofs.Found.{change_nothing, change_own, found_known, moved_page, moved_home}
 use Rattle.ksm_book.proofs.state.State.move_page.Goals as goal
 
--- a page on its home stays as it is
-pub returns-then-row-node-clause-state : goal.returns-then-row-node-clause-state
-returns-then-row-node-clause-state c =
-    let s = c.self.inside in
-    let same = change_nothing c.args.page (moved c.args.node) s.layout.rows c.in-Some.row c.self.invariant.rows_rise (sym c.in-Some.ensures) (moved_home c.args.node c.in-Some.row c.if-row-node.true) in
-    sym (ap (λ (x : BookView). x.state) c.self.view_is) ∙ ap (λ rows. record (state_of s.layout s.cursor s.passes) { rows = rows }) (sym same)
-    ∙ ap (λ (x : BookView). record x.state { rows = change_row c.args.page (moved c.args.node) x.state.rows }) c.self.view_is
+pub returns-then-row-node : goal.returns-then-row-node
+returns-then-row-node c = record {
+  own = search rules;
+  answer = search rules;
+  state =
+      let s = c.self.inside in
+      let same = change_nothing c.args.page (moved c.args.node) s.layout.rows c.in-Some.row c.self.invariant.rows_rise (sym c.in-Some.ensures)
+      (moved_home c.args.node c.in-Some.row c.if-row-node.true) in
+      sym (ap (λ (x : BookView). x.state) c.self.view_is) ∙ ap (λ rows. record (state_of s.layout s.cursor s.passes) { rows = rows }) (sym same)
+      ∙ ap (λ (x : BookView). record x.state { rows = change_row c.args.page (moved c.args.node) x.state.rows }) c.self.view_is;
+  steps = search rules;
+  frames = search rules;
+  shown = search rules;
+}
 
 pub resettle-requires-clause-known : goal.resettle-requires-clause-known
 resettle-requires-clause-known c = found_known c.args.page c.self.inside.layout.rows c.in-Some.row c.moved.result (sym c.in-Some.ensures) (ap (λ (x : Row). x.page) c.moved.ensures ∙ moved_page c.args.node c.in-Some.row)
@@ -31,8 +38,15 @@ there c =
     ∙ ap (λ (x : Row). record b { rows = change_row x.page (λ _. x) s.layout.rows }) c.moved.ensures
     ∙ ap (λ rows. record b { rows = rows }) (change_own c.args.page (moved c.args.node) s.layout.rows c.in-Some.row c.self.invariant.rows_rise (sym c.in-Some.ensures) (moved_page c.args.node c.in-Some.row))
 
-pub returns-clause-state : goal.returns-clause-state
-returns-clause-state c = there c ∙ ap (λ (x : BookView). record x.state { rows = change_row c.args.page (moved c.args.node) x.state.rows }) c.self.view_is
+pub returns : goal.returns
+returns c = record {
+  own = search rules;
+  answer = search rules;
+  state = there c ∙ ap (λ (x : BookView). record x.state { rows = change_row c.args.page (moved c.args.node) x.state.rows }) c.self.view_is;
+  steps = search rules;
+  frames = search rules;
+  shown = search rules;
+}
 
 pub invariant_of-self-2 : goal.invariant_of-self-2
 invariant_of-self-2 c =

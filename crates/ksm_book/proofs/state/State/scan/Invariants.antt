@@ -2,7 +2,9 @@ use Rattle.std.proofs.Common.{◌≡◌, []}
 use Rattle.std.specs.Prelude.{IfSome}
 use Rattle.ksm_base.specs.Visit.{visits}
 use Rattle.ksm_book.specs.Scanned.{GoesOnAt}
+use Rattle.ksm_book.specs.Commands.{Performs, scanning}
 use Rattle.ksm_book.specs.Steps.{Does}
+use Rattle.ksm_book.specs.Whole.{mapped}
 use Rattle.ksm_book.proofs.state.State.scan.Given as goal
 
 abbrev pub invariant-loop-done : goal.invariant-loop-done
@@ -11,4 +13,5 @@ invariant-loop-done l = record {
   state : l.self.state ≡ visits l.done l.fn.self.state;
   next : IfSome l.next (GoesOnAt l.self.state);
   does : Does l.fn.self.keeper l.self.keeper [];
+  performs : Performs (mapped l.fn.self) (mapped l.self) (scanning l.done l.fn.self.state l.fn.self.frames);
 }

@@ -1,4 +1,4 @@
-use Rattle.std.proofs.Common.{◌≡◌, ◌∙◌, ◌<◌, ℕ, List, Some, refl, sym, ap, subst}
+use Rattle.std.proofs.Common.{◌≡◌, ◌∙◌, ◌<◌, ℕ, List, Some, refl, sym, ap, subst, rules}
 use Rattle.ksm_base.specs.declared.page.GuestPage.{GuestPage}
 use Rattle.ksm_base.specs.declared.row.Row.{Row}
 use Rattle.ksm_base.specs.Apply.{stored}
@@ -24,8 +24,15 @@ written : (c : goal.After-rewrite) → state_of c.rewrite.new.self c.self.inside
 written c = ap (λ (x : Lay). state_of x c.self.inside.cursor c.self.inside.passes) c.rewrite.ensures.state
     ∙ ap (λ rows. state_of (record c.self.inside.layout { rows = rows }) c.self.inside.cursor c.self.inside.passes) (changed c.self.inside.layout.rows c.args.page c.args.bytes c.in-Some.row c.stored.result c.self.invariant.rows_rise (sym c.in-Some.ensures) c.stored.ensures)
 
-pub returns-then-not-is_merged-clause-state : goal.returns-then-not-is_merged-clause-state
-returns-then-not-is_merged-clause-state c = rw (← ap (λ (x : BookView). x.state) c.self.view_is) (written c)
+pub returns-then-not-is_merged : goal.returns-then-not-is_merged
+returns-then-not-is_merged c = record {
+  own = search rules;
+  answer = search rules;
+  state = rw (← ap (λ (x : BookView). x.state) c.self.view_is) (written c);
+  steps = search rules;
+  frames = search rules;
+  shown = search rules;
+}
 
 pub invariant_of-self : goal.invariant_of-self
 invariant_of-self c = subst IsSound (sym (written c))
@@ -41,8 +48,15 @@ there : (c : goal.Else-not-resettle) → state_of c.resettle.new.self c.self.ins
 there c = ap (λ (x : Lay). state_of x c.self.inside.cursor c.self.inside.passes) c.if-not-resettle.ensures.housed.state
     ∙ ap (λ rows. state_of (record c.self.inside.layout { rows = rows }) c.self.inside.cursor c.self.inside.passes) (changed c.self.inside.layout.rows c.args.page c.args.bytes c.in-Some.row c.stored-2.result c.self.invariant.rows_rise (sym c.in-Some.ensures) c.stored-2.ensures)
 
-pub returns-clause-state : goal.returns-clause-state
-returns-clause-state c = rw (← ap (λ (x : BookView). x.state) c.self.view_is) (there c)
+pub returns : goal.returns
+returns c = record {
+  own = search rules;
+  answer = search rules;
+  state = rw (← ap (λ (x : BookView). x.state) c.self.view_is) (there c);
+  steps = search rules;
+  frames = search rules;
+  shown = search rules;
+}
 
 pub invariant_of-self-2 : goal.invariant_of-self-2
 invariant_of-self-2 c = subst IsSound (sym (there c))

@@ -1,15 +1,17 @@
-use Rattle.std.proofs.Common.{inr, ◌≡◌, ◌∙◌, true, Some, None, refl, sym, ap, subst}
+use Rattle.std.proofs.Common.{inr, ◌≡◌, ◌∙◌, true, Option, Some, None, refl, sym, ap, subst}
 use Rattle.ksm_base.specs.declared.row.PageState.TheVariants.{Private, Merged}
+use Rattle.ksm_base.specs.declared.row.Row.{Row}
 use Rattle.ksm_base.specs.Rows.{change_row, merged_into}
 use Rattle.ksm_base.specs.Sound.{IsSound}
 use Rattle.ksm_base.specs.State.{BookState}
 use Rattle.ksm_base.specs.Visit.{is_best, next_row, row_visited}
 use Rattle.ksm_base.proofs.Edits.{find_passes}
 use Rattle.ksm_base.proofs.SoundScan.{next_row_visited, sound_row_visited}
-use Rattle.ksm_book.specs.Laid.{Lay, LodgesAs, state_of}
-use Rattle.ksm_book.specs.Whole.{BookView}
+use Rattle.ksm_book.specs.Commands.{Performs, frame_of, frame_found, joining, listed_in, row_visiting}
+use Rattle.ksm_book.specs.Laid.{Lay, LodgesAs, state_of, mapped_lay}
+use Rattle.ksm_book.specs.Whole.{BookView, mapped}
 use Rattle.ksm_book.proofs.Found.{change_known, dup_known, found_as}
-use Rattle.ksm_book.proofs.Visiting.{visited_at, best_has_item, best_joins, state_of_item, visited_by, marked_by}
+use Rattle.ksm_book.proofs.Visiting.{visited_at, best_has_item, best_joins, state_of_item, visited_by, visiting_by, marked_by}
 use Rattle.ksm_book.proofs.state.State.visit_row.Goals as goal
 use Rattle.ksm_book.proofs.state.State.visit_row.Goals.{In_ok-join}
 
@@ -80,3 +82,21 @@ invariant_of-self-then-not-row c =
     let b = state_of s.layout s.cursor s.passes in
     let next = ap (λ (x : BookView). next_row x.state.cursor x.state.rows) c.self.view_is ∙ c.requires.next in
     subst IsSound (sym (marked c)) (sound_row_visited b c.args.row (next_row_visited b c.args.row c.self.invariant next) c.self.invariant)
+
+pub returns-in_ok-join-clause-performs : goal.returns-in_ok-join-clause-performs
+returns-in_ok-join-clause-performs c =
+    let s = c.self.inside in
+    let b : BookState = state_of s.layout s.cursor s.passes in
+    let frames = s.layout.frames in
+    let row = c.args.row in
+    let new : BookView = record { state = state_of c.join.new.self s.cursor s.passes; frames = c.join.new.self.frames; keeper = c.join.new.self.keeper } in
+    let deed : row_visiting b frames row ≡ joining (listed_in b frames) row (frame_of (listed_in b frames) c.in-Some-item.item.page) =
+    visiting_by b frames row (Some c.in-Some.dup) (sym c.if-is_merged.ensures) (sym c.in-Some.ensures)
+    ∙ ap (λ (o : Option Row). joining (listed_in b frames) row (frame_found (listed_in b frames) o)) (sym c.in-Some-item.ensures) in
+    subst (λ (x : BookView). Performs (mapped x) (mapped new) (row_visiting x.state x.frames row)) c.self.view_is
+    (subst (Performs (mapped_lay s.layout) (mapped new)) (sym deed) c.in_ok-join.ensures.performs)
+
+pub returns-in_default-item-clause-performs : goal.returns-in_default-item-clause-performs
+returns-in_default-item-clause-performs c =
+    let s = c.self.inside in
+    absurd (best_has_item (state_of s.layout s.cursor s.passes) c.args.row c.in-Some.dup (sym c.in-Some.ensures) (sym c.in_default-item.ensures))
