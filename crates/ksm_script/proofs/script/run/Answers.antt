@@ -5,13 +5,13 @@ use Rattle.ksm_script.proofs.script.run.Goals as goal
 pub returns-clause-bad : goal.returns-clause-bad
 returns-clause-bad g c = λ number e.
     let b = c.answer_lines-ended.ensures.bad number e in
-    (b.0, b.1, b.2, (c.answer_lines-ended.new.session.state, b.3, c.give_back.ensures.given), b.4)
+    (b.0, b.1, b.2, record { last = c.answer_lines-ended.new.session.state; answered = b.3; given = c.give_back.ensures.given }, b.4)
 
 pub returns-clause-write_fault : goal.returns-clause-write_fault
 returns-clause-write_fault g c = λ e.
     let last = c.answer_lines-ended.new.session.state in
     let given = c.give_back.ensures.given in
-    ⊎_elim (λ a. inl (a.0, (last, a.1, given), a.2)) (λ b. inr (b.0, b.1, (last, b.2, given), b.3)) (c.answer_lines-ended.ensures.write_fault e)
+    ⊎_elim (λ a. inl (a.0, record { last = last; answered = a.1; given = given }, a.2)) (λ b. inr (b.0, b.1, record { last = last; answered = b.2; given = given }, b.3)) (c.answer_lines-ended.ensures.write_fault e)
 
 pub returns-clause-idle : goal.returns-clause-idle
 returns-clause-idle g c = ends_idle c.answer_lines-ended.new.session.state.passes c.give_back.new.self.state.passes c.give_back.ensures.given.0
