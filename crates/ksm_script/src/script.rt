@@ -58,7 +58,8 @@ pub fn run<R: Read, W: Write>(
         × AnsweredBefore (R.remaining reader.old) (R.remaining reader.new) session.old.state session.new.state text count rest
         × Appends (W.contents writer.old) (W.contents writer.new) text }
     ensures write_fault { result ≡ Err RunFault.Write → ((text : List ℕ) × (reply : LineReply)
-        × AnsweredAll (R.remaining reader.old) (R.remaining reader.new) session.old.state session.new.state (text ++ text_of reply)
+        × AnsweredAll (R.remaining reader.old) (R.remaining reader.new) session.old.state session.new.state
+        (text ++ text_of reply)
         × AppendsBroken (W.contents writer.old) (W.contents writer.new) text (text_of reply))
         ⊎ ((text : List ℕ) × (count : ℕ)
         × AnsweredToBad (R.remaining reader.old) (R.remaining reader.new) session.old.state session.new.state text count
@@ -88,7 +89,8 @@ pub fn run_buffered<R: Read, W: Write + Drop>(
         × AnsweredBefore (reader_remaining R.remaining reader.old) (reader_remaining R.remaining reader.new) session.old.state session.new.state text count rest
         × Appends (writer_contents W.contents writer.old) (writer_contents W.contents writer.new) text }
     ensures write_fault { result ≡ Err RunFault.Write → ((text : List ℕ) × (reply : LineReply)
-        × AnsweredAll (reader_remaining R.remaining reader.old) (reader_remaining R.remaining reader.new) session.old.state session.new.state (text ++ text_of reply)
+        × AnsweredAll (reader_remaining R.remaining reader.old) (reader_remaining R.remaining reader.new) session.old.state session.new.state
+        (text ++ text_of reply)
         × AppendsBroken (writer_contents W.contents writer.old) (writer_contents W.contents writer.new) text (text_of reply))
         ⊎ ((text : List ℕ) × (count : ℕ)
         × AnsweredToBad (reader_remaining R.remaining reader.old) (reader_remaining R.remaining reader.new) session.old.state session.new.state text count
@@ -115,7 +117,8 @@ fn run_by<M: TakesLines<R, W>, R, W: Write>(
         × AnsweredBefore (M.remaining reader.old) (M.remaining reader.new) session.old.state session.new.state text count rest
         × Appends (W.contents writer.old) (W.contents writer.new) text }
     ensures write_fault { result ≡ Err RunFault.Write → ((text : List ℕ) × (reply : LineReply)
-        × AnsweredAll (M.remaining reader.old) (M.remaining reader.new) session.old.state session.new.state (text ++ text_of reply)
+        × AnsweredAll (M.remaining reader.old) (M.remaining reader.new) session.old.state session.new.state
+        (text ++ text_of reply)
         × AppendsBroken (W.contents writer.old) (W.contents writer.new) text (text_of reply))
         ⊎ ((text : List ℕ) × (count : ℕ)
         × AnsweredToBad (M.remaining reader.old) (M.remaining reader.new) session.old.state session.new.state text count

@@ -38,7 +38,8 @@ module _ (old new : Option (List ℕ)) (from to : BookState) (begun written : Op
       × Appends begun written (text ++ text_of (bad_line number)))
       → (r ≡ Err Read → (text : List ℕ) × (count : ℕ) × (rest : List ℕ) × IsPlain rest × (length rest ≤ 256)
       × AnsweredBefore old new from to text count rest × Appends begun written text)
-      → (r ≡ Err Write → ((text : List ℕ) × (reply : LineReply) × AnsweredAll old new from to (text ++ text_of reply) × AppendsBroken begun written text (text_of reply))
+      → (r ≡ Err Write → ((text : List ℕ) × (reply : LineReply) × AnsweredAll old new from to (text ++ text_of reply)
+      × AppendsBroken begun written text (text_of reply))
       ⊎ ((text : List ℕ) × (count : ℕ) × AnsweredToBad old new from to text count × AppendsBroken begun written text (text_of (bad_line (count + 1)))))
       → Stands written
   stands_after (Ok AllRead) all bad read write = let a = all refl in (a.0, inl a.1, whole begun written a.0 a.2)
