@@ -1,6 +1,6 @@
 -- What a reader's buffer has of a line.
-use Rattle.std.proofs.Common.{◌≡◌, ◌≢◌, ◌==◌, ℕ, ◌+◌, ◌<◌, ◌≤◌, min, Bool, true, false, cond, List, [], ◌∷◌, ◌++◌, Option, None, Some, All, length, take, drop, get_or, refl, sym, ap, subst, ◌∙◌, arith, zero-le, append_assoc, take-append-drop, take-take}
-use Rattle.std.specs.Prelude.{if◌then◌else◌, option_map, IsTrue, ◌↔◌}
+use Rattle.std.proofs.Common.{◌≡◌, ◌≢◌, ◌==◌, ℕ, ◌+◌, ◌<◌, ◌≤◌, Bool, true, false, cond, List, [], ◌∷◌, ◌++◌, Option, None, Some, length, take, drop, get_or, refl, sym, ap, ◌∙◌, arith, zero-le, append_assoc, take-append-drop, take-take}
+use Rattle.std.specs.Prelude.{if◌then◌else◌, IsTrue, ◌↔◌}
 use Rattle.std.specs.Bool.{then_some}
 use Rattle.ksm_script.specs.declared.input.LineEnd.TheVariants.{TooLong}
 use Rattle.ksm_script.specs.Takes.{Extends}

@@ -1,16 +1,14 @@
 -- A word is read as a number exactly where it is the number's decimal text.
-use Rattle.std.proofs.Common.{◌≡◌, ℕ, ◌+◌, ◌-◌, ◌*◌, ◌^◌, ◌<◌, ◌≤◌, Bool, true, false, not, ◌&&◌, ◌||◌, ltb, eqb, List, length, take, get_or, eq-eqb, Some, None, Result, Ok, Err, inl, inr, refl, sym, ap, ap₂, subst, ◌∙◌, rules, arith}
-use Rattle.std.specs.Prelude.{MatchResult, decimal}
+use Rattle.std.proofs.Common.{◌≡◌, ℕ, ◌+◌, ◌-◌, ◌*◌, ◌^◌, ◌<◌, ◌≤◌, Bool, true, false, not, ◌&&◌, ◌||◌, ltb, eqb, List, length, take, get_or, eq-eqb, Some, None, inl, inr, refl, sym, ap, ap₂, subst, ◌∙◌, rules, arith}
+use Rattle.std.specs.Prelude.{decimal}
 use Rattle.std.specs.Char.{is_ascii_digit}
 use Rattle.std.specs.List.{list_all}
-use Rattle.std.specs.Str.{IsUtf8}
-use Rattle.std.specs.Str.Parse.{digits_value, ParsesUnsigned}
+use Rattle.std.specs.Str.Parse.{digits_value}
 use Rattle.std.proofs.lemmas.Bool.{cases_lt, le-ltb, lt-ltb, ltb-true, eqb-true}
-use Rattle.std.proofs.lemmas.Fmt.{IsAscii-from_digits, decimal_digit, decimal_nonempty, first_decimal, digits_decimal, digits_value-decimal, decimal-digits_value}
-use Rattle.std.proofs.lemmas.Str.{IsUtf8-from_ascii}
-use Rattle.std.proofs.lemmas.Str.Parse.{IsNumeralModel, numerals_by_value, parse_digits}
+use Rattle.std.proofs.lemmas.Fmt.{decimal_digit, decimal_nonempty, first_decimal, digits_decimal, digits_value-decimal, decimal-digits_value}
+use Rattle.std.proofs.lemmas.Str.Parse.{IsNumeralModel, numerals_by_value}
 use Rattle.ksm_script.specs.Digits.{digits_of}
-use Rattle.ksm_script.specs.Reading.{is_plain, number_below, number_of}
+use Rattle.ksm_script.specs.Reading.{is_plain, number_below}
 use Rattle.std.proofs.lemmas.Str.Parse.{digits_value-take-le}
 use Rattle.std.proofs.lemmas.Int.Digits.{digits_value_more}
 use Rattle.std.proofs.lemmas.List.Folds.{list_all_more}
@@ -62,8 +60,8 @@ digit_value_of : (c : ℕ) → 48 ≤ c → c ≤ 57 → digit_value c ≡ c - 4
 digit_value_of c low high = let less : c < 58 = omega arith in rw (le-ltb _ _ low, lt-ltb _ _ less) refl
 
 -- one digit more
-module _ (word : List ℕ) (i value digit : ℕ) (lt : i < length word) (low : 48 ≤ get_or word i 0) (high : get_or word i 0 ≤ 57) (is : digit ≡ get_or word i 0 - 48)
-    (read : IsReadTo i word value) where
+module _ (word : List ℕ) (i value digit : ℕ) (lt : i < length word) (low : 48 ≤ get_or word i 0) (high : get_or word i 0 ≤ 57)
+    (is : digit ≡ get_or word i 0 - 48) (read : IsReadTo i word value) where
   pub value_more : value * 10 + digit ≡ digits_value 10 (take (i + 1) word)
   value_more = ap₂ (λ v d. v * 10 + d) read.1 (is ∙ sym (digit_value_of (get_or word i 0) low high)) ∙ sym (digits_value_more 10 word i lt)
 

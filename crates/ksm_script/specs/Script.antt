@@ -54,13 +54,19 @@ AnsweredToBad old new from to text count =
     × IsPlain line × EndsAs end line bytes × IsBad end line new
 
 -- whole lines were read and answered with a text; then all holds were given back
-abbrev pub RunsThrough : Option (List ℕ) → Option (List ℕ) → ScriptState → ScriptState → List ℕ → Type 0
-RunsThrough old new from to text = (last : ScriptState) × AnsweredAll old new from last text × AllGivenBack last to
+pub record RunsThrough (old new : Option (List ℕ)) (from to : ScriptState) (text : List ℕ) : Type 0 where
+  pub last : ScriptState
+  pub answered : AnsweredAll old new from last text
+  pub given : AllGivenBack last to
 
 -- the same, where some bytes were read behind the lines
-abbrev pub RunsBefore : Option (List ℕ) → Option (List ℕ) → ScriptState → ScriptState → List ℕ → ℕ → List ℕ → Type 0
-RunsBefore old new from to text count bytes = (last : ScriptState) × AnsweredBefore old new from last text count bytes × AllGivenBack last to
+pub record RunsBefore (old new : Option (List ℕ)) (from to : ScriptState) (text : List ℕ) (count : ℕ) (bytes : List ℕ) : Type 0 where
+  pub last : ScriptState
+  pub answered : AnsweredBefore old new from last text count bytes
+  pub given : AllGivenBack last to
 
 -- the same, where a bad line was read behind them
-abbrev pub RunsToBad : Option (List ℕ) → Option (List ℕ) → ScriptState → ScriptState → List ℕ → ℕ → Type 0
-RunsToBad old new from to text count = (last : ScriptState) × AnsweredToBad old new from last text count × AllGivenBack last to
+pub record RunsToBad (old new : Option (List ℕ)) (from to : ScriptState) (text : List ℕ) (count : ℕ) : Type 0 where
+  pub last : ScriptState
+  pub answered : AnsweredToBad old new from last text count
+  pub given : AllGivenBack last to

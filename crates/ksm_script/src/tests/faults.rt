@@ -35,7 +35,6 @@ impl Read for Interrupted<'_> {
 #[test]
 fn the_reader_is_not_asked_again(rt: HostRuntime) -> Result<(), Fail> {
     let first: &[u8] = b"reg 0 0 0 aa\nget 0 0";
-    let page = "aaaaaaaaaaaaaaaaaaaaaaaaaaaaaaaa";
     for fails in [true, false] {
         let mut session = open(rt.alloc(), 1, 4, 1 << 40)?;
         let mut reader = Interrupted {
@@ -52,17 +51,27 @@ fn the_reader_is_not_asked_again(rt: HostRuntime) -> Result<(), Fail> {
         };
         assert_eq!(rt; outcome, wanted);
         assert_eq!(rt; reader.calls, first.len() + 1);
-        let text = if fails {
-            "ok\n".as_bytes()
+        let text: &[u8] = if fails {
+            b"ok
+"
         } else {
-            &b"ok\naaaaaaaaaaaaaaaaaaaaaaaaaaaaaaaa\n"[..]
+            b"ok
+aaaaaaaaaaaaaaaaaaaaaaaaaaaaaaaa
+"
         };
         assert_eq!(rt; written.as_slice(), text);
         let mut rest: &[u8] = b"get 0 0\n";
         let mut more = Vec::new(rt.alloc());
-        assert_eq!(rt; run(&rt, &mut rest, &mut more, &mut session), Ok(End::AllRead));
-        let line = format!(in rt.alloc(); "{page}\n")?;
-        assert_eq!(rt; more.as_slice(), line.as_bytes());
+        assert_eq!(rt;
+            run(&rt, &mut rest, &mut more, &mut session),
+            Ok(End::AllRead)
+        );
+        assert_eq!(rt;
+            more.as_slice(),
+            b"aaaaaaaaaaaaaaaaaaaaaaaaaaaaaaaa
+"
+                .as_slice()
+        );
         drop(session.close());
     }
     Ok(())
@@ -114,7 +123,7 @@ fn nothing_is_written_after_a_fault(rt: HostRuntime) -> Result<(), Fail> {
         assert_eq!(rt; outcome, Err(RunFault::Write), "{room}");
         assert_eq!(rt; writer.taken.as_slice(), &whole[..room], "{room}");
         let left = if room < 3 {
-            18
+            17
         } else if room < 36 {
             9
         } else {

@@ -5,13 +5,14 @@ use Rattle.ksm_script.proofs.script.run_buffered.Goals as goal
 pub returns-clause-bad : goal.returns-clause-bad
 returns-clause-bad g c = λ number e.
     let b = c.run_by-ended.ensures.bad number e in
-    (b.0, b.1, b.2, (c.run_by-ended.new.session.state, b.3, c.give_back.ensures.given), b.4)
+    (b.0, b.1, b.2, record { last = c.run_by-ended.new.session.state; answered = b.3; given = c.give_back.ensures.given }, b.4)
 
 pub returns-clause-write_fault : goal.returns-clause-write_fault
 returns-clause-write_fault g c = λ e.
     let last = c.run_by-ended.new.session.state in
     let given = c.give_back.ensures.given in
-    ⊎_elim (λ a. inl (a.0, a.1, (last, a.2, given), a.3)) (λ b. inr (b.0, b.1, (last, b.2, given), b.3)) (c.run_by-ended.ensures.write_fault e)
+    ⊎_elim (λ a. inl (a.0, a.1, record { last = last; answered = a.2; given = given }, a.3))
+    (λ b. inr (b.0, b.1, record { last = last; answered = b.2; given = given }, b.3)) (c.run_by-ended.ensures.write_fault e)
 
 pub returns-clause-idle : goal.returns-clause-idle
 returns-clause-idle g c = ends_idle c.run_by-ended.new.session.state.passes c.give_back.new.self.state.passes c.give_back.ensures.given.0
