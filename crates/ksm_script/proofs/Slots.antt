@@ -1,16 +1,16 @@
 -- Passes are taken out of their slots and put back.
-use Rattle.std.proofs.Common.{◌≡◌, ℕ, zero, suc, ◌+◌, ◌<◌, ◌≤◌, List, [], ◌∷◌, ◌++◌, length, map, take, drop, set, get_or, Option, Some, None, sym, refl, ap, ◌∙◌, subst, arith}
+use Rattle.std.proofs.Common.{◌≡◌, ℕ, zero, suc, ◌+◌, ◌<◌, List, [], ◌∷◌, ◌++◌, length, map, take, drop, set, get_or, Option, Some, None, sym, refl, ap, ◌∙◌, subst, arith}
 use Rattle.std.specs.Prelude.{All, IsSomeAnd, option_to_list, replicate, slice_get}
 use Rattle.std.specs.List.{AllZip}
-use Rattle.std.proofs.lemmas.List.{map-set, length-map, length-set, get_or-set_same, get_or-set_other}
+use Rattle.std.proofs.lemmas.List.{map-set, length-map, length-set}
 use Rattle.std.proofs.lemmas.List.Elements.{All-nil, All-cons, All-head, All-tail}
-use Rattle.frame_table.specs.Named.{TableName, PassView, HeldView}
+use Rattle.frame_table.specs.Named.{TableName, PassView}
 use Rattle.ksm_script.specs.declared.pass_state.PassState.{PassState}
 use Rattle.ksm_script.specs.declared.pass_state.PassState.TheVariants.{Idle, Holding}
 use Rattle.ksm_script.specs.declared.refusal.Refusal.TheVariants.{NoPass}
 use Rattle.ksm_script.specs.declared.reply.LineReply.{LineReply}
 use Rattle.ksm_script.specs.declared.reply.LineReply.TheVariants.{Refused}
-use Rattle.ksm_script.specs.Lookups.{table_of, AtPass, DoesAt, idle_of, HoldsStill, EndsIdle, IsIdle}
+use Rattle.ksm_script.specs.Lookups.{table_of, DoesAt, idle_of, HoldsStill, EndsIdle, IsIdle}
 use Rattle.ksm_script.specs.Slots.{present, AreThere, ActsAt, gaps, emptied, refilled, InBoth}
 
 pub filled : List PassState → List (Option PassState)

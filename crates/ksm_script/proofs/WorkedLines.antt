@@ -25,10 +25,10 @@ use Rattle.ksm_audit.specs.Lookups.{word_loads}
 use Rattle.ksm_script.specs.declared.line.Line.{Line}
 use Rattle.ksm_script.specs.declared.pass_state.PassState.{PassState}
 use Rattle.ksm_script.specs.declared.pass_state.PassState.TheVariants.{Idle, Holding}
-use Rattle.ksm_script.specs.declared.refusal.Refusal.TheVariants.{Book, NoPass, NotHolding, Holding as PassHolds}
+use Rattle.ksm_script.specs.declared.refusal.Refusal.TheVariants.{Book}
 use Rattle.ksm_script.specs.declared.reply.LineReply.{LineReply}
 use Rattle.ksm_script.specs.declared.reply.LineReply.TheVariants.{Done, Content, Scanned, Pruned, Unmerged, Value, Held, Gone, Audit, Refused}
-use Rattle.ksm_script.specs.Grammar.{AreWritten, parts_of, words_of}
+use Rattle.ksm_script.specs.Grammar.{words_of}
 use Rattle.ksm_script.specs.Forms.{line_at}
 use Rattle.ksm_script.specs.State.{ScriptState}
 use Rattle.ksm_script.specs.Lookups.{Found, LooksAt, GivesUp, AuditedBy, HoldsStill, idle_of}

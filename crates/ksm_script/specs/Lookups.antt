@@ -5,7 +5,7 @@ use Rattle.ksm_base.specs.declared.fault.Fault.TheVariants.{Memory, UnknownPlace
 use Rattle.ksm_base.specs.Values.{frames_of}
 use Rattle.frame_table.specs.declared.pass.Found.TheVariants as found
 use Rattle.frame_table.specs.declared.equal.FoundEqual.TheVariants as compared
-use Rattle.frame_table.specs.Named.{TableName, PassView, HeldView}
+use Rattle.frame_table.specs.Named.{TableName, PassView}
 use Rattle.frame_table.specs.Lookup.{LooksUp, Leaves}
 use Rattle.frame_table.specs.Equal.{LooksUpEqual}
 use Rattle.ksm_audit.specs.Lookups.{ReadsPage}

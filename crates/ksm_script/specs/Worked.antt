@@ -1,5 +1,5 @@
 -- Worked lines, by which the definitions of the script are tried: what a line is answered in a state, and what never (own).
-use Rattle.std.specs.Prelude.{◌≡◌, ℕ, List, [], ◌∷◌, ◌++◌, length, Option, None, Some, Ok, Err, codes}
+use Rattle.std.specs.Prelude.{◌≡◌, ℕ, List, [], ◌∷◌, ◌++◌, length, Option, None, Some, Ok, codes}
 use Rattle.std.specs.Global.{Vec}
 use Rattle.ksm_base.specs.declared.page.GuestPage.{GuestPage}
 use Rattle.ksm_base.specs.declared.command.Command.{Command}

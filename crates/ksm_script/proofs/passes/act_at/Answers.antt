@@ -1,5 +1,4 @@
-use Rattle.std.proofs.Common.{◌≡◌, sym, ◌∙◌, subst, List, Option, Some, None}
-use Rattle.frame_table.specs.Named.{TableName}
+use Rattle.std.proofs.Common.{◌≡◌, sym, subst, List, Option, Some, None}
 use Rattle.std.specs.Prelude.{slice_get}
 use Rattle.ksm_script.specs.declared.pass_state.PassState.{PassState}
 use Rattle.ksm_script.specs.Lookups.{table_of, Acts}

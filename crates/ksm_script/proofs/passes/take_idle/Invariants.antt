@@ -1,4 +1,4 @@
-use Rattle.std.proofs.Common.{◌≡◌, ◌≤◌, ◌++◌, map, take, drop, length, vec_len, vec_capacity}
+use Rattle.std.proofs.Common.{◌≡◌, ◌≤◌, ◌++◌, map, take, drop, vec_len, vec_capacity}
 use Rattle.ksm_script.specs.Lookups.{idle_of}
 use Rattle.ksm_script.specs.Slots.{present, emptied}
 use Rattle.ksm_script.proofs.passes.take_idle.Given as goal

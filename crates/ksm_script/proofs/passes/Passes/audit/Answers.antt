@@ -1,6 +1,5 @@
 use Rattle.std.proofs.Common.{rules, ◌≡◌, ◌≤◌, [], List, length, sym, ap, ◌∙◌, subst, arith, vec_len, vec_capacity}
 use Rattle.std.specs.Prelude.{All}
-use Rattle.std.specs.List.{AllZip}
 use Rattle.frame_table.specs.Named.{PassView}
 use Rattle.ksm_script.specs.declared.pass_state.PassState.{PassState}
 use Rattle.ksm_script.specs.Lookups.{table_of, idle_of, AuditedBy, Audits}
