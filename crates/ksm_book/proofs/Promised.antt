@@ -1,8 +1,8 @@
 -- A lawful placement says the sentences that are promised.
 use Rattle.std.proofs.Common.{inl, inr, ◌≡◌, ◌≢◌, ℕ, zero, suc, ◌+◌, ◌<◌, ◌≤◌, Bool, true, false, List, [], ◌∷◌, ◌++◌, length, map, get_or, Option, Some, None, refl, sym, ap, ◌∙◌, subst, arith}
-use Rattle.std.specs.Prelude.{All, AllPairs, Contains, ◌==◌, not, count_by, filter, is_some, nat_lt, slice_index}
+use Rattle.std.specs.Prelude.{All, AllPairs, Contains, ◌==◌, not, count_by, filter, is_some, slice_index}
 use Rattle.std.specs.List.{zip}
-use Rattle.std.proofs.lemmas.Bool.{cases_Bool, lt-ltb, ltb-true, not-true}
+use Rattle.std.proofs.lemmas.Bool.{cases_Bool, lt-ltb, not-true}
 use Rattle.std.proofs.lemmas.Bool.Decides.{nat_tests}
 use Rattle.std.proofs.lemmas.List.Elements.{All-cons, All-head, All-tail, All-filter, All-map, All-weaker, filter_passes, Contains-append_left, Contains-append_right}
 use Rattle.std.proofs.lemmas.List.Kept.{AllPairs-cons, AllPairs-filter}
@@ -23,10 +23,10 @@ use Rattle.frame_core.specs.declared.seat.Life.{Life}
 use Rattle.frame_core.specs.Ledger.{frame_at, named_at}
 use Rattle.frame_table.specs.Named.{KeeperView}
 use Rattle.ksm_book.specs.Lawful.{LieLawfully}
-use Rattle.ksm_book.specs.Placement.{row_in, no_row, uses, kind_for, FitsBase, life_or, place_frame, place_life, IsInLife, Placed}
+use Rattle.ksm_book.specs.Placement.{row_in, no_row, uses, kind_for, FitsBase, life_or, place_frame, Placed}
 use Rattle.ksm_book.specs.Promised.{own_frames, dup_frames, is_in_use, HasItsOwn, StandsOn, IsOutlived, LieOn, LiesInFrames}
 use Rattle.ksm_book.proofs.Laying.{own_kind}
-use Rattle.ksm_book.proofs.Moves.{base_is_items, stale_is_loose, uses_some}
+use Rattle.ksm_book.proofs.Moves.{base_is_items, stale_is_loose}
 use Rattle.ksm_book.proofs.Standing.{Lives, frames_apart, lives}
 
 -- what holds of each row with its frame
