@@ -1,4 +1,4 @@
-use Rattle.std.proofs.Common.{◌≤◌, ◌^◌, subst}
+use Rattle.std.proofs.Common.{subst}
 use Rattle.ksm_book.specs.Laid.{state_of}
 use Rattle.ksm_book.specs.Promised.{FindsPlace, LieOn, NumbersAreSmall}
 use Rattle.ksm_book.specs.Whole.{BookView}
