@@ -1,0 +1,41 @@
+//! The pages of the book, and what its callers command.
+use ksm_base::{Command, GuestPage, PAGE_WORDS};
+use ksm_shared::{Ksm, Naming, Share};
+use std::sync::Wait;
+
+// A page of a guest, with this word everywhere.
+fn register(guest: u16, page: u32, word: u64) -> Command {
+    Command::Register {
+        page: GuestPage { guest, page },
+        node: 0,
+        bytes: [word; PAGE_WORDS],
+    }
+}
+
+/// 64 pages of guest 0, merged in pairs, and a page for each of the guests 1 to 4.
+pub fn prepare<N: Naming>(rt: &impl Wait, ksm: &Ksm<N>, share: &mut Share<N>) {
+    for page in 0..64 {
+        let _ = ksm.command(rt, share, register(0, page, u64::from(page / 2) + 1));
+    }
+    let _ = ksm.command(rt, share, Command::SetRun(1));
+    let _ = ksm.command(rt, share, Command::Scan { visits: 128 });
+    for guest in 1..5 {
+        let _ = ksm.command(rt, share, register(guest, 0, (1 << 40) + u64::from(guest)));
+    }
+}
+
+/// So many stores to the guest's page.
+pub fn store_all<N: Naming>(
+    rt: &impl Wait,
+    ksm: &Ksm<N>,
+    mut share: Share<N>,
+    guest: u16,
+    rounds: u64,
+) -> Share<N> {
+    let page = GuestPage { guest, page: 0 };
+    for round in 0..rounds {
+        let bytes = [round; PAGE_WORDS];
+        let _ = ksm.command(rt, &mut share, Command::Store { page, bytes });
+    }
+    share
+}
