@@ -12,6 +12,7 @@ use Rattle.frame_core.specs.declared.frame.Kind.TheVariants.{Free, Retired}
 use Rattle.frame_core.specs.declared.ledger.Ledger.{Ledger}
 use Rattle.frame_core.specs.declared.ledger.Note.{Note}
 use Rattle.ksm_base.specs.declared.shape.Shape.{Shape}
+use Rattle.frame_core.specs.State.{count_in}
 use Rattle.frame_core.specs.Ledger.{frame_at, blank, with_frame, ledger_after}
 use Rattle.frame_table.specs.Named.{KeeperView}
 use Rattle.frame_table.specs.Kept.{did}
@@ -73,7 +74,7 @@ abbrev reaped_note : Shape → Note → Note
 reaped_note sh n = record { kind = cond (n.generation == sh.last_generation) Retired Free; base = 0; generation = n.generation; content = n.content }
 
 other_reaped : (sh : Shape) (k : Ledger) (g f found : ℕ) → f ≢ g → frame_at (ledger_after sh k (Reap g) found) f ≡ frame_at k f
-other_reaped sh k g f found ne = elim (found == 0) as (λ b. frame_at (cond b (with_frame k g (reaped_note sh (frame_at k g))) k) f ≡ frame_at k f) [
+other_reaped sh k g f found ne = elim (count_in found == 0) as (λ b. frame_at (cond b (with_frame k g (reaped_note sh (frame_at k g))) k) f ≡ frame_at k f) [
   | true ↦ get_or-set_other k.frames g f (reaped_note sh (frame_at k g)) blank ne
   | false ↦ refl
 ]
@@ -117,11 +118,11 @@ pub reaps_there : (v w : KeeperView) (sh : Shape) (node : ℕ) → sh ≡ v.tabl
 reaps_there v w sh node e m = subst (λ (s : Shape). Made v w (map Reap (dying_on s v.ledger node))) e m
 
 -- a frame that was found is raised, stored to and opened
-pub filled_by : (v a b w : KeeperView) (g found : ℕ) (bytes : List ℕ) → a ≡ did v (Raise g) found → Did a b [] (puts g 0 bytes) → w ≡ did b (Open g) 0
+pub filled_by : (v a b w : KeeperView) (g found opened : ℕ) (bytes : List ℕ) → a ≡ did v (Raise g) found → Did a b [] (puts g 0 bytes) → w ≡ did b (Open g) opened
     → Made v w (Raise g ∷ (steps_of (puts g 0 bytes) ++ Open g ∷ []))
-filled_by v a b w g found bytes raised stored opened =
+filled_by v a b w g found word bytes raised stored opened =
     made_then v a w (Raise g ∷ []) _ (made_one v a (Raise g) found raised)
-    (made_then a b w _ (Open g ∷ []) (made_part a b [] (puts g 0 bytes) stored) (made_one b w (Open g) 0 opened))
+    (made_then a b w _ (Open g ∷ []) (made_part a b [] (puts g 0 bytes) stored) (made_one b w (Open g) word opened))
 
 -- references come one by one
 pub added_more : (v w w' : KeeperView) (f n found : ℕ) → Made v w (replicate n (Add f)) → w' ≡ did w (Add f) found → Made v w' (replicate (n + 1) (Add f))

@@ -127,7 +127,7 @@ module _ (v v1 v2 v3 v4 v5 v6 : KeeperView) (f g place count found opened : ℕ)
       (made_then v v1 v6 (Raise g ∷ []) _ (made_one v v1 (Raise g) found raises)
       (made_then v1 v2 v6 (steps_of (loads f 0 bytes)) _ (made_part v1 v2 [] (loads f 0 bytes) loads'.did)
       (made_then v2 v3 v6 (steps_of (puts g 0 bytes)) _ (made_part v2 v3 [] (puts g 0 bytes) writes.did)
-      (made_then v3 v4 v6 (Open g ∷ []) _ (made_one v3 v4 (Open g) 0 opens)
+      (made_then v3 v4 v6 (Open g ∷ []) _ (made_one v3 v4 (Open g) opened opens)
       (made_then v4 v5 v6 (replicate (count - 1) (Add g)) _ added (made_one v5 v6 (Publish place g) 0 shows))))))
 
 -- frames of other kinds are others

@@ -17,4 +17,3 @@ pub mod Scanned
 pub mod Tallied
 pub mod Wanted
 pub mod Entered
-pub mod Carried

@@ -94,6 +94,6 @@ returns-clause-made c =
         reaped = reaps_there v w c.args.shape c.args.node c.requires.shape c.reap_node.ensures.made;
         lowest = low_there v w c.args.node g c.reap_node.ensures.own c.in-Some.ensures;
       };
-      fills = filled_by w c.raise.new.self c.write.new.keeper c.open.new.self g c.raise.ensures.0 c.args.bytes c.raise.ensures.1 c.write.ensures.wrote.did
+      fills = filled_by w c.raise.new.self c.write.new.keeper c.open.new.self g c.raise.ensures.0 _ c.args.bytes c.raise.ensures.1 c.write.ensures.wrote.did
           c.open.ensures;
     }

@@ -1,11 +1,13 @@
-use Rattle.std.proofs.Common.{◌≡◌, ◌∙◌, refl, sym, ap, subst}
+use Rattle.std.proofs.Common.{◌≡◌, ◌∙◌, ℕ, Option, refl, sym, ap, subst}
+use Rattle.ksm_base.specs.declared.row.Row.{Row}
 use Rattle.ksm_base.specs.declared.row.PageState.TheVariants.{Waiting}
 use Rattle.ksm_base.specs.Rows.{with_dup}
 use Rattle.ksm_base.specs.Sound.{IsSound}
 use Rattle.ksm_base.specs.Visit.{next_row, partner, paired, made_dup}
 use Rattle.ksm_base.proofs.SoundScan.{next_row_visited, sound_paired}
 use Rattle.ksm_book.specs.Laid.{Lay, founded, state_of}
-use Rattle.ksm_book.specs.Whole.{BookView}
+use Rattle.ksm_book.specs.Commands.{Performs, founding, listed_in, pairing}
+use Rattle.ksm_book.specs.Whole.{BookView, mapped}
 use Rattle.ksm_book.proofs.Found.{change_known}
 use Rattle.ksm_book.proofs.Standing.{partner_finds_place}
 use Rattle.ksm_book.proofs.Visiting.{visited_at, partner_founds, joins_new, both_joined, same_dup, apart}
@@ -101,3 +103,15 @@ invariant_of-self-2 c =
     let b = state_of s.layout s.cursor s.passes in
     let next = ap (λ (x : BookView). next_row x.state.cursor x.state.rows) c.self.view_is ∙ c.requires.next in
     subst IsSound (sym (merged c)) (sound_paired b c.args.row (next_row_visited b c.args.row c.self.invariant next) c.self.invariant (partner b.knobs b.rows c.args.row) refl)
+
+-- the dup is founded at the place that the definition names
+pub returns-clause-performs : goal.returns-clause-performs
+returns-clause-performs c =
+    let s = c.self.inside in
+    let b = state_of s.layout s.cursor s.passes in
+    let row = c.args.row in
+    let old = mapped (record { state = b; frames = s.layout.frames; keeper = s.layout.keeper }) in
+    let new = mapped (record { state = state_of c.pair.new.self s.cursor s.passes; frames = c.pair.new.self.frames; keeper = c.pair.new.self.keeper }) in
+    let placed = subst (λ (p : ℕ). Performs old new (founding b.dups (listed_in b s.layout.frames) p c.in-Some.other row)) c.new_place-place.ensures c.in_ok-pair.ensures.performs in
+    let paired_so = subst (λ (o : Option Row). Performs old new (pairing o b s.layout.frames row)) c.in-Some.ensures placed in
+    subst (λ (x : BookView). Performs (mapped x) new (pairing (partner x.state.knobs x.state.rows row) x.state x.frames row)) c.self.view_is paired_so
