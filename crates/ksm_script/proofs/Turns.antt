@@ -127,6 +127,6 @@ module _ (first now later : Option (List ℕ)) (begun written : Option (List ℕ
       (line, read.bytes, end, (so.lines, so.answered, consumed_then), read.plain, read.ends, bad_of later end line bad read.last)
 
 -- the same where the reply is known
-pub answered_told : (old new : Option (List ℕ)) (from to : BookState) (text : List ℕ) (reply : Option LineReply) (told : LineReply) → reply ≡ Some told
+pub answered_told : (old new : Option (List ℕ)) (from to : ScriptState) (text : List ℕ) (reply : Option LineReply) (told : LineReply) → reply ≡ Some told
     → AnsweredAll old new from to (text ++ reply_text reply) → AnsweredAll old new from to (text ++ text_of told)
 answered_told old new from to text reply told is all = subst (λ (r : Option LineReply). AnsweredAll old new from to (text ++ reply_text r)) is all

@@ -2,6 +2,11 @@ use Rattle.std.proofs.Common.{⊎_elim, inl, inr}
 use Rattle.ksm_script.proofs.Slots.{ends_idle}
 use Rattle.ksm_script.proofs.script.run_buffered.Goals as goal
 
+pub returns-clause-all : goal.returns-clause-all
+returns-clause-all g c = λ e.
+    let a = c.run_by-ended.ensures.all e in
+    (a.0, record { last = c.run_by-ended.new.session.state; answered = a.1; given = c.give_back.ensures.given }, a.2, a.3)
+
 pub returns-clause-bad : goal.returns-clause-bad
 returns-clause-bad g c = λ number e.
     let b = c.run_by-ended.ensures.bad number e in
