@@ -36,7 +36,7 @@ impl Read for Interrupted<'_> {
 fn the_reader_is_not_asked_again(rt: HostRuntime) -> Result<(), Fail> {
     let first: &[u8] = b"reg 0 0 0 aa\nget 0 0";
     for fails in [true, false] {
-        let mut session = open(rt.alloc(), 1, 4, 1 << 40)?;
+        let mut session = open(rt.alloc(), ROW)?;
         let mut reader = Interrupted {
             first,
             fails,
@@ -113,7 +113,7 @@ fn nothing_is_written_after_a_fault(rt: HostRuntime) -> Result<(), Fail> {
     let script: &[u8] = b"reg 0 0 0 aa\nget 0 0\ndrop 0 0\n";
     let whole = b"ok\naaaaaaaaaaaaaaaaaaaaaaaaaaaaaaaa\nok\n";
     for room in 0..whole.len() {
-        let mut session = open(rt.alloc(), 1, 4, 1 << 40)?;
+        let mut session = open(rt.alloc(), ROW)?;
         let mut reader = script;
         let mut writer = FailsOnce {
             taken: Vec::new(rt.alloc()),
