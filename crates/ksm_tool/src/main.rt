@@ -22,25 +22,32 @@ use std::thread::Threads;
 const BLOCK: usize = 65536;
 
 fn main(rt: HostRuntime) -> ExitCode {
-    ExitCode::from(ran(&rt))
+    ExitCode::from(ran(&rt, &rt))
 }
 
-/// How the program ends, from its words on.
-fn ran<R: Env + Input + Print + Eprint + AllocGlobal + Threads + Sync>(rt: &R) -> Status {
+/// How the program ends, from its words on. Audits run in the threads.
+fn ran<R: Env + Input + Print + Eprint + AllocGlobal, T: Threads + Sync>(
+    rt: &R,
+    threads: &T,
+) -> Status {
     let session = words(rt).and_then(|words| opened(rt, words.as_slice()));
     match session {
-        Ok(session) => served(rt, session),
+        Ok(session) => served(rt, threads, session),
         Err(status) => status,
     }
 }
 
 /// Answers the script on standard input. What could not be sent is let go, and not tried again.
-fn served<R: Input + Print + AllocGlobal + Threads + Sync>(rt: &R, mut session: Session) -> Status {
+fn served<R: Input + Print + AllocGlobal, T: Threads + Sync>(
+    rt: &R,
+    threads: &T,
+    mut session: Session,
+) -> Status {
     let reader = BufReader::with_capacity(rt.alloc(), BLOCK, rt.reader());
     let writer = BufWriter::with_capacity(rt.alloc(), BLOCK, io::writer(rt));
     let status = match (reader, writer) {
         (Ok(mut reader), Ok(mut writer)) => {
-            let status = answer(rt, &mut reader, &mut writer, &mut session);
+            let status = answer(threads, &mut reader, &mut writer, &mut session);
             let _ = writer.into_parts();
             status
         }

@@ -289,7 +289,12 @@ impl Eprint for Host<'_> {
 }
 
 /// How the program ends at these words and this input, what it printed, and whether it said why.
-fn ended(alloc: Global, words: &[&[u8]], input: &[u8]) -> (Status, Vec<u8>, bool) {
+fn ended<T: Threads + Sync>(
+    threads: &T,
+    alloc: Global,
+    words: &[&[u8]],
+    input: &[u8],
+) -> (Status, Vec<u8>, bool) {
     let host = Host {
         alloc,
         words,
@@ -297,7 +302,7 @@ fn ended(alloc: Global, words: &[&[u8]], input: &[u8]) -> (Status, Vec<u8>, bool
         printed: RefCell::new(Vec::new(alloc)),
         said: RefCell::new(Vec::new(alloc)),
     };
-    let status = ran(&host);
+    let status = ran(&host, threads);
     let Host { printed, said, .. } = host;
     (status, printed.into_inner(), !said.into_inner().is_empty())
 }
@@ -307,14 +312,14 @@ fn ended(alloc: Global, words: &[&[u8]], input: &[u8]) -> (Status, Vec<u8>, bool
 fn each_end_has_its_status(rt: HostRuntime) -> Result<(), Fail> {
     let shape: [&[u8]; 5] = [b"ksmbook", b"--nodes", b"1", b"--frames", b"4"];
     let script = b"reg 0 0 0 aa\nget 0 0\n";
-    let run = ended(rt.alloc(), &shape, script);
+    let run = ended(&rt, rt.alloc(), &shape, script);
     assert_eq!(rt; run.0, Status::Done);
     assert_eq!(rt;
         run.1.as_slice(),
         b"ok\naaaaaaaaaaaaaaaaaaaaaaaaaaaaaaaa\n".as_slice()
     );
     assert!(rt; !run.2);
-    let run = ended(rt.alloc(), &shape, b"reg 0 0 0 aa\nfoo\n");
+    let run = ended(&rt, rt.alloc(), &shape, b"reg 0 0 0 aa\nfoo\n");
     assert_eq!(rt; run.0, Status::NotUnderstood);
     assert_eq!(rt; run.1.as_slice(), b"ok\nbad line 2\n".as_slice());
     assert!(rt; !run.2);
@@ -344,7 +349,7 @@ fn wrong_words_have_their_status(rt: HostRuntime) -> Result<(), Fail> {
         &[b"ksmbook", b"--nodes", b"1", b"--frames", b"\xff"],
     ];
     for words in lines {
-        let run = ended(rt.alloc(), words, b"stat\n");
+        let run = ended(&rt, rt.alloc(), words, b"stat\n");
         assert_eq!(rt; run.0, Status::NotUnderstood);
         assert!(rt; run.1.is_empty());
         assert!(rt; run.2);
