@@ -12,11 +12,11 @@ use Rattle.frame_core.specs.declared.event.KeeperStep.{KeeperStep}
 use Rattle.frame_core.specs.declared.event.KeeperStep.TheVariants as keeper
 use Rattle.frame_core.specs.declared.frame.Frame.{Frame}
 use Rattle.frame_core.specs.declared.frame.Kind.{Kind}
-use Rattle.frame_core.specs.declared.frame.Kind.TheVariants.{Free, Filling, Private, Stable, Dying, Retired}
+use Rattle.frame_core.specs.declared.frame.Kind.TheVariants.{Filling, Private}
 use Rattle.frame_core.specs.declared.seat.Life.{Life}
 use Rattle.frame_core.specs.declared.seat.Aim.{Aim}
 use Rattle.frame_core.specs.declared.seat.Phase.{Phase}
-use Rattle.frame_core.specs.declared.seat.Phase.TheVariants.{Idle, Placed, Counted, Held, Spent}
+use Rattle.frame_core.specs.declared.seat.Phase.TheVariants.{Idle, Placed, Counted, Held}
 use Rattle.frame_core.specs.State.{State, opening, new_frame, place_word, frame_word, word_of}
 use Rattle.frame_core.specs.KeeperSteps.{keeper_step, at_frame, reap_step, put_step, raise_step, open_step, add_step, sub_step, freeze_step, word_step, publish_step, withdraw_step, is_filling, is_private}
 use Rattle.frame_core.specs.ReaderSteps.{reader_step, is_alive, is_still, load_place_step, load_frame_step, load_word_step, exchange_step, leave_step, given_back, aimed_at}
@@ -45,10 +45,7 @@ told_at_frame s t e f change tells r is =
 writable_is : (k : Kind) → (is_filling k || is_private k) ≡ true → Writable k
 writable_is Filling e = tt
 writable_is Private e = tt
-writable_is Free e = absurd (cc (e))
-writable_is Stable e = absurd (cc (e))
-writable_is Dying e = absurd (cc (e))
-writable_is Retired e = absurd (cc (e))
+writable_is _ e = absurd (cc (e))
 
 told_put : (s : State) (t : List Entry) (f i w : ℕ) → Told s (tale_of t) → (old : Frame) (r : ℕ × Frame) → slice_get s.frames f ≡ Some old → put_step i w old ≡ Some r
     → ToldAfter t (event.Keeper (keeper.Put f i w)) (r.0, record s { frames = slice_set s.frames f r.1 })
@@ -101,10 +98,7 @@ told_load_place : (s : State) (t : List Entry) (q p : ℕ) → Told s (tale_of t
 told_load_place s t q p told Idle at r e =
     let P = map_parts (λ (place : Option Life). (place_word place, aimed_at p place)) (slice_get s.places p) r e in
     subst (ToldSeat s t q (reader.LoadPlace p)) P.2 (tell_load_place s (tale_of t) q p P.0 at P.1 told)
-told_load_place s t q p told (Placed aim failures) at r e = absurd (cc (e))
-told_load_place s t q p told (Counted aim failures count) at r e = absurd (cc (e))
-told_load_place s t q p told (Held aim known) at r e = absurd (cc (e))
-told_load_place s t q p told Spent at r e = absurd (cc (e))
+told_load_place s t q p told _ at r e = absurd (cc (e))
 
 told_load_frame : (s : State) (t : List Entry) (q : ℕ) → Told s (tale_of t) → (old : Phase) → slice_get s.seats q ≡ Some old → (r : ℕ × Phase)
     → load_frame_step s.frames old ≡ Some r → ToldSeat s t q reader.LoadFrame r
@@ -114,19 +108,13 @@ told_load_frame s t q told (Placed aim failures) at r e =
     subst (ToldSeat s t q reader.LoadFrame) P.2 (tell_load_frame s (tale_of t) q (word_of P.0) P.0.count aim failures (test P.0)
     (λ h. ap (λ (g : ℕ). frame_word g P.0.count)
     (eqb-true P.0.generation aim.life.generation (and_parts (not (P.0.count == 0)) (P.0.generation == aim.life.generation) h).1)) at told)
-told_load_frame s t q told Idle at r e = absurd (cc (e))
-told_load_frame s t q told (Counted aim failures count) at r e = absurd (cc (e))
-told_load_frame s t q told (Held aim known) at r e = absurd (cc (e))
-told_load_frame s t q told Spent at r e = absurd (cc (e))
+told_load_frame s t q told _ at r e = absurd (cc (e))
 
 told_load_word : (s : State) (t : List Entry) (q i : ℕ) → Rule s → Told s (tale_of t) → (old : Phase) → slice_get s.seats q ≡ Some old → (r : ℕ × Phase) → load_word_step s.frames i old ≡ Some r → ToldSeat s t q (reader.LoadWord i) r
 told_load_word s t q i rule told (Held aim known) at r e =
     let P = parts (slice_get s.frames aim.life.frame) (λ (fr : Frame). slice_get fr.content i) (λ (w : ℕ). (w, Held aim (slice_set known i (Some w)))) r e in
     subst (ToldSeat s t q (reader.LoadWord i)) P.is (tell_load_word s (tale_of t) q i P.new aim known (slice_set known i (Some P.new)) P.old at P.at P.gives rule told)
-told_load_word s t q i rule told Idle at r e = absurd (cc (e))
-told_load_word s t q i rule told (Placed aim failures) at r e = absurd (cc (e))
-told_load_word s t q i rule told (Counted aim failures count) at r e = absurd (cc (e))
-told_load_word s t q i rule told Spent at r e = absurd (cc (e))
+told_load_word s t q i rule told _ at r e = absurd (cc (e))
 
 -- the frames change in one count
 abbrev pub ToldBoth : State → List Entry → ℕ → ReaderStep → ℕ × List Frame × Phase → Type 0
@@ -152,10 +140,7 @@ told_exchange s t q told (Counted aim failures count) at r e =
     (tell_exchange (record s { frames = if test P.0 then slice_set s.frames aim.life.frame (record P.0 { count = P.0.count + 1 }) else s.frames })
     (tale_of t) q (word_of P.0) count aim failures (replicate PAGE_WORDS None) (leb s.shape.tries (failures + 1)) at
     (recounted_if s (tale_of t) aim.life.frame P.0 (test P.0) P.1 told))
-told_exchange s t q told Idle at r e = absurd (cc (e))
-told_exchange s t q told (Placed aim failures) at r e = absurd (cc (e))
-told_exchange s t q told (Held aim known) at r e = absurd (cc (e))
-told_exchange s t q told Spent at r e = absurd (cc (e))
+told_exchange s t q told _ at r e = absurd (cc (e))
 
 told_given_back : (s : State) (t : List Entry) (q : ℕ) → Told s (tale_of t) → (aim : Aim) (r : ℕ × List Frame × Phase) → given_back s.frames aim ≡ Some r → ToldBoth s t q reader.Leave r
 told_given_back s t q told aim r e =
@@ -167,10 +152,7 @@ told_given_back s t q told aim r e =
 
 told_leave : (s : State) (t : List Entry) (q : ℕ) → Told s (tale_of t) → (old : Phase) (r : ℕ × List Frame × Phase) → leave_step s.frames old ≡ Some r → ToldBoth s t q reader.Leave r
 told_leave s t q told (Held aim known) r e = told_given_back s t q told aim r e
-told_leave s t q told Idle r e = absurd (cc (e))
-told_leave s t q told (Placed aim failures) r e = absurd (cc (e))
-told_leave s t q told (Counted aim failures count) r e = absurd (cc (e))
-told_leave s t q told Spent r e = absurd (cc (e))
+told_leave s t q told _ r e = absurd (cc (e))
 
 told_reader : (s : State) (t : List Entry) (q : ℕ) (k : ReaderStep) → Rule s → Told s (tale_of t) → (r : ℕ × State) → reader_step s q k ≡ Some r → ToldAfter t (event.Reader q k) r
 told_reader s t q (reader.LoadPlace p) rule told r e =

@@ -24,21 +24,9 @@ use Rattle.frame_core.proofs.Parts.{parts}
 use Rattle.frame_core.proofs.Made.{at_frame_made}
 use Rattle.frame_core.proofs.Frames.{Kept}
 use Rattle.frame_core.proofs.Changes.{frame_changed}
-use Rattle.frame_core.proofs.Moves.Reap.{reap_keeps}
-use Rattle.frame_core.proofs.Moves.Put.{put_keeps}
-use Rattle.frame_core.proofs.Moves.Raise.{raise_keeps}
-use Rattle.frame_core.proofs.Moves.Open.{open_keeps}
-use Rattle.frame_core.proofs.Moves.Add.{add_keeps}
-use Rattle.frame_core.proofs.Moves.Sub.{sub_keeps}
-use Rattle.frame_core.proofs.Moves.Freeze.{freeze_keeps}
-use Rattle.frame_core.proofs.Moves.Word.{word_keeps}
-use Rattle.frame_core.proofs.Moves.Publish.{publish_keeps}
-use Rattle.frame_core.proofs.Moves.Withdraw.{withdraw_keeps}
-use Rattle.frame_core.proofs.Moves.LoadPlace.{load_place_keeps}
-use Rattle.frame_core.proofs.Moves.LoadFrame.{load_frame_keeps}
-use Rattle.frame_core.proofs.Moves.LoadWord.{load_word_keeps}
-use Rattle.frame_core.proofs.Moves.Exchange.{exchange_keeps}
-use Rattle.frame_core.proofs.Moves.Leave.{leave_keeps}
+use Rattle.frame_core.proofs.Moves.AtSeat.{load_place_keeps, load_frame_keeps, load_word_keeps, exchange_keeps, leave_keeps}
+use Rattle.frame_core.proofs.Moves.AtFrame.{reap_keeps, put_keeps, raise_keeps, open_keeps, add_keeps, sub_keeps, freeze_keeps, word_keeps}
+use Rattle.frame_core.proofs.Moves.AtPlace.{publish_keeps, withdraw_keeps}
 
 -- a step at one frame that keeps the frame's rule keeps the rule
 at_frame_keeps : (s : State) (f : ℕ) (change : Frame → Option (ℕ × Frame)) → ((readers : ℕ) (fr : Frame) (r : ℕ × Frame) → change fr ≡ Some r → FrameRule s.shape.last_generation readers fr → Kept s.shape.last_generation readers fr r.1)

@@ -18,7 +18,7 @@ use Rattle.frame_core.specs.Ledger.{ledger_of, frame_at, named_at, with_frame, I
 use Rattle.frame_core.specs.Rule.{Rule}
 use Rattle.frame_core.proofs.Lists.{set_self}
 use Rattle.frame_core.proofs.Packed.{count_packed}
-use Rattle.frame_core.proofs.Moves.LoadFrame.{count_at_most}
+use Rattle.frame_core.proofs.Moves.AtSeat.{count_at_most}
 use Rattle.frame_core.proofs.Fitting.{get_inside}
 use Rattle.frame_core.proofs.Made.{at_frame_made, reap_made, put_made, raise_made, open_made, add_made, sub_made, freeze_made, word_made, publish_made, withdraw_made}
 use Rattle.frame_core.proofs.Notes.{note_at, note_changed, writable_passes, passes_writable, readable_passes, passes_readable, loose_not_live, not_live_loose}

@@ -11,7 +11,7 @@ use Rattle.frame_core.specs.declared.frame.Frame.{Frame}
 use Rattle.frame_core.specs.declared.ledger.Note.{Note}
 use Rattle.frame_core.specs.declared.seat.Aim.{Aim}
 use Rattle.frame_core.specs.declared.seat.Phase.{Phase}
-use Rattle.frame_core.specs.declared.seat.Phase.TheVariants.{Idle, Placed, Counted, Held, Spent}
+use Rattle.frame_core.specs.declared.seat.Phase.TheVariants.{Idle, Placed, Counted, Held}
 use Rattle.frame_core.specs.State.{State, word_of}
 use Rattle.frame_core.specs.KeeperSteps.{keeper_step}
 use Rattle.frame_core.specs.ReaderSteps.{is_still, load_place_step, load_frame_step, exchange_step, leave_step, load_word_step, given_back, at_seat, at_both, reader_step}
@@ -58,10 +58,7 @@ exchange_notes tries frames (Counted aim failures count) r e =
     )) (slice_get frames aim.life.frame) r e in
     subst (λ (x : ℕ × List Frame × Phase). map note_of x.1 ≡ map note_of frames) P.2
     (exchange_cases frames aim.life.frame P.0 (is_still aim.life.generation count P.0) P.1)
-exchange_notes tries frames Idle r e = absurd (cc (e))
-exchange_notes tries frames (Placed aim failures) r e = absurd (cc (e))
-exchange_notes tries frames (Held aim known) r e = absurd (cc (e))
-exchange_notes tries frames Spent r e = absurd (cc (e))
+exchange_notes tries frames _ r e = absurd (cc (e))
 
 given_back_notes : (frames : List Frame) (aim : Aim) (r : ℕ × List Frame × Phase) → given_back frames aim ≡ Some r → map note_of r.1 ≡ map note_of frames
 given_back_notes frames aim r e =
@@ -71,10 +68,7 @@ given_back_notes frames aim r e =
 
 leave_notes : (frames : List Frame) (phase : Phase) (r : ℕ × List Frame × Phase) → leave_step frames phase ≡ Some r → map note_of r.1 ≡ map note_of frames
 leave_notes frames (Held aim known) r e = given_back_notes frames aim r e
-leave_notes frames Idle r e = absurd (cc (e))
-leave_notes frames (Placed aim failures) r e = absurd (cc (e))
-leave_notes frames (Counted aim failures count) r e = absurd (cc (e))
-leave_notes frames Spent r e = absurd (cc (e))
+leave_notes frames _ r e = absurd (cc (e))
 
 -- a step of the seat q leaves the ledger and all other seats
 abbrev pub OwnSeatAlone : State → ℕ → ℕ × State → Type 0

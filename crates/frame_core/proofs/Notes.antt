@@ -6,7 +6,7 @@ use Rattle.ksm_base.specs.declared.shape.Shape.{Shape}
 use Rattle.ksm_base.specs.Values.{frames_of}
 use Rattle.frame_core.specs.declared.frame.Frame.{Frame}
 use Rattle.frame_core.specs.declared.frame.Kind.{Kind}
-use Rattle.frame_core.specs.declared.frame.Kind.TheVariants.{Free, Filling, Private, Stable, Dying, Retired}
+use Rattle.frame_core.specs.declared.frame.Kind.TheVariants.{Free, Filling, Private, Stable, Retired}
 use Rattle.frame_core.specs.declared.ledger.Note.{Note}
 use Rattle.frame_core.specs.declared.seat.Life.{Life}
 use Rattle.frame_core.specs.State.{State, opening, new_frame}
@@ -48,34 +48,24 @@ opening_ledger shape = ap (λ (notes : List Note). record { frames = notes; plac
 pub writable_passes : (k : Kind) → IsWritable k → (is_filling k || is_private k) ≡ true
 writable_passes Filling h = refl
 writable_passes Private h = refl
-writable_passes Free h = absurd h
-writable_passes Stable h = absurd h
-writable_passes Dying h = absurd h
-writable_passes Retired h = absurd h
+writable_passes _ h = absurd h
 
 pub passes_writable : (k : Kind) → (is_filling k || is_private k) ≡ true → IsWritable k
 passes_writable Filling e = tt
 passes_writable Private e = tt
-passes_writable Free e = absurd (cc (e))
-passes_writable Stable e = absurd (cc (e))
-passes_writable Dying e = absurd (cc (e))
-passes_writable Retired e = absurd (cc (e))
+passes_writable _ e = absurd (cc (e))
 
 pub readable_passes : (k : Kind) → IsReadable k → (is_private k || is_stable k || is_dying k) ≡ true
-readable_passes Private h = refl
-readable_passes Stable h = refl
-readable_passes Dying h = refl
 readable_passes Free h = absurd h
 readable_passes Filling h = absurd h
 readable_passes Retired h = absurd h
+readable_passes _ h = refl
 
 pub passes_readable : (k : Kind) → (is_private k || is_stable k || is_dying k) ≡ true → IsReadable k
-passes_readable Private e = tt
-passes_readable Stable e = tt
-passes_readable Dying e = tt
 passes_readable Free e = absurd (cc (e))
 passes_readable Filling e = absurd (cc (e))
 passes_readable Retired e = absurd (cc (e))
+passes_readable _ e = tt
 
 -- ---------------------------------------------------------------- places
 

@@ -11,7 +11,7 @@ use Rattle.frame_core.specs.declared.frame.Frame.{Frame}
 use Rattle.frame_core.specs.declared.frame.Kind.{Kind}
 use Rattle.frame_core.specs.declared.seat.Aim.{Aim}
 use Rattle.frame_core.specs.declared.seat.Phase.{Phase}
-use Rattle.frame_core.specs.declared.seat.Phase.TheVariants.{Idle, Placed, Counted, Held, Spent}
+use Rattle.frame_core.specs.declared.seat.Phase.TheVariants.{Idle, Held, Spent}
 use Rattle.frame_core.specs.KeeperSteps.{raise_step, open_step, put_step}
 use Rattle.frame_core.specs.Steps.{step}
 use Rattle.frame_core.specs.Rule.{CountFits, is_on, readers_on}
@@ -19,7 +19,7 @@ use Rattle.frame_core.specs.Trace.{History, run_of, held_by, holders, is_frame, 
 use Rattle.frame_core.specs.Safe.{IsSafe}
 use Rattle.frame_core.proofs.Made.{at_frame_made, raise_made, open_made, put_made}
 use Rattle.frame_core.proofs.Fitting.{get_inside}
-use Rattle.frame_core.proofs.Moves.Put.{not_held}
+use Rattle.frame_core.proofs.Moves.AtFrame.{not_held}
 use Rattle.frame_core.proofs.Told.{SeatTale, SeatTold, tale_of}
 use Rattle.frame_core.proofs.Histories.{Sound, run_sound}
 
@@ -37,10 +37,8 @@ count_range p q (x ∷ xs) a same =
 
 held_on : (life : ℕ → ℕ) (named : ℕ → ℕ → ℕ → Option ℕ) (seat : SeatTale) (f : ℕ) (phase : Phase) → SeatTold life named seat phase → is_frame f seat.held ≡ is_on f phase
 held_on life named seat f Idle told = ap (is_frame f) told
-held_on life named seat f (Placed aim failures) told = ap (is_frame f) told.0
-held_on life named seat f (Counted aim failures count) told = ap (is_frame f) told.0
-held_on life named seat f (Held aim known) told = ap (is_frame f) told.0
 held_on life named seat f Spent told = ap (is_frame f) told
+held_on life named seat f _ told = ap (is_frame f) told.0
 
 -- a list of no length is empty
 empty : {A : Type 0} (xs : List A) → length xs ≡ 0 → xs ≡ []

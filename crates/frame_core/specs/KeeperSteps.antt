@@ -77,6 +77,18 @@ freeze_step fr =
 abbrev pub word_step : ℕ → Frame → Option (ℕ × Frame)
 word_step i fr = if is_private fr.kind || is_stable fr.kind || is_dying fr.kind then option_map (λ w. (w, fr)) (slice_get fr.content i) else None
 
+-- any of them, by its name, where the last generation is this
+abbrev pub frame_step : ℕ → KeeperStep → Frame → Option (ℕ × Frame)
+frame_step last (keeper.Reap f) = reap_step last
+frame_step last (keeper.Put f i w) = put_step i w
+frame_step last (keeper.Raise f) = raise_step
+frame_step last (keeper.Open f) = open_step
+frame_step last (keeper.Add f) = add_step
+frame_step last (keeper.Sub f) = sub_step
+frame_step last (keeper.Freeze f) = freeze_step
+frame_step last (keeper.Word f i) = word_step i
+frame_step last _ = λ fr. None
+
 -- a step at the frame f of a state
 abbrev pub at_frame : State → ℕ → (Frame → Option (ℕ × Frame)) → Option (ℕ × State)
 at_frame s f change =

@@ -1,6 +1,6 @@
 //! The keeper's steps: at one frame, then at a frame or a place of the machine.
 ghost use Rattle.std.specs.Prelude.{◌≡◌, ℕ, ◌^◌, ◌<◌, ◌≤◌, slice_get};
-ghost use Rattle.frame_core.specs.KeeperSteps.{reap_step, put_step, raise_step, open_step, add_step, sub_step, freeze_step, word_step, at_frame, is_live, publish_step, withdraw_step, keeper_step};
+ghost use Rattle.frame_core.specs.KeeperSteps.{reap_step, put_step, raise_step, open_step, add_step, sub_step, freeze_step, word_step, frame_step, at_frame, is_live, publish_step, withdraw_step, keeper_step};
 ghost use Rattle.frame_core.specs.Steps.{Makes};
 ghost use Rattle.frame_core.specs.Bounds.{FrameFits, FramesFit, Fits};
 ghost use Rattle.frame_core.specs.Machine.{state_of, Performs};
@@ -141,99 +141,42 @@ impl Frame {
             _ => Step::NotAllowed,
         }
     }
+
+    /// A step of the keeper at this frame.
+    pub(crate) fn step(&mut self, last_generation: u64, step: KeeperStep) -> Step
+        requires { FrameFits self.old }
+        ensures { Makes (frame_step last_generation step) self.old result self.new }
+    {
+        match step {
+            KeeperStep::Reap(_) => self.reap(last_generation),
+            KeeperStep::Put {
+                frame: _,
+                word,
+                value,
+            } => self.put(word, value),
+            KeeperStep::Raise(_) => self.raise(),
+            KeeperStep::Open(_) => self.open(),
+            KeeperStep::Add(_) => self.add(),
+            KeeperStep::Sub(_) => self.sub(),
+            KeeperStep::Freeze(_) => self.freeze(),
+            KeeperStep::Word { frame: _, word } => self.word(word),
+            KeeperStep::Publish { place: _, frame: _ } => Step::NotAllowed,
+            KeeperStep::Withdraw(_) => Step::NotAllowed,
+        }
+    }
 }
 
 impl Machine {
-    fn reap(&mut self, frame: u32) -> Step
+    fn at_frame(&mut self, frame: u32, step: KeeperStep) -> Step
         requires { FramesFit self.old.frames.items }
-        ensures { Performs (λ s. at_frame s frame (reap_step s.shape.last_generation)) self.old result self.new }
+        ensures { Performs (λ s. at_frame s frame (frame_step s.shape.last_generation step)) self.old result self.new }
     {
         let Some(mut found) = self.frame(frame) else {
             return Step::NotAllowed;
         };
-        let step = found.reap(self.shape.last_generation);
+        let done = found.step(self.shape.last_generation, step);
         self.set_frame(frame, found);
-        step
-    }
-
-    fn put(&mut self, frame: u32, word: usize, value: u64) -> Step
-        ensures { Performs (λ s. at_frame s frame (put_step word value)) self.old result self.new }
-    {
-        let Some(mut found) = self.frame(frame) else {
-            return Step::NotAllowed;
-        };
-        let step = found.put(word, value);
-        self.set_frame(frame, found);
-        step
-    }
-
-    fn raise(&mut self, frame: u32) -> Step
-        requires { FramesFit self.old.frames.items }
-        ensures { Performs (λ s. at_frame s frame raise_step) self.old result self.new }
-    {
-        let Some(mut found) = self.frame(frame) else {
-            return Step::NotAllowed;
-        };
-        let step = found.raise();
-        self.set_frame(frame, found);
-        step
-    }
-
-    fn open(&mut self, frame: u32) -> Step
-        requires { FramesFit self.old.frames.items }
-        ensures { Performs (λ s. at_frame s frame open_step) self.old result self.new }
-    {
-        let Some(mut found) = self.frame(frame) else {
-            return Step::NotAllowed;
-        };
-        let step = found.open();
-        self.set_frame(frame, found);
-        step
-    }
-
-    fn add(&mut self, frame: u32) -> Step
-        requires { FramesFit self.old.frames.items }
-        ensures { Performs (λ s. at_frame s frame add_step) self.old result self.new }
-    {
-        let Some(mut found) = self.frame(frame) else {
-            return Step::NotAllowed;
-        };
-        let step = found.add();
-        self.set_frame(frame, found);
-        step
-    }
-
-    fn sub(&mut self, frame: u32) -> Step
-        requires { FramesFit self.old.frames.items }
-        ensures { Performs (λ s. at_frame s frame sub_step) self.old result self.new }
-    {
-        let Some(mut found) = self.frame(frame) else {
-            return Step::NotAllowed;
-        };
-        let step = found.sub();
-        self.set_frame(frame, found);
-        step
-    }
-
-    fn freeze(&mut self, frame: u32) -> Step
-        requires { FramesFit self.old.frames.items }
-        ensures { Performs (λ s. at_frame s frame freeze_step) self.old result self.new }
-    {
-        let Some(mut found) = self.frame(frame) else {
-            return Step::NotAllowed;
-        };
-        let step = found.freeze();
-        self.set_frame(frame, found);
-        step
-    }
-
-    fn word(&self, frame: u32, word: usize) -> Step
-        ensures { Performs (λ s. at_frame s frame (word_step word)) self.now result self.now }
-    {
-        match self.frame(frame) {
-            None => Step::NotAllowed,
-            Some(found) => found.word(word),
-        }
+        done
     }
 
     /// Whether the place names a frame that is stable in the life named. Such a place is not overwritten:
@@ -301,16 +244,20 @@ impl Machine {
         ensures { Performs (λ s. keeper_step s step) self.old result self.new }
     {
         match step {
-            KeeperStep::Reap(frame) => self.reap(frame),
-            KeeperStep::Put { frame, word, value } => self.put(frame, word, value),
-            KeeperStep::Raise(frame) => self.raise(frame),
-            KeeperStep::Open(frame) => self.open(frame),
-            KeeperStep::Add(frame) => self.add(frame),
-            KeeperStep::Sub(frame) => self.sub(frame),
             KeeperStep::Publish { place, frame } => self.publish(place, frame),
             KeeperStep::Withdraw(place) => self.withdraw(place),
-            KeeperStep::Freeze(frame) => self.freeze(frame),
-            KeeperStep::Word { frame, word } => self.word(frame, word),
+            KeeperStep::Put {
+                frame,
+                word: _,
+                value: _,
+            } => self.at_frame(frame, step),
+            KeeperStep::Word { frame, word: _ } => self.at_frame(frame, step),
+            KeeperStep::Reap(frame) => self.at_frame(frame, step),
+            KeeperStep::Raise(frame) => self.at_frame(frame, step),
+            KeeperStep::Open(frame) => self.at_frame(frame, step),
+            KeeperStep::Add(frame) => self.at_frame(frame, step),
+            KeeperStep::Sub(frame) => self.at_frame(frame, step),
+            KeeperStep::Freeze(frame) => self.at_frame(frame, step),
         }
     }
 }

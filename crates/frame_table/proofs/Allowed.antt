@@ -2,9 +2,10 @@
 use Rattle.std.proofs.Common.{◌≡◌, ℕ, ◌+◌, ◌-◌, ◌%◌, ◌^◌, ◌<◌, ◌≤◌, eqb, sym, subst, arith}
 use mathlib.Core.Option.{none}
 use prog.Atomic.{either}
-use Rattle.atomic_table.specs.Table.{Step, step, Allows}
+use Rattle.atomic_table.specs.Table.{State, Step, step, Allows}
 use Rattle.ksm_base.specs.declared.shape.Shape.{Shape}
 use Rattle.frame_core.specs.State.{count_in}
+use Rattle.frame_table.specs.declared.view.View.{View}
 use Rattle.frame_table.specs.Views.{Sat}
 use Rattle.frame_table.specs.Rule.{Holds}
 
@@ -30,6 +31,11 @@ module _ (then : Tells) (slots id : ℕ) where
 -- what is allowed at a key, a word and a seat written out, is allowed where they are given by equations
 pub turned : (Q : Shape → ℕ → Sat → Type 0) (key sh : Shape) (i j : ℕ) (me at : Sat) → key ≡ sh → i ≡ j → me ≡ at → Q sh j at → Q key i me
 turned Q key sh i j me at e f h q = subst (λ (x : Shape × ℕ × Sat). Q x.0 x.1 x.2) (λ t. (sym e t, sym f t, sym h t)) q
+
+-- what is allowed by what the step tells, is allowed by what follows from that
+pub weaker : {holds : State (Unit {0}) View → Type 0} {slots id i : ℕ} {me : Sat} (f : ℕ → ℕ) (P Q : ℕ → Sat → Type 0) → ((n : ℕ) (m : Sat) → P n m → Q n m)
+    → Allows holds slots id me i f P → Allows holds slots id me i f Q
+weaker f P Q follows may t h size at small = let r = may t h size at small in (r.0, r.1, r.2, r.3, follows _ _ r.4)
 
 -- one less, as the machine takes it, of a frame word with a reference
 pub lowered : (n : ℕ) → 1 ≤ count_in n → n < 18446744073709551616 → (n + 18446744073709551615) % 18446744073709551616 ≡ n - 1

@@ -1,19 +1,21 @@
 -- What each step of the keeper asks of the table.
-use Rattle.std.proofs.Common.{◌≡◌, ℕ, ◌+◌, ◌-◌, ◌*◌, ◌%◌, ◌^◌, ◌<◌, ◌≤◌, Bool, true, false, cond, eqb, [], Some, get_or, refl, subst, ◌∙◌, arith}
+use Rattle.std.proofs.Common.{◌≡◌, ℕ, ◌+◌, ◌-◌, ◌*◌, ◌%◌, ◌^◌, ◌<◌, ◌≤◌, Bool, true, false, cond, eqb, Some, refl, ap, sym, subst, ◌∙◌, arith}
+use mathlib.Core.Option.{none as unsaid}
 use prog.Atomic.{either}
-use Rattle.atomic_table.specs.Table.{carried_after}
+use Rattle.atomic_table.specs.Table.{step, Allows}
 use Rattle.ksm_base.specs.declared.page.TheConstants.{PAGE_WORDS}
 use Rattle.ksm_base.specs.declared.shape.Shape.{Shape}
 use Rattle.ksm_base.specs.Values.{frames_of}
+use Rattle.frame_core.specs.declared.event.KeeperStep.{KeeperStep}
 use Rattle.frame_core.specs.declared.event.KeeperStep.TheVariants.{Reap, Put, Raise, Open, Add, Sub, Publish, Withdraw, Freeze, Word}
 use Rattle.frame_core.specs.declared.ledger.Ledger.{Ledger}
 use Rattle.frame_core.specs.State.{place_word, frame_word, life_in}
 use Rattle.frame_core.specs.Words.{frame_word_at, content_at}
 use Rattle.frame_core.specs.Ledger.{frame_at, MayStep}
-use Rattle.frame_table.specs.declared.view.Tally.{Tally}
-use Rattle.frame_table.specs.Views.{KeeperLog, Sat, keeps_ledger}
-use Rattle.frame_table.specs.Keeping.{Keeps, reaps, puts, raises, opens, adds, subs, publishes, withdraws, freezes, shows}
-use Rattle.frame_table.proofs.Allowed.{MayLoad, MayStore, MayExchange, MayAdd, MaySubOne, lowered}
+use Rattle.frame_table.specs.Rule.{Holds}
+use Rattle.frame_table.specs.Views.{Sat, IsKeeper, shape_in, ledger_in, tally_in, keeper_log}
+use Rattle.frame_table.specs.Keeping.{Keeps, keeper_word, keeper_written, found_by, knows, reaps, puts, raises, opens, adds, subs, publishes, withdraws, freezes, shows}
+use Rattle.frame_table.proofs.Allowed.{turned, weaker, MayLoad, MayStore, MayExchange, MayAdd, MaySubOne, lowered}
 use Rattle.frame_table.proofs.KeeperMay.{keeper_may}
 
 raised : (n d : ℕ) → d ≤ 65536 → n < 18446744073709486080 → (n + d) % 18446744073709551616 ≡ n + d
@@ -26,117 +28,93 @@ named g f w low few is = omega arith
 fits : (n g c w : ℕ) → n < 18446744073709551616 → life_in n ≡ g → c ≤ 1024 → w ≡ frame_word g c % 18446744073709551616 → w ≡ frame_word g c
 fits n g c w small life few is = omega arith
 
-module _ (slots id : ℕ) (sh : Shape) (k : Ledger) (tally : Tally) (log : KeeperLog) where
-  abbrev F : ℕ
-  F = frames_of sh
+-- as the machine exchanges, and as the step says
+exchanged : (b : Bool) (m n : ℕ) → either b m n ≡ cond b m n
+exchanged true m n = refl
+exchanged false m n = refl
 
-  abbrev me : Sat
-  me = keeps_ledger sh k tally log
+-- a frame word is of one frame, and a word of a page of one page
+one_frame : (F f g : ℕ) → frame_word_at F f ≡ frame_word_at F g → f ≡ g
+one_frame F f g is = omega arith
 
-  -- of each frame, or word of a frame, that lies where the step worked, the step is told: that is the one
-  pub may_reap : (f : ℕ) → MayStep sh k (Reap f) → MayLoad reaps slots id sh (frame_word_at F f) me
-  may_reap f may t h size at small =
-      let r = keeper_may slots (Reap f) (λ n. n) log sh k tally id may (λ n small told. refl) t h size at small in (
-        r.0,
-        r.1,
-        r.2,
-        r.3,
-        λ g is. let same : f ≡ g = omega arith in
-            subst (λ (x : ℕ). Keeps (Reap x) me (get_or t.words (frame_word_at F f) 0) (r.0, carried_after [] r.1)) same r.4,
-      )
+one_word : (F f i g j : ℕ) → i < PAGE_WORDS → j < PAGE_WORDS → content_at F f i ≡ content_at F g j → (f ≡ g) × (i ≡ j)
+one_word F f i g j below below' is = (omega arith, omega arith)
 
-  pub may_raise : (f : ℕ) → MayStep sh k (Raise f) → MayAdd raises slots id 65536 sh (frame_word_at F f) me
-  may_raise f may t h size at small =
-      let r = keeper_may slots (Raise f) (λ n. (n + 65536) % 2 ^ 64) log sh k tally id may
-      (λ n small told. raised n 65536 (omega arith) (omega (arith, told.0, told.1))) t h size at small in (
-        r.0,
-        r.1,
-        r.2,
-        r.3,
-        λ g is. let same : f ≡ g = omega arith in
-            subst (λ (x : ℕ). Keeps (Raise x) me (get_or t.words (frame_word_at F f) 0) (r.0, carried_after [] r.1)) same r.4,
-      )
+module _ (slots id : ℕ) (key sh : Shape) (me : Sat) (at : ℕ) (keeper : IsKeeper sh me) (same : key ≡ sh) where
+  abbrev k : Ledger
+  k = ledger_in me
 
-  pub may_open : (f : ℕ) → MayStep sh k (Open f) → MayAdd opens slots id 1 sh (frame_word_at F f) me
-  may_open f may t h size at small =
-      let r = keeper_may slots (Open f) (λ n. (n + 1) % 2 ^ 64) log sh k tally id may
-      (λ n small told. raised n 1 (omega arith) (omega (arith, told.0, told.1))) t h size at small in (
-        r.0,
-        r.1,
-        r.2,
-        r.3,
-        λ g is. let same : f ≡ g = omega arith in
-            subst (λ (x : ℕ). Keeps (Open x) me (get_or t.words (frame_word_at F f) 0) (r.0, carried_after [] r.1)) same r.4,
-      )
+  -- what an operation owes that makes of n what `write` says
+  abbrev Writes : KeeperStep → (ℕ → ℕ) → Type 0
+  Writes e write = (n : ℕ) → n < 18446744073709551616 → knows k e (found_by e n) → write n ≡ keeper_written k e n
 
-  pub may_add : (f : ℕ) → MayStep sh k (Add f) → MayAdd adds slots id 1 sh (frame_word_at F f) me
-  may_add f may t h size at small =
-      let r = keeper_may slots (Add f) (λ n. (n + 1) % 2 ^ 64) log sh k tally id may
-      (λ n small told. raised n 1 (omega arith) (omega (arith, told))) t h size at small in (
-        r.0,
-        r.1,
-        r.2,
-        r.3,
-        λ g is. let same : f ≡ g = omega arith in
-            subst (λ (x : ℕ). Keeps (Add x) me (get_or t.words (frame_word_at F f) 0) (r.0, carried_after [] r.1)) same r.4,
-      )
+  -- the operation makes the step e, and so each step that is e where it works on the same word
+  makes : (e : KeeperStep) (write : ℕ → ℕ) (then : ℕ → Sat → Type 0) → at ≡ keeper_word (frames_of sh) e → MayStep sh k e → Writes e write
+      → ((n : ℕ) (m : Sat) → shape_in me ≡ sh → Keeps e me (found_by e n) m → then n m) → Allows (Holds key) slots id me at write then
+  makes e write then is may writes tells =
+      weaker write (λ n. Keeps e me (found_by e n)) then (λ n m. tells n m (ap shape_in keeper))
+      (turned (λ (key : Shape) (i : ℕ) (m : Sat). Allows (Holds key) slots id m i write (λ n. Keeps e m (found_by e n))) key sh at _ me _ same is keeper
+      (keeper_may slots e write (keeper_log me) sh k (tally_in me) id may writes))
 
-  pub may_sub : (f : ℕ) → MayStep sh k (Sub f) → MaySubOne subs slots id sh (frame_word_at F f) me
-  may_sub f may t h size at small =
-      let r = keeper_may slots (Sub f) (λ n. (n + (2 ^ 64 - 1)) % 2 ^ 64) log sh k tally id may (λ n small told. lowered n told small) t h size at small in (
-        r.0,
-        r.1,
-        r.2,
-        r.3,
-        λ g is. let same : f ≡ g = omega arith in
-            subst (λ (x : ℕ). Keeps (Sub x) me (get_or t.words (frame_word_at F f) 0) (r.0, carried_after [] r.1)) same r.4,
-      )
+  -- of each frame whose word it is, the step is told: that is the one
+  at_frame_word : (e : ℕ → KeeperStep) (f : ℕ) (write : ℕ → ℕ) → ((F g : ℕ) → keeper_word F (e g) ≡ frame_word_at F g) → ((g n : ℕ) → found_by (e g) n ≡ n)
+      → at ≡ frame_word_at (frames_of sh) f → MayStep sh k (e f) → Writes (e f) write
+      → Allows (Holds key) slots id me at write (λ n m. (g : ℕ) → at ≡ keeper_word (frames_of (shape_in me)) (e g) → Keeps (e g) me n m)
+  at_frame_word e f write word found is may writes = makes (e f) write (λ n m. (g : ℕ) → at ≡ keeper_word (frames_of (shape_in me)) (e g) → Keeps (e g) me n m)
+      (is ∙ sym (word (frames_of sh) f)) may writes (λ n m shape keeps g is'.
+      let one : f ≡ g = one_frame (frames_of sh) f g (sym is ∙ (is' ∙ (word (frames_of (shape_in me)) g ∙ ap (λ (s : Shape). frame_word_at (frames_of s) g) shape))) in
+      subst (λ (x : ℕ). Keeps (e x) me n m) one (subst (λ (w : ℕ). Keeps (e f) me w m) (found f n) keeps))
 
-  -- as the machine exchanges, and as the step says
-  exchanged : (b : Bool) (m n : ℕ) → either b m n ≡ cond b m n
-  exchanged true m n = refl
-  exchanged false m n = refl
+  pub may_reap : (f : ℕ) → at ≡ frame_word_at (frames_of sh) f → MayStep sh k (Reap f) → MayLoad reaps slots id key at me
+  may_reap f is may = at_frame_word Reap f (λ n. n) (λ F g. refl) (λ g n. refl) is may (λ n small told. refl)
 
-  pub may_freeze : (f alone none : ℕ) → alone ≡ frame_word (frame_at k f).generation (frame_at k f).base % 2 ^ 64
-      → none ≡ frame_word (frame_at k f).generation 0 % 2 ^ 64
-      → MayStep sh k (Freeze f) → MayExchange freezes slots id alone none sh (frame_word_at F f) me
-  may_freeze f alone none is is_none may t h size at small =
+  pub may_raise : (f : ℕ) → at ≡ frame_word_at (frames_of sh) f → MayStep sh k (Raise f) → MayAdd raises slots id 65536 key at me
+  may_raise f is may = at_frame_word Raise f (λ n. (n + 65536) % 2 ^ 64) (λ F g. refl) (λ g n. refl) is may
+      (λ n small told. raised n 65536 (omega arith) (omega (arith, told.0, told.1)))
+
+  pub may_open : (f : ℕ) → at ≡ frame_word_at (frames_of sh) f → MayStep sh k (Open f) → MayAdd opens slots id 1 key at me
+  may_open f is may = at_frame_word Open f (λ n. (n + 1) % 2 ^ 64) (λ F g. refl) (λ g n. refl) is may
+      (λ n small told. raised n 1 (omega arith) (omega (arith, told.0, told.1)))
+
+  pub may_add : (f : ℕ) → at ≡ frame_word_at (frames_of sh) f → MayStep sh k (Add f) → MayAdd adds slots id 1 key at me
+  may_add f is may = at_frame_word Add f (λ n. (n + 1) % 2 ^ 64) (λ F g. refl) (λ g n. refl) is may
+      (λ n small told. raised n 1 (omega arith) (omega (arith, told)))
+
+  pub may_sub : (f : ℕ) → at ≡ frame_word_at (frames_of sh) f → MayStep sh k (Sub f) → MaySubOne subs slots id key at me
+  may_sub f is may = at_frame_word Sub f (λ n. (n + (2 ^ 64 - 1)) % 2 ^ 64) (λ F g. refl) (λ g n. refl) is may (λ n small told. lowered n told small)
+
+  pub may_freeze : (f alone none : ℕ) → at ≡ frame_word_at (frames_of sh) f → MayStep sh k (Freeze f)
+      → alone ≡ frame_word (frame_at k f).generation (frame_at k f).base % 2 ^ 64 → none ≡ frame_word (frame_at k f).generation 0 % 2 ^ 64
+      → MayExchange freezes slots id alone none key at me
+  may_freeze f alone none is may is_alone is_none =
       let g = (frame_at k f).generation in
       let base = (frame_at k f).base in
-      let r = keeper_may slots (Freeze f) (λ n. either (eqb n alone) none n) log sh k tally id may
-      (λ n small told. (λ i. either (eqb n (fits n g base alone small told.0 told.1 is i)) (fits n g 0 none small told.0 (omega arith) is_none i) n)
-      ∙ exchanged (eqb n (frame_word g base)) (frame_word g 0) n) t h size at small in (
-        r.0,
-        r.1,
-        r.2,
-        r.3,
-        λ g is. let same : f ≡ g = omega arith in
-            subst (λ (x : ℕ). Keeps (Freeze x) me (get_or t.words (frame_word_at F f) 0) (r.0, carried_after [] r.1)) same r.4,
-      )
+      at_frame_word Freeze f (λ n. either (eqb n alone) none n) (λ F g. refl) (λ g n. refl) is may
+      (λ n small told. (λ i. either (eqb n (fits n g base alone small told.0 told.1 is_alone i)) (fits n g 0 none small told.0 (omega arith) is_none i) n)
+      ∙ exchanged (eqb n (frame_word g base)) (frame_word g 0) n)
 
-  -- a word of the table is one word of one page
-  one_word : (f i g j : ℕ) → i < PAGE_WORDS → j < PAGE_WORDS → content_at F f i ≡ content_at F g j → (f ≡ g) × (i ≡ j)
-  one_word f i g j below below' is = (omega arith, omega arith)
+  -- the same of a word of a page
+  same_word : (f i g j : ℕ) → at ≡ content_at (frames_of sh) f i → i < PAGE_WORDS → j < PAGE_WORDS → shape_in me ≡ sh
+      → at ≡ content_at (frames_of (shape_in me)) g j → (f ≡ g) × (i ≡ j)
+  same_word f i g j is below below' shape is' =
+      one_word (frames_of sh) f i g j below below' (sym is ∙ (is' ∙ ap (λ (s : Shape). content_at (frames_of s) g j) shape))
 
-  pub may_put : (f i w : ℕ) → MayStep sh k (Put f i w) → MayStore puts slots id w sh (content_at F f i) me
-  may_put f i w may t h size at small =
-      let r = keeper_may slots (Put f i w) (λ _. w) log sh k tally id may (λ n small told. refl) t h size at small in
-      (r.0, r.1, r.2, r.3, λ g j below is. let same = one_word f i g j may.1 below is in subst (λ (x : ℕ × ℕ). Keeps (Put x.0 x.1 w) me 0 (r.0, carried_after [] r.1)) (λ y. (same.0 y, same.1 y)) r.4)
+  pub may_put : (f i w : ℕ) → at ≡ content_at (frames_of sh) f i → MayStep sh k (Put f i w) → MayStore puts slots id w key at me
+  may_put f i w is may = makes (Put f i w) (λ n. w) (λ n. puts (step slots at w 0 unsaid) me w) is may (λ n small told. refl) (λ n m shape keeps g j below is'.
+      let one = same_word f i g j is may.1 below shape is' in subst (λ (x : ℕ × ℕ). Keeps (Put x.0 x.1 w) me 0 m) (λ y. (one.0 y, one.1 y)) keeps)
 
-  pub may_show : (f i : ℕ) → MayStep sh k (Word f i) → MayLoad shows slots id sh (content_at F f i) me
-  may_show f i may t h size at small =
-      let r = keeper_may slots (Word f i) (λ n. n) log sh k tally id may (λ n small told. refl) t h size at small in
-      (r.0, r.1, r.2, r.3, λ g j below is. let same = one_word f i g j may.1 below is in subst (λ (x : ℕ × ℕ). Keeps (Word x.0 x.1) me (get_or t.words (content_at F f i) 0) (r.0, carried_after [] r.1)) (λ y. (same.0 y, same.1 y)) r.4)
+  pub may_show : (f i : ℕ) → at ≡ content_at (frames_of sh) f i → MayStep sh k (Word f i) → MayLoad shows slots id key at me
+  may_show f i is may = makes (Word f i) (λ n. n) (shows (step slots at 0 0 unsaid) me) is may (λ n small told. refl) (λ n m shape keeps g j below is'.
+      let one = same_word f i g j is may.1 below shape is' in subst (λ (x : ℕ × ℕ). Keeps (Word x.0 x.1) me n m) (λ y. (one.0 y, one.1 y)) keeps)
 
   -- the word of a place names the frame in its lowest bits
-  pub may_publish : (p f w : ℕ) → f < 1024 → w ≡ place_word (Some record { frame = f; generation = (frame_at k f).generation }) % 2 ^ 64
-      → MayStep sh k (Publish p f) → MayStore publishes slots id w sh p me
-  may_publish p f w low is may t h size at small =
-      let r = keeper_may slots (Publish p f) (λ _. w) log sh k tally id may (λ n small told. named (frame_at k f).generation f w low told is) t h size at small in
-      let same : f ≡ w % 1024 = omega arith in
-      (r.0, r.1, r.2, r.3, λ q at. subst (λ (x : ℕ × ℕ). Keeps (Publish x.0 x.1) me 0 (r.0, carried_after [] r.1)) (λ y. (at y, same y)) r.4)
+  pub may_publish : (f w : ℕ) → f < 1024 → w ≡ place_word (Some record { frame = f; generation = (frame_at k f).generation }) % 2 ^ 64
+      → MayStep sh k (Publish at f) → MayStore publishes slots id w key at me
+  may_publish f w low is may =
+      let one : f ≡ w % 1024 = omega arith in
+      makes (Publish at f) (λ n. w) (λ n. publishes (step slots at w 0 unsaid) me w) refl may (λ n small told. named (frame_at k f).generation f w low told is)
+      (λ n m shape keeps q at_q. subst (λ (x : ℕ × ℕ). Keeps (Publish x.0 x.1) me 0 m) (λ y. (at_q y, one y)) keeps)
 
-  pub may_withdraw : (p : ℕ) → MayStep sh k (Withdraw p) → MayStore withdraws slots id 0 sh p me
-  may_withdraw p may t h size at small =
-      let r = keeper_may slots (Withdraw p) (λ _. 0) log sh k tally id may (λ n small told. refl) t h size at small in
-      (r.0, r.1, r.2, r.3, λ q at. subst (λ (x : ℕ). Keeps (Withdraw x) me 0 (r.0, carried_after [] r.1)) at r.4)
+  pub may_withdraw : MayStep sh k (Withdraw at) → MayStore withdraws slots id 0 key at me
+  may_withdraw may = makes (Withdraw at) (λ n. 0) (λ n. withdraws (step slots at 0 0 unsaid) me 0) refl may (λ n small told. refl)
+      (λ n m shape keeps q at_q. subst (λ (x : ℕ). Keeps (Withdraw x) me 0 m) at_q keeps)

@@ -1,7 +1,7 @@
 -- A step of the keeper changes one word of the table, and is told what it found there.
-use Rattle.std.proofs.Common.{◌≡◌, ℕ, zero, suc, ◌+◌, ◌-◌, ◌<◌, ◌≤◌, ◌==◌, ◌&&◌, ◌||◌, Bool, true, false, not, cond, eqb, nat_lt, List, [], ◌∷◌, ◌++◌, map, length, set, get_or, slice_get, slice_set, Option, Some, None, option_and_then, refl, ap, sym, subst, ◌∙◌, arith}
+use Rattle.std.proofs.Common.{◌≡◌, ℕ, zero, suc, ◌+◌, ◌-◌, ◌<◌, ◌≤◌, ◌==◌, Bool, true, false, cond, eqb, List, [], ◌∷◌, ◌++◌, map, set, get_or, slice_get, slice_set, Option, Some, None, refl, ap, sym, subst, ◌∙◌, arith}
 use Rattle.std.proofs.lemmas.List.{set-get_or}
-use Rattle.std.proofs.lemmas.Bool.{ltb-true, eqb-true, eqb-false, eq-eqb, ne_eqb}
+use Rattle.std.proofs.lemmas.Bool.{eqb-true, eqb-false, eq-eqb, ne_eqb}
 use Rattle.std.proofs.lemmas.Option.{same_Some, slice_get_within, get_or_from_slice_get}
 use Rattle.std.specs.List.{flat_map}
 use Rattle.frame_core.specs.declared.frame.TheConstants.{FRAME_WORDS}
@@ -18,20 +18,16 @@ use Rattle.frame_core.specs.State.{State, place_word, frame_word, word_of}
 use Rattle.frame_core.specs.Words.{words_of, frame_words, frame_offset}
 use Rattle.frame_core.specs.Notes.{note_of, noted, reaped}
 use Rattle.frame_core.specs.Ledger.{ledger_of, frame_at}
-use Rattle.frame_core.specs.KeeperSteps.{keeper_step, at_frame, only_if, reap_step, put_step, raise_step, open_step, add_step, sub_step, freeze_step, word_step, publish_step, withdraw_step, is_live, is_filling, is_private, is_stable, is_dying}
+use Rattle.frame_core.specs.KeeperSteps.{keeper_step, at_frame, reap_step, put_step, raise_step, open_step, add_step, sub_step, freeze_step, word_step, publish_step, withdraw_step}
 use Rattle.frame_core.specs.Rule.{Rule, CountFits, GenerationFits}
-use Rattle.frame_core.proofs.Parts.{parts, map_parts, then_parts, only_if_parts}
+use Rattle.frame_core.proofs.Parts.{parts}
 use Rattle.frame_core.proofs.Notes.{note_at}
-use Rattle.frame_core.proofs.Made.{reap_made, put_made, raise_made, open_made, add_made, sub_made, freeze_made}
+use Rattle.frame_core.proofs.Made.{reap_made, put_made, raise_made, open_made, add_made, sub_made, freeze_made, word_made, publish_made, withdraw_made}
 use Rattle.frame_core.proofs.Packed.{count_packed, life_packed}
-use Rattle.frame_core.proofs.Moves.LoadFrame.{base_at_most, count_at_most}
+use Rattle.frame_core.proofs.Moves.AtSeat.{base_at_most, count_at_most}
 use Rattle.frame_core.proofs.Fitting.{generation_at_most}
 use Rattle.frame_core.proofs.Flat.{words_get, words_set, words_set_place}
 use Rattle.frame_table.specs.Keeping.{keeper_word, keeper_written, found_by, knows}
-
-second_test : (a b : Bool) → (a && b) ≡ true → b ≡ true
-second_test true b both = both
-second_test false b both = absurd (cc (both))
 
 -- the word that a step leaves, what it is told, and what it knew of that
 abbrev pub OneWord : State → KeeperStep → ℕ × State → Type 0
@@ -157,13 +153,9 @@ module _ (s : State) (rule : Rule s) where
         ),
       )
 
-  if_parts : (b : Bool) (o : Option (ℕ × Frame)) (r : ℕ × Frame) → cond b o None ≡ Some r → o ≡ Some r
-  if_parts true o r is = is
-  if_parts false o r is = absurd (cc (is))
-
   reads : (f i : ℕ) (fr : Frame) (r : ℕ × Frame) → frame_at k f ≡ note_of fr → word_step i fr ≡ Some r → Leaves (Word f i) (1 + i) fr r
   reads f i fr r note is =
-      let P = map_parts (λ (w : ℕ). (w, fr)) (slice_get fr.content i) r (if_parts (is_private fr.kind || is_stable fr.kind || is_dying fr.kind) _ r is) in
+      let P = (word_made i fr r is).1 in
       let next : 1 + i ≡ suc i = omega arith in
       let found : get_or (frame_words fr) (1 + i) 0 ≡ P.0 = ap (λ (j : ℕ). get_or (frame_words fr) j 0) next ∙ get_or_from_slice_get fr.content i P.0 0 P.1 in
       subst (Leaves (Word f i) (1 + i) fr) P.2
@@ -171,22 +163,14 @@ module _ (s : State) (rule : Rule s) where
 
   -- a content word that is stored or loaded is one of the page
   put_below : (f i w : ℕ) (fr : Frame) (r : ℕ × Frame) → slice_get s.frames f ≡ Some fr → put_step i w fr ≡ Some r → 1 + i < FRAME_WORDS
-  put_below f i w fr r at is =
-      let both = (only_if_parts ((is_filling fr.kind || is_private fr.kind) && nat_lt i (length fr.content)) (0, record fr { content = slice_set fr.content i w }) r is).0 in
-      omega (arith, ltb-true i (length fr.content) (second_test (is_filling fr.kind || is_private fr.kind) (nat_lt i (length fr.content)) both), (rule.frames f fr at).content)
+  put_below f i w fr r at is = omega (arith, (put_made i w fr r is).1, (rule.frames f fr at).content)
 
   word_below : (f i : ℕ) (fr : Frame) (r : ℕ × Frame) → slice_get s.frames f ≡ Some fr → word_step i fr ≡ Some r → 1 + i < FRAME_WORDS
   word_below f i fr r at is =
-      let P = map_parts (λ (w : ℕ). (w, fr)) (slice_get fr.content i) r (if_parts (is_private fr.kind || is_stable fr.kind || is_dying fr.kind) _ r is) in
+      let P = (word_made i fr r is).1 in
       omega (arith, slice_get_within fr.content i P.0 P.1, (rule.frames f fr at).content)
 
   -- ---------------------------------------------------------------- places
-
-  abbrev named : ℕ → ℕ → Frame → ℕ × State
-  named p f fr = (0, record s { frames = slice_set s.frames f (record fr { kind = Stable }); places = slice_set s.places p (Some record { frame = f; generation = fr.generation }) })
-
-  abbrev emptied : ℕ → ℕ × State
-  emptied p = (0, record s { places = slice_set s.places p None })
 
   flat_same : {A : Type 0} (g : A → List ℕ) (xs : List A) (f : ℕ) (x y : A) → slice_get xs f ≡ Some x → g y ≡ g x → flat_map g (slice_set xs f y) ≡ flat_map g xs
   flat_same g [] f x y at same = refl
@@ -195,26 +179,24 @@ module _ (s : State) (rule : Rule s) where
 
   publishes : (p f : ℕ) (r : ℕ × State) → publish_step s p f ≡ Some r → OneWord s (Publish p f) r
   publishes p f r is =
-      let P = then_parts (λ (place : Option Life). option_and_then (λ (fr : Frame). only_if (is_private fr.kind && not (is_live s.frames place)) (named p f fr)) (slice_get s.frames f)) (slice_get s.places p) r is in
-      let Q = then_parts (λ (fr : Frame). only_if (is_private fr.kind && not (is_live s.frames P.0)) (named p f fr)) (slice_get s.frames f) r P.2 in
-      let fr = Q.0 in
-      let last = only_if_parts (is_private fr.kind && not (is_live s.frames P.0)) (named p f fr) r Q.2 in
+      let m = publish_made s p f r is in
+      let fr = m.fr in
+      let note = note_at s f fr m.at_frame in
       let life : Option Life = Some (record { frame = f; generation = fr.generation }) in
-      let within : p < frames_of s.shape = omega (arith, slice_get_within s.places p P.0 P.1, rule.place_count) in
-      subst (OneWord s (Publish p f)) last.1 (
-        ap (λ (x : Note). set (words_of s) p (place_word (Some record { frame = f; generation = x.generation }))) (note_at s f fr Q.1)
-            ∙ (words_set_place s rule p life within
-            ∙ ap (λ (w : List ℕ). map place_word (slice_set s.places p life) ++ w) (sym (flat_same frame_words s.frames f fr (record fr { kind = Stable }) Q.1 refl))),
+      let within : p < frames_of s.shape = omega (arith, slice_get_within s.places p m.place m.at_place, rule.place_count) in
+      subst (OneWord s (Publish p f)) m.is (
+        ap (λ (x : Note). set (words_of s) p (place_word (Some record { frame = f; generation = x.generation }))) note ∙ (words_set_place s rule p life within
+            ∙ ap (λ (w : List ℕ). map place_word (slice_set s.places p life) ++ w)
+            (sym (flat_same frame_words s.frames f fr (record fr { kind = Stable }) m.at_frame refl))),
         refl,
-        subst (λ (x : Note). x.generation ≤ 1099511627776) (sym (note_at s f fr Q.1))
-            (omega (arith, generation_at_most s.shape.last_generation fr.kind fr.generation (rule.frames f fr Q.1).generation, rule.shape.generation_high)),
+        subst (λ (x : Note). x.generation ≤ 1099511627776) (sym note) (life_low f fr m.at_frame),
       )
 
   withdraws : (p : ℕ) (r : ℕ × State) → withdraw_step s p ≡ Some r → OneWord s (Withdraw p) r
   withdraws p r is =
-      let P = then_parts (λ (place : Option Life). only_if (not (is_live s.frames place)) (emptied p)) (slice_get s.places p) r is in
-      let within : p < frames_of s.shape = omega (arith, slice_get_within s.places p P.0 P.1, rule.place_count) in
-      subst (OneWord s (Withdraw p)) (only_if_parts (not (is_live s.frames P.0)) (emptied p) r P.2).1 (words_set_place s rule p None within, refl, tt)
+      let m = withdraw_made s p r is in
+      let within : p < frames_of s.shape = omega (arith, slice_get_within s.places p m.0 m.1, rule.place_count) in
+      subst (OneWord s (Withdraw p)) m.3 (words_set_place s rule p None within, refl, tt)
 
   -- ---------------------------------------------------------------- any of them
 

@@ -23,7 +23,7 @@ use Rattle.frame_core.proofs.Packed.{count_packed, life_packed}
 use Rattle.frame_core.proofs.Lists.{count_one}
 use Rattle.frame_core.proofs.Ledgers.{reader_ledger}
 use Rattle.frame_core.proofs.Flat.{words_get, words_set}
-use Rattle.frame_core.proofs.Moves.LoadFrame.{count_at_most}
+use Rattle.frame_core.proofs.Moves.AtSeat.{count_at_most}
 use Rattle.frame_table.specs.Seat.{MayRead, word_of, written, seat_after, aim_of, aim_at}
 use Rattle.frame_table.specs.Reading.{tells, NamesFrame}
 use Rattle.frame_table.specs.Steps.{IsReaderStep}

@@ -6,7 +6,7 @@ use Rattle.atomic_table.proofs.Lists.{at_longer}
 use Rattle.ksm_base.specs.declared.shape.Shape.{Shape}
 use Rattle.ksm_base.specs.Values.{frames_of}
 use Rattle.frame_core.specs.declared.frame.Kind.{Kind}
-use Rattle.frame_core.specs.declared.frame.Kind.TheVariants.{Free, Filling, Private, Stable, Dying, Retired}
+use Rattle.frame_core.specs.declared.frame.Kind.TheVariants.{Stable, Dying}
 use Rattle.frame_core.specs.declared.ledger.Ledger.{Ledger}
 use Rattle.frame_core.specs.declared.ledger.Note.{Note}
 use Rattle.frame_core.specs.declared.seat.Aim.{Aim}
@@ -22,7 +22,7 @@ use Rattle.frame_core.proofs.Fitting.{get_inside}
 use Rattle.frame_core.proofs.Flat.{words_get}
 use Rattle.frame_core.proofs.Given.{run_given, run_shape}
 use Rattle.frame_core.proofs.Histories.{run_sound}
-use Rattle.frame_core.proofs.Moves.LoadFrame.{count_at_most}
+use Rattle.frame_core.proofs.Moves.AtSeat.{count_at_most}
 use Rattle.frame_core.proofs.Notes.{note_at}
 use Rattle.frame_core.proofs.Packed.{count_packed}
 use Rattle.frame_core.proofs.Safety.{run_safe}
@@ -36,10 +36,7 @@ use Rattle.frame_table.proofs.KeeperMay.{seen}
 held_unwritten : (kind : Kind) → MayBeHeld kind → ¬ IsWritable kind
 held_unwritten Stable held written = written
 held_unwritten Dying held written = written
-held_unwritten Free held written = held
-held_unwritten Filling held written = held
-held_unwritten Private held written = held
-held_unwritten Retired held written = held
+held_unwritten _ held written = held
 
 -- what a seat holds is not written
 not_written : (s : State) (q : ℕ) (aim : Aim) (known : List (Option ℕ)) → Rule s → slice_get s.seats q ≡ Some (Held aim known)

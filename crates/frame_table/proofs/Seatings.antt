@@ -26,7 +26,7 @@ use Rattle.frame_core.proofs.Flat.{words_get}
 use Rattle.frame_core.proofs.Given.{run_shape}
 use Rattle.frame_core.proofs.Histories.{run_sound}
 use Rattle.frame_core.proofs.Lists.{count_set}
-use Rattle.frame_core.proofs.Moves.LoadFrame.{count_at_most}
+use Rattle.frame_core.proofs.Moves.AtSeat.{count_at_most}
 use Rattle.frame_core.proofs.Notes.{note_at}
 use Rattle.frame_core.proofs.Packed.{count_packed, life_packed}
 use Rattle.frame_table.specs.declared.view.Tally.{Tally}

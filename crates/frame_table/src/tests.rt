@@ -275,19 +275,36 @@ fn lookups_on_three_tables_in_threads(rt: HostRuntime) -> Result<(), Fail> {
     Ok(())
 }
 
-const LIVES: u64 = 2000;
-
 // One frame and one place, at which all passes meet.
 const CROWDED: Shape = Shape {
     nodes: 1,
     frames_per_node: 1,
     passes: 16,
-    last_generation: LIVES,
+    last_generation: 2000,
     tries: 1,
 };
 
-// The frame 0 is free: it was so, or it died, and its last reader has left. Where it was named at the place 0, that is emptied, if asked.
-fn free(table: &FrameTable, keeper: &mut Keeper, emptied: bool) -> bool
+// The lookups of each pass, and the rounds of the keeper.
+const ROUNDS: u64 = 1000;
+
+// Gives the frame 0 this life, with words of its own, and names it at the place 0.
+fn name(table: &FrameTable, keeper: &mut Keeper, life: u64)
+    requires own { keeper.old.table ≡ table.now }
+    requires free { May keeper.old (Raise 0) }
+    requires shape { frames_of table.now.shape ≡ 1 }
+    requires width { length keeper.old.ledger.frames ≡ 1 }
+    requires named { (life : Life) → named_at keeper.old.ledger 0 ≡ Some life → life.frame ≡ 0 }
+    ensures own { keeper.new.table ≡ keeper.old.table }
+    ensures width { length keeper.new.ledger.frames ≡ 1 }
+    ensures named { (life : Life) → named_at keeper.new.ledger 0 ≡ Some life → life.frame ≡ 0 }
+{
+    give(table, keeper, 0, life.wrapping_mul(16));
+    keeper.add(table, 0);
+    keeper.publish(table, 0, 0);
+}
+
+// Gives the frame 0 up, if it is named, and reaps it once. Answers whether it is free.
+fn reap_once(table: &FrameTable, keeper: &mut Keeper) -> bool
     requires own { keeper.old.table ≡ table.now }
     requires shape { frames_of table.now.shape ≡ 1 }
     requires width { length keeper.old.ledger.frames ≡ 1 }
@@ -297,51 +314,38 @@ fn free(table: &FrameTable, keeper: &mut Keeper, emptied: bool) -> bool
     ensures named { (life : Life) → named_at keeper.new.ledger 0 ≡ Some life → life.frame ≡ 0 }
     ensures kind { IsTrue result → (frame_at keeper.new.ledger 0).kind ≡ Free }
 {
-    if keeper.kind(0) != Kind::Stable {
-        return keeper.kind(0) == Kind::Free;
+    if keeper.kind(0) == Kind::Stable && keeper.base(0) == 2 {
+        keeper.sub(table, 0);
+        keeper.sub(table, 0);
     }
-    if keeper.base(0) != 2 {
-        return false;
+    if keeper.kind(0) == Kind::Dying {
+        let _ = keeper.reap(table, 0);
     }
-    keeper.sub(table, 0);
-    keeper.sub(table, 0);
-    if emptied {
-        keeper.withdraw(table, 0);
-    }
-    for _ in 0..u64::MAX {
-        if keeper.reap(table, 0) {
-            return keeper.kind(0) == Kind::Free;
+    keeper.kind(0) == Kind::Free
+}
+
+// Makes the keeper's rounds. Answers how many lives the frame has had then.
+fn spend(table: &FrameTable, keeper: &mut Keeper) -> u64
+    requires own { keeper.old.table ≡ table.now }
+    requires shape { frames_of table.now.shape ≡ 1 }
+    requires width { length keeper.old.ledger.frames ≡ 1 }
+    requires named { (life : Life) → named_at keeper.old.ledger 0 ≡ Some life → life.frame ≡ 0 }
+    ensures own { keeper.new.table ≡ table.now }
+{
+    let mut lives = 1u64;
+    for _ in 0..ROUNDS {
+        if reap_once(table, keeper) {
+            lives = lives.wrapping_add(1);
+            name(table, keeper, lives);
         }
         yield_now();
     }
-    false
+    lives
 }
 
-// Spends so many lives of the frame 0, each with words of its own, and leaves the last one named at the place 0. Answers how many it spent.
-fn spend(table: &FrameTable, keeper: &mut Keeper) -> u64
-    requires own { keeper.old ≡ new_keeper table.now }
-    requires shape { frames_of table.now.shape ≡ 1 }
-    ensures own { keeper.new.table ≡ table.now }
-{
-    for life in 0..LIVES {
-        if !free(table, keeper, life % 3 == 0) {
-            return life;
-        }
-        give(table, keeper, 0, 16 * (life + 1));
-        keeper.add(table, 0);
-        keeper.publish(table, 0, 0);
-        // Readers are let in: some fifty holds a life were seen.
-        for _ in 0..8 {
-            yield_now();
-        }
-    }
-    LIVES
-}
-
-// A pass in a thread of its own: how many holds it had, and in how many of them a word was of another life.
+// A pass in a thread of its own, and in how many of its holds a word was of another life.
 struct Worker {
     pass: Option<Pass>,
-    holds: u64,
     wrong: u64,
 }
 
@@ -361,32 +365,28 @@ fn is_of_one_life(table: &FrameTable, held: &mut Held) -> bool
     true
 }
 
-// Looks the place 0 up until it has held the last life.
-fn visit(table: &FrameTable, pass: Pass, holds: &mut u64, wrong: &mut u64) -> Pass
+// Looks the place 0 up. Answers in how many holds a word was of another life.
+fn visit(table: &FrameTable, pass: Pass) -> (u64, Pass)
     requires own { pass.table ≡ table.now }
     requires shape { frames_of table.now.shape ≡ 1 }
-    ensures own { result.table ≡ table.now }
+    ensures own { result.1.table ≡ table.now }
 {
     let mut pass = pass;
-    for _ in 0..u64::MAX {
+    let mut wrong = 0u64;
+    for _ in 0..ROUNDS {
         match pass.find(table, 0) {
             Found::Held(mut held) => {
-                let last = held.generation() == LIVES;
-                *holds = holds.wrapping_add(1);
                 if !is_of_one_life(table, &mut held) {
-                    *wrong = wrong.wrapping_add(1);
+                    wrong = wrong.wrapping_add(1);
                 }
                 pass = held.leave(table);
-                if last {
-                    return pass;
-                }
             }
             Found::Gone(back, _) => pass = back,
             Found::Busy(back) => pass = back,
         }
         yield_now();
     }
-    pass
+    (wrong, pass)
 }
 
 fn work(table: &FrameTable, worker: &mut Worker)
@@ -397,7 +397,8 @@ fn work(table: &FrameTable, worker: &mut Worker)
     let Some(pass) = worker.pass.take() else {
         unreachable!()
     };
-    let pass = visit(table, pass, &mut worker.holds, &mut worker.wrong);
+    let (wrong, pass) = visit(table, pass);
+    worker.wrong = wrong;
     let old = worker.pass.replace(pass);
     let None = old else { unreachable!() };
 }
@@ -411,7 +412,7 @@ fn work_all<R: Threads + Sync>(rt: &R, table: &FrameTable, workers: &mut [Worker
     for_each_mut(rt, workers, 16, &|_, worker| work(table, worker));
 }
 
-// The keeper in one thread more. Answers how many lives it spent.
+// The keeper in one thread more, with the frame named before. Answers how many lives that has had.
 fn run_all<R: Threads + Sync>(
     rt: &R,
     table: &FrameTable,
@@ -425,7 +426,8 @@ fn run_all<R: Threads + Sync>(
     ensures own { All (λ w. IsSomeAnd w.pass (λ p. p.table ≡ table.now)) workers.new }
     ensures count { length workers.new ≡ length workers.old }
 {
-    let (spent, ()) = join_mut(
+    name(table, keeper, 1);
+    let (lives, ()) = join_mut(
         rt,
         &mut || spend(table, keeper),
         &mut || -> ()
@@ -434,44 +436,36 @@ fn run_all<R: Threads + Sync>(
             ensures count { length workers.exit.now ≡ length workers.entry.now }
         { work_all(rt, table, workers) },
     );
-    spent
+    lives
 }
 
-// How a run ended: the lives spent, the passes without a hold and the holds with a word of another life; and of the frame at the end.
+// How a run ended: in how many holds a word was of another life, and how many lives the keeper counted; and of the frame at the end.
 #[derive(Clone, Copy, Debug, PartialEq, Eq)]
 struct Outcome {
-    spent: u64,
-    idle: u64,
     wrong: u64,
+    lives: u64,
+    generation: u64,
     base: u64,
     count: u64,
-    generation: u64,
-    place: u64,
 }
 
-// Takes the passes back. Answers how many of them had no hold, and in how many holds a word was of another life.
-fn take_back(table: &FrameTable, mut workers: Vec<Worker>, passes: &mut Vec<Pass>) -> (u64, u64)
+// Takes the passes back. Answers in how many holds a word was of another life.
+fn take_back(table: &FrameTable, mut workers: Vec<Worker>, passes: &mut Vec<Pass>) -> u64
     requires workers { All (λ w. IsSomeAnd w.pass (λ p. p.table ≡ table.now)) workers.items }
     requires passes { All (λ p. p.table ≡ table.now) passes.old.items }
     requires room { vec_len passes.old + vec_len workers ≤ vec_capacity passes.old }
     ensures passes { All (λ p. p.table ≡ table.now) passes.new.items }
     ensures all { vec_len passes.new ≡ vec_len passes.old + vec_len workers }
 {
-    let mut idle = 0u64;
-    let mut wrong = 0u64;
+    let mut all = 0u64;
     while let Some(worker) = workers.pop() {
-        let Worker {
-            pass,
-            holds,
-            wrong: seen,
-        } = worker;
+        let Worker { pass, wrong } = worker;
         let Some(pass) = pass else { unreachable!() };
-        idle = idle.wrapping_add(u64::from(holds == 0));
-        wrong = wrong.wrapping_add(seen);
+        all = all.wrapping_add(wrong);
         passes.push_reserved(pass);
     }
     workers.destroy_empty();
-    (idle, wrong)
+    all
 }
 
 // Sixteen passes look one place up while the keeper spends the lives of its frame.
@@ -489,43 +483,33 @@ fn crowd<R: Threads + Sync>(rt: &R, alloc: Global, shape: Shape) -> Result<Outco
     while let Some(pass) = passes.pop() {
         workers.push_reserved(Worker {
             pass: Some(pass),
-            holds: 0,
             wrong: 0,
         });
     }
-    let spent = run_all(rt, &table, &mut keeper, workers.as_mut_slice());
-    let (idle, wrong) = take_back(&table, workers, &mut passes);
+    let lives = run_all(rt, &table, &mut keeper, workers.as_mut_slice());
+    let wrong = take_back(&table, workers, &mut passes);
     let base = keeper.base(0);
     let closed = table.close(keeper, passes);
     Ok(Outcome {
-        spent,
-        idle,
         wrong,
+        lives,
+        generation: closed.generation(0),
         base,
         count: closed.count(0),
-        generation: closed.generation(0),
-        place: closed.place(0),
     })
+}
+
+// No hold was of two lives, each life was given by the keeper, and no reference is left but its own.
+fn is_sound(outcome: &Outcome) -> bool {
+    outcome.wrong == 0 && outcome.generation == outcome.lives && outcome.count == outcome.base
 }
 
 #[test]
 fn sixteen_passes_against_a_keeper(rt: HostRuntime) -> Result<(), Fail> {
-    let wanted = Outcome {
-        spent: LIVES,
-        idle: 0,
-        wrong: 0,
-        base: 2,
-        count: 2,
-        generation: LIVES,
-        place: 1024 * LIVES,
-    };
-    let once = crowd(&rt, rt.alloc(), CROWDED)?;
-    assert_eq!(rt; once, wanted, "one try");
-    let often = Shape {
-        tries: 64,
-        ..CROWDED
-    };
-    let often = crowd(&rt, rt.alloc(), often)?;
-    assert_eq!(rt; often, wanted, "sixty-four tries");
+    for tries in [1, 64] {
+        let shape = Shape { tries, ..CROWDED };
+        let outcome = crowd(&rt, rt.alloc(), shape)?;
+        assert!(rt; is_sound(&outcome), "{outcome:?}");
+    }
     Ok(())
 }

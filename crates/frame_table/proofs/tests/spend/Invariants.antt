@@ -3,13 +3,6 @@ use Rattle.frame_core.specs.declared.seat.Life.{Life}
 use Rattle.frame_core.specs.Ledger.{named_at}
 use Rattle.frame_table.proofs.tests.spend.Given as goal
 
-abbrev pub invariant-loop-life : goal.invariant-loop-life
-invariant-loop-life l = record {
-  own : l.keeper.table ≡ l.table;
-  width : length l.keeper.ledger.frames ≡ 1;
-  named : (life : Life) → named_at l.keeper.ledger 0 ≡ Some life → life.frame ≡ 0;
-}
-
 abbrev pub invariant-loop : goal.invariant-loop
 invariant-loop l = record {
   own : l.keeper.table ≡ l.table;

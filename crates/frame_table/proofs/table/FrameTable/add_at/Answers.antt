@@ -1,14 +1,8 @@
-use Rattle.std.proofs.Common.{rules, ◌≡◌, ap, ◌∙◌}
-use Rattle.frame_table.specs.Keeping.{adds}
-use Rattle.frame_table.proofs.Allowed.{turned, MayAdd}
+use Rattle.std.proofs.Common.{rules}
 use Rattle.frame_table.proofs.KeeperCalls.{may_add}
 use Rattle.frame_table.proofs.table.FrameTable.add_at.Goals as goal
 
 pub fetch_add-requires : goal.fetch_add-requires
 fetch_add-requires c =
-    let key : c.self.inside.table.shared.key ≡ c.args.self.now.shape = c.self.invariant.0 ∙ ap (λ n. n.shape) c.self.view_is in (
-      search rules,
-      search rules,
-      turned (MayAdd adds _ _ 1) _ _ _ _ _ _ key c.frame_word-word.ensures.at c.requires.keeper
-          (may_add _ _ _ _ _ _ c.args.frame c.requires.may),
-    )
+    let at = c.frame_word-word.ensures.at in
+    (search rules, search rules, may_add _ _ _ _ _ _ c.requires.keeper (search rules) c.args.frame at c.requires.may)

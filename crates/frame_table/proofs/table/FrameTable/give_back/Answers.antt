@@ -1,6 +1,4 @@
-use Rattle.std.proofs.Common.{rules, ◌≡◌, ap, ◌∙◌, sym}
-use Rattle.ksm_base.specs.Values.{frames_of}
-use Rattle.frame_core.specs.Words.{frame_word_at}
+use Rattle.std.proofs.Common.{rules}
 use Rattle.frame_table.specs.Reading.{leaves}
 use Rattle.frame_table.proofs.Allowed.{turned, MaySubOne}
 use Rattle.frame_table.proofs.ReaderCalls.{may_leave}
@@ -8,7 +6,5 @@ use Rattle.frame_table.proofs.table.FrameTable.give_back.Goals as goal
 
 pub fetch_sub-requires : goal.fetch_sub-requires
 fetch_sub-requires c =
-    let key : c.self.inside.table.shared.key ≡ c.args.self.now.shape = c.self.invariant.0 ∙ ap (λ n. n.shape) c.self.view_is in
     let at = c.requires.phase in
-    let word = c.frame_word-word.ensures.at ∙ ap (frame_word_at (frames_of c.args.self.now.shape)) (sym at.2) in
-    (search rules, search rules, turned (MaySubOne leaves _ _) _ _ _ _ _ _ key word at.3 (may_leave _ _ _ _ at.0 at.1))
+    (search rules, search rules, turned (MaySubOne leaves _ _) _ _ _ _ _ _ (search rules) (search rules) at.3 (may_leave _ _ _ _ at.0 at.1))
