@@ -7,7 +7,7 @@ use Rattle.ksm_base.specs.declared.page.GuestPage.{GuestPage}
 use Rattle.ksm_base.specs.declared.row.PageState.TheVariants.{Private}
 use Rattle.ksm_base.specs.declared.row.Row.{Row}
 use Rattle.ksm_base.specs.declared.command.Command.{Command}
-use Rattle.ksm_base.specs.declared.command.Command.TheVariants.{Register, Drop, Store, Scan, Prune, Unmerge, Mergeable, MovePage, MoveDup, SetRun, SetPagesToScan, SetAcross, SetLimit}
+use Rattle.ksm_base.specs.declared.command.Command.TheVariants.{Register, Drop, Store, Scan, Prune, Unmerge, Mergeable, MovePage, MoveDup, SetRun, SetPagesToScan, SetAcross, SetLimit, SetZeroPages}
 use Rattle.ksm_base.specs.declared.reply.Reply.{Reply}
 use Rattle.ksm_base.specs.declared.reply.Reply.TheVariants.{Done, Scanned, Pruned, Unmerged}
 use Rattle.ksm_base.specs.declared.fault.Fault.{Fault}
@@ -103,6 +103,7 @@ refused_stores page (SetRun v) f = refl
 refused_stores page (SetPagesToScan v) f = refl
 refused_stores page (SetAcross v) f = refl
 refused_stores page (SetLimit v) f = refl
+refused_stores page (SetZeroPages v) f = refl
 
 reads_effect : (kept : GuestPage → Option (List ℕ)) (b : BookState) (c : Command) (r : Reply) → Reads kept b.rows
     → Reads (kept_after c (Ok r) kept) (effect b c r).rows
@@ -134,6 +135,7 @@ reads_effect kept b (SetAcross v) r h =
 reads_effect kept b (SetLimit v) r h =
     cond_both (v == b.knobs.max_page_sharing) b (record (without_stale b) { knobs = record b.knobs { max_page_sharing = v } }) (λ x. Reads kept x.rows)
     (λ _. h) (λ _. h)
+reads_effect kept b (SetZeroPages v) r h = h
 
 reads_after : (kept : GuestPage → Option (List ℕ)) (b : BookState) (c : Command) (a : Answer) → Reads kept b.rows
     → Reads (kept_after c a kept) (after b c a).rows

@@ -5,7 +5,7 @@ use Rattle.std.proofs.lemmas.Bool.{cases_Bool, both_ways, eqb-true, eq-eqb}
 use Rattle.std.proofs.lemmas.Bool.Decides.{nat_tests}
 use Rattle.ksm_base.specs.declared.page.GuestPage.{GuestPage}
 use Rattle.ksm_base.specs.declared.row.PageState.{PageState}
-use Rattle.ksm_base.specs.declared.row.PageState.TheVariants.{Private, Waiting, Merged}
+use Rattle.ksm_base.specs.declared.row.PageState.TheVariants.{Private, Waiting, Merged, Zero}
 use Rattle.ksm_base.specs.declared.row.Row.{Row}
 use Rattle.ksm_base.specs.declared.row.DupRow.{DupRow}
 use Rattle.ksm_base.specs.declared.command.Command.TheVariants.{SetAcross, SetLimit}
@@ -27,6 +27,7 @@ not_an_item : (number : ℕ) (state : PageState) → merged_state state ≡ fals
 not_an_item number Private single = refl
 not_an_item number Waiting single = refl
 not_an_item number (Merged n) single = cc
+not_an_item number Zero single = refl
 
 -- a page that joins a dup is one item more
 pub joined_count : (rows : List Row) (row : Row) (dup : DupRow) → InPageOrder rows → row_at row.page rows ≡ Some row → merged_state row.state ≡ false → item_count (change_row row.page (λ r. record r { state = Merged dup.number }) rows) dup ≡ item_count rows dup + 1

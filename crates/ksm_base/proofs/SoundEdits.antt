@@ -6,11 +6,11 @@ use Rattle.std.proofs.lemmas.List.Elements.{All-map, All-filter}
 use Rattle.std.proofs.lemmas.List.Kept.{AllPairs-filter}
 use Rattle.ksm_base.specs.declared.page.GuestPage.{GuestPage}
 use Rattle.ksm_base.specs.declared.row.PageState.{PageState}
-use Rattle.ksm_base.specs.declared.row.PageState.TheVariants.{Private, Waiting, Merged}
+use Rattle.ksm_base.specs.declared.row.PageState.TheVariants.{Private, Waiting, Merged, Zero}
 use Rattle.ksm_base.specs.declared.row.Row.{Row}
 use Rattle.ksm_base.specs.declared.row.DupRow.{DupRow}
 use Rattle.ksm_base.specs.declared.knobs.Knobs.{Knobs}
-use Rattle.ksm_base.specs.Rows.{InPageOrder, comes_before, private_state, waiting_state, merged_into, item_count, has_items, with_row, change_rows}
+use Rattle.ksm_base.specs.Rows.{InPageOrder, comes_before, private_state, waiting_state, zero_state, all_zero, merged_into, item_count, has_items, with_row, change_rows}
 use Rattle.ksm_base.specs.State.{BookState, without_stale}
 use Rattle.ksm_base.specs.Visit.{waits_for, partner}
 use Rattle.ksm_base.specs.Counting.{shared_count}
@@ -61,6 +61,7 @@ pub record AreSoundRows (b : BookState) (rows : List Row) : Type 0 where
   pub rows_rise : InPageOrder rows
   pub homes : All (λ r. r.home < b.shape.nodes) rows
   pub mergeable : All (λ r. private_state r.state ≡ false → r.mergeable ≡ true) rows
+  pub zero : All (λ r. zero_state r.state ≡ true → all_zero r.bytes ≡ true) rows
   pub waiting : NoneWaitsTwice b.knobs rows
   pub items : All (λ r. (number : ℕ) → r.state ≡ Merged number → (dup : DupRow) × IsDupOf b.knobs b.dups r number dup) rows
   pub limit : All (λ d. item_count rows d ≤ b.knobs.max_page_sharing) b.dups
@@ -75,6 +76,7 @@ sound_rows b rows s h =
       rows_rise = h.rows_rise;
       homes = h.homes;
       mergeable = h.mergeable;
+      zero = h.zero;
       waiting = h.waiting;
       items = h.items;
       dups_rise = s.dups_rise;
@@ -83,18 +85,26 @@ sound_rows b rows s h =
       limit = h.limit;
     }
 
--- the cursor, the number of passes and the knobs that the visits don't read may be any in their ranges
-pub sound_settings : (b : BookState) (run pages_to_scan passes : ℕ) (cursor : Option GuestPage) → run ≤ 2 → (1 ≤ pages_to_scan) × (pages_to_scan ≤ 1000000)
+-- the cursor, the number of passes and the knobs that neither trees nor dups read may be any in their ranges
+pub sound_settings : (b : BookState) (run pages_to_scan zero_pages passes : ℕ) (cursor : Option GuestPage) → run ≤ 2 → (1 ≤ pages_to_scan) × (pages_to_scan ≤ 1000000)
+    → zero_pages ≤ 1
     → passes < 2 ^ 64 → IsSound b
-    → IsSound (record b { knobs = record b.knobs { run = run; pages_to_scan = pages_to_scan }; cursor = cursor; passes = passes })
-sound_settings b run pages_to_scan passes cursor run_most pages_range passes_fit s =
+    → IsSound (record b { knobs = record b.knobs { run = run; pages_to_scan = pages_to_scan; use_zero_pages = zero_pages }; cursor = cursor; passes = passes })
+sound_settings b run pages_to_scan zero_pages passes cursor run_most pages_range zero_most passes_fit s =
     record {
       shape = s.shape;
-      knobs = record { run = run_most; pages_to_scan = pages_range; merge_across_nodes = s.knobs.merge_across_nodes; max_page_sharing = s.knobs.max_page_sharing };
+      knobs = record {
+        run = run_most;
+        pages_to_scan = pages_range;
+        merge_across_nodes = s.knobs.merge_across_nodes;
+        max_page_sharing = s.knobs.max_page_sharing;
+        use_zero_pages = zero_most;
+      };
       passes = passes_fit;
       rows_rise = s.rows_rise;
       homes = s.homes;
       mergeable = s.mergeable;
+      zero = s.zero;
       waiting = s.waiting;
       items = λ k d lt number merged.
           let item : (dup : DupRow) × IsDupOf b.knobs b.dups (get_or b.rows k d) number dup = s.items k d lt number merged in
@@ -117,6 +127,13 @@ pub waiting_not_private : (state : PageState) → waiting_state state ≡ true �
 waiting_not_private Private waits = cc
 waiting_not_private Waiting waits = refl
 waiting_not_private (Merged n) waits = refl
+waiting_not_private Zero waits = cc
+
+zero_not_private : (state : PageState) → zero_state state ≡ true → private_state state ≡ false
+zero_not_private Private is = cc
+zero_not_private Waiting is = cc
+zero_not_private (Merged n) is = cc
+zero_not_private Zero is = refl
 
 pub calmer_waits : (old new : Row) → IsCalmer old new → WaitsAs old new
 calmer_waits old new c =
@@ -131,6 +148,7 @@ merged_not_private : (number : ℕ) (state : PageState) → merged_into number s
 merged_not_private number Private merged = cc
 merged_not_private number Waiting merged = cc
 merged_not_private number (Merged n) merged = refl
+merged_not_private number Zero merged = cc
 
 -- the dup of a row is that of a row with its home and bytes
 pub same_dup : (knobs : Knobs) (dups : List DupRow) (old new : Row) (number : ℕ) (dup : DupRow) → new.home ≡ old.home → new.bytes ≡ old.bytes
@@ -149,6 +167,12 @@ sound_calmed b f calmer homes s =
           (λ k d lt taken.
           let r = get_or b.rows k d in
           (calmer r).mergeable taken (s.mergeable k d lt (rw (← (calmer r).state taken) taken)));
+      zero = All-map (λ r. zero_state r.state ≡ true → all_zero r.bytes ≡ true) f b.rows
+          (λ k d lt is.
+          let r = get_or b.rows k d in
+          let taken = zero_not_private (f r).state is in
+          let same = (calmer r).bytes taken in
+          rw same (s.zero k d lt (rw (← (calmer r).state taken) is)));
       waiting = waiting_map b.knobs f b.rows (λ r. calmer_waits r (f r) (calmer r)) s.waiting;
       items = All-map (λ r. (number : ℕ) → r.state ≡ Merged number → (dup : DupRow) × IsDupOf b.knobs b.dups r number dup) f b.rows
           (λ k d lt number merged.
@@ -173,6 +197,7 @@ sound_filtered b test s =
       rows_rise = AllPairs-filter (λ r t. comes_before r.page t.page ≡ true) test b.rows s.rows_rise;
       homes = All-filter test (λ r. r.home < b.shape.nodes) b.rows s.homes;
       mergeable = All-filter test (λ r. private_state r.state ≡ false → r.mergeable ≡ true) b.rows s.mergeable;
+      zero = All-filter test (λ r. zero_state r.state ≡ true → all_zero r.bytes ≡ true) b.rows s.zero;
       waiting = All-filter test (λ r. waiting_state r.state ≡ true → partner b.knobs (filter test b.rows) r ≡ None) b.rows
           (λ k d lt waits.
           let r = get_or b.rows k d in
@@ -193,6 +218,7 @@ sound_with_row b row is_private home s =
       rows_rise = ordered_with row b.rows s.rows_rise;
       homes = all_with_row (λ r. r.home < b.shape.nodes) row b.rows home s.homes;
       mergeable = all_with_row (λ r. private_state r.state ≡ false → r.mergeable ≡ true) row b.rows (λ taken. absurd (true≢false (rw is_private at taken))) s.mergeable;
+      zero = all_with_row (λ r. zero_state r.state ≡ true → all_zero r.bytes ≡ true) row b.rows (λ is. absurd (false≢true (rw is_private at is))) s.zero;
       waiting = all_with_row (λ r. waiting_state r.state ≡ true → partner b.knobs (with_row row b.rows) r ≡ None) row b.rows (λ waits. absurd (false≢true (rw is_private at waits)))
           (λ k d lt waits.
           let r = get_or b.rows k d in
@@ -235,6 +261,7 @@ sound_without_stale b s =
       rows_rise = s.rows_rise;
       homes = s.homes;
       mergeable = s.mergeable;
+      zero = s.zero;
       waiting = s.waiting;
       items = λ k d lt number merged.
           let r = get_or b.rows k d in

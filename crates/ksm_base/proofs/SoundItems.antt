@@ -4,7 +4,7 @@ use Rattle.std.specs.Prelude.{All}
 use Rattle.std.proofs.lemmas.Bool.{eqb-true}
 use Rattle.std.proofs.lemmas.Option.{same_Some}
 use Rattle.ksm_base.specs.declared.row.PageState.{PageState}
-use Rattle.ksm_base.specs.declared.row.PageState.TheVariants.{Private, Waiting, Merged}
+use Rattle.ksm_base.specs.declared.row.PageState.TheVariants.{Private, Waiting, Merged, Zero}
 use Rattle.ksm_base.specs.declared.row.DupRow.{DupRow}
 use Rattle.ksm_base.specs.Rows.{merged_into}
 use Rattle.ksm_base.specs.State.{BookState, tree_of}
@@ -14,6 +14,7 @@ use Rattle.ksm_base.proofs.Orders.{each_has_number}
 merged_number : (number : ℕ) (state : PageState) → merged_into number state ≡ true → state ≡ Merged number
 merged_number number Private into = cc
 merged_number number Waiting into = cc
+merged_number number Zero into = cc
 merged_number number (Merged n) into = ap Merged (eqb-true n number into)
 
 -- a row that is merged into a dup's number has that dup

@@ -5,21 +5,21 @@ use Rattle.std.proofs.lemmas.Bool.{cond_both, and_parts, not-false, ltb-false, l
 use Rattle.std.proofs.lemmas.Option.{none-some}
 use Rattle.std.proofs.lemmas.List.Elements.{All-map}
 use Rattle.ksm_base.specs.declared.row.PageState.{PageState}
-use Rattle.ksm_base.specs.declared.row.PageState.TheVariants.{Private, Waiting, Merged}
+use Rattle.ksm_base.specs.declared.row.PageState.TheVariants.{Private, Waiting, Merged, Zero}
 use Rattle.ksm_base.specs.declared.row.Row.{Row}
 use Rattle.ksm_base.specs.declared.row.DupRow.{DupRow}
 use Rattle.ksm_base.specs.declared.knobs.Knobs.{Knobs}
-use Rattle.ksm_base.specs.declared.command.Command.TheVariants.{SetRun, SetPagesToScan, SetAcross, SetLimit}
+use Rattle.ksm_base.specs.declared.command.Command.TheVariants.{SetRun, SetPagesToScan, SetAcross, SetLimit, SetZeroPages}
 use Rattle.ksm_base.specs.declared.reply.Reply.{Reply}
 use Rattle.ksm_base.specs.declared.reply.Reply.TheVariants.{Done, Scanned, Pruned, Unmerged}
 use Rattle.ksm_base.specs.declared.fault.Fault.{Fault}
 use Rattle.ksm_base.specs.declared.fault.Fault.TheVariants.{SharedPages, BadValue}
-use Rattle.ksm_base.specs.Rows.{change_rows, waiting_state, merged_state, settled_state, settled, dup_numbered}
+use Rattle.ksm_base.specs.Rows.{change_rows, waiting_state, shared_state, settled_state, settled, dup_numbered}
 use Rattle.ksm_base.specs.State.{BookState, without_stale, with_none_waiting}
 use Rattle.ksm_base.specs.Visit.{partner}
 use Rattle.ksm_base.specs.Counting.{shared_count}
 use Rattle.ksm_base.specs.Refusals.{refused_if, is_within, refusal}
-use Rattle.ksm_base.specs.Answers.{merged_rows, every_row}
+use Rattle.ksm_base.specs.Answers.{shared_rows, every_row}
 use Rattle.ksm_base.specs.Apply.{unshared, is_before, unshare_stopped, effect}
 use Rattle.ksm_base.specs.Sound.{AreKnobs, IsDupOf, IsSound}
 use Rattle.ksm_base.proofs.SoundEdits.{NoneWaitsTwice, sound_settings, becomes_private, sound_calmed, sound_changed, sound_without_stale, no_dup_lives}
@@ -31,7 +31,7 @@ refused_none true fault later none = cc
 refused_none false fault later none = (refl, none)
 
 pub sound_run : (b : BookState) (v : ℕ) → v ≤ 2 → IsSound b → IsSound (record b { knobs = record b.knobs { run = v } })
-sound_run b v most s = sound_settings b v b.knobs.pages_to_scan b.passes b.cursor most s.knobs.pages_to_scan s.passes s
+sound_run b v most s = sound_settings b v b.knobs.pages_to_scan b.knobs.use_zero_pages b.passes b.cursor most s.knobs.pages_to_scan s.knobs.use_zero_pages s.passes s
 
 unshared_home : (b : BookState) (r : Row) → r.home < b.shape.nodes → (unshared r).home < b.shape.nodes
 unshared_home b r home = home
@@ -42,7 +42,7 @@ sound_unshared None k b s =
     let let_go = sound_calmed b unshared (λ r. becomes_private r (unshared r) refl refl) s.homes s in
     sound_run (record b { rows = map unshared b.rows; cursor = None }) 2 (omega arith) (sound_cursor (record b { rows = map unshared b.rows }) None let_go)
 sound_unshared (Some fault) k b s =
-    let test : Row → Bool = λ r. merged_state r.state && is_before (slice_get (merged_rows every_row b) k) r in
+    let test : Row → Bool = λ r. shared_state r.state && is_before (slice_get (shared_rows every_row b) k) r in
     sound_run (record b { rows = change_rows test unshared b.rows }) 0 (omega arith)
     (sound_changed b test unshared (λ r. becomes_private r (unshared r) refl refl) (unshared_home b) s)
 
@@ -62,7 +62,14 @@ pub sound_set_pages : (b : BookState) (v : ℕ) (reply : Reply) → refusal b (S
     → IsSound (effect b (SetPagesToScan v) reply)
 sound_set_pages b v reply accepted s =
     let range = within 1 1000000 v (refused_none (not (is_within 1 1000000 v)) BadValue None accepted).0 in
-    sound_settings b b.knobs.run v b.passes b.cursor s.knobs.run range s.passes s
+    sound_settings b b.knobs.run v b.knobs.use_zero_pages b.passes b.cursor s.knobs.run range s.knobs.use_zero_pages s.passes s
+
+-- the use of the zero page may change at any time
+pub sound_set_zero_pages : (b : BookState) (v : ℕ) (reply : Reply) → refusal b (SetZeroPages v) ≡ None → IsSound b
+    → IsSound (effect b (SetZeroPages v) reply)
+sound_set_zero_pages b v reply accepted s =
+    let most = ltb-false 1 v (refused_none (nat_lt 1 v) BadValue None accepted).0 in
+    sound_settings b b.knobs.run b.knobs.pages_to_scan v b.passes b.cursor s.knobs.run s.knobs.pages_to_scan most s.passes s
 
 -- where there is no dup, any knob may be set
 sound_reset : (b : BookState) (knobs : Knobs) → AreKnobs knobs → b.dups ≡ [] → NoneWaitsTwice knobs b.rows → IsSound b → IsSound (record b { knobs = knobs })
@@ -74,6 +81,7 @@ sound_reset b knobs are_knobs empty alone s =
       rows_rise = s.rows_rise;
       homes = s.homes;
       mergeable = s.mergeable;
+      zero = s.zero;
       waiting = alone;
       items = λ k d lt number merged.
           let item : (dup : DupRow) × IsDupOf b.knobs b.dups (get_or b.rows k d) number dup = s.items k d lt number merged in
@@ -95,6 +103,7 @@ settled_waits_not : (state : PageState) → waiting_state (settled_state state) 
 settled_waits_not Private waits = cc
 settled_waits_not Waiting waits = cc
 settled_waits_not (Merged n) waits = cc
+settled_waits_not Zero waits = cc
 
 pub sound_set_across : (b : BookState) (v : ℕ) (reply : Reply) → refusal b (SetAcross v) ≡ None → IsSound b → IsSound (effect b (SetAcross v) reply)
 sound_set_across b v reply accepted s =
@@ -105,7 +114,13 @@ sound_set_across b v reply accepted s =
     cond_both (v == b.knobs.merge_across_nodes) b (record dropped { knobs = knobs }) IsSound (λ _. s)
     (λ other.
     sound_reset dropped knobs
-    (record { run = s.knobs.run; pages_to_scan = s.knobs.pages_to_scan; merge_across_nodes = ltb-false 1 v first.0; max_page_sharing = s.knobs.max_page_sharing })
+    (record {
+      run = s.knobs.run;
+      pages_to_scan = s.knobs.pages_to_scan;
+      merge_across_nodes = ltb-false 1 v first.0;
+      max_page_sharing = s.knobs.max_page_sharing;
+      use_zero_pages = s.knobs.use_zero_pages;
+    })
     (no_dup_lives b (none_shared b (v == b.knobs.merge_across_nodes) second.0 other))
     (All-map (λ r. waiting_state r.state ≡ true → partner knobs (map settled b.rows) r ≡ None) settled b.rows (λ k d lt waits. absurd (settled_waits_not (get_or b.rows k d).state waits)))
     (sound_none_waiting (without_stale b) (sound_without_stale b s)))
@@ -118,5 +133,11 @@ sound_set_limit b v reply accepted s =
     cond_both (v == b.knobs.max_page_sharing) b (record (without_stale b) { knobs = knobs }) IsSound (λ _. s)
     (λ other.
     sound_reset (without_stale b) knobs
-    (record { run = s.knobs.run; pages_to_scan = s.knobs.pages_to_scan; merge_across_nodes = s.knobs.merge_across_nodes; max_page_sharing = within 2 1024 v first.0 })
+    (record {
+      run = s.knobs.run;
+      pages_to_scan = s.knobs.pages_to_scan;
+      merge_across_nodes = s.knobs.merge_across_nodes;
+      max_page_sharing = within 2 1024 v first.0;
+      use_zero_pages = s.knobs.use_zero_pages;
+    })
     (no_dup_lives b (none_shared b (v == b.knobs.max_page_sharing) second.0 other)) s.waiting (sound_without_stale b s))

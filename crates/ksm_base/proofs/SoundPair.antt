@@ -1,16 +1,16 @@
 -- A new dup of two pages keeps a book sound.
 use Rattle.std.proofs.Common.{◌≡◌, ℕ, suc, ◌+◌, ◌<◌, ◌≤◌, Bool, true, false, List, [], ◌∷◌, get_or, Some, None, Option, refl, sym, subst, ap, ◌∙◌, inl, inr, arith}
 use Rattle.std.specs.Prelude.{◌==◌, ◌||◌, nat_lt, All, filter, find, bytes_eq, not, if◌then◌else◌}
-use Rattle.std.proofs.lemmas.Bool.{cases_Bool, cond_both, and_parts, and_from, not_from_false, or_cases, both_ways, not-true, eqb-true, eq-eqb, ltb-true, ne_eqb}
+use Rattle.std.proofs.lemmas.Bool.{cases_Bool, cond_both, and_parts, and_from, not_from_false, or_cases, both_ways, false≢true, not-true, eqb-true, eq-eqb, ltb-true, ne_eqb}
 use Rattle.std.proofs.lemmas.List.Elements.{All-cons, All-filter}
 use Rattle.std.proofs.lemmas.List.Folds.{find-append}
 use Rattle.std.proofs.lemmas.Slice.Eq.{bytes_eq-Decides}
 use Rattle.ksm_base.specs.declared.row.PageState.{PageState}
-use Rattle.ksm_base.specs.declared.row.PageState.TheVariants.{Private, Waiting, Merged}
+use Rattle.ksm_base.specs.declared.row.PageState.TheVariants.{Private, Waiting, Merged, Zero}
 use Rattle.ksm_base.specs.declared.row.Row.{Row}
 use Rattle.ksm_base.specs.declared.row.DupRow.{DupRow}
 use Rattle.ksm_base.specs.declared.knobs.Knobs.{Knobs}
-use Rattle.ksm_base.specs.Rows.{same_page, private_state, waiting_state, merged_into, item_count, is_stale, has_items, with_dup, change_rows, dup_numbered, InPlaceOrder}
+use Rattle.ksm_base.specs.Rows.{same_page, private_state, waiting_state, zero_state, all_zero, merged_into, item_count, is_stale, has_items, with_dup, change_rows, dup_numbered, InPlaceOrder}
 use Rattle.ksm_base.specs.State.{BookState, tree_of, place_count}
 use Rattle.ksm_base.specs.Visit.{waits_for, partner, empty_from, place_or, new_place, made_dup}
 use Rattle.ksm_base.specs.Sound.{IsDupOf, IsSound}
@@ -104,6 +104,7 @@ next_is_new b s k d lt = go (get_or b.rows k d).state refl
     go : (state : PageState) → (get_or b.rows k d).state ≡ state → merged_into b.next state ≡ false
     go Private is = refl
     go Waiting is = refl
+    go Zero is = refl
     go (Merged number) is =
         let r = get_or b.rows k d in
         let item : (dup : DupRow) × IsDupOf b.knobs b.dups r number dup = s.items k d lt number is in
@@ -186,6 +187,8 @@ sound_made b w row place pair free s =
       homes = all_changed (λ r. r.home < b.shape.nodes) test f b.rows (λ k d lt _. s.homes k d lt) (λ k d lt _. s.homes k d lt);
       mergeable = all_changed (λ r. private_state r.state ≡ false → r.mergeable ≡ true) test f b.rows
           (λ k d lt either _. each_of_pair (λ r. r.mergeable ≡ true) b w row pair pair.waited.mergeable pair.visited.mergeable k d lt either) (λ k d lt _. s.mergeable k d lt);
+      zero = all_changed (λ r. zero_state r.state ≡ true → all_zero r.bytes ≡ true) test f b.rows
+          (λ k d lt either is. absurd (false≢true is)) (λ k d lt _. s.zero k d lt);
       waiting = waiting_changed b.knobs test f b.rows (merged_waits b.next) s.waiting;
       items = all_changed (λ r. (number : ℕ) → r.state ≡ Merged number → (d : DupRow) × IsDupOf b.knobs dups r number d) test f b.rows
           (λ k d lt either number merged.

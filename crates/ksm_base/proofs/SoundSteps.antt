@@ -6,7 +6,7 @@ use Rattle.ksm_base.specs.declared.row.PageState.TheVariants.{Private}
 use Rattle.ksm_base.specs.declared.row.Row.{Row}
 use Rattle.ksm_base.specs.declared.shape.Shape.{Shape}
 use Rattle.ksm_base.specs.declared.command.Command.{Command}
-use Rattle.ksm_base.specs.declared.command.Command.TheVariants.{Register, Drop, Store, Scan, Prune, Unmerge, Mergeable, MovePage, MoveDup, SetRun, SetPagesToScan, SetAcross, SetLimit}
+use Rattle.ksm_base.specs.declared.command.Command.TheVariants.{Register, Drop, Store, Scan, Prune, Unmerge, Mergeable, MovePage, MoveDup, SetRun, SetPagesToScan, SetAcross, SetLimit, SetZeroPages}
 use Rattle.ksm_base.specs.declared.reply.Reply.{Reply}
 use Rattle.ksm_base.specs.declared.reply.Reply.TheVariants.{Done, Scanned, Pruned, Unmerged}
 use Rattle.ksm_base.specs.declared.fault.Fault.{Fault}
@@ -16,13 +16,13 @@ use Rattle.ksm_base.specs.Rows.{same_page}
 use Rattle.ksm_base.specs.State.{BookState, opening}
 use Rattle.ksm_base.specs.Visit.{visits}
 use Rattle.ksm_base.specs.Refusals.{refusal, is_of}
-use Rattle.ksm_base.specs.Answers.{Answer, IsAnswerUnless, merged_rows}
+use Rattle.ksm_base.specs.Answers.{Answer, IsAnswerUnless, shared_rows}
 use Rattle.ksm_base.specs.Apply.{IsAnswerOrMemory, effect, after, fresh_row, stored, moved, let_go, is_before}
 use Rattle.ksm_base.specs.Journal.{Entry, replay, AreAnswers, IsLegal}
 use Rattle.ksm_base.specs.Sound.{IsSound}
 use Rattle.ksm_base.proofs.SoundEdits.{IsCalmer, stays_calm, becomes_private, sound_filtered, sound_with_row, sound_changed, sound_without_stale}
 use Rattle.ksm_base.proofs.SoundScan.{sound_visits, sound_scan_stopped}
-use Rattle.ksm_base.proofs.SoundKnobs.{refused_none, sound_set_run, sound_set_pages, sound_set_across, sound_set_limit}
+use Rattle.ksm_base.proofs.SoundKnobs.{refused_none, sound_set_run, sound_set_pages, sound_set_across, sound_set_limit, sound_set_zero_pages}
 
 moved_calmer : (node : ℕ) (r : Row) → IsCalmer r (moved node r)
 moved_calmer node r = cond_both (r.home == node) r (record r { home = node; state = Private }) (IsCalmer r) (λ _. stays_calm r) (λ _. becomes_private r (record r { home = node; state = Private }) refl refl)
@@ -44,7 +44,7 @@ sound_effect b (Scan n) (Pruned k) accepted s = s
 sound_effect b (Scan n) (Unmerged k stop) accepted s = s
 sound_effect b Prune reply accepted s = sound_without_stale b s
 sound_effect b (Unmerge guest) (Unmerged k stop) accepted s =
-    sound_changed b (λ r. is_of guest r && is_before (slice_get (merged_rows (is_of guest) b) k) r) let_go (λ r. becomes_private r (let_go r) refl refl) (λ r home. home) s
+    sound_changed b (λ r. is_of guest r && is_before (slice_get (shared_rows (is_of guest) b) k) r) let_go (λ r. becomes_private r (let_go r) refl refl) (λ r home. home) s
 sound_effect b (Unmerge guest) Done accepted s = s
 sound_effect b (Unmerge guest) (Scanned v stop) accepted s = s
 sound_effect b (Unmerge guest) (Pruned k) accepted s = s
@@ -57,6 +57,7 @@ sound_effect b (SetRun v) reply accepted s = sound_set_run b v reply accepted s
 sound_effect b (SetPagesToScan v) reply accepted s = sound_set_pages b v reply accepted s
 sound_effect b (SetAcross v) reply accepted s = sound_set_across b v reply accepted s
 sound_effect b (SetLimit v) reply accepted s = sound_set_limit b v reply accepted s
+sound_effect b (SetZeroPages v) reply accepted s = sound_set_zero_pages b v reply accepted s
 
 -- what answers with a reply is not refused
 not_refused : (b : BookState) (c : Command) (reply : Reply) → IsAnswerOrMemory b c (Ok reply) → refusal b c ≡ None
@@ -75,11 +76,12 @@ pub sound_opening : (shape : Shape) → IsShape shape → IsSound (opening shape
 sound_opening shape small =
     record {
       shape = small;
-      knobs = record { run = omega arith; pages_to_scan = (omega arith, omega arith); merge_across_nodes = omega arith; max_page_sharing = (omega arith, omega arith) };
+      knobs = record { run = omega arith; pages_to_scan = (omega arith, omega arith); merge_across_nodes = omega arith; max_page_sharing = (omega arith, omega arith); use_zero_pages = omega arith };
       passes = omega arith;
       rows_rise = λ i j d first lt. absurd (omega arith);
       homes = λ k d lt. absurd (omega arith);
       mergeable = λ k d lt. absurd (omega arith);
+      zero = λ k d lt. absurd (omega arith);
       waiting = λ k d lt. absurd (omega arith);
       items = λ k d lt. absurd (omega arith);
       dups_rise = λ i j d first lt. absurd (omega arith);

@@ -6,11 +6,11 @@ use Rattle.std.proofs.lemmas.Bool.Decides.{nat_tests, same_from_decides, Decides
 use Rattle.std.proofs.lemmas.List.Elements.{All-map}
 use Rattle.std.proofs.lemmas.Slice.Eq.{bytes_eq-Decides}
 use Rattle.ksm_base.specs.declared.row.PageState.{PageState}
-use Rattle.ksm_base.specs.declared.row.PageState.TheVariants.{Waiting, Merged}
+use Rattle.ksm_base.specs.declared.row.PageState.TheVariants.{Waiting, Merged, Zero}
 use Rattle.ksm_base.specs.declared.row.Row.{Row}
 use Rattle.ksm_base.specs.declared.row.DupRow.{DupRow}
 use Rattle.ksm_base.specs.declared.knobs.Knobs.{Knobs}
-use Rattle.ksm_base.specs.Rows.{same_page, private_state, waiting_state, merged_into, item_count, change_rows, change_row, dup_numbered}
+use Rattle.ksm_base.specs.Rows.{same_page, private_state, waiting_state, zero_state, all_zero, merged_into, item_count, change_rows, change_row, dup_numbered}
 use Rattle.ksm_base.specs.State.{BookState, tree_of}
 use Rattle.ksm_base.specs.Visit.{waits_for, partner, may_join, is_best, best_dup}
 use Rattle.ksm_base.specs.Sound.{IsDupOf, IsSound}
@@ -74,6 +74,8 @@ sound_joined b row dup visited joined s =
       homes = all_changed (λ r. r.home < b.shape.nodes) test f b.rows (λ k d lt _. s.homes k d lt) (λ k d lt _. s.homes k d lt);
       mergeable = all_changed (λ r. private_state r.state ≡ false → r.mergeable ≡ true) test f b.rows
           (λ k d lt same _. rw (visited.once k d lt same) visited.mergeable) (λ k d lt _. s.mergeable k d lt);
+      zero = all_changed (λ r. zero_state r.state ≡ true → all_zero r.bytes ≡ true) test f b.rows
+          (λ k d lt same is. absurd (false≢true is)) (λ k d lt _. s.zero k d lt);
       waiting = waiting_changed b.knobs test f b.rows (merged_waits dup.number) s.waiting;
       items = all_changed (λ r. (number : ℕ) → r.state ≡ Merged number → (d : DupRow) × IsDupOf b.knobs b.dups r number d) test f b.rows
           (λ k d lt same number merged.
@@ -131,6 +133,8 @@ sound_waiting b row visited alone s =
       homes = all_changed (λ r. r.home < b.shape.nodes) test f b.rows (λ k d lt _. s.homes k d lt) (λ k d lt _. s.homes k d lt);
       mergeable = all_changed (λ r. private_state r.state ≡ false → r.mergeable ≡ true) test f b.rows
           (λ k d lt same _. rw (visited.once k d lt same) visited.mergeable) (λ k d lt _. s.mergeable k d lt);
+      zero = all_changed (λ r. zero_state r.state ≡ true → all_zero r.bytes ≡ true) test f b.rows
+          (λ k d lt same is. absurd (false≢true is)) (λ k d lt _. s.zero k d lt);
       waiting = all_changed (λ r. waiting_state r.state ≡ true → partner b.knobs new r ≡ None) test f b.rows
           (λ k d lt same _.
           let is : get_or b.rows k d ≡ row = visited.once k d lt same in
@@ -144,6 +148,33 @@ sound_waiting b row visited alone s =
           (λ j e lt_e same_e.
           let P : Row → Type 0 = λ w. waits_for b.knobs r (f w) ≡ false in
           subst P (sym (visited.once j e lt_e same_e)) (waits_back b.knobs r row Waiting waits (none k d lt))) (λ j e lt_e _. not_r j e lt_e)));
+      items = all_changed (λ r. (number : ℕ) → r.state ≡ Merged number → (d : DupRow) × IsDupOf b.knobs b.dups r number d) test f b.rows
+          (λ k d lt same number merged. cc) (λ k d lt _. s.items k d lt);
+      limit = λ k d lt.
+          let e = get_or b.dups k d in
+          let p : Row → Bool = λ r. merged_into e.number r.state in
+          let fewer = count_map_le p (λ r. if test r then f r else r) b.rows (λ j x lt_x.
+          let r = get_or b.rows j x in
+          cond_both (test r) (f r) r (λ y. p y ≡ true → p r ≡ true) (λ _ into. absurd (false≢true into)) (λ _ into. into)) in
+          omega (arith, fewer, s.limit k d lt);
+    })
+
+-- a page of zeroes becomes Zero
+pub sound_zero : (b : BookState) (row : Row) → IsVisited b row → all_zero row.bytes ≡ true → IsSound b
+    → IsSound (record b { rows = change_row row.page (λ r. record r { state = Zero }) b.rows })
+sound_zero b row visited zeroes s =
+    let test : Row → Bool = λ r. same_page r.page row.page in
+    let f : Row → Row = λ r. record r { state = Zero } in
+    sound_rows b (change_rows test f b.rows) s
+    (record {
+      rows_rise = ordered_change test f b.rows (λ _. refl) s.rows_rise;
+      homes = all_changed (λ r. r.home < b.shape.nodes) test f b.rows (λ k d lt _. s.homes k d lt) (λ k d lt _. s.homes k d lt);
+      mergeable = all_changed (λ r. private_state r.state ≡ false → r.mergeable ≡ true) test f b.rows
+          (λ k d lt same _. rw (visited.once k d lt same) visited.mergeable) (λ k d lt _. s.mergeable k d lt);
+      zero = all_changed (λ r. zero_state r.state ≡ true → all_zero r.bytes ≡ true) test f b.rows
+          (λ k d lt same _. rw (visited.once k d lt same) zeroes) (λ k d lt _. s.zero k d lt);
+      waiting = waiting_changed b.knobs test f b.rows
+          (λ r. record { page = refl; state = λ waits. absurd (false≢true waits); home = λ _. refl; bytes = λ _. refl }) s.waiting;
       items = all_changed (λ r. (number : ℕ) → r.state ≡ Merged number → (d : DupRow) × IsDupOf b.knobs b.dups r number d) test f b.rows
           (λ k d lt same number merged. cc) (λ k d lt _. s.items k d lt);
       limit = λ k d lt.

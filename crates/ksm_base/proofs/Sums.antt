@@ -5,10 +5,10 @@ use Rattle.std.proofs.lemmas.Bool.{cases_Bool}
 use Rattle.std.proofs.lemmas.Bool.Decides.{nat_tests}
 use Rattle.std.proofs.lemmas.List.Elements.{All-head, All-tail}
 use Rattle.ksm_base.specs.declared.row.PageState.{PageState}
-use Rattle.ksm_base.specs.declared.row.PageState.TheVariants.{Private, Waiting, Merged}
+use Rattle.ksm_base.specs.declared.row.PageState.TheVariants.{Private, Waiting, Merged, Zero}
 use Rattle.ksm_base.specs.declared.row.Row.{Row}
 use Rattle.ksm_base.specs.declared.row.DupRow.{DupRow}
-use Rattle.ksm_base.specs.Rows.{private_state, waiting_state, merged_state, merged_into, has_items, InPlaceOrder}
+use Rattle.ksm_base.specs.Rows.{private_state, waiting_state, merged_state, zero_state, merged_into, has_items, InPlaceOrder}
 use Rattle.ksm_base.specs.Counting.{shared_count, merged_count, counters_of, counters_from, mergeable_count, pages_told}
 use Rattle.ksm_base.specs.State.{BookState}
 use Rattle.ksm_base.specs.Sound.{IsSound}
@@ -48,6 +48,7 @@ item_once : (state : PageState) (dups : List DupRow) → InPlaceOrder dups
 item_once Private dups rise = let none = count_none (λ d. false) dups (λ k d lt. refl) in omega arith
 item_once Waiting dups rise = let none = count_none (λ d. false) dups (λ k d lt. refl) in omega arith
 item_once (Merged number) dups rise = count_numbered number dups rise
+item_once Zero dups rise = let none = count_none (λ d. false) dups (λ k d lt. refl) in omega arith
 
 -- a dup has an item among more rows if the first is one, or it has one among the others
 items_more : (r : Row) (rows : List Row) (d : DupRow) → has_items (r ∷ rows) d ≡ true → (merged_into d.number r.state || has_items rows d) ≡ true
@@ -66,17 +67,20 @@ shared-le-merged (r ∷ rows) dups rise =
     let more = count_more (λ s. merged_state s.state) r rows in
     omega arith
 
--- a row is counted once if it is mergeable, where it waits or is merged only so
+-- a row is counted once if it is mergeable, where it waits, is merged or is Zero only so
 state_once : (state : PageState) (mergeable : Bool) → (private_state state ≡ false → mergeable ≡ true)
-    → (if merged_state state then 1 else 0) + (if waiting_state state then 1 else 0) + (if mergeable && private_state state then 1 else 0) ≡ (if mergeable then 1 else 0)
+    → (if merged_state state then 1 else 0) + (if waiting_state state then 1 else 0) + (if mergeable && private_state state then 1 else 0)
+    + (if zero_state state then 1 else 0) ≡ (if mergeable then 1 else 0)
 state_once Private true h = refl
 state_once Private false h = refl
 state_once Waiting mergeable h = rw (h refl) refl
 state_once (Merged number) mergeable h = rw (h refl) refl
+state_once Zero mergeable h = rw (h refl) refl
 
--- the rows by their states, where only mergeable rows wait or are merged
+-- the rows by their states, where only mergeable rows wait, are merged or are Zero
 pub states-add : (rows : List Row) → All (λ r. private_state r.state ≡ false → r.mergeable ≡ true) rows
-    → merged_count rows + count_by (λ r. waiting_state r.state) rows + count_by (λ r. r.mergeable && private_state r.state) rows ≡ count_by (λ r. r.mergeable) rows
+    → merged_count rows + count_by (λ r. waiting_state r.state) rows + count_by (λ r. r.mergeable && private_state r.state) rows
+    + count_by (λ r. zero_state r.state) rows ≡ count_by (λ r. r.mergeable) rows
 states-add [] h = refl
 states-add (r ∷ rows) h =
     let here = All-head (λ s. private_state s.state ≡ false → s.mergeable ≡ true) r rows h in
@@ -85,6 +89,7 @@ states-add (r ∷ rows) h =
     let b = count_more (λ s. waiting_state s.state) r rows in
     let c = count_more (λ s. s.mergeable && private_state s.state) r rows in
     let d = count_more (λ s. s.mergeable) r rows in
+    let e = count_more (λ s. zero_state s.state) r rows in
     let once = state_once r.state r.mergeable here in
     omega arith
 

@@ -6,12 +6,12 @@ use Rattle.std.proofs.lemmas.List.{map-id}
 use Rattle.std.proofs.lemmas.List.Elements.{All-map}
 use Rattle.std.proofs.lemmas.Simd.{map-map}
 use Rattle.ksm_base.specs.declared.row.PageState.{PageState}
-use Rattle.ksm_base.specs.declared.row.PageState.TheVariants.{Private, Waiting, Merged}
+use Rattle.ksm_base.specs.declared.row.PageState.TheVariants.{Private, Waiting, Merged, Zero}
 use Rattle.ksm_base.specs.declared.row.Row.{Row}
 use Rattle.ksm_base.specs.declared.row.DupRow.{DupRow}
-use Rattle.ksm_base.specs.Rows.{same_page, change_rows, settled_state, settled, merged_state}
+use Rattle.ksm_base.specs.Rows.{same_page, change_rows, settled_state, settled, shared_state}
 use Rattle.ksm_base.specs.State.{BookState, with_none_waiting, pass_ended}
-use Rattle.ksm_base.specs.Visit.{next_row, best_dup, partner, pass_ended_at_last, visit_begun, paired, handled, row_visited, visit_of, visits}
+use Rattle.ksm_base.specs.Visit.{next_row, best_dup, partner, pass_ended_at_last, visit_begun, paired, is_for_zero, stayed, handled, row_visited, visit_of, visits}
 
 -- a row with another state or flag: page, home, bytes and mergeable are the same
 pub record IsSameBut (old new : Row) : Type 0 where
@@ -74,17 +74,24 @@ module _ (start : List Row) where
   comes_paired None b row h =
       comes_changed (λ r. same_page r.page row.page) (λ r. record r { state = Waiting }) (λ r. same_but r r.unchanged Waiting) b h
 
+  comes_stayed : (b : BookState) (row : Row) → Comes b → Comes (stayed b row)
+  comes_stayed b row h =
+      let f : Row → Row = λ r. record r { state = Zero } in
+      cond_both (is_for_zero b.knobs row) (record b { rows = change_rows (λ r. same_page r.page row.page) f b.rows }) (paired (partner b.knobs b.rows row) b row) Comes
+      (λ _. comes_changed (λ r. same_page r.page row.page) f (λ r. same_but r r.unchanged Zero) b h)
+      (λ _. comes_paired (partner b.knobs b.rows row) b row h)
+
   comes_handled : (d : Option DupRow) (b : BookState) (row : Row) → Comes b → Comes (handled d b row)
   comes_handled (Some d) b row h =
       comes_changed (λ r. same_page r.page row.page) (λ r. record r { state = Merged d.number }) (λ r. same_but r r.unchanged (Merged d.number)) b h
   comes_handled None b row h =
       let f : Row → Row = λ r. record r { unchanged = true; state = Private } in
-      cond_both row.unchanged (paired (partner b.knobs b.rows row) b row) (record b { rows = change_rows (λ r. same_page r.page row.page) f b.rows }) Comes
-      (λ _. comes_paired (partner b.knobs b.rows row) b row h)
+      cond_both row.unchanged (stayed b row) (record b { rows = change_rows (λ r. same_page r.page row.page) f b.rows }) Comes
+      (λ _. comes_stayed b row h)
       (λ _. comes_changed (λ r. same_page r.page row.page) f (λ r. same_but r true Private) b h)
 
   comes_row_visited : (b : BookState) (row : Row) → Comes b → Comes (row_visited b row)
-  comes_row_visited b row h = cond_both (merged_state row.state) b (handled (best_dup b.knobs b.rows b.dups row) b row) Comes (λ _. h) (λ _. comes_handled _ b row h)
+  comes_row_visited b row h = cond_both (shared_state row.state) b (handled (best_dup b.knobs b.rows b.dups row) b row) Comes (λ _. h) (λ _. comes_handled _ b row h)
 
   comes_visit_of : (b : BookState) (row : Option Row) → Comes b → Comes (visit_of b row)
   comes_visit_of b None h = h

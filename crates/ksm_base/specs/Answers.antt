@@ -9,7 +9,7 @@ use Rattle.ksm_base.specs.declared.reply.Reply.{Reply}
 use Rattle.ksm_base.specs.declared.reply.Reply.TheVariants.{Done, Scanned, Pruned, Unmerged}
 use Rattle.ksm_base.specs.declared.fault.Fault.{Fault}
 use Rattle.ksm_base.specs.declared.fault.Fault.TheVariants.{Memory, NoFrame, InUse}
-use Rattle.ksm_base.specs.Rows.{row_at, merged_state, is_stale}
+use Rattle.ksm_base.specs.Rows.{row_at, shared_state, is_stale}
 use Rattle.ksm_base.specs.State.{BookState}
 use Rattle.ksm_base.specs.Refusals.{is_of, refusal}
 
@@ -20,7 +20,7 @@ Answer = Result Reply Fault
 -- the node of which a command needs one frame, if it needs one
 abbrev pub frame_needed : BookState → Command → Option ℕ
 frame_needed b (Register page node bytes) = Some node
-frame_needed b (Store page bytes) = option_and_then (λ r. if merged_state r.state then Some r.home else None) (row_at page b.rows)
+frame_needed b (Store page bytes) = option_and_then (λ r. if shared_state r.state then Some r.home else None) (row_at page b.rows)
 frame_needed b (MovePage page node) = option_and_then (λ r. if r.home == node then None else Some node) (row_at page b.rows)
 frame_needed b (MoveDup place node) = Some node
 frame_needed b _ = None
@@ -29,9 +29,9 @@ frame_needed b _ = None
 abbrev pub any_mergeable : BookState → Bool
 any_mergeable b = list_any (λ r. r.mergeable) b.rows
 
--- the merged rows that pass a test, in order
-abbrev pub merged_rows : (Row → Bool) → BookState → List Row
-merged_rows test b = filter (λ r. test r && merged_state r.state) b.rows
+-- the merged and Zero rows that pass a test, in order
+abbrev pub shared_rows : (Row → Bool) → BookState → List Row
+shared_rows test b = filter (λ r. test r && shared_state r.state) b.rows
 
 -- the test that every row passes
 abbrev pub every_row : Row → Bool
@@ -49,7 +49,7 @@ IsScanned b n (Ok (Scanned v None)) = v ≡ (if any_mergeable b then n else 0)
 IsScanned b n (Ok (Scanned v (Some Memory))) = (any_mergeable b ≡ true) × (v < n)
 IsScanned b n _ = ⊥
 
--- an unmerging gives each of these merged rows a frame, or stops at one of whose home there is none
+-- an unmerging gives each of these rows a frame, or stops at one of whose home there is none
 abbrev pub IsUnmerged : List Row → Answer → Type 0
 IsUnmerged rows (Ok (Unmerged k None)) = k ≡ length rows
 IsUnmerged rows (Ok (Unmerged k (Some (NoFrame n)))) = MatchOption (slice_get rows k) ⊥ (λ r. n ≡ r.home)
@@ -59,8 +59,8 @@ IsUnmerged rows _ = ⊥
 abbrev pub IsAccepted : BookState → Command → Answer → Type 0
 IsAccepted b (Scan n) answer = IsScanned b n answer
 IsAccepted b Prune answer = answer ≡ Ok (Pruned (count_by (is_stale b.rows) b.dups))
-IsAccepted b (Unmerge guest) answer = IsUnmerged (merged_rows (is_of guest) b) answer
-IsAccepted b (SetRun v) answer = MatchBool (v == 2) (IsUnmerged (merged_rows every_row b) answer) (answer ≡ Ok Done)
+IsAccepted b (Unmerge guest) answer = IsUnmerged (shared_rows (is_of guest) b) answer
+IsAccepted b (SetRun v) answer = MatchBool (v == 2) (IsUnmerged (shared_rows every_row b) answer) (answer ≡ Ok Done)
 IsAccepted b (MoveDup place node) (Err InUse) = Unit {0}
 IsAccepted b command answer = IsDoneOr (frame_needed b command) answer
 

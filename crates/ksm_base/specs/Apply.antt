@@ -4,15 +4,15 @@ use Rattle.ksm_base.specs.declared.page.GuestPage.{GuestPage}
 use Rattle.ksm_base.specs.declared.row.PageState.TheVariants.{Private}
 use Rattle.ksm_base.specs.declared.row.Row.{Row}
 use Rattle.ksm_base.specs.declared.command.Command.{Command}
-use Rattle.ksm_base.specs.declared.command.Command.TheVariants.{Register, Drop, Store, Scan, Prune, Unmerge, Mergeable, MovePage, SetRun, SetPagesToScan, SetAcross, SetLimit}
+use Rattle.ksm_base.specs.declared.command.Command.TheVariants.{Register, Drop, Store, Scan, Prune, Unmerge, Mergeable, MovePage, SetRun, SetPagesToScan, SetAcross, SetLimit, SetZeroPages}
 use Rattle.ksm_base.specs.declared.reply.Reply.{Reply}
 use Rattle.ksm_base.specs.declared.reply.Reply.TheVariants.{Done, Scanned, Unmerged}
 use Rattle.ksm_base.specs.declared.fault.Fault.{Fault}
-use Rattle.ksm_base.specs.Rows.{comes_before, with_row, without_page, change_rows, change_row, merged_state}
+use Rattle.ksm_base.specs.Rows.{comes_before, with_row, without_page, change_rows, change_row, shared_state}
 use Rattle.ksm_base.specs.State.{BookState, without_stale, with_none_waiting}
 use Rattle.ksm_base.specs.Visit.{visit_begun, visits}
 use Rattle.ksm_base.specs.Refusals.{is_of}
-use Rattle.ksm_base.specs.Answers.{Answer, merged_rows, every_row}
+use Rattle.ksm_base.specs.Answers.{Answer, shared_rows, every_row}
 pub use Rattle.ksm_base.specs.Answers.{IsAnswerOrMemory}
 
 -- a new row is mergeable, not unchanged, and has a frame of its own
@@ -46,13 +46,13 @@ abbrev pub scan_stopped : Option Fault → BookState → BookState
 scan_stopped None b = b
 scan_stopped (Some fault) b = visit_begun b
 
--- after a run of 2: all rows are unshared and the scan is at the start of a pass; or the first k merged rows alone, and run is 0
+-- after a run of 2: all rows are unshared and the scan is at the start of a pass; or the first k merged and Zero rows alone, and run is 0
 abbrev pub unshare_stopped : Option Fault → ℕ → BookState → BookState
 unshare_stopped None k b =
     record b { rows = map unshared b.rows; cursor = None; knobs = record b.knobs { run = 2 } }
 unshare_stopped (Some fault) k b =
     record b {
-      rows = change_rows (λ r. merged_state r.state && is_before (slice_get (merged_rows every_row b) k) r) unshared b.rows;
+      rows = change_rows (λ r. shared_state r.state && is_before (slice_get (shared_rows every_row b) k) r) unshared b.rows;
       knobs = record b.knobs { run = 0 };
     }
 
@@ -64,7 +64,7 @@ effect b (Store page bytes) reply = record b { rows = change_row page (stored by
 effect b (Scan n) (Scanned v stop) = scan_stopped stop (visits v b)
 effect b Prune reply = without_stale b
 effect b (Unmerge guest) (Unmerged k stop) =
-    record b { rows = change_rows (λ r. is_of guest r && is_before (slice_get (merged_rows (is_of guest) b) k) r) let_go b.rows }
+    record b { rows = change_rows (λ r. is_of guest r && is_before (slice_get (shared_rows (is_of guest) b) k) r) let_go b.rows }
 effect b (Mergeable guest) reply = record b { rows = change_rows (is_of guest) (λ r. record r { mergeable = true }) b.rows }
 effect b (MovePage page node) reply = record b { rows = change_row page (moved node) b.rows }
 effect b (SetRun v) (Unmerged k stop) = unshare_stopped stop k b
@@ -76,6 +76,7 @@ effect b (SetAcross v) reply =
 effect b (SetLimit v) reply =
     if v == b.knobs.max_page_sharing then b
     else record (without_stale b) { knobs = record b.knobs { max_page_sharing = v } }
+effect b (SetZeroPages v) reply = record b { knobs = record b.knobs { use_zero_pages = v } }
 -- a dup that moves to another frame stays as it is, and no command gives another reply
 effect b _ _ = b
 

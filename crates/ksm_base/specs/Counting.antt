@@ -4,7 +4,7 @@ use Rattle.std.specs.List.{list_all}
 use Rattle.ksm_base.specs.declared.row.Row.{Row}
 use Rattle.ksm_base.specs.declared.row.DupRow.{DupRow}
 use Rattle.ksm_base.specs.declared.counters.Counters.{Counters}
-use Rattle.ksm_base.specs.Rows.{private_state, waiting_state, merged_state, has_items, same_group}
+use Rattle.ksm_base.specs.Rows.{private_state, waiting_state, merged_state, zero_state, has_items, same_group}
 use Rattle.ksm_base.specs.State.{BookState}
 
 -- how many dups have an item
@@ -35,6 +35,7 @@ counters_from rows dups passes =
       sharing = merged_count rows - shared_count rows dups;
       unshared = count_by (λ r. waiting_state r.state) rows;
       volatile = count_by (λ r. r.mergeable && private_state r.state) rows;
+      zero = count_by (λ r. zero_state r.state) rows;
       chains = count_by (λ d. in_chain dups d && leads_group dups d) dups;
       dups = count_by (in_chain dups) dups;
       full_scans = passes;
@@ -50,4 +51,4 @@ mergeable_count rows = count_by (λ r. r.mergeable) rows
 
 -- how many pages the counters of pages tell of (own)
 abbrev pub pages_told : Counters → ℕ
-pages_told c = c.shared + c.sharing + c.unshared + c.volatile
+pages_told c = c.shared + c.sharing + c.unshared + c.volatile + c.zero

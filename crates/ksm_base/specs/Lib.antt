@@ -18,4 +18,5 @@ pub mod WorkedRefusals
 pub mod WorkedPlaces
 pub mod WorkedPasses
 pub mod WorkedFlags
+pub mod WorkedZeroPages
 pub mod WorkedSelftests

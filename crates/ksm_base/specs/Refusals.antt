@@ -5,7 +5,7 @@ use Rattle.ksm_base.specs.declared.page.GuestPage.{GuestPage}
 use Rattle.ksm_base.specs.declared.row.Row.{Row}
 use Rattle.ksm_base.specs.declared.row.DupRow.{DupRow}
 use Rattle.ksm_base.specs.declared.command.Command.{Command}
-use Rattle.ksm_base.specs.declared.command.Command.TheVariants.{Register, Drop, Store, Scan, Prune, Unmerge, Mergeable, MovePage, MoveDup, SetRun, SetPagesToScan, SetAcross, SetLimit}
+use Rattle.ksm_base.specs.declared.command.Command.TheVariants.{Register, Drop, Store, Scan, Prune, Unmerge, Mergeable, MovePage, MoveDup, SetRun, SetPagesToScan, SetAcross, SetLimit, SetZeroPages}
 use Rattle.ksm_base.specs.declared.fault.Fault.{Fault}
 use Rattle.ksm_base.specs.declared.fault.Fault.TheVariants.{UnknownPage, AlreadyRegistered, NotRunning, SharedPages, BadValue, CrossesNodes, UnknownPlace, BadNode}
 use Rattle.ksm_base.specs.Rows.{row_at, has_items}
@@ -67,5 +67,6 @@ refusal b (SetRun v) = refused_if (nat_lt 2 v) BadValue None
 refusal b (SetPagesToScan v) = refused_if (not (is_within 1 1000000 v)) BadValue None
 refusal b (SetAcross v) =
     refused_if (nat_lt 1 v) BadValue (refused_if (changes_while_shared b b.knobs.merge_across_nodes v) SharedPages None)
+refusal b (SetZeroPages v) = refused_if (nat_lt 1 v) BadValue None
 refusal b (SetLimit v) =
     refused_if (not (is_within 2 1024 v)) BadValue (refused_if (changes_while_shared b b.knobs.max_page_sharing v) SharedPages None)

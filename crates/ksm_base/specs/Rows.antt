@@ -1,8 +1,9 @@
 -- Rows and dup rows: lists in order, what is read from them, and the edits that commands make. Own, where nothing else is said.
 use Rattle.std.specs.Prelude.{◌≡◌, ℕ, ◌<◌, Bool, true, false, not, ◌&&◌, ◌||◌, ◌==◌, nat_lt, List, ◌∷◌, ◌++◌, map, filter, find, count_by, Option, AllPairs, bytes_eq, if◌then◌else◌}
+use Rattle.std.specs.List.{list_all}
 use Rattle.ksm_base.specs.declared.page.GuestPage.{GuestPage}
 use Rattle.ksm_base.specs.declared.row.PageState.{PageState}
-use Rattle.ksm_base.specs.declared.row.PageState.TheVariants.{Private, Waiting, Merged}
+use Rattle.ksm_base.specs.declared.row.PageState.TheVariants.{Private, Waiting, Merged, Zero}
 use Rattle.ksm_base.specs.declared.row.Row.{Row}
 use Rattle.ksm_base.specs.declared.row.DupRow.{DupRow}
 
@@ -43,30 +44,53 @@ abbrev pub private_state : PageState → Bool
 private_state Private = true
 private_state Waiting = false
 private_state (Merged d) = false
+private_state Zero = false
 
 -- mapped from a frame of its own, in the unstable tree (mm/ksm)
 abbrev pub waiting_state : PageState → Bool
 waiting_state Private = false
 waiting_state Waiting = true
 waiting_state (Merged d) = false
+waiting_state Zero = false
 
 -- mapped from the page of a stable node (mm/ksm)
 abbrev pub merged_state : PageState → Bool
 merged_state Private = false
 merged_state Waiting = false
 merged_state (Merged d) = true
+merged_state Zero = false
+
+-- mapped from the kernel's zero page, with no frame (admin-guide/mm/ksm, use_zero_pages)
+abbrev pub zero_state : PageState → Bool
+zero_state Private = false
+zero_state Waiting = false
+zero_state (Merged d) = false
+zero_state Zero = true
+
+-- mapped from a page that others may read too, which is never written: that of a stable node, or the zero page. A store needs a frame
+abbrev pub shared_state : PageState → Bool
+shared_state Private = false
+shared_state Waiting = false
+shared_state (Merged d) = true
+shared_state Zero = true
+
+-- each word is zero
+abbrev pub all_zero : List ℕ → Bool
+all_zero words = list_all (λ w. w == 0) words
 
 -- mapped from the page of the dup with this number (mm/ksm)
 abbrev pub merged_into : ℕ → PageState → Bool
 merged_into number Private = false
 merged_into number Waiting = false
 merged_into number (Merged d) = d == number
+merged_into number Zero = false
 
 -- out of the unstable tree (mm/ksm)
 abbrev pub settled_state : PageState → PageState
 settled_state Private = Private
 settled_state Waiting = Private
 settled_state (Merged d) = Merged d
+settled_state Zero = Zero
 
 -- a Waiting row becomes Private, any other stays
 abbrev pub settled : Row → Row

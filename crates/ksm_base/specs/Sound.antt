@@ -5,7 +5,7 @@ use Rattle.ksm_base.specs.declared.row.Row.{Row}
 use Rattle.ksm_base.specs.declared.row.DupRow.{DupRow}
 use Rattle.ksm_base.specs.declared.knobs.Knobs.{Knobs}
 use Rattle.ksm_base.specs.Values.{IsShape}
-use Rattle.ksm_base.specs.Rows.{InPageOrder, InPlaceOrder, private_state, waiting_state, item_count, dup_numbered}
+use Rattle.ksm_base.specs.Rows.{InPageOrder, InPlaceOrder, private_state, waiting_state, zero_state, all_zero, item_count, dup_numbered}
 use Rattle.ksm_base.specs.State.{BookState, tree_of}
 use Rattle.ksm_base.specs.Visit.{partner}
 
@@ -16,6 +16,7 @@ pub record AreKnobs (knobs : Knobs) : Type 0 where
   pub pages_to_scan : (1 ≤ knobs.pages_to_scan) × (knobs.pages_to_scan ≤ 1000000)
   pub merge_across_nodes : knobs.merge_across_nodes ≤ 1
   pub max_page_sharing : (2 ≤ knobs.max_page_sharing) × (knobs.max_page_sharing ≤ 1024)
+  pub use_zero_pages : knobs.use_zero_pages ≤ 1
 
 -- the dup of a row that is merged into a number: it stands among the dups, with the row's tree and bytes
 pub record IsDupOf (knobs : Knobs) (dups : List DupRow) (row : Row) (number : ℕ) (dup : DupRow) : Type 0 where
@@ -34,8 +35,10 @@ pub record IsSound (b : BookState) : Type 0 where
   pub rows_rise : InPageOrder b.rows
   -- each row's home is one of the nodes
   pub homes : All (λ r. r.home < b.shape.nodes) b.rows
-  -- a row that waits or is merged is mergeable
+  -- a row that waits, is merged or is Zero is mergeable
   pub mergeable : All (λ r. private_state r.state ≡ false → r.mergeable ≡ true) b.rows
+  -- a Zero row has only zeroes
+  pub zero : All (λ r. zero_state r.state ≡ true → all_zero r.bytes ≡ true) b.rows
   -- a row that waits has no partner: at most one waits for each tree and bytes
   pub waiting : All (λ r. waiting_state r.state ≡ true → partner b.knobs b.rows r ≡ None) b.rows
   -- a merged row's dup stands among the dups, with the row's tree and bytes

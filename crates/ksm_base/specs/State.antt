@@ -31,7 +31,7 @@ place_count shape = frames_of shape
 
 -- the settings at the start (admin-guide/mm/ksm; for max_page_sharing own, as Linux has it)
 abbrev pub default_knobs : Knobs
-default_knobs = record { run = 0; pages_to_scan = 100; merge_across_nodes = 1; max_page_sharing = 256 }
+default_knobs = record { run = 0; pages_to_scan = 100; merge_across_nodes = 1; max_page_sharing = 256; use_zero_pages = 0 }
 
 -- a book in which nothing was done yet (own)
 abbrev pub opening : Shape → BookState

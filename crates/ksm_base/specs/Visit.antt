@@ -2,11 +2,11 @@
 use Rattle.std.specs.Prelude.{ℕ, zero, suc, ◌+◌, Bool, true, not, ◌&&◌, ◌||◌, ◌==◌, nat_lt, nat_le, List, [], ◌∷◌, find, Option, Some, None, is_some, is_none, bytes_eq, if◌then◌else◌}
 use Rattle.std.specs.List.{list_all}
 use Rattle.ksm_base.specs.declared.page.GuestPage.{GuestPage}
-use Rattle.ksm_base.specs.declared.row.PageState.TheVariants.{Private, Waiting, Merged}
+use Rattle.ksm_base.specs.declared.row.PageState.TheVariants.{Private, Waiting, Merged, Zero}
 use Rattle.ksm_base.specs.declared.row.Row.{Row}
 use Rattle.ksm_base.specs.declared.knobs.Knobs.{Knobs}
 use Rattle.ksm_base.specs.declared.row.DupRow.{DupRow}
-use Rattle.ksm_base.specs.Rows.{comes_before, same_page, change_rows, change_row, waiting_state, merged_state, item_count, is_stale, with_dup}
+use Rattle.ksm_base.specs.Rows.{comes_before, same_page, change_rows, change_row, waiting_state, shared_state, all_zero, item_count, is_stale, with_dup}
 use Rattle.ksm_base.specs.State.{BookState, place_count, tree_of, with_none_waiting, pass_ended}
 
 -- a page comes after the cursor; every page comes after an empty one (own)
@@ -94,16 +94,26 @@ abbrev pub paired : Option Row → BookState → Row → BookState
 paired (Some w) b row = made_dup (new_place (place_count b.shape) b.rows b.dups) b w row
 paired None b row = record b { rows = change_row row.page (λ r. record r { state = Waiting }) b.rows }
 
--- a row that isn't merged joins the best dup, else becomes unchanged, else is paired
+-- a row has only zeroes, and these merge with the zero page (admin-guide/mm/ksm, use_zero_pages)
+abbrev pub is_for_zero : Knobs → Row → Bool
+is_for_zero knobs row = knobs.use_zero_pages == 1 && all_zero row.bytes
+
+-- a row whose bytes have stayed becomes Zero, or is paired
+abbrev pub stayed : BookState → Row → BookState
+stayed b row =
+    if is_for_zero b.knobs row then record b { rows = change_row row.page (λ r. record r { state = Zero }) b.rows }
+    else paired (partner b.knobs b.rows row) b row
+
+-- a row with a frame of its own joins the best dup, else becomes unchanged, else it has stayed
 abbrev pub handled : Option DupRow → BookState → Row → BookState
 handled (Some d) b row = record b { rows = change_row row.page (λ r. record r { state = Merged d.number }) b.rows }
 handled None b row =
-    if row.unchanged then paired (partner b.knobs b.rows row) b row
+    if row.unchanged then stayed b row
     else record b { rows = change_row row.page (λ r. record r { unchanged = true; state = Private }) b.rows }
 
--- a merged row stays as it is, any other is handled
+-- a merged or Zero row stays as it is, any other is handled
 abbrev pub row_visited : BookState → Row → BookState
-row_visited b row = if merged_state row.state then b else handled (best_dup b.knobs b.rows b.dups row) b row
+row_visited b row = if shared_state row.state then b else handled (best_dup b.knobs b.rows b.dups row) b row
 
 -- the cursor goes to the page, and the pass ends if it was the last (own)
 abbrev pub visit_ended : BookState → GuestPage → BookState

@@ -108,18 +108,23 @@ unmerge guest pages = gives (Unmerge guest) (Ok (Unmerged pages None))
 abbrev pub stopped : Command → ℕ → ℕ → Line
 stopped command pages node = gives command (Ok (Unmerged pages (Some (NoFrame node))))
 
--- the counters in the order of their line in the program
-abbrev pub stat : ℕ → ℕ → ℕ → ℕ → ℕ → ℕ → ℕ → Line
-stat shared sharing unshared volatile chains dups full_scans =
+-- so many pages are Zero, and the other counters in the order of their line in the program
+abbrev pub stat_beside : ℕ → ℕ → ℕ → ℕ → ℕ → ℕ → ℕ → ℕ → Line
+stat_beside zeroes shared sharing unshared volatile chains dups full_scans =
     counts (record {
       shared = shared;
       sharing = sharing;
       unshared = unshared;
       volatile = volatile;
+      zero = zeroes;
       chains = chains;
       dups = dups;
       full_scans = full_scans;
     })
+
+-- the counters in the order of their line in the program, and no page is Zero
+abbrev pub stat : ℕ → ℕ → ℕ → ℕ → ℕ → ℕ → ℕ → Line
+stat = stat_beside 0
 
 -- a page is full of one byte
 abbrev pub get : ℕ → ℕ → ℕ → Line

@@ -16,7 +16,7 @@ pub enum Command {
         page: GuestPage,
     },
     /// The page gets new bytes: in place where it has a frame of its own, else in a copy on its home (admin-guide/mm/ksm).
-    /// Answers `Done`; `UnknownPage`, and `NoFrame` for a merged page.
+    /// Answers `Done`; `UnknownPage`, and `NoFrame` for a page that is merged or mapped from the zero page.
     Store {
         page: GuestPage,
         bytes: PageBytes,
@@ -58,4 +58,6 @@ pub enum Command {
     /// `max_page_sharing`, 2 to 1,024 (admin-guide/mm/ksm); another value drops the stale dups. Answers `Done`; `BadValue`,
     /// `SharedPages`.
     SetLimit(u32),
+    /// `use_zero_pages`, 0 or 1 (admin-guide/mm/ksm), at any time; it changes no row. Answers `Done`; `BadValue`.
+    SetZeroPages(u32),
 }

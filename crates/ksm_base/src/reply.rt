@@ -10,7 +10,7 @@ pub enum Reply {
     Scanned { visits: u64, stop: Option<Fault> },
     /// So many stale dups were dropped.
     Pruned(u64),
-    /// So many merged pages got a frame of their own. `stop` is `NoFrame` where the next one found none: that page and those
+    /// So many pages, merged or mapped from the zero page, got a frame of their own. `stop` is `NoFrame` where the next one found none: that page and those
     /// after it stayed as they were. Else it is `None`.
     Unmerged { pages: u64, stop: Option<Fault> },
 }

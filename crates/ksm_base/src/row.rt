@@ -1,6 +1,7 @@
 use crate::page::{GuestPage, PageBytes};
 
-/// Whether a page is mapped from a frame of its own or from one that it shares (mm/ksm).
+/// Whether a page is mapped from a frame of its own, from one that it shares (mm/ksm), or from the zero page (admin-guide/mm/ksm,
+/// `use_zero_pages`).
 #[derive(Clone, Copy, Debug, PartialEq, Eq)]
 pub enum PageState {
     /// The page has a frame of its own, and stands in no tree.
@@ -9,6 +10,8 @@ pub enum PageState {
     Waiting,
     /// The page is an item of the dup with this number.
     Merged(u64),
+    /// The page is mapped from the kernel's zero page, and has no frame of the table; all its bytes are zero.
+    Zero,
 }
 
 /// What the book knows of a page (own).

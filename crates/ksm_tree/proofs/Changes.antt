@@ -7,7 +7,7 @@ use Rattle.std.proofs.lemmas.List.Elements.{All-head, All-tail, All-cons}
 use Rattle.ksm_base.specs.declared.page.GuestPage.{GuestPage}
 use Rattle.ksm_base.specs.declared.row.DupRow.{DupRow}
 use Rattle.ksm_base.specs.declared.row.PageState.{PageState}
-use Rattle.ksm_base.specs.declared.row.PageState.TheVariants.{Private, Waiting, Merged}
+use Rattle.ksm_base.specs.declared.row.PageState.TheVariants.{Private, Waiting, Merged, Zero}
 use Rattle.ksm_base.specs.Rows.{InPlaceOrder, with_dup}
 use Rattle.ksm_rmap.specs.Items.{without_item}
 use Rattle.ksm_tree.specs.declared.dup.Dup.{Dup}
@@ -62,6 +62,7 @@ rows_items number f (d ∷ dups) =
 pub rows_out : (state : PageState) (page : GuestPage) (dups : List Dup) → rows_of (let_out state page dups) ≡ rows_of dups
 rows_out Private page dups = refl
 rows_out Waiting page dups = refl
+rows_out Zero page dups = refl
 rows_out (Merged number) page dups = rows_items number (without_item page) dups
 
 -- a dup is found where its row is

@@ -8,7 +8,7 @@ use Rattle.std.proofs.lemmas.List.Elements.{All-head, All-tail, All-append, All-
 use Rattle.ksm_base.specs.declared.page.GuestPage.{GuestPage}
 use Rattle.ksm_base.specs.declared.row.DupRow.{DupRow}
 use Rattle.ksm_base.specs.declared.row.PageState.{PageState}
-use Rattle.ksm_base.specs.declared.row.PageState.TheVariants.{Private, Waiting, Merged}
+use Rattle.ksm_base.specs.declared.row.PageState.TheVariants.{Private, Waiting, Merged, Zero}
 use Rattle.ksm_base.specs.declared.row.Row.{Row}
 use Rattle.ksm_base.specs.Reading.{items_of}
 use Rattle.ksm_base.specs.Rows.{comes_before, same_page, InPageOrder, row_at, with_row, without_page, change_row, merged_state, merged_into, item_count}
@@ -31,6 +31,7 @@ IsTied rows d = d.items ≡ items_of rows d.row
 not_merged : (number : ℕ) (state : PageState) → merged_state state ≡ false → merged_into number state ≡ false
 not_merged number Private alone = refl
 not_merged number Waiting alone = refl
+not_merged number Zero alone = refl
 not_merged number (Merged n) alone = absurd (true≢false alone)
 
 -- the row of a page is the only one of its page
@@ -68,6 +69,8 @@ module _ (rows : List Row) (page : GuestPage) (old : Row) (rise : InPageOrder ro
   out_of Private is new dups less tied =
       All-weaker (IsTied rows) (IsTied new) (λ d e. e ∙ unlike d.row (rw is refl) ∙ sym (less d.row)) dups tied
   out_of Waiting is new dups less tied =
+      All-weaker (IsTied rows) (IsTied new) (λ d e. e ∙ unlike d.row (rw is refl) ∙ sym (less d.row)) dups tied
+  out_of Zero is new dups less tied =
       All-weaker (IsTied rows) (IsTied new) (λ d e. e ∙ unlike d.row (rw is refl) ∙ sym (less d.row)) dups tied
   out_of (Merged n) is new dups less tied =
       All-map (IsTied new) (λ d. if has_number n d then record d { items = without_item page d.items } else d) dups
