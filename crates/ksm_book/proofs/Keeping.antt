@@ -7,6 +7,7 @@ use Rattle.std.proofs.lemmas.List.Elements.{Contains-push}
 use Rattle.std.proofs.lemmas.List.Sums.{sum_by-set}
 use mathlib.Core.Logic.{dite}
 use native.Mathlib.Decide.{ℕ_discrete}
+use Rattle.std.proofs.lemmas.Option.{same_Some}
 use Rattle.ksm_base.specs.declared.shape.Shape.{Shape}
 use Rattle.ksm_base.specs.declared.row.Row.{Row}
 use Rattle.ksm_base.specs.declared.row.DupRow.{DupRow}
@@ -79,7 +80,7 @@ pub known_frame : (v : KeeperView) (hand : Option ℕ) (g : ℕ) → IsLawful v 
 known_frame v hand g l inside = let long : length v.ledger.frames ≡ frames_of v.table.shape = l.4.frames_long in omega (arith, long, inside)
 
 -- the steps that change references alone
-module _ (sh : Shape) (across : ℕ) (k : Ledger) (rows : List Row) (frames : List ℕ) (dups : List DupRow) (hand : Option ℕ) (p : Placed sh across k rows frames dups hand) (g : ℕ) (inside : g < frames_of sh) where
+module _ (sh : Shape) (across : ℕ) (k : Ledger) (rows : List Row) (frames : List (Option ℕ)) (dups : List DupRow) (hand : Option ℕ) (p : Placed sh across k rows frames dups hand) (g : ℕ) (inside : g < frames_of sh) where
   abbrev here : Note
   here = frame_at k g
 
@@ -131,7 +132,7 @@ taken_private : (b : Bool) (kind : Kind) → cond b Dying kind ≡ Private → k
 taken_private true kind e = absurd (subst private_kind (sym e) tt)
 taken_private false kind e = e
 
-module _ (sh : Shape) (across : ℕ) (k : Ledger) (rows : List Row) (frames : List ℕ) (dups : List DupRow) (g : ℕ) (inside : g < frames_of sh) where
+module _ (sh : Shape) (across : ℕ) (k : Ledger) (rows : List Row) (frames : List (Option ℕ)) (dups : List DupRow) (g : ℕ) (inside : g < frames_of sh) where
   abbrev at_g : Note
   at_g = frame_at k g
 
@@ -139,19 +140,19 @@ module _ (sh : Shape) (across : ℕ) (k : Ledger) (rows : List Row) (frames : Li
   pub add_keeps : (found : ℕ) → Placed sh across k rows frames dups None → at_g.kind ≡ Stable → Placed sh across (ledger_after sh k (Add g) found) rows frames dups (Some g)
   add_keeps found p stable =
       let is : at_g.base ≡ uses g frames + 0 = p.bases g in
-      let o : one_at g g ≡ 1 = one_same g g refl in
+      let o : one_at g (Some g) ≡ 1 = one_same g (Some g) refl in
       referenced sh across k rows frames dups None p g inside record { kind = at_g.kind; base = at_g.base + 1; generation = at_g.generation; content = at_g.content } refl refl (Some g)
-      (λ _. refl) (λ e. e) (omega arith) (λ f ne. one_other f g (λ e. ne (sym e))) (fits_added at_g.kind at_g.base stable) (p.lives g)
+      (λ _. refl) (λ e. e) (omega arith) (λ f ne. one_other f (Some g) (λ e. ne (sym (same_Some g f e)))) (fits_added at_g.kind at_g.base stable) (p.lives g)
 
   -- the reference in hand is given back
   pub sub_keeps : (found : ℕ) → Placed sh across k rows frames dups (Some g) → Placed sh across (ledger_after sh k (Sub g) found) rows frames dups None
   sub_keeps found p =
-      let o : one_at g g ≡ 1 = one_same g g refl in
-      let is : at_g.base ≡ uses g frames + one_at g g = p.bases g in
+      let o : one_at g (Some g) ≡ 1 = one_same g (Some g) refl in
+      let is : at_g.base ≡ uses g frames + one_at g (Some g) = p.bases g in
       let b : Bool = at_g.base == 1 in
       referenced sh across k rows frames dups (Some g) p g inside record { kind = cond (at_g.base == 1) Dying at_g.kind; base = at_g.base - 1; generation = at_g.generation; content = at_g.content } refl refl None
       (λ some. let e : (at_g.base == 1) ≡ false = ne_eqb at_g.base 1 (λ x. omega arith) in ap (λ (x : Bool). cond x Dying at_g.kind) e)
-      (taken_private (at_g.base == 1) at_g.kind) (omega arith) (λ f ne. sym (one_other f g (λ e. ne (sym e))))
+      (taken_private (at_g.base == 1) at_g.kind) (omega arith) (λ f ne. sym (one_other f (Some g) (λ e. ne (sym (same_Some g f e)))))
       (fits_taken at_g.kind at_g.base (omega arith) (p.kinds g) (at_g.base == 1) refl)
       (lived_taken sh.last_generation at_g.generation at_g.base at_g.kind (at_g.base == 1) (omega arith) (p.kinds g) (p.lives g))
 

@@ -1,13 +1,13 @@
 -- What becomes of rows and dups that lie lawfully, where the keeper makes its steps.
 use Rattle.std.proofs.Common.{inl, inr, ◌≡◌, ◌/◌, ℕ, ◌<◌, ◌≤◌, false, List, [], length, set, Option, Some, None, refl, sym, ap, ◌∙◌, subst, arith}
-use Rattle.std.specs.Prelude.{◌⊎◌, All, MatchOption, insert, remove, slice_index}
+use Rattle.std.specs.Prelude.{◌⊎◌, All, MatchOption, insert, remove, is_some, true}
 use Rattle.ksm_base.specs.declared.shape.Shape.{Shape}
 use Rattle.ksm_base.specs.declared.knobs.Knobs.{Knobs}
 use Rattle.ksm_base.specs.declared.row.PageState.{PageState}
-use Rattle.ksm_base.specs.declared.row.PageState.TheVariants.{Private as OwnPage, Waiting, Merged}
+use Rattle.ksm_base.specs.declared.row.PageState.TheVariants.{Private as OwnPage, Waiting, Merged, Zero}
 use Rattle.ksm_base.specs.declared.row.Row.{Row}
 use Rattle.ksm_base.specs.declared.row.DupRow.{DupRow}
-use Rattle.ksm_base.specs.Rows.{merged_state, merged_into, row_at}
+use Rattle.ksm_base.specs.Rows.{shared_state, zero_state, merged_into, row_at}
 use Rattle.ksm_base.specs.Values.{frames_of}
 use Rattle.frame_core.specs.declared.frame.Kind.{Kind}
 use Rattle.frame_core.specs.declared.frame.Kind.TheVariants.{Private}
@@ -18,15 +18,15 @@ use Rattle.std.proofs.lemmas.List.{set-get_or}
 use Rattle.ksm_base.specs.declared.page.GuestPage.{GuestPage}
 use Rattle.ksm_base.specs.declared.page.TheConstants.{PAGE_WORDS}
 use Rattle.frame_table.specs.Named.{KeeperView}
-use Rattle.ksm_book.specs.Placement.{kind_for, DupFits, Placed}
+use Rattle.ksm_book.specs.Placement.{frame_in, kind_for, DupFits, IsServed, Placed}
 use Rattle.ksm_book.specs.Keeping.{Keeps, IsLawful, Took, Wrote, holding, spent}
 use Rattle.ksm_book.specs.Listed.{Listed, rank, StandsAt}
 use Rattle.ksm_book.specs.Linked.{PagesView}
 use Rattle.ksm_book.specs.Laid.{Lay, lay_of, IsLaid, Knows, IsOnItsOwn, LodgesAs}
-use Rattle.ksm_book.proofs.Moves.{Serves, own_agrees, swapped, inserted, removed, rewritten, written_in}
+use Rattle.ksm_book.proofs.Moves.{Serves, framed, own_agrees, swapped, inserted, removed, rewritten, written_in}
 use Rattle.ksm_book.proofs.Keeping.{spent_kept}
 
-module _ (sh : Shape) (across : ℕ) (v : KeeperView) (rows : List Row) (frames : List ℕ) (dups : List DupRow) (hand : Option ℕ) (same : v.table.shape ≡ sh) where
+module _ (sh : Shape) (across : ℕ) (v : KeeperView) (rows : List Row) (frames : List (Option ℕ)) (dups : List DupRow) (hand : Option ℕ) (same : v.table.shape ≡ sh) where
   -- the same placement, by the shape of the keeper's table
   at_table : Placed sh across v.ledger rows frames dups hand → Placed v.table.shape across v.ledger rows frames dups hand
   at_table p = subst (λ (s : Shape). Placed s across v.ledger rows frames dups hand) (sym same) p
@@ -42,13 +42,14 @@ pub shape_same : (sh : Shape) (v w : KeeperView) → v.table.shape ≡ sh → w.
 shape_same sh v w same e = ap (λ x. x.shape) e ∙ same
 
 -- the frame taken serves a row with its bytes on its home
-module _ (sh : Shape) (across : ℕ) (v w : KeeperView) (rows : List Row) (frames : List ℕ) (dups : List DupRow) (same : v.table.shape ≡ sh) (node : ℕ) (bytes : List ℕ) (g : ℕ) (took : Took v w node bytes g) where
+module _ (sh : Shape) (across : ℕ) (v w : KeeperView) (rows : List Row) (frames : List (Option ℕ)) (dups : List DupRow) (same : v.table.shape ≡ sh) (node : ℕ) (bytes : List ℕ) (g : ℕ) (took : Took v w node bytes g) where
   in_new_hand : Placed sh across v.ledger rows frames dups None → Placed sh across w.ledger rows frames dups (Some g)
   in_new_hand p = kept sh across v rows frames dups None same w (Some g) took.keeps p
 
   serves : (r : Row) → r.bytes ≡ bytes → r.home ≡ node → r.state ≡ OwnPage → Placed sh across v.ledger rows frames dups None → Serves sh w.ledger dups r g
   serves r content home own p = (
     record {
+      mapped = ap zero_state own;
       frame = subst (λ (s : Shape). g < frames_of s) same took.frame;
       kind = took.kind ∙ ap kind_for (sym own);
       content = took.content ∙ sym content;
@@ -59,41 +60,57 @@ module _ (sh : Shape) (across : ℕ) (v w : KeeperView) (rows : List Row) (frame
   )
 
   -- the row at i moves to it, and its old frame comes into the hand
-  pub moved_there : (i : ℕ) (r : Row) → i < length rows → r.bytes ≡ bytes → r.home ≡ node → r.state ≡ OwnPage → Placed sh across v.ledger rows frames dups None → Placed sh across w.ledger (set rows i r) (set frames i g) dups (Some (slice_index frames i))
-  moved_there i r lt content home own p = swapped sh across w.ledger rows frames dups g i r lt (in_new_hand p) (serves r content home own p)
+  pub moved_there : (i : ℕ) (r : Row) → i < length rows → r.bytes ≡ bytes → r.home ≡ node → r.state ≡ OwnPage → Placed sh across v.ledger rows frames dups None → Placed sh across w.ledger (set rows i r) (set frames i (Some g)) dups (frame_in frames i)
+  moved_there i r lt content home own p = swapped sh across w.ledger rows frames dups (Some g) i r lt (in_new_hand p) (serves r content home own p)
 
-  pub come_there : (i : ℕ) (r : Row) → i ≤ length rows → r.bytes ≡ bytes → r.home ≡ node → r.state ≡ OwnPage → Placed sh across v.ledger rows frames dups None → Placed sh across w.ledger (insert rows i r) (insert frames i g) dups None
-  come_there i r le content home own p = inserted sh across w.ledger rows frames dups g i r le (in_new_hand p) (serves r content home own p)
+  pub come_there : (i : ℕ) (r : Row) → i ≤ length rows → r.bytes ≡ bytes → r.home ≡ node → r.state ≡ OwnPage → Placed sh across v.ledger rows frames dups None → Placed sh across w.ledger (insert rows i r) (insert frames i (Some g)) dups None
+  come_there i r le content home own p = inserted sh across w.ledger rows frames dups (Some g) i r le (in_new_hand p) (serves r content home own p)
 
 -- the frame of a page with one of its own
-pub own_kind : (s : PageState) → merged_state s ≡ false → kind_for s ≡ Private
+pub own_kind : (s : PageState) → shared_state s ≡ false → kind_for s ≡ Private
 own_kind OwnPage e = refl
 own_kind Waiting e = refl
 own_kind (Merged d) e = absurd (grind (arith, e))
+own_kind Zero e = absurd (grind (arith, e))
 
-pub own_item : (s : PageState) → merged_state s ≡ false → (n : ℕ) → merged_into n s ≡ false
+pub own_item : (s : PageState) → shared_state s ≡ false → (n : ℕ) → merged_into n s ≡ false
 own_item OwnPage e n = refl
 own_item Waiting e n = refl
 own_item (Merged d) e n = absurd (grind (arith, e))
+own_item Zero e n = refl
+
+-- a page with a frame of its own has one
+pub own_framed : (s : PageState) → shared_state s ≡ false → zero_state s ≡ false
+own_framed OwnPage e = refl
+own_framed Waiting e = refl
+own_framed (Merged d) e = refl
+own_framed Zero e = absurd (grind (arith, e))
 
 -- a row that may stand in the stead of another is served by its frame
-module _ (sh : Shape) (across : ℕ) (k : Ledger) (rows : List Row) (frames : List ℕ) (dups : List DupRow) (hand : Option ℕ) (p : Placed sh across k rows frames dups hand) (old r : Row) (f : ℕ) (fits : Serves sh k dups old f) where
+module _ (sh : Shape) (across : ℕ) (k : Ledger) (rows : List Row) (frames : List (Option ℕ)) (dups : List DupRow) (hand : Option ℕ) (p : Placed sh across k rows frames dups hand) (old r : Row) (f : ℕ) (fits : Serves sh k dups old f) where
   same_state : r.state ≡ old.state → r.home ≡ old.home → r.bytes ≡ old.bytes → Serves sh k dups r f
   same_state s home bytes = subst (λ (z : PageState × ℕ × List ℕ). Serves sh k dups (record { page = r.page; home = z.1; bytes = z.2; mergeable = r.mergeable; unchanged = r.unchanged; state = z.0 }) f) (λ t. (sym s t, sym home t, sym bytes t)) (
-    record { frame = fits.0.frame; kind = fits.0.kind; content = fits.0.content; given = fits.0.given; node = fits.0.node },
+    record { mapped = fits.0.mapped; frame = fits.0.frame; kind = fits.0.kind; content = fits.0.content; given = fits.0.given; node = fits.0.node },
     λ j d lt. let a = fits.1 j d lt in record { item = a.item; back = a.back },
   )
 
-  both_own : merged_state old.state ≡ false → merged_state r.state ≡ false → r.home ≡ old.home → r.bytes ≡ old.bytes → Serves sh k dups r f
+  both_own : shared_state old.state ≡ false → shared_state r.state ≡ false → r.home ≡ old.home → r.bytes ≡ old.bytes → Serves sh k dups r f
   both_own was now home bytes =
       let kind : (frame_at k f).kind ≡ Private = fits.0.kind ∙ own_kind old.state was in (
-        record { frame = fits.0.frame; kind = kind ∙ sym (own_kind r.state now); content = fits.0.content ∙ sym bytes; given = fits.0.given; node = λ _. fits.0.node was ∙ sym home },
+        record { mapped = own_framed r.state now; frame = fits.0.frame; kind = kind ∙ sym (own_kind r.state now); content = fits.0.content ∙ sym bytes; given = fits.0.given; node = λ _. fits.0.node was ∙ sym home },
         own_agrees sh across k rows frames dups hand p r f (own_item r.state now) kind,
       )
 
   pub lodged : LodgesAs r old → Serves sh k dups r f
   lodged (home, bytes, inl s) = same_state s home bytes
   lodged (home, bytes, inr own) = both_own own.0 own.1 home bytes
+
+-- the same, where the row may have no frame
+pub lodged_as : (sh : Shape) (across : ℕ) (k : Ledger) (rows : List Row) (frames : List (Option ℕ)) (dups : List DupRow) (hand : Option ℕ) → Placed sh across k rows frames dups hand → (old r : Row) (o : Option ℕ)
+    → LodgesAs r old → IsServed sh k dups old o → IsServed sh k dups r o
+lodged_as sh across k rows frames dups hand p old r (Some f) lodges fits = lodged sh across k rows frames dups hand p old r f fits lodges
+lodged_as sh across k rows frames dups hand p old r None (home, bytes, inl s) fits = ap zero_state s ∙ fits
+lodged_as sh across k rows frames dups hand p old r None (home, bytes, inr own) fits = absurd (let none = own_framed old.state own.0 in grind (arith, none, fits))
 
 module _ (sh : Shape) (v : Listed) (dups : List DupRow) (knobs : Knobs) (next : ℕ) (k : KeeperView) (h : IsLaid sh v dups knobs next k) where
   abbrev across : ℕ
@@ -113,41 +130,56 @@ module _ (sh : Shape) (v : Listed) (dups : List DupRow) (knobs : Knobs) (next : 
   laid_same v' w e f t l = record {
     small = h.small;
     same = shape_same sh k w h.same t;
-    placed = subst (λ (z : Ledger × List Row × List ℕ). Placed sh across z.0 z.1 z.2 dups None) (λ i. (sym l i, sym e i, sym f i)) h.placed;
+    placed = subst (λ (z : Ledger × List Row × List (Option ℕ)). Placed sh across z.0 z.1 z.2 dups None) (λ i. (sym l i, sym e i, sym f i)) h.placed;
     spent = subst (λ (z : Ledger). next ≤ spent z) (sym l) h.spent;
   }
 
   -- a row comes on the frame taken
-  pub laid_with : (v' : Listed) (w : KeeperView) (i g : ℕ) (r : Row) → w.table ≡ k.table → Took k w r.home r.bytes g → i ≤ length v.rows → r.state ≡ OwnPage → v'.rows ≡ insert v.rows i r → v'.frames ≡ insert v.frames i g → IsLaid sh v' dups knobs next w
+  pub laid_with : (v' : Listed) (w : KeeperView) (i g : ℕ) (r : Row) → w.table ≡ k.table → Took k w r.home r.bytes g → i ≤ length v.rows → r.state ≡ OwnPage → v'.rows ≡ insert v.rows i r → v'.frames ≡ insert v.frames i (Some g) → IsLaid sh v' dups knobs next w
   laid_with v' w i g r e took le own rows frames = record {
     small = h.small;
     same = shape_same sh k w h.same e;
-    placed = subst (λ (z : List Row × List ℕ). Placed sh across w.ledger z.0 z.1 dups None) (λ t. (sym rows t, sym frames t))
+    placed = subst (λ (z : List Row × List (Option ℕ)). Placed sh across w.ledger z.0 z.1 dups None) (λ t. (sym rows t, sym frames t))
         (come_there sh across k w v.rows v.frames dups h.same r.home r.bytes g took i r le refl refl own h.placed);
     spent = (let s = h.spent in let more = took.spent in omega (arith, s, more));
   }
 
-  module _ (page_row : Row) (f : ℕ) (r : Row) (at : StandsAt v r.page page_row f) where
+  -- a row that is not Zero has a frame
+  pub has_frame : (page : GuestPage) (row : Row) (o : Option ℕ) → StandsAt v page row o → zero_state row.state ≡ false → is_some o ≡ true
+  has_frame page row o at other =
+      ap is_some (framed sh k.ledger dups row o other (subst (λ (z : Row × Option ℕ). IsServed sh k.ledger dups z.0 z.1) (λ t. (at.row_is t, at.frame_is t)) (h.placed.each_row (rank page v.rows) at.inside))).1
+
+  module _ (page_row : Row) (f : Option ℕ) (r : Row) (at : StandsAt v r.page page_row f) where
     abbrev i : ℕ
     i = rank r.page v.rows
 
-    abbrev n : Note
-    n = frame_at k.ledger f
-
-    found_fits : Serves sh k.ledger dups page_row f
-    found_fits = subst (λ (z : Row × ℕ). Serves sh k.ledger dups z.0 z.1) (λ t. (at.row_is t, at.frame_is t)) (h.placed.each_row i at.inside)
+    found_fits : IsServed sh k.ledger dups page_row f
+    found_fits = subst (λ (z : Row × Option ℕ). IsServed sh k.ledger dups z.0 z.1) (λ t. (at.row_is t, at.frame_is t)) (h.placed.each_row i at.inside)
 
     -- the row moves to the frame taken, and its old one comes into the hand
-    pub taken_hand : (v' : Listed) (w : KeeperView) (g : ℕ) → Took k w r.home r.bytes g → r.state ≡ OwnPage → v'.rows ≡ set v.rows i r → v'.frames ≡ set v.frames i g → Placed sh across w.ledger v'.rows v'.frames dups (Some f)
-    taken_hand v' w g took own rows frames = subst (λ (z : List Row × List ℕ × ℕ). Placed sh across w.ledger z.0 z.1 dups (Some z.2)) (λ t. (sym rows t, sym frames t, at.frame_is t))
+    pub taken_hand : (v' : Listed) (w : KeeperView) (g : ℕ) → Took k w r.home r.bytes g → r.state ≡ OwnPage → v'.rows ≡ set v.rows i r → v'.frames ≡ set v.frames i (Some g) → Placed sh across w.ledger v'.rows v'.frames dups f
+    taken_hand v' w g took own rows frames = subst (λ (z : List Row × List (Option ℕ) × Option ℕ). Placed sh across w.ledger z.0 z.1 dups z.2) (λ t. (sym rows t, sym frames t, at.frame_is t))
         (moved_there sh across k w v.rows v.frames dups h.same r.home r.bytes g took i r at.inside refl refl own h.placed)
 
-    pub laid_moved : (v' : Listed) (w u : KeeperView) (g : ℕ) → w.table ≡ k.table → u.table ≡ w.table → Took k w r.home r.bytes g → Keeps w u (Some f) None → spent w.ledger ≤ spent u.ledger → r.state ≡ OwnPage → v'.rows ≡ set v.rows i r → v'.frames ≡ set v.frames i g → IsLaid sh v' dups knobs next u
+    pub laid_moved : (v' : Listed) (w u : KeeperView) (g : ℕ) → w.table ≡ k.table → u.table ≡ w.table → Took k w r.home r.bytes g → Keeps w u f None → spent w.ledger ≤ spent u.ledger → r.state ≡ OwnPage → v'.rows ≡ set v.rows i r → v'.frames ≡ set v.frames i (Some g) → IsLaid sh v' dups knobs next u
     laid_moved v' w u g e e' took keeps more own rows frames = record {
       small = h.small;
       same = shape_same sh w u (shape_same sh k w h.same e) e';
-      placed = kept sh across w v'.rows v'.frames dups (Some f) (shape_same sh k w h.same e) u None keeps (taken_hand v' w g took own rows frames);
+      placed = kept sh across w v'.rows v'.frames dups f (shape_same sh k w h.same e) u None keeps (taken_hand v' w g took own rows frames);
       spent = (let s = h.spent in let m = took.spent in omega (arith, s, m, more));
+    }
+
+    -- the row becomes Zero, and its frame comes into the hand
+    pub emptied_hand : (v' : Listed) (z : Row) → z.state ≡ Zero → v'.rows ≡ set v.rows i z → v'.frames ≡ set v.frames i None → Placed sh across k.ledger v'.rows v'.frames dups f
+    emptied_hand v' z is rows frames = subst (λ (z : List Row × List (Option ℕ) × Option ℕ). Placed sh across k.ledger z.0 z.1 dups z.2) (λ t. (sym rows t, sym frames t, at.frame_is t))
+        (swapped sh across k.ledger v.rows v.frames dups None i z at.inside h.placed (ap zero_state is))
+
+    pub laid_emptied : (v' : Listed) (z : Row) (u : KeeperView) → u.table ≡ k.table → Keeps k u f None → spent k.ledger ≤ spent u.ledger → z.state ≡ Zero → v'.rows ≡ set v.rows i z → v'.frames ≡ set v.frames i None → IsLaid sh v' dups knobs next u
+    laid_emptied v' z u e keeps more is rows frames = record {
+      small = h.small;
+      same = shape_same sh k u h.same e;
+      placed = kept sh across k v'.rows v'.frames dups f h.same u None keeps (emptied_hand v' z is rows frames);
+      spent = (let s = h.spent in omega (arith, s, more));
     }
 
     -- the row changes on its frame
@@ -155,39 +187,39 @@ module _ (sh : Shape) (v : Listed) (dups : List DupRow) (knobs : Knobs) (next : 
     laid_amended v' lodges rows frames = record {
       small = h.small;
       same = h.same;
-      placed = subst (λ (z : List Row × List ℕ). Placed sh across k.ledger z.0 z.1 dups None) (λ t. (sym rows t, sym (frames ∙ ap (set v.frames i) (sym at.frame_is) ∙ set-get_or v.frames i 0) t))
-          (rewritten sh across k.ledger v.rows v.frames dups None i r at.inside h.placed (subst (λ x. Serves sh k.ledger dups r x) (sym at.frame_is) (lodged sh across k.ledger v.rows v.frames dups None h.placed page_row r f found_fits lodges)));
+      placed = subst (λ (z : List Row × List (Option ℕ)). Placed sh across k.ledger z.0 z.1 dups None) (λ t. (sym rows t, sym (frames ∙ ap (set v.frames i) (sym at.frame_is) ∙ set-get_or v.frames i None) t))
+          (rewritten sh across k.ledger v.rows v.frames dups None i r at.inside h.placed (subst (λ x. IsServed sh k.ledger dups r x) (sym at.frame_is) (lodged_as sh across k.ledger v.rows v.frames dups None h.placed page_row r f lodges found_fits)));
       spent = h.spent;
     }
 
     -- the row is written in place
-    pub laid_written : (v' : Listed) (w : KeeperView) → w.table ≡ k.table → Wrote k w f r.bytes → length r.bytes ≡ PAGE_WORDS → IsOnItsOwn r page_row → r.state ≡ OwnPage → v'.rows ≡ set v.rows i r → v'.frames ≡ set v.frames i f → IsLaid sh v' dups knobs next w
-    laid_written v' w e wrote wide own is rows frames =
-        let kind : (frame_at k.ledger f).kind ≡ Private = found_fits.0.kind ∙ own_kind page_row.state own.0 in
-        let kind' : (frame_at k.ledger (slice_index v.frames i)).kind ≡ Private = ap (λ x. (frame_at k.ledger x).kind) at.frame_is ∙ kind in
-        let fr : Note = holding (frame_at k.ledger f) r.bytes in
-        let within : f < length k.ledger.frames = (let long : length k.ledger.frames ≡ frames_of sh = h.placed.frames_long in let lt = found_fits.0.frame in omega (arith, long, lt)) in
-        let more : spent k.ledger ≤ spent (with_frame k.ledger f fr) = spent_kept k.ledger f fr within (omega arith) in
-        let end : spent w.ledger ≡ spent (with_frame k.ledger f fr) = ap spent wrote.ledger in
-        let p = written_in sh across k.ledger v.rows v.frames dups h.placed i at.inside kind' r fr kind (ap (λ x. (frame_at k.ledger x).base) (sym at.frame_is)) (ap (λ x. (frame_at k.ledger x).generation) (sym at.frame_is)) wide
-        (ap kind_for is) (λ m. ap (merged_into m) is) (own.1 ∙ ap (λ (x : Row). x.home) (sym at.row_is)) refl (ap (λ (x : Row). merged_state x.state) at.row_is ∙ own.0) in
+    pub laid_written : (v' : Listed) (w : KeeperView) (g : ℕ) → f ≡ Some g → w.table ≡ k.table → Wrote k w g r.bytes → length r.bytes ≡ PAGE_WORDS → IsOnItsOwn r page_row → r.state ≡ OwnPage → v'.rows ≡ set v.rows i r → v'.frames ≡ set v.frames i f → IsLaid sh v' dups knobs next w
+    laid_written v' w g some e wrote wide own is rows frames =
+        let fits : Serves sh k.ledger dups page_row g = subst (IsServed sh k.ledger dups page_row) some found_fits in
+        let kind : (frame_at k.ledger g).kind ≡ Private = fits.0.kind ∙ own_kind page_row.state own.0 in
+        let fr : Note = holding (frame_at k.ledger g) r.bytes in
+        let within : g < length k.ledger.frames = (let long : length k.ledger.frames ≡ frames_of sh = h.placed.frames_long in let lt = fits.0.frame in omega (arith, long, lt)) in
+        let more : spent k.ledger ≤ spent (with_frame k.ledger g fr) = spent_kept k.ledger g fr within (omega arith) in
+        let end : spent w.ledger ≡ spent (with_frame k.ledger g fr) = ap spent wrote.ledger in
+        let p = written_in sh across k.ledger v.rows v.frames dups h.placed i g at.inside (at.frame_is ∙ some) kind r fr kind refl refl wide
+        (ap zero_state is) (ap kind_for is) (λ m. ap (merged_into m) is) (own.1 ∙ ap (λ (x : Row). x.home) (sym at.row_is)) refl (ap (λ (x : Row). shared_state x.state) at.row_is ∙ own.0) in
         record {
           small = h.small;
           same = shape_same sh k w h.same e;
-          placed = subst (λ (z : Ledger × List Row × List ℕ). Placed sh across z.0 z.1 z.2 dups None) (λ t. (sym (wrote.ledger ∙ ap (λ x. with_frame k.ledger x fr) (sym at.frame_is)) t, sym rows t, sym (frames ∙ ap (set v.frames i) (sym at.frame_is) ∙ set-get_or v.frames i 0) t)) p;
+          placed = subst (λ (z : Ledger × List Row × List (Option ℕ)). Placed sh across z.0 z.1 z.2 dups None) (λ t. (sym wrote.ledger t, sym rows t, sym (frames ∙ ap (set v.frames i) (sym at.frame_is) ∙ set-get_or v.frames i None) t)) p;
           spent = (let s = h.spent in omega (arith, s, more, end));
         }
 
   -- the row of a page goes, and its frame comes into the hand
-  pub gone_hand : (page : GuestPage) (page_row : Row) (f : ℕ) (v' : Listed) → StandsAt v page page_row f → v'.rows ≡ remove v.rows (rank page v.rows) → v'.frames ≡ remove v.frames (rank page v.rows) → Placed sh across k.ledger v'.rows v'.frames dups (Some f)
-  gone_hand page page_row f v' at rows frames = subst (λ (z : List Row × List ℕ × ℕ). Placed sh across k.ledger z.0 z.1 dups (Some z.2)) (λ t. (sym rows t, sym frames t, at.frame_is t))
+  pub gone_hand : (page : GuestPage) (page_row : Row) (f : Option ℕ) (v' : Listed) → StandsAt v page page_row f → v'.rows ≡ remove v.rows (rank page v.rows) → v'.frames ≡ remove v.frames (rank page v.rows) → Placed sh across k.ledger v'.rows v'.frames dups f
+  gone_hand page page_row f v' at rows frames = subst (λ (z : List Row × List (Option ℕ) × Option ℕ). Placed sh across k.ledger z.0 z.1 dups z.2) (λ t. (sym rows t, sym frames t, at.frame_is t))
       (removed sh across k.ledger v.rows v.frames dups (rank page v.rows) at.inside h.placed)
 
-  pub laid_gone : (page : GuestPage) (page_row : Row) (f : ℕ) (v' : Listed) (u : KeeperView) → StandsAt v page page_row f → u.table ≡ k.table → Keeps k u (Some f) None → spent k.ledger ≤ spent u.ledger → v'.rows ≡ remove v.rows (rank page v.rows) → v'.frames ≡ remove v.frames (rank page v.rows) → IsLaid sh v' dups knobs next u
+  pub laid_gone : (page : GuestPage) (page_row : Row) (f : Option ℕ) (v' : Listed) (u : KeeperView) → StandsAt v page page_row f → u.table ≡ k.table → Keeps k u f None → spent k.ledger ≤ spent u.ledger → v'.rows ≡ remove v.rows (rank page v.rows) → v'.frames ≡ remove v.frames (rank page v.rows) → IsLaid sh v' dups knobs next u
   laid_gone page page_row f v' u at e keeps more rows frames = record {
     small = h.small;
     same = shape_same sh k u h.same e;
-    placed = kept sh across k v'.rows v'.frames dups (Some f) h.same u None keeps (gone_hand page page_row f v' at rows frames);
+    placed = kept sh across k v'.rows v'.frames dups f h.same u None keeps (gone_hand page page_row f v' at rows frames);
     spent = (let s = h.spent in omega (arith, s, more));
   }
 
@@ -196,10 +228,11 @@ pub known_as : (fact : Row → Type 0) (rows : List Row) (row page_row : Row) �
 known_as fact rows row page_row at known = subst (λ (x : Option Row). MatchOption x ⊥ fact) at known
 
 -- the frame of a row may be read
-pub readable : (x : Kind) (s : PageState) → x ≡ kind_for s → IsReadable x
-readable x OwnPage e = subst IsReadable (sym e) tt
-readable x Waiting e = subst IsReadable (sym e) tt
-readable x (Merged d) e = subst IsReadable (sym e) tt
+pub readable : (x : Kind) (s : PageState) → zero_state s ≡ false → x ≡ kind_for s → IsReadable x
+readable x OwnPage framed e = subst IsReadable (sym e) tt
+readable x Waiting framed e = subst IsReadable (sym e) tt
+readable x (Merged d) framed e = subst IsReadable (sym e) tt
+readable x Zero framed e = absurd (grind (arith, framed))
 
 -- pages of which the rows alone changed
 pub relisted : (p q : PagesView) (k : KeeperView) → q ≡ record p { listed = q.listed } → IsLaid p.shape q.listed p.dups p.knobs p.next k → IsLaid q.shape q.listed q.dups q.knobs q.next k

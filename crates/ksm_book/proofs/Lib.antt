@@ -29,3 +29,8 @@ pub mod Entering
 pub mod Journaled
 pub mod Tallies
 pub mod Resettling
+pub mod Passing
+pub mod RunWalks
+pub mod FrameBits
+pub mod FrameKinds
+pub mod Sweeps

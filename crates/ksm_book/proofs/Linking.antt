@@ -9,14 +9,14 @@ use Rattle.std.proofs.lemmas.List.{take_more}
 use Rattle.std.proofs.lemmas.List.Elements.{All-head, All-tail}
 use Rattle.ksm_base.specs.declared.page.GuestPage.{GuestPage}
 use Rattle.ksm_base.specs.declared.row.PageState.{PageState}
-use Rattle.ksm_base.specs.declared.row.PageState.TheVariants.{Private, Waiting, Merged}
+use Rattle.ksm_base.specs.declared.row.PageState.TheVariants.{Private, Waiting, Merged, Zero}
 use Rattle.ksm_base.specs.declared.row.DupRow.{DupRow}
 use Rattle.ksm_base.specs.declared.row.Row.{Row}
 use Rattle.ksm_base.specs.declared.knobs.Knobs.{Knobs}
 use Rattle.ksm_base.specs.declared.shape.Shape.{Shape}
 use Rattle.ksm_base.specs.Apply.{let_go, unshared}
 use Rattle.ksm_base.specs.Reading.{items_of}
-use Rattle.ksm_base.specs.Rows.{InPageOrder, InPlaceOrder, same_page, row_at, with_row, without_page, change_row, change_rows, merged_state, merged_into, settled, settled_state, item_count, is_stale as is_stale_row, dup_numbered}
+use Rattle.ksm_base.specs.Rows.{shared_state, InPageOrder, InPlaceOrder, same_page, row_at, with_row, without_page, change_row, change_rows, merged_state, merged_into, settled, settled_state, item_count, is_stale as is_stale_row, dup_numbered}
 use Rattle.ksm_base.specs.State.{place_count, tree_of}
 use Rattle.ksm_base.specs.Visit.{best_dup, is_best, new_place}
 use Rattle.ksm_base.proofs.Edits.{find_all, find_none, find_nothing, find_passes}
@@ -110,9 +110,17 @@ module _ (shape : Shape) (rows : List Row) (dups : DupsState) (linked : AreLinke
     places = linked.places;
   }
 
+-- a page with a frame of its own is not merged
+pub own_not_merged : (s : PageState) → shared_state s ≡ false → merged_state s ≡ false
+own_not_merged Private e = refl
+own_not_merged Waiting e = refl
+own_not_merged (Merged d) e = absurd (true≢false e)
+own_not_merged Zero e = refl
+
 let_out_alone : (state : PageState) (page : GuestPage) (dups : List Dup) → merged_state state ≡ false → let_out state page dups ≡ dups
 let_out_alone Private page dups alone = refl
 let_out_alone Waiting page dups alone = refl
+let_out_alone Zero page dups alone = refl
 let_out_alone (Merged n) page dups alone = absurd (true≢false alone)
 
 -- a row that is not merged, in the stead of one that is not
@@ -140,12 +148,14 @@ either_way P Q R (Err e) ok err p q = err q
 alone_same : (number : ℕ) (state : PageState) → merged_state state ≡ false → false ≡ merged_into number state
 alone_same number Private alone = refl
 alone_same number Waiting alone = refl
+alone_same number Zero alone = refl
 alone_same number (Merged n) alone = absurd (true≢false alone)
 
 settled_same : (number : ℕ) (state : PageState) → merged_into number (settled_state state) ≡ merged_into number state
 settled_same number Private = refl
 settled_same number Waiting = refl
 settled_same number (Merged n) = refl
+settled_same number Zero = refl
 
 changed_keeps : (test : Row → Bool) (f : Row → Row) (r : Row) → (test r ≡ true → Keeps f r) → Keeps (λ s. if test s then f s else s) r
 changed_keeps test f r keeps = cond_both (test r) (f r) r (λ s. (s.page ≡ r.page) × ((number : ℕ) → merged_into number s.state ≡ merged_into number r.state)) keeps (λ _. (refl, λ number. refl))

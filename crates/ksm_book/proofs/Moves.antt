@@ -1,9 +1,9 @@
 -- What each step of a command does to a placement.
-use Rattle.std.proofs.Common.{inl, inr, ◌≡◌, ◌≢◌, ℕ, suc, ◌+◌, ◌-◌, ◌/◌, ◌<◌, ◌≤◌, Bool, true, false, cond, List, length, get_or, set, Option, Some, None, refl, sym, ap, ◌∙◌, subst, arith, length-set, get_or-set_same, get_or-set_other, eq-eqb}
-use Rattle.std.specs.Prelude.{All, insert, remove, ◌==◌, slice_index}
+use Rattle.std.proofs.Common.{inl, inr, ◌⊎◌, ◌≡◌, ◌≢◌, ℕ, suc, ◌+◌, ◌-◌, ◌/◌, ◌<◌, ◌≤◌, Bool, true, false, cond, List, length, get_or, set, Option, Some, None, refl, sym, ap, ◌∙◌, subst, arith, length-set, get_or-set_same, get_or-set_other, eq-eqb}
+use Rattle.std.specs.Prelude.{All, insert, remove, ◌==◌}
 use Rattle.std.proofs.lemmas.List.Sums.{sum_by-set, sum_by-insert, sum_by-remove}
 use Rattle.std.proofs.lemmas.List.Elements.{All-weaker, All-append, All-cons, All-filter, filter_passes}
-use Rattle.std.proofs.lemmas.Bool.{ne_eqb, cases_lt, ltb-true}
+use Rattle.std.proofs.lemmas.Bool.{ne_eqb, cases_lt, eqb-true, ltb-true, both_ways}
 use Rattle.std.specs.Prelude.{filter, nat_lt}
 use Rattle.std.proofs.Common.{◌++◌, ◌∷◌}
 use Rattle.std.proofs.lemmas.Bool.{cases_Bool, lt-ltb}
@@ -28,39 +28,70 @@ use Rattle.frame_core.specs.declared.seat.Life.{Life}
 use Rattle.frame_core.specs.Ledger.{frame_at, named_at, blank, with_frame}
 use Rattle.frame_core.specs.Rule.{GenerationFits}
 use Rattle.std.specs.Prelude.{is_some}
+use Rattle.std.proofs.lemmas.Option.{same_Some}
+use Rattle.ksm_base.specs.declared.row.PageState.{PageState}
+use Rattle.ksm_base.specs.declared.row.PageState.TheVariants.{Private as OwnPage, Waiting, Merged, Zero}
 use Rattle.ksm_base.specs.declared.row.Row.{Row}
 use Rattle.ksm_base.specs.declared.row.DupRow.{DupRow}
-use Rattle.ksm_base.specs.Rows.{merged_state, merged_into}
-use Rattle.ksm_book.specs.Placement.{row_in, no_row, uses, in_hand, kind_for, FitsBase, life_or, place_frame, place_life, IsInLife, RowFits, Agrees, DupFits, Placed}
+use Rattle.ksm_base.specs.Rows.{shared_state, zero_state, merged_into}
+use Rattle.ksm_book.specs.Placement.{frame_in, row_in, no_row, uses, in_hand, kind_for, is_frame, FitsBase, IsServed, life_or, place_frame, place_life, IsInLife, RowFits, Agrees, DupFits, Placed}
 
-abbrev pub one_at : ℕ → ℕ → ℕ
-one_at f g = cond (g == f) 1 0
+-- one, where it is frame f
+abbrev pub one_at : ℕ → Option ℕ → ℕ
+one_at f o = cond (is_frame f o) 1 0
 
-pub one_same : (f g : ℕ) → g ≡ f → one_at f g ≡ 1
-one_same f g e = ap (λ (b : Bool). cond b 1 0) (eq-eqb g f e)
+pub one_same : (f : ℕ) (o : Option ℕ) → o ≡ Some f → one_at f o ≡ 1
+one_same f o e = ap (one_at f) e ∙ ap (λ (b : Bool). cond b 1 0) (eq-eqb f f refl)
 
-pub one_other : (f g : ℕ) → g ≢ f → one_at f g ≡ 0
-one_other f g ne = ap (λ (b : Bool). cond b 1 0) (ne_eqb g f ne)
+pub one_other : (f : ℕ) (o : Option ℕ) → o ≢ Some f → one_at f o ≡ 0
+one_other f None ne = refl
+one_other f (Some g) ne = ap (λ (b : Bool). cond b 1 0) (ne_eqb g f (λ e. ne (ap Some e)))
 
-pub uses_set : (f : ℕ) (frames : List ℕ) (i g : ℕ) → i < length frames → uses f (set frames i g) + one_at f (get_or frames i 0) ≡ uses f frames + one_at f g
-uses_set f frames i g lt = sum_by-set (one_at f) frames i g 0 lt
+-- what is tested is so
+pub is_that : (f : ℕ) (o : Option ℕ) → is_frame f o ≡ true → o ≡ Some f
+is_that f None here = absurd (grind (arith, here))
+is_that f (Some g) here = ap Some (eqb-true g f here)
 
-pub uses_some : (frames : List ℕ) (i f : ℕ) → i < length frames → get_or frames i 0 ≡ f → 1 ≤ uses f frames
+pub frame_cases : (f : ℕ) (o : Option ℕ) → (o ≡ Some f) ⊎ (o ≢ Some f)
+frame_cases f o = elim (cases_Bool (is_frame f o)) [
+  | inl here ↦ inl (is_that f o here)
+  | inr there ↦ inr (λ e. both_ways (is_frame f o) there (ap (is_frame f) e ∙ eq-eqb f f refl))
+]
+
+pub uses_set : (f : ℕ) (frames : List (Option ℕ)) (i : ℕ) (g : Option ℕ) → i < length frames → uses f (set frames i g) + one_at f (get_or frames i None) ≡ uses f frames + one_at f g
+uses_set f frames i g lt = sum_by-set (one_at f) frames i g None lt
+
+pub uses_some : (frames : List (Option ℕ)) (i f : ℕ) → i < length frames → get_or frames i None ≡ Some f → 1 ≤ uses f frames
 uses_some frames i f lt e =
-    let r : uses f (remove frames i) + one_at f (get_or frames i 0) ≡ uses f frames = sum_by-remove (one_at f) frames i 0 lt in
-    let o : one_at f (get_or frames i 0) ≡ 1 = one_same f _ e in
+    let r : uses f (remove frames i) + one_at f (get_or frames i None) ≡ uses f frames = sum_by-remove (one_at f) frames i None lt in
+    let o : one_at f (get_or frames i None) ≡ 1 = one_same f _ e in
     omega arith
 
 -- a frame that is listed once stands at one place
-pub uses_once : (frames : List ℕ) (i j f : ℕ) → i < length frames → j < length frames → uses f frames ≡ 1 → get_or frames i 0 ≡ f → get_or frames j 0 ≡ f → j ≡ i
+pub uses_once : (frames : List (Option ℕ)) (i j f : ℕ) → i < length frames → j < length frames → uses f frames ≡ 1 → get_or frames i None ≡ Some f → get_or frames j None ≡ Some f → j ≡ i
 uses_once frames i j f lt lt' once e e' = dite (ℕ_discrete j i) (λ same. same) (λ ne.
-    let s : uses f (set frames i (suc f)) + one_at f (get_or frames i 0) ≡ uses f frames + one_at f (suc f) = uses_set f frames i (suc f) lt in
-    let a : one_at f (get_or frames i 0) ≡ 1 = one_same f _ e in
-    let b : one_at f (suc f) ≡ 0 = one_other f (suc f) (λ x. omega arith) in
-    let left : 1 ≤ uses f (set frames i (suc f)) = uses_some (set frames i (suc f)) j f (let l : length (set frames i (suc f)) ≡ length frames = length-set frames i (suc f) in omega arith) (get_or-set_other frames i j (suc f) 0 ne ∙ e') in
+    let s : uses f (set frames i None) + one_at f (get_or frames i None) ≡ uses f frames + one_at f None = uses_set f frames i None lt in
+    let a : one_at f (get_or frames i None) ≡ 1 = one_same f _ e in
+    let left : 1 ≤ uses f (set frames i None) = uses_some (set frames i None) j f (let l : length (set frames i None) ≡ length frames = length-set frames i None in omega arith) (get_or-set_other frames i j None None ne ∙ e') in
     absurd (omega arith))
 
-module _ (sh : Shape) (across : ℕ) (k : Ledger) (rows : List Row) (frames : List ℕ) (dups : List DupRow) (hand : Option ℕ) (p : Placed sh across k rows frames dups hand) where
+-- a row has this frame
+abbrev pub Serves : Shape → Ledger → List DupRow → Row → ℕ → Type 0
+Serves sh k dups r f = RowFits sh k r f × All (Agrees k r f) dups
+
+-- what a row's frame serves it with may change, where it has one
+pub served_as : (sh : Shape) (k k' : Ledger) (dups dups' : List DupRow) (r r' : Row) (o : Option ℕ) → r'.state ≡ r.state
+    → ((f : ℕ) → o ≡ Some f → Serves sh k dups r f → Serves sh k' dups' r' f) → IsServed sh k dups r o → IsServed sh k' dups' r' o
+served_as sh k k' dups dups' r r' None same on h = ap zero_state same ∙ h
+served_as sh k k' dups dups' r r' (Some f) same on h = on f refl h
+
+-- a row that is not Zero has a frame
+pub framed : (sh : Shape) (k : Ledger) (dups : List DupRow) (r : Row) (o : Option ℕ) → zero_state r.state ≡ false → IsServed sh k dups r o
+    → (f : ℕ) × (o ≡ Some f) × Serves sh k dups r f
+framed sh k dups r None other h = absurd (grind (arith, other, h))
+framed sh k dups r (Some f) other h = (f, refl, h)
+
+module _ (sh : Shape) (across : ℕ) (k : Ledger) (rows : List Row) (frames : List (Option ℕ)) (dups : List DupRow) (hand : Option ℕ) (p : Placed sh across k rows frames dups hand) where
   -- a row with a frame of its own agrees with each dup
   pub own_agrees : (r : Row) (g : ℕ) → ((n : ℕ) → merged_into n r.state ≡ false) → (frame_at k g).kind ≡ Private → All (Agrees k r g) dups
   own_agrees r g alone kind = All-weaker (DupFits sh across k) (Agrees k r g) (λ d fits. record {
@@ -92,6 +123,7 @@ module _ (sh : Shape) (across : ℕ) (k : Ledger) (rows : List Row) (frames : Li
 
     pub row_still : (r : Row) (f : ℕ) → (f ≡ g → (fr.kind ≡ (frame_at k f).kind) × (fr.content ≡ (frame_at k f).content) × (fr.generation ≡ (frame_at k f).generation)) → RowFits sh k r f → RowFits sh next r f
     row_still r f same n = record {
+      mapped = n.mapped;
       frame = n.frame;
       kind = by_frame (λ x. x.kind ≡ kind_for r.state) f (λ e. (same e).0 ∙ n.kind) (λ _. n.kind);
       content = by_frame (λ x. x.content ≡ r.bytes) f (λ e. (same e).1 ∙ n.content) (λ _. n.content);
@@ -108,7 +140,7 @@ module _ (sh : Shape) (across : ℕ) (k : Ledger) (rows : List Row) (frames : Li
     long_still : length next.frames ≡ frames_of sh
     long_still = length-set k.frames g fr ∙ p.frames_long
 
-    bases_still : (frames' : List ℕ) (hand' : Option ℕ) → fr.base ≡ uses g frames' + in_hand g hand' → ((f : ℕ) → f ≢ g → uses f frames' + in_hand f hand' ≡ uses f frames + in_hand f hand) → (f : ℕ) → (frame_at next f).base ≡ uses f frames' + in_hand f hand'
+    bases_still : (frames' : List (Option ℕ)) (hand' : Option ℕ) → fr.base ≡ uses g frames' + in_hand g hand' → ((f : ℕ) → f ≢ g → uses f frames' + in_hand f hand' ≡ uses f frames + in_hand f hand) → (f : ℕ) → (frame_at next f).base ≡ uses f frames' + in_hand f hand'
     bases_still frames' hand' here there f = by_frame (λ x. x.base ≡ uses f frames' + in_hand f hand') f
         (λ e. subst (λ x. fr.base ≡ uses x frames' + in_hand x hand') (sym e) here)
         (λ ne. p.bases f ∙ sym (there f ne))
@@ -128,14 +160,13 @@ module _ (sh : Shape) (across : ℕ) (k : Ledger) (rows : List Row) (frames : Li
         places_long = p.places_long;
         widths = λ f. by_frame (λ x. length x.content ≡ PAGE_WORDS) f (λ _. ap length words ∙ p.widths g) (λ _. p.widths f);
         lives = λ f. by_frame (λ x. GenerationFits sh.last_generation x.kind x.generation) f (λ _. lived) (λ _. p.lives f);
-        each_row = λ i lt.
-            let f : ℕ = slice_index frames i in
+        each_row = λ i lt. served_as sh k next dups dups (row_in rows i) (row_in rows i) (frame_in frames i) refl (λ f is n.
             let paired : length frames ≡ length rows = p.paired in
             let same : f ≡ g → (fr.kind ≡ (frame_at k f).kind) × (fr.content ≡ (frame_at k f).content) × (fr.generation ≡ (frame_at k f).generation) = λ e.
-            (kind (uses_some frames i g (omega arith) e) ∙ ap (λ y. (frame_at k y).kind) (sym e), words ∙ ap (λ y. (frame_at k y).content) (sym e), gens ∙ ap (λ y. (frame_at k y).generation) (sym e)) in (
-              row_still (row_in rows i) f same (p.each_row i lt).0,
-              All-weaker (Agrees k (row_in rows i) f) (Agrees next (row_in rows i) f) (λ d a. agrees_still (row_in rows i) f d (λ _ life. gen_same _ ∙ life) (λ life. sym (gen_same _) ∙ life) a) dups (p.each_row i lt).1,
-            );
+            (kind (uses_some frames i g (omega arith) (is ∙ ap Some e)) ∙ ap (λ y. (frame_at k y).kind) (sym e), words ∙ ap (λ y. (frame_at k y).content) (sym e), gens ∙ ap (λ y. (frame_at k y).generation) (sym e)) in (
+              row_still (row_in rows i) f same n.0,
+              All-weaker (Agrees k (row_in rows i) f) (Agrees next (row_in rows i) f) (λ d a. agrees_still (row_in rows i) f d (λ _ life. gen_same _ ∙ life) (λ life. sym (gen_same _) ∙ life) a) dups n.1,
+            )) (p.each_row i lt);
         each_dup = All-weaker (DupFits sh across k) (DupFits sh across next) (λ d n. record {
           place = n.place;
           named = n.named;
@@ -151,14 +182,14 @@ module _ (sh : Shape) (across : ℕ) (k : Ledger) (rows : List Row) (frames : Li
       }
 
 -- a free frame begins a life in the hand of the command
-module _ (sh : Shape) (across : ℕ) (k : Ledger) (rows : List Row) (frames : List ℕ) (dups : List DupRow) (p : Placed sh across k rows frames dups None) (g : ℕ) (inside : g < frames_of sh) (free : (frame_at k g).kind ≡ Free) (fr : Note) (kind : fr.kind ≡ Private) (base : fr.base ≡ 1) (life : fr.generation ≡ (frame_at k g).generation + 1) (wide : length fr.content ≡ PAGE_WORDS) where
+module _ (sh : Shape) (across : ℕ) (k : Ledger) (rows : List Row) (frames : List (Option ℕ)) (dups : List DupRow) (p : Placed sh across k rows frames dups None) (g : ℕ) (inside : g < frames_of sh) (free : (frame_at k g).kind ≡ Free) (fr : Note) (kind : fr.kind ≡ Private) (base : fr.base ≡ 1) (life : fr.generation ≡ (frame_at k g).generation + 1) (wide : length fr.content ≡ PAGE_WORDS) where
   abbrev filled_next : Ledger
   filled_next = with_frame k g fr
 
   unused : uses g frames ≡ 0
   unused = let fits : (frame_at k g).base ≡ 0 = subst (λ (x : Kind). FitsBase x (frame_at k g).base) free (p.kinds g) in let is = p.bases g in omega (arith, is, fits)
 
-  not_listed : (i : ℕ) → i < length rows → slice_index frames i ≢ g
+  not_listed : (i : ℕ) → i < length rows → frame_in frames i ≢ Some g
   not_listed i lt e = let paired : length frames ≡ length rows = p.paired in let some : 1 ≤ uses g frames = uses_some frames i g (omega arith) e in omega (arith, unused)
 
   over : (d : DupRow) → DupFits sh across k d → place_frame k d.place ≡ g → fr.generation ≡ place_life k d.place → ⊥
@@ -177,16 +208,16 @@ module _ (sh : Shape) (across : ℕ) (k : Ledger) (rows : List Row) (frames : Li
         (λ _. let left : (frame_at k g).generation < sh.last_generation = subst (λ (x : Kind). GenerationFits sh.last_generation x (frame_at k g).generation) free (p.lives g) in
         subst (λ (x : Kind). GenerationFits sh.last_generation x fr.generation) (sym kind) (omega (arith, life), omega (arith, life, left))) (λ _. p.lives f);
     each_row = λ i lt.
-        let f : ℕ = slice_index frames i in
         let r : Row = row_in rows i in
-        let ne : f ≢ g = not_listed i lt in (
-          row_still sh across k rows frames dups None p g inside fr r f (λ e. absurd (ne e)) (p.each_row i lt).0,
+        served_as sh k filled_next dups dups r r (frame_in frames i) refl (λ f is m.
+        let ne : f ≢ g = λ e. not_listed i lt (is ∙ ap Some e) in (
+          row_still sh across k rows frames dups None p g inside fr r f (λ e. absurd (ne e)) m.0,
           λ j d lt'. let e : DupRow = get_or dups j d in let n : DupFits sh across k e = p.each_dup j d lt' in
               agrees_still sh across k rows frames dups None p g inside fr r f e
               (λ same l. by_frame sh across k rows frames dups None p g inside fr (λ x. x.generation ≡ place_life k e.place) (place_frame k e.place) (λ there. absurd (ne (same ∙ there))) (λ _. l))
               (λ l. by_frame sh across k rows frames dups None p g inside fr (λ x. x.generation ≡ place_life k e.place → IsInLife k e.place) (place_frame k e.place) (λ there l'. absurd (over e n there l')) (λ _ l'. l') l)
-              ((p.each_row i lt).1 j d lt'),
-        );
+              (m.1 j d lt'),
+        )) (p.each_row i lt);
     each_dup = All-weaker (DupFits sh across k) (DupFits sh across filled_next) (λ d n. record {
       place = n.place;
       named = n.named;
@@ -197,21 +228,18 @@ module _ (sh : Shape) (across : ℕ) (k : Ledger) (rows : List Row) (frames : Li
       shown = in_old_life d n (λ x. ¬ (x.kind ≡ Private)) n.shown;
       node = n.node;
     }) dups p.each_dup;
-    bases = bases_still sh across k rows frames dups None p g inside fr frames (Some g) (let o : one_at g g ≡ 1 = one_same g g refl in omega (arith, base, unused)) (λ f ne. let o : one_at f g ≡ 0 = one_other f g (λ e. ne (sym e)) in omega arith);
+    bases = bases_still sh across k rows frames dups None p g inside fr frames (Some g) (let o : one_at g (Some g) ≡ 1 = one_same g (Some g) refl in omega (arith, base, unused)) (λ f ne. let o : one_at f (Some g) ≡ 0 = one_other f (Some g) (λ e. ne (sym (same_Some g f e))) in omega arith);
     kinds = kinds_still sh across k rows frames dups None p g inside fr (subst (λ (x : Kind). FitsBase x fr.base) (sym kind) base);
     empty = p.empty;
   }
 
--- a row changes, or comes, or goes, with its frame
-abbrev pub Serves : Shape → Ledger → List DupRow → Row → ℕ → Type 0
-Serves sh k dups r f = RowFits sh k r f × All (Agrees k r f) dups
+-- a row changes, or comes, or goes, with its frame, if it has one
+module _ (sh : Shape) (across : ℕ) (k : Ledger) (rows : List Row) (frames : List (Option ℕ)) (dups : List DupRow) where
+  abbrev Good : Row × Option ℕ → Type 0
+  Good z = IsServed sh k dups z.0 z.1
 
-module _ (sh : Shape) (across : ℕ) (k : Ledger) (rows : List Row) (frames : List ℕ) (dups : List DupRow) where
-  abbrev Good : Row × ℕ → Type 0
-  Good z = Serves sh k dups z.0 z.1
-
-  -- the row at i takes the frame in hand, and its own frame comes into the hand
-  pub swapped : (g i : ℕ) (r : Row) → i < length rows → Placed sh across k rows frames dups (Some g) → Serves sh k dups r g → Placed sh across k (set rows i r) (set frames i g) dups (Some (slice_index frames i))
+  -- the row at i takes what is in the hand, and its own frame, if it has one, comes into the hand
+  pub swapped : (g : Option ℕ) (i : ℕ) (r : Row) → i < length rows → Placed sh across k rows frames dups g → IsServed sh k dups r g → Placed sh across k (set rows i r) (set frames i g) dups (frame_in frames i)
   swapped g i r lt p new =
       let paired : length frames ≡ length rows = p.paired in
       let wide : length (set rows i r) ≡ length rows = length-set rows i r in
@@ -222,9 +250,9 @@ module _ (sh : Shape) (across : ℕ) (k : Ledger) (rows : List Row) (frames : Li
         widths = p.widths;
         lives = p.lives;
         each_row = λ j lt'. dite (ℕ_discrete j i)
-            (λ e. subst (λ x. Good (row_in (set rows i r) x, slice_index (set frames i g) x)) (sym e)
-            (subst Good (λ t. (sym (get_or-set_same rows i r no_row lt) t, sym (get_or-set_same frames i g 0 (omega arith)) t)) new))
-            (λ ne. subst Good (λ t. (sym (get_or-set_other rows i j r no_row ne) t, sym (get_or-set_other frames i j g 0 ne) t)) (p.each_row j (omega arith)));
+            (λ e. subst (λ x. Good (row_in (set rows i r) x, frame_in (set frames i g) x)) (sym e)
+            (subst Good (λ t. (sym (get_or-set_same rows i r no_row lt) t, sym (get_or-set_same frames i g None (omega arith)) t)) new))
+            (λ ne. subst Good (λ t. (sym (get_or-set_other rows i j r no_row ne) t, sym (get_or-set_other frames i j g None ne) t)) (p.each_row j (omega arith)));
         each_dup = p.each_dup;
         bases = λ f. p.bases f ∙ sym (uses_set f frames i g (omega arith));
         kinds = p.kinds;
@@ -232,7 +260,7 @@ module _ (sh : Shape) (across : ℕ) (k : Ledger) (rows : List Row) (frames : Li
       }
 
   -- the row at i changes on its frame
-  pub rewritten : (hand : Option ℕ) (i : ℕ) (r : Row) → i < length rows → Placed sh across k rows frames dups hand → Serves sh k dups r (slice_index frames i) → Placed sh across k (set rows i r) frames dups hand
+  pub rewritten : (hand : Option ℕ) (i : ℕ) (r : Row) → i < length rows → Placed sh across k rows frames dups hand → IsServed sh k dups r (frame_in frames i) → Placed sh across k (set rows i r) frames dups hand
   rewritten hand i r lt p new =
       let wide : length (set rows i r) ≡ length rows = length-set rows i r in
       record {
@@ -242,9 +270,9 @@ module _ (sh : Shape) (across : ℕ) (k : Ledger) (rows : List Row) (frames : Li
         widths = p.widths;
         lives = p.lives;
         each_row = λ j lt'. dite (ℕ_discrete j i)
-            (λ e. subst (λ x. Good (row_in (set rows i r) x, slice_index frames x)) (sym e)
-            (subst (λ x. Good (x, slice_index frames i)) (sym (get_or-set_same rows i r no_row lt)) new))
-            (λ ne. subst (λ x. Good (x, slice_index frames j)) (sym (get_or-set_other rows i j r no_row ne)) (p.each_row j (omega arith)));
+            (λ e. subst (λ x. Good (row_in (set rows i r) x, frame_in frames x)) (sym e)
+            (subst (λ x. Good (x, frame_in frames i)) (sym (get_or-set_same rows i r no_row lt)) new))
+            (λ ne. subst (λ x. Good (x, frame_in frames j)) (sym (get_or-set_other rows i j r no_row ne)) (p.each_row j (omega arith)));
         each_dup = p.each_dup;
         bases = p.bases;
         kinds = p.kinds;
@@ -252,7 +280,7 @@ module _ (sh : Shape) (across : ℕ) (k : Ledger) (rows : List Row) (frames : Li
       }
 
   -- a row comes on the frame in hand
-  pub inserted : (g i : ℕ) (r : Row) → i ≤ length rows → Placed sh across k rows frames dups (Some g) → Serves sh k dups r g → Placed sh across k (insert rows i r) (insert frames i g) dups None
+  pub inserted : (g : Option ℕ) (i : ℕ) (r : Row) → i ≤ length rows → Placed sh across k rows frames dups g → IsServed sh k dups r g → Placed sh across k (insert rows i r) (insert frames i g) dups None
   inserted g i r le p new =
       let paired : length frames ≡ length rows = p.paired in
       let wide : length (insert rows i r) ≡ length rows + 1 = length-insert rows i r le in
@@ -264,15 +292,15 @@ module _ (sh : Shape) (across : ℕ) (k : Ledger) (rows : List Row) (frames : Li
         widths = p.widths;
         lives = p.lives;
         each_row = λ j lt'. dite (ℕ_discrete j i)
-            (λ e. subst (λ x. Good (row_in (insert rows i r) x, slice_index (insert frames i g) x)) (sym e)
-            (subst Good (λ t. (sym (get_or-insert_at rows i r no_row le) t, sym (get_or-insert_at frames i g 0 (omega arith)) t)) new))
+            (λ e. subst (λ x. Good (row_in (insert rows i r) x, frame_in (insert frames i g) x)) (sym e)
+            (subst Good (λ t. (sym (get_or-insert_at rows i r no_row le) t, sym (get_or-insert_at frames i g None (omega arith)) t)) new))
             (λ ne. elim (cases_lt j i) [
-              | inl below ↦ subst Good (λ t. (sym (get_or-insert_below rows i r no_row j below le) t, sym (get_or-insert_below frames i g 0 j below (omega arith)) t)) (p.each_row j (omega arith))
+              | inl below ↦ subst Good (λ t. (sym (get_or-insert_below rows i r no_row j below le) t, sym (get_or-insert_below frames i g None j below (omega arith)) t)) (p.each_row j (omega arith))
               | inr above ↦
                   let m : ℕ = j - 1 in
                   let e : m + 1 ≡ j = omega arith in
-                  subst (λ x. Good (row_in (insert rows i r) x, slice_index (insert frames i g) x)) e
-                  (subst Good (λ t. (sym (get_or-insert_above rows i r no_row m (omega arith) le) t, sym (get_or-insert_above frames i g 0 m (omega arith) (omega arith)) t)) (p.each_row m (omega arith)))
+                  subst (λ x. Good (row_in (insert rows i r) x, frame_in (insert frames i g) x)) e
+                  (subst Good (λ t. (sym (get_or-insert_above rows i r no_row m (omega arith) le) t, sym (get_or-insert_above frames i g None m (omega arith) (omega arith)) t)) (p.each_row m (omega arith)))
             ]);
         each_dup = p.each_dup;
         bases = λ f. let s : uses f (insert frames i g) ≡ uses f frames + one_at f g = sum_by-insert (one_at f) frames i g in p.bases f ∙ omega arith;
@@ -281,7 +309,7 @@ module _ (sh : Shape) (across : ℕ) (k : Ledger) (rows : List Row) (frames : Li
       }
 
   -- the row at i goes, and its frame comes into the hand
-  pub removed : (i : ℕ) → i < length rows → Placed sh across k rows frames dups None → Placed sh across k (remove rows i) (remove frames i) dups (Some (slice_index frames i))
+  pub removed : (i : ℕ) → i < length rows → Placed sh across k rows frames dups None → Placed sh across k (remove rows i) (remove frames i) dups (frame_in frames i)
   removed i lt p =
       let paired : length frames ≡ length rows = p.paired in
       let wide : length (remove rows i) + 1 ≡ length rows = length-remove rows i lt in
@@ -293,22 +321,24 @@ module _ (sh : Shape) (across : ℕ) (k : Ledger) (rows : List Row) (frames : Li
         widths = p.widths;
         lives = p.lives;
         each_row = λ j lt'. elim (cases_lt j i) [
-          | inl below ↦ subst Good (λ t. (sym (get_or-remove_below rows i no_row j below lt) t, sym (get_or-remove_below frames i 0 j below (omega arith)) t)) (p.each_row j (omega arith))
-          | inr above ↦ subst Good (λ t. (sym (get_or-remove_above rows i no_row j (omega arith) lt) t, sym (get_or-remove_above frames i 0 j (omega arith) (omega arith)) t)) (p.each_row (j + 1) (omega arith))
+          | inl below ↦ subst Good (λ t. (sym (get_or-remove_below rows i no_row j below lt) t, sym (get_or-remove_below frames i None j below (omega arith)) t)) (p.each_row j (omega arith))
+          | inr above ↦ subst Good (λ t. (sym (get_or-remove_above rows i no_row j (omega arith) lt) t, sym (get_or-remove_above frames i None j (omega arith) (omega arith)) t)) (p.each_row (j + 1) (omega arith))
         ];
         each_dup = p.each_dup;
-        bases = λ f. let s : uses f (remove frames i) + one_at f (get_or frames i 0) ≡ uses f frames = sum_by-remove (one_at f) frames i 0 (omega arith) in p.bases f ∙ omega arith;
+        bases = λ f. let s : uses f (remove frames i) + one_at f (get_or frames i None) ≡ uses f frames = sum_by-remove (one_at f) frames i None (omega arith) in p.bases f ∙ omega arith;
         kinds = p.kinds;
         empty = p.empty;
       }
 
 -- the row at i is written in place, with its frame
-module _ (sh : Shape) (across : ℕ) (k : Ledger) (rows : List Row) (frames : List ℕ) (dups : List DupRow) (p : Placed sh across k rows frames dups None) (i : ℕ) (lt : i < length rows) (own : (frame_at k (slice_index frames i)).kind ≡ Private) (r : Row) (fr : Note) (kind : fr.kind ≡ Private) (base : fr.base ≡ (frame_at k (slice_index frames i)).base) (life : fr.generation ≡ (frame_at k (slice_index frames i)).generation) (wide : length fr.content ≡ PAGE_WORDS) where
-  pub written_in : kind_for r.state ≡ Private → ((n : ℕ) → merged_into n r.state ≡ false) → r.home ≡ (row_in rows i).home → r.bytes ≡ fr.content → merged_state (row_in rows i).state ≡ false → Placed sh across (with_frame k (slice_index frames i) fr) (set rows i r) frames dups None
-  written_in is alone home bytes was =
+module _ (sh : Shape) (across : ℕ) (k : Ledger) (rows : List Row) (frames : List (Option ℕ)) (dups : List DupRow) (p : Placed sh across k rows frames dups None) (i g : ℕ) (lt : i < length rows) (lies : frame_in frames i ≡ Some g) (own : (frame_at k g).kind ≡ Private) (r : Row) (fr : Note) (kind : fr.kind ≡ Private) (base : fr.base ≡ (frame_at k g).base) (life : fr.generation ≡ (frame_at k g).generation) (wide : length fr.content ≡ PAGE_WORDS) where
+  fits : Serves sh k dups (row_in rows i) g
+  fits = subst (IsServed sh k dups (row_in rows i)) lies (p.each_row i lt)
+
+  pub written_in : zero_state r.state ≡ false → kind_for r.state ≡ Private → ((n : ℕ) → merged_into n r.state ≡ false) → r.home ≡ (row_in rows i).home → r.bytes ≡ fr.content → shared_state (row_in rows i).state ≡ false → Placed sh across (with_frame k g fr) (set rows i r) frames dups None
+  written_in mapped is alone home bytes was =
       let paired : length frames ≡ length rows = p.paired in
-      let g : ℕ = slice_index frames i in
-      let inside : g < frames_of sh = (p.each_row i lt).0.frame in
+      let inside : g < frames_of sh = fits.0.frame in
       let once : uses g frames ≡ 1 = (let fits : (frame_at k g).base ≡ 1 = subst (λ (x : Kind). FitsBase x (frame_at k g).base) own (p.kinds g) in let b : (frame_at k g).base ≡ uses g frames + 0 = p.bases g in omega (arith, fits, b)) in
       let same : (h : ℕ) → (frame_at (with_frame k g fr) h).generation ≡ (frame_at k h).generation = λ h. by_frame sh across k rows frames dups None p g inside fr (λ x. x.generation ≡ (frame_at k h).generation) h (λ e. life ∙ ap (λ y. (frame_at k y).generation) (sym e)) (λ _. refl) in
       let wide' : length (set rows i r) ≡ length rows = length-set rows i r in
@@ -331,18 +361,19 @@ module _ (sh : Shape) (across : ℕ) (k : Ledger) (rows : List Row) (frames : Li
         lives = λ f. by_frame sh across k rows frames dups None p g inside fr (λ x. GenerationFits sh.last_generation x.kind x.generation) f
             (λ _. subst (λ (x : Kind × ℕ). GenerationFits sh.last_generation x.0 x.1) (λ t. ((own ∙ sym kind) t, sym life t)) (p.lives g)) (λ _. p.lives f);
         each_row = λ j lt'. dite (ℕ_discrete j i)
-            (λ e. subst (λ x. Serves sh (with_frame k g fr) dups (row_in (set rows i r) x) (slice_index frames x)) (sym e)
-            (subst (λ x. Serves sh (with_frame k g fr) dups x g) (sym (get_or-set_same rows i r no_row lt)) (
-              record { frame = inside; kind = ap (λ (x : Note). x.kind) here ∙ kind ∙ sym is; content = ap (λ (x : Note). x.content) here ∙ sym bytes; given = subst (λ y. 1 ≤ y) (sym (same g)) (p.each_row i lt).0.given; node = λ _. (p.each_row i lt).0.node was ∙ sym home },
+            (λ e. subst (λ x. IsServed sh (with_frame k g fr) dups (row_in (set rows i r) x) (frame_in frames x)) (sym e)
+            (subst (λ (z : Row × Option ℕ). IsServed sh (with_frame k g fr) dups z.0 z.1) (λ t. (sym (get_or-set_same rows i r no_row lt) t, sym lies t)) (
+              record { mapped = mapped; frame = inside; kind = ap (λ (x : Note). x.kind) here ∙ kind ∙ sym is; content = ap (λ (x : Note). x.content) here ∙ sym bytes; given = subst (λ y. 1 ≤ y) (sym (same g)) fits.0.given; node = λ _. fits.0.node was ∙ sym home },
               All-weaker (DupFits sh across k) (Agrees (with_frame k g fr) r g) (λ d n. record {
                 item = λ m. absurd (grind (arith, m, alone d.number));
                 back = λ l e. absurd (apart d n (sym (same _) ∙ l) (sym e));
               }) dups p.each_dup,
             )))
-            (λ ne. let lt2 : j < length rows = omega arith in subst (λ x. Serves sh (with_frame k g fr) dups x (slice_index frames j)) (sym (get_or-set_other rows i j r no_row ne)) (
-              row_still sh across k rows frames dups None p g inside fr (row_in rows j) (slice_index frames j) (λ e. absurd (ne (uses_once frames i j g (omega arith) (omega arith) once refl e))) (p.each_row j lt2).0,
-              All-weaker (Agrees k (row_in rows j) (slice_index frames j)) (Agrees (with_frame k g fr) (row_in rows j) (slice_index frames j)) (λ d a. agrees_still sh across k rows frames dups None p g inside fr (row_in rows j) (slice_index frames j) d (λ _ l. same _ ∙ l) (λ l. sym (same _) ∙ l) a) dups (p.each_row j lt2).1,
-            ));
+            (λ ne. let lt2 : j < length rows = omega arith in subst (λ x. IsServed sh (with_frame k g fr) dups x (frame_in frames j)) (sym (get_or-set_other rows i j r no_row ne))
+            (served_as sh k (with_frame k g fr) dups dups (row_in rows j) (row_in rows j) (frame_in frames j) refl (λ f at m. (
+              row_still sh across k rows frames dups None p g inside fr (row_in rows j) f (λ e. absurd (ne (uses_once frames i j g (omega arith) (omega arith) once lies (at ∙ ap Some e)))) m.0,
+              All-weaker (Agrees k (row_in rows j) f) (Agrees (with_frame k g fr) (row_in rows j) f) (λ d a. agrees_still sh across k rows frames dups None p g inside fr (row_in rows j) f d (λ _ l. same _ ∙ l) (λ l. sym (same _) ∙ l) a) dups m.1,
+            )) (p.each_row j lt2)));
         each_dup = each;
         bases = bases_still sh across k rows frames dups None p g inside fr frames None (base ∙ p.bases g) (λ f ne. refl);
         kinds = kinds_still sh across k rows frames dups None p g inside fr (subst (λ (x : Kind × ℕ). FitsBase x.0 x.1) (λ t. ((own ∙ sym kind) t, sym base t)) (p.kinds g));
@@ -399,9 +430,9 @@ is_stable Stable = Unit {0}
 is_stable _ = ⊥
 
 -- a new dup of the row at i stands on its frame, which the place names
-module _ (sh : Shape) (across : ℕ) (k : Ledger) (rows : List Row) (frames : List ℕ) (dups : List DupRow) (p : Placed sh across k rows frames dups None) (i : ℕ) (lt : i < length rows) (d : DupRow) (inside : d.place < frames_of sh) where
-  abbrev pub g : ℕ
-  g = slice_index frames i
+module _ (sh : Shape) (across : ℕ) (k : Ledger) (rows : List Row) (frames : List (Option ℕ)) (dups : List DupRow) (p : Placed sh across k rows frames dups None) (i g : ℕ) (lt : i < length rows) (lies : frame_in frames i ≡ Some g) (d : DupRow) (inside : d.place < frames_of sh) where
+  fits_row : Serves sh k dups (row_in rows i) g
+  fits_row = subst (IsServed sh k dups (row_in rows i)) lies (p.each_row i lt)
 
   abbrev pub stable : Note
   stable = record { kind = Stable; base = (frame_at k g).base; generation = (frame_at k g).generation; content = (frame_at k g).content }
@@ -409,14 +440,14 @@ module _ (sh : Shape) (across : ℕ) (k : Ledger) (rows : List Row) (frames : Li
   abbrev pub shown_next : Ledger
   shown_next = record { frames = set k.frames g stable; places = set k.places d.place (Some (record { frame = g; generation = (frame_at k g).generation })) }
 
-  pub published : (r : Row) → (frame_at k g).kind ≡ Private
-      → merged_into d.number r.state ≡ true → ((n : ℕ) → merged_into n r.state ≡ true → n ≡ d.number) → kind_for r.state ≡ Stable → merged_state r.state ≡ true
-      → r.bytes ≡ (row_in rows i).bytes → d.bytes ≡ r.bytes → (across ≡ 0 → (row_in rows i).home ≡ d.tree) → ((n : ℕ) → merged_into n (row_in rows i).state ≡ false) → merged_state (row_in rows i).state ≡ false
+  pub published : (r : Row) → zero_state r.state ≡ false → (frame_at k g).kind ≡ Private
+      → merged_into d.number r.state ≡ true → ((n : ℕ) → merged_into n r.state ≡ true → n ≡ d.number) → kind_for r.state ≡ Stable → shared_state r.state ≡ true
+      → r.bytes ≡ (row_in rows i).bytes → d.bytes ≡ r.bytes → (across ≡ 0 → (row_in rows i).home ≡ d.tree) → ((n : ℕ) → merged_into n (row_in rows i).state ≡ false) → shared_state (row_in rows i).state ≡ false
       → ((j : ℕ) → j < length rows → merged_into d.number (row_in rows j).state ≡ false) → All (λ e. ¬ (e.number ≡ d.number)) dups
       → Placed sh across shown_next (set rows i r) frames (with_dup d dups) None
-  published r own item only stable' merged same bytes home alone was fresh numbers =
+  published r mapped own item only stable' merged same bytes home alone was fresh numbers =
       let paired : length frames ≡ length rows = p.paired in
-      let inside' : g < frames_of sh = (p.each_row i lt).0.frame in
+      let inside' : g < frames_of sh = fits_row.0.frame in
       let once : uses g frames ≡ 1 = (let fits : (frame_at k g).base ≡ 1 = subst (λ (x : Kind). FitsBase x (frame_at k g).base) own (p.kinds g) in let b : (frame_at k g).base ≡ uses g frames + 0 = p.bases g in omega (arith, fits, b)) in
       let wide' : length (set rows i r) ≡ length rows = length-set rows i r in
       let pl : length k.places ≡ frames_of sh = p.places_long in
@@ -441,9 +472,9 @@ module _ (sh : Shape) (across : ℕ) (k : Ledger) (rows : List Row) (frames : Li
         widths = λ f. ap length (words f) ∙ p.widths f;
         lives = λ f. at (λ x. GenerationFits sh.last_generation x.kind x.generation) f (λ _. subst (λ (x : Kind). GenerationFits sh.last_generation x (frame_at k g).generation) own (p.lives g)) (λ _. p.lives f);
         each_row = λ j lt'. dite (ℕ_discrete j i)
-            (λ e. subst (λ x. Serves sh shown_next (with_dup d dups) (row_in (set rows i r) x) (slice_index frames x)) (sym e)
-            (subst (λ x. Serves sh shown_next (with_dup d dups) x g) (sym (get_or-set_same rows i r no_row lt)) (
-              record { frame = inside'; kind = ap (λ (x : Note). x.kind) here ∙ sym stable'; content = words g ∙ (p.each_row i lt).0.content ∙ sym same; given = subst (λ y. 1 ≤ y) (sym (gens g)) (p.each_row i lt).0.given; node = λ m. absurd (grind (arith, m, merged)) },
+            (λ e. subst (λ x. IsServed sh shown_next (with_dup d dups) (row_in (set rows i r) x) (frame_in frames x)) (sym e)
+            (subst (λ (z : Row × Option ℕ). IsServed sh shown_next (with_dup d dups) z.0 z.1) (λ t. (sym (get_or-set_same rows i r no_row lt) t, sym lies t)) (
+              record { mapped = mapped; frame = inside'; kind = ap (λ (x : Note). x.kind) here ∙ sym stable'; content = words g ∙ fits_row.0.content ∙ sym same; given = subst (λ y. 1 ≤ y) (sym (gens g)) fits_row.0.given; node = λ m. absurd (grind (arith, m, merged)) },
               all_with (Agrees shown_next r g) d dups
                   (record { item = λ _. (sym frame_is, in_life); back = λ _ _. item })
                   (λ n x l ne. let e2 : DupRow = get_or dups n x in record {
@@ -452,25 +483,26 @@ module _ (sh : Shape) (across : ℕ) (k : Ledger) (rows : List Row) (frames : Li
                   }),
             )))
             (λ ne. let lt2 : j < length rows = omega arith in
-            let far : slice_index frames j ≢ g = λ e. ne (uses_once frames i j g (omega arith) (omega arith) once refl e) in
-            subst (λ x. Serves sh shown_next (with_dup d dups) x (slice_index frames j)) (sym (get_or-set_other rows i j r no_row ne)) (
-              (let n = row_still sh across k rows frames dups None p g inside' stable (row_in rows j) (slice_index frames j) (λ e. absurd (far e)) (p.each_row j lt2).0 in record { frame = n.frame; kind = n.kind; content = n.content; given = n.given; node = n.node }),
-              all_with (Agrees shown_next (row_in rows j) (slice_index frames j)) d dups
+            subst (λ x. IsServed sh shown_next (with_dup d dups) x (frame_in frames j)) (sym (get_or-set_other rows i j r no_row ne))
+            (served_as sh k shown_next dups (with_dup d dups) (row_in rows j) (row_in rows j) (frame_in frames j) refl (λ f there m.
+            let far : f ≢ g = λ e. ne (uses_once frames i j g (omega arith) (omega arith) once lies (there ∙ ap Some e)) in (
+              (let n = row_still sh across k rows frames dups None p g inside' stable (row_in rows j) f (λ e. absurd (far e)) m.0 in record { mapped = n.mapped; frame = n.frame; kind = n.kind; content = n.content; given = n.given; node = n.node }),
+              all_with (Agrees shown_next (row_in rows j) f) d dups
                   (record { item = λ m. absurd (grind (arith, m, fresh j lt2)); back = λ _ e. absurd (far (e ∙ frame_is)) })
-                  (λ n x l ne2. let e2 : DupRow = get_or dups n x in let a = (p.each_row j lt2).1 n x l in record {
+                  (λ n x l ne2. let e2 : DupRow = get_or dups n x in let a = m.1 n x l in record {
                     item = λ m. let y = a.item m in (y.0 ∙ sym (frame_off e2 ne2), on e2 ne2 y.1);
                     back = λ life e3. a.back (off e2 ne2 life) (e3 ∙ frame_off e2 ne2);
                   }),
-            ));
+            )) (p.each_row j lt2)));
         each_dup = all_with (DupFits sh across shown_next) d dups
             (record {
               place = inside;
               named = ap is_some named;
               frame = subst (λ x. x < frames_of sh) (sym frame_is) inside';
               life = (let same_life : place_life shown_next d.place ≡ (frame_at shown_next (place_frame shown_next d.place)).generation = sym in_life in omega (arith, same_life));
-              content = λ _. ap (λ h. (frame_at shown_next h).content) frame_is ∙ words g ∙ (p.each_row i lt).0.content ∙ sym same ∙ sym bytes;
+              content = λ _. ap (λ h. (frame_at shown_next h).content) frame_is ∙ words g ∙ fits_row.0.content ∙ sym same ∙ sym bytes;
               shown = λ _ e. (let bad : Stable ≡ Private = sym (ap (λ (x : Note). x.kind) here) ∙ ap (λ h. (frame_at shown_next h).kind) (sym frame_is) ∙ e in not_own bad);
-              node = λ z. ap (λ h. h / sh.frames_per_node) frame_is ∙ (p.each_row i lt).0.node was ∙ home z;
+              node = λ z. ap (λ h. h / sh.frames_per_node) frame_is ∙ fits_row.0.node was ∙ home z;
             })
             (λ n x l ne. let e2 : DupRow = get_or dups n x in let m = p.each_dup n x l in let fo = frame_off e2 ne in record {
               place = m.place;
@@ -491,9 +523,9 @@ module _ (sh : Shape) (across : ℕ) (k : Ledger) (rows : List Row) (frames : Li
       not_own e = subst is_stable e tt
 
 -- a row in the state of another that is served by a frame, with the frame's bytes, is served by it too
-pub serves_like : (sh : Shape) (k : Ledger) (dups : List DupRow) (s r : Row) (f : ℕ) → Serves sh k dups s f → r.state ≡ s.state → (frame_at k f).content ≡ r.bytes → merged_state r.state ≡ true → Serves sh k dups r f
+pub serves_like : (sh : Shape) (k : Ledger) (dups : List DupRow) (s r : Row) (f : ℕ) → Serves sh k dups s f → r.state ≡ s.state → (frame_at k f).content ≡ r.bytes → shared_state r.state ≡ true → Serves sh k dups r f
 serves_like sh k dups s r f h same content merged = (
-  record { frame = h.0.frame; kind = h.0.kind ∙ ap kind_for (sym same); content = content; given = h.0.given; node = λ m. absurd (grind (arith, m, merged)) },
+  record { mapped = ap zero_state same ∙ h.0.mapped; frame = h.0.frame; kind = h.0.kind ∙ ap kind_for (sym same); content = content; given = h.0.given; node = λ m. absurd (grind (arith, m, merged)) },
   All-weaker (Agrees k s f) (Agrees k r f) (λ d a. record {
     item = λ m. a.item (sym (ap (merged_into d.number) same) ∙ m);
     back = λ life e. ap (merged_into d.number) same ∙ a.back life e;
@@ -501,7 +533,7 @@ serves_like sh k dups s r f h same content merged = (
 )
 
 -- where the tests agree from place to place, so do the numbers
-pub counts_agree : (f : ℕ) (test : Row → Bool) (rows : List Row) (frames : List ℕ) → length frames ≡ length rows → ((i : ℕ) → i < length rows → (get_or frames i 0 == f) ≡ test (get_or rows i no_row)) → uses f frames ≡ count_by test rows
+pub counts_agree : (f : ℕ) (test : Row → Bool) (rows : List Row) (frames : List (Option ℕ)) → length frames ≡ length rows → ((i : ℕ) → i < length rows → is_frame f (get_or frames i None) ≡ test (get_or rows i no_row)) → uses f frames ≡ count_by test rows
 counts_agree f test [] [] e h = refl
 counts_agree f test [] (g ∷ gs) e h = absurd (omega arith)
 counts_agree f test (r ∷ rs) [] e h = absurd (omega arith)
@@ -511,15 +543,14 @@ counts_agree f test (r ∷ rs) (g ∷ gs) e h =
     sum_by-cons (one_at f) g gs ∙ (λ i. here i + rest i) ∙ sym (sum_by-cons (λ x. cond (test x) 1 0) r rs)
 
 -- the references on the frame of a dup in its life are its items
-pub base_is_items : (sh : Shape) (across : ℕ) (k : Ledger) (rows : List Row) (frames : List ℕ) (dups : List DupRow) (p : Placed sh across k rows frames dups None) (n : ℕ) (d : DupRow) → n < length dups → IsInLife k (get_or dups n d).place
+pub base_is_items : (sh : Shape) (across : ℕ) (k : Ledger) (rows : List Row) (frames : List (Option ℕ)) (dups : List DupRow) (p : Placed sh across k rows frames dups None) (n : ℕ) (d : DupRow) → n < length dups → IsInLife k (get_or dups n d).place
     → (frame_at k (place_frame k (get_or dups n d).place)).base ≡ item_count rows (get_or dups n d)
 base_is_items sh across k rows frames dups p n d lt life =
     let e : DupRow = get_or dups n d in
     let f : ℕ = place_frame k e.place in
     let b : (frame_at k f).base ≡ uses f frames + 0 = p.bases f in
     let c : uses f frames ≡ item_count rows e = counts_agree f (λ r. merged_into e.number r.state) rows frames p.paired (λ i l.
-    let a = (p.each_row i l).1 n d lt in
-    same_tests (get_or frames i 0 == f) (merged_into e.number (get_or rows i no_row).state) (λ t. a.back life (eqb-eq' _ _ t)) (λ m. eq-eqb _ _ (a.item m).0)) in
+    by (row_in rows i) (frame_in frames i) (p.each_row i l)) in
     omega (arith, b, c)
   where
     same_tests : (x y : Bool) → (x ≡ true → y ≡ true) → (y ≡ true → x ≡ true) → x ≡ y
@@ -530,8 +561,21 @@ base_is_items sh across k rows frames dups p n d lt life =
     eqb-eq' : (x y : ℕ) → (x == y) ≡ true → x ≡ y
     eqb-eq' x y t = grind (arith, nat_tests, t)
 
+    -- a row without a frame is no item
+    not_item : (s : PageState) → zero_state s ≡ true → merged_into (get_or dups n d).number s ≡ false
+    not_item OwnPage z = refl
+    not_item Waiting z = refl
+    not_item (Merged m) z = absurd (grind (arith, z))
+    not_item Zero z = refl
+
+    by : (r : Row) (o : Option ℕ) → IsServed sh k dups r o → is_frame (place_frame k (get_or dups n d).place) o ≡ merged_into (get_or dups n d).number r.state
+    by r None h = sym (not_item r.state h)
+    by r (Some g) h =
+        let a = h.1 n d lt in
+        same_tests (g == place_frame k (get_or dups n d).place) (merged_into (get_or dups n d).number r.state) (λ t. a.back life (eqb-eq' _ _ t)) (λ m. eq-eqb _ _ (a.item m).0)
+
 -- above the limit stands no frame, and a stale dup's frame is not stable in its life
-pub stale_is_loose : (sh : Shape) (across : ℕ) (k : Ledger) (rows : List Row) (frames : List ℕ) (dups : List DupRow) (p : Placed sh across k rows frames dups None) (n : ℕ) (d : DupRow) → n < length dups → item_count rows (get_or dups n d) ≡ 0 → IsInLife k (get_or dups n d).place
+pub stale_is_loose : (sh : Shape) (across : ℕ) (k : Ledger) (rows : List Row) (frames : List (Option ℕ)) (dups : List DupRow) (p : Placed sh across k rows frames dups None) (n : ℕ) (d : DupRow) → n < length dups → item_count rows (get_or dups n d) ≡ 0 → IsInLife k (get_or dups n d).place
     → ¬ ((frame_at k (place_frame k (get_or dups n d).place)).kind ≡ Stable)
 stale_is_loose sh across k rows frames dups p n d lt none life stable =
     let f : ℕ = place_frame k (get_or dups n d).place in
@@ -540,7 +584,8 @@ stale_is_loose sh across k rows frames dups p n d lt none life stable =
     omega (arith, b, none, some)
 
 -- the row at i joins the item at j: one reference more on the item's frame, one less on its own
-pub joined : (sh : Shape) (across : ℕ) (k : Ledger) (rows : List Row) (frames : List ℕ) (dups : List DupRow) (i j : ℕ) (r : Row) → i < length rows → j < length rows → r.state ≡ (row_in rows j).state → r.bytes ≡ (row_in rows j).bytes → merged_state r.state ≡ true
-    → Placed sh across k rows frames dups (Some (slice_index frames j)) → Placed sh across k (set rows i r) (set frames i (slice_index frames j)) dups (Some (slice_index frames i))
-joined sh across k rows frames dups i j r lt lt' state bytes merged p =
-    swapped sh across k rows frames dups (slice_index frames j) i r lt p (serves_like sh k dups (row_in rows j) r (slice_index frames j) (p.each_row j lt') state ((p.each_row j lt').0.content ∙ sym bytes) merged)
+pub joined : (sh : Shape) (across : ℕ) (k : Ledger) (rows : List Row) (frames : List (Option ℕ)) (dups : List DupRow) (i j g : ℕ) (r : Row) → i < length rows → j < length rows → frame_in frames j ≡ Some g → r.state ≡ (row_in rows j).state → r.bytes ≡ (row_in rows j).bytes → shared_state r.state ≡ true
+    → Placed sh across k rows frames dups (Some g) → Placed sh across k (set rows i r) (set frames i (Some g)) dups (frame_in frames i)
+joined sh across k rows frames dups i j g r lt lt' lies state bytes merged p =
+    let fits : Serves sh k dups (row_in rows j) g = subst (IsServed sh k dups (row_in rows j)) lies (p.each_row j lt') in
+    swapped sh across k rows frames dups (Some g) i r lt p (serves_like sh k dups (row_in rows j) r g fits state (fits.0.content ∙ sym bytes) merged)

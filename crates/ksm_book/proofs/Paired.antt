@@ -1,6 +1,6 @@
 -- Where the rows stand after one of them was replaced, and how a new dup of two lies in the frames.
-use Rattle.std.proofs.Common.{inl, inr, ◌≡◌, ◌∙◌, ℕ, zero, suc, ◌+◌, ◌<◌, ◌≤◌, ◌≢◌, true, false, List, [], ◌∷◌, length, get_or, set, None, Some, refl, sym, ap, subst, arith}
-use Rattle.std.specs.Prelude.{Contains, slice_index}
+use Rattle.std.proofs.Common.{inl, inr, ◌≡◌, ◌∙◌, ℕ, zero, suc, ◌+◌, ◌<◌, ◌≤◌, ◌≢◌, true, false, List, [], ◌∷◌, length, get_or, set, Option, None, Some, refl, sym, ap, subst, arith}
+use Rattle.std.specs.Prelude.{Contains}
 use Rattle.std.proofs.lemmas.Bool.{cases_Bool, false≢true}
 use Rattle.std.proofs.lemmas.List.{get_or-set_same, get_or-set_other, length-set, set-get_or}
 use Rattle.ksm_base.specs.declared.page.GuestPage.{GuestPage}
@@ -16,7 +16,7 @@ use Rattle.ksm_book.specs.Keeping.{Keeps, IsLawful, spent}
 use Rattle.ksm_book.specs.Laid.{Lay, IsLaid, Founds, Joins, founded, lay_of}
 use Rattle.ksm_book.specs.Linked.{PagesView, Replaced, ReplacedBoth, item_of_next, next_dup}
 use Rattle.ksm_book.specs.Listed.{Listed, rank, StandsAt}
-use Rattle.ksm_book.specs.Placement.{no_row}
+use Rattle.ksm_book.specs.Placement.{frame_in, no_row}
 use Rattle.ksm_book.proofs.Found.{found_page}
 use Rattle.ksm_book.proofs.Laying.{lawful, shape_same}
 use Rattle.ksm_base.proofs.Pages.{same_page_refl}
@@ -38,7 +38,7 @@ rank_set page (x ∷ xs) (suc i) r lt e =
     ]
 
 -- a row was replaced where it stands
-module _ (v w : Listed) (old row : Row) (f g : ℕ) (at : StandsAt v row.page old f) (is : Replaced v w row g) where
+module _ (v w : Listed) (old row : Row) (f g : Option ℕ) (at : StandsAt v row.page old f) (is : Replaced v w row g) where
   abbrev i : ℕ
   i = rank row.page v.rows
 
@@ -55,16 +55,16 @@ module _ (v w : Listed) (old row : Row) (f g : ℕ) (at : StandsAt v row.page ol
   stands_there paired found = record {
     inside = (let e = same_rank row.page in let n = same_length in let lt = at.inside in omega (arith, e, n, lt));
     row_is = (λ t. get_or (is.rows t) (same_rank row.page t) no_row) ∙ get_or-set_same v.rows i row no_row at.inside;
-    frame_is = (λ t. get_or (is.frames t) (same_rank row.page t) 0) ∙ get_or-set_same v.frames i g 0 (let lt = at.inside in omega (arith, paired, lt));
+    frame_is = (λ t. get_or (is.frames t) (same_rank row.page t) None) ∙ get_or-set_same v.frames i g None (let lt = at.inside in omega (arith, paired, lt));
     found = found;
   }
 
   -- and any other row stands where it stood
-  pub stands_still : (other : Row) (h : ℕ) → StandsAt v other.page other h → same_page row.page other.page ≡ false → row_at other.page w.rows ≡ Some other → StandsAt w other.page other h
+  pub stands_still : (other : Row) (h : Option ℕ) → StandsAt v other.page other h → same_page row.page other.page ≡ false → row_at other.page w.rows ≡ Some other → StandsAt w other.page other h
   stands_still other h there apart found = record {
     inside = (let e = same_rank other.page in let n = same_length in let lt = there.inside in omega (arith, e, n, lt));
     row_is = (λ t. get_or (is.rows t) (same_rank other.page t) no_row) ∙ get_or-set_other v.rows i (rank other.page v.rows) row no_row elsewhere ∙ there.row_is;
-    frame_is = (λ t. get_or (is.frames t) (same_rank other.page t) 0) ∙ get_or-set_other v.frames i (rank other.page v.rows) g 0 elsewhere ∙ there.frame_is;
+    frame_is = (λ t. get_or (is.frames t) (same_rank other.page t) None) ∙ get_or-set_other v.frames i (rank other.page v.rows) g None elsewhere ∙ there.frame_is;
     found = found;
   }
     where
@@ -74,18 +74,18 @@ module _ (v w : Listed) (old row : Row) (f g : ℕ) (at : StandsAt v row.page ol
           false≢true (sym apart ∙ ap (same_page row.page) (sym one) ∙ same_page_refl row.page)
 
 -- two rows were replaced, and the first stays on its frame: the second alone comes to lie on another
-pub both_frames : (v w : Listed) (old r s : Row) (f : ℕ) (at : StandsAt v r.page old f) (both : ReplacedBoth v w r s f)
-    → w.frames ≡ set v.frames (rank s.page v.rows) (slice_index v.frames (rank r.page v.rows))
+pub both_frames : (v w : Listed) (old r s : Row) (f : Option ℕ) (at : StandsAt v r.page old f) (both : ReplacedBoth v w r s f)
+    → w.frames ≡ set v.frames (rank s.page v.rows) (frame_in v.frames (rank r.page v.rows))
 both_frames v w old r s f at both =
     let there = at.frame_is in
-    both.second.frames ∙ (λ t. set ((both.first.frames ∙ ap (set v.frames (rank r.page v.rows)) (sym there) ∙ set-get_or v.frames (rank r.page v.rows) 0) t)
+    both.second.frames ∙ (λ t. set ((both.first.frames ∙ ap (set v.frames (rank r.page v.rows)) (sym there) ∙ set-get_or v.frames (rank r.page v.rows) None) t)
     (same_rank v both.between old r f f at both.first s.page t) (sym there t))
 
 -- a new dup of two rows stands on the frame of the first
 module _ (p : PagesView) (k : KeeperView) (h : IsLaid p.shape p.listed p.dups p.knobs p.next k) (now : Lay) (seen : lay_of p k ≡ now) (place : ℕ) (first second : Row)
     (told : Founds now place first) (asked : Joins (founded now place first) second (record first { state = Merged now.next })) (known : row_at second.page now.rows ≡ Some second) (apart : same_page first.page second.page ≡ false)
-    (r s : Row) (f g : ℕ) (first_found : StandsAt p.listed first.page r f) (second_found : StandsAt p.listed second.page s g)
-    (new : PagesView) (both : ReplacedBoth p.listed new.listed (item_of_next p first) (item_of_next p second) f) (made : new ≡ record p { listed = new.listed; dups = with_dup (next_dup p place first) p.dups; next = p.next + 1 })
+    (r s : Row) (o : Option ℕ) (f : ℕ) (some : o ≡ Some f) (g : Option ℕ) (first_found : StandsAt p.listed first.page r o) (second_found : StandsAt p.listed second.page s g)
+    (new : PagesView) (replaced : ReplacedBoth p.listed new.listed (item_of_next p first) (item_of_next p second) o) (made : new ≡ record p { listed = new.listed; dups = with_dup (next_dup p place first) p.dups; next = p.next + 1 })
     (w1 w2 : KeeperView) (table : w1.table ≡ k.table) (cleared : w1.ledger ≡ record { frames = k.ledger.frames; places = set k.ledger.places place None }) (published : w2 ≡ did w1 (Publish place f) 0) where
   founds : Founds (lay_of p k) place first
   founds = subst (λ (x : Lay). Founds x place first) (sym seen) told
@@ -93,8 +93,11 @@ module _ (p : PagesView) (k : KeeperView) (h : IsLaid p.shape p.listed p.dups p.
   joins : Joins (founded (lay_of p k) place first) second (item_of_next p first)
   joins = subst (λ (x : Lay). Joins (founded x place first) second (record first { state = Merged x.next })) (sym seen) asked
 
-  at : StandsAt p.listed first.page first f
-  at = stands_as p.listed now.rows first.page r first f first_found (ap (λ (x : Lay). x.rows) seen) told.row_is
+  at : StandsAt p.listed first.page first (Some f)
+  at = stands_as p.listed now.rows first.page r first (Some f) (subst (StandsAt p.listed first.page r) some first_found) (ap (λ (x : Lay). x.rows) seen) told.row_is
+
+  pub both : ReplacedBoth p.listed new.listed (item_of_next p first) (item_of_next p second) (Some f)
+  both = subst (ReplacedBoth p.listed new.listed (item_of_next p first) (item_of_next p second)) some replaced
 
   lone : StandsAt p.listed second.page second g
   lone = stands_as p.listed now.rows second.page s second g second_found (ap (λ (x : Lay). x.rows) seen) known
@@ -111,11 +114,11 @@ module _ (p : PagesView) (k : KeeperView) (h : IsLaid p.shape p.listed p.dups p.
   pub laid_between : IsLaid p.shape v1 dups1 p.knobs (p.next + 1) w2
   laid_between = laid_found p.shape p.listed p.dups p.knobs p.next k h first f at founds.alone (next_dup p place first) refl founds.inside v1 dups1 w1 w2 table cleared published refl refl (tree_is_home p.knobs first) founds.numbers founds.fresh both.first.rows both.first.frames
 
-  item_there : StandsAt v1 item.page item f
-  item_there = stands_there p.listed v1 first item f f at both.first h.placed.paired (ap (row_at item.page) both.first.changed ∙ joins.item_is)
+  item_there : StandsAt v1 item.page item (Some f)
+  item_there = stands_there p.listed v1 first item (Some f) (Some f) at both.first h.placed.paired (ap (row_at item.page) both.first.changed ∙ joins.item_is)
 
   second_there : StandsAt v1 second.page second g
-  second_there = stands_still p.listed v1 first item f f at both.first second g lone apart (ap (row_at second.page) both.first.changed ∙ joins.row_is)
+  second_there = stands_still p.listed v1 first item (Some f) (Some f) at both.first second g lone apart (ap (row_at second.page) both.first.changed ∙ joins.row_is)
 
   pub first_lawful : IsLawful w2 None
   first_lawful = lawful p.shape p.knobs.merge_across_nodes w2 v1.rows v1.frames dups1 None laid_between.same laid_between.placed
@@ -125,10 +128,10 @@ module _ (p : PagesView) (k : KeeperView) (h : IsLaid p.shape p.listed p.dups p.
       (subst (λ rows. (d : DupRow) × Contains dups1 d × (merged_into d.number item.state ≡ true) × (item_count rows d ≤ 1023)) (sym both.first.changed) joins.room)
 
   module _ (w3 : KeeperView) (table3 : w3.table ≡ w2.table) (keeps3 : Keeps w2 w3 None (Some f)) where
-    pub second_lawful : IsLawful w3 (Some g)
-    second_lawful = lawful p.shape p.knobs.merge_across_nodes w3 new.listed.rows new.listed.frames dups1 (Some g) (shape_same p.shape w2 w3 laid_between.same table3)
+    pub second_lawful : IsLawful w3 g
+    second_lawful = lawful p.shape p.knobs.merge_across_nodes w3 new.listed.rows new.listed.frames dups1 g (shape_same p.shape w2 w3 laid_between.same table3)
         (joined_hand p.shape v1 dups1 p.knobs (p.next + 1) w2 laid_between second item g f second_there item_there joins.merged new.listed w3 keeps3 joins.bytes both.second.rows both.second.frames)
 
-    pub laid_paired : (w4 : KeeperView) → w4.table ≡ w3.table → Keeps w3 w4 (Some g) None → spent w2.ledger ≤ spent w3.ledger → spent w3.ledger ≤ spent w4.ledger → IsLaid new.shape new.listed new.dups new.knobs new.next w4
+    pub laid_paired : (w4 : KeeperView) → w4.table ≡ w3.table → Keeps w3 w4 g None → spent w2.ledger ≤ spent w3.ledger → spent w3.ledger ≤ spent w4.ledger → IsLaid new.shape new.listed new.dups new.knobs new.next w4
     laid_paired w4 table4 keeps4 more more' = subst (λ (z : PagesView). IsLaid z.shape z.listed z.dups z.knobs z.next w4) (sym made)
         (laid_joined p.shape v1 dups1 p.knobs (p.next + 1) w2 laid_between second item g f second_there item_there joins.merged new.listed w3 w4 table3 table4 keeps3 keeps4 more more' joins.bytes both.second.rows both.second.frames)

@@ -7,7 +7,7 @@ use Rattle.std.proofs.lemmas.List.Elements.{All-map}
 use Rattle.ksm_base.specs.declared.knobs.Knobs.{Knobs}
 use Rattle.ksm_base.specs.declared.page.GuestPage.{GuestPage}
 use Rattle.ksm_base.specs.declared.row.PageState.{PageState}
-use Rattle.ksm_base.specs.declared.row.PageState.TheVariants.{Private, Waiting, Merged}
+use Rattle.ksm_base.specs.declared.row.PageState.TheVariants.{Private, Waiting, Merged, Zero}
 use Rattle.ksm_base.specs.declared.row.Row.{Row}
 use Rattle.ksm_base.specs.Apply.{unshared}
 use Rattle.ksm_base.specs.Rows.{InPageOrder, change_row, change_rows, row_at, same_page, settled, settled_state, waiting_state}
@@ -70,6 +70,7 @@ settled_still : (state : PageState) → waiting_state (settled_state state) ≡ 
 settled_still Private = refl
 settled_still Waiting = refl
 settled_still (Merged n) = refl
+settled_still Zero = refl
 
 pub none_settled : (knobs : Knobs) (rows : List Row) → AreWaiting knobs (map settled rows) []
 none_settled knobs rows = none_waiting knobs (map settled rows) (All-map (λ r. waiting_state r.state ≡ false) settled rows (λ k d lt. settled_still (get_or rows k d).state))

@@ -1,16 +1,16 @@
 -- A lawful placement says the sentences that are promised.
 use Rattle.std.proofs.Common.{inl, inr, ◌≡◌, ◌≢◌, ℕ, zero, suc, ◌+◌, ◌<◌, ◌≤◌, Bool, true, false, List, [], ◌∷◌, ◌++◌, length, map, get_or, Option, Some, None, refl, sym, ap, ◌∙◌, subst, arith}
-use Rattle.std.specs.Prelude.{All, AllPairs, Contains, ◌==◌, not, count_by, filter, is_some, nat_lt, slice_index}
+use Rattle.std.specs.Prelude.{All, AllPairs, Contains, ◌==◌, not, count_by, filter, is_some, nat_lt, slice_index, MatchOption}
 use Rattle.std.specs.List.{zip}
-use Rattle.std.proofs.lemmas.Bool.{cases_Bool, lt-ltb, ltb-true, not-true}
+use Rattle.std.proofs.lemmas.Bool.{cases_Bool, lt-ltb, not-true}
 use Rattle.std.proofs.lemmas.Bool.Decides.{nat_tests}
 use Rattle.std.proofs.lemmas.List.Elements.{All-cons, All-head, All-tail, All-filter, All-map, All-weaker, filter_passes, Contains-append_left, Contains-append_right}
 use Rattle.std.proofs.lemmas.List.Kept.{AllPairs-cons, AllPairs-filter}
 use Rattle.ksm_base.specs.declared.row.PageState.{PageState}
-use Rattle.ksm_base.specs.declared.row.PageState.TheVariants.{Private as OwnPage, Waiting, Merged}
+use Rattle.ksm_base.specs.declared.row.PageState.TheVariants.{Private as OwnPage, Waiting, Merged, Zero}
 use Rattle.ksm_base.specs.declared.row.Row.{Row}
 use Rattle.ksm_base.specs.declared.row.DupRow.{DupRow}
-use Rattle.ksm_base.specs.Rows.{dup_numbered, has_items, item_count, merged_into, merged_state}
+use Rattle.ksm_base.specs.Rows.{dup_numbered, has_items, item_count, merged_into, shared_state, zero_state, all_zero}
 use Rattle.ksm_base.specs.Sound.{IsSound}
 use Rattle.ksm_base.specs.State.{BookState}
 use Rattle.ksm_base.proofs.Edits.{count_more, counts_one, none_counted}
@@ -22,22 +22,23 @@ use Rattle.frame_core.specs.declared.ledger.Ledger.{Ledger}
 use Rattle.frame_core.specs.declared.seat.Life.{Life}
 use Rattle.frame_core.specs.Ledger.{frame_at, named_at}
 use Rattle.frame_table.specs.Named.{KeeperView}
+use Rattle.ksm_book.specs.Commands.{frame_number}
 use Rattle.ksm_book.specs.Lawful.{LieLawfully}
-use Rattle.ksm_book.specs.Placement.{row_in, no_row, uses, kind_for, FitsBase, life_or, place_frame, place_life, IsInLife, Placed}
+use Rattle.ksm_book.specs.Placement.{frame_in, row_in, no_row, uses, kind_for, is_frame, IsServed, FitsBase, life_or, place_frame, place_life, IsInLife, Placed}
 use Rattle.ksm_book.specs.Promised.{own_frames, dup_frames, is_in_use, HasItsOwn, StandsOn, IsOutlived, LieOn}
-use Rattle.ksm_book.proofs.Laying.{own_kind}
-use Rattle.ksm_book.proofs.Moves.{base_is_items, stale_is_loose, uses_some}
-use Rattle.ksm_book.proofs.Standing.{Lives, frames_apart, lives}
+use Rattle.ksm_book.proofs.Laying.{own_kind, own_framed}
+use Rattle.ksm_book.proofs.Moves.{base_is_items, stale_is_loose, framed, is_that}
+use Rattle.ksm_book.proofs.Standing.{Lives, frames_apart, item_framed, lives}
 
 -- what holds of each row with its frame
-zip_all : (P : Row × ℕ → Type 0) (rows : List Row) (frames : List ℕ) → length frames ≡ length rows → ((i : ℕ) → i < length rows → P (row_in rows i, slice_index frames i)) → All P (zip rows frames)
+zip_all : (P : Row × Option ℕ → Type 0) (rows : List Row) (frames : List (Option ℕ)) → length frames ≡ length rows → ((i : ℕ) → i < length rows → P (row_in rows i, frame_in frames i)) → All P (zip rows frames)
 zip_all P [] [] long each = λ k d lt. absurd (omega arith)
 zip_all P [] (f ∷ frames) long each = λ k d lt. absurd (omega arith)
 zip_all P (r ∷ rows) [] long each = λ k d lt. absurd (omega arith)
 zip_all P (r ∷ rows) (f ∷ frames) long each =
     All-cons P (r, f) (zip rows frames) (each 0 (omega arith)) (zip_all P rows frames (omega (arith, long)) (λ i lt. each (suc i) (omega arith)))
 
-zip_at : (rows : List Row) (frames : List ℕ) (i : ℕ) → length frames ≡ length rows → i < length rows → (i < length (zip rows frames)) × ((d : Row × ℕ) → get_or (zip rows frames) i d ≡ (row_in rows i, slice_index frames i))
+zip_at : (rows : List Row) (frames : List (Option ℕ)) (i : ℕ) → length frames ≡ length rows → i < length rows → (i < length (zip rows frames)) × ((d : Row × Option ℕ) → get_or (zip rows frames) i d ≡ (row_in rows i, frame_in frames i))
 zip_at [] frames i long lt = absurd (omega arith)
 zip_at (r ∷ rows) [] i long lt = absurd (omega arith)
 zip_at (r ∷ rows) (f ∷ frames) zero long lt = (omega arith, λ d. refl)
@@ -67,39 +68,56 @@ once_each (x ∷ xs) once =
     AllPairs-cons R x xs (λ k d lt same. let other = apart k d lt in absurd (grind (arith, nat_tests, other, same)))
     (once_each xs (λ k d lt. let f = get_or xs k d in let all = All-tail P x xs once k d lt in let more = count_more (λ g. g == f) x xs in grind (arith, all, more)))
 
+-- there is a frame
+abbrev IsThere : Option ℕ → Type 0
+IsThere None = ⊥
+IsThere (Some f) = Unit {0}
+
 -- a frame is a row's own at most as often as it is listed
-own_count : (f : ℕ) (rows : List Row) (frames : List ℕ) → count_by (λ g. g == f) (own_frames rows frames) ≤ uses f frames
-own_count f [] frames = omega arith
-own_count f (r ∷ rows) [] = omega arith
-own_count f (r ∷ rows) (h ∷ frames) =
-    let rest = own_count f rows frames in
-    let more = count_more (λ g. g == f) h frames in
+own_count : (f : ℕ) (rows : List Row) (frames : List (Option ℕ)) → All (λ z. shared_state z.0.state ≡ false → IsThere z.1) (zip rows frames) → count_by (λ g. g == f) (own_frames rows frames) ≤ uses f frames
+own_count f [] frames all = omega arith
+own_count f (r ∷ rows) [] all = omega arith
+own_count f (r ∷ rows) (None ∷ frames) all =
+    let P : Row × Option ℕ → Type 0 = λ z. shared_state z.0.state ≡ false → IsThere z.1 in
+    let rest = own_count f rows frames (All-tail P (r, None) (zip rows frames) all) in
+    let here = All-head P (r, None) (zip rows frames) all in
+    let more = count_more (is_frame f) None frames in
+    elim (cases_Bool (shared_state r.state)) [
+      | inl shared ↦ grind (arith, rest, more, shared)
+      | inr own ↦ absurd (here own)
+    ]
+own_count f (r ∷ rows) (Some h ∷ frames) all =
+    let P : Row × Option ℕ → Type 0 = λ z. shared_state z.0.state ≡ false → IsThere z.1 in
+    let rest = own_count f rows frames (All-tail P (r, Some h) (zip rows frames) all) in
+    let more = count_more (is_frame f) (Some h) frames in
     let own = count_more (λ g. g == f) h (own_frames rows frames) in
     grind (arith, rest, more, own)
 
-all_own : (P : ℕ → Type 0) (rows : List Row) (frames : List ℕ) → All (λ z. merged_state z.0.state ≡ false → P z.1) (zip rows frames) → All P (own_frames rows frames)
+all_own : (P : ℕ → Type 0) (rows : List Row) (frames : List (Option ℕ)) → All (λ z. shared_state z.0.state ≡ false → P (frame_number z.1)) (zip rows frames) → All P (own_frames rows frames)
 all_own P rows frames all =
-    let test : Row × ℕ → Bool = λ z. not (merged_state z.0.state) in
+    let test : Row × Option ℕ → Bool = λ z. not (shared_state z.0.state) in
     let zs = zip rows frames in
     let passes = filter_passes test zs in
-    let kept = All-filter test (λ z. merged_state z.0.state ≡ false → P z.1) zs all in
-    All-map P (λ z. z.1) (filter test zs) (λ k d lt. kept k d lt (not-true _ (passes k d lt)))
+    let kept = All-filter test (λ z. shared_state z.0.state ≡ false → P (frame_number z.1)) zs all in
+    All-map P (λ z. frame_number z.1) (filter test zs) (λ k d lt. kept k d lt (not-true _ (passes k d lt)))
 
 named_life : (o : Option Life) → is_some o ≡ true → o ≡ Some (life_or o)
 named_life None some = absurd (grind (arith, some))
 named_life (Some life) some = refl
 
-alone_of_kind : (s : PageState) → kind_for s ≡ Private → merged_state s ≡ false
+alone_of_kind : (s : PageState) → kind_for s ≡ Private → shared_state s ≡ false
 alone_of_kind OwnPage is = refl
 alone_of_kind Waiting is = refl
 alone_of_kind (Merged n) is = cc
+alone_of_kind Zero is = cc
 
 number_of_kind : (s : PageState) → kind_for s ≡ Stable → (n : ℕ) × (s ≡ Merged n)
 number_of_kind OwnPage is = cc
 number_of_kind Waiting is = cc
 number_of_kind (Merged n) is = (n, refl)
+number_of_kind Zero is = cc
 
-module _ (b : BookState) (k : Ledger) (s : IsSound b) (frames : List ℕ) (p : Placed b.shape b.knobs.merge_across_nodes k b.rows frames b.dups None) where
+module _ (b : BookState) (k : Ledger) (s : IsSound b) (frames : List (Option ℕ)) (p : Placed b.shape b.knobs.merge_across_nodes k b.rows frames b.dups None) where
   abbrev across : ℕ
   across = b.knobs.merge_across_nodes
 
@@ -109,20 +127,41 @@ module _ (b : BookState) (k : Ledger) (s : IsSound b) (frames : List ℕ) (p : P
   abbrev shown : List ℕ
   shown = dup_frames b k
 
-  has_its_own : (i : ℕ) → i < length b.rows → merged_state (row_in b.rows i).state ≡ false → HasItsOwn b.shape k (row_in b.rows i) (slice_index frames i)
-  has_its_own i lt alone =
-      let fits = (p.each_row i lt).0 in
-      let kind = fits.kind ∙ own_kind (row_in b.rows i).state alone in
+  abbrev Owns : Row × Option ℕ → Type 0
+  Owns z = shared_state z.0.state ≡ false → MatchOption z.1 ⊥ (HasItsOwn b.shape k z.0)
+
+  has_its_own : (r : Row) (o : Option ℕ) → IsServed b.shape k b.dups r o → shared_state r.state ≡ false → MatchOption o ⊥ (HasItsOwn b.shape k r)
+  has_its_own r None zero_is alone = let none = own_framed r.state alone in absurd (grind (arith, zero_is, none))
+  has_its_own r (Some f) served alone =
+      let fits = served.0 in
+      let kind = fits.kind ∙ own_kind r.state alone in
       record {
         exists = fits.frame;
         kind = kind;
-        base = subst (λ (x : Kind). FitsBase x (frame_at k (slice_index frames i)).base) kind (p.kinds (slice_index frames i));
+        base = subst (λ (x : Kind). FitsBase x (frame_at k f).base) kind (p.kinds f);
         node = fits.node alone;
         content = fits.content;
       }
 
-  owns : All (λ z. merged_state z.0.state ≡ false → HasItsOwn b.shape k z.0 z.1) (zip b.rows frames)
-  owns = zip_all (λ z. merged_state z.0.state ≡ false → HasItsOwn b.shape k z.0 z.1) b.rows frames p.paired has_its_own
+  owns : All Owns (zip b.rows frames)
+  owns = zip_all Owns b.rows frames p.paired (λ i lt. has_its_own (row_in b.rows i) (frame_in frames i) (p.each_row i lt))
+
+  -- what is true of an own frame
+  of_own : (P : ℕ → Type 0) (r : Row) (o : Option ℕ) → ((f : ℕ) → HasItsOwn b.shape k r f → P f) → MatchOption o ⊥ (HasItsOwn b.shape k r) → P (frame_number o)
+  of_own P r None f h = absurd h
+  of_own P r (Some g) f h = f g h
+
+  there_is : (o : Option ℕ) (r : Row) → MatchOption o ⊥ (HasItsOwn b.shape k r) → IsThere o
+  there_is None r h = h
+  there_is (Some g) r h = tt
+
+  owns_there : All (λ z. shared_state z.0.state ≡ false → IsThere z.1) (zip b.rows frames)
+  owns_there = All-weaker Owns (λ z. shared_state z.0.state ≡ false → IsThere z.1) (λ z h alone. there_is z.1 z.0 (h alone)) (zip b.rows frames) owns
+
+  -- a Zero row has no frame, and only zeroes
+  zero_none : (r : Row) (o : Option ℕ) → IsServed b.shape k b.dups r o → zero_state r.state ≡ true → o ≡ None
+  zero_none r None served zero_is = refl
+  zero_none r (Some f) served zero_is = (let not_so = served.0.mapped in absurd (grind (arith, not_so, zero_is)))
 
   dup_lives : All (λ d. has_items b.rows d ≡ true → Lives k b.rows frames d) b.dups
   dup_lives n d lt some = lives b.shape across k b.rows frames b.dups p n d lt (λ none. absurd (grind (arith, nat_tests, some, none)))
@@ -145,7 +184,8 @@ module _ (b : BookState) (k : Ledger) (s : IsSound b) (frames : List ℕ) (p : P
       }
 
   own_kinds : All (λ f. (frame_at k f).kind ≡ Private) own
-  own_kinds = all_own (λ f. (frame_at k f).kind ≡ Private) b.rows frames (All-weaker (λ z. merged_state z.0.state ≡ false → HasItsOwn b.shape k z.0 z.1) (λ z. merged_state z.0.state ≡ false → (frame_at k z.1).kind ≡ Private) (λ z h alone. (h alone).kind) (zip b.rows frames) owns)
+  own_kinds = all_own (λ f. (frame_at k f).kind ≡ Private) b.rows frames (All-weaker Owns (λ z. shared_state z.0.state ≡ false → (frame_at k (frame_number z.1)).kind ≡ Private)
+      (λ z h alone. of_own (λ f. (frame_at k f).kind ≡ Private) z.0 z.1 (λ f own. own.kind) (h alone)) (zip b.rows frames) owns)
 
   -- a frame with one reference is listed once
   own_distinct : AllPairs (λ f g. f ≢ g) own
@@ -153,7 +193,7 @@ module _ (b : BookState) (k : Ledger) (s : IsSound b) (frames : List ℕ) (p : P
       let f = get_or own i d in
       let one : (frame_at k f).base ≡ 1 = subst (λ (x : Kind). FitsBase x (frame_at k f).base) (own_kinds i d lt) (p.kinds f) in
       let listed : (frame_at k f).base ≡ uses f frames + 0 = p.bases f in
-      let few = own_count f b.rows frames in
+      let few = own_count f b.rows frames owns_there in
       omega (arith, one, listed, few))
 
   abbrev Live : DupRow → Type 0
@@ -191,35 +231,37 @@ module _ (b : BookState) (k : Ledger) (s : IsSound b) (frames : List ℕ) (p : P
       cc)
 
   -- a frame that is listed is listed somewhere
-  listed_at : (f : ℕ) (fs : List ℕ) → 1 ≤ uses f fs → (i : ℕ) × (i < length fs) × (slice_index fs i ≡ f)
+  listed_at : (f : ℕ) (fs : List (Option ℕ)) → 1 ≤ uses f fs → (i : ℕ) × (i < length fs) × (frame_in fs i ≡ Some f)
   listed_at f [] some = absurd (omega (arith, some))
-  listed_at f (g ∷ fs) some = elim (cases_Bool (g == f)) [
-    | inl here ↦ (0, omega arith, grind (arith, nat_tests, here))
+  listed_at f (g ∷ fs) some = elim (cases_Bool (is_frame f g)) [
+    | inl here ↦ (0, omega arith, is_that f g here)
     | inr there ↦
-        let more = count_more (λ h. h == f) g fs in
+        let more = count_more (is_frame f) g fs in
         let rest = listed_at f fs (grind (arith, more, there, some)) in
         (suc rest.0, (let lt = rest.1 in omega (arith, lt)), rest.2)
   ]
 
-  own_listed : (f i : ℕ) → i < length b.rows → slice_index frames i ≡ f → (frame_at k f).kind ≡ Private → Contains (own ++ shown) f
+  own_listed : (f i : ℕ) → i < length b.rows → frame_in frames i ≡ Some f → (frame_at k f).kind ≡ Private → Contains (own ++ shown) f
   own_listed f i lt is kind =
       let at = zip_at b.rows frames i p.paired lt in
-      let d0 : Row × ℕ = (no_row, 0) in
-      let alone = alone_of_kind (row_in b.rows i).state (sym (p.each_row i lt).0.kind ∙ ap (λ h. (frame_at k h).kind) is ∙ kind) in
-      let there = passing (λ z. z.1) (λ z. not (merged_state z.0.state)) (zip b.rows frames) i d0 at.0 (ap (λ (z : Row × ℕ). not (merged_state z.0.state)) (at.1 d0) ∙ ap not alone) in
-      Contains-append_left own shown f (subst (Contains own) (ap (λ (z : Row × ℕ). z.1) (at.1 d0) ∙ is) there)
+      let d0 : Row × Option ℕ = (no_row, None) in
+      let fits = subst (IsServed b.shape k b.dups (row_in b.rows i)) is (p.each_row i lt) in
+      let alone = alone_of_kind (row_in b.rows i).state (sym fits.0.kind ∙ kind) in
+      let there = passing (λ z. frame_number z.1) (λ z. not (shared_state z.0.state)) (zip b.rows frames) i d0 at.0 (ap (λ (z : Row × Option ℕ). not (shared_state z.0.state)) (at.1 d0) ∙ ap not alone) in
+      Contains-append_left own shown f (subst (Contains own) (ap (λ (z : Row × Option ℕ). frame_number z.1) (at.1 d0) ∙ ap frame_number is) there)
 
-  shown_listed : (f i : ℕ) → i < length b.rows → slice_index frames i ≡ f → (frame_at k f).kind ≡ Stable → Contains (own ++ shown) f
+  shown_listed : (f i : ℕ) → i < length b.rows → frame_in frames i ≡ Some f → (frame_at k f).kind ≡ Stable → Contains (own ++ shown) f
   shown_listed f i lt is kind =
       let row = row_in b.rows i in
-      let number = number_of_kind row.state (sym (p.each_row i lt).0.kind ∙ ap (λ h. (frame_at k h).kind) is ∙ kind) in
+      let fits = subst (IsServed b.shape k b.dups row) is (p.each_row i lt) in
+      let number = number_of_kind row.state (sym fits.0.kind ∙ kind) in
       let its = s.items i no_row lt number.0 number.1 in
       let at = numbered_at number.0 b.dups its.0 its.1.stands in
       let into : merged_into (get_or b.dups at.0 its.0).number row.state ≡ true = ap (merged_into (get_or b.dups at.0 its.0).number) number.1 ∙ at.2 in
-      let lies = ((p.each_row i lt).1 at.0 its.0 at.1).item into in
+      let lies = (fits.1 at.0 its.0 at.1).item into in
       let counted : 0 < item_count b.rows (get_or b.dups at.0 its.0) = counts_one (λ r. merged_into (get_or b.dups at.0 its.0).number r.state) b.rows i no_row lt into in
       let there = passing (λ d. place_frame k d.place) (has_items b.rows) b.dups at.0 its.0 at.1 (lt-ltb 0 (item_count b.rows (get_or b.dups at.0 its.0)) counted) in
-      Contains-append_right own shown f (subst (Contains shown) (sym lies.0 ∙ is) there)
+      Contains-append_right own shown f (subst (Contains shown) (sym lies.0) there)
     where
       numbered_at : (n : ℕ) (ds : List DupRow) (d : DupRow) → dup_numbered n ds ≡ Some d → (j : ℕ) × (j < length ds) × ((n == (get_or ds j d).number) ≡ true)
       numbered_at n [] d found = cc
@@ -231,7 +273,7 @@ module _ (b : BookState) (k : Ledger) (s : IsSound b) (frames : List ℕ) (p : P
   in_use_listed : (f : ℕ) → is_in_use (frame_at k f).kind ≡ true → Contains (own ++ shown) f
   in_use_listed f used = go (frame_at k f).kind refl used
     where
-      at_row : 1 ≤ (frame_at k f).base → (i : ℕ) × (i < length b.rows) × (slice_index frames i ≡ f)
+      at_row : 1 ≤ (frame_at k f).base → (i : ℕ) × (i < length b.rows) × (frame_in frames i ≡ Some f)
       at_row some =
           let listed : (frame_at k f).base ≡ uses f frames + 0 = p.bases f in
           let at = listed_at f frames (omega (arith, some, listed)) in
@@ -263,7 +305,12 @@ module _ (b : BookState) (k : Ledger) (s : IsSound b) (frames : List ℕ) (p : P
   lie_on = record {
     one_each = p.paired;
     own = owns;
-    merged = zip_all (λ z. All (λ d. merged_into d.number z.0.state ≡ true → z.1 ≡ place_frame k d.place) b.dups) b.rows frames p.paired (λ i lt n d l into. (((p.each_row i lt).1 n d l).item into).0);
+    merged = zip_all (λ z. All (λ d. merged_into d.number z.0.state ≡ true → z.1 ≡ Some (place_frame k d.place)) b.dups) b.rows frames p.paired
+        (λ i lt n d l into.
+        let has = framed b.shape k b.dups (row_in b.rows i) (frame_in frames i) (item_framed (get_or b.dups n d).number (row_in b.rows i).state into) (p.each_row i lt) in
+        has.1 ∙ ap Some ((has.2.1 n d l).item into).0);
+    zero = zip_all (λ z. zero_state z.0.state ≡ true → (z.1 ≡ None) × (all_zero z.0.bytes ≡ true)) b.rows frames p.paired
+        (λ i lt zero_is. (zero_none (row_in b.rows i) (frame_in frames i) (p.each_row i lt) zero_is, s.zero i no_row lt zero_is));
     dups = stands;
     distinct = all_distinct;
     no_other = in_use_listed;
@@ -272,5 +319,5 @@ module _ (b : BookState) (k : Ledger) (s : IsSound b) (frames : List ℕ) (p : P
     empty = p.empty;
   }
 
-pub lies_on : (b : BookState) (frames : List ℕ) (k : KeeperView) → IsSound b → LieLawfully b frames k → LieOn b frames k.ledger
+pub lies_on : (b : BookState) (frames : List (Option ℕ)) (k : KeeperView) → IsSound b → LieLawfully b frames k → LieOn b frames k.ledger
 lies_on b frames k s lies = lie_on b k.ledger s frames lies

@@ -1,5 +1,5 @@
 -- Where a page's row stands.
-use Rattle.std.proofs.Common.{◌≡◌, ℕ, zero, suc, ◌<◌, ◌≤◌, true, false, List, [], ◌∷◌, length, get_or, set, Some, refl, sym, ap, ◌∙◌, subst, arith}
+use Rattle.std.proofs.Common.{◌≡◌, ℕ, zero, suc, ◌<◌, ◌≤◌, true, false, List, [], ◌∷◌, length, get_or, set, Option, Some, refl, sym, ap, ◌∙◌, subst, arith}
 use Rattle.std.specs.Prelude.{All, insert, remove}
 use Rattle.std.proofs.lemmas.Option.{same_Some}
 use Rattle.ksm_base.specs.declared.page.GuestPage.{GuestPage}
@@ -43,5 +43,5 @@ remove_inserted (z ∷ zs) zero x le = refl
 remove_inserted (z ∷ zs) (suc i) x le = ap (λ l. z ∷ l) (remove_inserted zs i x (omega arith))
 
 -- the row that stands at a page is the one found
-pub stands_as : (v : Listed) (rows : List Row) (page : GuestPage) (r r' : Row) (f : ℕ) → StandsAt v page r f → v.rows ≡ rows → row_at page rows ≡ Some r' → StandsAt v page r' f
+pub stands_as : (v : Listed) (rows : List Row) (page : GuestPage) (r r' : Row) (f : Option ℕ) → StandsAt v page r f → v.rows ≡ rows → row_at page rows ≡ Some r' → StandsAt v page r' f
 stands_as v rows page r r' f at e found = subst (λ x. StandsAt v page x f) (same_Some r r' (sym at.found ∙ ap (row_at page) e ∙ found)) at

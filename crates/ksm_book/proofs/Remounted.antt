@@ -1,9 +1,10 @@
 -- A dup moves to another frame, with all of its items.
-use Rattle.std.proofs.Common.{◌≡◌, ◌≢◌, ℕ, ◌+◌, ◌<◌, ◌≤◌, Bool, true, cond, List, [], ◌∷◌, length, map, get_or, set, Option, Some, None, refl, sym, ap, ◌∙◌, subst, arith, length-set, get_or-set_same, get_or-set_other, eq-eqb}
-use Rattle.std.specs.Prelude.{All, ◌==◌, is_some, slice_index}
+use Rattle.std.proofs.Common.{inl, inr, ◌≡◌, ◌≢◌, ℕ, ◌+◌, ◌<◌, ◌≤◌, Bool, true, cond, List, [], ◌∷◌, length, map, get_or, set, Option, Some, None, refl, sym, ap, ◌∙◌, subst, arith, length-set, get_or-set_same, get_or-set_other, eq-eqb}
+use Rattle.std.specs.Prelude.{All, ◌==◌, is_some}
 use Rattle.std.proofs.lemmas.List.{length-map, get_or-map}
 use Rattle.std.proofs.lemmas.List.Sums.{sum_by-cons}
 use Rattle.std.proofs.lemmas.Bool.{ne_eqb}
+use Rattle.std.proofs.lemmas.Option.{same_Some}
 use mathlib.Core.Logic.{dite}
 use native.Mathlib.Decide.{ℕ_discrete}
 use Rattle.ksm_base.specs.declared.page.TheConstants.{PAGE_WORDS}
@@ -11,9 +12,9 @@ use Rattle.ksm_base.specs.declared.shape.Shape.{Shape}
 use Rattle.ksm_base.specs.declared.row.Row.{Row}
 use Rattle.ksm_base.specs.declared.row.DupRow.{DupRow}
 use Rattle.ksm_base.specs.declared.row.PageState.{PageState}
-use Rattle.ksm_base.specs.declared.row.PageState.TheVariants.{Private as OwnPage, Waiting, Merged}
+use Rattle.ksm_base.specs.declared.row.PageState.TheVariants.{Private as OwnPage, Waiting, Merged, Zero}
 use Rattle.ksm_base.specs.Values.{frames_of}
-use Rattle.ksm_base.specs.Rows.{merged_state, merged_into}
+use Rattle.ksm_base.specs.Rows.{shared_state, merged_into}
 use Rattle.frame_core.specs.declared.frame.Kind.{Kind}
 use Rattle.frame_core.specs.declared.frame.Kind.TheVariants.{Free, Private, Stable, Dying}
 use Rattle.frame_core.specs.declared.ledger.Note.{Note}
@@ -21,9 +22,9 @@ use Rattle.frame_core.specs.declared.ledger.Ledger.{Ledger}
 use Rattle.frame_core.specs.declared.seat.Life.{Life}
 use Rattle.frame_core.specs.Rule.{GenerationFits}
 use Rattle.frame_core.specs.Ledger.{frame_at, named_at, blank}
-use Rattle.ksm_book.specs.Placement.{row_in, node_of, uses, kind_for, FitsBase, life_or, place_frame, place_life, IsInLife, RowFits, Agrees, DupFits, Placed}
+use Rattle.ksm_book.specs.Placement.{frame_in, row_in, node_of, uses, kind_for, FitsBase, life_or, place_frame, place_life, IsInLife, RowFits, Agrees, DupFits, IsServed, Placed}
 use Rattle.ksm_book.specs.Listed.{instead}
-use Rattle.ksm_book.proofs.Moves.{one_at, one_same, one_other, uses_some}
+use Rattle.ksm_book.proofs.Moves.{Serves, one_at, one_same, one_other, frame_cases, uses_some}
 
 abbrev is_stable : Kind → Type 0
 is_stable Stable = Unit {0}
@@ -37,60 +38,66 @@ abbrev is_free : Kind → Type 0
 is_free Free = Unit {0}
 is_free _ = ⊥
 
-shared_state : (s : PageState) → kind_for s ≡ Stable → merged_state s ≡ true
-shared_state OwnPage e = absurd (subst is_stable (sym e) tt)
-shared_state Waiting e = absurd (subst is_stable (sym e) tt)
-shared_state (Merged d) e = refl
+merged_of_kind : (s : PageState) → kind_for s ≡ Stable → shared_state s ≡ true
+merged_of_kind OwnPage e = absurd (subst is_stable (sym e) tt)
+merged_of_kind Waiting e = absurd (subst is_stable (sym e) tt)
+merged_of_kind (Merged d) e = refl
+merged_of_kind Zero e = absurd (subst is_stable (sym e) tt)
 
 one_number : (s : PageState) (m n : ℕ) → merged_into m s ≡ true → merged_into n s ≡ true → n ≡ m
 one_number OwnPage m n a b = absurd (grind (arith, a))
 one_number Waiting m n a b = absurd (grind (arith, a))
+one_number Zero m n a b = absurd (grind (arith, a))
 one_number (Merged d) m n a b = sym (is_same d n b) ∙ is_same d m a
   where
     is_same : (x y : ℕ) → (x == y) ≡ true → x ≡ y
     is_same x y t = grind (arith, t)
 
-instead_here : (f g h : ℕ) → h ≡ f → instead f g h ≡ g
-instead_here f g h e = ap (λ (b : Bool). cond b g h) (eq-eqb h f e)
+instead_here : (f g : ℕ) (h : Option ℕ) → h ≡ Some f → instead f g h ≡ Some g
+instead_here f g h e = ap (instead f g) e ∙ ap (λ (b : Bool). cond b (Some g) (Some f)) (eq-eqb f f refl)
 
-instead_there : (f g h : ℕ) → h ≢ f → instead f g h ≡ h
-instead_there f g h ne = ap (λ (b : Bool). cond b g h) (ne_eqb h f ne)
+instead_there : (f g : ℕ) (h : Option ℕ) → h ≢ Some f → instead f g h ≡ h
+instead_there f g None ne = refl
+instead_there f g (Some x) ne = ap (λ (b : Bool). cond b (Some g) (Some x)) (ne_eqb x f (λ e. ne (ap Some e)))
 
 -- of the frames listed, those that were f are now g, and none is f any more
-uses_new : (f g : ℕ) (frames : List ℕ) → uses g frames ≡ 0 → uses g (map (instead f g) frames) ≡ uses f frames
+uses_new : (f g : ℕ) (frames : List (Option ℕ)) → uses g frames ≡ 0 → uses g (map (instead f g) frames) ≡ uses f frames
 uses_new f g [] none = refl
 uses_new f g (h ∷ hs) none =
     let was : uses g (h ∷ hs) ≡ one_at g h + uses g hs = sum_by-cons (one_at g) h hs in
     let rest : uses g (map (instead f g) hs) ≡ uses f hs = uses_new f g hs (omega (arith, was, none)) in
     let new : uses g (map (instead f g) (h ∷ hs)) ≡ one_at g (instead f g h) + uses g (map (instead f g) hs) = sum_by-cons (one_at g) (instead f g h) (map (instead f g) hs) in
     let old : uses f (h ∷ hs) ≡ one_at f h + uses f hs = sum_by-cons (one_at f) h hs in
-    let here : one_at g (instead f g h) ≡ one_at f h = dite (ℕ_discrete h f)
-    (λ e. one_same g _ (instead_here f g h e) ∙ sym (one_same f h e))
-    (λ ne. ap (one_at g) (instead_there f g h ne) ∙ (let z : one_at g h ≡ 0 = omega (arith, was, none) in z) ∙ sym (one_other f h ne)) in
+    let here : one_at g (instead f g h) ≡ one_at f h = elim (frame_cases f h) [
+      | inl e ↦ one_same g _ (instead_here f g h e) ∙ sym (one_same f h e)
+      | inr ne ↦ ap (one_at g) (instead_there f g h ne) ∙ (let z : one_at g h ≡ 0 = omega (arith, was, none) in z) ∙ sym (one_other f h ne)
+    ] in
     omega (arith, new, old, here, rest)
 
-uses_old : (f g : ℕ) (frames : List ℕ) → g ≢ f → uses f (map (instead f g) frames) ≡ 0
+uses_old : (f g : ℕ) (frames : List (Option ℕ)) → g ≢ f → uses f (map (instead f g) frames) ≡ 0
 uses_old f g [] ne = refl
 uses_old f g (h ∷ hs) ne =
     let rest : uses f (map (instead f g) hs) ≡ 0 = uses_old f g hs ne in
     let new : uses f (map (instead f g) (h ∷ hs)) ≡ one_at f (instead f g h) + uses f (map (instead f g) hs) = sum_by-cons (one_at f) (instead f g h) (map (instead f g) hs) in
-    let here : one_at f (instead f g h) ≡ 0 = dite (ℕ_discrete h f)
-    (λ e. one_other f _ (λ x. ne (sym (instead_here f g h e) ∙ x)))
-    (λ off. ap (one_at f) (instead_there f g h off) ∙ one_other f h off) in
+    let here : one_at f (instead f g h) ≡ 0 = elim (frame_cases f h) [
+      | inl e ↦ one_other f _ (λ x. ne (same_Some g f (sym (instead_here f g h e) ∙ x)))
+      | inr off ↦ ap (one_at f) (instead_there f g h off) ∙ one_other f h off
+    ] in
     omega (arith, new, here, rest)
 
-uses_still : (f g x : ℕ) (frames : List ℕ) → x ≢ f → x ≢ g → uses x (map (instead f g) frames) ≡ uses x frames
+uses_still : (f g x : ℕ) (frames : List (Option ℕ)) → x ≢ f → x ≢ g → uses x (map (instead f g) frames) ≡ uses x frames
 uses_still f g x [] nf ng = refl
 uses_still f g x (h ∷ hs) nf ng =
     let rest : uses x (map (instead f g) hs) ≡ uses x hs = uses_still f g x hs nf ng in
     let new : uses x (map (instead f g) (h ∷ hs)) ≡ one_at x (instead f g h) + uses x (map (instead f g) hs) = sum_by-cons (one_at x) (instead f g h) (map (instead f g) hs) in
     let old : uses x (h ∷ hs) ≡ one_at x h + uses x hs = sum_by-cons (one_at x) h hs in
-    let here : one_at x (instead f g h) ≡ one_at x h = dite (ℕ_discrete h f)
-    (λ e. ap (one_at x) (instead_here f g h e) ∙ one_other x g (λ y. ng (sym y)) ∙ sym (one_other x h (λ y. nf (sym y ∙ e))))
-    (λ off. ap (one_at x) (instead_there f g h off)) in
+    let here : one_at x (instead f g h) ≡ one_at x h = elim (frame_cases f h) [
+      | inl e ↦ ap (one_at x) (instead_here f g h e) ∙ one_other x (Some g) (λ y. ng (sym (same_Some g x y))) ∙ sym (one_other x h (λ y. nf (same_Some x f (sym y ∙ e))))
+      | inr off ↦ ap (one_at x) (instead_there f g h off)
+    ] in
     omega (arith, new, old, here, rest)
 
-module _ (sh : Shape) (across : ℕ) (k : Ledger) (rows : List Row) (frames : List ℕ) (dups : List DupRow) (p : Placed sh across k rows frames dups None) (n : ℕ) (d : DupRow) (lt : n < length dups) (g : ℕ) where
+module _ (sh : Shape) (across : ℕ) (k : Ledger) (rows : List Row) (frames : List (Option ℕ)) (dups : List DupRow) (p : Placed sh across k rows frames dups None) (n : ℕ) (d : DupRow) (lt : n < length dups) (g : ℕ) where
   abbrev pub moving : DupRow
   moving = get_or dups n d
 
@@ -176,33 +183,31 @@ module _ (sh : Shape) (across : ℕ) (k : Ledger) (rows : List Row) (frames : Li
         let far : place_frame k e.place ≢ g = λ same. too_young e m ne same l in
         (sym (same_life (place_frame k e.place) far) ∙ ap (λ h. (frame_at next h).generation) (sym (frame_off e.place ne)) ∙ l ∙ life_off e.place ne, far)
 
+    listed : (i : ℕ) → i < length rows → i < length frames
+    listed i low = let paired : length frames ≡ length rows = p.paired in omega (arith, paired, low)
+
     -- the row at i, on the frame that it has now
-    module _ (i : ℕ) (low : i < length rows) where
+    module _ (i : ℕ) (low : i < length rows) (f : ℕ) (is_on : frame_in frames i ≡ Some f) (had : Serves sh k dups (row_in rows i) f) where
       abbrev r : Row
       r = row_in rows i
 
-      abbrev f : ℕ
-      f = slice_index frames i
-
-      listed : i < length frames
-      listed = let paired : length frames ≡ length rows = p.paired in omega (arith, paired, low)
-
       far : f ≢ g
-      far e = let used : 1 ≤ uses g frames = uses_some frames i g listed e in omega (arith, used, unused)
+      far e = let used : 1 ≤ uses g frames = uses_some frames i g (listed i low) (is_on ∙ ap Some e) in omega (arith, used, unused)
 
       was : RowFits sh k r f
-      was = (p.each_row i low).0
+      was = had.0
 
       item_of : f ≡ left → merged_into moving.number r.state ≡ true
-      item_of e = ((p.each_row i low).1 n d lt).back in_life e
+      item_of e = (had.1 n d lt).back in_life e
 
       moved_row : f ≡ left → RowFits sh next r g
       moved_row e = record {
+        mapped = was.mapped;
         frame = inside;
         kind = at_g (λ x. x.kind ≡ kind_for r.state) (sym stable ∙ ap (λ h. (frame_at k h).kind) (sym e) ∙ was.kind);
         content = at_g (λ x. x.content ≡ r.bytes) (ap (λ h. (frame_at k h).content) (sym e) ∙ was.content);
         given = at_g (λ x. 1 ≤ x.generation) (omega arith);
-        node = λ alone. absurd (grind (arith, alone, shared_state r.state (sym was.kind ∙ ap (λ h. (frame_at k h).kind) e ∙ stable)));
+        node = λ alone. absurd (grind (arith, alone, merged_of_kind r.state (sym was.kind ∙ ap (λ h. (frame_at k h).kind) e ∙ stable)));
       }
 
       moved_agrees : f ≡ left → (e : DupRow) → DupFits sh across k e → (e.place ≢ q → e.number ≢ moving.number) → Agrees k r f e → Agrees next r g e
@@ -220,6 +225,7 @@ module _ (sh : Shape) (across : ℕ) (k : Ledger) (rows : List Row) (frames : Li
       still_row ne =
           let same : frame_at next f ≡ frame_at k f = at (λ x. x ≡ frame_at k f) f (λ e. absurd (far e)) (λ e. absurd (ne e)) (λ _ _. refl) in
           record {
+            mapped = was.mapped;
             frame = was.frame;
             kind = ap (λ (x : Note). x.kind) same ∙ was.kind;
             content = ap (λ (x : Note). x.content) same ∙ was.content;
@@ -238,12 +244,16 @@ module _ (sh : Shape) (across : ℕ) (k : Ledger) (rows : List Row) (frames : Li
             back = λ l t. a.back (off e m ne l).0 (t ∙ frame_off e.place ne);
           })
 
-      served : RowFits sh next r (instead left g f) × All (Agrees next r (instead left g f)) dups
+      served : IsServed sh next dups r (instead left g (Some f))
       served = dite (ℕ_discrete f left)
-          (λ e. subst (λ x. RowFits sh next r x × All (Agrees next r x) dups) (sym (instead_here left g f e))
-          (moved_row e, λ m x l. moved_agrees e (get_or dups m x) (p.each_dup m x l) (numbers m x l) ((p.each_row i low).1 m x l)))
-          (λ ne. subst (λ x. RowFits sh next r x × All (Agrees next r x) dups) (sym (instead_there left g f ne))
-          (still_row ne, λ m x l. still_agrees ne (get_or dups m x) (p.each_dup m x l) ((p.each_row i low).1 m x l)))
+          (λ e. subst (IsServed sh next dups r) (sym (instead_here left g (Some f) (ap Some e)))
+          (moved_row e, λ m x l. moved_agrees e (get_or dups m x) (p.each_dup m x l) (numbers m x l) (had.1 m x l)))
+          (λ ne. subst (IsServed sh next dups r) (sym (instead_there left g (Some f) (λ x. ne (same_Some f left x))))
+          (still_row ne, λ m x l. still_agrees ne (get_or dups m x) (p.each_dup m x l) (had.1 m x l)))
+
+    served_there : (i : ℕ) → i < length rows → (o : Option ℕ) → frame_in frames i ≡ o → IsServed sh k dups (row_in rows i) o → IsServed sh next dups (row_in rows i) (instead left g o)
+    served_there i low None is_on h = h
+    served_there i low (Some f) is_on h = served i low f is_on h
 
     dup_here : (e : DupRow) → e.place ≡ q → DupFits sh across k e → DupFits sh across next e
     dup_here e same m =
@@ -286,7 +296,7 @@ module _ (sh : Shape) (across : ℕ) (k : Ledger) (rows : List Row) (frames : Li
           (λ _. let below : (frame_at k g).generation < sh.last_generation = subst (λ (x : Kind). GenerationFits sh.last_generation x (frame_at k g).generation) free (p.lives g) in (omega arith, omega (arith, below)))
           (λ _. subst (λ (x : Kind). GenerationFits sh.last_generation x (frame_at k left).generation) stable (p.lives left))
           (λ _ _. p.lives h);
-      each_row = λ i low. subst (λ x. RowFits sh next (row_in rows i) x × All (Agrees next (row_in rows i) x) dups) (sym (get_or-map (instead left g) frames i 0 0 (listed i low))) (served i low);
+      each_row = λ i low. subst (IsServed sh next dups (row_in rows i)) (sym (get_or-map (instead left g) frames i None None (listed i low))) (served_there i low (frame_in frames i) refl (p.each_row i low));
       each_dup = λ m x l. dite (ℕ_discrete (get_or dups m x).place q) (λ same. dup_here (get_or dups m x) same (p.each_dup m x l)) (λ ne. dup_there (get_or dups m x) ne (p.each_dup m x l));
       bases = λ h. at (λ x. x.base ≡ uses h (map (instead left g) frames) + 0) h
           (λ e. let new : uses h (map (instead left g) frames) ≡ uses left frames = ap (λ y. uses y (map (instead left g) frames)) e ∙ uses_new left g frames unused in let old : (frame_at k left).base ≡ uses left frames + 0 = p.bases left in omega (arith, new, old))

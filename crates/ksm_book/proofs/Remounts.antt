@@ -1,6 +1,6 @@
 -- A dup with items, and the layout before and after it moves.
 use Rattle.std.proofs.Common.{inl, inr, ◌≡◌, ◌≢◌, ℕ, suc, ◌+◌, ◌*◌, ◌<◌, ◌≤◌, Bool, true, cond, List, [], ◌∷◌, ◌++◌, length, map, get_or, set, Option, Some, None, refl, sym, ap, ◌∙◌, subst, arith, eq-eqb, length-set, get_or-set_other}
-use Rattle.std.specs.Prelude.{All, find, ◌==◌, ◌&&◌}
+use Rattle.std.specs.Prelude.{All, find, is_some, ◌==◌, ◌&&◌}
 use Rattle.std.proofs.lemmas.Bool.{cases_Bool, and_parts, eqb-true, ltb-true, ne_eqb}
 use Rattle.std.proofs.lemmas.List.Elements.{Contains-append_right, Contains-push}
 use Rattle.std.proofs.lemmas.Option.{same_Some}
@@ -10,10 +10,10 @@ use Rattle.ksm_base.specs.declared.page.TheConstants.{PAGE_WORDS}
 use Rattle.ksm_base.specs.declared.shape.Shape.{Shape}
 use Rattle.ksm_base.specs.declared.knobs.Knobs.{Knobs}
 use Rattle.ksm_base.specs.declared.row.PageState.{PageState}
-use Rattle.ksm_base.specs.declared.row.PageState.TheVariants.{Private as OwnPage, Waiting, Merged}
+use Rattle.ksm_base.specs.declared.row.PageState.TheVariants.{Private as OwnPage, Waiting, Merged, Zero}
 use Rattle.ksm_base.specs.declared.row.Row.{Row}
 use Rattle.ksm_base.specs.declared.row.DupRow.{DupRow}
-use Rattle.ksm_base.specs.Rows.{has_items, item_count, merged_into, row_at, dup_numbered}
+use Rattle.ksm_base.specs.Rows.{has_items, item_count, merged_into, zero_state, row_at, dup_numbered}
 use Rattle.ksm_base.specs.Sound.{IsSound}
 use Rattle.ksm_base.specs.Values.{frames_of}
 use Rattle.ksm_base.proofs.Edits.{find_all, find_passes, find_none, count_none}
@@ -29,9 +29,9 @@ use Rattle.frame_core.specs.State.{count_in}
 use Rattle.frame_core.specs.Ledger.{frame_at, named_at, blank, IsLoose, with_frame}
 use Rattle.frame_table.specs.Named.{KeeperView}
 use Rattle.frame_table.specs.Kept.{did}
-use Rattle.ksm_book.specs.Placement.{node_of, kind_for, life_or, place_frame, IsInLife, Agrees, DupFits, Placed}
+use Rattle.ksm_book.specs.Placement.{node_of, kind_for, life_or, place_frame, IsInLife, Agrees, DupFits, IsServed, Placed}
 use Rattle.ksm_book.specs.Keeping.{past_lives, spent_on, spent}
-use Rattle.ksm_book.specs.Commands.{Finds, Moves, FindsHeld, dup_frame, frame_found, mounting}
+use Rattle.ksm_book.specs.Commands.{Finds, Moves, FindsHeld, dup_frame, frame_found, frame_number, mounting}
 use Rattle.ksm_book.specs.Laid.{Lay, IsLaid, state_of, lay_of, mapped_lay}
 use Rattle.ksm_book.specs.Linked.{PagesView}
 use Rattle.ksm_book.specs.Listed.{Listed, rank, StandsAt, instead}
@@ -40,7 +40,7 @@ use Rattle.ksm_book.specs.Steps.{Log, Did, Made, IsLowestFree, free_kind}
 use Rattle.ksm_book.specs.Whole.{HasLost, HasMoved}
 use Rattle.ksm_book.proofs.Filling.{at_again, node_end, on_node}
 use Rattle.ksm_book.proofs.Keeping.{spent_set}
-use Rattle.ksm_book.proofs.Laying.{kept, shape_same}
+use Rattle.ksm_book.proofs.Laying.{kept, shape_same, has_frame}
 use Rattle.ksm_book.proofs.Logs.{chained, one_step}
 use Rattle.ksm_book.proofs.Made.{made_one}
 use Rattle.ksm_book.proofs.Moves.{Serves, base_is_items}
@@ -59,6 +59,7 @@ dying_not_stable e = subst is_stable (sym e) tt
 merged_is : (s : PageState) (n : ℕ) → merged_into n s ≡ true → s ≡ Merged n
 merged_is OwnPage n e = absurd (grind (arith, e))
 merged_is Waiting n e = absurd (grind (arith, e))
+merged_is Zero n e = absurd (grind (arith, e))
 merged_is (Merged d) n e = ap Merged (eqb-true d n e)
 
 -- where a search finds an element
@@ -139,7 +140,16 @@ module _ (pages : PagesView) (k : KeeperView) (h : IsLaid pages.shape pages.list
     pub first_known : row_at first.page v.rows ≡ Some first
     first_known = find_all by_item (λ r. row_at r.page v.rows ≡ Some r) v.rows first (sym searched) (each_at_page v.rows s.rows_rise)
 
-    module _ (item : Row) (g : ℕ) (at : StandsAt v first.page item g) where
+    -- it has a frame
+    pub framed_item : (item : Row) (o : Option ℕ) → StandsAt v first.page item o → is_some o ≡ true
+    framed_item item o at =
+        let into : merged_into dup.number item.state ≡ true = subst (λ (x : Row). merged_into dup.number x.state ≡ true) (same_Some _ _ (sym first_known ∙ at.found)) (find_passes by_item v.rows first (sym searched)) in
+        has_frame sh v dups knobs next k h first.page item o at (ap zero_state (merged_is item.state dup.number into))
+
+    module _ (item : Row) (o : Option ℕ) (g : ℕ) (some : o ≡ Some g) (found_at : StandsAt v first.page item o) where
+      at : StandsAt v first.page item (Some g)
+      at = subst (StandsAt v first.page item) some found_at
+
       abbrev j : ℕ
       j = rank first.page v.rows
 
@@ -148,7 +158,7 @@ module _ (pages : PagesView) (k : KeeperView) (h : IsLaid pages.shape pages.list
 
       -- the frame of the dup is its first item's
       dup_frame_is : dup_frame v dup.number ≡ g
-      dup_frame_is = ap (frame_found v) (sym searched) ∙ at.frame_is
+      dup_frame_is = ap (frame_found v) (sym searched) ∙ ap frame_number at.frame_is
 
       -- once the dying frames were reaped
       module _ (w : KeeperView) (same : w.table ≡ k.table) (node f : ℕ) (less' : node < now.shape.nodes) (home' : now.knobs.merge_across_nodes ≡ 0 → node ≡ dup.tree) (free : FoundFree k w node f) where
@@ -165,7 +175,7 @@ module _ (pages : PagesView) (k : KeeperView) (h : IsLaid pages.shape pages.list
         n = frame_at w.ledger g
 
         fits : Serves sh w.ledger dups item g
-        fits = subst (λ (z : Row × ℕ). Serves sh w.ledger dups z.0 z.1) (λ t. (at.row_is t, at.frame_is t)) (p.each_row j at.inside)
+        fits = subst (λ (z : Row × Option ℕ). IsServed sh w.ledger dups z.0 z.1) (λ t. (at.row_is t, at.frame_is t)) (p.each_row j at.inside)
 
         on_frame : (g ≡ place_frame w.ledger dup.place) × IsInLife w.ledger dup.place
         on_frame = (find_all test (Agrees w.ledger item g) dups dup live fits.1).item is_item
@@ -360,7 +370,7 @@ module _ (pages : PagesView) (k : KeeperView) (h : IsLaid pages.shape pages.list
                   record {
                     small = h.small;
                     same = shape_same sh u x (shape_same sh w u shape_is table_is) onward;
-                    placed = subst (λ (z : Ledger × List Row × List ℕ). Placed sh across z.0 z.1 z.2 dups None)
+                    placed = subst (λ (z : Ledger × List Row × List (Option ℕ)). Placed sh across z.0 z.1 z.2 dups None)
                         (λ t. (
                           ((λ i. record {
                             frames = set (set w.ledger.frames (sym left_is i) (record { kind = Dying; base = 0; generation = (frame_at w.ledger (sym left_is i)).generation; content = (frame_at w.ledger (sym left_is i)).content })) f

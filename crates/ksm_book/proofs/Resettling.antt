@@ -1,20 +1,20 @@
 -- Rows that are resettled one after another.
 use Rattle.std.proofs.Common.{inl, inr, ◌≡◌, ℕ, zero, suc, ◌+◌, Bool, true, false, cond, List, [], ◌∷◌, ◌++◌, take, Option, Some, None, refl, sym, ap}
 use Rattle.std.proofs.Common.{◌∙◌, subst, arith}
-use Rattle.std.specs.Prelude.{slice_get, slice_index, slice_set}
+use Rattle.std.specs.Prelude.{slice_get, slice_set}
 use Rattle.std.proofs.lemmas.Bool.{cases_Bool}
 use Rattle.std.proofs.lemmas.Option.{same_Some}
 use Rattle.ksm_base.specs.declared.page.GuestPage.{GuestPage}
 use Rattle.ksm_base.specs.declared.row.Row.{Row}
 use Rattle.ksm_base.specs.Rows.{comes_before}
 use Rattle.ksm_base.specs.Apply.{unshared}
-use Rattle.frame_core.specs.declared.event.KeeperStep.TheVariants.{Sub}
 use Rattle.frame_table.specs.Named.{KeeperView}
 use Rattle.ksm_book.specs.Carried.{UnmergesTo}
-use Rattle.ksm_book.specs.Commands.{Mapped, FindsNone, Provides, Resettles, ResettlesEach}
+use Rattle.ksm_book.specs.Commands.{Mapped, FindsNone, Provides, Resettles, ResettlesEach, leaving}
 use Rattle.ksm_book.specs.Listed.{rank}
 use Rattle.ksm_book.specs.Steps.{Made}
 use Rattle.ksm_book.specs.Unmerged.{first_changed}
+use Rattle.ksm_book.specs.Placement.{frame_in}
 use Rattle.ksm_book.proofs.Unmerged.{fault_of}
 
 -- rows that are unshared stand where they stood
@@ -35,7 +35,7 @@ rank_kept page t (suc n) (r ∷ rows) = by (t r) (rank_kept page t n rows) (rank
     by false one more = rank_cons page r r (first_changed t unshared (suc n) rows) rows refl more
 
 -- the row that is resettled stands, with its home and bytes, among the rows as they were
-pub resettled_as : (t : Row → Bool) (n : ℕ) (rows now : List Row) (frames : List ℕ) (keeper : KeeperView) (w : Mapped) (row new : Row)
+pub resettled_as : (t : Row → Bool) (n : ℕ) (rows now : List Row) (frames : List (Option ℕ)) (keeper : KeeperView) (w : Mapped) (row new : Row)
     → now ≡ first_changed t unshared n rows → new ≡ unshared row
     → Resettles (record { listed = record { rows = now; frames = frames }; keeper = keeper }) w new
     → Resettles (record { listed = record { rows = rows; frames = frames }; keeper = keeper })
@@ -46,21 +46,21 @@ resettled_as t n rows now frames keeper w row new made is h =
       frame = h.frame;
       between = h.between;
       provides = subst (λ (x : Row). Provides keeper h.between x.home x.bytes h.frame) is h.provides;
-      leaves = subst (λ i. Made h.between w.keeper (Sub (slice_index frames i) ∷ [])) at h.leaves;
-      frames = h.frames ∙ ap (λ i. slice_set frames i h.frame) at;
+      leaves = subst (λ i. Made h.between w.keeper (leaving (frame_in frames i))) at h.leaves;
+      frames = h.frames ∙ ap (λ i. slice_set frames i (Some h.frame)) at;
     }
 
 module _ (rows : List Row) where
-  abbrev pub placed : List ℕ → KeeperView → Mapped
+  abbrev pub placed : List (Option ℕ) → KeeperView → Mapped
   placed frames keeper = record { listed = record { rows = rows; frames = frames }; keeper = keeper }
 
   -- one more
-  pub each_more : (xs : List Row) (f0 f1 f2 : List ℕ) (k0 k1 k2 : KeeperView) (row : Row) → ResettlesEach xs (placed f0 k0) (placed f1 k1)
+  pub each_more : (xs : List Row) (f0 f1 f2 : List (Option ℕ)) (k0 k1 k2 : KeeperView) (row : Row) → ResettlesEach xs (placed f0 k0) (placed f1 k1)
       → Resettles (placed f1 k1) (placed f2 k2) row → ResettlesEach (xs ++ row ∷ []) (placed f0 k0) (placed f2 k2)
   each_more [] f0 f1 f2 k0 k1 k2 row idle r = (
     k2,
     f2,
-    subst (λ (z : List ℕ × KeeperView). Resettles (placed z.0 z.1) (placed f2 k2) row) (λ i. (idle.frames i, idle.keeper i)) r,
+    subst (λ (z : List (Option ℕ) × KeeperView). Resettles (placed z.0 z.1) (placed f2 k2) row) (λ i. (idle.frames i, idle.keeper i)) r,
     record { keeper = refl; frames = refl },
   )
   each_more (x ∷ xs) f0 f1 f2 k0 k1 k2 row so_far r = (so_far.0, so_far.1, so_far.2, each_more xs so_far.1 f1 f2 so_far.0 k1 k2 row so_far.3 r)

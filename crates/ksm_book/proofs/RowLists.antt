@@ -1,6 +1,6 @@
 -- Entries of the rows' map, and the rows that they stand for.
 use Rattle.std.proofs.Common.{◌≡◌, ℕ, suc, ◌<◌, ◌≤◌, Bool, true, false, cond, List, [], ◌∷◌, ◌++◌, length, set, Option, Some, None, refl, sym, ap, ◌∙◌, subst, arith}
-use Rattle.std.specs.Prelude.{map, filter, insert, remove, not, slice_index, is_some}
+use Rattle.std.specs.Prelude.{map, filter, insert, remove, not, is_some}
 use Rattle.std.proofs.lemmas.Bool.Decides.{nat_tests}
 use Rattle.std.proofs.lemmas.Map.Keys.{sorted_head, sorted_tail}
 use Rattle.std.specs.List.{AllByRecursion}
@@ -15,7 +15,7 @@ use Rattle.ksm_base.specs.declared.row.Row.{Row}
 use Rattle.ksm_base.specs.Rows.{comes_before, same_page, row_at, with_row, without_page, change_row}
 use Rattle.ksm_base.specs.contracts.page.GuestPageOrd.TheImpl as page_ord
 use Rattle.ksm_book.specs.declared.entry.Entry.{Entry}
-use Rattle.ksm_book.specs.Placement.{row_in}
+use Rattle.ksm_book.specs.Placement.{frame_in, row_in}
 use Rattle.ksm_book.specs.Listed.{Listed, rank, StandsAt}
 use Rattle.ksm_book.specs.RowEntries.{row_of, frame_of, entry_of, listed}
 use Rattle.ksm_base.proofs.Pages.{same_page_eq, not_both, before_differs, before_trans}
@@ -45,7 +45,7 @@ less_is p q = grind (arith, nat_tests)
 greater_is : (p q : GuestPage) → is_gt (order p q) ≡ comes_before q p
 greater_is p q = grind (arith, nat_tests)
 
-before_is : (k q : GuestPage) → order k q ≡ Less → comes_before k q ≡ true
+pub before_is : (k q : GuestPage) → order k q ≡ Less → comes_before k q ≡ true
 before_is k q less = sym (less_is k q) ∙ ap is_lt less
 
 less_so : (k q : GuestPage) → comes_before k q ≡ true → order k q ≡ Less
@@ -154,8 +154,8 @@ none_by k es none = go (row_at k (rows_of es)) (known_by k es ∙ ap is_some non
     go (Some r) e = absurd (grind (arith, e))
 
 -- the page's row, with its frame, stands at place n
-abbrev Stands : Listed → GuestPage → Row → ℕ → ℕ → Type 0
-Stands v k row frame n = (n < length v.rows) × (row_in v.rows n ≡ row) × (slice_index v.frames n ≡ frame) × (row_at k v.rows ≡ Some row)
+abbrev Stands : Listed → GuestPage → Row → Option ℕ → ℕ → Type 0
+Stands v k row frame n = (n < length v.rows) × (row_in v.rows n ≡ row) × (frame_in v.frames n ≡ frame) × (row_at k v.rows ≡ Some row)
 
 stands : (k : GuestPage) (v : Entry) (es : Entries) → Sorted es → lookup (asks k) es ≡ Some v → Stands (listed es) k (row_of (k, v)) v.frame (rank k (rows_of es))
 stands k v [] sorted found = absurd (grind (arith, found))
@@ -285,7 +285,7 @@ came_at k w (e ∷ es) sorted none = beside (CameAt k w (e ∷ es) (rank k (rows
 -- ---------------------------------------------------------------- the same, said of the value of the rows
 
 -- a row came into the lists, at the rank of its page
-pub record Came (old new : Listed) (row : Row) (frame : ℕ) : Type 0 where
+pub record Came (old new : Listed) (row : Row) (frame : Option ℕ) : Type 0 where
   pub rows : new.rows ≡ insert old.rows (rank row.page old.rows) row
   pub frames : new.frames ≡ insert old.frames (rank row.page old.rows) frame
   pub added : new.rows ≡ with_row row old.rows
@@ -293,19 +293,19 @@ pub record Came (old new : Listed) (row : Row) (frame : ℕ) : Type 0 where
   pub within : rank row.page old.rows ≤ length old.rows
   pub known : is_some (row_at row.page new.rows) ≡ true
 
-pub came : (es fs : Entries) (l : Listed) (row : Row) (frame : ℕ) → listed es ≡ l → Sorted es → row_at row.page l.rows ≡ None → fs ≡ insert_entry order es row.page (entry_of row frame) → Came l (listed fs) row frame
+pub came : (es fs : Entries) (l : Listed) (row : Row) (frame : Option ℕ) → listed es ≡ l → Sorted es → row_at row.page l.rows ≡ None → fs ≡ insert_entry order es row.page (entry_of row frame) → Came l (listed fs) row frame
 came es fs l row frame is sorted none made =
     subst (λ v. Came v (listed fs) row frame) is (subst (λ x. Came (listed es) (listed x) row frame) (sym made)
     (let c = came_at row.page (entry_of row frame) es sorted (ap (λ (v : Listed). row_at row.page v.rows) is ∙ none) in
     record { rows = c.rows; frames = c.frames; added = c.added; place = c.place; within = c.within; known = c.known }))
 
 -- the row at the rank of its page is another now
-pub record Replaced (old new : Listed) (row : Row) (frame : ℕ) : Type 0 where
+pub record Replaced (old new : Listed) (row : Row) (frame : Option ℕ) : Type 0 where
   pub rows : new.rows ≡ set old.rows (rank row.page old.rows) row
   pub frames : new.frames ≡ set old.frames (rank row.page old.rows) frame
   pub changed : new.rows ≡ change_row row.page (λ _. row) old.rows
 
-pub replaced : (es fs : Entries) (l : Listed) (row : Row) (frame : ℕ) → listed es ≡ l → Sorted es → is_some (row_at row.page l.rows) ≡ true → fs ≡ set_value (asks row.page) es (entry_of row frame) → Replaced l (listed fs) row frame
+pub replaced : (es fs : Entries) (l : Listed) (row : Row) (frame : Option ℕ) → listed es ≡ l → Sorted es → is_some (row_at row.page l.rows) ≡ true → fs ≡ set_value (asks row.page) es (entry_of row frame) → Replaced l (listed fs) row frame
 replaced es fs l row frame is sorted known made =
     subst (λ v. Replaced v (listed fs) row frame) is (subst (λ x. Replaced (listed es) (listed x) row frame) (sym made)
     (let c = set_at row.page (entry_of row frame) es sorted (ap (λ (v : Listed). is_some (row_at row.page v.rows)) is ∙ known) in

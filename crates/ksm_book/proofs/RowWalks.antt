@@ -96,7 +96,7 @@ and_true true = refl
 and_true false = refl
 
 -- a page lies in the range after a cursor where it comes after it
-in_range : (cursor : Option GuestPage) (page : GuestPage) → range_contains page_order (start_after cursor) Unbounded page ≡ after_cursor cursor page
+pub in_range : (cursor : Option GuestPage) (page : GuestPage) → range_contains page_order (start_after cursor) Unbounded page ≡ after_cursor cursor page
 in_range None page = refl
 in_range (Some last) page = and_true (is_lt (page_order last page)) ∙ less_is last page
 
@@ -136,10 +136,10 @@ module _ (change : Row → Row) (keeps : (r : Row) → (change r).page ≡ r.pag
   all_changed es fs l is made = ap listed made ∙ (λ t. record { rows = rows_changed es t; frames = frames_kept es t }) ∙ ap (λ (v : Listed). record { rows = map change v.rows; frames = v.frames }) is
 
 -- an entry with its frame changed
-abbrev pub moved : (ℕ → ℕ) → GuestPage → Entry → Entry
+abbrev pub moved : (Option ℕ → Option ℕ) → GuestPage → Entry → Entry
 moved change page e = record e { frame = change e.frame }
 
-module _ (change : ℕ → ℕ) where
+module _ (change : Option ℕ → Option ℕ) where
   rows_kept : (es : Entries) → rows_of (map (λ e. (e.0, moved change e.0 e.1)) es) ≡ rows_of es
   rows_kept [] = refl
   rows_kept (e ∷ es) = ap (λ l. row_of e ∷ l) (rows_kept es)

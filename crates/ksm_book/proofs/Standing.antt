@@ -1,6 +1,6 @@
 -- The frames of dups with items in a lawful placement, and why a new dup finds a place.
 use Rattle.std.proofs.Common.{inl, inr, ◌≡◌, ◌≢◌, ℕ, zero, suc, ◌+◌, ◌<◌, ◌≤◌, ◌^◌, Bool, true, false, List, [], ◌∷◌, length, map, get_or, Option, Some, None, refl, sym, ap, ◌∙◌, subst, arith}
-use Rattle.std.specs.Prelude.{All, ◌==◌, count_by, find, nat_lt, slice_index}
+use Rattle.std.specs.Prelude.{All, ◌==◌, count_by, find, nat_lt}
 use Rattle.std.specs.List.{list_any}
 use Rattle.std.proofs.Math.Dec.{eqb}
 use Rattle.std.proofs.lemmas.Bool.{cases_Bool, cond_both, eqb-true, ne_eqb, ltb-true}
@@ -11,10 +11,10 @@ use Rattle.std.proofs.lemmas.Map.Keys.{IsDistinct-from_apart}
 use Rattle.std.proofs.lemmas.Map.Steps.{length-le_from_distinct_below}
 use Rattle.ksm_base.specs.declared.shape.Shape.{Shape}
 use Rattle.ksm_base.specs.declared.row.PageState.{PageState}
-use Rattle.ksm_base.specs.declared.row.PageState.TheVariants.{Private as OwnPage, Waiting, Merged}
+use Rattle.ksm_base.specs.declared.row.PageState.TheVariants.{Private as OwnPage, Waiting, Merged, Zero}
 use Rattle.ksm_base.specs.declared.row.Row.{Row}
 use Rattle.ksm_base.specs.declared.row.DupRow.{DupRow}
-use Rattle.ksm_base.specs.Rows.{InPlaceOrder, item_count, is_stale, merged_into, merged_state}
+use Rattle.ksm_base.specs.Rows.{InPlaceOrder, item_count, is_stale, merged_into, shared_state, zero_state}
 use Rattle.ksm_base.specs.Values.{frames_of}
 use Rattle.ksm_base.specs.declared.page.GuestPage.{GuestPage}
 use Rattle.ksm_base.specs.Sound.{IsSound}
@@ -26,18 +26,27 @@ use Rattle.frame_core.specs.declared.frame.Kind.{Kind}
 use Rattle.frame_core.specs.declared.frame.Kind.TheVariants.{Private, Stable}
 use Rattle.frame_core.specs.declared.ledger.Ledger.{Ledger}
 use Rattle.frame_core.specs.Ledger.{frame_at}
-use Rattle.ksm_book.specs.Placement.{row_in, no_row, kind_for, place_frame, IsInLife, Placed}
+use Rattle.ksm_book.specs.Placement.{frame_in, row_in, no_row, kind_for, place_frame, IsInLife, IsServed, Placed}
 use Rattle.frame_table.specs.Named.{KeeperView}
 use Rattle.ksm_book.specs.Laid.{Lay, state_of}
 use Rattle.ksm_book.specs.Promised.{FindsPlace, NumbersAreSmall}
 use Rattle.ksm_book.specs.Lawful.{LieLawfully}
-use Rattle.ksm_book.proofs.Laying.{own_kind}
+use Rattle.ksm_book.proofs.Laying.{own_kind, own_framed}
+use Rattle.ksm_book.proofs.Moves.{Serves, framed}
 use Rattle.ksm_book.proofs.Visiting.{state_of_item, waiting_is_alone}
 
 kind_of_item : (n : ℕ) (s : PageState) → merged_into n s ≡ true → kind_for s ≡ Stable
 kind_of_item n OwnPage e = absurd (grind (arith, e))
 kind_of_item n Waiting e = absurd (grind (arith, e))
 kind_of_item n (Merged d) e = refl
+kind_of_item n Zero e = absurd (grind (arith, e))
+
+-- an item has a frame
+pub item_framed : (n : ℕ) (s : PageState) → merged_into n s ≡ true → zero_state s ≡ false
+item_framed n OwnPage e = refl
+item_framed n Waiting e = refl
+item_framed n (Merged d) e = refl
+item_framed n Zero e = absurd (grind (arith, e))
 
 -- an element that is counted stands somewhere
 counted_at : (test : Row → Bool) (rows : List Row) → (count_by test rows ≡ 0 → ⊥) → (j : ℕ) × (j < length rows) × (test (row_in rows j) ≡ true)
@@ -51,11 +60,11 @@ counted_at test (r ∷ rows) some = elim (cases_Bool (test r)) [
 ]
 
 -- a dup with items: an item lies on the frame that its place names, which is stable in the life named
-pub record Lives (k : Ledger) (rows : List Row) (frames : List ℕ) (d : DupRow) : Type 0 where
+pub record Lives (k : Ledger) (rows : List Row) (frames : List (Option ℕ)) (d : DupRow) : Type 0 where
   pub item : ℕ
   pub inside : item < length rows
   pub merged : merged_into d.number (row_in rows item).state ≡ true
-  pub lies : slice_index frames item ≡ place_frame k d.place
+  pub lies : frame_in frames item ≡ Some (place_frame k d.place)
   pub life : IsInLife k d.place
   pub kind : (frame_at k (place_frame k d.place)).kind ≡ Stable
 
@@ -63,19 +72,20 @@ abbrev is_private : Kind → Type 0
 is_private Private = Unit {0}
 is_private _ = ⊥
 
-module _ (sh : Shape) (across : ℕ) (k : Ledger) (rows : List Row) (frames : List ℕ) (dups : List DupRow) (p : Placed sh across k rows frames dups None) where
+module _ (sh : Shape) (across : ℕ) (k : Ledger) (rows : List Row) (frames : List (Option ℕ)) (dups : List DupRow) (p : Placed sh across k rows frames dups None) where
   pub lives : (n : ℕ) (d : DupRow) → n < length dups → (item_count rows (get_or dups n d) ≡ 0 → ⊥) → Lives k rows frames (get_or dups n d)
   lives n d lt some =
       let e = get_or dups n d in
       let at = counted_at (λ r. merged_into e.number r.state) rows some in
       let row = row_in rows at.0 in
-      let fits = p.each_row at.0 at.1 in
+      let has = framed sh k dups row (frame_in frames at.0) (item_framed e.number row.state at.2) (p.each_row at.0 at.1) in
+      let fits = has.2 in
       let on = (fits.1 n d lt).item at.2 in
       record {
         item = at.0;
         inside = at.1;
         merged = at.2;
-        lies = on.0;
+        lies = has.1 ∙ ap Some on.0;
         life = on.1;
         kind = ap (λ f. (frame_at k f).kind) (sym on.0) ∙ fits.0.kind ∙ kind_of_item e.number row.state at.2;
       }
@@ -87,7 +97,7 @@ module _ (sh : Shape) (across : ℕ) (k : Ledger) (rows : List Row) (frames : Li
       let e = get_or dups n d in
       let e' = get_or dups m d in
       let state = state_of_item e.number (row_in rows a.item).state a.merged in
-      let both : merged_into e'.number (row_in rows a.item).state ≡ true = ((p.each_row a.item a.inside).1 m d lt').back b.life (a.lies ∙ same) in
+      let both : merged_into e'.number (row_in rows a.item).state ≡ true = ((subst (IsServed sh k dups (row_in rows a.item)) a.lies (p.each_row a.item a.inside)).1 m d lt').back b.life same in
       let number : (e.number == e'.number) ≡ true = ap (merged_into e'.number) (sym state) ∙ both in
       sym (eqb-true e.number e'.number number)
 
@@ -100,9 +110,9 @@ module _ (sh : Shape) (across : ℕ) (k : Ledger) (rows : List Row) (frames : Li
         let one = one_number n m d (omega (arith, before, lt)) lt a b same in
         absurd (grind (arith, nat_tests, other, one))
 
-  pub own_apart : (i : ℕ) → i < length rows → merged_state (row_in rows i).state ≡ false → (d : DupRow) → Lives k rows frames d → slice_index frames i ≢ place_frame k d.place
-  own_apart i lt alone d a same =
-      let own = (p.each_row i lt).0.kind ∙ own_kind (row_in rows i).state alone in
+  pub own_apart : (i f : ℕ) → i < length rows → shared_state (row_in rows i).state ≡ false → frame_in frames i ≡ Some f → (d : DupRow) → Lives k rows frames d → f ≢ place_frame k d.place
+  own_apart i f lt alone is d a same =
+      let own = (subst (IsServed sh k dups (row_in rows i)) is (p.each_row i lt)).0.kind ∙ own_kind (row_in rows i).state alone in
       subst is_private (sym (ap (λ f. (frame_at k f).kind) (sym same) ∙ own) ∙ a.kind) tt
 
 below_any : (xs : List ℕ) (n q : ℕ) → All (λ x. x < n) xs → list_any (eqb q) xs ≡ true → q < n
@@ -120,13 +130,17 @@ empty_from_most p (d ∷ ds) =
     cond_both (d.place == p) (empty_from (p + 1) ds) p (λ n. n ≤ p + length (d ∷ ds)) (λ _. omega (arith, rest)) (λ _. omega arith)
 
 -- beside a page with a frame of its own a new dup finds a place: where no dup is stale, each has a frame, and the page's is one more
-pub finds_place : (sh : Shape) (across : ℕ) (k : Ledger) (rows : List Row) (frames : List ℕ) (dups : List DupRow) → Placed sh across k rows frames dups None → InPlaceOrder dups
-    → (i : ℕ) → i < length rows → merged_state (row_in rows i).state ≡ false → new_place (frames_of sh) rows dups < frames_of sh
+pub finds_place : (sh : Shape) (across : ℕ) (k : Ledger) (rows : List Row) (frames : List (Option ℕ)) (dups : List DupRow) → Placed sh across k rows frames dups None → InPlaceOrder dups
+    → (i : ℕ) → i < length rows → shared_state (row_in rows i).state ≡ false → new_place (frames_of sh) rows dups < frames_of sh
 finds_place sh across k rows frames dups p rise i lt alone =
     cond_both (nat_lt empty (frames_of sh)) empty (place_or empty (find (is_stale rows) dups)) (λ n. n < frames_of sh) (λ fits. ltb-true empty (frames_of sh) fits) (λ _. go (find (is_stale rows) dups) refl)
   where
     empty : ℕ
     empty = empty_from 0 dups
+
+    -- the frame of that page
+    own : (f : ℕ) × (frame_in frames i ≡ Some f) × Serves sh k dups (row_in rows i) f
+    own = framed sh k dups (row_in rows i) (frame_in frames i) (own_framed (row_in rows i).state alone) (p.each_row i lt)
 
     go : (stale : Option DupRow) → find (is_stale rows) dups ≡ stale → place_or empty stale < frames_of sh
     go (Some d) is = find_all (is_stale rows) (λ e. e.place < frames_of sh) dups d is (λ n e l. (p.each_dup n e l).place)
@@ -135,8 +149,8 @@ finds_place sh across k rows frames dups p rise i lt alone =
         let live : (n : ℕ) (d : DupRow) → n < length dups → Lives k rows frames (get_or dups n d) = λ n d l.
         lives sh across k rows frames dups p n d l (λ zero_is. let not_stale = none n d l in absurd (grind (arith, nat_tests, not_stale, zero_is))) in
         let frame : DupRow → ℕ = λ d. place_frame k d.place in
-        let all = slice_index frames i ∷ map frame dups in
-        let inside : All (λ f. f < frames_of sh) all = All-cons (λ f. f < frames_of sh) (slice_index frames i) (map frame dups) (p.each_row i lt).0.frame
+        let all = own.0 ∷ map frame dups in
+        let inside : All (λ f. f < frames_of sh) all = All-cons (λ f. f < frames_of sh) own.0 (map frame dups) own.2.0.frame
         (λ n f l. let l' : n < length dups = (let wide = length-map dups frame in omega (arith, l, wide)) in
         subst (λ x. x < frames_of sh) (sym (get_or-map frame dups n d0 f l')) (p.each_dup n d0 l').frame) in
         let apart : (n m : ℕ) (f : ℕ) → n < m → m < length all → eqb (get_or all n f) (get_or all m f) ≡ false = λ n m f before l. differ live n m f before l in
@@ -148,14 +162,14 @@ finds_place sh across k rows frames dups p rise i lt alone =
         d0 : DupRow
         d0 = record { number = 0; place = 0; tree = 0; bytes = [] }
 
-        differ : ((n : ℕ) (d : DupRow) → n < length dups → Lives k rows frames (get_or dups n d)) → (n m f : ℕ) → n < m → m < length (slice_index frames i ∷ map (λ d. place_frame k d.place) dups)
-            → eqb (get_or (slice_index frames i ∷ map (λ d. place_frame k d.place) dups) n f) (get_or (slice_index frames i ∷ map (λ d. place_frame k d.place) dups) m f) ≡ false
+        differ : ((n : ℕ) (d : DupRow) → n < length dups → Lives k rows frames (get_or dups n d)) → (n m f : ℕ) → n < m → m < length (own.0 ∷ map (λ d. place_frame k d.place) dups)
+            → eqb (get_or (own.0 ∷ map (λ d. place_frame k d.place) dups) n f) (get_or (own.0 ∷ map (λ d. place_frame k d.place) dups) m f) ≡ false
         differ live n zero f before l = absurd (omega (arith, before))
         differ live zero (suc m) f before l =
             let frame : DupRow → ℕ = λ d. place_frame k d.place in
             let wide = length-map dups frame in
             let l' : m < length dups = omega (arith, l, wide) in
-            ne_eqb _ _ (λ same. own_apart sh across k rows frames dups p i lt alone (get_or dups m d0) (live m d0 l') (same ∙ get_or-map frame dups m d0 f l'))
+            ne_eqb _ _ (λ same. own_apart sh across k rows frames dups p i own.0 lt alone own.1 (get_or dups m d0) (live m d0 l') (same ∙ get_or-map frame dups m d0 f l'))
         differ live (suc n) (suc m) f before l =
             let frame : DupRow → ℕ = λ d. place_frame k d.place in
             let wide = length-map dups frame in
@@ -180,13 +194,13 @@ partner_finds_place lay cursor passes row w s waits lies =
     let at = found_at test lay.rows w waits in
     let tells = waits_tells lay.knobs row w (find_passes test lay.rows w waits) in
     finds_place lay.shape lay.knobs.merge_across_nodes lay.keeper.ledger lay.rows lay.frames lay.dups lies s.dups_rise at.0 at.1
-    (ap (λ (r : Row). merged_state r.state) at.2 ∙ waiting_is_alone w.state tells.state)
+    (ap (λ (r : Row). shared_state r.state) at.2 ∙ waiting_is_alone w.state tells.state)
 
 -- and so does each page with a frame of its own
-pub finds_places : (b : BookState) (frames : List ℕ) (k : KeeperView) → IsSound b → LieLawfully b frames k → FindsPlace b
+pub finds_places : (b : BookState) (frames : List (Option ℕ)) (k : KeeperView) → IsSound b → LieLawfully b frames k → FindsPlace b
 finds_places b frames k s lies row in_rows alone =
     finds_place b.shape b.knobs.merge_across_nodes k.ledger b.rows frames b.dups lies s.dups_rise in_rows.0 in_rows.1
-    (ap (λ (r : Row). merged_state r.state) (sym (get_or_default b.rows in_rows.0 row no_row in_rows.1) ∙ in_rows.2) ∙ alone)
+    (ap (λ (r : Row). shared_state r.state) (sym (get_or_default b.rows in_rows.0 row no_row in_rows.1) ∙ in_rows.2) ∙ alone)
 
 -- no number reaches that of the next dup
 pub numbers_small : (b : BookState) → IsSound b → b.next ≤ 2 ^ 50 → NumbersAreSmall b

@@ -1,15 +1,14 @@
 -- The tally of rows once one came, went or was replaced, and once each was changed.
-use Rattle.std.proofs.Common.{◌≡◌, ◌∙◌, ℕ, zero, suc, ◌+◌, ◌<◌, ◌≤◌, ◌^◌, Bool, true, false, List, [], ◌∷◌, length, map, get_or, set, Some, refl, sym, ap, subst, inl, inr, arith}
-use Rattle.std.specs.Prelude.{◌&&◌, nat_lt, count_by, insert, remove, if◌then◌else◌}
+use Rattle.std.proofs.Common.{◌≡◌, ◌∙◌, ℕ, zero, suc, ◌+◌, ◌<◌, ◌≤◌, ◌^◌, Bool, true, false, List, [], ◌∷◌, length, map, get_or, set, Some, refl, sym, ap, subst, arith}
+use Rattle.std.specs.Prelude.{◌&&◌, nat_lt, count_by, insert, remove}
 use Rattle.std.specs.List.{list_any}
-use Rattle.std.proofs.lemmas.Bool.{cases_Bool}
 use Rattle.std.proofs.lemmas.Bool.Decides.{nat_tests}
 use Rattle.std.proofs.lemmas.List.Sums.{count_by-le-length}
 use Rattle.ksm_base.specs.declared.row.PageState.{PageState}
-use Rattle.ksm_base.specs.declared.row.PageState.TheVariants.{Private, Waiting, Merged}
+use Rattle.ksm_base.specs.declared.row.PageState.TheVariants.{Private, Waiting, Merged, Zero}
 use Rattle.ksm_base.specs.declared.row.Row.{Row}
 use Rattle.ksm_base.specs.Apply.{unshared}
-use Rattle.ksm_base.specs.Rows.{private_state, waiting_state, merged_state, settled, settled_state}
+use Rattle.ksm_base.specs.Rows.{private_state, waiting_state, merged_state, zero_state, settled, settled_state}
 use Rattle.ksm_base.proofs.Edits.{count_more}
 use Rattle.std.proofs.lemmas.List.{length-map}
 use Rattle.std.specs.BTreeMap.{is_at}
@@ -68,6 +67,7 @@ tally_put rows i row t u le are more = record {
   waiting = more.waiting ∙ ap (λ n. n + one_if (waiting_state row.state)) are.waiting ∙ sym (put_counted (λ r. waiting_state r.state) rows i row le);
   volatile = more.volatile ∙ ap (λ n. n + one_if (is_volatile row)) are.volatile ∙ sym (put_counted is_volatile rows i row le);
   pending = more.pending ∙ ap (λ n. n + one_if (is_pending row)) are.pending ∙ sym (put_counted is_pending rows i row le);
+  zero = more.zero ∙ ap (λ n. n + one_if (zero_state row.state)) are.zero ∙ sym (put_counted (λ r. zero_state r.state) rows i row le);
 }
 
 less_is : (a b c d n : ℕ) → n ≡ b → b ≡ a + d → c + d ≡ n → a ≡ c
@@ -82,6 +82,7 @@ tally_taken rows i d row t u lt is are more =
       waiting = less_is u.waiting t.waiting _ (one_if (waiting_state row.state)) _ (sym are.waiting) more.waiting (gone (λ r. waiting_state r.state));
       volatile = less_is u.volatile t.volatile _ (one_if (is_volatile row)) _ (sym are.volatile) more.volatile (gone is_volatile);
       pending = less_is u.pending t.pending _ (one_if (is_pending row)) _ (sym are.pending) more.pending (gone is_pending);
+      zero = less_is u.zero t.zero _ (one_if (zero_state row.state)) _ (sym are.zero) more.zero (gone (λ r. zero_state r.state));
     }
 
 set_is : (t less u was is c n : ℕ) → t ≡ n → t ≡ less + was → u ≡ less + is → c + was ≡ n + is → u ≡ c
@@ -96,6 +97,7 @@ tally_set rows i d old row t less u lt is are from to =
       waiting = set_is t.waiting less.waiting u.waiting _ _ _ _ are.waiting from.waiting to.waiting (now (λ r. waiting_state r.state));
       volatile = set_is t.volatile less.volatile u.volatile _ _ _ _ are.volatile from.volatile to.volatile (now is_volatile);
       pending = set_is t.pending less.pending u.pending _ _ _ _ are.pending from.pending to.pending (now is_pending);
+      zero = set_is t.zero less.zero u.zero _ _ _ _ are.zero from.zero to.zero (now (λ r. zero_state r.state));
     }
 
 pub tally_counts : (rows : List Row) (i : ℕ) (d row : Row) (t : Tally) → i < length rows → get_or rows i d ≡ row → IsTally rows t → Counts row t
@@ -107,6 +109,7 @@ tally_counts rows i d row t lt is are =
       waiting = rw are.waiting (has (λ r. waiting_state r.state));
       volatile = rw are.volatile (has is_volatile);
       pending = rw are.pending (has is_pending);
+      zero = rw are.zero (has (λ r. zero_state r.state));
     }
 
 -- the tally of few enough rows has room
@@ -119,6 +122,7 @@ tally_small rows t few are =
       waiting = rw are.waiting (most (λ r. waiting_state r.state));
       volatile = rw are.volatile (most is_volatile);
       pending = rw are.pending (most is_pending);
+      zero = rw are.zero (most (λ r. zero_state r.state));
     }
 
 -- ---------------------------------------------------------------- all rows changed
@@ -127,6 +131,7 @@ parts_within : (m : Bool) (s : PageState) (a b c : ℕ) → a + b ≤ c → (one
 parts_within true Private a b c le = omega arith
 parts_within true Waiting a b c le = omega arith
 parts_within true (Merged n) a b c le = omega arith
+parts_within true Zero a b c le = omega arith
 parts_within false s a b c le = omega arith
 
 -- no more rows are Private or wait than are mergeable
@@ -162,16 +167,25 @@ not_waiting : (s : PageState) → waiting_state (settled_state s) ≡ false
 not_waiting Private = refl
 not_waiting Waiting = refl
 not_waiting (Merged n) = refl
+not_waiting Zero = refl
 
 still_merged : (s : PageState) → merged_state (settled_state s) ≡ merged_state s
 still_merged Private = refl
 still_merged Waiting = refl
 still_merged (Merged n) = refl
+still_merged Zero = refl
+
+still_zero : (s : PageState) → zero_state (settled_state s) ≡ zero_state s
+still_zero Private = refl
+still_zero Waiting = refl
+still_zero (Merged n) = refl
+still_zero Zero = refl
 
 settled_adds : (m : Bool) (s : PageState) → one_if (m && private_state (settled_state s)) ≡ one_if (m && private_state s) + one_if (m && waiting_state s)
 settled_adds true Private = refl
 settled_adds true Waiting = refl
 settled_adds true (Merged n) = refl
+settled_adds true Zero = refl
 settled_adds false s = refl
 
 volatile_settled : (rows : List Row) → count_by is_volatile (map settled rows) ≡ count_by is_volatile rows + count_by is_pending rows
@@ -199,15 +213,17 @@ tally_settled rows t are = record {
   waiting = sym (none_mapped (λ r. waiting_state r.state) settled rows (λ r. not_waiting r.state));
   volatile = (λ i. are.volatile i + are.pending i) ∙ sym (volatile_settled rows);
   pending = sym (none_mapped is_pending settled rows (λ r. ap (λ b. r.mergeable && b) (not_waiting r.state) ∙ and_false r.mergeable));
+  zero = are.zero ∙ sym (mapped (λ r. zero_state r.state) (λ r. zero_state r.state) settled rows (λ r. still_zero r.state));
 }
 
-pub tally_unshared : (rows : List Row) (t : Tally) → IsTally rows t → IsTally (map unshared rows) (record t { merged = 0; waiting = 0; volatile = t.mergeable; pending = 0 })
+pub tally_unshared : (rows : List Row) (t : Tally) → IsTally rows t → IsTally (map unshared rows) (record t { merged = 0; waiting = 0; volatile = t.mergeable; pending = 0; zero = 0 })
 tally_unshared rows t are = record {
   mergeable = are.mergeable ∙ sym (mapped (λ r. r.mergeable) (λ r. r.mergeable) unshared rows (λ r. refl));
   merged = sym (none_mapped (λ r. merged_state r.state) unshared rows (λ r. refl));
   waiting = sym (none_mapped (λ r. waiting_state r.state) unshared rows (λ r. refl));
   volatile = are.mergeable ∙ sym (mapped is_volatile (λ r. r.mergeable) unshared rows (λ r. and_true r.mergeable));
   pending = sym (none_mapped is_pending unshared rows (λ r. and_false r.mergeable));
+  zero = sym (none_mapped (λ r. zero_state r.state) unshared rows (λ r. refl));
 }
 
 -- some row passes where one is counted
@@ -226,6 +242,7 @@ tally_room row less t small more = record {
   waiting = (let h = small.waiting in let m = more.waiting in omega (arith, h, m));
   volatile = (let h = small.volatile in let m = more.volatile in omega (arith, h, m));
   pending = (let h = small.pending in let m = more.pending in omega (arith, h, m));
+  zero = (let h = small.zero in let m = more.zero in omega (arith, h, m));
 }
 
 -- the page's row, in the lists that are seen

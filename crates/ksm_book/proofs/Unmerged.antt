@@ -7,19 +7,19 @@ use Rattle.std.proofs.lemmas.Option.{same_Some, slice_get_past}
 use Rattle.ksm_base.specs.declared.row.Row.{Row}
 use Rattle.ksm_base.specs.Apply.{is_before, let_go, unshared}
 use Rattle.ksm_base.specs.Refusals.{is_of, has_guest, refused_if}
-use Rattle.ksm_base.specs.Rows.{comes_before, same_page, InPageOrder, row_at, change_row, change_rows, merged_state}
+use Rattle.ksm_base.specs.Rows.{comes_before, same_page, InPageOrder, row_at, change_row, change_rows, shared_state}
 use Rattle.ksm_base.specs.declared.page.GuestPage.{GuestPage}
 use Rattle.ksm_base.specs.declared.knobs.Knobs.{Knobs}
 use Rattle.ksm_base.specs.declared.command.Command.TheVariants.{Unmerge}
 use Rattle.ksm_base.specs.declared.reply.Reply.TheVariants.{Unmerged}
 use Rattle.ksm_base.specs.declared.fault.Fault.{Fault}
 use Rattle.ksm_base.specs.declared.fault.Fault.TheVariants.{NoFrame, UnknownPage}
-use Rattle.ksm_base.specs.Answers.{IsUnmerged, IsAnswerUnless, IsAnswerOrMemory, merged_rows}
+use Rattle.ksm_base.specs.Answers.{IsUnmerged, IsAnswerUnless, IsAnswerOrMemory, shared_rows}
 use Rattle.ksm_base.specs.State.{BookState}
 use Rattle.frame_table.specs.Named.{KeeperView}
 use Rattle.ksm_book.specs.Laid.{Lay, LodgesAs, state_of}
 use Rattle.ksm_book.specs.Steps.{Does}
-use Rattle.ksm_book.specs.Unmerged.{first_changed, is_merged_of, IsStop, Gave}
+use Rattle.ksm_book.specs.Unmerged.{first_changed, is_shared_of, IsStop, Gave}
 use Rattle.ksm_base.proofs.Orders.{ordered_change}
 use Rattle.ksm_book.proofs.Logs.{chained}
 use Rattle.ksm_base.proofs.Pages.{same_page_refl, before_irrefl, not_both, before_differs, after_differs}
@@ -139,7 +139,7 @@ module _ (guest : ℕ) (stop : Option Row) where
   reached r = is_of guest r && is_before stop r
 
   abbrev pub met : Row → Bool
-  met r = is_merged_of (Some guest) r && is_before stop r
+  met r = is_shared_of (Some guest) r && is_before stop r
 
   met_reached : (a b c : Bool) → ((a && c) && b) ≡ true → (a && b) ≡ true
   met_reached true true c e = refl
@@ -155,7 +155,7 @@ module _ (guest : ℕ) (stop : Option Row) where
       by (Some s) = refl
 
   let_go_one : (r : Row) → (let x : Row = if met r then unshared r else r in if reached x then let_go x else x) ≡ (if reached r then let_go r else r)
-  let_go_one r = by (met r) (met_reached (is_of guest r) (is_before stop r) (merged_state r.state))
+  let_go_one r = by (met r) (met_reached (is_of guest r) (is_before stop r) (shared_state r.state))
     where
       by : (m : Bool) → (m ≡ true → reached r ≡ true) → (let x : Row = cond m (unshared r) r in cond (reached x) (let_go x) x) ≡ cond (reached r) (let_go r) r
       by true e = ap (λ (b : Bool). cond b (let_go r) (unshared r)) (still_reached r ∙ e refl) ∙ sym (ap (λ (b : Bool). cond b (let_go r) r) (e refl))
@@ -167,24 +167,24 @@ module _ (guest : ℕ) (stop : Option Row) where
 
 -- ---------------------------------------------------------------- merged rows that get frames of their own
 
-pub unshared_off : (guest : Option ℕ) (r : Row) → is_merged_of guest (unshared r) ≡ false
+pub unshared_off : (guest : Option ℕ) (r : Row) → is_shared_of guest (unshared r) ≡ false
 unshared_off None r = refl
 unshared_off (Some g) r = and_false (is_of g r)
 
 -- the rows keep their order
-pub order_kept : (guest : Option ℕ) (n : ℕ) (rows now : List Row) → InPageOrder rows → now ≡ first_changed (is_merged_of guest) unshared n rows → InPageOrder now
-order_kept guest n rows now rise made = subst InPageOrder (sym (made ∙ all_before (is_merged_of guest) unshared (λ r. refl) (unshared_off guest) n rows rise))
-    (ordered_change (λ r. is_merged_of guest r && is_before (slice_get (filter (is_merged_of guest) rows) n) r) unshared rows (λ r. refl) rise)
+pub order_kept : (guest : Option ℕ) (n : ℕ) (rows now : List Row) → InPageOrder rows → now ≡ first_changed (is_shared_of guest) unshared n rows → InPageOrder now
+order_kept guest n rows now rise made = subst InPageOrder (sym (made ∙ all_before (is_shared_of guest) unshared (λ r. refl) (unshared_off guest) n rows rise))
+    (ordered_change (λ r. is_shared_of guest r && is_before (slice_get (filter (is_shared_of guest) rows) n) r) unshared rows (λ r. refl) rise)
 
 -- what a search finds after n of them
-pub next_is : (guest : Option ℕ) (n : ℕ) (rows now seen : List Row) (o : Option Row) → now ≡ first_changed (is_merged_of guest) unshared n rows → seen ≡ now → o ≡ find (is_merged_of guest) seen → slice_get (filter (is_merged_of guest) rows) n ≡ o
-next_is guest n rows now seen o made same found = sym (found ∙ ap (find (is_merged_of guest)) (same ∙ made) ∙ first_left (is_merged_of guest) unshared (λ r. refl) (unshared_off guest) n rows)
+pub next_is : (guest : Option ℕ) (n : ℕ) (rows now seen : List Row) (o : Option Row) → now ≡ first_changed (is_shared_of guest) unshared n rows → seen ≡ now → o ≡ find (is_shared_of guest) seen → slice_get (filter (is_shared_of guest) rows) n ≡ o
+next_is guest n rows now seen o made same found = sym (found ∙ ap (find (is_shared_of guest)) (same ∙ made) ∙ first_left (is_shared_of guest) unshared (λ r. refl) (unshared_off guest) n rows)
 
-pub one_unshared : (guest : Option ℕ) (n : ℕ) (rows now : List Row) (row new : Row) → InPageOrder rows → now ≡ first_changed (is_merged_of guest) unshared n rows → new ≡ unshared row → find (is_merged_of guest) now ≡ Some row → change_row new.page (λ _. new) now ≡ first_changed (is_merged_of guest) unshared (n + 1) rows
+pub one_unshared : (guest : Option ℕ) (n : ℕ) (rows now : List Row) (row new : Row) → InPageOrder rows → now ≡ first_changed (is_shared_of guest) unshared n rows → new ≡ unshared row → find (is_shared_of guest) now ≡ Some row → change_row new.page (λ _. new) now ≡ first_changed (is_shared_of guest) unshared (n + 1) rows
 one_unshared guest n rows now row new rise made is found =
     (λ i. change_row (is i).page (λ _. is i) (made i))
-    ∙ one_more (is_merged_of guest) unshared (λ r. refl) (unshared_off guest) n rows row rise (sym (ap (find (is_merged_of guest)) made) ∙ found)
-    ∙ (let e : suc n ≡ n + 1 = omega arith in ap (λ k. first_changed (is_merged_of guest) unshared k rows) e)
+    ∙ one_more (is_shared_of guest) unshared (λ r. refl) (unshared_off guest) n rows row rise (sym (ap (find (is_shared_of guest)) made) ∙ found)
+    ∙ (let e : suc n ≡ n + 1 = omega arith in ap (λ k. first_changed (is_shared_of guest) unshared k rows) e)
 
 pub none_past : {X : Type 0} (xs : List X) (n : ℕ) → slice_get xs n ≡ None → length xs ≤ n
 none_past [] n none = omega arith
@@ -228,7 +228,7 @@ pub filter_fits : (t : Row → Bool) (rows : List Row) → length (filter t rows
 filter_fits t rows = omega (arith, length-filter t rows, count_by-le-length t rows)
 
 -- a row let go may stand in the stead of one that isn't merged
-pub gone_lodges : (b : Bool) (r : Row) → (b ≡ true → merged_state r.state ≡ false) → LodgesAs (if b then let_go r else r) r
+pub gone_lodges : (b : Bool) (r : Row) → (b ≡ true → shared_state r.state ≡ false) → LodgesAs (if b then let_go r else r) r
 gone_lodges true r alone = (refl, refl, inr (alone refl, refl))
 gone_lodges false r alone = (refl, refl, inl refl)
 
@@ -239,10 +239,10 @@ stop_is rows k None h = slice_get_past rows k (omega (arith, h))
 stop_is rows k (Some row) h = h
 
 -- the rows after n were unshared, said by the stop
-pub met_rows : (guest : ℕ) (rows now : List Row) (k : ℕ) (stop : Option Row) → InPageOrder rows → now ≡ first_changed (is_merged_of (Some guest)) unshared k rows → IsStop (filter (is_merged_of (Some guest)) rows) k stop → now ≡ change_rows (met guest stop) unshared rows
+pub met_rows : (guest : ℕ) (rows now : List Row) (k : ℕ) (stop : Option Row) → InPageOrder rows → now ≡ first_changed (is_shared_of (Some guest)) unshared k rows → IsStop (filter (is_shared_of (Some guest)) rows) k stop → now ≡ change_rows (met guest stop) unshared rows
 met_rows guest rows now k stop rise made at =
-    made ∙ all_before (is_merged_of (Some guest)) unshared (λ r. refl) (unshared_off (Some guest)) k rows rise
-    ∙ ap (λ o. change_rows (met guest o) unshared rows) (stop_is (filter (is_merged_of (Some guest)) rows) k stop at)
+    made ∙ all_before (is_shared_of (Some guest)) unshared (λ r. refl) (unshared_off (Some guest)) k rows rise
+    ∙ ap (λ o. change_rows (met guest o) unshared rows) (stop_is (filter (is_shared_of (Some guest)) rows) k stop at)
 
 not_merged : (a b c : Bool) → ((a && c) && b) ≡ false → (a && b) ≡ true → c ≡ false
 not_merged true true c e h = sym (and_true c) ∙ e
@@ -250,27 +250,27 @@ not_merged true false c e h = absurd (grind (arith, h))
 not_merged false b c e h = absurd (grind (arith, h))
 
 -- none that is let go is merged
-pub none_left : (guest : ℕ) (stop : Option Row) (rows now : List Row) → now ≡ change_rows (met guest stop) unshared rows → All (λ r. reached guest stop r ≡ true → merged_state r.state ≡ false) now
-none_left guest stop rows now made = subst (All (λ r. reached guest stop r ≡ true → merged_state r.state ≡ false)) (sym made)
-    (All-map (λ r. reached guest stop r ≡ true → merged_state r.state ≡ false) (λ r. if met guest stop r then unshared r else r) rows (λ k d lt. one (get_or rows k d)))
+pub none_left : (guest : ℕ) (stop : Option Row) (rows now : List Row) → now ≡ change_rows (met guest stop) unshared rows → All (λ r. reached guest stop r ≡ true → shared_state r.state ≡ false) now
+none_left guest stop rows now made = subst (All (λ r. reached guest stop r ≡ true → shared_state r.state ≡ false)) (sym made)
+    (All-map (λ r. reached guest stop r ≡ true → shared_state r.state ≡ false) (λ r. if met guest stop r then unshared r else r) rows (λ k d lt. one (get_or rows k d)))
   where
-    one : (r : Row) → (let x : Row = if met guest stop r then unshared r else r in reached guest stop x ≡ true → merged_state x.state ≡ false)
-    one r = by (met guest stop r) (not_merged (is_of guest r) (is_before stop r) (merged_state r.state))
+    one : (r : Row) → (let x : Row = if met guest stop r then unshared r else r in reached guest stop x ≡ true → shared_state x.state ≡ false)
+    one r = by (met guest stop r) (not_merged (is_of guest r) (is_before stop r) (shared_state r.state))
       where
-        by : (m : Bool) → (m ≡ false → reached guest stop r ≡ true → merged_state r.state ≡ false) → (let x : Row = cond m (unshared r) r in reached guest stop x ≡ true → merged_state x.state ≡ false)
+        by : (m : Bool) → (m ≡ false → reached guest stop r ≡ true → shared_state r.state ≡ false) → (let x : Row = cond m (unshared r) r in reached guest stop x ≡ true → shared_state x.state ≡ false)
         by true h = λ there. refl
         by false h = h refl
 
 pub unmerged_state : (guest : ℕ) (lay mid new : Lay) (k : ℕ) (stop : Option Row) (cursor : Option GuestPage) (passes : ℕ) → InPageOrder lay.rows
-    → mid ≡ record lay { rows = first_changed (is_merged_of (Some guest)) unshared k lay.rows; frames = mid.frames; keeper = mid.keeper }
-    → IsStop (filter (is_merged_of (Some guest)) lay.rows) k stop
+    → mid ≡ record lay { rows = first_changed (is_shared_of (Some guest)) unshared k lay.rows; frames = mid.frames; keeper = mid.keeper }
+    → IsStop (filter (is_shared_of (Some guest)) lay.rows) k stop
     → new ≡ record mid { rows = change_rows (reached guest stop) let_go mid.rows }
-    → state_of new cursor passes ≡ record (state_of lay cursor passes) { rows = change_rows (λ r. is_of guest r && is_before (slice_get (filter (is_merged_of (Some guest)) lay.rows) k) r) let_go lay.rows }
+    → state_of new cursor passes ≡ record (state_of lay cursor passes) { rows = change_rows (λ r. is_of guest r && is_before (slice_get (filter (is_shared_of (Some guest)) lay.rows) k) r) let_go lay.rows }
 unmerged_state guest lay mid new k stop cursor passes rise made at gone =
-    let rows : change_rows (reached guest stop) let_go mid.rows ≡ change_rows (λ r. is_of guest r && is_before (slice_get (filter (is_merged_of (Some guest)) lay.rows) k) r) let_go lay.rows =
+    let rows : change_rows (reached guest stop) let_go mid.rows ≡ change_rows (λ r. is_of guest r && is_before (slice_get (filter (is_shared_of (Some guest)) lay.rows) k) r) let_go lay.rows =
     ap (change_rows (reached guest stop) let_go) (met_rows guest lay.rows mid.rows k stop rise (ap (λ (x : Lay). x.rows) made) at)
     ∙ let_go_all guest stop lay.rows
-    ∙ ap (λ o. change_rows (λ r. is_of guest r && is_before o r) let_go lay.rows) (sym (stop_is (filter (is_merged_of (Some guest)) lay.rows) k stop at)) in
+    ∙ ap (λ o. change_rows (λ r. is_of guest r && is_before o r) let_go lay.rows) (sym (stop_is (filter (is_shared_of (Some guest)) lay.rows) k stop at)) in
     ap (λ (x : Lay). state_of x cursor passes) gone ∙ (λ i. record (state_of (made i) cursor passes) { rows = rows i })
 
 -- the answer of an unmerging
@@ -281,8 +281,8 @@ pub is_unmerged : (rows : List Row) (k : ℕ) (stop : Option Row) → IsStop row
 is_unmerged rows k None at = at
 is_unmerged rows k (Some row) at = subst (λ o. MatchOption o ⊥ (λ r. row.home ≡ r.home)) (sym at) refl
 
-pub unmerge_answer : (b : BookState) (guest k : ℕ) (stop : Option Row) → has_guest b guest ≡ true → IsStop (merged_rows (is_of guest) b) k stop → IsAnswerOrMemory b (Unmerge guest) (Ok (Unmerged k (fault_of stop)))
-unmerge_answer b guest k stop has at = subst (λ (h : Bool). IsAnswerUnless (refused_if (not h) UnknownPage None) b (Unmerge guest) (Ok (Unmerged k (fault_of stop)))) (sym has) (is_unmerged (merged_rows (is_of guest) b) k stop at)
+pub unmerge_answer : (b : BookState) (guest k : ℕ) (stop : Option Row) → has_guest b guest ≡ true → IsStop (shared_rows (is_of guest) b) k stop → IsAnswerOrMemory b (Unmerge guest) (Ok (Unmerged k (fault_of stop)))
+unmerge_answer b guest k stop has at = subst (λ (h : Bool). IsAnswerUnless (refused_if (not h) UnknownPage None) b (Unmerge guest) (Ok (Unmerged k (fault_of stop)))) (sym has) (is_unmerged (shared_rows (is_of guest) b) k stop at)
 
 -- the frames that it gave
 pub gave_does : (v w : KeeperView) (nodes : List ℕ) (stop : Option Row) → Gave v w nodes stop → Does v w nodes
@@ -293,17 +293,17 @@ gave_does v w nodes (Some row) h = let u = h.0 in let first = h.1 in let left = 
 -- ---------------------------------------------------------------- all pages
 
 abbrev pub merged_at : List Row → List Row
-merged_at rows = filter (is_merged_of None) rows
+merged_at rows = filter (is_shared_of None) rows
 
 abbrev pub unshared_before : ℕ → List Row → List Row
-unshared_before k rows = change_rows (λ r. merged_state r.state && is_before (slice_get (merged_at rows) k) r) unshared rows
+unshared_before k rows = change_rows (λ r. shared_state r.state && is_before (slice_get (merged_at rows) k) r) unshared rows
 
-all_unshared : (rows now : List Row) (k : ℕ) → InPageOrder rows → now ≡ first_changed (is_merged_of None) unshared k rows → now ≡ unshared_before k rows
-all_unshared rows now k rise made = made ∙ all_before (is_merged_of None) unshared (λ r. refl) (unshared_off None) k rows rise
+all_unshared : (rows now : List Row) (k : ℕ) → InPageOrder rows → now ≡ first_changed (is_shared_of None) unshared k rows → now ≡ unshared_before k rows
+all_unshared rows now k rise made = made ∙ all_before (is_shared_of None) unshared (λ r. refl) (unshared_off None) k rows rise
 
 -- where it stopped
 pub stopped_state : (lay mid new : Lay) (k : ℕ) (knobs : Knobs) (cursor : Option GuestPage) (passes : ℕ) → InPageOrder lay.rows
-    → mid ≡ record lay { rows = first_changed (is_merged_of None) unshared k lay.rows; frames = mid.frames; keeper = mid.keeper }
+    → mid ≡ record lay { rows = first_changed (is_shared_of None) unshared k lay.rows; frames = mid.frames; keeper = mid.keeper }
     → knobs ≡ mid.knobs → new ≡ record mid { knobs = record knobs { run = 0 } }
     → state_of new cursor passes ≡ record (state_of lay cursor passes) { rows = unshared_before k lay.rows; knobs = record lay.knobs { run = 0 } }
 stopped_state lay mid new k knobs cursor passes rise made same set =
@@ -322,25 +322,25 @@ unshared_twice test (r ∷ rows) = by (test r) (unshared_twice test rows)
 
 -- where it went through
 pub ended_state : (lay mid wide new : Lay) (k : ℕ) (knobs : Knobs) (cursor : Option GuestPage) (passes : ℕ) → InPageOrder lay.rows
-    → mid ≡ record lay { rows = first_changed (is_merged_of None) unshared k lay.rows; frames = mid.frames; keeper = mid.keeper }
+    → mid ≡ record lay { rows = first_changed (is_shared_of None) unshared k lay.rows; frames = mid.frames; keeper = mid.keeper }
     → knobs ≡ mid.knobs → wide ≡ record mid { rows = map unshared mid.rows } → new ≡ record wide { knobs = record knobs { run = 2 } }
     → state_of new None passes ≡ record (state_of lay cursor passes) { rows = map unshared lay.rows; cursor = None; knobs = record lay.knobs { run = 2 } }
 ended_state lay mid wide new k knobs cursor passes rise made same alone set =
     let kept : knobs ≡ lay.knobs = same ∙ ap (λ (x : Lay). x.knobs) made in
-    let rows : map unshared mid.rows ≡ map unshared lay.rows = ap (map unshared) (all_unshared lay.rows mid.rows k rise (ap (λ (x : Lay). x.rows) made)) ∙ unshared_twice (λ r. merged_state r.state && is_before (slice_get (merged_at lay.rows) k) r) lay.rows in
+    let rows : map unshared mid.rows ≡ map unshared lay.rows = ap (map unshared) (all_unshared lay.rows mid.rows k rise (ap (λ (x : Lay). x.rows) made)) ∙ unshared_twice (λ r. shared_state r.state && is_before (slice_get (merged_at lay.rows) k) r) lay.rows in
     ap (λ (x : Lay). state_of x None passes) set
     ∙ (λ i. record (state_of (alone i) None passes) { knobs = record knobs { run = 2 } })
     ∙ (λ i. record (state_of (made i) None passes) { rows = rows i; knobs = record (kept i) { run = 2 } })
 
 -- then none is merged
-pub none_merged : (rows now : List Row) (k : ℕ) (stop : Option Row) → InPageOrder rows → now ≡ first_changed (is_merged_of None) unshared k rows → IsStop (merged_at rows) k stop → stop ≡ None → All (λ r. merged_state r.state ≡ false) now
+pub none_merged : (rows now : List Row) (k : ℕ) (stop : Option Row) → InPageOrder rows → now ≡ first_changed (is_shared_of None) unshared k rows → IsStop (merged_at rows) k stop → stop ≡ None → All (λ r. shared_state r.state ≡ false) now
 none_merged rows now k stop rise made at ended =
-    let still : now ≡ change_rows (λ r. merged_state r.state && true) unshared rows = all_unshared rows now k rise made ∙ ap (λ o. change_rows (λ r. merged_state r.state && is_before o r) unshared rows) (stop_is (merged_at rows) k stop at ∙ ended) in
-    subst (All (λ r. merged_state r.state ≡ false)) (sym still) (All-map (λ r. merged_state r.state ≡ false) (λ r. if merged_state r.state && true then unshared r else r) rows (λ i d lt. one (get_or rows i d)))
+    let still : now ≡ change_rows (λ r. shared_state r.state && true) unshared rows = all_unshared rows now k rise made ∙ ap (λ o. change_rows (λ r. shared_state r.state && is_before o r) unshared rows) (stop_is (merged_at rows) k stop at ∙ ended) in
+    subst (All (λ r. shared_state r.state ≡ false)) (sym still) (All-map (λ r. shared_state r.state ≡ false) (λ r. if shared_state r.state && true then unshared r else r) rows (λ i d lt. one (get_or rows i d)))
   where
-    one : (r : Row) → (let x : Row = if merged_state r.state && true then unshared r else r in merged_state x.state ≡ false)
-    one r = by (merged_state r.state && true) (λ e. sym (and_true (merged_state r.state)) ∙ e)
+    one : (r : Row) → (let x : Row = if shared_state r.state && true then unshared r else r in shared_state x.state ≡ false)
+    one r = by (shared_state r.state && true) (λ e. sym (and_true (shared_state r.state)) ∙ e)
       where
-        by : (m : Bool) → (m ≡ false → merged_state r.state ≡ false) → (let x : Row = cond m (unshared r) r in merged_state x.state ≡ false)
+        by : (m : Bool) → (m ≡ false → shared_state r.state ≡ false) → (let x : Row = cond m (unshared r) r in shared_state x.state ≡ false)
         by true h = refl
         by false h = h refl

@@ -7,13 +7,13 @@ use Rattle.std.proofs.lemmas.List.{get_or_default}
 use Rattle.std.proofs.lemmas.Option.{same_Some}
 use Rattle.ksm_base.specs.declared.page.GuestPage.{GuestPage}
 use Rattle.ksm_base.specs.declared.row.PageState.{PageState}
-use Rattle.ksm_base.specs.declared.row.PageState.TheVariants.{Private, Waiting, Merged}
+use Rattle.ksm_base.specs.declared.row.PageState.TheVariants.{Private, Waiting, Merged, Zero}
 use Rattle.ksm_base.specs.declared.row.Row.{Row}
 use Rattle.ksm_base.specs.declared.row.DupRow.{DupRow}
-use Rattle.ksm_base.specs.Rows.{same_page, row_at, InPageOrder, change_row, change_rows, merged_state, merged_into, waiting_state, item_count, with_dup}
+use Rattle.ksm_base.specs.Rows.{same_page, row_at, InPageOrder, change_row, change_rows, merged_state, shared_state, merged_into, waiting_state, item_count, with_dup}
 use Rattle.ksm_base.specs.State.{BookState, place_count, tree_of}
 use Rattle.ksm_base.specs.Sound.{IsSound, IsDupOf}
-use Rattle.ksm_base.specs.Visit.{after_cursor, next_row, may_join, is_best, best_dup, waits_for, partner, new_place, paired, handled, row_visited}
+use Rattle.ksm_base.specs.Visit.{after_cursor, next_row, may_join, is_best, best_dup, waits_for, partner, new_place, paired, is_for_zero, stayed, handled, row_visited}
 use Rattle.std.specs.Prelude.{if◌then◌else◌}
 use Rattle.ksm_base.proofs.Edits.{find_all, find_passes, find_none, count_none}
 use Rattle.ksm_base.proofs.Orders.{ordered_change}
@@ -25,24 +25,28 @@ use Rattle.ksm_base.proofs.SoundScan.{next_row_visited}
 use Rattle.ksm_base.proofs.SoundPair.{IsFree, new_place_free, next_is_new, IsPair, partner_pairs, WaitsFor, waits_tells}
 use Rattle.ksm_base.proofs.SoundCounts.{joined_count}
 use Rattle.ksm_base.proofs.Pages.{same_page_eq}
-use Rattle.ksm_book.specs.Commands.{idle, handling, row_visiting}
+use Rattle.ksm_book.specs.Commands.{idle, handling, row_visiting, pairing, emptying, staying, listed_in}
 use Rattle.ksm_book.specs.Laid.{Lay, Joins, Founds, new_dup, state_of}
 use Rattle.ksm_book.proofs.Found.{change_known}
+use Rattle.ksm_book.proofs.Linking.{own_not_merged}
 
 pub state_of_item : (n : ℕ) (s : PageState) → merged_into n s ≡ true → s ≡ Merged n
 state_of_item n Private e = absurd (grind (arith, e))
 state_of_item n Waiting e = absurd (grind (arith, e))
+state_of_item n Zero e = absurd (grind (arith, e))
 state_of_item n (Merged d) e = ap Merged (eqb-true d n e)
 
 pub item_is_merged : (n : ℕ) (s : PageState) → merged_into n s ≡ true → merged_state s ≡ true
 item_is_merged n Private e = absurd (grind (arith, e))
 item_is_merged n Waiting e = absurd (grind (arith, e))
 item_is_merged n (Merged d) e = refl
+item_is_merged n Zero e = absurd (grind (arith, e))
 
-pub waiting_is_alone : (s : PageState) → waiting_state s ≡ true → merged_state s ≡ false
+pub waiting_is_alone : (s : PageState) → waiting_state s ≡ true → shared_state s ≡ false
 waiting_is_alone Private e = refl
 waiting_is_alone Waiting e = refl
 waiting_is_alone (Merged d) e = absurd (grind (arith, e))
+waiting_is_alone Zero e = absurd (grind (arith, e))
 
 all_contained : {X : Type 0} (xs : List X) → All (Contains xs) xs
 all_contained xs k d lt = (k, lt, get_or_default xs k (get_or xs k d) d lt)
@@ -68,7 +72,7 @@ best_has_item b row dup found none =
     omega (arith, some, zero_items)
 
 -- the visited row may join the best dup, by its first item
-pub best_joins : (lay : Lay) (cursor : Option GuestPage) (passes : ℕ) (row item : Row) (dup : DupRow) → IsSound (state_of lay cursor passes) → next_row cursor lay.rows ≡ Some row → merged_state row.state ≡ false
+pub best_joins : (lay : Lay) (cursor : Option GuestPage) (passes : ℕ) (row item : Row) (dup : DupRow) → IsSound (state_of lay cursor passes) → next_row cursor lay.rows ≡ Some row → shared_state row.state ≡ false
     → best_dup lay.knobs lay.rows lay.dups row ≡ Some dup → find (λ r. merged_into dup.number r.state) lay.rows ≡ Some item → Joins lay row item
 best_joins lay cursor passes row item dup s next alone best found =
     let b = state_of lay cursor passes in
@@ -157,7 +161,7 @@ contains_dup d dups = contains_middle (filter (λ e. nat_lt e.place d.place) dup
     contains_middle (y ∷ xs) x ys = let rest = contains_middle xs x ys in (suc rest.0, (let lt = rest.1 in omega (arith, lt)), rest.2)
 
 -- a new dup was made of the waiting row: the visited one may join it
-module _ (lay : Lay) (cursor : Option GuestPage) (passes : ℕ) (row w : Row) (place : ℕ) (s : IsSound (state_of lay cursor passes)) (next : next_row cursor lay.rows ≡ Some row) (alone : merged_state row.state ≡ false) (waits : partner lay.knobs lay.rows row ≡ Some w) where
+module _ (lay : Lay) (cursor : Option GuestPage) (passes : ℕ) (row w : Row) (place : ℕ) (s : IsSound (state_of lay cursor passes)) (next : next_row cursor lay.rows ≡ Some row) (alone : shared_state row.state ≡ false) (waits : partner lay.knobs lay.rows row ≡ Some w) where
   abbrev b : BookState
   b = state_of lay cursor passes
 
@@ -183,7 +187,7 @@ module _ (lay : Lay) (cursor : Option GuestPage) (passes : ℕ) (row w : Row) (p
   joins_new after rows dups =
       let rows_are = first_changed after.rows rows in
       let none : item_count lay.rows made ≡ 0 = count_none (λ r. merged_into lay.next r.state) lay.rows (next_is_new b s) in
-      let one : item_count (change_row w.page (in_state (Merged lay.next)) lay.rows) made ≡ item_count lay.rows made + 1 = joined_count lay.rows w made s.rows_rise (partner_at b row w s waits) (waiting_is_alone w.state tells.state) in
+      let one : item_count (change_row w.page (in_state (Merged lay.next)) lay.rows) made ≡ item_count lay.rows made + 1 = joined_count lay.rows w made s.rows_rise (partner_at b row w s waits) (own_not_merged w.state (waiting_is_alone w.state tells.state)) in
       let counted : item_count after.rows made ≡ 1 = ap (λ x. item_count x made) rows_are ∙ one ∙ (let e : item_count lay.rows made + 1 ≡ 1 = omega (arith, none) in e) in
       record {
         row_is = ap (row_at row.page) rows_are ∙ row_elsewhere w.page row.page (Merged lay.next) lay.rows apart ∙ visited_at b row s next;
@@ -206,15 +210,28 @@ module _ (lay : Lay) (cursor : Option GuestPage) (passes : ℕ) (row w : Row) (p
   pub same_dup : made ≡ record { number = lay.next; place = place; tree = tree_of lay.knobs row; bytes = row.bytes }
   same_dup = λ t. record { number = lay.next; place = place; tree = pair.tree t; bytes = pair.bytes t }
 
--- what a visit does with a row that is not merged
-pub visited_by : (b : BookState) (row : Row) (o : Option DupRow) → merged_state row.state ≡ false → best_dup b.knobs b.rows b.dups row ≡ o → row_visited b row ≡ handled o b row
+-- what a visit does with a row with a frame of its own
+pub visited_by : (b : BookState) (row : Row) (o : Option DupRow) → shared_state row.state ≡ false → best_dup b.knobs b.rows b.dups row ≡ o → row_visited b row ≡ handled o b row
 visited_by b row o alone best = ap (λ m. if m then b else handled (best_dup b.knobs b.rows b.dups row) b row) alone ∙ ap (λ x. handled x b row) best
 
 pub marked_by : (b : BookState) (row : Row) → row.unchanged ≡ false → handled None b row ≡ record b { rows = change_row row.page (λ r. record r { unchanged = true; state = Private }) b.rows }
-marked_by b row changed = ap (λ u. if u then paired (partner b.knobs b.rows row) b row else record b { rows = change_row row.page (λ r. record r { unchanged = true; state = Private }) b.rows }) changed
+marked_by b row changed = ap (λ u. if u then stayed b row else record b { rows = change_row row.page (λ r. record r { unchanged = true; state = Private }) b.rows }) changed
 
 -- the same of what is done with the frames
-pub visiting_by : (b : BookState) (frames : List ℕ) (row : Row) (o : Option DupRow) → merged_state row.state ≡ false
+pub visiting_by : (b : BookState) (frames : List (Option ℕ)) (row : Row) (o : Option DupRow) → shared_state row.state ≡ false
     → best_dup b.knobs b.rows b.dups row ≡ o → row_visiting b frames row ≡ handling o b frames row
 visiting_by b frames row o alone best = ap (λ m. if m then idle frames else handling (best_dup b.knobs b.rows b.dups row) b frames row) alone
     ∙ ap (λ x. handling x b frames row) best
+
+-- a row that has stayed becomes Zero, or is paired
+pub emptied_by : (b : BookState) (row : Row) → is_for_zero b.knobs row ≡ true → stayed b row ≡ record b { rows = change_row row.page (λ r. record r { state = Zero }) b.rows }
+emptied_by b row is = ap (λ t. if t then record b { rows = change_row row.page (λ r. record r { state = Zero }) b.rows } else paired (partner b.knobs b.rows row) b row) is
+
+pub paired_by : (b : BookState) (row : Row) → is_for_zero b.knobs row ≡ false → stayed b row ≡ paired (partner b.knobs b.rows row) b row
+paired_by b row not_so = ap (λ t. if t then record b { rows = change_row row.page (λ r. record r { state = Zero }) b.rows } else paired (partner b.knobs b.rows row) b row) not_so
+
+pub emptying_by : (b : BookState) (frames : List (Option ℕ)) (row : Row) → is_for_zero b.knobs row ≡ true → staying b frames row ≡ emptying (listed_in b frames) row
+emptying_by b frames row is = ap (λ t. if t then emptying (listed_in b frames) row else pairing (partner b.knobs b.rows row) b frames row) is
+
+pub pairing_by : (b : BookState) (frames : List (Option ℕ)) (row : Row) → is_for_zero b.knobs row ≡ false → staying b frames row ≡ pairing (partner b.knobs b.rows row) b frames row
+pairing_by b frames row not_so = ap (λ t. if t then emptying (listed_in b frames) row else pairing (partner b.knobs b.rows row) b frames row) not_so

@@ -1,6 +1,6 @@
 -- A place is emptied, and the dup that stood there goes.
-use Rattle.std.proofs.Common.{◌≡◌, ◌≢◌, ℕ, ◌<◌, ◌≤◌, ◌/◌, Bool, true, not, List, length, get_or, set, Option, None, sym, ap, ◌∙◌, subst, arith, length-set, get_or-set_same, get_or-set_other, eq-eqb}
-use Rattle.std.specs.Prelude.{All, filter, ◌==◌, is_some, slice_index}
+use Rattle.std.proofs.Common.{◌≡◌, ◌≢◌, ℕ, ◌<◌, ◌≤◌, ◌/◌, Bool, true, not, List, length, get_or, set, Option, None, refl, sym, ap, ◌∙◌, subst, arith, length-set, get_or-set_same, get_or-set_other, eq-eqb}
+use Rattle.std.specs.Prelude.{All, filter, ◌==◌, is_some}
 use Rattle.std.proofs.lemmas.List.Elements.{All-filter, filter_passes}
 use Rattle.std.proofs.lemmas.Bool.{ne_eqb}
 use mathlib.Core.Logic.{dite}
@@ -11,9 +11,9 @@ use Rattle.ksm_base.specs.declared.row.DupRow.{DupRow}
 use Rattle.ksm_base.specs.Values.{frames_of}
 use Rattle.frame_core.specs.declared.ledger.Ledger.{Ledger}
 use Rattle.frame_core.specs.Ledger.{frame_at, named_at}
-use Rattle.ksm_book.specs.Placement.{row_in, life_or, place_frame, IsInLife, RowFits, Agrees, DupFits, Placed}
+use Rattle.ksm_book.specs.Placement.{frame_in, row_in, life_or, place_frame, IsInLife, RowFits, Agrees, DupFits, Placed}
 use Rattle.ksm_book.specs.Linked.{elsewhere}
-use Rattle.ksm_book.proofs.Moves.{filter_back}
+use Rattle.ksm_book.proofs.Moves.{filter_back, served_as}
 
 pub elsewhere_is : (q : ℕ) (d : DupRow) → elsewhere q d ≡ true → d.place ≢ q
 elsewhere_is q d e same = differ (d.place == q) e (eq-eqb d.place q same)
@@ -24,7 +24,7 @@ elsewhere_is q d e same = differ (d.place == q) e (eq-eqb d.place q same)
 pub elsewhere_so : (q : ℕ) (d : DupRow) → d.place ≢ q → elsewhere q d ≡ true
 elsewhere_so q d ne = ap not (ne_eqb d.place q ne)
 
-module _ (sh : Shape) (across : ℕ) (k : Ledger) (rows : List Row) (frames : List ℕ) (dups : List DupRow) (hand : Option ℕ) (q : ℕ) (inside : q < frames_of sh) where
+module _ (sh : Shape) (across : ℕ) (k : Ledger) (rows : List Row) (frames : List (Option ℕ)) (dups : List DupRow) (hand : Option ℕ) (q : ℕ) (inside : q < frames_of sh) where
   abbrev pub emptied : Ledger
   emptied = record { frames = k.frames; places = set k.places q None }
 
@@ -53,14 +53,14 @@ module _ (sh : Shape) (across : ℕ) (k : Ledger) (rows : List Row) (frames : Li
     lives = p.lives;
     each_row = λ i lt.
         let r : Row = row_in rows i in
-        let f : ℕ = slice_index frames i in
-        let n : RowFits sh k r f = (p.each_row i lt).0 in (
-          record { frame = n.frame; kind = n.kind; content = n.content; given = n.given; node = n.node },
+        served_as sh k emptied dups (filter (elsewhere q) dups) r r (frame_in frames i) refl (λ f is both.
+        let n : RowFits sh k r f = both.0 in (
+          record { mapped = n.mapped; frame = n.frame; kind = n.kind; content = n.content; given = n.given; node = n.node },
           staying (Agrees k r f) (Agrees emptied r f) (λ e ne a. record {
             item = λ m. let y = a.item m in (y.0 ∙ sym (frame_off e ne), on e ne y.1);
             back = λ life same. a.back (off e ne life) (same ∙ frame_off e ne);
-          }) (p.each_row i lt).1,
-        );
+          }) both.1,
+        )) (p.each_row i lt);
     each_dup = staying (DupFits sh across k) (DupFits sh across emptied) (λ e ne m. record {
       place = m.place;
       named = ap is_some (named_off e.place ne) ∙ m.named;

@@ -6,10 +6,10 @@ use Rattle.ksm_base.specs.declared.command.Command.TheVariants.{Register, Drop, 
 use Rattle.ksm_base.specs.declared.reply.Reply.TheVariants.{Done, Scanned, Pruned, Unmerged}
 use Rattle.ksm_base.specs.declared.fault.Fault.{Fault}
 use Rattle.ksm_base.specs.declared.fault.Fault.TheVariants.{NoFrame, InUse}
-use Rattle.ksm_base.specs.Answers.{Answer, IsAnswerOrMemory, merged_rows, every_row}
+use Rattle.ksm_base.specs.Answers.{Answer, IsAnswerOrMemory, shared_rows, every_row}
 use Rattle.ksm_base.specs.Apply.{after, fresh_row, stored, moved}
 use Rattle.ksm_base.specs.Refusals.{is_of, live_dup_at}
-use Rattle.ksm_base.specs.Rows.{row_at, merged_state}
+use Rattle.ksm_base.specs.Rows.{row_at, shared_state}
 use Rattle.ksm_base.specs.Journal.{Entry}
 use Rattle.ksm_base.specs.State.{BookState}
 use Rattle.frame_table.specs.Named.{KeeperView}
@@ -18,9 +18,9 @@ use Rattle.ksm_book.specs.Commands.{pruning, scanning}
 use Rattle.ksm_book.specs.Steps.{Does}
 use Rattle.ksm_book.specs.Whole.{BookView, mapped, rows_in, nodes_got, HasShown}
 
--- a page with a frame of its own is stored to in place, a merged one gets a new frame first
+-- a page with a frame of its own is stored to in place, a merged or Zero one gets a new frame first
 abbrev pub StoresTo : Mapped → Mapped → List ℕ → Row → Type 0
-StoresTo v w bytes row = MatchBool (merged_state row.state) (Resettles v w (stored bytes row)) (Performs v w (rewriting v.listed (stored bytes row)))
+StoresTo v w bytes row = MatchBool (shared_state row.state) (Resettles v w (stored bytes row)) (Performs v w (rewriting v.listed (stored bytes row)))
 
 -- a page that moves to another node gets a new frame there
 abbrev pub MovesTo : Mapped → Mapped → ℕ → Row → Type 0
@@ -30,7 +30,7 @@ MovesTo v w node row = MatchBool (row.home == node) (IsIdle v w) (Resettles v w 
 abbrev pub UnmergesTo : List Row → Option Fault → Mapped → Mapped → Type 0
 UnmergesTo rows None v w = ResettlesEach rows v w
 UnmergesTo rows (Some (NoFrame node)) v w =
-    (keeper : KeeperView) × (frames : List ℕ) × ResettlesEach rows v (record { listed = record { rows = v.listed.rows; frames = frames }; keeper = keeper })
+    (keeper : KeeperView) × (frames : List (Option ℕ)) × ResettlesEach rows v (record { listed = record { rows = v.listed.rows; frames = frames }; keeper = keeper })
     × TurnsAway (record { listed = record { rows = v.listed.rows; frames = frames }; keeper = keeper }) w node
 UnmergesTo rows (Some fault) v w = ⊥
 
@@ -45,11 +45,11 @@ TakesSteps v w (Drop page) (Ok Done) = Performs (mapped v) (mapped w) (dismissin
 TakesSteps v w (Store page bytes) (Ok Done) = MatchOption (row_at page v.state.rows) ⊥ (StoresTo (mapped v) (mapped w) bytes)
 TakesSteps v w (Scan n) (Ok (Scanned made stop)) = Performs (mapped v) (mapped w) (scanning made v.state v.frames)
 TakesSteps v w Prune (Ok (Pruned count)) = Performs (mapped v) (mapped w) (pruning v.state.dups (rows_in v))
-TakesSteps v w (Unmerge guest) (Ok (Unmerged k stop)) = UnmergesTo (take k (merged_rows (is_of guest) v.state)) stop (mapped v) (mapped w)
+TakesSteps v w (Unmerge guest) (Ok (Unmerged k stop)) = UnmergesTo (take k (shared_rows (is_of guest) v.state)) stop (mapped v) (mapped w)
 TakesSteps v w (MovePage page node) (Ok Done) = MatchOption (row_at page v.state.rows) ⊥ (MovesTo (mapped v) (mapped w) node)
 TakesSteps v w (MoveDup place node) (Ok Done) = MatchOption (live_dup_at v.state place) ⊥ (λ d. Moves (mapped v) (mapped w) d node)
 TakesSteps v w (MoveDup place node) (Err InUse) = MatchOption (live_dup_at v.state place) ⊥ (λ d. FindsHeld (mapped v) (mapped w) d node)
-TakesSteps v w (SetRun run) (Ok (Unmerged k stop)) = UnmergesTo (take k (merged_rows every_row v.state)) stop (mapped v) (mapped w)
+TakesSteps v w (SetRun run) (Ok (Unmerged k stop)) = UnmergesTo (take k (shared_rows every_row v.state)) stop (mapped v) (mapped w)
 TakesSteps v w (SetAcross across) (Ok Done) = PrunesUnless v w across v.state.knobs.merge_across_nodes
 TakesSteps v w (SetLimit limit) (Ok Done) = PrunesUnless v w limit v.state.knobs.max_page_sharing
 TakesSteps v w command (Err (NoFrame node)) = TurnsAway (mapped v) (mapped w) node
@@ -73,7 +73,7 @@ pub record CarriedOut (v w : BookView) (command : Command) (given : Answer) : Ty
 -- what contracts see of a book: its state, the frame of each row, in the order of the rows, the keeper of the frames, and its journal
 pub record JournaledBook : Type 0 where
   pub state : BookState
-  pub frames : List ℕ
+  pub frames : List (Option ℕ)
   pub keeper : KeeperView
   pub journal : List Entry
 

@@ -17,11 +17,11 @@ use Rattle.ksm_book.specs.Steps.{Log, Did, Does, HasNoFree, puts, loads}
 
 -- every lawful placement is still lawful, with another frame in hand
 abbrev pub Keeps : KeeperView → KeeperView → Option ℕ → Option ℕ → Type 0
-Keeps v w hand hand' = (across : ℕ) (rows : List Row) (frames : List ℕ) (dups : List DupRow) → Placed v.table.shape across v.ledger rows frames dups hand → Placed v.table.shape across w.ledger rows frames dups hand'
+Keeps v w hand hand' = (across : ℕ) (rows : List Row) (frames : List (Option ℕ)) (dups : List DupRow) → Placed v.table.shape across v.ledger rows frames dups hand → Placed v.table.shape across w.ledger rows frames dups hand'
 
 -- there is a lawful placement
 abbrev pub IsLawful : KeeperView → Option ℕ → Type 0
-IsLawful v hand = (across : ℕ) × (rows : List Row) × (frames : List ℕ) × (dups : List DupRow) × Placed v.table.shape across v.ledger rows frames dups hand
+IsLawful v hand = (across : ℕ) × (rows : List Row) × (frames : List (Option ℕ)) × (dups : List DupRow) × Placed v.table.shape across v.ledger rows frames dups hand
 
 -- the lives of a frame in which it doesn't hold one page alone
 abbrev pub past_lives : Kind → ℕ → ℕ

@@ -8,7 +8,7 @@ use Rattle.ksm_base.specs.declared.page.GuestPage.{GuestPage}
 use Rattle.ksm_base.specs.declared.row.PageState.TheVariants.{Merged}
 use Rattle.ksm_base.specs.declared.row.Row.{Row}
 use Rattle.ksm_base.specs.declared.row.DupRow.{DupRow}
-use Rattle.ksm_base.specs.Rows.{merged_state, merged_into, item_count, row_at, change_row, with_dup}
+use Rattle.ksm_base.specs.Rows.{merged_state, shared_state, merged_into, item_count, row_at, change_row, with_dup}
 use Rattle.ksm_base.specs.State.{BookState}
 use Rattle.ksm_base.specs.Values.{IsShape, frames_of}
 use Rattle.frame_table.specs.Named.{KeeperView}
@@ -23,7 +23,7 @@ use Rattle.ksm_book.specs.Listed.{Listed}
 pub record Lay : Type 0 where
   pub shape : Shape
   pub rows : List Row
-  pub frames : List ℕ
+  pub frames : List (Option ℕ)
   pub dups : List DupRow
   pub knobs : Knobs
   pub next : ℕ
@@ -68,17 +68,17 @@ Knows rows row fact = MatchOption (row_at row.page rows) ⊥ fact
 
 -- the page of a row has a frame of its own, on the row's home
 abbrev pub IsOnItsOwn : Row → Row → Type 0
-IsOnItsOwn row r = (merged_state r.state ≡ false) × (row.home ≡ r.home)
+IsOnItsOwn row r = (shared_state r.state ≡ false) × (row.home ≡ r.home)
 
 -- a row may stand in the stead of another on the same frame
 abbrev pub LodgesAs : Row → Row → Type 0
-LodgesAs row r = (row.home ≡ r.home) × (row.bytes ≡ r.bytes) × ((row.state ≡ r.state) ⊎ ((merged_state r.state ≡ false) × (merged_state row.state ≡ false)))
+LodgesAs row r = (row.home ≡ r.home) × (row.bytes ≡ r.bytes) × ((row.state ≡ r.state) ⊎ ((shared_state r.state ≡ false) × (shared_state row.state ≡ false)))
 
 -- a row with a frame of its own may join the dup of an item
 pub record Joins (lay : Lay) (row item : Row) : Type 0 where
   pub row_is : row_at row.page lay.rows ≡ Some row
   pub item_is : row_at item.page lay.rows ≡ Some item
-  pub alone : merged_state row.state ≡ false
+  pub alone : shared_state row.state ≡ false
   pub merged : merged_state item.state ≡ true
   pub bytes : row.bytes ≡ item.bytes
   pub room : (d : DupRow) × Contains lay.dups d × (merged_into d.number item.state ≡ true) × (item_count lay.rows d ≤ 1023)
@@ -94,7 +94,7 @@ founded lay place row = record lay { rows = change_row row.page (λ _. record ro
 -- a row may become the first item of a new dup at the place
 pub record Founds (lay : Lay) (place : ℕ) (row : Row) : Type 0 where
   pub row_is : row_at row.page lay.rows ≡ Some row
-  pub alone : merged_state row.state ≡ false
+  pub alone : shared_state row.state ≡ false
   pub inside : place < frames_of lay.shape
   pub vacant : IsVacant place lay.rows lay.dups
   pub numbers : All (λ d. d.number < lay.next) lay.dups
@@ -115,6 +115,8 @@ MovesOr old new dup node (Err (NoFrame n)) = TurnsAway (mapped_lay old) (mapped_
 MovesOr old new dup node (Err InUse) = FindsHeld (mapped_lay old) (mapped_lay new) dup node
 MovesOr old new dup node (Err fault) = ⊥
 
--- the keeper loaded the bytes from the frame, each word once, if there was a page to read
-abbrev pub LoadsIf : ℕ → Option (List ℕ) → KeeperView → KeeperView → Type 0
-LoadsIf frame bytes v w = MatchOption bytes (w ≡ v) (λ b. Did v w [] (loads frame 0 b))
+-- the keeper loaded the bytes from the frame, each word once, if there was a page to read and it has a frame
+abbrev pub LoadsIf : Option ℕ → Option (List ℕ) → KeeperView → KeeperView → Type 0
+LoadsIf frame None v w = w ≡ v
+LoadsIf None (Some bytes) v w = w ≡ v
+LoadsIf (Some frame) (Some bytes) v w = Did v w [] (loads frame 0 bytes)

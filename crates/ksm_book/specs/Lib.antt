@@ -17,3 +17,4 @@ pub mod Scanned
 pub mod Tallied
 pub mod Wanted
 pub mod Entered
+pub mod FrameSets

@@ -1,12 +1,12 @@
 -- The rows with their frames beside the dups with their items and the waiting pages, each told of the others' changes (own).
-use Rattle.std.specs.Prelude.{◌≡◌, ℕ, ◌+◌, ◌<◌, ◌≤◌, ◌^◌, false, List, Contains, All, Some, slice_set, Bool, not, ◌==◌}
+use Rattle.std.specs.Prelude.{◌≡◌, ℕ, ◌+◌, ◌<◌, ◌≤◌, ◌^◌, false, List, Option, Contains, All, Some, slice_set, Bool, not, ◌==◌}
 use Rattle.ksm_base.specs.declared.row.PageState.TheVariants.{Merged}
 use Rattle.ksm_base.specs.declared.row.Row.{Row}
 use Rattle.ksm_base.specs.declared.row.DupRow.{DupRow}
 use Rattle.ksm_base.specs.declared.knobs.Knobs.{Knobs}
 use Rattle.ksm_base.specs.declared.shape.Shape.{Shape}
 use Rattle.ksm_base.specs.Values.{IsShape, frames_of}
-use Rattle.ksm_base.specs.Rows.{InPageOrder, same_page, row_at, change_row, merged_state, merged_into, item_count}
+use Rattle.ksm_base.specs.Rows.{InPageOrder, same_page, row_at, change_row, shared_state, merged_into, item_count}
 use Rattle.ksm_base.specs.State.{tree_of}
 use Rattle.ksm_tree.specs.Bridge.{AreTied}
 use Rattle.ksm_tree.specs.Dups.{DupsState}
@@ -61,8 +61,8 @@ item_of_next p row = record row { state = Merged p.next }
 pub record MayPair (p : PagesView) (place : ℕ) (first second : Row) : Type 0 where
   pub first_is : row_at first.page p.listed.rows ≡ Some first
   pub second_is : row_at second.page p.listed.rows ≡ Some second
-  pub first_alone : merged_state first.state ≡ false
-  pub second_alone : merged_state second.state ≡ false
+  pub first_alone : shared_state first.state ≡ false
+  pub second_alone : shared_state second.state ≡ false
   pub apart : same_page first.page second.page ≡ false
   pub inside : place < frames_of p.shape
   pub vacant : IsVacant place p.listed.rows p.dups
@@ -70,13 +70,13 @@ pub record MayPair (p : PagesView) (place : ℕ) (first second : Row) : Type 0 w
   pub fresh : All (λ r. merged_into p.next r.state ≡ false) p.listed.rows
 
 -- a row and its frame stand in the stead of those of its page
-pub record Replaced (v w : Listed) (row : Row) (frame : ℕ) : Type 0 where
+pub record Replaced (v w : Listed) (row : Row) (frame : Option ℕ) : Type 0 where
   pub rows : w.rows ≡ slice_set v.rows (rank row.page v.rows) row
   pub frames : w.frames ≡ slice_set v.frames (rank row.page v.rows) frame
   pub changed : w.rows ≡ change_row row.page (λ _. row) v.rows
 
 -- two rows, one after the other, were replaced
-pub record ReplacedBoth (v w : Listed) (r s : Row) (frame : ℕ) : Type 0 where
+pub record ReplacedBoth (v w : Listed) (r s : Row) (frame : Option ℕ) : Type 0 where
   pub between : Listed
   pub first : Replaced v between r frame
   pub second : Replaced between w s frame

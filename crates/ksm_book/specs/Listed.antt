@@ -1,26 +1,26 @@
--- Rows in the order of their pages, each with its frame (own).
-use Rattle.std.specs.Prelude.{◌≡◌, ◌==◌, if◌then◌else◌, ℕ, ◌<◌, List, length, filter, Some, slice_index}
+-- Rows in the order of their pages, each with its frame, if it has one (own).
+use Rattle.std.specs.Prelude.{◌≡◌, if◌then◌else◌, ℕ, ◌<◌, List, length, filter, Option, Some}
 use Rattle.ksm_base.specs.declared.page.GuestPage.{GuestPage}
 use Rattle.ksm_base.specs.declared.row.Row.{Row}
 use Rattle.ksm_base.specs.Rows.{comes_before, row_at}
-use Rattle.ksm_book.specs.Placement.{row_in}
+use Rattle.ksm_book.specs.Placement.{frame_in, row_in, is_frame}
 
--- the rows in the order of their pages, and the frame of each, in the same order
+-- the rows in the order of their pages, and the frame of each that has one, in the same order
 pub record Listed : Type 0 where
   pub rows : List Row
-  pub frames : List ℕ
+  pub frames : List (Option ℕ)
 
 -- how many rows come before a page: where its row stands, or would stand
 abbrev pub rank : GuestPage → List Row → ℕ
 rank page rows = length (filter (λ r. comes_before r.page page) rows)
 
 -- the page's row, with its frame, stands at its rank
-pub record StandsAt (v : Listed) (page : GuestPage) (row : Row) (frame : ℕ) : Type 0 where
+pub record StandsAt (v : Listed) (page : GuestPage) (row : Row) (frame : Option ℕ) : Type 0 where
   pub inside : rank page v.rows < length v.rows
   pub row_is : row_in v.rows (rank page v.rows) ≡ row
-  pub frame_is : slice_index v.frames (rank page v.rows) ≡ frame
+  pub frame_is : frame_in v.frames (rank page v.rows) ≡ frame
   pub found : row_at page v.rows ≡ Some row
 
 -- the frame g in the stead of f
-abbrev pub instead : ℕ → ℕ → ℕ → ℕ
-instead f g h = if h == f then g else h
+abbrev pub instead : ℕ → ℕ → Option ℕ → Option ℕ
+instead f g frame = if is_frame f frame then Some g else frame

@@ -1,10 +1,10 @@
 -- What is promised of the book and its frames between any two calls (own).
-use Rattle.std.specs.Prelude.{◌≡◌, ◌≢◌, ℕ, ◌<◌, ◌≤◌, ◌^◌, Bool, true, false, not, List, ◌++◌, length, map, filter, AllPairs, All, Contains, Some, None}
+use Rattle.std.specs.Prelude.{◌≡◌, ◌≢◌, ℕ, ◌<◌, ◌≤◌, ◌^◌, Bool, true, false, not, List, ◌++◌, length, map, filter, AllPairs, All, Contains, Option, Some, None, MatchOption}
 use Rattle.std.specs.List.{zip}
 use Rattle.ksm_base.specs.declared.shape.Shape.{Shape}
 use Rattle.ksm_base.specs.declared.row.Row.{Row}
 use Rattle.ksm_base.specs.declared.row.DupRow.{DupRow}
-use Rattle.ksm_base.specs.Rows.{merged_state, merged_into, item_count, has_items}
+use Rattle.ksm_base.specs.Rows.{zero_state, shared_state, merged_into, item_count, has_items, all_zero}
 use Rattle.ksm_base.specs.State.{BookState, place_count}
 use Rattle.ksm_base.specs.Values.{frames_of}
 use Rattle.ksm_base.specs.Visit.{new_place}
@@ -14,10 +14,11 @@ use Rattle.frame_core.specs.declared.ledger.Ledger.{Ledger}
 use Rattle.frame_core.specs.declared.seat.Life.{Life}
 use Rattle.frame_core.specs.Ledger.{frame_at, named_at}
 use Rattle.ksm_book.specs.Placement.{node_of, place_frame}
+use Rattle.ksm_book.specs.Commands.{frame_number}
 
--- the frames of the rows that are not merged, where each row has one of these frames, in order
-abbrev pub own_frames : List Row → List ℕ → List ℕ
-own_frames rows frames = map (λ z. z.1) (filter (λ z. not (merged_state z.0.state)) (zip rows frames))
+-- the frames of the rows with a frame of their own, where each row has one of these frames or none, in order
+abbrev pub own_frames : List Row → List (Option ℕ) → List ℕ
+own_frames rows frames = map (λ z. frame_number z.1) (filter (λ z. not (shared_state z.0.state)) (zip rows frames))
 
 -- the frames of the dups with items, as their places name them
 abbrev pub dup_frames : BookState → Ledger → List ℕ
@@ -32,7 +33,7 @@ is_in_use Stable = true
 is_in_use Dying = false
 is_in_use Retired = false
 
--- a row that is not merged has its frame for itself, on its home and with its bytes
+-- a row with a frame of its own has it for itself, on its home and with its bytes
 pub record HasItsOwn (shape : Shape) (k : Ledger) (row : Row) (frame : ℕ) : Type 0 where
   pub exists : frame < frames_of shape
   pub kind : (frame_at k frame).kind ≡ Private
@@ -59,14 +60,16 @@ pub record IsOutlived (k : Ledger) (place : ℕ) : Type 0 where
   pub named : named_at k place ≡ Some life
   pub over : (frame_at k life.frame).generation ≡ life.generation → (frame_at k life.frame).kind ≢ Stable
 
--- rows, each with its frame, and dups lie lawfully in what the keeper knows
-pub record LieOn (b : BookState) (frames : List ℕ) (k : Ledger) : Type 0 where
-  -- each row has a frame
+-- rows, each with its frame if it has one, and dups lie lawfully in what the keeper knows
+pub record LieOn (b : BookState) (frames : List (Option ℕ)) (k : Ledger) : Type 0 where
+  -- each row has a frame, or none
   pub one_each : length frames ≡ length b.rows
-  -- a row that is not merged has its own
-  pub own : All (λ z. merged_state z.0.state ≡ false → HasItsOwn b.shape k z.0 z.1) (zip b.rows frames)
+  -- a row that is neither merged nor Zero has its own
+  pub own : All (λ z. shared_state z.0.state ≡ false → MatchOption z.1 ⊥ (HasItsOwn b.shape k z.0)) (zip b.rows frames)
   -- a merged row lies on the frame that its dup's place names
-  pub merged : All (λ z. All (λ d. merged_into d.number z.0.state ≡ true → z.1 ≡ place_frame k d.place) b.dups) (zip b.rows frames)
+  pub merged : All (λ z. All (λ d. merged_into d.number z.0.state ≡ true → z.1 ≡ Some (place_frame k d.place)) b.dups) (zip b.rows frames)
+  -- a Zero row has none, and reads zeroes alone
+  pub zero : All (λ z. zero_state z.0.state ≡ true → (z.1 ≡ None) × (all_zero z.0.bytes ≡ true)) (zip b.rows frames)
   -- a dup with items stands on that frame
   pub dups : All (λ d. has_items b.rows d ≡ true → StandsOn b k d (place_frame k d.place)) b.dups
   -- these frames differ from one another, and no other frame is in use
@@ -79,7 +82,7 @@ pub record LieOn (b : BookState) (frames : List ℕ) (k : Ledger) : Type 0 where
 
 -- beside a page with a frame of its own a new dup finds one of the places
 abbrev pub FindsPlace : BookState → Type 0
-FindsPlace b = (row : Row) → Contains b.rows row → merged_state row.state ≡ false → new_place (place_count b.shape) b.rows b.dups < place_count b.shape
+FindsPlace b = (row : Row) → Contains b.rows row → shared_state row.state ≡ false → new_place (place_count b.shape) b.rows b.dups < place_count b.shape
 
 -- the numbers of dups are small
 abbrev pub NumbersAreSmall : BookState → Type 0

@@ -14,11 +14,11 @@ abbrev pub row_of : GuestPage × Entry → Row
 row_of e = record { page = e.0; home = e.1.home; bytes = e.1.bytes; mergeable = e.1.mergeable; unchanged = e.1.unchanged; state = e.1.state }
 
 -- the frame of an entry
-abbrev pub frame_of : GuestPage × Entry → ℕ
+abbrev pub frame_of : GuestPage × Entry → Option ℕ
 frame_of e = e.1.frame
 
 -- what the map keeps of a row and its frame
-abbrev pub entry_of : Row → ℕ → Entry
+abbrev pub entry_of : Row → Option ℕ → Entry
 entry_of row frame = record { home = row.home; bytes = row.bytes; mergeable = row.mergeable; unchanged = row.unchanged; state = row.state; frame = frame }
 
 -- the rows and the frames of the entries, in their order

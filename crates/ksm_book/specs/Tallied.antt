@@ -1,7 +1,7 @@
 -- How many rows there are of each kind that is counted (own).
 use Rattle.std.specs.Prelude.{◌≡◌, ℕ, ◌+◌, ◌^◌, ◌<◌, ◌≤◌, Bool, ◌&&◌, List, count_by, if◌then◌else◌}
 use Rattle.ksm_base.specs.declared.row.Row.{Row}
-use Rattle.ksm_base.specs.Rows.{private_state, waiting_state, merged_state}
+use Rattle.ksm_base.specs.Rows.{private_state, waiting_state, merged_state, zero_state}
 use Rattle.ksm_book.specs.declared.tally.Tally.{Tally}
 
 -- mergeable rows that are Private, and those that wait
@@ -18,6 +18,7 @@ pub record IsTally (rows : List Row) (tally : Tally) : Type 0 where
   pub waiting : tally.waiting ≡ count_by (λ r. waiting_state r.state) rows
   pub volatile : tally.volatile ≡ count_by is_volatile rows
   pub pending : tally.pending ≡ count_by is_pending rows
+  pub zero : tally.zero ≡ count_by (λ r. zero_state r.state) rows
 
 -- what one row adds where it passes
 abbrev pub one_if : Bool → ℕ
@@ -30,6 +31,7 @@ pub record IsMore (row : Row) (less more : Tally) : Type 0 where
   pub waiting : more.waiting ≡ less.waiting + one_if (waiting_state row.state)
   pub volatile : more.volatile ≡ less.volatile + one_if (is_volatile row)
   pub pending : more.pending ≡ less.pending + one_if (is_pending row)
+  pub zero : more.zero ≡ less.zero + one_if (zero_state row.state)
 
 -- the tally counts the row
 pub record Counts (row : Row) (tally : Tally) : Type 0 where
@@ -38,6 +40,7 @@ pub record Counts (row : Row) (tally : Tally) : Type 0 where
   pub waiting : one_if (waiting_state row.state) ≤ tally.waiting
   pub volatile : one_if (is_volatile row) ≤ tally.volatile
   pub pending : one_if (is_pending row) ≤ tally.pending
+  pub zero : one_if (zero_state row.state) ≤ tally.zero
 
 -- there is room in each number for one more
 pub record IsSmall (tally : Tally) : Type 0 where
@@ -46,3 +49,4 @@ pub record IsSmall (tally : Tally) : Type 0 where
   pub waiting : tally.waiting + 1 < 2 ^ 64
   pub volatile : tally.volatile + 1 < 2 ^ 64
   pub pending : tally.pending + 1 < 2 ^ 64
+  pub zero : tally.zero + 1 < 2 ^ 64

@@ -1,9 +1,9 @@
--- Rows that leave their dups one after another, in order (own).
+-- Rows that leave their dups, or the zero page, one after another, in order (own).
 use Rattle.std.specs.Prelude.{◌≡◌, ℕ, zero, suc, length, slice_get, Bool, ◌&&◌, List, [], ◌∷◌, Option, None, Some, if◌then◌else◌}
 use Rattle.ksm_base.specs.declared.row.Row.{Row}
 use Rattle.ksm_base.specs.Answers.{every_row}
 use Rattle.ksm_base.specs.Refusals.{is_of}
-use Rattle.ksm_base.specs.Rows.{merged_state}
+use Rattle.ksm_base.specs.Rows.{shared_state}
 use Rattle.frame_table.specs.Named.{KeeperView}
 use Rattle.ksm_book.specs.Steps.{Does}
 use Rattle.ksm_book.specs.Keeping.{NoneLeft}
@@ -13,9 +13,9 @@ abbrev pub of_guest : Option ℕ → Row → Bool
 of_guest None = every_row
 of_guest (Some guest) = is_of guest
 
--- a merged row of the guest
-abbrev pub is_merged_of : Option ℕ → Row → Bool
-is_merged_of guest r = of_guest guest r && merged_state r.state
+-- a merged or Zero row of the guest
+abbrev pub is_shared_of : Option ℕ → Row → Bool
+is_shared_of guest r = of_guest guest r && shared_state r.state
 
 -- the rows with a change made to the first n that pass a test
 abbrev pub first_changed : (Row → Bool) → (Row → Row) → ℕ → List Row → List Row

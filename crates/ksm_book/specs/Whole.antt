@@ -5,7 +5,7 @@ use Rattle.ksm_base.specs.declared.command.Command.TheVariants.{Unmerge, MoveDup
 use Rattle.ksm_base.specs.declared.reply.Reply.TheVariants.{Done, Unmerged}
 use Rattle.ksm_base.specs.declared.fault.Fault.TheVariants.{NoFrame, InUse}
 use Rattle.ksm_base.specs.Refusals.{is_of}
-use Rattle.ksm_base.specs.Answers.{Answer, frame_needed, merged_rows, every_row}
+use Rattle.ksm_base.specs.Answers.{Answer, frame_needed, shared_rows, every_row}
 use Rattle.ksm_base.specs.State.{BookState}
 use Rattle.frame_core.specs.declared.event.KeeperStep.TheVariants.{Raise, Publish, Freeze}
 use Rattle.frame_core.specs.State.{count_in}
@@ -19,7 +19,7 @@ use Rattle.ksm_book.specs.Listed.{Listed}
 -- what is seen of the book: its state, the frame of each row, in the order of the rows, and the keeper
 pub record BookView : Type 0 where
   pub state : BookState
-  pub frames : List ℕ
+  pub frames : List (Option ℕ)
   pub keeper : KeeperView
 
 -- the rows with their frames
@@ -37,8 +37,8 @@ listed (Some node) = node ∷ []
 -- the nodes of the frames that a command needed and got, in order
 abbrev pub nodes_got : BookState → Answer → Command → List ℕ
 nodes_got b (Ok Done) command = listed (frame_needed b command)
-nodes_got b (Ok (Unmerged k stop)) (Unmerge guest) = map (λ r. r.home) (take k (merged_rows (is_of guest) b))
-nodes_got b (Ok (Unmerged k stop)) (SetRun v) = map (λ r. r.home) (take k (merged_rows every_row b))
+nodes_got b (Ok (Unmerged k stop)) (Unmerge guest) = map (λ r. r.home) (take k (shared_rows (is_of guest) b))
+nodes_got b (Ok (Unmerged k stop)) (SetRun v) = map (λ r. r.home) (take k (shared_rows every_row b))
 nodes_got b _ _ = []
 
 -- the exchange of a frame word was tried, and found another count than the keeper's references

@@ -1,6 +1,6 @@
 //! The book of page sharing.
 
-ghost use Rattle.std.specs.Prelude.{◌≡◌, ◌≤◌, [], Some, IfOk, IfErr, IfSome, option_map};
+ghost use Rattle.std.specs.Prelude.{◌≡◌, ◌≤◌, [], Some, IfOk, IfErr, IfSome, IsSome, option_map};
 ghost use Rattle.ksm_base.specs.Answers.{IsAnswerOrMemory};
 ghost use Rattle.ksm_base.specs.Apply.{after};
 ghost use Rattle.ksm_base.specs.Counting.{counters_of};
@@ -104,7 +104,7 @@ impl Book {
         self.state.lies_lawfully();
     }
 
-    /// The bytes of a page, loaded from the words of its frame; none where it has no row. They are those stored last by the journal.
+    /// The bytes of a page, loaded from the words of its frame, or zeroes where it is mapped from the zero page; none where it has no row. They are those stored last by the journal.
     pub fn read(&mut self, table: &FrameTable, page: GuestPage) -> Option<PageBytes>
         requires own { self.old.keeper.table ≡ table.now }
         ensures own { self.new.keeper.table ≡ self.old.keeper.table }
@@ -133,10 +133,12 @@ impl Book {
         self.state.ticket(page)
     }
 
-    /// The pages merged into the dup at a place, ascending; none where no dup with items stands there. Refused for memory alone.
+    /// The pages merged into the dup at a place, ascending; none where no dup with items stands there. Refused for memory alone, and
+    /// only where pages are there.
     pub fn mappers(&self, alloc: Global, place: u32) -> Result<Option<Vec<GuestPage>>, Fault>
         ensures mappers { IfOk result (λ pages. option_map (λ v. v.items) pages ≡ mappers_of place self.now.state) }
         ensures fault { IfErr result (λ fault. fault ≡ Fault.Memory) }
+        ensures refused { IfErr result (λ _. IsSome (mappers_of place self.now.state)) }
     {
         self.state.mappers(alloc, place)
     }
@@ -183,5 +185,6 @@ fn carry_out(state: &mut State, table: &FrameTable, command: Command) -> Result<
         Command::SetPagesToScan(pages) => state.set_pages_to_scan(pages),
         Command::SetAcross(across) => state.set_across(table, across),
         Command::SetLimit(limit) => state.set_limit(table, limit),
+        Command::SetZeroPages(zero_pages) => state.set_zero_pages(zero_pages),
     }
 }

@@ -5,7 +5,7 @@ ghost use Rattle.ksm_book.specs.RowEntries.{row_of, entry_of};
 
 use ksm_base::{GuestPage, PageBytes, PageState, Row};
 
-/// What a row says beside its page, and the frame that serves the page.
+/// What a row says beside its page, and the frame that serves the page, if one does.
 #[derive(Clone, Copy)]
 pub struct Entry {
     pub home: u32,
@@ -13,11 +13,11 @@ pub struct Entry {
     pub mergeable: bool,
     pub unchanged: bool,
     pub state: PageState,
-    pub frame: u32,
+    pub frame: Option<u32>,
 }
 
 impl Entry {
-    pub fn new(row: Row, frame: u32) -> Entry
+    pub fn new(row: Row, frame: Option<u32>) -> Entry
         ensures { result ≡ entry_of row frame }
     {
         let bytes = row.bytes;

@@ -1,33 +1,21 @@
 //! What the book has the keeper do with frames: find one and fill it, write it and read it, share it and give it back.
 
-ghost use Rattle.std.specs.Prelude.{◌≡◌, ◌<◌, ◌≤◌, ◌+◌, ◌*◌, false, None, Some, MatchOption, [], ◌∷◌, length, map, slice_set, Option, if◌then◌else◌};
+ghost use Rattle.std.specs.Prelude.{◌≡◌, ◌<◌, ◌≤◌, ◌+◌, ◌*◌, false, true, None, Some, is_some, IfSome, MatchOption, [], ◌∷◌, length, map, slice_set, Option, if◌then◌else◌};
 ghost use Rattle.ksm_base.specs.declared.page.TheConstants.{PAGE_WORDS as WORDS};
 ghost use Rattle.ksm_base.specs.Values.{frames_of, IsShape};
 ghost use Rattle.frame_core.specs.declared.event.KeeperStep.TheVariants.{Reap, Sub, Add, Withdraw};
 ghost use Rattle.frame_core.specs.declared.frame.Kind.TheVariants.{Stable as StableKind};
 ghost use Rattle.frame_core.specs.Ledger.{frame_at, named_at, IsLoose, IsReadable, IsWritable};
-ghost use Rattle.ksm_book.specs.Steps.{free_kind, dying_kind, dying_from, HasNoFree, IsLowestFree, Does, Made};
-ghost use Rattle.ksm_book.specs.Commands.{FindsNone, Provides};
+ghost use Rattle.ksm_book.specs.Steps.{dying_from, HasNoFree, IsLowestFree, Does, Made};
+ghost use Rattle.ksm_book.specs.Commands.{FindsNone, Provides, leaving};
 ghost use Rattle.ksm_book.specs.Keeping.{Reaped, IsLawful, Sought, Took, Wrote, Loaded, Keeps, spent};
 
-use frame_core::Kind;
-use frame_table::{FrameTable, Keeper};
+use crate::frame_keeper::FrameKeeper;
+use frame_table::FrameTable;
 use ksm_base::{PAGE_WORDS, PageBytes, Shape};
 
-fn is_free(kind: Kind) -> bool
-    ensures { result ≡ free_kind kind }
-{
-    matches!(kind, Kind::Free)
-}
-
-fn is_dying(kind: Kind) -> bool
-    ensures { result ≡ dying_kind kind }
-{
-    matches!(kind, Kind::Dying)
-}
-
 /// Reaps each dying one of `count` frames, ascending.
-pub fn reap_node(keeper: &mut Keeper, table: &FrameTable, first: u32, count: u32)
+pub fn reap_node(keeper: &mut FrameKeeper, table: &FrameTable, first: u32, count: u32)
     requires own { keeper.old.table ≡ table.now }
     requires inside { first + count ≤ frames_of keeper.old.table.shape }
     requires small { first + count < 1000000 }
@@ -36,32 +24,27 @@ pub fn reap_node(keeper: &mut Keeper, table: &FrameTable, first: u32, count: u32
     ensures reaped { Reaped keeper.old keeper.new first count }
     ensures made { Made keeper.old keeper.new (map Reap (dying_from keeper.old.ledger first count)) }
 {
-    for i in 0..count {
-        let frame = first + i;
-        if is_dying(keeper.kind(frame)) {
-            let _ = keeper.reap(table, frame);
-        }
+    let end = first + count;
+    let mut from = first;
+    'dying: while let Some(frame) = keeper.next_dying(from, end) {
+        let _ = keeper.reap(table, frame);
+        from = frame + 1;
     }
 }
 
 /// The lowest free one of the frames of a node.
-pub fn lowest_free(keeper: &Keeper, shape: Shape, node: u32) -> Option<u32>
+pub fn lowest_free(keeper: &FrameKeeper, shape: Shape, node: u32) -> Option<u32>
     requires shape { shape ≡ keeper.now.table.shape }
     requires checked { IsShape shape }
     requires node { node < shape.nodes }
     ensures { MatchOption result (HasNoFree keeper.now.table.shape keeper.now.ledger node) (IsLowestFree keeper.now.table.shape keeper.now.ledger node) }
 {
     let first = node * shape.frames_per_node;
-    for i in 0..shape.frames_per_node {
-        if is_free(keeper.kind(first + i)) {
-            return Some(first + i);
-        }
-    }
-    None
+    keeper.next_free(first, first + shape.frames_per_node)
 }
 
 /// Stores the bytes to a frame, word by word.
-pub fn write(keeper: &mut Keeper, table: &FrameTable, frame: u32, bytes: PageBytes)
+pub fn write(keeper: &mut FrameKeeper, table: &FrameTable, frame: u32, bytes: PageBytes)
     requires own { keeper.old.table ≡ table.now }
     requires inside { frame < frames_of keeper.old.table.shape }
     requires within { frame < length keeper.old.ledger.frames }
@@ -76,7 +59,7 @@ pub fn write(keeper: &mut Keeper, table: &FrameTable, frame: u32, bytes: PageByt
 }
 
 /// The words of a frame.
-pub fn load(keeper: &mut Keeper, table: &FrameTable, frame: u32) -> PageBytes
+pub fn load(keeper: &mut FrameKeeper, table: &FrameTable, frame: u32) -> PageBytes
     requires own { keeper.old.table ≡ table.now }
     requires inside { frame < frames_of keeper.old.table.shape }
     requires readable { IsReadable (frame_at keeper.old.ledger frame).kind }
@@ -94,7 +77,7 @@ pub fn load(keeper: &mut Keeper, table: &FrameTable, frame: u32) -> PageBytes
 
 /// A frame of the node with these bytes, in the hand of the caller, if one is free once the dying ones were reaped.
 pub fn take_frame(
-    keeper: &mut Keeper,
+    keeper: &mut FrameKeeper,
     table: &FrameTable,
     shape: Shape,
     node: u32,
@@ -125,7 +108,7 @@ pub fn take_frame(
 }
 
 /// Gives the frame in hand back.
-pub fn release(keeper: &mut Keeper, table: &FrameTable, frame: u32)
+pub fn release(keeper: &mut FrameKeeper, table: &FrameTable, frame: u32)
     requires own { keeper.old.table ≡ table.now }
     requires inside { frame < frames_of keeper.old.table.shape }
     requires lawful { IsLawful keeper.old (Some frame) }
@@ -138,8 +121,35 @@ pub fn release(keeper: &mut Keeper, table: &FrameTable, frame: u32)
     keeper.sub(table, frame);
 }
 
+/// The number of a frame that is there.
+pub fn known_frame(frame: Option<u32>) -> u32
+    requires { is_some frame ≡ true }
+    ensures { frame ≡ Some result }
+{
+    match frame {
+        Some(frame) => frame,
+        None => 0,
+    }
+}
+
+/// Gives the frame in hand back, if there is one.
+pub fn release_if(keeper: &mut FrameKeeper, table: &FrameTable, frame: Option<u32>)
+    requires own { keeper.old.table ≡ table.now }
+    requires inside { IfSome frame (λ f. f < frames_of keeper.old.table.shape) }
+    requires lawful { IsLawful keeper.old frame }
+    ensures own { keeper.new.table ≡ keeper.old.table }
+    ensures made { Made keeper.old keeper.new (leaving frame) }
+    ensures does { Does keeper.old keeper.new [] }
+    ensures keeps { Keeps keeper.old keeper.new frame None }
+    ensures spent { spent keeper.old.ledger ≤ spent keeper.new.ledger }
+{
+    if let Some(frame) = frame {
+        release(keeper, table, frame);
+    }
+}
+
 /// One more reference on a frame, in the hand of the caller.
-pub fn share(keeper: &mut Keeper, table: &FrameTable, frame: u32)
+pub fn share(keeper: &mut FrameKeeper, table: &FrameTable, frame: u32)
     requires own { keeper.old.table ≡ table.now }
     requires inside { frame < frames_of keeper.old.table.shape }
     requires lawful { IsLawful keeper.old None }
@@ -155,7 +165,7 @@ pub fn share(keeper: &mut Keeper, table: &FrameTable, frame: u32)
 }
 
 /// The place names nothing any more; it is withdrawn if it named something.
-pub fn clear(keeper: &mut Keeper, table: &FrameTable, place: u32, taken: bool)
+pub fn clear(keeper: &mut FrameKeeper, table: &FrameTable, place: u32, taken: bool)
     requires own { keeper.old.table ≡ table.now }
     requires inside { place < frames_of keeper.old.table.shape }
     requires loose { IsLoose keeper.old.ledger (named_at keeper.old.ledger place) }

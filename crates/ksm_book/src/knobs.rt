@@ -78,6 +78,21 @@ impl State {
         Ok(Reply::Done)
     }
 
+    /// Sets whether empty pages merge with the zero page.
+    pub fn set_zero_pages(&mut self, zero_pages: u32) -> Result<Reply, Fault>
+        ensures { CarriedOut self.old self.new (Command.SetZeroPages zero_pages) result }
+    {
+        if zero_pages > 1 {
+            return Err(Fault::BadValue);
+        }
+        let knobs = self.layout.knobs();
+        self.layout.set_knobs(Knobs {
+            use_zero_pages: zero_pages,
+            ..knobs
+        });
+        Ok(Reply::Done)
+    }
+
     /// Sets whether the scan stands (0) or runs (1), or unmerges all pages (2).
     pub fn set_run(&mut self, table: &FrameTable, run: u32) -> Result<Reply, Fault>
         requires own { self.old.keeper.table ≡ table.now }

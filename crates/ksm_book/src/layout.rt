@@ -1,9 +1,9 @@
 //! Rows and dups as they lie in the keeper's frames: each call is one lawful change of both.
 
-ghost use Rattle.std.specs.Prelude.{◌≡◌, ◌<◌, ◌≤◌, ◌+◌, ◌^◌, ◌⊎◌, [], true, false, None, Some, Err, All, count_by, filter, find, map, is_some, ◌==◌, ◌&&◌, option_map, OnOk, OnErr, IfOk, IfErr};
+ghost use Rattle.std.specs.Prelude.{◌≡◌, ◌<◌, ◌≤◌, ◌+◌, ◌^◌, ◌⊎◌, [], true, false, None, Some, Err, All, count_by, filter, find, map, is_some, ◌==◌, ◌&&◌, option_map, OnOk, OnErr, IfOk, IfErr, IsSome};
 ghost use Rattle.ksm_base.specs.declared.fault.Fault.TheVariants.{Memory};
-ghost use Rattle.ksm_base.specs.declared.row.PageState.TheVariants.{Private, Waiting, Merged};
-ghost use Rattle.ksm_base.specs.Rows.{row_at, with_row, without_page, change_row, change_rows, merged_state, merged_into, waiting_state, same_page, settled, has_items, is_stale, dup_numbered, InPlaceOrder};
+ghost use Rattle.ksm_base.specs.declared.row.PageState.TheVariants.{Private, Waiting, Merged, Zero};
+ghost use Rattle.ksm_base.specs.Rows.{row_at, with_row, without_page, change_row, change_rows, shared_state, merged_into, waiting_state, same_page, settled, has_items, is_stale, dup_numbered, InPlaceOrder};
 ghost use Rattle.ksm_base.specs.Counting.{counters_from, shared_count};
 ghost use Rattle.ksm_base.specs.Reading.{items_of};
 ghost use Rattle.ksm_base.specs.State.{default_knobs, place_count};
@@ -13,7 +13,7 @@ ghost use Rattle.ksm_base.specs.Refusals.{is_of};
 ghost use Rattle.ksm_base.specs.Values.{IsShape, frames_of};
 ghost use Rattle.frame_core.specs.Ledger.{first_ledger};
 ghost use Rattle.ksm_book.specs.Laid.{IsHoused, IsAdmitted, IsResettled, Knows, IsOnItsOwn, LodgesAs, Joins, Founds, founded, LoadsIf, mapped_lay};
-ghost use Rattle.ksm_book.specs.Commands.{frame_of, Performs, rewriting, dismissing, joining, founding, withdrawing, pruning};
+ghost use Rattle.ksm_book.specs.Commands.{frame_of, frame_on, Performs, rewriting, dismissing, emptying, joining, founding, withdrawing, pruning};
 ghost use Rattle.ksm_book.specs.Laid.{state_of};
 ghost use Rattle.ksm_book.specs.Linked.{IsVacant, elsewhere};
 ghost use Rattle.ksm_book.specs.Keeping.{spent};
@@ -22,7 +22,8 @@ ghost use Rattle.ksm_book.specs.Steps.{Does, Made};
 
 mod moving;
 
-use crate::frames::{clear, load, release, share, take_frame, write};
+use crate::frame_keeper::FrameKeeper;
+use crate::frames::{clear, known_frame, load, release_if, share, take_frame, write};
 use crate::pages::Pages;
 use crate::rows::Rows;
 use frame_table::{FrameTable, Keeper};
@@ -33,7 +34,7 @@ use std::marker::Model;
 /// The pages and the dups into which they are merged, and the keeper of their frames.
 pub struct Layout {
     pages: Pages,
-    keeper: Keeper,
+    keeper: FrameKeeper,
 }
 
 impl Model for Layout {
@@ -56,7 +57,10 @@ impl Layout {
         ensures refused { IfErr result (λ e. (e.0 ≡ keeper) × (e.1 ≡ Memory)) }
     {
         match Pages::open(alloc, shape) {
-            Ok(pages) => Ok(Layout { pages, keeper }),
+            Ok(pages) => Ok(Layout {
+                pages,
+                keeper: FrameKeeper::new(alloc, keeper, shape)?,
+            }),
             Err(fault) => Err((keeper, fault)),
         }
     }
@@ -69,7 +73,7 @@ impl Layout {
             pages: _pages,
             keeper,
         } = self;
-        keeper
+        keeper.close()
     }
 
     /// A law: rows and dups lie lawfully in what the keeper knows.
@@ -132,6 +136,7 @@ impl Layout {
     pub fn mappers(&self, alloc: Global, place: u32) -> Result<Option<Vec<GuestPage>>, Fault>
         ensures mappers { IfOk result (λ pages. option_map (λ v. v.items) pages ≡ option_map (items_of self.now.rows) (find (λ d. d.place == place && has_items self.now.rows d) self.now.dups)) }
         ensures fault { IfErr result (λ fault. fault ≡ Memory) }
+        ensures refused { IfErr result (λ _. IsSome (option_map (items_of self.now.rows) (find (λ d. d.place == place && has_items self.now.rows d) self.now.dups))) }
     {
         let Some(dup) = self.live_at(place) else {
             return Ok(None);
@@ -173,6 +178,7 @@ impl Layout {
             sharing: merged.saturating_sub(shared),
             unshared: rows.count_waiting() as u64,
             volatile: rows.count_volatile() as u64,
+            zero: rows.count_zero() as u64,
             chains: self.pages.count_chains() as u64,
             dups: self.pages.count_dups() as u64,
             full_scans: passes,
@@ -189,7 +195,7 @@ impl Layout {
         }
     }
 
-    /// The bytes of a page, loaded from the words of its frame.
+    /// The bytes of a page, loaded from the words of its frame; a Zero page has none, and no step is made.
     pub fn read(&mut self, table: &FrameTable, page: GuestPage) -> Option<PageBytes>
         requires own { self.old.keeper.table ≡ table.now }
         ensures own { self.new.keeper.table ≡ self.old.keeper.table }
@@ -200,7 +206,10 @@ impl Layout {
         let Some(held) = self.pages.find(page) else {
             return None;
         };
-        let bytes = load(&mut self.keeper, table, held.frame);
+        let Some(frame) = held.frame else {
+            return Some(held.row.bytes);
+        };
+        let bytes = load(&mut self.keeper, table, frame);
         Some(bytes)
     }
 
@@ -217,16 +226,16 @@ impl Layout {
         ensures fault { OnErr result (result ≡ Err Memory) }
     {
         let shape = self.pages.shape();
-        self.pages.insert(row, 0)?;
+        self.pages.insert(row, None)?;
         let Some(frame) = take_frame(&mut self.keeper, table, shape, row.home, row.bytes) else {
             self.pages.remove(row.page);
             return Ok(false);
         };
-        self.pages.replace(row, frame);
+        self.pages.replace(row, Some(frame));
         Ok(true)
     }
 
-    /// The page of a row gets a frame of the row's home with its bytes, and leaves the frame that it had. Says whether there was one.
+    /// The page of a row gets a frame of the row's home with its bytes, and leaves the frame that it had, if it had one. Says whether there was one.
     pub fn resettle(&mut self, table: &FrameTable, row: Row) -> bool
         requires own { self.old.keeper.table ≡ table.now }
         requires known { is_some (row_at row.page self.old.rows) ≡ true }
@@ -244,8 +253,8 @@ impl Layout {
         let Some(frame) = take_frame(&mut self.keeper, table, shape, home, row.bytes) else {
             return false;
         };
-        self.pages.replace(row, frame);
-        release(&mut self.keeper, table, held.frame);
+        self.pages.replace(row, Some(frame));
+        release_if(&mut self.keeper, table, held.frame);
         true
     }
 
@@ -262,7 +271,8 @@ impl Layout {
         let Some(held) = self.pages.find(row.page) else {
             return;
         };
-        write(&mut self.keeper, table, held.frame, row.bytes);
+        let frame = known_frame(held.frame);
+        write(&mut self.keeper, table, frame, row.bytes);
         self.pages.replace(row, held.frame);
     }
 
@@ -281,7 +291,7 @@ impl Layout {
     /// A row with a frame of its own waits from now on. Refused for memory alone.
     pub fn wait(&mut self, row: Row) -> Result<(), Fault>
         requires row_is { row_at row.page self.old.rows ≡ Some row }
-        requires alone { merged_state row.state ≡ false }
+        requires alone { shared_state row.state ≡ false }
         requires first { partner self.old.knobs self.old.rows row ≡ None }
         ensures state { OnOk result (self.new ≡ record self.old { rows = change_row row.page (λ _. record row { state = Waiting }) self.old.rows }) }
         ensures keeper { self.new.keeper ≡ self.old.keeper }
@@ -295,7 +305,24 @@ impl Layout {
         Ok(())
     }
 
-    /// The row of a page goes, and so does its reference on its frame.
+    /// The page of a row with a frame of its own becomes Zero, and leaves its frame.
+    pub fn become_zero(&mut self, table: &FrameTable, row: Row)
+        requires own { self.old.keeper.table ≡ table.now }
+        requires row_is { row_at row.page self.old.rows ≡ Some row }
+        requires alone { shared_state row.state ≡ false }
+        ensures own { self.new.keeper.table ≡ self.old.keeper.table }
+        ensures state { self.new ≡ record self.old { rows = change_row row.page (λ _. record row { state = Zero }) self.old.rows; frames = self.new.frames; keeper = self.new.keeper } }
+        ensures does { Does self.old.keeper self.new.keeper [] }
+        ensures performs { Performs (mapped_lay self.old) (mapped_lay self.new) (emptying (mapped_lay self.old).listed row) }
+    {
+        let Some(held) = self.pages.find(row.page) else {
+            return;
+        };
+        self.pages.become_zero(row);
+        release_if(&mut self.keeper, table, held.frame);
+    }
+
+    /// The row of a page goes, and so does its reference on its frame, if it has one.
     pub fn dismiss(&mut self, table: &FrameTable, page: GuestPage)
         requires own { self.old.keeper.table ≡ table.now }
         requires known { is_some (row_at page self.old.rows) ≡ true }
@@ -308,7 +335,7 @@ impl Layout {
             return;
         };
         self.pages.remove(page);
-        release(&mut self.keeper, table, gone.frame);
+        release_if(&mut self.keeper, table, gone.frame);
     }
 
     /// No page waits any more.
@@ -325,17 +352,17 @@ impl Layout {
         self.pages.make_mergeable(guest);
     }
 
-    /// All pages become Private and not unchanged, where none is merged.
+    /// All pages become Private and not unchanged, where none is merged or Zero.
     pub fn unshare_all(&mut self)
-        requires { All (λ r. merged_state r.state ≡ false) self.old.rows }
+        requires { All (λ r. shared_state r.state ≡ false) self.old.rows }
         ensures { self.new ≡ record self.old { rows = map unshared self.old.rows } }
     {
         self.pages.unshare_all();
     }
 
-    /// The pages of a guest that come before a row, or all of them, become Private, and neither mergeable nor unchanged, where none of them is merged.
+    /// The pages of a guest that come before a row, or all of them, become Private, and neither mergeable nor unchanged, where none of them is merged or Zero.
     pub fn let_go(&mut self, guest: u16, stop: Option<Row>)
-        requires { All (λ r. (is_of guest r && is_before stop r) ≡ true → merged_state r.state ≡ false) self.old.rows }
+        requires { All (λ r. (is_of guest r && is_before stop r) ≡ true → shared_state r.state ≡ false) self.old.rows }
         ensures { self.new ≡ record self.old { rows = change_rows (λ r. is_of guest r && is_before stop r) let_go self.old.rows } }
     {
         self.pages.let_go(guest, stop);
@@ -357,7 +384,7 @@ impl Layout {
         ensures own { self.new.keeper.table ≡ self.old.keeper.table }
         ensures state { OnOk result (self.new ≡ record self.old { rows = change_row row.page (λ _. record row { state = item.state }) self.old.rows; frames = self.new.frames; keeper = self.new.keeper }) }
         ensures does { Does self.old.keeper self.new.keeper [] }
-        ensures performs { OnOk result (Performs (mapped_lay self.old) (mapped_lay self.new) (joining (mapped_lay self.old).listed row (frame_of (mapped_lay self.old).listed item.page))) }
+        ensures performs { OnOk result (Performs (mapped_lay self.old) (mapped_lay self.new) (joining (mapped_lay self.old).listed row (frame_on (mapped_lay self.old).listed item.page))) }
         ensures refused { OnErr result (self.new ≡ self.old) }
         ensures fault { OnErr result (result ≡ Err Memory) }
     {
@@ -370,9 +397,10 @@ impl Layout {
         let Some(other) = self.pages.find(item.page) else {
             return Ok(());
         };
+        let frame = known_frame(other.frame);
         self.pages.join(row, number, other.frame)?;
-        share(&mut self.keeper, table, other.frame);
-        release(&mut self.keeper, table, lone.frame);
+        share(&mut self.keeper, table, frame);
+        release_if(&mut self.keeper, table, lone.frame);
         Ok(())
     }
 
@@ -402,12 +430,13 @@ impl Layout {
         let Some(lone) = self.pages.find(second.page) else {
             return Ok(());
         };
+        let frame = known_frame(held.frame);
         let taken = self.pages.has_dup(place);
         self.pages.pair(place, first, second, held.frame)?;
         clear(&mut self.keeper, table, place, taken);
-        self.keeper.publish(table, place, held.frame);
-        share(&mut self.keeper, table, held.frame);
-        release(&mut self.keeper, table, lone.frame);
+        self.keeper.publish(table, place, frame);
+        share(&mut self.keeper, table, frame);
+        release_if(&mut self.keeper, table, lone.frame);
         Ok(())
     }
 

@@ -3,6 +3,8 @@
 
 mod book;
 mod entry;
+mod frame_keeper;
+mod frame_set;
 mod frames;
 mod journal;
 mod knobs;

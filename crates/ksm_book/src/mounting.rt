@@ -11,12 +11,13 @@ ghost use Rattle.ksm_book.specs.Commands.{FindsNone, Finds, mounting};
 ghost use Rattle.ksm_book.specs.Mounted.{FoundFree, Added, Mounted};
 ghost use Rattle.ksm_book.specs.Steps.{Made};
 
+use crate::frame_keeper::FrameKeeper;
 use crate::frames::{load, lowest_free, reap_node, write};
-use frame_table::{FrameTable, Keeper};
+use frame_table::FrameTable;
 use ksm_base::Shape;
 
 /// The lowest free frame of a node, once its dying ones were reaped.
-pub fn seek(keeper: &mut Keeper, table: &FrameTable, shape: Shape, node: u32) -> Option<u32>
+pub fn seek(keeper: &mut FrameKeeper, table: &FrameTable, shape: Shape, node: u32) -> Option<u32>
     requires own { keeper.old.table ≡ table.now }
     requires shape { shape ≡ keeper.old.table.shape }
     requires checked { IsShape shape }
@@ -36,7 +37,7 @@ pub fn seek(keeper: &mut Keeper, table: &FrameTable, shape: Shape, node: u32) ->
 }
 
 /// So many references more on a frame that has one.
-fn add_times(keeper: &mut Keeper, table: &FrameTable, frame: u32, count: u64)
+fn add_times(keeper: &mut FrameKeeper, table: &FrameTable, frame: u32, count: u64)
     requires own { keeper.old.table ≡ table.now }
     requires inside { frame < frames_of keeper.old.table.shape }
     requires within { frame < length keeper.old.ledger.frames }
@@ -52,7 +53,14 @@ fn add_times(keeper: &mut Keeper, table: &FrameTable, frame: u32, count: u64)
 }
 
 /// A free frame gets the bytes of a dying one and so many references, and the place names it.
-pub fn mount(keeper: &mut Keeper, table: &FrameTable, left: u32, frame: u32, place: u32, count: u64)
+pub fn mount(
+    keeper: &mut FrameKeeper,
+    table: &FrameTable,
+    left: u32,
+    frame: u32,
+    place: u32,
+    count: u64,
+)
     requires own { keeper.old.table ≡ table.now }
     requires inside { frame < frames_of keeper.old.table.shape }
     requires within { frame < length keeper.old.ledger.frames }

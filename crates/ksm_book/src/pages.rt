@@ -3,11 +3,11 @@
 ghost use Rattle.std.specs.Prelude.{◌≡◌, ◌<◌, ◌⊎◌, ◌+◌, ◌≤◌, [], true, false, None, Some, Err, All, count_by, filter, find, length, map, insert, remove, slice_set, is_some, ◌==◌, ◌&&◌, option_map, IfOk, IfErr, IfSome, OnOk, OnErr, MatchOption};
 ghost use Rattle.std.specs.List.{list_any};
 ghost use Rattle.ksm_base.specs.declared.fault.Fault.TheVariants.{Memory};
-ghost use Rattle.ksm_base.specs.declared.row.PageState.TheVariants.{Private, Merged};
+ghost use Rattle.ksm_base.specs.declared.row.PageState.TheVariants.{Private, Merged, Zero};
 ghost use Rattle.ksm_base.specs.Apply.{is_before, let_go as as_let_go, unshared as as_unshared};
 ghost use Rattle.ksm_base.specs.Counting.{in_chain, leads_group, shared_count};
 ghost use Rattle.ksm_base.specs.Refusals.{is_of};
-ghost use Rattle.ksm_base.specs.Rows.{row_at, with_row, with_dup, without_page, change_row, change_rows, merged_state, merged_into, waiting_state, settled as as_settled, has_items, is_stale, dup_numbered};
+ghost use Rattle.ksm_base.specs.Rows.{row_at, with_row, with_dup, without_page, change_row, change_rows, shared_state, merged_into, waiting_state, settled as as_settled, has_items, is_stale, dup_numbered};
 ghost use Rattle.ksm_base.specs.State.{default_knobs, place_count};
 ghost use Rattle.ksm_base.specs.Values.{IsShape};
 ghost use Rattle.ksm_base.specs.Visit.{best_dup, partner as row_waiting, new_place as a_new_place};
@@ -235,7 +235,7 @@ impl Pages {
     }
 
     /// Adds the row of a page that has none, with its frame. Refused for memory alone, it changes nothing.
-    pub fn insert(&mut self, row: Row, frame: u32) -> Result<(), Fault>
+    pub fn insert(&mut self, row: Row, frame: Option<u32>) -> Result<(), Fault>
         requires absent { row_at row.page self.old.listed.rows ≡ None }
         requires alone { row.state ≡ Private }
         ensures rows { OnOk result (self.new.listed.rows ≡ insert self.old.listed.rows (rank row.page self.old.listed.rows) row) }
@@ -253,7 +253,7 @@ impl Pages {
     }
 
     /// Puts a row of its own and its frame in the stead of those of its page, which leaves its dup.
-    pub fn replace(&mut self, row: Row, frame: u32)
+    pub fn replace(&mut self, row: Row, frame: Option<u32>)
         requires known { is_some (row_at row.page self.old.listed.rows) ≡ true }
         requires alone { row.state ≡ Private }
         ensures rows { self.new.listed.rows ≡ slice_set self.old.listed.rows (rank row.page self.old.listed.rows) row }
@@ -285,10 +285,10 @@ impl Pages {
         self.rows.remove(page);
     }
 
-    /// A row that is not merged waits from now on, on its frame. Refused for memory alone, it changes nothing.
-    pub fn wait(&mut self, row: Row, frame: u32) -> Result<(), Fault>
+    /// A row with a frame of its own waits from now on, on it. Refused for memory alone, it changes nothing.
+    pub fn wait(&mut self, row: Row, frame: Option<u32>) -> Result<(), Fault>
         requires row_is { row_at row.page self.old.listed.rows ≡ Some row }
-        requires alone { merged_state row.state ≡ false }
+        requires alone { shared_state row.state ≡ false }
         requires first { row_waiting self.old.knobs self.old.listed.rows row ≡ None }
         ensures rows { OnOk result (self.new.listed.rows ≡ slice_set self.old.listed.rows (rank row.page self.old.listed.rows) (record row { state = PageState.Waiting })) }
         ensures frames { OnOk result (self.new.listed.frames ≡ slice_set self.old.listed.frames (rank row.page self.old.listed.rows) frame) }
@@ -309,10 +309,27 @@ impl Pages {
         Ok(())
     }
 
-    /// A row that is not merged becomes an item of a dup, on the dup's frame. Refused for memory alone, it changes nothing.
-    pub fn join(&mut self, row: Row, number: u64, frame: u32) -> Result<(), Fault>
+    /// A row becomes Zero, and has no frame any more.
+    pub fn become_zero(&mut self, row: Row)
         requires row_is { row_at row.page self.old.listed.rows ≡ Some row }
-        requires alone { merged_state row.state ≡ false }
+        requires alone { shared_state row.state ≡ false }
+        ensures rows { self.new.listed.rows ≡ slice_set self.old.listed.rows (rank row.page self.old.listed.rows) (record row { state = Zero }) }
+        ensures frames { self.new.listed.frames ≡ slice_set self.old.listed.frames (rank row.page self.old.listed.rows) None }
+        ensures changed { self.new.listed.rows ≡ change_row row.page (λ _. record row { state = Zero }) self.old.listed.rows }
+        ensures rest { self.new ≡ record self.old { listed = self.new.listed } }
+    {
+        stop_waiting(&mut self.waiting, &self.knobs, &row);
+        let zero = Row {
+            state: PageState::Zero,
+            ..row
+        };
+        self.rows.replace(zero, None);
+    }
+
+    /// A row with a frame of its own becomes an item of a dup, on the dup's frame. Refused for memory alone, it changes nothing.
+    pub fn join(&mut self, row: Row, number: u64, frame: Option<u32>) -> Result<(), Fault>
+        requires row_is { row_at row.page self.old.listed.rows ≡ Some row }
+        requires alone { shared_state row.state ≡ false }
         requires room { HasRoom self.old.listed.rows self.old.dups number }
         ensures rows { OnOk result (self.new.listed.rows ≡ slice_set self.old.listed.rows (rank row.page self.old.listed.rows) (record row { state = Merged number })) }
         ensures frames { OnOk result (self.new.listed.frames ≡ slice_set self.old.listed.frames (rank row.page self.old.listed.rows) frame) }
@@ -331,8 +348,14 @@ impl Pages {
         Ok(())
     }
 
-    /// Two rows that are not merged become the items of a new dup at a place, on one frame. A stale dup at the place goes. Refused for memory alone, it changes nothing.
-    pub fn pair(&mut self, place: u32, first: Row, second: Row, frame: u32) -> Result<(), Fault>
+    /// Two rows with frames of their own become the items of a new dup at a place, on one frame. A stale dup at the place goes. Refused for memory alone, it changes nothing.
+    pub fn pair(
+        &mut self,
+        place: u32,
+        first: Row,
+        second: Row,
+        frame: Option<u32>,
+    ) -> Result<(), Fault>
         requires { MayPair self.old place first second }
         ensures rows { OnOk result (ReplacedBoth self.old.listed self.new.listed (item_of_next self.old first) (item_of_next self.old second) frame) }
         ensures changed { OnOk result (self.new.listed.rows ≡ change_row second.page (λ _. item_of_next self.old second) (change_row first.page (λ _. item_of_next self.old first) self.old.listed.rows)) }
@@ -381,9 +404,9 @@ impl Pages {
         self.rows.make_mergeable(guest);
     }
 
-    /// Every row becomes Private and not unchanged, where none is merged.
+    /// Every row becomes Private and not unchanged, where none is merged or Zero.
     pub fn unshare_all(&mut self)
-        requires { All (λ r. merged_state r.state ≡ false) self.old.listed.rows }
+        requires { All (λ r. shared_state r.state ≡ false) self.old.listed.rows }
         ensures rows { self.new.listed.rows ≡ map as_unshared self.old.listed.rows }
         ensures frames { self.new.listed.frames ≡ self.old.listed.frames }
         ensures rest { self.new ≡ record self.old { listed = self.new.listed } }
@@ -392,9 +415,9 @@ impl Pages {
         self.waiting.clear();
     }
 
-    /// The rows of a guest that come before a row, or all of them, are alone and out of the scan, where none of them is merged.
+    /// The rows of a guest that come before a row, or all of them, are alone and out of the scan, where none of them is merged or Zero.
     pub fn let_go(&mut self, guest: u16, stop: Option<Row>)
-        requires { All (λ r. (is_of guest r && is_before stop r) ≡ true → merged_state r.state ≡ false) self.old.listed.rows }
+        requires { All (λ r. (is_of guest r && is_before stop r) ≡ true → shared_state r.state ≡ false) self.old.listed.rows }
         ensures rows { self.new.listed.rows ≡ change_rows (λ r. is_of guest r && is_before stop r) as_let_go self.old.listed.rows }
         ensures frames { self.new.listed.frames ≡ self.old.listed.frames }
         ensures rest { self.new ≡ record self.old { listed = self.new.listed } }

@@ -4,9 +4,12 @@ ghost use Rattle.std.specs.Prelude.{◌≡◌, ◌&&◌, bytes_eq, true, if◌th
 ghost use Rattle.ksm_base.specs.Answers.{every_row};
 ghost use Rattle.ksm_base.specs.Apply.{is_before, fresh_row as a_fresh_row, stored as with_bytes, moved as at_node, let_go as as_let_go, unshared as as_unshared};
 ghost use Rattle.ksm_base.specs.Refusals.{is_of as is_of_guest};
-ghost use Rattle.ksm_base.specs.Rows.{same_page as is_same_page, private_state, waiting_state, merged_state};
+ghost use Rattle.ksm_base.specs.Rows.{same_page as is_same_page, private_state, waiting_state, merged_state, zero_state, shared_state, all_zero as has_only_zeroes};
 ghost use Rattle.ksm_base.specs.State.{tree_of as row_tree};
-ghost use Rattle.ksm_book.specs.Unmerged.{is_merged_of as is_merged_of_guest};
+ghost use Rattle.ksm_base.specs.Visit.{is_for_zero as goes_to_zero};
+ghost use Rattle.ksm_book.specs.Placement.{is_frame as is_this_frame};
+ghost use Rattle.ksm_book.specs.Scanned.{stays as as_it_is};
+ghost use Rattle.ksm_book.specs.Unmerged.{is_shared_of as is_shared_of_guest};
 ghost use Rattle.ksm_book.specs.Wanted.{is_wanted as is_a_wanted};
 
 use ksm_base::{GuestPage, Knobs, PageBytes, PageState, Row};
@@ -16,8 +19,16 @@ use ksm_base::{GuestPage, Knobs, PageBytes, PageState, Row};
 pub enum Wanted {
     /// Those that the scan visits.
     Mergeable,
-    /// Merged ones of a guest, or of all guests where none is given.
-    MergedOf(Option<u16>),
+    /// Merged and Zero ones of a guest, or of all guests where none is given.
+    SharedOf(Option<u16>),
+}
+
+/// Visits of rows that stay as they are: how many there are, the page of the last, and the row that is visited then.
+#[derive(Clone, Copy)]
+pub struct Run {
+    pub visits: u64,
+    pub last: Option<GuestPage>,
+    pub next: Option<Row>,
 }
 
 pub fn same_page(p: GuestPage, q: GuestPage) -> bool
@@ -56,13 +67,50 @@ pub fn is_merged(state: PageState) -> bool
     matches!(state, PageState::Merged(_))
 }
 
-/// Whether a row is merged, and of the guest if one is given.
-pub fn is_merged_of(row: &Row, guest: Option<u16>) -> bool
-    ensures { result ≡ is_merged_of_guest guest row.now }
+pub fn is_zero(state: PageState) -> bool
+    ensures { result ≡ zero_state state }
+{
+    matches!(state, PageState::Zero)
+}
+
+/// Whether a page in this state is mapped from a page that others may read too.
+pub fn is_shared(state: PageState) -> bool
+    ensures { result ≡ shared_state state }
+{
+    matches!(state, PageState::Merged(_) | PageState::Zero)
+}
+
+/// Whether a visit leaves the row as it is.
+pub fn stays(row: &Row) -> bool
+    ensures { result ≡ as_it_is row.now }
+{
+    is_shared(row.state)
+}
+
+/// Whether each word is zero.
+pub fn all_zero(bytes: &PageBytes) -> bool
+    ensures { result ≡ has_only_zeroes bytes.now }
+{
+    bytes.iter().all(|word| *word == 0)
+}
+
+/// Whether a page has the frame with this number.
+pub fn is_frame(frame: Option<u32>, number: u32) -> bool
+    ensures { result ≡ is_this_frame number frame }
+{
+    match frame {
+        None => false,
+        Some(frame) => frame == number,
+    }
+}
+
+/// Whether a row is merged or Zero, and of the guest if one is given.
+pub fn is_shared_of(row: &Row, guest: Option<u16>) -> bool
+    ensures { result ≡ is_shared_of_guest guest row.now }
 {
     match guest {
-        None => is_merged(row.state),
-        Some(guest) => is_of(row, guest) && is_merged(row.state),
+        None => is_shared(row.state),
+        Some(guest) => is_of(row, guest) && is_shared(row.state),
     }
 }
 
@@ -72,8 +120,15 @@ pub fn is_wanted(row: &Row, wanted: Wanted) -> bool
 {
     match wanted {
         Wanted::Mergeable => row.mergeable,
-        Wanted::MergedOf(guest) => is_merged_of(row, guest),
+        Wanted::SharedOf(guest) => is_shared_of(row, guest),
     }
+}
+
+/// Whether a row has only zeroes, and these merge with the zero page.
+pub fn is_for_zero(knobs: &Knobs, row: &Row) -> bool
+    ensures { result ≡ goes_to_zero knobs.now row.now }
+{
+    knobs.use_zero_pages == 1 && all_zero(&row.bytes)
 }
 
 /// The tree in which a row is looked for.

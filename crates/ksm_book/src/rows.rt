@@ -1,26 +1,28 @@
-//! The rows in an ordered map: each page with what the book knows of it, and the frame that serves it.
+//! The rows in an ordered map: each page with what the book knows of it, and the frame that serves it, if one does.
 //!
 //! With n rows, `has`, `find`, `insert`, `replace` and `remove` take a number of steps in the order of log n. `next`
-//! and `next_merged` take as many, and one for each row that they pass over. All other calls walk over the rows, but
-//! for `len`.
+//! and `next_shared` take as many, and one for each row that they pass over; `run` so too, and one for each of its
+//! visits. `len`, `any_mergeable` and the counts take one. All other calls walk over the rows.
 
-ghost use Rattle.std.specs.Prelude.{◌≡◌, ◌<◌, ◌≤◌, [], None, Some, length, filter, find, count_by, map, insert, remove, slice_set, MatchOption, OnOk, OnErr, Err, is_some, true, option_map, ◌&&◌};
+ghost use Rattle.std.specs.Prelude.{◌≡◌, ◌<◌, ◌≤◌, [], None, Some, length, filter, find, count_by, map, insert, remove, slice_set, false, MatchOption, OnOk, OnErr, Err, is_some, true, option_map, ◌&&◌};
 ghost use Rattle.std.specs.List.{list_any};
 ghost use Rattle.std.specs.Map.Iter.{deref_pair};
 ghost use Rattle.ksm_base.specs.declared.fault.Fault.TheVariants.{Memory};
 ghost use Rattle.ksm_base.specs.Refusals.{is_of as is_of_guest};
 ghost use Rattle.ksm_base.specs.Apply.{is_before, let_go as as_let_go, unshared as as_unshared};
-ghost use Rattle.ksm_base.specs.Rows.{row_at, with_row, without_page, change_row, change_rows, private_state, waiting_state, merged_state, settled as as_settled};
+ghost use Rattle.ksm_base.specs.Rows.{row_at, with_row, without_page, change_row, change_rows, private_state, waiting_state, merged_state, zero_state, settled as as_settled};
 ghost use Rattle.ksm_base.specs.Visit.{after_cursor as comes_after, next_row as row_to_visit};
 ghost use Rattle.ksm_book.specs.Listed.{rank, StandsAt, instead};
 ghost use Rattle.ksm_book.specs.RowEntries.{row_of, start_after};
+ghost use Rattle.ksm_book.specs.Scanned.{stays as as_it_is, RunsOver};
 ghost use Rattle.ksm_book.specs.Tallied.{IsTally};
-ghost use Rattle.ksm_book.specs.Unmerged.{is_merged_of as is_merged_of_guest};
+ghost use Rattle.ksm_book.specs.Unmerged.{is_shared_of as is_shared_of_guest};
 ghost use Rattle.ksm_book.specs.Wanted.{is_wanted as is_a_wanted};
 
 use crate::entry::Entry;
 use crate::row::{
-    Wanted, is_merged, is_private, is_waiting, is_wanted, let_go_before, unshared, with_mergeable,
+    Run, Wanted, is_frame, is_merged, is_private, is_waiting, is_wanted, is_zero, let_go_before,
+    stays, unshared, with_mergeable,
 };
 use crate::tally::Tally;
 use ksm_base::{Fault, GuestPage, PageState, Row};
@@ -29,11 +31,11 @@ use std::collections::BTreeMap;
 use std::marker::Model;
 use std::ops::Bound;
 
-/// A row with the number of its frame.
+/// A row with the number of its frame; a row mapped from the zero page has none.
 #[derive(Clone, Copy, Debug)]
 pub struct Held {
     pub row: Row,
-    pub frame: u32,
+    pub frame: Option<u32>,
 }
 
 /// The rows in the order of their pages, each page once, each with its frame.
@@ -75,6 +77,32 @@ fn after_cursor(cursor: Option<GuestPage>) -> Bound<GuestPage>
     }
 }
 
+// The next visits, `most` at most, up to a row that does not stay as it is: one walk along the entries.
+fn run_along(entries: &BTreeMap<GuestPage, Entry>, cursor: Option<GuestPage>, most: u64) -> Run
+    ensures over { RunsOver (map row_of entries.now.entries) cursor result }
+    ensures most { result.visits ≤ most }
+    ensures longest { result.visits < most → MatchOption result.next (result.next ≡ None) (λ r. as_it_is r ≡ false) }
+{
+    let mut run = Run {
+        visits: 0,
+        last: cursor,
+        next: None,
+    };
+    for (page, entry) in entries.range((after_cursor(cursor), Bound::Unbounded)) {
+        if !entry.mergeable {
+            continue;
+        }
+        let row = entry.row(*page);
+        if run.visits == most || !stays(&row) {
+            run.next = Some(row);
+            return run;
+        }
+        run.visits += 1;
+        run.last = Some(*page);
+    }
+    run
+}
+
 // Counts the rows.
 fn tally_of(entries: &BTreeMap<GuestPage, Entry>) -> Tally
     ensures { IsTally (map row_of entries.now.entries) result }
@@ -96,6 +124,10 @@ fn tally_of(entries: &BTreeMap<GuestPage, Entry>) -> Tally
         pending: entries
             .values()
             .filter(|entry| entry.mergeable && is_waiting(entry.state))
+            .count(),
+        zero: entries
+            .values()
+            .filter(|entry| is_zero(entry.state))
             .count(),
     }
 }
@@ -135,7 +167,7 @@ impl Rows {
     }
 
     /// Adds the row of a page that has none, with its frame. Refused for memory alone, it changes nothing.
-    pub fn insert(&mut self, row: Row, frame: u32) -> Result<(), Fault>
+    pub fn insert(&mut self, row: Row, frame: Option<u32>) -> Result<(), Fault>
         requires { row_at row.page self.old.rows ≡ None }
         ensures rows { OnOk result (self.new.rows ≡ insert self.old.rows (rank row.page self.old.rows) row) }
         ensures frames { OnOk result (self.new.frames ≡ insert self.old.frames (rank row.page self.old.rows) frame) }
@@ -155,7 +187,7 @@ impl Rows {
     }
 
     /// Puts a row and its frame in the stead of those of its page, which has a row.
-    pub fn replace(&mut self, row: Row, frame: u32)
+    pub fn replace(&mut self, row: Row, frame: Option<u32>)
         requires { is_some (row_at row.page self.old.rows) ≡ true }
         ensures rows { self.new.rows ≡ slice_set self.old.rows (rank row.page self.old.rows) row }
         ensures frames { self.new.frames ≡ slice_set self.old.frames (rank row.page self.old.rows) frame }
@@ -205,11 +237,20 @@ impl Rows {
         self.first_after(cursor, Wanted::Mergeable)
     }
 
-    /// The first merged row of a guest after the cursor, or of all where no guest is given.
-    pub fn next_merged(&self, cursor: Option<GuestPage>, guest: Option<u16>) -> Option<Row>
-        ensures { result ≡ find (λ r. is_merged_of_guest guest r && comes_after cursor r.page) self.now.rows }
+    /// The next visits, `most` at most, up to a row that does not stay as it is.
+    pub fn run(&self, cursor: Option<GuestPage>, most: u64) -> Run
+        ensures over { RunsOver self.now.rows cursor result }
+        ensures most { result.visits ≤ most }
+        ensures longest { result.visits < most → MatchOption result.next (result.next ≡ None) (λ r. as_it_is r ≡ false) }
     {
-        self.first_after(cursor, Wanted::MergedOf(guest))
+        run_along(&self.entries, cursor, most)
+    }
+
+    /// The first merged or Zero row of a guest after the cursor, or of all where no guest is given.
+    pub fn next_shared(&self, cursor: Option<GuestPage>, guest: Option<u16>) -> Option<Row>
+        ensures { result ≡ find (λ r. is_shared_of_guest guest r && comes_after cursor r.page) self.now.rows }
+    {
+        self.first_after(cursor, Wanted::SharedOf(guest))
     }
 
     /// Whether the guest has a row.
@@ -252,6 +293,13 @@ impl Rows {
         ensures { result ≡ count_by (λ r. r.mergeable && private_state r.state) self.now.rows }
     {
         self.tally.volatile
+    }
+
+    /// How many rows are Zero.
+    pub fn count_zero(&self) -> usize
+        ensures { result ≡ count_by (λ r. zero_state r.state) self.now.rows }
+    {
+        self.tally.zero
     }
 
     // The calls that follow write every entry and drop none. They do it by `retain`, whose contract says what is
@@ -314,8 +362,8 @@ impl Rows {
         ensures frames { self.new.frames ≡ map (instead old new) self.old.frames }
     {
         self.entries.retain(|_, entry| {
-            if entry.frame == old {
-                entry.frame = new;
+            if is_frame(entry.frame, old) {
+                entry.frame = Some(new);
             }
             true
         });

@@ -1,20 +1,27 @@
 //! The scan: visits of mergeable pages, in the order of their pages, pass after pass.
 
-ghost use Rattle.std.specs.Prelude.{◌≡◌, [], None, Some, Err, OnOk, IfOk, OnErr, IfNone, IfSome, MatchOption, false};
+ghost use Rattle.std.specs.Prelude.{◌≡◌, ◌≤◌, [], None, Some, Err, OnOk, IfOk, OnErr, IfNone, IfSome, MatchOption, is_some, true, false};
 ghost use Rattle.ksm_base.specs.declared.fault.Fault.TheVariants.{Memory};
 ghost use Rattle.ksm_base.specs.Apply.{after};
-ghost use Rattle.ksm_base.specs.Rows.{merged_state};
-ghost use Rattle.ksm_base.specs.Visit.{visit, visit_begun, visit_ended, pass_ended_at_last, row_visited, paired, partner, next_row};
-ghost use Rattle.ksm_book.specs.Scanned.{GoesOnAt};
+ghost use Rattle.ksm_base.specs.Rows.{shared_state};
+ghost use Rattle.ksm_base.specs.Visit.{visit, visits, visit_begun, visit_ended, pass_ended_at_last, row_visited, paired, partner, stayed, next_row};
+ghost use Rattle.ksm_book.specs.Scanned.{GoesOnAt, stays as as_it_is};
 ghost use Rattle.ksm_book.specs.Steps.{Does};
 ghost use Rattle.ksm_book.specs.Carried.{CarriedOut};
 ghost use Rattle.ksm_book.specs.Whole.{mapped};
-ghost use Rattle.ksm_book.specs.Commands.{IsIdle, Performs, visiting, row_visiting, pairing};
+ghost use Rattle.ksm_book.specs.Commands.{IsIdle, Performs, scanning, visiting, row_visiting, staying, pairing};
 
-use crate::row::is_merged;
+use crate::row::{is_for_zero, is_shared, stays};
 use crate::state::State;
 use frame_table::FrameTable;
 use ksm_base::{Command, Fault, GuestPage, PageState, Reply, Row};
+
+// How many visits were made, and the row at which the pass goes on, if it does.
+#[derive(Clone, Copy)]
+struct Visited {
+    visits: u64,
+    next: Option<Row>,
+}
 
 impl State {
     /// Makes visits.
@@ -32,9 +39,13 @@ impl State {
             });
         }
         let mut next = None;
-        for done in 0..count {
-            match self.visit(table, next) {
-                Ok(found) => next = found,
+        let mut done = 0;
+        while done < count {
+            match self.visit_some(table, next, count - done) {
+                Ok(visited) => {
+                    done += visited.visits;
+                    next = visited.next;
+                }
                 Err(_) => {
                     return Ok(Reply::Scanned {
                         visits: done,
@@ -47,6 +58,57 @@ impl State {
             visits: count,
             stop: None,
         })
+    }
+
+    // At least one visit, and `most` at most: a run of them where the rows stay as they are. Says where the pass goes on then.
+    fn visit_some(
+        &mut self,
+        table: &FrameTable,
+        known: Option<Row>,
+        most: u64,
+    ) -> Result<Visited, Fault>
+        requires own { self.old.keeper.table ≡ table.now }
+        requires known { IfSome known (GoesOnAt self.old.state) }
+        requires most { 1 ≤ most }
+        ensures own { self.new.keeper.table ≡ self.old.keeper.table }
+        ensures some { IfOk result (λ v. 1 ≤ v.visits) }
+        ensures most { IfOk result (λ v. v.visits ≤ most) }
+        ensures ok { IfOk result (λ v. self.new.state ≡ visits v.visits self.old.state) }
+        ensures next { IfOk result (λ v. IfSome v.next (GoesOnAt self.new.state)) }
+        ensures err { OnErr result (self.new.state ≡ visit_begun self.old.state) }
+        ensures fault { OnErr result (result ≡ Err Memory) }
+        ensures does { Does self.old.keeper self.new.keeper [] }
+        ensures performs { IfOk result (λ v. Performs (mapped self.old) (mapped self.new) (scanning v.visits self.old.state self.old.frames)) }
+        ensures idle { OnErr result (IsIdle (mapped self.old) (mapped self.new)) }
+    {
+        if let Some(row) = known
+            && stays(&row)
+        {
+            return Ok(self.pass_over(row, most));
+        }
+        let next = self.visit(table, known)?;
+        Ok(Visited { visits: 1, next })
+    }
+
+    // Visits of rows that stay as they are, from the one at which the pass goes on.
+    fn pass_over(&mut self, row: Row, most: u64) -> Visited
+        requires known { GoesOnAt self.old.state row }
+        requires stays { as_it_is row ≡ true }
+        requires most { 1 ≤ most }
+        ensures some { 1 ≤ result.visits }
+        ensures most { result.visits ≤ most }
+        ensures state { self.new.state ≡ visits result.visits self.old.state }
+        ensures next { IfSome result.next (GoesOnAt self.new.state) }
+        ensures idle { IsIdle (mapped self.old) (mapped self.new) }
+        ensures performs { Performs (mapped self.old) (mapped self.new) (scanning result.visits self.old.state self.old.frames) }
+    {
+        let run = self.layout.rows().run(self.cursor, most);
+        self.cursor = run.last;
+        self.close_pass(run.next);
+        Visited {
+            visits: run.visits,
+            next: run.next,
+        }
     }
 
     // One visit, of the row at which the pass goes on, if that is known. Says where it goes on then. Where memory is refused, the visit has only begun.
@@ -77,11 +139,22 @@ impl State {
     {
         self.cursor?;
         let next = self.layout.rows().next(self.cursor);
+        self.close_pass(next);
+        next
+    }
+
+    // The pass ends if no row comes after the cursor.
+    fn close_pass(&mut self, next: Option<Row>)
+        requires under_way { is_some self.old.state.cursor ≡ true }
+        requires next { next ≡ next_row self.old.state.cursor self.old.state.rows }
+        ensures state { self.new.state ≡ pass_ended_at_last self.old.state }
+        ensures next { MatchOption next (self.new.state.cursor ≡ None) (GoesOnAt self.new.state) }
+        ensures idle { IsIdle (mapped self.old) (mapped self.new) }
+    {
         if next.is_none() {
             self.cursor = None;
             self.passes = self.passes.saturating_add(1);
         }
-        next
     }
 
     // What is done before a page is visited, where the row at which the pass goes on may be known. Gives the row to visit.
@@ -125,7 +198,7 @@ impl State {
         ensures performs { OnOk result (Performs (mapped self.old) (mapped self.new) (row_visiting self.old.state self.old.frames row)) }
         ensures idle { OnErr result (IsIdle (mapped self.old) (mapped self.new)) }
     {
-        if is_merged(row.state) {
+        if is_shared(row.state) {
             return Ok(());
         }
         if let Some(dup) = self.layout.best(&row) {
@@ -142,6 +215,26 @@ impl State {
             });
             return Ok(());
         }
+        self.stay(table, row)
+    }
+
+    // A page whose bytes stayed becomes Zero, or is merged with the one that waits for it, or waits.
+    fn stay(&mut self, table: &FrameTable, row: Row) -> Result<(), Fault>
+        requires own { self.old.keeper.table ≡ table.now }
+        requires next { next_row self.old.state.cursor self.old.state.rows ≡ Some row }
+        requires alone { shared_state row.state ≡ false }
+        ensures own { self.new.keeper.table ≡ self.old.keeper.table }
+        ensures ok { OnOk result (self.new.state ≡ stayed self.old.state row) }
+        ensures err { OnErr result (self.new.state ≡ self.old.state) }
+        ensures fault { OnErr result (result ≡ Err Memory) }
+        ensures does { Does self.old.keeper self.new.keeper [] }
+        ensures performs { OnOk result (Performs (mapped self.old) (mapped self.new) (staying self.old.state self.old.frames row)) }
+        ensures idle { OnErr result (IsIdle (mapped self.old) (mapped self.new)) }
+    {
+        if is_for_zero(&self.layout.knobs(), &row) {
+            self.layout.become_zero(table, row);
+            return Ok(());
+        }
         self.pair(table, row)
     }
 
@@ -149,7 +242,7 @@ impl State {
     fn pair(&mut self, table: &FrameTable, row: Row) -> Result<(), Fault>
         requires own { self.old.keeper.table ≡ table.now }
         requires next { next_row self.old.state.cursor self.old.state.rows ≡ Some row }
-        requires alone { merged_state row.state ≡ false }
+        requires alone { shared_state row.state ≡ false }
         ensures own { self.new.keeper.table ≡ self.old.keeper.table }
         ensures ok { OnOk result (self.new.state ≡ paired (partner self.old.state.knobs self.old.state.rows row) self.old.state row) }
         ensures err { OnErr result (self.new.state ≡ self.old.state) }

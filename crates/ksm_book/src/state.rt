@@ -1,6 +1,6 @@
 //! The state of the book, and its commands.
 
-ghost use Rattle.std.specs.Prelude.{◌≡◌, ◌≤◌, [], IfOk, IfErr, option_map};
+ghost use Rattle.std.specs.Prelude.{◌≡◌, ◌≤◌, [], IfOk, IfErr, IsSome, option_map};
 ghost use Rattle.ksm_base.specs.Values.{IsShape};
 ghost use Rattle.ksm_base.specs.State.{opening};
 ghost use Rattle.ksm_base.specs.Counting.{counters_of};
@@ -17,7 +17,7 @@ ghost use Rattle.ksm_book.specs.Promised.{FindsPlace, LieOn, NumbersAreSmall};
 ghost use Rattle.ksm_book.specs.Whole.{rows_in};
 
 use crate::layout::Layout;
-use crate::row::{fresh_row, is_merged, moved, stored};
+use crate::row::{fresh_row, is_shared, moved, stored};
 use frame_table::{FrameTable, Keeper};
 use ksm_base::{Command, Counters, Fault, GuestPage, Knobs, PageBytes, PageState, Reply, Shape};
 use std::alloc::Global;
@@ -81,7 +81,7 @@ impl State {
         self.layout.lies_lawfully();
     }
 
-    /// The bytes of a page, loaded from the words of its frame.
+    /// The bytes of a page, loaded from the words of its frame, if it has one.
     pub fn read(&mut self, table: &FrameTable, page: GuestPage) -> Option<PageBytes>
         requires own { self.old.keeper.table ≡ table.now }
         ensures own { self.new.keeper.table ≡ self.old.keeper.table }
@@ -129,7 +129,7 @@ impl State {
         let Some(row) = self.layout.row(page) else {
             return Err(Fault::UnknownPage);
         };
-        if !is_merged(row.state) {
+        if !is_shared(row.state) {
             self.layout.rewrite(table, stored(row, bytes));
             return Ok(Reply::Done);
         }
@@ -179,6 +179,7 @@ impl State {
     pub fn mappers(&self, alloc: Global, place: u32) -> Result<Option<Vec<GuestPage>>, Fault>
         ensures mappers { IfOk result (λ pages. option_map (λ v. v.items) pages ≡ mappers_of place self.now.state) }
         ensures fault { IfErr result (λ fault. fault ≡ Memory) }
+        ensures refused { IfErr result (λ _. IsSome (mappers_of place self.now.state)) }
     {
         self.layout.mappers(alloc, place)
     }

@@ -4,10 +4,11 @@ ghost use Rattle.std.specs.Prelude.{◌≡◌, ◌+◌, ◌≤◌};
 ghost use Rattle.ksm_base.specs.declared.row.Row.{Row};
 ghost use Rattle.ksm_book.specs.Tallied.{Counts, IsMore, IsSmall};
 
-use crate::row::{is_merged, is_private, is_waiting};
+use crate::row::{is_merged, is_private, is_waiting, is_zero};
 use ksm_base::Row;
 
-/// How many rows are mergeable, merged and waiting, how many mergeable ones are Private, and how many of them wait.
+/// How many rows are mergeable, merged and waiting, how many mergeable ones are Private, how many of them
+/// wait, and how many rows are Zero.
 #[derive(Clone, Copy)]
 pub struct Tally {
     pub mergeable: usize,
@@ -15,6 +16,7 @@ pub struct Tally {
     pub waiting: usize,
     pub volatile: usize,
     pub pending: usize,
+    pub zero: usize,
 }
 
 impl Tally {
@@ -25,6 +27,7 @@ impl Tally {
         waiting: 0,
         volatile: 0,
         pending: 0,
+        zero: 0,
     };
 
     /// With one row more.
@@ -39,6 +42,7 @@ impl Tally {
             waiting: self.waiting + usize::from(waits),
             volatile: self.volatile + usize::from(row.mergeable && is_private(row.state)),
             pending: self.pending + usize::from(row.mergeable && waits),
+            zero: self.zero + usize::from(is_zero(row.state)),
         }
     }
 
@@ -54,6 +58,7 @@ impl Tally {
             waiting: self.waiting - usize::from(waits),
             volatile: self.volatile - usize::from(row.mergeable && is_private(row.state)),
             pending: self.pending - usize::from(row.mergeable && waits),
+            zero: self.zero - usize::from(is_zero(row.state)),
         }
     }
 
@@ -72,13 +77,14 @@ impl Tally {
 
     /// Once every row is Private.
     pub fn unshared(self) -> Tally
-        ensures { result ≡ record self { merged = 0; waiting = 0; volatile = self.mergeable; pending = 0 } }
+        ensures { result ≡ record self { merged = 0; waiting = 0; volatile = self.mergeable; pending = 0; zero = 0 } }
     {
         Tally {
             merged: 0,
             waiting: 0,
             volatile: self.mergeable,
             pending: 0,
+            zero: 0,
             ..self
         }
     }

@@ -6,6 +6,7 @@ ghost use Rattle.ksm_base.specs.Sound.{IsSound};
 ghost use Rattle.ksm_book.specs.Laid.{state_of, MovesOr};
 ghost use Rattle.ksm_book.specs.Mounted.{IsMoved};
 
+use crate::frames::known_frame;
 use crate::layout::Layout;
 use crate::mounting::{mount, seek};
 use frame_table::FrameTable;
@@ -30,16 +31,17 @@ impl Layout {
         let Some(held) = self.pages.find(item.page) else {
             return Ok(());
         };
+        let left = known_frame(held.frame);
         let shape = self.pages.shape();
         let Some(frame) = seek(&mut self.keeper, table, shape, node) else {
             return Err(Fault::NoFrame(node));
         };
-        let items = self.keeper.base(held.frame);
-        if !self.keeper.freeze(table, held.frame) {
+        let items = self.keeper.base(left);
+        if !self.keeper.freeze(table, left) {
             return Err(Fault::InUse);
         }
-        mount(&mut self.keeper, table, held.frame, frame, dup.place, items);
-        self.pages.move_frames(held.frame, frame);
+        mount(&mut self.keeper, table, left, frame, dup.place, items);
+        self.pages.move_frames(left, frame);
         Ok(())
     }
 }

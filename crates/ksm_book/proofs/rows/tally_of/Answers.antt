@@ -2,7 +2,7 @@ use Rattle.std.proofs.Common.{refl, ◌∙◌, rules, tests}
 use Rattle.std.specs.Prelude.{◌&&◌}
 use Rattle.std.specs.Map.{values_of}
 use Rattle.std.proofs.lemmas.Iterator.Consumers.{YieldsList-at, YieldsList-from_rest, YieldsList-from_filter, count_from_yields_List}
-use Rattle.ksm_base.specs.Rows.{private_state, waiting_state, merged_state}
+use Rattle.ksm_base.specs.Rows.{private_state, waiting_state, merged_state, zero_state}
 use Rattle.ksm_base.specs.declared.row.Row.{Row}
 use Rattle.ksm_book.specs.declared.entry.Entry.{Entry}
 use Rattle.ksm_book.specs.RowEntries.{listed}
@@ -28,4 +28,7 @@ returns c =
       pending =
           count_from_yields_List _ c.count-5.result c.count-5.ensures.ran (YieldsList-from_filter _ (λ (e : Entry). e.mergeable && waiting_state e.state) (YieldsList-at c.filter-5.ensures.source (YieldsList-from_rest (values_of es) c.values-5.ensures.rest)) c.filter-5.ensures.closure (λ x b q k. search (rules, tests)))
           ∙ rows_passing (λ (r : Row). r.mergeable && waiting_state r.state) (λ e. e.mergeable && waiting_state e.state) (λ e. refl) es (listed es) refl;
+      zero =
+          count_from_yields_List _ c.count-6.result c.count-6.ensures.ran (YieldsList-from_filter _ (λ (e : Entry). zero_state e.state) (YieldsList-at c.filter-6.ensures.source (YieldsList-from_rest (values_of es) c.values-6.ensures.rest)) c.filter-6.ensures.closure (λ x b q k. search (rules, tests)))
+          ∙ rows_passing (λ (r : Row). zero_state r.state) (λ e. zero_state e.state) (λ e. refl) es (listed es) refl;
     }

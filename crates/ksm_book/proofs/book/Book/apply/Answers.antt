@@ -1,6 +1,5 @@
 use Rattle.std.proofs.Common.{subst}
 use Rattle.ksm_book.specs.Carried.{CarriedOut, JournaledBook, unjournaled}
-use Rattle.ksm_book.specs.Whole.{BookView}
 use Rattle.ksm_book.proofs.book.Book.apply.Goals as goal
 
 pub returns-in_default-clause-carried : goal.returns-in_default-clause-carried

@@ -1,4 +1,4 @@
-use Rattle.std.proofs.Common.{◌≡◌, ◌∙◌, ◌∷◌, [], refl, ap, sym, subst, arith}
+use Rattle.std.proofs.Common.{None, Some, ◌≡◌, ◌∙◌, ◌∷◌, [], refl, ap, sym, subst, arith}
 use Rattle.std.specs.Prelude.{insert, remove, slice_set}
 use Rattle.ksm_base.specs.Rows.{with_row}
 use Rattle.ksm_book.specs.Commands.{FindsNone, Provides}
@@ -18,7 +18,7 @@ module _ (c : goal.After-remove) where
   rows_back = c.remove.ensures.rows ∙ (λ t. remove (c.in_ok-insert.ensures.rows t) (c.in_ok-insert.ensures.place t)) ∙ remove_inserted old.rows (rank c.args.row.page old.rows) c.args.row c.in_ok-insert.ensures.within
 
   frames_back : c.remove.new.self.listed.frames ≡ old.frames
-  frames_back = c.remove.ensures.frames ∙ (λ t. remove (c.in_ok-insert.ensures.frames t) (c.in_ok-insert.ensures.place t)) ∙ remove_inserted old.frames (rank c.args.row.page old.rows) 0 (let p = c.in_ok-insert.ensures.paired in let w = c.in_ok-insert.ensures.within in omega (arith, p, w))
+  frames_back = c.remove.ensures.frames ∙ (λ t. remove (c.in_ok-insert.ensures.frames t) (c.in_ok-insert.ensures.place t)) ∙ remove_inserted old.frames (rank c.args.row.page old.rows) None (let p = c.in_ok-insert.ensures.paired in let w = c.in_ok-insert.ensures.within in omega (arith, p, w))
 
 pub invariant_of-self-in_default : goal.invariant_of-self-in_default
 invariant_of-self-in_default c =
@@ -49,8 +49,8 @@ module _ (c : goal.After-replace) where
   rows_there : c.replace.new.self.listed.rows ≡ insert c.self.inside.pages.listed.rows (rank c.args.row.page c.self.inside.pages.listed.rows) c.args.row
   rows_there = c.replace.ensures.rows ∙ (λ t. slice_set (c.in_ok-insert.ensures.rows t) (c.in_ok-insert.ensures.place t) c.args.row) ∙ set_inserted c.self.inside.pages.listed.rows (rank c.args.row.page c.self.inside.pages.listed.rows) c.args.row c.args.row c.in_ok-insert.ensures.within
 
-  frames_there : c.replace.new.self.listed.frames ≡ insert c.self.inside.pages.listed.frames (rank c.args.row.page c.self.inside.pages.listed.rows) c.in-Some.frame
-  frames_there = c.replace.ensures.frames ∙ (λ t. slice_set (c.in_ok-insert.ensures.frames t) (c.in_ok-insert.ensures.place t) c.in-Some.frame) ∙ set_inserted c.self.inside.pages.listed.frames (rank c.args.row.page c.self.inside.pages.listed.rows) 0 c.in-Some.frame (let p = c.in_ok-insert.ensures.paired in let w = c.in_ok-insert.ensures.within in omega (arith, p, w))
+  frames_there : c.replace.new.self.listed.frames ≡ insert c.self.inside.pages.listed.frames (rank c.args.row.page c.self.inside.pages.listed.rows) (Some c.in-Some.frame)
+  frames_there = c.replace.ensures.frames ∙ (λ t. slice_set (c.in_ok-insert.ensures.frames t) (c.in_ok-insert.ensures.place t) (Some c.in-Some.frame)) ∙ set_inserted c.self.inside.pages.listed.frames (rank c.args.row.page c.self.inside.pages.listed.rows) None (Some c.in-Some.frame) (let p = c.in_ok-insert.ensures.paired in let w = c.in_ok-insert.ensures.within in omega (arith, p, w))
 
 pub invariant_of-self-2 : goal.invariant_of-self-2
 invariant_of-self-2 c =
@@ -73,5 +73,5 @@ returns-clause-admitted c =
     record {
       frame = c.in-Some.frame;
       provides = subst (λ (x : Lay). Provides x.keeper k row.home row.bytes c.in-Some.frame) c.self.view_is c.in-Some.ensures.made;
-      frames = frames_there c ∙ ap (λ (x : Lay). insert x.frames (rank row.page x.rows) c.in-Some.frame) c.self.view_is;
+      frames = frames_there c ∙ ap (λ (x : Lay). insert x.frames (rank row.page x.rows) (Some c.in-Some.frame)) c.self.view_is;
     }

@@ -7,7 +7,7 @@ use Rattle.ksm_tree.proofs.Ties.{tied_absent}
 use Rattle.ksm_tree.proofs.Waiters.{row_stopped}
 use Rattle.ksm_tree.specs.Dups.{rows_of}
 use Rattle.ksm_book.specs.Linked.{AreKept, AreLinked, HasRoom}
-use Rattle.ksm_book.proofs.Linking.{linked_joined, known_room, fewer_room, only_rows}
+use Rattle.ksm_book.proofs.Linking.{own_not_merged, linked_joined, known_room, fewer_room, only_rows}
 use Rattle.ksm_book.proofs.pages.Pages.join.Goals as goal
 
 pub join-requires-clause-known : goal.join-requires-clause-known
@@ -23,7 +23,7 @@ join-requires-clause-fewer c =
 pub join-requires-clause-absent : goal.join-requires-clause-absent
 join-requires-clause-absent c =
     tied_absent c.self.inside.rows.rows c.args.row.page c.args.row c.self.invariant.linked.order
-    (ap (λ v. row_at c.args.row.page v.listed.rows) c.self.view_is ∙ c.requires.row_is) c.args.number c.self.inside.dups.dups c.requires.alone c.self.invariant.linked.tied
+    (ap (λ v. row_at c.args.row.page v.listed.rows) c.self.view_is ∙ c.requires.row_is) c.args.number c.self.inside.dups.dups (own_not_merged c.args.row.state c.requires.alone) c.self.invariant.linked.tied
 
 pub invariant_of-self-2 : goal.invariant_of-self-2
 invariant_of-self-2 c =
@@ -34,7 +34,7 @@ invariant_of-self-2 c =
     subst (λ rows. AreKept old.shape old.knobs rows c.join.new.self c.stop_waiting.new.waiting) (sym c.replace.ensures.changed)
     (record {
       linked = subst (AreLinked old.shape (change_row row.page (λ _. item) old.rows.rows)) (sym c.in_ok-join.ensures.joined)
-          (linked_joined old.shape old.rows.rows old.dups c.self.invariant.linked row item c.args.number found c.requires.alone refl);
+          (linked_joined old.shape old.rows.rows old.dups c.self.invariant.linked row item c.args.number found (own_not_merged row.state c.requires.alone) refl);
       waits = row_stopped old.knobs old.rows.rows old.waiting c.self.invariant.waits c.stop_waiting.new.waiting item row found refl c.stop_waiting.ensures;
     })
 

@@ -10,7 +10,7 @@ use Rattle.ksm_rmap.specs.Items.{with_item}
 use Rattle.ksm_tree.proofs.Changes.{rows_new}
 use Rattle.ksm_tree.specs.Dups.{DupsState, rows_of}
 use Rattle.ksm_book.specs.Linked.{AreKept, AreLinked, IsVacant, PagesView, next_dup}
-use Rattle.ksm_book.proofs.Linking.{known_still, linked_made, none_live}
+use Rattle.ksm_book.proofs.Linking.{known_still, linked_made, none_live, own_not_merged}
 use Rattle.ksm_book.proofs.Partners.{both_stopped}
 use Rattle.ksm_book.proofs.pages.Pages.pair.Goals as goal
 
@@ -41,7 +41,7 @@ invariant_of-self-2 c =
     subst (λ rs. AreKept old.shape old.knobs rs c.new_dup.new.self c.stop_waiting-2.new.waiting) (sym rows)
     (record {
       linked = subst (AreLinked old.shape (change_row second.page (λ _. item_of second) (change_row first.page (λ _. item_of first) old.rows.rows))) (sym c.in_ok-number.ensures.made)
-          (linked_made old.shape old.rows.rows old.dups c.self.invariant.linked first second row c.in_ok-number.ensures.lawful found also c.requires.first_alone c.requires.second_alone
+          (linked_made old.shape old.rows.rows old.dups c.self.invariant.linked first second row c.in_ok-number.ensures.lawful found also (own_not_merged first.state c.requires.first_alone) (own_not_merged second.state c.requires.second_alone)
           (subst (λ v. All (λ r. merged_into v.next r.state ≡ false) v.listed.rows) (sym c.self.view_is) c.requires.fresh) refl);
       waits = both_stopped old.knobs old.rows.rows old.waiting c.stop_waiting.new.waiting c.stop_waiting-2.new.waiting (item_of first) (item_of second) first second c.self.invariant.waits
           found also c.requires.apart refl refl c.stop_waiting.ensures c.stop_waiting-2.ensures;

@@ -6,7 +6,7 @@ use Rattle.ksm_base.specs.Visit.{partner}
 use Rattle.ksm_tree.proofs.Waiters.{row_begun, row_kept}
 use Rattle.ksm_tree.specs.Waits.{IsAdded, waiting_page}
 use Rattle.ksm_book.specs.Linked.{AreKept}
-use Rattle.ksm_book.proofs.Linking.{linked_alone}
+use Rattle.ksm_book.proofs.Linking.{linked_alone, own_not_merged}
 use Rattle.ksm_book.proofs.Partners.{nothing_waits}
 use Rattle.ksm_book.proofs.pages.Pages.wait.Goals as goal
 use Rattle.ksm_book.proofs.pages.Pages.wait.Goals.{then-not-is_waiting+in_ok-add, else-not-is_waiting}
@@ -27,7 +27,7 @@ invariant_of-self-2 c =
     let row = c.args.row in
     let waiting : Row = record row { state = Waiting } in
     let found = ap (λ v. row_at row.page v.listed.rows) c.self.view_is ∙ c.requires.row_is in
-    let linked = linked_alone old.shape old.rows.rows old.dups c.self.invariant.linked row waiting found c.requires.alone refl in
+    let linked = linked_alone old.shape old.rows.rows old.dups c.self.invariant.linked row waiting found (own_not_merged row.state c.requires.alone) refl in
     subst (λ rows. AreKept c.if-not-is_waiting.self-inside.shape c.if-not-is_waiting.self-inside.knobs rows c.if-not-is_waiting.self-inside.dups c.if-not-is_waiting.self-inside.waiting) (sym c.replace.ensures.changed)
     (elim c.if-not-is_waiting.branch [
       | then-not-is_waiting+in_ok-add w ↦

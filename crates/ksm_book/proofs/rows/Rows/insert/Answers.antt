@@ -4,7 +4,7 @@ use Rattle.ksm_book.specs.Listed.{Listed}
 use Rattle.ksm_book.specs.Tallied.{IsTally}
 use Rattle.ksm_book.specs.RowEntries.{entry_of, listed}
 use Rattle.ksm_book.proofs.RowLists.{order, Came, came}
-use Rattle.ksm_book.proofs.Tallies.{tally_counts, tally_put, tally_set, tally_small, tally_taken}
+use Rattle.ksm_book.proofs.Tallies.{tally_put}
 use Rattle.ksm_book.proofs.rows.Rows.insert.Goals as goal
 
 pub returns-in_err-insert-clause-within : goal.returns-in_err-insert-clause-within

@@ -1,6 +1,6 @@
 use Rattle.std.proofs.Common.{◌≡◌, ◌∙◌, sym, ap, map, subst, rules}
 use Rattle.ksm_book.specs.Listed.{Listed, instead}
-use Rattle.ksm_book.specs.RowEntries.{listed, row_of}
+use Rattle.ksm_book.specs.RowEntries.{listed}
 use Rattle.ksm_book.specs.Tallied.{IsTally}
 use Rattle.ksm_book.proofs.RowWalks.{moved, map_pairs, all_moved}
 use Rattle.ksm_book.proofs.rows.Rows.move_frames.Goals as goal

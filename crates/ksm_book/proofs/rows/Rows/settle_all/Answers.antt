@@ -2,7 +2,7 @@ use Rattle.std.proofs.Common.{◌≡◌, ◌∙◌, refl, sym, ap, map, subst, r
 use Rattle.std.specs.Prelude.{if◌then◌else◌}
 use Rattle.ksm_base.specs.declared.page.GuestPage.{GuestPage}
 use Rattle.ksm_base.specs.declared.row.PageState.{PageState}
-use Rattle.ksm_base.specs.declared.row.PageState.TheVariants.{Private, Waiting, Merged}
+use Rattle.ksm_base.specs.declared.row.PageState.TheVariants.{Private, Waiting, Merged, Zero}
 use Rattle.ksm_base.specs.Rows.{waiting_state, settled_state, settled}
 use Rattle.ksm_book.specs.declared.entry.Entry.{Entry}
 use Rattle.ksm_book.specs.Listed.{Listed}
@@ -20,6 +20,7 @@ calms : (s : PageState) → (if waiting_state s then Private else s) ≡ settled
 calms Private = refl
 calms Waiting = refl
 calms (Merged number) = refl
+calms Zero = refl
 
 written : (c : goal.After-self-1) → listed c.retain.new.self.entries ≡ record { rows = map settled c.args.self.now.rows; frames = c.args.self.now.frames }
 written c =

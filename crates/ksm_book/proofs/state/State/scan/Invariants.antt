@@ -1,4 +1,4 @@
-use Rattle.std.proofs.Common.{◌≡◌, []}
+use Rattle.std.proofs.Common.{◌≡◌, ◌≤◌, ◌-◌, []}
 use Rattle.std.specs.Prelude.{IfSome}
 use Rattle.ksm_base.specs.Visit.{visits}
 use Rattle.ksm_book.specs.Scanned.{GoesOnAt}
@@ -9,9 +9,13 @@ use Rattle.ksm_book.proofs.state.State.scan.Given as goal
 
 abbrev pub invariant-loop-done : goal.invariant-loop-done
 invariant-loop-done l = record {
+  most : l.done ≤ l.count;
   own : l.self.keeper.table ≡ l.fn.self.keeper.table;
   state : l.self.state ≡ visits l.done l.fn.self.state;
   next : IfSome l.next (GoesOnAt l.self.state);
   does : Does l.fn.self.keeper l.self.keeper [];
   performs : Performs (mapped l.fn.self) (mapped l.self) (scanning l.done l.fn.self.state l.fn.self.frames);
 }
+
+abbrev pub decreases-loop-done : goal.decreases-loop-done
+decreases-loop-done l = l.count - l.done

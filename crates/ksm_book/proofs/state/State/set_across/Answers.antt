@@ -7,7 +7,7 @@ use Rattle.std.proofs.Common.{inr, false}
 use Rattle.std.proofs.Common.{refl, zero, suc, List, ◌∷◌, arith}
 use Rattle.std.specs.Prelude.{[], All, filter, map, ◌==◌}
 use Rattle.ksm_base.specs.declared.row.PageState.{PageState}
-use Rattle.ksm_base.specs.declared.row.PageState.TheVariants.{Private, Waiting, Merged}
+use Rattle.ksm_base.specs.declared.row.PageState.TheVariants.{Private, Waiting, Merged, Zero}
 use Rattle.ksm_base.specs.declared.row.Row.{Row}
 use Rattle.ksm_base.specs.Rows.{has_items, settled, settled_state, waiting_state}
 use Rattle.std.proofs.lemmas.Bool.{ne_eqb}
@@ -44,4 +44,5 @@ set_knobs-requires-clause-rows c = inr (subst (λ (l : Lay). All (λ r. waiting_
         still Private = refl
         still Waiting = refl
         still (Merged n) = refl
+        still Zero = refl
     none_waits (r ∷ rows) (suc i) d lt = none_waits rows i d (omega (arith, lt))

@@ -16,7 +16,7 @@ changed rows page bytes row new rise found is = ap (λ (x : Row). change_row x.p
 pub rewrite-requires-clause-known : goal.rewrite-requires-clause-known
 rewrite-requires-clause-known c =
     let rows = c.self.inside.layout.rows in
-    let own : IsOnItsOwn (stored c.args.bytes c.in-Some.row) c.in-Some.row = (sym c.if-not-is_merged.ensures, refl) in
+    let own : IsOnItsOwn (stored c.args.bytes c.in-Some.row) c.in-Some.row = (sym c.if-not-is_shared.ensures, refl) in
     subst (λ x. Knows rows x (IsOnItsOwn x)) (sym c.stored.ensures) (found_as (IsOnItsOwn (stored c.args.bytes c.in-Some.row)) c.args.page rows c.in-Some.row (stored c.args.bytes c.in-Some.row) (sym c.in-Some.ensures) refl own)
 
 -- the page's row is stored to
@@ -24,8 +24,8 @@ written : (c : goal.After-rewrite) → state_of c.rewrite.new.self c.self.inside
 written c = ap (λ (x : Lay). state_of x c.self.inside.cursor c.self.inside.passes) c.rewrite.ensures.state
     ∙ ap (λ rows. state_of (record c.self.inside.layout { rows = rows }) c.self.inside.cursor c.self.inside.passes) (changed c.self.inside.layout.rows c.args.page c.args.bytes c.in-Some.row c.stored.result c.self.invariant.rows_rise (sym c.in-Some.ensures) c.stored.ensures)
 
-pub returns-then-not-is_merged : goal.returns-then-not-is_merged
-returns-then-not-is_merged c = record {
+pub returns-then-not-is_shared : goal.returns-then-not-is_shared
+returns-then-not-is_shared c = record {
   own = search rules;
   answer = search rules;
   state = rw (← ap (λ (x : BookView). x.state) c.self.view_is) (written c);

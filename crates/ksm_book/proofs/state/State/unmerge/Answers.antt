@@ -5,7 +5,7 @@ use Rattle.ksm_base.specs.declared.command.Command.TheVariants.{Unmerge}
 use Rattle.ksm_base.specs.declared.fault.Fault.{Fault}
 use Rattle.ksm_base.specs.declared.reply.Reply.TheVariants.{Unmerged}
 use Rattle.ksm_base.specs.declared.row.Row.{Row}
-use Rattle.ksm_base.specs.Answers.{IsAnswerOrMemory, merged_rows}
+use Rattle.ksm_base.specs.Answers.{IsAnswerOrMemory, shared_rows}
 use Rattle.ksm_base.specs.Apply.{is_before, let_go}
 use Rattle.ksm_base.specs.Refusals.{is_of}
 use Rattle.ksm_base.specs.Rows.{change_rows}
@@ -14,7 +14,7 @@ use Rattle.ksm_base.proofs.SoundSteps.{sound_after}
 use Rattle.ksm_book.specs.Carried.{UnmergesTo}
 use Rattle.ksm_book.specs.Laid.{Lay, state_of, mapped_lay}
 use Rattle.ksm_book.specs.Steps.{Does}
-use Rattle.ksm_book.specs.Unmerged.{is_merged_of}
+use Rattle.ksm_book.specs.Unmerged.{is_shared_of}
 use Rattle.ksm_book.specs.Whole.{BookView, mapped}
 use Rattle.ksm_book.proofs.Resettling.{unmerged_end}
 use Rattle.ksm_book.proofs.Unmerged.{met_rows, none_left, unmerged_state, unmerge_answer, gave_does, fault_of}
@@ -23,14 +23,14 @@ use Rattle.ksm_book.proofs.state.State.unmerge.Goals as goal
 pub let_go-requires : goal.let_go-requires
 let_go-requires c =
     let s = c.self.inside in
-    let done = c.unshare_merged-pages in
+    let done = c.unshare_pages-pages in
     none_left c.args.guest done.result.1 s.layout.rows done.new.layout.rows
     (met_rows c.args.guest s.layout.rows done.new.layout.rows done.result.0 done.result.1 c.self.invariant.rows_rise (ap (λ (x : Lay). x.rows) done.ensures.state) done.ensures.stop)
 
 pub invariant_of-self : goal.invariant_of-self
 invariant_of-self c =
     let s = c.self.inside in
-    let done = c.unshare_merged-pages in
+    let done = c.unshare_pages-pages in
     let known : c.has_guest.result ≡ true = grind (arith, c.if-not-has_guest.false) in
     let has : list_any (is_of c.args.guest) s.layout.rows ≡ true = sym (c.has_guest.ensures ∙ ap (list_any (is_of c.args.guest)) c.rows.ensures) ∙ known in
     let b = state_of s.layout s.cursor s.passes in
@@ -40,7 +40,7 @@ invariant_of-self c =
 pub returns : goal.returns
 returns c =
     let s = c.self.inside in
-    let done = c.unshare_merged-pages in
+    let done = c.unshare_pages-pages in
     record {
       own = search rules;
       answer =
@@ -56,11 +56,11 @@ returns c =
           done.ensures.state done.ensures.stop c.let_go.ensures
           ∙ ap (λ (x : BookView). record x.state {
             rows = change_rows
-                (λ r. is_of c.args.guest r && is_before (slice_get (filter (is_merged_of (Some c.args.guest)) x.state.rows) done.result.0) r) let_go
+                (λ r. is_of c.args.guest r && is_before (slice_get (filter (is_shared_of (Some c.args.guest)) x.state.rows) done.result.0) r) let_go
                 x.state.rows;
           }) c.self.view_is;
       steps =
-          let rows = λ (x : BookView). take done.result.0 (merged_rows (is_of c.args.guest) x.state) in
+          let rows = λ (x : BookView). take done.result.0 (shared_rows (is_of c.args.guest) x.state) in
           let now : BookView = record {
             state = state_of c.let_go.new.self s.cursor s.passes;
             frames = c.let_go.new.self.frames;
@@ -73,7 +73,7 @@ returns c =
           (unmerged_end (rows old) done.result.1 (mapped old) (mapped_lay done.new.layout) (mapped now) (ap (λ (x : Lay). x.keeper) c.let_go.ensures)
           (ap (λ (x : Lay). x.frames) c.let_go.ensures) done.ensures.resettled));
       frames =
-          let merged = λ (rows : List Row). filter (is_merged_of (Some c.args.guest)) rows in
+          let merged = λ (rows : List Row). filter (is_shared_of (Some c.args.guest)) rows in
           subst (λ (x : BookView). Does x.keeper c.let_go.new.self.keeper (map (λ (r : Row). r.home) (take done.result.0 (merged x.state.rows)))) c.self.view_is
           (subst (λ w. Does s.layout.keeper w (map (λ (r : Row). r.home) (take done.result.0 (merged s.layout.rows))))
           (sym (ap (λ (x : Lay). x.keeper) c.let_go.ensures))

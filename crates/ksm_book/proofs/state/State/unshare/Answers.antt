@@ -3,7 +3,7 @@ use Rattle.ksm_base.specs.declared.command.Command.TheVariants.{SetRun}
 use Rattle.ksm_base.specs.declared.fault.Fault.TheVariants.{NoFrame}
 use Rattle.ksm_base.specs.declared.reply.Reply.TheVariants.{Unmerged}
 use Rattle.ksm_base.specs.declared.row.Row.{Row}
-use Rattle.ksm_base.specs.Answers.{merged_rows, every_row}
+use Rattle.ksm_base.specs.Answers.{shared_rows, every_row}
 use Rattle.ksm_base.specs.Apply.{unshare_stopped}
 use Rattle.ksm_base.specs.Sound.{IsSound}
 use Rattle.ksm_base.proofs.SoundSteps.{sound_after}
@@ -19,7 +19,7 @@ use Rattle.ksm_book.proofs.state.State.unshare.Goals as goal
 pub returns-in-Some : goal.returns-in-Some
 returns-in-Some c =
     let s = c.self.inside in
-    let done = c.unshare_merged-pages in
+    let done = c.unshare_pages-pages in
     record {
       own = search rules;
       answer = search rules;
@@ -28,7 +28,7 @@ returns-in-Some c =
           done.ensures.state c.knobs-knobs.ensures c.set_knobs.ensures
           ∙ ap (λ (x : BookView). unshare_stopped (Some (NoFrame c.in-Some.row.home)) done.result.0 x.state) c.self.view_is;
       steps =
-          let rows = λ (x : BookView). take done.result.0 (merged_rows every_row x.state) in
+          let rows = λ (x : BookView). take done.result.0 (shared_rows every_row x.state) in
           let new = c.set_knobs.new.self in
           let now : BookView = record { state = state_of new s.cursor s.passes; frames = new.frames; keeper = new.keeper } in
           let old : BookView = record { state = state_of s.layout s.cursor s.passes; frames = s.layout.frames; keeper = s.layout.keeper } in
@@ -47,7 +47,7 @@ returns-in-Some c =
 pub invariant_of-self : goal.invariant_of-self
 invariant_of-self c =
     let s = c.self.inside in
-    let done = c.unshare_merged-pages in
+    let done = c.unshare_pages-pages in
     let b = state_of s.layout s.cursor s.passes in
     let at = subst (IsStop (merged_at s.layout.rows) done.result.0) c.in-Some.is done.ensures.stop in
     subst IsSound (sym (stopped_state s.layout done.new.layout c.set_knobs.new.self done.result.0 c.knobs-knobs.result s.cursor s.passes c.self.invariant.rows_rise done.ensures.state c.knobs-knobs.ensures c.set_knobs.ensures))
@@ -56,13 +56,13 @@ invariant_of-self c =
 pub unshare_all-requires : goal.unshare_all-requires
 unshare_all-requires c =
     let s = c.self.inside in
-    let done = c.unshare_merged-pages in
+    let done = c.unshare_pages-pages in
     none_merged s.layout.rows done.new.layout.rows done.result.0 done.result.1 c.self.invariant.rows_rise (ap (λ (x : Lay). x.rows) done.ensures.state) done.ensures.stop c.in_default.is
 
 pub returns : goal.returns
 returns c =
     let s = c.self.inside in
-    let done = c.unshare_merged-pages in
+    let done = c.unshare_pages-pages in
     record {
       own = search rules;
       answer = search rules;
@@ -71,7 +71,7 @@ returns c =
           c.self.invariant.rows_rise done.ensures.state c.knobs-knobs.ensures c.unshare_all.ensures c.set_knobs-2.ensures
           ∙ ap (λ (x : BookView). unshare_stopped None done.result.0 x.state) c.self.view_is;
       steps =
-          let rows = λ (x : BookView). take done.result.0 (merged_rows every_row x.state) in
+          let rows = λ (x : BookView). take done.result.0 (shared_rows every_row x.state) in
           let new = c.set_knobs-2.new.self in
           let now : BookView = record { state = state_of new None s.passes; frames = new.frames; keeper = new.keeper } in
           let old : BookView = record { state = state_of s.layout s.cursor s.passes; frames = s.layout.frames; keeper = s.layout.keeper } in
@@ -87,7 +87,7 @@ returns c =
 pub invariant_of-self-2 : goal.invariant_of-self-2
 invariant_of-self-2 c =
     let s = c.self.inside in
-    let done = c.unshare_merged-pages in
+    let done = c.unshare_pages-pages in
     let b = state_of s.layout s.cursor s.passes in
     let at = subst (IsStop (merged_at s.layout.rows) done.result.0) c.in_default.is done.ensures.stop in
     subst IsSound (sym (ended_state s.layout done.new.layout c.unshare_all.new.self c.set_knobs-2.new.self done.result.0 c.knobs-knobs.result s.cursor s.passes c.self.invariant.rows_rise done.ensures.state c.knobs-knobs.ensures c.unshare_all.ensures c.set_knobs-2.ensures))

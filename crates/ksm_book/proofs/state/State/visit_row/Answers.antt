@@ -7,7 +7,7 @@ use Rattle.ksm_base.specs.State.{BookState}
 use Rattle.ksm_base.specs.Visit.{is_best, next_row, row_visited}
 use Rattle.ksm_base.proofs.Edits.{find_passes}
 use Rattle.ksm_base.proofs.SoundScan.{next_row_visited, sound_row_visited}
-use Rattle.ksm_book.specs.Commands.{Performs, frame_of, frame_found, joining, listed_in, row_visiting}
+use Rattle.ksm_book.specs.Commands.{Performs, frame_on, frame_found, joining, listed_in, row_visiting}
 use Rattle.ksm_book.specs.Laid.{Lay, LodgesAs, state_of, mapped_lay}
 use Rattle.ksm_book.specs.Whole.{BookView, mapped}
 use Rattle.ksm_book.proofs.Found.{change_known, dup_known, found_as}
@@ -24,7 +24,7 @@ pub join-requires-clause-joins : goal.join-requires-clause-joins
 join-requires-clause-joins c =
     let s = c.self.inside in
     best_joins s.layout s.cursor s.passes c.args.row c.in-Some-item.item c.in-Some.dup c.self.invariant (ap (λ (x : BookView). next_row x.state.cursor x.state.rows) c.self.view_is ∙ c.requires.next)
-    (sym c.if-is_merged.ensures) (sym c.in-Some.ensures) (sym c.in-Some-item.ensures)
+    (sym c.if-is_shared.ensures) (sym c.in-Some.ensures) (sym c.in-Some-item.ensures)
 
 -- the page is an item of the dup
 there : (c : In_ok-join) → state_of c.join.new.self c.self.inside.cursor c.self.inside.passes ≡ row_visited (state_of c.self.inside.layout c.self.inside.cursor c.self.inside.passes) c.args.row
@@ -39,7 +39,7 @@ there c =
     ap (λ (x : Lay). state_of x s.cursor s.passes) c.in_ok-join.ensures.state
     ∙ ap (λ st. record b { rows = change_row row.page (λ _. record row { state = st }) s.layout.rows }) state
     ∙ ap (λ rows. record b { rows = rows }) (change_known row.page (λ r. record r { state = Merged dup.number }) s.layout.rows row c.self.invariant.rows_rise found)
-    ∙ sym (visited_by b row (Some dup) (sym c.if-is_merged.ensures) (sym c.in-Some.ensures))
+    ∙ sym (visited_by b row (Some dup) (sym c.if-is_shared.ensures) (sym c.in-Some.ensures))
 
 pub returns-in_ok-join-clause-ok : goal.returns-in_ok-join-clause-ok
 returns-in_ok-join-clause-ok c = there c ∙ ap (λ (x : BookView). row_visited x.state c.args.row) c.self.view_is
@@ -61,7 +61,7 @@ amend-requires-clause-known c =
     let s = c.self.inside in
     let row = c.args.row in
     let found = visited_at (state_of s.layout s.cursor s.passes) row c.self.invariant (ap (λ (x : BookView). next_row x.state.cursor x.state.rows) c.self.view_is ∙ c.requires.next) in
-    found_as (LodgesAs (record row { unchanged = true; state = Private })) row.page s.layout.rows row (record row { unchanged = true; state = Private }) found refl (refl, refl, inr (sym c.if-is_merged.ensures, refl))
+    found_as (LodgesAs (record row { unchanged = true; state = Private })) row.page s.layout.rows row (record row { unchanged = true; state = Private }) found refl (refl, refl, inr (sym c.if-is_shared.ensures, refl))
 
 marked : (c : goal.After-amend) → state_of c.amend.new.self c.self.inside.cursor c.self.inside.passes ≡ row_visited (state_of c.self.inside.layout c.self.inside.cursor c.self.inside.passes) c.args.row
 marked c =
@@ -71,7 +71,7 @@ marked c =
     let found = visited_at b row c.self.invariant (ap (λ (x : BookView). next_row x.state.cursor x.state.rows) c.self.view_is ∙ c.requires.next) in
     ap (λ (x : Lay). state_of x s.cursor s.passes) c.amend.ensures
     ∙ ap (λ rows. record b { rows = rows }) (change_known row.page (λ r. record r { unchanged = true; state = Private }) s.layout.rows row c.self.invariant.rows_rise found)
-    ∙ sym (visited_by b row None (sym c.if-is_merged.ensures) (sym c.in_default.ensures) ∙ marked_by b row c.if-not-row.true)
+    ∙ sym (visited_by b row None (sym c.if-is_shared.ensures) (sym c.in_default.ensures) ∙ marked_by b row c.if-not-row.true)
 
 pub returns-then-not-row-clause-ok : goal.returns-then-not-row-clause-ok
 returns-then-not-row-clause-ok c = marked c ∙ ap (λ (x : BookView). row_visited x.state c.args.row) c.self.view_is
@@ -90,8 +90,8 @@ returns-in_ok-join-clause-performs c =
     let frames = s.layout.frames in
     let row = c.args.row in
     let new : BookView = record { state = state_of c.join.new.self s.cursor s.passes; frames = c.join.new.self.frames; keeper = c.join.new.self.keeper } in
-    let deed : row_visiting b frames row ≡ joining (listed_in b frames) row (frame_of (listed_in b frames) c.in-Some-item.item.page) =
-    visiting_by b frames row (Some c.in-Some.dup) (sym c.if-is_merged.ensures) (sym c.in-Some.ensures)
+    let deed : row_visiting b frames row ≡ joining (listed_in b frames) row (frame_on (listed_in b frames) c.in-Some-item.item.page) =
+    visiting_by b frames row (Some c.in-Some.dup) (sym c.if-is_shared.ensures) (sym c.in-Some.ensures)
     ∙ ap (λ (o : Option Row). joining (listed_in b frames) row (frame_found (listed_in b frames) o)) (sym c.in-Some-item.ensures) in
     subst (λ (x : BookView). Performs (mapped x) (mapped new) (row_visiting x.state x.frames row)) c.self.view_is
     (subst (Performs (mapped_lay s.layout) (mapped new)) (sym deed) c.in_ok-join.ensures.performs)

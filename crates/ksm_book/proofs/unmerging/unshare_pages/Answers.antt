@@ -7,53 +7,53 @@ use Rattle.ksm_book.specs.Carried.{UnmergesTo}
 use Rattle.ksm_book.specs.Commands.{FindsNone, ResettlesEach}
 use Rattle.ksm_book.specs.Laid.{Lay, mapped_lay}
 use Rattle.ksm_book.specs.Steps.{Does}
-use Rattle.ksm_book.specs.Unmerged.{is_merged_of}
+use Rattle.ksm_book.specs.Unmerged.{is_shared_of}
 use Rattle.ksm_book.proofs.Logs.{chained}
 use Rattle.ksm_book.proofs.Onward.{IsDoneTo, found_onward, done_more}
 use Rattle.ksm_book.proofs.Resettling.{placed, resettled_as, each_more, taken_more, unmerged_end}
 use Rattle.ksm_book.proofs.Unmerged.{next_is, one_unshared, none_past, some_within, all_some, homes_more, find_known, filter_fits, order_kept, unshared_off}
-use Rattle.ksm_book.proofs.unmerging.unshare_merged.Goals as goal
+use Rattle.ksm_book.proofs.unmerging.unshare_pages.Goals as goal
 
 pub returns-in_default-clause-stop : goal.returns-in_default-clause-stop
 returns-in_default-clause-stop c =
     let rows = c.args.layout.now.rows in
-    let past = none_past (filter (is_merged_of c.args.guest) rows) c.loop-done.done
-    (next_is c.args.guest c.loop-done.done rows c.loop-done.layout.rows c.loop-done.layout.rows _ (ap (λ (x : Lay). x.rows) c.loop-done.invariant.state) refl (sym c.in_default.is ∙ found_onward (is_merged_of c.args.guest) c.loop-done.last c.loop-done.layout.rows c.rows-in-loop-done.result.now.rows c.next_merged.result c.loop-done.invariant.behind c.rows-in-loop-done.ensures c.next_merged.ensures)) in
+    let past = none_past (filter (is_shared_of c.args.guest) rows) c.loop-done.done
+    (next_is c.args.guest c.loop-done.done rows c.loop-done.layout.rows c.loop-done.layout.rows _ (ap (λ (x : Lay). x.rows) c.loop-done.invariant.state) refl (sym c.in_default.is ∙ found_onward (is_shared_of c.args.guest) c.loop-done.last c.loop-done.layout.rows c.rows-in-loop-done.result.now.rows c.next_shared.result c.loop-done.invariant.behind c.rows-in-loop-done.ensures c.next_shared.ensures)) in
     let within = c.loop-done.invariant.within in
     omega arith
 
-found : (c : goal.After-unshared) → slice_get (filter (is_merged_of c.args.guest) c.args.layout.now.rows) c.loop-done.done ≡ Some c.in-Some.row
-found c = next_is c.args.guest c.loop-done.done c.args.layout.now.rows c.loop-done.layout.rows c.loop-done.layout.rows (Some c.in-Some.row) (ap (λ (x : Lay). x.rows) c.loop-done.invariant.state) refl (sym c.in-Some.is ∙ found_onward (is_merged_of c.args.guest) c.loop-done.last c.loop-done.layout.rows c.rows-in-loop-done.result.now.rows c.next_merged.result c.loop-done.invariant.behind c.rows-in-loop-done.ensures c.next_merged.ensures)
+found : (c : goal.After-unshared) → slice_get (filter (is_shared_of c.args.guest) c.args.layout.now.rows) c.loop-done.done ≡ Some c.in-Some.row
+found c = next_is c.args.guest c.loop-done.done c.args.layout.now.rows c.loop-done.layout.rows c.loop-done.layout.rows (Some c.in-Some.row) (ap (λ (x : Lay). x.rows) c.loop-done.invariant.state) refl (sym c.in-Some.is ∙ found_onward (is_shared_of c.args.guest) c.loop-done.last c.loop-done.layout.rows c.rows-in-loop-done.result.now.rows c.next_shared.result c.loop-done.invariant.behind c.rows-in-loop-done.ensures c.next_shared.ensures)
 
 pub resettle-requires-clause-known : goal.resettle-requires-clause-known
 resettle-requires-clause-known c =
     ap (λ (x : Row). is_some (row_at x.page c.loop-done.layout.rows)) c.unshared.ensures
-    ∙ find_known (is_merged_of c.args.guest) c.loop-done.layout.rows c.in-Some.row (sym (sym c.in-Some.is ∙ found_onward (is_merged_of c.args.guest) c.loop-done.last c.loop-done.layout.rows c.rows-in-loop-done.result.now.rows c.next_merged.result c.loop-done.invariant.behind c.rows-in-loop-done.ensures c.next_merged.ensures))
+    ∙ find_known (is_shared_of c.args.guest) c.loop-done.layout.rows c.in-Some.row (sym (sym c.in-Some.is ∙ found_onward (is_shared_of c.args.guest) c.loop-done.last c.loop-done.layout.rows c.rows-in-loop-done.result.now.rows c.next_shared.result c.loop-done.invariant.behind c.rows-in-loop-done.ensures c.next_shared.ensures))
 
 pub resettle-requires-clause-home : goal.resettle-requires-clause-home
 resettle-requires-clause-home c =
     let rows = c.args.layout.now.rows in
     let P = λ (r : Row). r.home < c.args.layout.now.shape.nodes in
-    let home : c.in-Some.row.home < c.args.layout.now.shape.nodes = all_some P (filter (is_merged_of c.args.guest) rows) c.loop-done.done c.in-Some.row (All-filter (is_merged_of c.args.guest) P rows c.requires.homes) (found c) in
+    let home : c.in-Some.row.home < c.args.layout.now.shape.nodes = all_some P (filter (is_shared_of c.args.guest) rows) c.loop-done.done c.in-Some.row (All-filter (is_shared_of c.args.guest) P rows c.requires.homes) (found c) in
     let same = ap (λ (x : Lay). x.shape.nodes) c.loop-done.invariant.state in
     let kept = ap (λ (x : Row). x.home) c.unshared.ensures in
     omega arith
 
 pub returns-then-not-resettle-clause-stop : goal.returns-then-not-resettle-clause-stop
-returns-then-not-resettle-clause-stop c = next_is c.args.guest c.loop-done.done c.args.layout.now.rows c.loop-done.layout.rows c.loop-done.layout.rows (Some c.in-Some.row) (ap (λ (x : Lay). x.rows) c.loop-done.invariant.state) refl (sym c.in-Some.is ∙ found_onward (is_merged_of c.args.guest) c.loop-done.last c.loop-done.layout.rows c.rows-in-loop-done.result.now.rows c.next_merged.result c.loop-done.invariant.behind c.rows-in-loop-done.ensures c.next_merged.ensures)
+returns-then-not-resettle-clause-stop c = next_is c.args.guest c.loop-done.done c.args.layout.now.rows c.loop-done.layout.rows c.loop-done.layout.rows (Some c.in-Some.row) (ap (λ (x : Lay). x.rows) c.loop-done.invariant.state) refl (sym c.in-Some.is ∙ found_onward (is_shared_of c.args.guest) c.loop-done.last c.loop-done.layout.rows c.rows-in-loop-done.result.now.rows c.next_shared.result c.loop-done.invariant.behind c.rows-in-loop-done.ensures c.next_shared.ensures)
 
 pub loop-done-preserved : goal.loop-done-preserved
 loop-done-preserved c =
     let old = c.args.layout.now in
     let row = c.in-Some.row in
     let guest = c.args.guest in
-    let merged = filter (is_merged_of guest) old.rows in
+    let merged = filter (is_shared_of guest) old.rows in
     let housed = c.if-not-resettle.ensures.housed in
     let made = ap (λ (x : Lay). x.rows) c.loop-done.invariant.state in
-    let at : slice_get merged c.loop-done.done ≡ Some row = next_is c.args.guest c.loop-done.done c.args.layout.now.rows c.loop-done.layout.rows c.loop-done.layout.rows (Some c.in-Some.row) (ap (λ (x : Lay). x.rows) c.loop-done.invariant.state) refl (sym c.in-Some.is ∙ found_onward (is_merged_of c.args.guest) c.loop-done.last c.loop-done.layout.rows c.rows-in-loop-done.result.now.rows c.next_merged.result c.loop-done.invariant.behind c.rows-in-loop-done.ensures c.next_merged.ensures) in
-    let first_is : find (is_merged_of guest) c.loop-done.layout.rows ≡ Some row = sym (sym c.in-Some.is ∙ found_onward (is_merged_of c.args.guest) c.loop-done.last c.loop-done.layout.rows c.rows-in-loop-done.result.now.rows c.next_merged.result c.loop-done.invariant.behind c.rows-in-loop-done.ensures c.next_merged.ensures) in
+    let at : slice_get merged c.loop-done.done ≡ Some row = next_is c.args.guest c.loop-done.done c.args.layout.now.rows c.loop-done.layout.rows c.loop-done.layout.rows (Some c.in-Some.row) (ap (λ (x : Lay). x.rows) c.loop-done.invariant.state) refl (sym c.in-Some.is ∙ found_onward (is_shared_of c.args.guest) c.loop-done.last c.loop-done.layout.rows c.rows-in-loop-done.result.now.rows c.next_shared.result c.loop-done.invariant.behind c.rows-in-loop-done.ensures c.next_shared.ensures) in
+    let first_is : find (is_shared_of guest) c.loop-done.layout.rows ≡ Some row = sym (sym c.in-Some.is ∙ found_onward (is_shared_of c.args.guest) c.loop-done.last c.loop-done.layout.rows c.rows-in-loop-done.result.now.rows c.next_shared.result c.loop-done.invariant.behind c.rows-in-loop-done.ensures c.next_shared.ensures) in
     let rows = one_unshared guest c.loop-done.done old.rows c.loop-done.layout.rows row c.unshared.result c.requires.rise made c.unshared.ensures first_is in
-    let off = ap (is_merged_of guest) c.unshared.ensures ∙ unshared_off guest row in
+    let off = ap (is_shared_of guest) c.unshared.ensures ∙ unshared_off guest row in
     let first = c.loop-done.invariant.does in
     let second = housed.does in
     let homes = homes_more merged c.loop-done.done row at in
@@ -62,8 +62,8 @@ loop-done-preserved c =
       own = c.resettle.ensures.own ∙ c.loop-done.invariant.own;
       state = housed.state ∙ (λ i. record
           (c.loop-done.invariant.state i) { rows = rows i; frames = c.resettle.new.self.frames; keeper = c.resettle.new.self.keeper });
-      behind = subst (IsDoneTo (is_merged_of guest) (Some row.page)) (sym (ap (λ (x : Lay). x.rows) housed.state ∙ ap (λ (x : Row). change_row x.page (λ _. c.unshared.result) c.loop-done.layout.rows) c.unshared.ensures))
-          (done_more (is_merged_of guest) c.loop-done.layout.rows row c.unshared.result off (order_kept guest c.loop-done.done old.rows c.loop-done.layout.rows c.requires.rise made) first_is);
+      behind = subst (IsDoneTo (is_shared_of guest) (Some row.page)) (sym (ap (λ (x : Lay). x.rows) housed.state ∙ ap (λ (x : Row). change_row x.page (λ _. c.unshared.result) c.loop-done.layout.rows) c.unshared.ensures))
+          (done_more (is_shared_of guest) c.loop-done.layout.rows row c.unshared.result off (order_kept guest c.loop-done.done old.rows c.loop-done.layout.rows c.requires.rise made) first_is);
       does = subst (λ ns. Does old.keeper c.resettle.new.self.keeper ns)
           ((λ i. map (λ (r : Row). r.home) (take c.loop-done.done merged) ++ (c.unshared.ensures i).home ∷ []) ∙ sym homes)
           (_, chained old.keeper c.loop-done.layout.keeper c.resettle.new.self.keeper (map (λ (r : Row). r.home) (take c.loop-done.done merged)) (c.unshared.result.home ∷ []) first.0 second.0 first.1 second.1);
@@ -71,7 +71,7 @@ loop-done-preserved c =
           (placed old.rows c.resettle.new.self.frames c.resettle.new.self.keeper)) (sym (taken_more merged c.loop-done.done row at))
           (each_more old.rows (take c.loop-done.done merged) old.frames c.loop-done.layout.frames c.resettle.new.self.frames old.keeper
           c.loop-done.layout.keeper c.resettle.new.self.keeper row c.loop-done.invariant.resettled
-          (resettled_as (is_merged_of guest) c.loop-done.done old.rows c.loop-done.layout.rows c.loop-done.layout.frames c.loop-done.layout.keeper
+          (resettled_as (is_shared_of guest) c.loop-done.done old.rows c.loop-done.layout.rows c.loop-done.layout.frames c.loop-done.layout.keeper
           (mapped_lay c.resettle.new.self) row c.unshared.result made c.unshared.ensures c.if-not-resettle.ensures.resettled));
       within = omega arith;
     }
@@ -91,7 +91,7 @@ returns-then-not-resettle-clause-resettled c =
 
 pub returns-clause-stop : goal.returns-clause-stop
 returns-clause-stop c =
-    let fits = filter_fits (is_merged_of c.args.guest) c.args.layout.now.rows in
+    let fits = filter_fits (is_shared_of c.args.guest) c.args.layout.now.rows in
     let all : c.len-count.result ≡ length c.args.layout.now.rows = c.len-count.ensures ∙ ap length c.rows.ensures in
     let within = c.loop-done.invariant.within in
     omega arith
@@ -99,14 +99,14 @@ returns-clause-stop c =
 pub returns-in_default-clause-resettled : goal.returns-in_default-clause-resettled
 returns-in_default-clause-resettled c =
     let old = c.args.layout.now in
-    unmerged_end (take c.loop-done.done (filter (is_merged_of c.args.guest) old.rows)) None (mapped_lay old)
+    unmerged_end (take c.loop-done.done (filter (is_shared_of c.args.guest) old.rows)) None (mapped_lay old)
     (placed old.rows c.loop-done.layout.frames c.loop-done.layout.keeper) (mapped_lay c.loop-done.layout) refl refl c.loop-done.invariant.resettled
 
 pub returns-clause-resettled : goal.returns-clause-resettled
 returns-clause-resettled c =
     let old = c.args.layout.now in
-    let merged = filter (is_merged_of c.args.guest) old.rows in
-    let fits = filter_fits (is_merged_of c.args.guest) old.rows in
+    let merged = filter (is_shared_of c.args.guest) old.rows in
+    let fits = filter_fits (is_shared_of c.args.guest) old.rows in
     let all : c.len-count.result ≡ length old.rows = c.len-count.ensures ∙ ap length c.rows.ensures in
     let within = c.loop-done.invariant.within in
     let done : c.loop-done.done ≡ c.len-count.result = omega arith in
