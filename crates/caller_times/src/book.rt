@@ -1,5 +1,5 @@
 //! The pages of the book, and what its callers command.
-use ksm_base::{Command, GuestPage, PAGE_WORDS};
+use ksm_base::{Command, Fault, GuestPage, PAGE_WORDS};
 use ksm_shared::{Ksm, Naming, Share};
 use std::sync::Wait;
 
@@ -12,16 +12,41 @@ fn register(guest: u16, page: u32, word: u64) -> Command {
     }
 }
 
+// Makes a command, and makes it again where memory was refused.
+fn make<N: Naming>(rt: &impl Wait, ksm: &Ksm<N>, share: &mut Share<N>, command: Command) {
+    if ksm.command(rt, share, command).result() == Err(Fault::Memory) {
+        let _ = ksm.command(rt, share, command);
+    }
+}
+
 /// 64 pages of guest 0, merged in pairs, and a page for each of the guests 1 to 4.
 pub fn prepare<N: Naming>(rt: &impl Wait, ksm: &Ksm<N>, share: &mut Share<N>) {
     for page in 0..64 {
-        let _ = ksm.command(rt, share, register(0, page, u64::from(page / 2) + 1));
+        make(rt, ksm, share, register(0, page, u64::from(page / 2) + 1));
     }
-    let _ = ksm.command(rt, share, Command::SetRun(1));
-    let _ = ksm.command(rt, share, Command::Scan { visits: 128 });
+    make(rt, ksm, share, Command::SetRun(1));
+    make(rt, ksm, share, Command::Scan { visits: 128 });
     for guest in 1..5 {
-        let _ = ksm.command(rt, share, register(guest, 0, (1 << 40) + u64::from(guest)));
+        make(
+            rt,
+            ksm,
+            share,
+            register(guest, 0, (1 << 40) + u64::from(guest)),
+        );
     }
+}
+
+/// One store to the guest's page.
+pub fn store_one<N: Naming>(
+    rt: &impl Wait,
+    ksm: &Ksm<N>,
+    share: &mut Share<N>,
+    guest: u16,
+    round: u64,
+) {
+    let page = GuestPage { guest, page: 0 };
+    let bytes = [round; PAGE_WORDS];
+    make(rt, ksm, share, Command::Store { page, bytes });
 }
 
 /// So many stores to the guest's page.
@@ -32,10 +57,8 @@ pub fn store_all<N: Naming>(
     guest: u16,
     rounds: u64,
 ) -> Share<N> {
-    let page = GuestPage { guest, page: 0 };
     for round in 0..rounds {
-        let bytes = [round; PAGE_WORDS];
-        let _ = ksm.command(rt, &mut share, Command::Store { page, bytes });
+        store_one(rt, ksm, &mut share, guest, round);
     }
     share
 }

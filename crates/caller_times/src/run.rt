@@ -3,10 +3,11 @@ ghost use Rattle.std.specs.Prelude.{◌≡◌, ◌+◌, ◌≤◌, [], All, IsSo
 ghost use Rattle.ksm_base.specs.Values.{frames_of};
 
 use crate::book::{prepare, store_all};
+use crate::rows::ask_all;
 use crate::worker::{Worker, look_on};
 use frame_table::Pass;
 use ksm_base::{Command, Fault, Shape};
-use ksm_shared::{Ksm, Naming, Parts, Share, gather};
+use ksm_shared::{CounterReader, Ksm, Naming, Parts, Share, gather};
 use std::alloc::Global;
 use std::sync::Wait;
 use std::sync::atomic::{AtomicU64, Ordering};
@@ -27,6 +28,7 @@ pub enum Work {
     Commands,
     Lookups,
     Beside,
+    Rows,
 }
 
 /// What is done, in how many threads, and how many times in each.
@@ -128,6 +130,26 @@ fn look_beside<N: Naming + Send + Sync, R: Threads + Wait + Sync>(
     );
 }
 
+// Rows are asked for while a caller stores; answers the sum of the pages that they tell of.
+fn ask_for<N: Naming + Send + Sync, R: Threads + Wait + Sync>(
+    rt: &R,
+    ksm: &Ksm<N>,
+    shares: &mut Vec<Share<N>>,
+    readers: Vec<CounterReader<N>>,
+    asked: Asked,
+) -> u64 {
+    let Some(share) = shares.last_mut() else {
+        return 0;
+    };
+    let rounds = [
+        asked.rounds_of(0),
+        asked.rounds_of(1),
+        asked.rounds_of(2),
+        asked.rounds_of(3),
+    ];
+    ask_all(rt, ksm, share, readers, rounds)
+}
+
 // Scans until the others have ended.
 fn scan_on<N: Naming>(rt: &impl Wait, ksm: &Ksm<N>, share: &mut Share<N>, ended: &AtomicU64) {
     for _ in 0..u64::MAX {
@@ -205,11 +227,12 @@ fn look_for<N: Naming + Send + Sync, R: Threads + Wait + Sync>(
     take_back::<N>(workers, passes)
 }
 
-// All that is asked; answers the length of the journal, where nobody scanned, and the sum of all words read.
+// All that is asked; answers the length of the journal, where nobody scanned, and the sum of all words read, or of all pages told of.
 fn work_on<N: Naming + Send + Sync, R: Threads + Wait + Sync>(
     rt: &R,
     ksm: &Ksm<N>,
     mut shares: Vec<Share<N>>,
+    readers: Vec<CounterReader<N>>,
     passes: &mut Vec<Pass>,
     workers: Vec<Worker>,
     asked: Asked,
@@ -225,8 +248,13 @@ fn work_on<N: Naming + Send + Sync, R: Threads + Wait + Sync>(
         prepare(rt, ksm, share);
     }
     let mut looks = asked;
+    let mut told = 0u64;
     if let Work::Commands = asked.work {
         let _ = command_all(rt, ksm, &mut shares, asked);
+        looks.rounds = 0;
+    }
+    if let Work::Rows = asked.work {
+        told = ask_for(rt, ksm, &mut shares, readers, asked);
         looks.rounds = 0;
     }
     let scanner = match asked.work {
@@ -238,7 +266,7 @@ fn work_on<N: Naming + Send + Sync, R: Threads + Wait + Sync>(
         Ok(tally) => tally.entries,
         Err(_) => 0,
     };
-    (entries, sum)
+    (entries, sum.wrapping_add(told))
 }
 
 /// Opens the book, works on it, and closes it.
@@ -251,12 +279,12 @@ pub fn run<N: Naming + Send + Sync, R: Threads + Wait + Sync>(
     requires name { parts ≡ N.parts }
     requires shape { parts.frames.shape ≡ SHAPE }
 {
-    let (ksm, mut passes, shares) = Ksm::<N>::open(parts)?;
+    let (ksm, mut passes, shares, readers) = Ksm::<N>::open(parts)?;
     let Ok(workers) = Vec::with_capacity(alloc, 4) else {
         drop(ksm.close(rt, passes));
         return Err(Fault::Memory);
     };
-    let told = work_on(rt, &ksm, shares, &mut passes, workers, asked);
+    let told = work_on(rt, &ksm, shares, readers, &mut passes, workers, asked);
     drop(ksm.close(rt, passes));
     Ok(told)
 }

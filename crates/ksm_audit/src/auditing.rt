@@ -13,6 +13,7 @@ use crate::report::Report;
 use crate::room::{Room, load};
 use crate::work::work;
 use frame_table::{FrameTable, Pass};
+use ksm_shared::{Ksm, Naming};
 use std::alloc::Global;
 use std::thread::{Threads, for_each_mut};
 
@@ -51,19 +52,20 @@ fn work_all<R: Threads + Sync, G: Gate + Sync>(
 ///
 /// Workers run in threads of their own; one whose thread can't be started runs in the caller's. The passes come back in the order in which
 /// they were handed in, in their vector, and none of them holds. All memory is taken before the first lookup.
-pub fn audit<R: Threads + Sync, G: Gate + Sync>(
+pub fn audit<N: Naming, R: Threads + Sync, G: Gate + Sync>(
     rt: &R,
     alloc: Global,
-    table: &FrameTable,
+    ksm: &Ksm<N>,
     mut passes: Vec<Pass>,
     gate: &G,
 ) -> Result<(Report, Vec<Pass>), AuditFault>
     requires some { 0 < vec_len passes }
-    requires own { All (λ p. p.table ≡ table.now) passes.items }
-    ensures report { IfOk result (λ r. Audited table.now.shape passes.items r.0 r.1.items) }
-    ensures fault { IfErr result (λ fault. Faulted (G.may_refuse gate.now) table.now.shape passes.items fault) }
+    requires own { All (λ p. p.table ≡ N.parts.frames) passes.items }
+    ensures report { IfOk result (λ r. Audited N.parts.frames.shape passes.items r.0 r.1.items) }
+    ensures fault { IfErr result (λ fault. Faulted (G.may_refuse gate.now) N.parts.frames.shape passes.items fault) }
     ensures room { vec_capacity (passes_of result) ≡ vec_capacity passes }
 {
+    let table = ksm.table();
     let Ok(room) = Room::take(alloc, passes.len(), table.places()) else {
         return Err(AuditFault::Memory(passes));
     };

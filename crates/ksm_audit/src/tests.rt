@@ -1,15 +1,13 @@
-ghost use Rattle.std.specs.Prelude.{◌≡◌, ◌+◌, ◌<◌, ◌≤◌, All, length, vec_len};
-ghost use Rattle.ksm_base.specs.Values.{frames_of};
-ghost use Rattle.frame_core.specs.declared.event.KeeperStep.TheVariants.{Raise};
-ghost use Rattle.frame_core.specs.declared.frame.Kind.TheVariants.{Private, Stable, Dying};
-ghost use Rattle.frame_core.specs.Ledger.{frame_at};
-ghost use Rattle.frame_table.specs.Kept.{May};
-ghost use Rattle.frame_table.specs.Seats.{new_keeper};
+ghost use Rattle.std.specs.Prelude.{◌≡◌, ◌<◌, All, vec_len};
 
 use crate::{AuditFault, Gate, OpenGate, Report, Row, audit};
-use frame_table::{FrameTable, Keeper, Pass, Why};
-use ksm_base::{PAGE_WORDS, PageBytes, Shape};
+use frame_table::{Pass, Why};
+use ksm_base::{Command, Fault, GuestPage, PAGE_WORDS, PageBytes, Reply, Shape};
+use ksm_shared::{Ksm, Naming, Parts, Share};
 use std::alloc::Global;
+use std::marker::Brand;
+use std::process::Abort;
+use std::sync::Wait;
 use std::sync::atomic::{AtomicU64, Ordering};
 use std::test::Fail;
 use std::thread::{Threads, yield_now};
@@ -23,23 +21,9 @@ const SHAPE: Shape = Shape {
     tries: 8,
 };
 
-// Gives the frame its next life. Its first word is this, and each further word one more.
-fn give(table: &FrameTable, keeper: &mut Keeper, frame: u32, first: u64)
-    requires own { keeper.old.table ≡ table.now }
-    requires free { May keeper.old (Raise frame) }
-    requires width { length keeper.old.ledger.frames ≡ frames_of table.now.shape }
-    ensures own { keeper.new.table ≡ keeper.old.table }
-    ensures width { length keeper.new.ledger.frames ≡ frames_of table.now.shape }
-    ensures places { keeper.new.ledger.places ≡ keeper.old.ledger.places }
-    ensures kind { (frame_at keeper.new.ledger frame).kind ≡ Private }
-    ensures base { (frame_at keeper.new.ledger frame).base ≡ 1 }
-    ensures life { (frame_at keeper.new.ledger frame).generation ≡ (frame_at keeper.old.ledger frame).generation + 1 }
-{
-    keeper.raise(table, frame);
-    for i in 0..PAGE_WORDS {
-        keeper.put(table, frame, i, first.wrapping_add(i as u64));
-    }
-    keeper.open(table, frame);
+// A page of guest 0.
+fn at(page: u32) -> GuestPage {
+    GuestPage { guest: 0, page }
 }
 
 // A page whose first word is 7, and each further word one more.
@@ -51,52 +35,55 @@ fn page() -> PageBytes {
     page
 }
 
-// The frame 0 is named at the place 0.
-fn first_table(table: &FrameTable, keeper: &mut Keeper)
-    requires new { keeper.old ≡ new_keeper table.now }
-    requires shape { table.now.shape ≡ SHAPE }
-    ensures own { keeper.new.table ≡ table.now }
-    ensures width { length keeper.new.ledger.frames ≡ frames_of SHAPE }
-    ensures kind { (frame_at keeper.new.ledger 0).kind ≡ Stable }
-    ensures base { (frame_at keeper.new.ledger 0).base ≡ 2 }
-    ensures life { (frame_at keeper.new.ledger 0).generation ≡ 1 }
-{
-    give(table, keeper, 0, 7);
-    keeper.add(table, 0);
-    keeper.publish(table, 0, 0);
-}
-
-// The frame 0 dies.
-fn second_table(table: &FrameTable, keeper: &mut Keeper)
-    requires own { keeper.old.table ≡ table.now }
-    requires shape { table.now.shape ≡ SHAPE }
-    requires width { length keeper.old.ledger.frames ≡ frames_of SHAPE }
-    requires base { (frame_at keeper.old.ledger 0).base ≡ 2 }
-    requires life { (frame_at keeper.old.ledger 0).generation ≡ 1 }
-    ensures own { keeper.new.table ≡ table.now }
-    ensures width { length keeper.new.ledger.frames ≡ frames_of SHAPE }
-    ensures kind { (frame_at keeper.new.ledger 0).kind ≡ Dying }
-    ensures life { (frame_at keeper.new.ledger 0).generation ≡ 1 }
-{
-    keeper.sub(table, 0);
-    keeper.sub(table, 0);
-}
-
-// The frame 0 is given again, if its count is 0.
-fn third_table(table: &FrameTable, keeper: &mut Keeper) -> bool
-    requires own { keeper.old.table ≡ table.now }
-    requires shape { table.now.shape ≡ SHAPE }
-    requires width { length keeper.old.ledger.frames ≡ frames_of SHAPE }
-    requires kind { (frame_at keeper.old.ledger 0).kind ≡ Dying }
-    requires life { (frame_at keeper.old.ledger 0).generation ≡ 1 }
-    ensures own { keeper.new.table ≡ table.now }
-{
-    if !keeper.reap(table, 0) {
-        return false;
+fn register(number: u32, bytes: PageBytes) -> Command {
+    Command::Register {
+        page: at(number),
+        node: 0,
+        bytes,
     }
-    keeper.raise(table, 0);
-    keeper.open(table, 0);
-    true
+}
+
+fn store(number: u32, word: u64) -> Command {
+    Command::Store {
+        page: at(number),
+        bytes: [word; PAGE_WORDS],
+    }
+}
+
+// Makes the commands, and says whether each was done, or counted something.
+fn all_done<N: Naming>(
+    rt: &impl Wait,
+    ksm: &Ksm<N>,
+    share: &mut Share<N>,
+    commands: &[Command],
+) -> bool {
+    let mut done = true;
+    for command in commands {
+        done &= ksm.command(rt, share, *command).result().is_ok();
+    }
+    done
+}
+
+// Two pages are merged at the place 0, on the frame 0.
+fn first_book<N: Naming>(rt: &impl Wait, ksm: &Ksm<N>, share: &mut Share<N>) -> bool {
+    let scan = Command::Scan { visits: 4 };
+    let commands = [
+        register(0, page()),
+        register(1, page()),
+        Command::SetRun(1),
+        scan,
+    ];
+    all_done(rt, ksm, share, &commands)
+}
+
+// Both pages are written, so the frame 0 dies.
+fn second_book<N: Naming>(rt: &impl Wait, ksm: &Ksm<N>, share: &mut Share<N>) -> bool {
+    all_done(rt, ksm, share, &[store(0, 1), store(1, 2)])
+}
+
+// The frame 0 is given again, to a further page.
+fn third_book<N: Naming>(rt: &impl Wait, ksm: &Ksm<N>, share: &mut Share<N>) -> bool {
+    all_done(rt, ksm, share, &[register(2, [3; PAGE_WORDS])])
 }
 
 // How an audit ended.
@@ -125,19 +112,19 @@ impl Ending {
     }
 }
 
-fn audit_once<R: Threads + Sync, G: Gate + Sync>(
+fn audit_once<N: Naming, R: Threads + Sync, G: Gate + Sync>(
     rt: &R,
     alloc: Global,
-    table: &FrameTable,
+    ksm: &Ksm<N>,
     passes: Vec<Pass>,
     gate: &G,
 ) -> (Ending, Vec<Pass>)
     requires some { 0 < vec_len passes }
-    requires own { All (λ p. p.table ≡ table.now) passes.items }
+    requires own { All (λ p. p.table ≡ N.parts.frames) passes.items }
     ensures count { vec_len result.1 ≡ vec_len passes }
-    ensures own { All (λ p. p.table ≡ table.now) result.1.items }
+    ensures own { All (λ p. p.table ≡ N.parts.frames) result.1.items }
 {
-    match audit(rt, alloc, table, passes, gate) {
+    match audit(rt, alloc, ksm, passes, gate) {
         Ok((report, passes)) => (Ending::Rows(report), passes),
         Err(AuditFault::Memory(passes)) => (Ending::Memory, passes),
         Err(AuditFault::Gate(passes, place)) => (Ending::Gate(place), passes),
@@ -145,18 +132,18 @@ fn audit_once<R: Threads + Sync, G: Gate + Sync>(
 }
 
 // An audit through the open gate, which refuses no place. None: memory was refused.
-fn audit_open<R: Threads + Sync>(
+fn audit_open<N: Naming, R: Threads + Sync>(
     rt: &R,
     alloc: Global,
-    table: &FrameTable,
+    ksm: &Ksm<N>,
     passes: Vec<Pass>,
 ) -> (Option<Report>, Vec<Pass>)
     requires some { 0 < vec_len passes }
-    requires own { All (λ p. p.table ≡ table.now) passes.items }
+    requires own { All (λ p. p.table ≡ N.parts.frames) passes.items }
     ensures count { vec_len result.1 ≡ vec_len passes }
-    ensures own { All (λ p. p.table ≡ table.now) result.1.items }
+    ensures own { All (λ p. p.table ≡ N.parts.frames) result.1.items }
 {
-    match audit(rt, alloc, table, passes, &OpenGate) {
+    match audit(rt, alloc, ksm, passes, &OpenGate) {
         Ok((report, passes)) => (Some(report), passes),
         Err(fault) => {
             let AuditFault::Memory(passes) = fault else {
@@ -168,21 +155,21 @@ fn audit_open<R: Threads + Sync>(
 }
 
 // The same, made again where memory was refused.
-fn audit_again<R: Threads + Sync>(
+fn audit_again<N: Naming, R: Threads + Sync>(
     rt: &R,
     alloc: Global,
-    table: &FrameTable,
+    ksm: &Ksm<N>,
     passes: Vec<Pass>,
 ) -> (Option<Report>, Vec<Pass>)
     requires some { 0 < vec_len passes }
-    requires own { All (λ p. p.table ≡ table.now) passes.items }
+    requires own { All (λ p. p.table ≡ N.parts.frames) passes.items }
     ensures count { vec_len result.1 ≡ vec_len passes }
-    ensures own { All (λ p. p.table ≡ table.now) result.1.items }
+    ensures own { All (λ p. p.table ≡ N.parts.frames) result.1.items }
 {
-    let (report, passes) = audit_open(rt, alloc, table, passes);
+    let (report, passes) = audit_open(rt, alloc, ksm, passes);
     match report {
         Some(report) => (Some(report), passes),
-        None => audit_open(rt, alloc, table, passes),
+        None => audit_open(rt, alloc, ksm, passes),
     }
 }
 
@@ -199,28 +186,59 @@ fn rows(first: Row) -> [Row; 4] {
     [first, vacant, vacant, vacant]
 }
 
-#[test]
-fn rows_of_three_tables(rt: HostRuntime) -> Result<(), Fail> {
-    let (table, mut keeper, passes) = FrameTable::open(rt.alloc(), SHAPE)?;
-    first_table(&table, &mut keeper);
-    let (report, passes) = audit_again(&rt, rt.alloc(), &table, passes);
+// What audits show while a dup is there, once its frame is dead, and in the frame's next life.
+fn three_audits<N: Naming, R: Threads + Wait + Abort + Sync>(
+    rt: &R,
+    alloc: Global,
+    ksm: &Ksm<N>,
+    share: &mut Share<N>,
+    passes: Vec<Pass>,
+) -> ([bool; 3], Vec<Pass>)
+    requires some { 0 < vec_len passes }
+    requires own { All (λ p. p.table ≡ N.parts.frames) passes.items }
+    ensures count { vec_len result.1 ≡ vec_len passes }
+    ensures own { All (λ p. p.table ≡ N.parts.frames) result.1.items }
+{
     let found = Row::Found {
         generation: 1,
         bytes: page(),
     };
-    assert!(rt; shows(&report, &rows(found)), "held");
-    second_table(&table, &mut keeper);
-    let (report, passes) = audit_again(&rt, rt.alloc(), &table, passes);
-    assert!(rt; shows(&report, &rows(Row::Gone(Why::Zero))), "dead");
-    assert!(rt; third_table(&table, &mut keeper));
-    let (report, passes) = audit_again(&rt, rt.alloc(), &table, passes);
-    assert!(rt;
-        shows(&report, &rows(Row::Gone(Why::Generation))),
-        "in another life"
-    );
-    let closed = table.close(keeper, passes);
+    let first = first_book(rt, ksm, share);
+    let (report, passes) = audit_again(rt, alloc, ksm, passes);
+    let held = first && shows(&report, &rows(found));
+    let second = second_book(rt, ksm, share);
+    let (report, passes) = audit_again(rt, alloc, ksm, passes);
+    let dead = second && shows(&report, &rows(Row::Gone(Why::Zero)));
+    let third = third_book(rt, ksm, share);
+    let (report, passes) = audit_again(rt, alloc, ksm, passes);
+    let reborn = third && shows(&report, &rows(Row::Gone(Why::Generation)));
+    ([held, dead, reborn], passes)
+}
+
+fn three_books<N: Naming, R: Threads + Wait + Abort + Sync>(
+    rt: &R,
+    alloc: Global,
+    parts: Parts,
+) -> Result<(), Fail>
+    requires name { parts ≡ N.parts }
+    requires passes { parts.frames.shape.passes ≡ 2 }
+{
+    let (ksm, passes, mut shares, _readers) = Ksm::<N>::open(parts)?;
+    let Some(mut share) = shares.pop() else {
+        let _closed = ksm.close(rt, passes);
+        return Err(Fail::from("share"));
+    };
+    let (shown, passes) = three_audits(rt, alloc, &ksm, &mut share, passes);
+    let closed = ksm.close(rt, passes);
+    assert_eq!(rt; shown, [true; 3]);
     assert_eq!(rt; closed.count(0), 1);
     Ok(())
+}
+
+#[test]
+fn rows_of_three_books(rt: HostRuntime) -> Result<(), Fail> {
+    let parts = Parts::open(rt.alloc(), SHAPE, 1)?;
+    three_books::<Brand, _>(&rt, rt.alloc(), parts)
 }
 
 // Holds each lookup of one worker until the other one has answered, for a number of turns.
@@ -258,41 +276,55 @@ impl Gate for Turns {
 }
 
 // Whether an audit by two workers gives its rows where one of them is held.
-fn passes_where_held<R: Threads + Sync>(
+fn passes_where_held<N: Naming, R: Threads + Sync>(
     rt: &R,
     alloc: Global,
-    table: &FrameTable,
+    ksm: &Ksm<N>,
     passes: Vec<Pass>,
     held: u32,
 ) -> (bool, Vec<Pass>)
     requires some { 0 < vec_len passes }
-    requires own { All (λ p. p.table ≡ table.now) passes.items }
+    requires own { All (λ p. p.table ≡ N.parts.frames) passes.items }
     ensures count { vec_len result.1 ≡ vec_len passes }
-    ensures own { All (λ p. p.table ≡ table.now) result.1.items }
+    ensures own { All (λ p. p.table ≡ N.parts.frames) result.1.items }
 {
     let gate = Turns {
         held,
         answered: AtomicU64::new(0),
     };
-    let (ending, passes) = audit_once(rt, alloc, table, passes, &gate);
+    let (ending, passes) = audit_once(rt, alloc, ksm, passes, &gate);
     (ending.has(&rows(Row::Gone(Why::Vacant))), passes)
+}
+
+// An audit of an opening book by two workers, one of which is held.
+fn held_audit<N: Naming, R: Threads + Wait + Sync>(
+    rt: &R,
+    alloc: Global,
+    parts: Parts,
+    held: u32,
+) -> Result<bool, Fault>
+    requires name { parts ≡ N.parts }
+    requires passes { parts.frames.shape.passes ≡ 2 }
+{
+    let (ksm, passes, _shares, _readers) = Ksm::<N>::open(parts)?;
+    let (passed, passes) = passes_where_held(rt, alloc, &ksm, passes, held);
+    let _closed = ksm.close(rt, passes);
+    Ok(passed)
 }
 
 // On one thread a worker would wait for another that has not begun.
 #[test]
 fn the_second_worker_answers_while_the_first_is_held(rt: HostRuntime) -> Result<(), Fail> {
-    let (table, keeper, passes) = FrameTable::open(rt.alloc(), SHAPE)?;
-    let (passed, passes) = passes_where_held(&rt, rt.alloc(), &table, passes, 0);
-    let _closed = table.close(keeper, passes);
+    let parts = Parts::open(rt.alloc(), SHAPE, 1)?;
+    let passed = held_audit::<Brand, _>(&rt, rt.alloc(), parts, 0)?;
     assert!(rt; passed);
     Ok(())
 }
 
 #[test]
 fn the_first_worker_answers_while_the_second_is_held(rt: HostRuntime) -> Result<(), Fail> {
-    let (table, keeper, passes) = FrameTable::open(rt.alloc(), SHAPE)?;
-    let (passed, passes) = passes_where_held(&rt, rt.alloc(), &table, passes, 1);
-    let _closed = table.close(keeper, passes);
+    let parts = Parts::open(rt.alloc(), SHAPE, 1)?;
+    let passed = held_audit::<Brand, _>(&rt, rt.alloc(), parts, 1)?;
     assert!(rt; passed);
     Ok(())
 }
@@ -320,20 +352,33 @@ impl Gate for Refuses {
     }
 }
 
-// With one pass, places are asked for in order, up to the one refused.
-#[test]
-fn a_refusal_ends_the_audit(rt: HostRuntime) -> Result<(), Fail> {
-    let shape = Shape { passes: 1, ..SHAPE };
-    let (table, keeper, passes) = FrameTable::open(rt.alloc(), shape)?;
+// An audit that the gate refuses the place 2: whether it says so, and how often it asked and told.
+fn refused_audit<N: Naming, R: Threads + Wait + Sync>(
+    rt: &R,
+    alloc: Global,
+    parts: Parts,
+) -> Result<(bool, u64, u64), Fault>
+    requires name { parts ≡ N.parts }
+    requires passes { parts.frames.shape.passes ≡ 1 }
+{
+    let (ksm, passes, _shares, _readers) = Ksm::<N>::open(parts)?;
     let gate = Refuses {
         place: 2,
         asked: AtomicU64::new(0),
         told: AtomicU64::new(0),
     };
-    let (ending, passes) = audit_once(&rt, rt.alloc(), &table, passes, &gate);
-    assert!(rt; ending.refused(2));
-    assert_eq!(rt; gate.asked.load(Ordering::SeqCst), 3);
-    assert_eq!(rt; gate.told.load(Ordering::SeqCst), 2);
-    let _closed = table.close(keeper, passes);
+    let (ending, passes) = audit_once(rt, alloc, &ksm, passes, &gate);
+    let _closed = ksm.close(rt, passes);
+    let asked = gate.asked.load(Ordering::SeqCst);
+    Ok((ending.refused(2), asked, gate.told.load(Ordering::SeqCst)))
+}
+
+// With one pass, places are asked for in order, up to the one refused.
+#[test]
+fn a_refusal_ends_the_audit(rt: HostRuntime) -> Result<(), Fail> {
+    let shape = Shape { passes: 1, ..SHAPE };
+    let parts = Parts::open(rt.alloc(), shape, 1)?;
+    let told = refused_audit::<Brand, _>(&rt, rt.alloc(), parts)?;
+    assert_eq!(rt; told, (true, 3, 2));
     Ok(())
 }

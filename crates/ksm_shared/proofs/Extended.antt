@@ -1,11 +1,13 @@
 -- What a call under the lock tells its share.
-use Rattle.std.proofs.Common.{◌≡◌, ◌<◌, ℕ, Bool, true, false, if◌then◌else◌, List, [], ◌∷◌, ◌++◌, refl, sym, ap, ◌∙◌, subst, arith, Option, Some, None, Ok, Err, eq-eqb}
+use Rattle.std.proofs.Common.{◌≡◌, ◌⊎◌, ◌<◌, ℕ, Bool, true, false, if◌then◌else◌, List, [], ◌∷◌, ◌++◌, refl, sym, ap, ◌∙◌, subst, arith, Option, Some, None, Ok, Err, eq-eqb, ⊎_elim, inl, inr}
 use Rattle.std.proofs.lemmas.List.{append-nil}
+use mathlib.Core.List.{IsPrefix}
 use Rattle.atomic_table.specs.Table.{Me}
 use Rattle.ksm_base.specs.declared.command.Command.{Command}
 use Rattle.ksm_base.specs.declared.fault.Fault.TheVariants.{Memory, UnknownPage, AlreadyRegistered, NoFrame, NotRunning, SharedPages, BadValue, InUse, CrossesNodes, UnknownPlace, BadNode}
 use Rattle.ksm_base.specs.Answers.{Answer, IsAnswer}
 use Rattle.ksm_base.specs.Apply.{IsAnswerOrMemory, after}
+use Rattle.ksm_base.specs.Counting.{counters_of}
 use Rattle.ksm_base.specs.Journal.{Entry, AreAnswers, IsLegal, is_memory, journal_after, replay}
 use Rattle.ksm_base.specs.State.{BookState, opening}
 use Rattle.frame_table.specs.Named.{TableName}
@@ -16,6 +18,8 @@ use Rattle.ksm_shared.specs.declared.seen.View.{View}
 use Rattle.ksm_shared.specs.Named.{PartsId}
 use Rattle.ksm_shared.specs.Seen.{entries, entries_by, Begins, OwnersBelow, caller, owned, first, added, book_view, IsShareSeat, IsBookSeat, Wrote}
 use Rattle.ksm_shared.specs.Locked.{made, made_by, said_of, part_of, state_seen, SeesOn, StepsAlone}
+use Rattle.ksm_shared.specs.Published.{list_of}
+use Rattle.ksm_shared.proofs.Beginnings.{prefix_self, prefix_trans}
 use Rattle.ksm_shared.proofs.Lists.{entries_by_append, entries_by_own, entries_append, owners_append}
 
 added_made : (g : Caller) (c : Command) (r : Answer) → added (g ∷ []) (said_of c r) ≡ made_by g.number c r
@@ -189,3 +193,39 @@ steps_alone states answers parts old new c r x one = by_memory (is_memory r) ref
         let more : entries new.seen ≡ entries old.seen ++ (c, r) ∷ [] = alone_grows parts old new c r one x ∙ ap (λ (l : List Entry). entries old.seen ++ l) some in
         let may = (answers start (entries old.seen) ((c, r) ∷ []) (subst (AreAnswers start) more x.legal)).1 in
         (or_memory (state_seen parts old) c r may.0, ap (replay start) more ∙ states start (entries old.seen) ((c, r) ∷ []))
+
+-- the entries after a command
+pub entries_grow : (log log' : List Owned) (number : ℕ) (c : Command) (r : Answer) → log' ≡ log ++ made_by number c r → entries log' ≡ entries log ++ made c r
+entries_grow log log' number c r is = ap entries is ∙ entries_append log (made_by number c r) ∙ ap (λ (l : List Entry). entries log ++ l) (entries_made number c r)
+
+list_said : (said : Option Entry) (c : Command) (r : Answer) → said ≡ said_of c r → list_of said ≡ made c r
+list_said said c r is = ap list_of is ∙ elim (is_memory r) as (λ (b : Bool). list_of (if b then None else Some (c, r)) ≡ (if b then [] else ((c, r) ∷ []))) [ true ↦ refl | false ↦ refl ]
+
+-- what was followed is the journal still
+pub follows_on : (j j' : List Entry) (log log' : List Owned) (number : ℕ) (c : Command) (r : Answer) (said : Option Entry) → log' ≡ log ++ made_by number c r → said ≡ said_of c r → j ≡ entries log
+    → j' ≡ j ++ list_of said → j' ≡ entries log'
+follows_on j j' log log' number c r said more is now next =
+    next ∙ (λ i. now i ++ list_said said c r is i) ∙ sym (entries_grow log log' number c r more)
+
+-- what is followed next is the journal of the book
+pub follows_book : (j b b' : List Entry) (c : Command) (r : Answer) (said : Option Entry) → j ≡ b → b' ≡ journal_after b c r → said ≡ said_of c r → b' ≡ j ++ list_of said
+follows_book j b b' c r said now next is = next ∙ journal_made b c r ∙ (λ i. sym now i ++ sym (list_said said c r is) i)
+
+-- the counters of a locked book are those after its journal
+pub counters_seen : (parts : PartsId) (b : JournaledBook) (es : List Entry) → b.keeper.table ≡ parts.frames → b.journal ≡ es → IsLegal b.keeper.table.shape b.journal b.state
+    → counters_of b.state ≡ counters_of (replay (opening parts.frames.shape) es)
+counters_seen parts b es own journal legal = ap counters_of (legal.leads ∙ (λ i. replay (opening (own i).shape) (journal i)))
+
+-- either the counters of before are shown still, or those after all that was followed
+abbrev pub Shown : List Entry → List Entry → Bool → List Entry → Type 0
+Shown old new follows journal = (new ≡ old) ⊎ ((follows ≡ true) × (new ≡ journal))
+
+pub shown_begins : (old new journal : List Entry) (follows : Bool) (es es' more : List Entry) → Shown old new follows journal → (follows ≡ true → journal ≡ es') → IsPrefix old es → es' ≡ es ++ more
+    → IsPrefix new es'
+shown_begins old new journal follows es es' more one all begins grows =
+    ⊎_elim (λ (t : new ≡ old). subst (λ (l : List Entry). IsPrefix l es') (sym t) (prefix_trans old es es' begins (more, sym grows)))
+    (λ (t : (follows ≡ true) × (new ≡ journal)). subst (λ (l : List Entry). IsPrefix l es') (sym (t.1 ∙ all t.0)) (prefix_self es')) one
+
+pub shows_all_or_old : (old new journal : List Entry) (follows : Bool) (es' : List Entry) → Shown old new follows journal → (follows ≡ true → journal ≡ es') → (new ≡ es') ⊎ (new ≡ old)
+shows_all_or_old old new journal follows es' one all =
+    ⊎_elim (λ (t : new ≡ old). inr t) (λ (t : (follows ≡ true) × (new ≡ journal)). inl (t.1 ∙ all t.0)) one

@@ -3,3 +3,6 @@ pub mod Rule
 pub mod Wrote
 pub mod Extended
 pub mod Gathering
+pub mod Beginnings
+pub mod Adding
+pub mod Showing

@@ -2,3 +2,4 @@ pub mod Seen
 pub mod Named
 pub mod Locked
 pub mod Handed
+pub mod Published

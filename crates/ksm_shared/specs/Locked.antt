@@ -14,14 +14,16 @@ use Rattle.ksm_shared.specs.declared.seen.Caller.{Caller}
 use Rattle.ksm_shared.specs.Named.{PartsId}
 use Rattle.ksm_shared.specs.Seen.{entries, entries_by, CallersFit, times, caller, owned, OwnersBelow}
 
--- the book, and the entries of its journal with their owners
+-- the book, the entries of its journal with their owners, and the entries after which the counters stand that were published last
 pub record Locked : Type 0 where
   pub book : JournaledBook
   pub log : List Owned
+  pub shown : List Entry
 
--- what contracts see of an answer
+-- what contracts see of an answer: what the book answered, and the entries after which the counters stand that were published last
 pub record Answered : Type 0 where
   pub result : Answer
+  pub shown : List Entry
 
 -- the entries that a share owns, in order, of what it has seen
 abbrev pub part_of : Caller → List Entry

@@ -1,13 +1,16 @@
 -- Which parts a lock, a share or an answer is of (own).
 use Rattle.std.specs.Prelude.{ℕ, []}
 use Rattle.atomic_table.specs.Seated.{TableId}
+use Rattle.logbook.specs.Pages.{Book}
 use Rattle.ksm_base.specs.declared.shape.Shape.{Shape}
 use Rattle.frame_table.specs.Named.{TableName}
 
--- the parts of one book: the table of its frames, the table of what its shares have seen, and how many shares there are
+-- the parts of one book: the table of its frames, the table of what its shares have seen, the logbook of its journal, and how many shares
+-- there are
 pub record PartsId : Type 0 where
   pub frames : TableName
   pub seen : TableId
+  pub logbook : Book
   pub callers : ℕ
 
 abbrev pub no_table : TableId
@@ -16,6 +19,9 @@ no_table = record { words = 0; slots = 0; views_name = 0; atom = 0; block = 0; o
 abbrev pub no_shape : Shape
 no_shape = record { nodes = 0; frames_per_node = 0; passes = 0; last_generation = 0; tries = 0 }
 
+abbrev pub no_logbook : Book
+no_logbook = record { number = 0; log_name = 0; cells_name = 0 }
+
 -- no parts
 abbrev pub no_parts : PartsId
-no_parts = record { frames = record { id = no_table; shape = no_shape }; seen = no_table; callers = 0 }
+no_parts = record { frames = record { id = no_table; shape = no_shape }; seen = no_table; logbook = no_logbook; callers = 0 }

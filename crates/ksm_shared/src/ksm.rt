@@ -1,5 +1,6 @@
 //! What callers share: the table of frames, and the book behind the merge lock.
-ghost use Rattle.std.specs.Prelude.{◌≡◌, ◌++◌, ◌<◌, ◌≤◌, [], Some, All, IfOk, IfErr, IfSome, option_map, replicate, vec_len, vec_capacity};
+ghost use Rattle.std.specs.Prelude.{◌≡◌, ◌++◌, ◌<◌, ◌≤◌, [], Some, All, IfOk, IfErr, IfNone, IfSome, IsSome, option_map, replicate, vec_len, vec_capacity};
+ghost use mathlib.Core.List.{IsPrefix};
 ghost use Rattle.ksm_base.specs.Counting.{counters_of};
 ghost use Rattle.ksm_base.specs.Journal.{last_stored};
 ghost use Rattle.ksm_base.specs.Reading.{bytes_of, mappers_of, ticket_of};
@@ -9,12 +10,15 @@ ghost use Rattle.frame_table.specs.Equal.{LooksUpEqual};
 ghost use Rattle.frame_table.specs.Lookup.{LooksUp};
 ghost use Rattle.frame_table.specs.Seats.{new_pass};
 ghost use Rattle.ksm_shared.specs.Locked.{EndsLawfully, SeesOn, StepsAlone, fresh, made, made_by, part_of, state_seen};
+ghost use Rattle.ksm_shared.specs.Published.{Tells};
 ghost use Rattle.ksm_shared.specs.Seen.{book_view, entries};
 
 use crate::answer::Answer;
 use crate::merge::Merge;
 use crate::naming::Naming;
 use crate::parts::Parts;
+use crate::publisher::Publisher;
+use crate::reader::{CounterReader, Row};
 use crate::seen::{SeenSeat, SeenWords};
 use crate::share::Share;
 use crate::writing::mint;
@@ -46,11 +50,15 @@ impl<N: Naming> Model for Ksm<N> {
 }
 
 impl<N: Naming> Ksm<N> {
-    /// The opening book, with its passes and a share for each caller. Refused for memory alone; what was opened by then is closed.
-    pub fn open(parts: Parts) -> Result<(Ksm<N>, Vec<Pass>, Vec<Share<N>>), Fault>
+    /// The opening book, with its passes, and a share and a reader of counters for each caller. Refused for memory alone; what was opened by
+    /// then is closed.
+    pub fn open(
+        parts: Parts,
+    ) -> Result<(Ksm<N>, Vec<Pass>, Vec<Share<N>>, Vec<CounterReader<N>>), Fault>
         requires { parts ≡ N.parts }
         ensures passes { IfOk result (λ opened. opened.1.items ≡ replicate N.parts.frames.shape.passes (new_pass N.parts.frames)) }
         ensures shares { IfOk result (λ opened. opened.2.items ≡ fresh N.parts.callers) }
+        ensures readers { IfOk result (λ opened. opened.3.items ≡ replicate N.parts.callers []) }
         ensures memory { IfErr result (λ fault. fault ≡ Fault.Memory) }
     {
         let Parts {
@@ -61,11 +69,16 @@ impl<N: Naming> Ksm<N> {
             passes,
             seen,
             mut seat,
+            word,
+            journal,
             callers,
         } = parts;
-        let Ok(mut shares) = Vec::with_capacity(alloc, callers as usize) else {
-            drop(frames.close(keeper, passes));
-            return Err(Fault::Memory);
+        let (mut shares, mut readers) = match room(alloc, callers) {
+            Ok(room) => room,
+            Err(fault) => {
+                drop(frames.close(keeper, passes));
+                return Err(fault);
+            }
         };
         let book = match Book::open(alloc, keeper, shape) {
             Ok(book) => book,
@@ -74,26 +87,38 @@ impl<N: Naming> Ksm<N> {
                 return Err(fault);
             }
         };
+        let counters = book.counters();
+        let publisher = match Publisher::open(alloc, word, journal, counters, callers) {
+            Ok(publisher) => publisher,
+            Err(fault) => {
+                drop(frames.close(book.close(), passes));
+                return Err(fault);
+            }
+        };
         mint_all(&seen.shared, &mut seat, &mut shares, callers);
+        take_readers(&publisher, &mut readers, callers);
         let merge = Mutex::new(Merge {
             book,
             seen,
             seat,
             callers,
+            publisher,
             of: PhantomData,
         });
-        Ok((Ksm { frames, merge }, passes, shares))
+        Ok((Ksm { frames, merge }, passes, shares, readers))
     }
 
-    /// Makes a command. The share owns its entry, but for want of memory, and has then seen a legal journal that ends with it.
+    /// Makes a command. The share owns its entry, but for want of memory, and has then seen a legal journal that ends with it. The answer tells
+    /// after how many entries of that journal the counters stand that readers are shown.
     pub fn command<R: Wait>(&self, rt: &R, share: &mut Share<N>, command: Command) -> Answer<N>
         ensures seen { SeesOn N.parts share.old share.new (made_by share.old.number command result.result) }
         ensures part { part_of share.new ≡ part_of share.old ++ made command result.result }
         ensures alone { StepsAlone N.parts share.old share.new command result.result }
+        ensures shown { IsPrefix result.shown (entries share.new.seen) }
     {
         a_journal_goes_on();
         let mut merge = self.merge.lock(rt);
-        let answer = merge.command(&self.frames, share, command);
+        let answer = merge.command(rt, &self.frames, share, command);
         MutexGuard::unlock(merge);
         answer
     }
@@ -170,7 +195,8 @@ impl<N: Naming> Ksm<N> {
         knobs
     }
 
-    /// The pages merged into the dup at a place, ascending; none where no dup with items stands there. Refused for memory alone.
+    /// The pages merged into the dup at a place, ascending; none where no dup with items stands there. Refused for memory alone, and
+    /// only where pages are there.
     pub fn mappers<R: Wait>(
         &self,
         rt: &R,
@@ -183,12 +209,22 @@ impl<N: Naming> Ksm<N> {
         ensures alone { N.parts.callers ≡ 1 → share.new ≡ share.old }
         ensures mappers { IfOk result (λ pages. option_map (λ v. v.items) pages ≡ mappers_of place (state_seen N.parts share.new)) }
         ensures memory { IfErr result (λ fault. fault ≡ Fault.Memory) }
+        ensures refused { IfErr result (λ _. IsSome (mappers_of place (state_seen N.parts share.new))) }
     {
         let mut merge = self.merge.lock(rt);
         merge.show(share);
         let mappers = merge.book().mappers(alloc, place);
         MutexGuard::unlock(merge);
         mappers
+    }
+
+    /// The counters after the first `number` entries of the journal. It takes no lock. The journal goes on where the reader's last row ended,
+    /// and begins with what each answer told of that the reader has learnt. None where the reader's entry was refused.
+    pub fn counters_now(&self, reader: &mut CounterReader<N>) -> Option<Row>
+        ensures shown { IfSome result (λ row. IsPrefix reader.old reader.new × Tells N.parts row reader.new) }
+        ensures none { IfNone result (reader.new ≡ reader.old) }
+    {
+        reader.look()
     }
 
     /// The table of frames, for lookups. It takes no lock.
@@ -217,7 +253,7 @@ impl<N: Naming> Ksm<N> {
     }
 
     /// Ends the book, with all its passes. Nobody holds a frame then: each count is the keeper's own references.
-    pub fn close<R: Wait>(self, _rt: &R, passes: Vec<Pass>) -> ClosedTable
+    pub fn close<R: Wait>(self, rt: &R, passes: Vec<Pass>) -> ClosedTable
         requires all { vec_len passes ≡ N.parts.frames.shape.passes }
         requires passes { All (λ p. p.table ≡ N.parts.frames) passes.items }
         ensures shape { result.shape ≡ N.parts.frames.shape }
@@ -226,7 +262,37 @@ impl<N: Naming> Ksm<N> {
         let Ksm { frames, merge } = self;
         let merge = merge.into_inner();
         merge.lies_lawfully();
-        frames.close(merge.close(), passes)
+        frames.close(merge.close(rt), passes)
+    }
+}
+
+// Room for what callers are handed.
+fn room<N: Naming>(
+    alloc: Global,
+    callers: u32,
+) -> Result<(Vec<Share<N>>, Vec<CounterReader<N>>), Fault>
+    ensures shares { IfOk result (λ room. (room.0.items ≡ []) × (vec_len room.0 ≡ 0) × (callers ≤ vec_capacity room.0)) }
+    ensures readers { IfOk result (λ room. (room.1.items ≡ []) × (vec_len room.1 ≡ 0) × (callers ≤ vec_capacity room.1)) }
+    ensures memory { IfErr result (λ fault. fault ≡ Fault.Memory) }
+{
+    let shares = Vec::with_capacity(alloc, callers as usize)?;
+    let readers = Vec::with_capacity(alloc, callers as usize)?;
+    Ok((shares, readers))
+}
+
+// A reader for each caller.
+fn take_readers<N: Naming>(
+    publisher: &Publisher<N>,
+    readers: &mut Vec<CounterReader<N>>,
+    callers: u32,
+)
+    requires publisher { publisher.now.shown ≡ [] }
+    requires room { (readers.old.items ≡ []) × (vec_len readers.old ≡ 0) × (callers ≤ vec_capacity readers.old) }
+    ensures readers { readers.new.items ≡ replicate callers [] }
+{
+    for _ in 0..callers {
+        let reader = CounterReader::new(publisher.reader(), publisher.newest());
+        readers.push_reserved(reader);
     }
 }
 

@@ -2,10 +2,14 @@
 #![tactic(auto)]
 
 mod answer;
+mod beginning;
 mod ksm;
 mod merge;
 mod naming;
 mod parts;
+mod publisher;
+mod reader;
+mod rows;
 mod seen;
 mod share;
 mod tally;
@@ -16,6 +20,7 @@ pub use ksm::Ksm;
 pub use merge::Merge;
 pub use naming::Naming;
 pub use parts::Parts;
+pub use reader::{CounterReader, Row};
 pub use seen::{Caller, Entry, OneJournal, Owned, View};
 pub use share::Share;
 pub use tally::{GatherFault, Tally, gather};

@@ -1,5 +1,6 @@
 //! What lies under the merge lock.
-ghost use Rattle.std.specs.Prelude.{◌≡◌, ◌++◌, ◌<◌, ◌≤◌, ℕ, [], Some, length, IfOk, IfErr, IfSome};
+ghost use Rattle.std.specs.Prelude.{◌≡◌, ◌++◌, ◌<◌, ◌≤◌, ◌⊎◌, ℕ, [], Some, length, IfOk, IfErr, IfSome};
+ghost use mathlib.Core.List.{IsPrefix};
 ghost use Rattle.ksm_base.specs.Journal.{IsLegal, ReadsLastStored, journal_after, last_stored};
 ghost use Rattle.ksm_base.specs.Reading.{bytes_of};
 ghost use Rattle.ksm_base.specs.Sound.{IsSound};
@@ -13,6 +14,7 @@ ghost use Rattle.ksm_shared.specs.Seen.{CallersFit, IsBookSeat, OwnersBelow, cal
 
 use crate::answer::Answer;
 use crate::naming::Naming;
+use crate::publisher::Publisher;
 use crate::seen::{Entry, SeenSeat, SeenTable, SeenWords, Shares, Writing};
 use crate::share::Share;
 use crate::tally::{GatherFault, Tally};
@@ -22,36 +24,41 @@ use ksm_base::laws::a_journal_goes_on;
 use ksm_base::{Command, Fault, GuestPage, PageBytes, Reply};
 use ksm_book::Book;
 use std::marker::{Model, PhantomData};
+use std::sync::Wait;
 
-/// The book with the keeper of its frames, and its seat among the shares. Contracts see the book, and the entries of its journal with their
-/// owners.
+/// The book with the keeper of its frames, its seat among the shares, and what publishes its counters. Contracts see the book, the entries of
+/// its journal with their owners, and the entries after which the counters stand that were published last.
 ///
-/// Whenever the lock is free: the book lies lawfully in the frames of the table of `N`, its journal is legal and leads to its state, and
-/// each entry is owned by one of the shares of `N` (`lies_lawfully`).
+/// Whenever the lock is free: the book lies lawfully in the frames of the table of `N`, its journal is legal and leads to its state,
+/// each entry is owned by one of the shares of `N`, and what was published begins the journal (`lies_lawfully`).
 pub struct Merge<N: Naming> {
     pub(crate) book: Book,
     pub(crate) seen: SeenTable,
     pub(crate) seat: SeenSeat,
     pub(crate) callers: u32,
+    pub(crate) publisher: Publisher<N>,
     pub(crate) of: PhantomData<N>,
 }
 
 impl<N: Naming> Model for Merge<N> {
-    ghost use Rattle.std.specs.Prelude.{◌≡◌, []};
+    ghost use Rattle.std.specs.Prelude.{◌≡◌, [], true};
+    ghost use mathlib.Core.List.{IsPrefix};
     ghost use Rattle.ksm_shared.specs.Locked.{Locked};
     ghost use Rattle.ksm_shared.specs.Seen.{OwnersBelow, book_view, entries};
 
     ghost Value = { Locked };
 
-    ghost view = { λ m. record { book = m.book; log = m.seat.me.0.log } };
+    ghost view = { λ m. record { book = m.book; log = m.seat.me.0.log; shown = m.publisher.shown } };
 
-    ghost invariant = { λ m. (m.book.keeper.table ≡ N.parts.frames) × (m.book.journal ≡ entries m.seat.me.0.log) × (m.seen.shared.table_id ≡ N.parts.seen) × (m.seen.shared.table_id.words ≡ 1) × (m.seat.table_id ≡ N.parts.seen) × (m.seat.me ≡ (book_view m.seat.me.0.log N.parts.callers, [])) × OwnersBelow N.parts.callers m.seat.me.0.log × (m.callers ≡ N.parts.callers) };
+    ghost invariant = { λ m. (m.book.keeper.table ≡ N.parts.frames) × (m.book.journal ≡ entries m.seat.me.0.log) × (m.seen.shared.table_id ≡ N.parts.seen) × (m.seen.shared.table_id.words ≡ 1) × (m.seat.table_id ≡ N.parts.seen) × (m.seat.me ≡ (book_view m.seat.me.0.log N.parts.callers, [])) × OwnersBelow N.parts.callers m.seat.me.0.log × (m.callers ≡ N.parts.callers) × (m.publisher.follows ≡ true → m.publisher.journal ≡ entries m.seat.me.0.log) × IsPrefix m.publisher.shown (entries m.seat.me.0.log) };
 }
 
 impl<N: Naming> Merge<N> {
-    /// Makes a command for the share's caller. The share owns its entry, and has then seen the whole journal.
-    pub fn command(
+    /// Makes a command for the share's caller, and publishes the counters after it. The share owns its entry, and has then seen the whole
+    /// journal. Where memory for publishing is refused, readers are shown the row of before, and the next command publishes.
+    pub fn command<R: Wait>(
         &mut self,
+        rt: &R,
         frames: &FrameTable,
         share: &mut Share<N>,
         command: Command,
@@ -63,6 +70,9 @@ impl<N: Naming> Merge<N> {
         ensures share { share.new ≡ caller share.old.number self.new.log }
         ensures seen { SeesOn N.parts share.old share.new (made_by share.old.number command result.result) }
         ensures part { part_of share.new ≡ part_of share.old ++ made command result.result }
+        ensures published { (self.new.shown ≡ entries self.new.log) ⊎ (self.new.shown ≡ self.old.shown) }
+        ensures begins { IsPrefix self.new.shown (entries self.new.log) }
+        ensures shown { result.shown ≡ self.new.shown }
     {
         a_journal_goes_on();
         let result = self.book.apply(frames, command);
@@ -70,8 +80,11 @@ impl<N: Naming> Merge<N> {
         let said = said(command, result);
         let table = &self.seen;
         write(&table.shared, &mut self.seat, &mut share.seat, &said);
+        let counters = self.book.counters();
+        self.publisher.follow(rt, &said, counters);
         Answer {
             result,
+            row: self.publisher.newest(),
             of: PhantomData,
         }
     }
@@ -118,6 +131,7 @@ impl<N: Naming> Merge<N> {
         ensures stored { ReadsLastStored (entries self.now.log) self.now.book.state.rows }
         ensures journal { self.now.book.journal ≡ entries self.now.log }
         ensures owners { OwnersBelow N.parts.callers self.now.log }
+        ensures published { IsPrefix self.now.shown (entries self.now.log) }
     {
         self.book.lies_lawfully();
     }
@@ -137,8 +151,8 @@ impl<N: Naming> Merge<N> {
         Ok(Tally { entries })
     }
 
-    /// The keeper, as it is.
-    pub(crate) fn close(self) -> Keeper
+    /// The keeper, as it is. Readers are shown nothing from then on.
+    pub(crate) fn close<R: Wait>(self, rt: &R) -> Keeper
         ensures { result ≡ self.book.keeper }
     {
         let Merge {
@@ -146,8 +160,10 @@ impl<N: Naming> Merge<N> {
             seen: _,
             seat: _,
             callers: _,
+            publisher,
             of: _,
         } = self;
+        publisher.close(rt);
         book.close()
     }
 }

@@ -2,15 +2,18 @@
 ghost use Rattle.std.specs.Prelude.{◌≡◌, ◌≤◌, IfOk, IfErr};
 ghost use Rattle.ksm_base.specs.Values.{IsShape};
 
+use crate::beginning::{LengthWord, SeenJournal};
 use crate::seen::{SeenSeat, SeenTable};
-use frame_table::{FrameTable, Keeper, Pass};
+use frame_table::{ClosedTable, FrameTable, Keeper, Pass};
 use ksm_base::{Fault, Shape};
+use logbook::{Start, Word};
 use std::alloc::Global;
 use std::marker::Model;
 
-/// A table with its keeper and passes, and what the shares are cut from. Contracts see which parts they are.
+/// A table with its keeper and passes, what the shares are cut from, and the logbook by which beginnings of the journal are compared.
+/// Contracts see which parts they are.
 ///
-/// They must be spent: `Ksm::open` makes a book of them.
+/// They must be spent: `Ksm::open` makes a book of them, or they are closed.
 pub struct Parts {
     pub(crate) alloc: Global,
     pub(crate) shape: Shape,
@@ -19,6 +22,8 @@ pub struct Parts {
     pub(crate) passes: Vec<Pass>,
     pub(crate) seen: SeenTable,
     pub(crate) seat: SeenSeat,
+    pub(crate) word: LengthWord,
+    pub(crate) journal: SeenJournal,
     pub(crate) callers: u32,
 }
 
@@ -27,13 +32,14 @@ impl Model for Parts {
     ghost use Rattle.ksm_base.specs.Values.{IsShape};
     ghost use Rattle.frame_table.specs.Seats.{Opened};
     ghost use Rattle.ksm_shared.specs.Named.{PartsId};
+    ghost use Rattle.ksm_shared.specs.Published.{length_word};
     ghost use Rattle.ksm_shared.specs.Seen.{book_view};
 
     ghost Value = { PartsId };
 
-    ghost view = { λ p. record { frames = p.frames; seen = p.seen.shared.table_id; callers = p.callers } };
+    ghost view = { λ p. record { frames = p.frames; seen = p.seen.shared.table_id; logbook = p.journal.book; callers = p.callers } };
 
-    ghost invariant = { λ p. IsShape p.shape × Opened p.shape p.frames p.keeper p.passes.items × (p.seen.shared.table_id.words ≡ 1) × (p.seat.table_id ≡ p.seen.shared.table_id) × (p.seat.me ≡ (book_view [] 0, [])) × (1 ≤ p.callers) × (p.callers ≤ 16) };
+    ghost invariant = { λ p. IsShape p.shape × Opened p.shape p.frames p.keeper p.passes.items × (p.seen.shared.table_id.words ≡ 1) × (p.seat.table_id ≡ p.seen.shared.table_id) × (p.seat.me ≡ (book_view [] 0, [])) × (1 ≤ p.callers) × (p.callers ≤ 16) × (p.word ≡ length_word p.journal.book) × (p.journal.log ≡ []) };
 }
 
 impl Parts {
@@ -45,6 +51,8 @@ impl Parts {
         ensures memory { IfErr result (λ fault. fault ≡ Fault.Memory) }
     {
         let (seen, seat) = SeenTable::of_words(alloc, &[0], &())?;
+        let (journal, mut first, _second) = SeenJournal::open(Start::alone(), 0, 0);
+        let word = Word::tracked(0, &mut first);
         let (frames, keeper, passes) = FrameTable::open(alloc, shape)?;
         Ok(Parts {
             alloc,
@@ -54,7 +62,36 @@ impl Parts {
             passes,
             seen,
             seat,
+            word,
+            journal,
             callers,
         })
+    }
+
+    /// What they were opened with: how many nodes, frames and passes.
+    pub fn shape(&self) -> Shape
+        ensures shape { result ≡ self.now.frames.shape }
+        ensures fits { IsShape result }
+    {
+        self.shape
+    }
+
+    /// Ends them where no book is made of them.
+    pub fn close(self) -> ClosedTable
+        ensures { result.shape ≡ self.frames.shape }
+    {
+        let Parts {
+            alloc: _,
+            shape: _,
+            frames,
+            keeper,
+            passes,
+            seen: _,
+            seat: _,
+            word: _,
+            journal: _,
+            callers: _,
+        } = self;
+        frames.close(keeper, passes)
     }
 }

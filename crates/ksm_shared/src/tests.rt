@@ -104,7 +104,7 @@ fn four<N: Naming + Send + Sync, R: Threads + Wait + Abort + Sync>(
 ) -> Result<(), Fail>
     requires { parts ≡ N.parts }
 {
-    let (ksm, passes, shares) = Ksm::<N>::open(parts)?;
+    let (ksm, passes, shares, _readers) = Ksm::<N>::open(parts)?;
     let entries = four_work(rt, &ksm, shares);
     drop(ksm.close(rt, passes));
     assert_eq!(rt; entries?, 408);
@@ -133,6 +133,7 @@ const TWO_MERGED: Counters = Counters {
     sharing: 1,
     unshared: 0,
     volatile: 0,
+    zero: 0,
     chains: 0,
     dups: 0,
     full_scans: 2,
@@ -204,7 +205,7 @@ fn one<N: Naming, R: Wait + Abort>(rt: &R, alloc: Global, parts: Parts) -> Resul
     requires places { frames_of parts.frames.shape ≡ 8 }
     requires passes { parts.frames.shape.passes ≡ 2 }
 {
-    let (ksm, mut passes, shares) = Ksm::<N>::open(parts)?;
+    let (ksm, mut passes, shares, _readers) = Ksm::<N>::open(parts)?;
     let Some(pass) = passes.pop() else {
         unreachable!()
     };
@@ -226,4 +227,143 @@ fn lookups_take_no_lock(rt: HostRuntime) -> Result<(), Fail> {
     let alloc = rt.alloc();
     let parts = Parts::open(alloc, SHAPE, 1)?;
     one::<Brand, _>(&rt, alloc, parts)
+}
+
+// What callers learn of five commands: after how many of them the counters stand that readers are shown.
+fn learns<N: Naming, R: Wait + Abort>(
+    rt: &R,
+    ksm: &Ksm<N>,
+    mut shares: Vec<Share<N>>,
+    mut readers: Vec<CounterReader<N>>,
+) -> Result<(), Fail> {
+    let mut one = shares.pop().ok_or("share")?;
+    let mut reader = readers.pop().ok_or("reader")?;
+    let share = &mut one;
+    let first = ksm.command(rt, share, register(0, 0, 0xaa));
+    let second = ksm.command(rt, share, register(0, 1, 0xaa));
+    let third = ksm.command(rt, share, Command::SetRun(1));
+    let fourth = ksm.command(rt, share, Command::Scan { visits: 4 });
+    assert_eq!(rt; (first.row(), second.row()), (1, 2));
+    assert_eq!(rt; (third.row(), fourth.row()), (3, 4));
+    reader.learn(fourth);
+    let row = Row {
+        number: 4,
+        counters: TWO_MERGED,
+    };
+    assert_eq!(rt; ksm.counters_now(&mut reader), Some(row));
+    let fifth = ksm.command(rt, share, register(0, 0, 0xaa));
+    assert_eq!(rt;
+        (fifth.row(), fifth.result()),
+        (5, Err(Fault::AlreadyRegistered))
+    );
+    reader.learn(fifth);
+    reader.learn(second);
+    let row = Row { number: 5, ..row };
+    assert_eq!(rt; ksm.counters_now(&mut reader), Some(row));
+    Ok(())
+}
+
+fn learnt<N: Naming, R: Wait + Abort>(rt: &R, parts: Parts) -> Result<(), Fail>
+    requires { parts ≡ N.parts }
+{
+    let (ksm, passes, shares, readers) = Ksm::<N>::open(parts)?;
+    let told = learns(rt, &ksm, shares, readers);
+    drop(ksm.close(rt, passes));
+    told
+}
+
+// Each answer tells of one command more, and a row is not older than an answer that was learnt.
+#[test]
+fn answers_tell_the_newest_row(rt: HostRuntime) -> Result<(), Fail> {
+    let shape = Shape {
+        frames_per_node: 4,
+        ..SHAPE
+    };
+    let parts = Parts::open(rt.alloc(), shape, 1)?;
+    learnt::<Brand, _>(&rt, parts)
+}
+
+// Registers and merges three pages.
+fn merge_three<N: Naming>(rt: &impl Wait, ksm: &Ksm<N>, share: &mut Share<N>) -> bool {
+    let mut right = true;
+    for number in 0..3 {
+        right &= ksm.command(rt, share, register(0, number, 7)).result() == DONE;
+    }
+    right &= ksm.command(rt, share, Command::SetRun(1)).result() == DONE;
+    right
+        & ksm
+            .command(rt, share, Command::Scan { visits: 6 })
+            .result()
+            .is_ok()
+}
+
+// 200 stores, to three pages in turn. The last answer tells the newest row.
+fn store_on<N: Naming>(rt: &impl Wait, ksm: &Ksm<N>, mut share: Share<N>) -> u64 {
+    let mut newest = 0;
+    for j in 0..200u32 {
+        let command = store(0, j % 3, (j % 250) as u8);
+        newest = ksm.command(rt, &mut share, command).row();
+    }
+    newest
+}
+
+// How many pages the counters of a row tell of.
+fn pages_of(row: Row) -> u64 {
+    let counted = row.counters;
+    let merged = counted.shared.saturating_add(counted.sharing);
+    let others = counted.unshared.saturating_add(counted.volatile);
+    merged.saturating_add(others)
+}
+
+// Asks 200 times. Answers whether there was a row each time, no number fell, and each row told of all three pages.
+fn ask_on<N: Naming>(ksm: &Ksm<N>, reader: &mut CounterReader<N>) -> bool {
+    let mut last = 5;
+    for _ in 0..200 {
+        let Some(row) = ksm.counters_now(reader) else {
+            return false;
+        };
+        if row.number < last || pages_of(row) != 3 {
+            return false;
+        }
+        last = row.number;
+    }
+    true
+}
+
+// One thread stores while another asks; then both readers, which learnt nothing, are shown the whole journal's row.
+fn watches<N: Naming + Send + Sync, R: Threads + Wait + Abort + Sync>(
+    rt: &R,
+    ksm: &Ksm<N>,
+    mut shares: Vec<Share<N>>,
+    mut readers: Vec<CounterReader<N>>,
+) -> Result<(), Fail> {
+    let mut share = shares.pop().ok_or("share")?;
+    let mut one = readers.pop().ok_or("one")?;
+    let mut two = readers.pop().ok_or("two")?;
+    assert!(rt; merge_three(rt, ksm, &mut share));
+    let (newest, right) = join(rt, || store_on(rt, ksm, share), || ask_on(ksm, &mut one));
+    assert_eq!(rt; (newest, right), (205, true));
+    let rows = (ksm.counters_now(&mut one), ksm.counters_now(&mut two));
+    let numbers = (rows.0.map(|row| row.number), rows.1.map(|row| row.number));
+    assert_eq!(rt; numbers, (Some(205), Some(205)));
+    Ok(())
+}
+
+fn watched<N: Naming + Send + Sync, R: Threads + Wait + Abort + Sync>(
+    rt: &R,
+    parts: Parts,
+) -> Result<(), Fail>
+    requires { parts ≡ N.parts }
+{
+    let (ksm, passes, shares, readers) = Ksm::<N>::open(parts)?;
+    let told = watches(rt, &ksm, shares, readers);
+    drop(ksm.close(rt, passes));
+    told
+}
+
+// Rows are whole and never go back while another thread commands, and the newest is shown once its command has returned.
+#[test]
+fn rows_are_shown_with_no_lock(rt: HostRuntime) -> Result<(), Fail> {
+    let parts = Parts::open(rt.alloc(), SHAPE, 2)?;
+    watched::<Brand, _>(&rt, parts)
 }

@@ -4,18 +4,24 @@
 //! and i + 1. Each of 1 to 4 threads makes so many lookups, each a find, a read of all words and a leave: of the place 0 where PLACES is
 //! `hot`, else of a place far from the one before. What it prints is the wrapping sum of all words read.
 //!
-//! `lookup_times audit WORKERS ROUNDS` makes so many audits of the table, by 1 to 4 workers, and prints how many places were found.
+//! `lookup_times audit WORKERS ROUNDS` makes so many audits of a book with as many frames, by 1 to 4 workers, and prints how many places were
+//! found. Pages are merged there in pairs, at 1,020 of the 1,024 places.
 #![tactic(auto)]
 
-ghost use Rattle.std.specs.Prelude.{◌<◌};
+ghost use Rattle.std.specs.Prelude.{◌<◌, ◌≤◌};
 
 mod audits;
 mod table;
 mod worker;
 
 use audits::run_audits;
+use ksm_base::Fault;
+use ksm_shared::Parts;
+use std::marker::Brand;
+use std::sync::Wait;
+use std::thread::Threads;
 use std::{env, io};
-use table::run;
+use table::{SHAPE, run};
 
 /// Where lookups go, in how many threads, and how many each makes.
 #[derive(Clone, Copy)]
@@ -50,12 +56,24 @@ fn number(word: Option<&String>) -> u64 {
     }
 }
 
+// Audits of a book of one caller.
+fn audit_all<R: Threads + Wait + AllocGlobal + Sync>(
+    rt: &R,
+    workers: usize,
+    rounds: u64,
+) -> Result<u64, Fault>
+    requires { (0 < workers) × (workers ≤ 4) }
+{
+    let parts = Parts::open(rt.alloc(), SHAPE, 1)?;
+    run_audits::<Brand, R>(rt, rt.alloc(), parts, workers, rounds)
+}
+
 fn main(rt: HostRuntime) -> io::Result<()> {
     let words = env::args(&rt)?.collect::<Vec<String>>(rt.alloc())?;
     let asked = read_words(words.as_slice());
     let made = if asked.audit {
         let workers = if asked.threads == 0 { 1 } else { asked.threads };
-        run_audits(&rt, rt.alloc(), workers, asked.rounds)
+        audit_all(&rt, workers, asked.rounds)
     } else {
         run(&rt, rt.alloc(), asked.spread, asked.threads, asked.rounds)
     };

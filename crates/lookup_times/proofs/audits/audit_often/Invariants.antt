@@ -5,7 +5,7 @@ use Rattle.lookup_times.proofs.audits.audit_often.Given as goal
 
 abbrev pub invariant-rounds : goal.invariant-rounds
 invariant-rounds g l = record {
-  own : All (λ (p : PassView). p.table ≡ l.table) l.passes.items;
+  own : All (λ (p : PassView). p.table ≡ g.N.Naming.parts.frames) l.passes.items;
   count : vec_len l.passes ≡ vec_len l.fn.first;
   room : vec_capacity l.passes ≡ vec_capacity l.fn.first;
 }

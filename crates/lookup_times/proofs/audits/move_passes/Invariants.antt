@@ -4,9 +4,9 @@ use Rattle.frame_table.specs.Named.{PassView}
 use Rattle.lookup_times.proofs.audits.move_passes.Given as goal
 
 abbrev pub invariant-passes : goal.invariant-passes
-invariant-passes l = record {
-  from : All (λ (p : PassView). p.table ≡ l.table) l.from.items;
-  to : All (λ (p : PassView). p.table ≡ l.table) l.to.items;
+invariant-passes g l = record {
+  from : All (λ (p : PassView). p.table ≡ g.N.Naming.parts.frames) l.from.items;
+  to : All (λ (p : PassView). p.table ≡ g.N.Naming.parts.frames) l.to.items;
   count : vec_len l.from + vec_len l.to ≡ vec_len l.fn.from + vec_len l.fn.to;
   left : l.left ≤ vec_len l.fn.from → l.left ≤ vec_len l.from;
   small : vec_capacity l.from ≡ vec_capacity l.fn.from;
@@ -14,4 +14,4 @@ invariant-passes l = record {
 }
 
 abbrev pub decreases-passes : goal.decreases-passes
-decreases-passes l = vec_len l.from
+decreases-passes g l = vec_len l.from

@@ -1,0 +1,237 @@
+//! Rows of counters, and the two copies of the newest one that readers take with no lock.
+ghost use Rattle.std.specs.Prelude.{◌≡◌, ◌<◌, ◌^◌, ◌⊎◌, ◌∷◌, [], drop, IfOk};
+ghost use mathlib.Core.List.{IsPrefix};
+ghost use Rattle.ksm_shared.specs.Published.{IsRowOf, ShownRow};
+
+use crate::beginning::Beginning;
+use crate::naming::Naming;
+use crossbeam_utils::rule::{Outcome, Protocol};
+use ksm_base::Counters;
+use left_right::Absorb;
+use left_right::reader::Reader;
+use left_right::writer::Writer;
+use std::alloc::{AllocError, Global};
+use std::marker::{Model, PhantomData};
+use std::mem::replace;
+use std::sync::Wait;
+
+/// Counters, and the beginning of the journal after which they stand.
+#[derive(Drop)]
+pub struct CountedRow {
+    counters: Counters,
+    beginning: Beginning,
+}
+
+impl Model for CountedRow {
+    ghost use Rattle.ksm_shared.specs.Published.{ShownRow};
+
+    ghost Value = { ShownRow };
+
+    ghost view = { λ r. record { counters = r.counters; reached = r.beginning } };
+}
+
+impl CountedRow {
+    pub fn new(counters: Counters, beginning: Beginning) -> CountedRow
+        ensures { (result.counters ≡ counters) × (result.reached ≡ beginning) }
+    {
+        CountedRow {
+            counters,
+            beginning,
+        }
+    }
+
+    /// A copy.
+    pub fn again(&self) -> CountedRow
+        ensures { result ≡ self.now }
+    {
+        CountedRow {
+            counters: self.counters,
+            beginning: self.beginning.again(),
+        }
+    }
+
+    /// The beginning of the journal.
+    pub fn beginning(&self) -> &Beginning
+        ensures { result.now ≡ self.now.reached }
+    {
+        &self.beginning
+    }
+
+    /// The counters after it.
+    pub fn counters(&self) -> Counters
+        ensures { result ≡ self.now.counters }
+    {
+        self.counters
+    }
+
+    /// Takes the other row, where that goes on where this one ends.
+    pub fn rise(&mut self, other: &CountedRow)
+        requires { other.now.reached.logbook ≡ self.old.reached.logbook }
+        ensures one { (self.new ≡ self.old) ⊎ (self.new ≡ other.now) }
+        ensures rises { IsPrefix self.old.reached.journal self.new.reached.journal × IsPrefix other.now.reached.journal self.new.reached.journal }
+    {
+        if self.beginning.begins(&other.beginning) {
+            *self = other.again();
+        }
+    }
+}
+
+impl Absorb<CountedRow> for CountedRow {
+    type State = CountedRow;
+
+    ghost state = { λ row. row };
+
+    ghost applied = { λ row newer. newer };
+
+    ghost never_fails = { Unit {0} };
+
+    fn absorb_first(
+        &mut self,
+        operation: &CountedRow,
+        _other: &CountedRow,
+    ) -> Result<(), AllocError> {
+        *self = operation.again();
+        Ok(())
+    }
+}
+
+/// Rows of the parts of `N` never go back.
+pub struct RowsGoOn<N> {
+    of: PhantomData<N>,
+}
+
+impl<N: Naming> Protocol<CountedRow, Beginning> for RowsGoOn<N> {
+    ghost use Rattle.ksm_shared.specs.Published.{RowsGoOn as Kept, nothing_seen};
+
+    ghost holds = { Kept N.parts };
+
+    ghost first = { nothing_seen N.parts };
+}
+
+impl<N: Naming> Outcome<CountedRow, Beginning> for RowsGoOn<N> {
+    ghost use Rattle.ksm_shared.specs.Published.{Shows};
+
+    ghost then = { Shows N.parts };
+}
+
+/// Enters a copy of the newest row.
+pub type RowReader<N> = Reader<CountedRow, Beginning, RowsGoOn<N>>;
+
+/// Writes both copies.
+pub type RowWriter<N> = Writer<CountedRow, CountedRow, Beginning, RowsGoOn<N>>;
+
+/// The writer of the rows, with nothing pending, beside the row that readers take. Contracts see it as that row.
+///
+/// It must be closed.
+pub struct Rows<N: Naming> {
+    writer: Option<RowWriter<N>>,
+    newest: CountedRow,
+}
+
+impl<N: Naming> Model for Rows<N> {
+    ghost use Rattle.std.specs.Prelude.{◌≡◌, [], drop, MatchOption};
+    ghost use Rattle.ksm_shared.specs.Published.{IsRowOf, ShownRow};
+
+    ghost Value = { ShownRow };
+
+    ghost view = { λ r. r.newest };
+
+    ghost invariant = { λ r. IsRowOf N.parts r.newest × MatchOption r.writer ⊥ (λ w. (w.desk.shown.value ≡ r.newest) × (drop w.behind w.log.items ≡ [])) };
+}
+
+impl<N: Naming> Rows<N> {
+    /// Two copies of a row, with places for so many readers.
+    pub fn open(alloc: Global, row: CountedRow, readers: usize) -> Result<Rows<N>, AllocError>
+        requires readers { (0 < readers) × (readers < 2 ^ 32) }
+        requires row { IsRowOf N.parts row }
+        ensures { IfOk result (λ rows. rows ≡ row) }
+    {
+        let writer = RowWriter::new(alloc, row.again(), row.again(), readers)?;
+        Ok(Rows {
+            writer: Some(writer),
+            newest: row,
+        })
+    }
+
+    /// A new reader; none where each place for one is taken.
+    pub fn reader(&self) -> Option<RowReader<N>> {
+        match &self.writer {
+            Some(writer) => new_reader(writer),
+            None => unreachable!(),
+        }
+    }
+
+    /// The row that readers take.
+    pub fn newest(&self) -> &CountedRow
+        ensures { (result.now ≡ self.now) × IsRowOf N.parts self.now }
+    {
+        &self.newest
+    }
+
+    /// Shows the row, or nothing new where memory is refused.
+    pub fn show<R: Wait>(&mut self, rt: &R, row: CountedRow)
+        requires begins { IsPrefix self.old.reached.journal row.reached.journal }
+        requires row { IsRowOf N.parts row }
+        ensures { (self.new ≡ row) ⊎ (self.new ≡ self.old) }
+    {
+        let writer = match replace(&mut self.writer, None) {
+            Some(writer) => writer,
+            None => unreachable!(),
+        };
+        let (writer, newest) = write(writer, rt, &self.newest, row);
+        self.newest = newest;
+        match replace(&mut self.writer, Some(writer)) {
+            None => {}
+            Some(_) => unreachable!(),
+        }
+    }
+
+    /// Ends the copies, once no reader is in them.
+    pub fn close<R: Wait>(self, rt: &R) {
+        let Rows { writer, newest: _ } = self;
+        match writer {
+            Some(writer) => {
+                let _ = writer.take(rt);
+            }
+            None => {}
+        }
+    }
+}
+
+fn new_reader<N: Naming>(writer: &RowWriter<N>) -> Option<RowReader<N>> {
+    writer.factory().reader().ok()
+}
+
+// Writes the row to both copies, or nothing where memory is refused. Answers the row that readers then take.
+fn write<N: Naming, R: Wait>(
+    writer: RowWriter<N>,
+    rt: &R,
+    newest: &CountedRow,
+    row: CountedRow,
+) -> (RowWriter<N>, CountedRow)
+    requires written { (writer.desk.shown.value ≡ newest.now) × (drop writer.behind writer.log.items ≡ []) }
+    requires begins { IsPrefix newest.now.reached.journal row.reached.journal }
+    requires row { IsRowOf N.parts row }
+    ensures written { (result.0.desk.shown.value ≡ result.1) × (drop result.0.behind result.0.log.items ≡ []) }
+    ensures one { (result.1 ≡ row) ⊎ (result.1 ≡ newest.now) }
+{
+    let mut writer = writer;
+    let copy = row.again();
+    if writer.append(row).is_err() {
+        return (writer, newest.again());
+    }
+    let (writer, _) = publish(writer, rt);
+    (writer, copy)
+}
+
+// Publishes the one row that is pending.
+fn publish<N: Naming, R: Wait>(
+    writer: RowWriter<N>,
+    rt: &R,
+) -> (RowWriter<N>, Result<(), AllocError>)
+    requires { (row : ShownRow) × (drop writer.behind writer.log.items ≡ row ∷ []) × IsPrefix writer.desk.shown.value.reached.journal row.reached.journal × IsRowOf N.parts row }
+    ensures nothing { drop result.0.behind result.0.log.items ≡ [] }
+    ensures shown { (row : ShownRow) → drop writer.behind writer.log.items ≡ row ∷ [] → result.0.desk.shown.value ≡ row }
+{
+    writer.publish_as::<RowsGoOn<N>, R>(rt)
+}
