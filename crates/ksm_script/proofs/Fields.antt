@@ -4,11 +4,13 @@ use Rattle.std.specs.Prelude.{bytes_eq, option_map}
 use Rattle.std.proofs.lemmas.Slice.Eq.{bytes_eq-Decides}
 use Rattle.ksm_base.specs.declared.page.GuestPage.{GuestPage}
 use Rattle.ksm_script.specs.declared.knob.Knob.{Knob}
-use Rattle.ksm_script.specs.declared.knob.Knob.TheVariants.{Run, PagesToScan, MergeAcrossNodes, MaxPageSharing}
+use Rattle.ksm_script.specs.declared.knob.Knob.TheVariants.{Run, PagesToScan, MergeAcrossNodes, MaxPageSharing, UseZeroPages}
+use Rattle.ksm_script.specs.declared.knob.Shown.{Shown}
+use Rattle.ksm_script.specs.declared.knob.Shown.TheVariants.{Knob as OfKnob, ZeroPages}
 use Rattle.ksm_script.specs.Content.{content_of}
-use Rattle.ksm_script.specs.Knobs.{knob_name}
+use Rattle.ksm_script.specs.Knobs.{knob_name, shown_name}
 use Rattle.ksm_script.specs.Grammar.{Part, name, guest, number, content, IsWritten, AreWritten}
-use Rattle.ksm_script.specs.Reading.{◌>>=◌, field, guest_of, number_of, page_at, ended, alone, page_alone, knob_of}
+use Rattle.ksm_script.specs.Reading.{◌>>=◌, field, guest_of, number_of, page_at, ended, alone, page_alone, knob_of, shown_of}
 use Rattle.ksm_script.proofs.Numbers.{number_takes, number_again}
 
 -- ---- what writes a field is read
@@ -18,6 +20,15 @@ knob_known Run = refl
 knob_known PagesToScan = refl
 knob_known MergeAcrossNodes = refl
 knob_known MaxPageSharing = refl
+knob_known UseZeroPages = refl
+
+shown_known : (shown : Shown) → shown_of (shown_name shown) ≡ Some shown
+shown_known (OfKnob Run) = refl
+shown_known (OfKnob PagesToScan) = refl
+shown_known (OfKnob MergeAcrossNodes) = refl
+shown_known (OfKnob MaxPageSharing) = refl
+shown_known (OfKnob UseZeroPages) = refl
+shown_known ZeroPages = refl
 
 -- the first word of a written line, and the others
 pub record Taken {A : Type 0} (read : List (List ℕ) → Option (A × List (List ℕ))) (value : A) (parts : List Part) (words : List (List ℕ)) : Type 0 where
@@ -36,6 +47,10 @@ number_again_field n parts (w ∷ ws) h = record { rest = ws; is = rw (h.0.1, nu
 pub knob_again : (knob : Knob) (parts : List Part) (words : List (List ℕ)) → AreWritten (name (knob_name knob) ∷ parts) words → Taken (field knob_of) knob parts words
 knob_again knob parts [] h = absurd h
 knob_again knob parts (w ∷ ws) h = record { rest = ws; is = rw (h.0, knob_known knob) refl; others = h.1 }
+
+pub shown_again : (shown : Shown) (parts : List Part) (words : List (List ℕ)) → AreWritten (name (shown_name shown) ∷ parts) words → Taken (field shown_of) shown parts words
+shown_again shown parts [] h = absurd h
+shown_again shown parts (w ∷ ws) h = record { rest = ws; is = rw (h.0, shown_known shown) refl; others = h.1 }
 
 pub page_again : (page : GuestPage) (parts : List Part) (words : List (List ℕ)) → AreWritten (guest page.guest ∷ number page.page ∷ parts) words → Taken page_at page parts words
 page_again page parts words h =
@@ -58,8 +73,8 @@ number_alone_again n words h = let f = number_again_field n [] words h in rw (f.
 pub guest_alone_again : (n : ℕ) (words : List (List ℕ)) → AreWritten (guest n ∷ []) words → alone guest_of words ≡ Some n
 guest_alone_again n words h = let f = guest_again n [] words h in rw (f.is, ended_again f.rest f.others) refl
 
-pub knob_alone_again : (knob : Knob) (words : List (List ℕ)) → AreWritten (name (knob_name knob) ∷ []) words → alone knob_of words ≡ Some knob
-knob_alone_again knob words h = let f = knob_again knob [] words h in rw (f.is, ended_again f.rest f.others) refl
+pub shown_alone_again : (shown : Shown) (words : List (List ℕ)) → AreWritten (name (shown_name shown) ∷ []) words → alone shown_of words ≡ Some shown
+shown_alone_again shown words h = let f = shown_again shown [] words h in rw (f.is, ended_again f.rest f.others) refl
 
 pub content_alone_again : (page : List ℕ) (words : List (List ℕ)) → AreWritten (content page ∷ []) words → alone content_of words ≡ Some page
 content_alone_again page [] h = absurd h
@@ -180,10 +195,24 @@ knob_written knob word e =
         | inl a ↦ named_so PagesToScan knob word a.0 a.1
         | inr e2 ↦ elim (tested (knob_name MergeAcrossNodes) MergeAcrossNodes _ knob word e2) [
           | inl a ↦ named_so MergeAcrossNodes knob word a.0 a.1
-          | inr e3 ↦ elim (tested (knob_name MaxPageSharing) MaxPageSharing None knob word e3) [
+          | inr e3 ↦ elim (tested (knob_name MaxPageSharing) MaxPageSharing _ knob word e3) [
             | inl a ↦ named_so MaxPageSharing knob word a.0 a.1
-            | inr e4 ↦ absurd (none_some knob e4)
+            | inr e4 ↦ elim (tested (knob_name UseZeroPages) UseZeroPages None knob word e4) [
+              | inl a ↦ named_so UseZeroPages knob word a.0 a.1
+              | inr e5 ↦ absurd (none_some knob e5)
+            ]
           ]
         ]
       ]
     ]
+
+pub shown_written : (shown : Shown) (word : List ℕ) → shown_of word ≡ Some shown → word ≡ shown_name shown
+shown_written shown word e =
+    elim (tested (shown_name ZeroPages) ZeroPages (option_map OfKnob (knob_of word)) shown word e) [
+      | inl a ↦ a.0 ∙ ap shown_name a.1
+      | inr later ↦ go (knob_of word) refl later
+    ]
+  where
+    go : (o : Option Knob) → knob_of word ≡ o → option_map OfKnob o ≡ Some shown → word ≡ shown_name shown
+    go None is h = absurd (none_some shown h)
+    go (Some knob) is h = knob_written knob word is ∙ ap shown_name (some_is (OfKnob knob) shown h)

@@ -5,6 +5,7 @@ pub mod Fields
 pub mod Lines
 pub mod Blocks
 pub mod Hex
+pub mod Journaled
 pub mod Parts
 pub mod Decimals
 pub mod Slots

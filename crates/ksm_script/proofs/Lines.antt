@@ -7,11 +7,11 @@ use Rattle.ksm_script.specs.declared.line.Line.TheVariants.{Empty, Register, Dro
 use Rattle.ksm_script.specs.declared.line.LineFault.{LineFault}
 use Rattle.ksm_script.specs.Grammar.{Part, name, guest, number, content, IsWritten, AreWritten, parts_of}
 use Rattle.ksm_script.specs.Content.{content_of}
-use Rattle.ksm_script.specs.Knobs.{knob_name}
+use Rattle.ksm_script.specs.Knobs.{knob_name, shown_name}
 use Rattle.ksm_base.specs.declared.page.GuestPage.{GuestPage}
-use Rattle.ksm_script.specs.Reading.{◌>>=◌, Gives, field, guest_of, number_of, page_at, ended, alone, page_alone, knob_of}
+use Rattle.ksm_script.specs.Reading.{◌>>=◌, Gives, field, guest_of, number_of, page_at, ended, alone, page_alone, knob_of, shown_of}
 use Rattle.ksm_script.specs.Forms.{name_alone, register_at, store_at, move_page_at, move_dup_at, set_at, scan_at, find_at, equal_at, Form, forms, named_line, line_at}
-use Rattle.ksm_script.proofs.Fields.{bind_some, mapped, some_is, none_some, field_takes, page_takes, ended_takes, words_are, behind_word, behind_page, page_alone_takes, alone_takes, number_written, guest_written, knob_written}
+use Rattle.ksm_script.proofs.Fields.{bind_some, mapped, some_is, none_some, field_takes, page_takes, ended_takes, words_are, behind_word, behind_page, page_alone_takes, alone_takes, number_written, guest_written, knob_written, shown_written}
 use Rattle.ksm_script.proofs.Fields as fields
 
 -- ---- what writes a line is read
@@ -82,9 +82,9 @@ line_again (Set knob value) words h =
     let a = named_again (codes "set") (name (knob_name knob) ∷ number value ∷ []) words h in
     let k = fields.knob_again knob (number value ∷ []) a.rest a.others in
     rw (a.is, k.is, fields.number_alone_again value k.rest k.others) refl
-line_again (Show knob) words h =
-    let a = named_again (codes "show") (name (knob_name knob) ∷ []) words h in
-    rw (a.is, fields.knob_alone_again knob a.rest a.others) refl
+line_again (Show shown) words h =
+    let a = named_again (codes "show") (name (shown_name shown) ∷ []) words h in
+    rw (a.is, fields.shown_alone_again shown a.rest a.others) refl
 line_again Stat words h =
     let a = named_again (codes "stat") [] words h in
     rw (a.is, fields.ended_again a.rest a.others) refl
@@ -270,7 +270,7 @@ all_take = (
                           (
                             set_takes,
                             (
-                              word_form_takes (codes "show") knob_of Show (λ knob. name (knob_name knob)) (λ a. refl) knob_written,
+                              word_form_takes (codes "show") shown_of Show (λ shown. name (shown_name shown)) (λ a. refl) shown_written,
                               (name_alone_takes (codes "stat") Stat (refl, tt), look_ups_take),
                             ),
                           ),

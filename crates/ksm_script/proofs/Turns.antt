@@ -1,24 +1,25 @@
 -- A run goes on by one line.
 use Rattle.std.proofs.Common.{◌≡◌, ◌≢◌, ℕ, ◌+◌, ◌≤◌, List, [], ◌∷◌, ◌++◌, length, Option, Some, Result, Ok, Err, ap, ◌∙◌, sym, subst, append_assoc, inl, inr, refl}
 use Rattle.std.specs.Io.KnownBytes.{Appends, Consumes, IsAtEnd, Keeps}
+use Rattle.std.proofs.lemmas.List.{append-nil}
 use Rattle.std.proofs.KnownBytes.{Appends-kept, Appends-nil, Appends-trans, Consumes-nil, Consumes-trans}
 use Rattle.ksm_script.specs.State.{ScriptState}
 use Rattle.ksm_script.specs.declared.line.Line.{Line}
 use Rattle.ksm_script.specs.declared.line.LineFault.{LineFault}
 use Rattle.ksm_script.specs.declared.reply.LineReply.{LineReply}
 use Rattle.ksm_script.specs.declared.script.End.{End}
-use Rattle.ksm_script.specs.declared.script.End.TheVariants.{BadLine}
 use Rattle.ksm_script.specs.declared.script.RunFault.{RunFault}
+use Rattle.ksm_script.specs.declared.script.RunFault.TheVariants.{Write}
 use Rattle.ksm_script.specs.declared.input.LineEnd.{LineEnd}
 use Rattle.ksm_script.specs.declared.input.LineEnd.TheVariants.{Newline, Input, TooLong}
 use Rattle.ksm_script.specs.Grammar.{Writes}
 use Rattle.ksm_script.specs.Input.{EndsAs, IsPlain}
 use Rattle.ksm_script.specs.Answering.{Answers, reply_text}
-use Rattle.ksm_script.specs.Replies.{text_of}
-use Rattle.ksm_script.specs.Script.{Answered, none, more, ReadFor, AnsweredAll, IsNoLine, IsBad, IsReadAs, AnsweredToBad}
+use Rattle.ksm_script.specs.Script.{Answered, none, more, CarriesOut, ReadFor, AnsweredAll, AnsweredLast, IsNoLine, IsBad, IsReadAs, AnsweredToBad, Streams, Goes}
 
-abbrev pub ended : End → Result End RunFault
-ended end = Ok end
+-- a failed write is told as one
+pub broke : (io : Streams) (from to : ScriptState) (told : Result End RunFault) → told ≡ Err Write → Goes io from to (Err Write) → Goes io from to told
+broke io from to told is h = subst (λ (r : Result End RunFault). Goes io from to r) (sym is) h
 
 -- what a run read, did and wrote before the line of a number
 pub record IsSoFar (first now : Option (List ℕ)) (begun written : Option (List ℕ)) (from state : ScriptState) (number : ℕ) : Type 0 where
@@ -93,9 +94,9 @@ bad_of left Newline line bad last = bad (λ e. absurd cc)
 bad_of left Input line bad last = (bad (λ e. absurd cc), last refl)
 bad_of left TooLong line bad last = tt
 
--- the number of a bad line
-pub number_is : (number told : ℕ) → ended (BadLine number) ≡ ended (BadLine told) → number ≡ told
-number_is number told e = cc
+empty_of : (line : List ℕ) → length line ≡ 0 → line ≡ []
+empty_of [] nil = refl
+empty_of (byte ∷ line) nil = absurd (cc nil)
 
 module _ (first now later : Option (List ℕ)) (begun written : Option (List ℕ)) (from state : ScriptState) (number : ℕ) (line : List ℕ) (end : LineEnd)
     (so : IsSoFar first now begun written from state number) (read : IsRead now later line end) where
@@ -103,12 +104,25 @@ module _ (first now later : Option (List ℕ)) (begun written : Option (List ℕ
   consumed_then = Consumes-trans first now later so.lines read.bytes so.consumed read.consumed
 
   module _ (next : ScriptState) (form : Line) (reply : Option LineReply) (did : IsDone state next line end form reply) where
-    pub turned : Answered from (so.lines ++ (line ++ 10 ∷ [])) (so.text ++ reply_text reply) (so.count + 1) next
-    turned = more so.answered line form reply next read.plain (not_long end line read.bytes did.short read.ends) did.written did.answers
+    carried : CarriesOut state line reply next
+    carried =
+        record { form = form; plain = read.plain; short = not_long end line read.bytes did.short read.ends; written = did.written; answers = did.answers }
+
+    turned : Answered from (so.lines ++ (line ++ 10 ∷ [])) (so.text ++ reply_text reply) (so.count + 1) next
+    turned = more so.answered line reply next carried
+
+    ended_by : ReadFor (so.lines ++ (line ++ 10 ∷ [])) (so.lines ++ read.bytes) later
+    ended_by = read_for later end so.lines line read.bytes did.short read.ends read.last
 
     pub answered_all : AnsweredAll first later from next (so.text ++ reply_text reply)
     answered_all =
-        (so.lines ++ (line ++ 10 ∷ []), so.lines ++ read.bytes, so.count + 1, turned, read_for later end so.lines line read.bytes did.short read.ends read.last, consumed_then)
+        (so.lines ++ (line ++ 10 ∷ []), so.lines ++ read.bytes, so.count + 1, turned, ended_by, consumed_then)
+
+    -- the same where the line has this reply
+    pub answered_last : (told : LineReply) → reply ≡ Some told → AnsweredLast first later from next so.text told
+    answered_last told is =
+        let last = subst (λ (r : Option LineReply). CarriesOut state line r next) is carried in
+        (so.lines, line, so.lines ++ read.bytes, so.count, state, so.answered, last, ended_by, consumed_then)
 
     pub goes_on : (wrote : Option (List ℕ)) → end ≢ Input → Appends written wrote (reply_text reply) → IsSoFar first later begun wrote from next (number + 1)
     goes_on wrote open_end appended =
@@ -122,11 +136,14 @@ module _ (first now later : Option (List ℕ)) (begun written : Option (List ℕ
           appended = Appends-trans begun written wrote so.text (reply_text reply) so.appended appended;
         }
 
+  -- nothing was left to read
+  pub all_read : end ≡ Input → length line ≡ 0 → AnsweredAll first later from state so.text
+  all_read last nil =
+      let empty : line ≡ [] = empty_of line nil in
+      let nothing : read.bytes ≡ [] = (subst (λ (e : LineEnd). EndsAs e line read.bytes) last read.ends).0 ∙ empty in
+      let all : so.lines ++ read.bytes ≡ so.lines = ap (λ (t : List ℕ). so.lines ++ t) nothing ∙ append-nil so.lines in
+      (so.lines, so.lines, so.count, so.answered, inl refl, subst (λ (t : List ℕ). Consumes first later t) all consumed_then)
+
   pub answered_to_bad : (fault : LineFault) → IsReadAs (Err fault) end line → AnsweredToBad first later from state so.text so.count
   answered_to_bad fault bad =
       (line, read.bytes, end, (so.lines, so.answered, consumed_then), read.plain, read.ends, bad_of later end line bad read.last)
-
--- the same where the reply is known
-pub answered_told : (old new : Option (List ℕ)) (from to : ScriptState) (text : List ℕ) (reply : Option LineReply) (told : LineReply) → reply ≡ Some told
-    → AnsweredAll old new from to (text ++ reply_text reply) → AnsweredAll old new from to (text ++ text_of told)
-answered_told old new from to text reply told is all = subst (λ (r : Option LineReply). AnsweredAll old new from to (text ++ reply_text r)) is all

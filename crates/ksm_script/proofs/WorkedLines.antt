@@ -12,10 +12,10 @@ use Rattle.ksm_base.specs.declared.page.GuestPage.{GuestPage}
 use Rattle.ksm_base.specs.Reading.{bytes_of, ticket_of}
 use Rattle.ksm_base.specs.Refusals.{is_known}
 use Rattle.ksm_script.specs.declared.knob.Knob.TheVariants.{Run}
-use Rattle.ksm_script.specs.Knobs.{value_in}
+use Rattle.ksm_script.specs.declared.knob.Shown.TheVariants.{Knob as OfKnob}
+use Rattle.ksm_script.specs.Knobs.{shown_in}
 use Rattle.ksm_script.specs.declared.line.Line.TheVariants as lines
 use Rattle.ksm_base.specs.Answers.{Answer, IsAnswerOrMemory}
-use Rattle.ksm_base.specs.Apply.{after}
 use Rattle.ksm_base.specs.Worked.{shape, at, full}
 use Rattle.frame_table.specs.declared.pass.Why.TheVariants.{Vacant}
 use Rattle.frame_table.specs.Named.{TableName, PassView, HeldView}
@@ -32,13 +32,13 @@ use Rattle.ksm_script.specs.Grammar.{words_of}
 use Rattle.ksm_script.specs.Forms.{line_at}
 use Rattle.ksm_script.specs.State.{ScriptState}
 use Rattle.ksm_script.specs.Lookups.{Found, LooksAt, GivesUp, AuditedBy, HoldsStill, idle_of}
-use Rattle.ksm_script.specs.Answering.{OnBook, Commands, Reads, reply_to, content_reply, ticket_reply}
+use Rattle.ksm_script.specs.Answering.{Commands, KeepsBook, Reads, commanded, reply_to, content_reply, ticket_reply}
 use Rattle.ksm_script.specs.Script.{IsNoLine}
-use Rattle.ksm_script.specs.Worked.{does, start, register, merged, one_holds, both_hold, CommandLines, ReadingLines, LookupLines, BadLines}
+use Rattle.ksm_script.specs.Worked.{start, register, merged, one_holds, both_hold, CommandLines, ReadingLines, LookupLines, BadLines}
 use Rattle.ksm_script.proofs.Lines.{line_again, line_takes}
 
-both_is : (n s : ScriptState) → n.book ≡ s.book → n.passes ≡ s.passes → n ≡ s
-both_is n s b p = λ i. let z : ScriptState = record { book = b i; passes = p i } in z
+all_is : (n s : ScriptState) → KeepsBook s n → n.passes ≡ s.passes → n ≡ s
+all_is n s b p = λ i. let z : ScriptState = record { book = b.0 i; journal = b.1 i; passes = p i } in z
 
 -- ---- commands
 
@@ -67,14 +67,11 @@ reply_is a b e = sym (answer_back a) ∙ ap told_of e ∙ answer_back b
 
 module _ (s : ScriptState) (command : Command) (answer : Answer) where
   leads : IsAnswerOrMemory s.book command answer
-      → OnBook (Commands command) s (Some (reply_to answer)) (does s command answer) × ((n : ScriptState) → OnBook (Commands command) s (Some (reply_to answer)) n → n ≡ does s command answer)
-  leads lawful = (
-    ((answer, lawful, refl, refl), refl),
-    λ n d. both_is n (does s command answer) (d.0.3 ∙ ap (after s.book command) (sym (reply_is answer d.0.0 d.0.2))) d.1,
-  )
+      → Commands command s (Some (reply_to answer)) (commanded s command answer) × ((n : ScriptState) → Commands command s (Some (reply_to answer)) n → n ≡ commanded s command answer)
+  leads lawful = ((answer, lawful, refl, refl), λ n d. d.3 ∙ ap (commanded s command) (sym (reply_is answer d.0 d.2)))
 
-  never : (IsAnswerOrMemory s.book command answer → ⊥) → (n : ScriptState) → ¬ (OnBook (Commands command) s (Some (reply_to answer)) n)
-  never not n d = not (subst (IsAnswerOrMemory s.book command) (sym (reply_is answer d.0.0 d.0.2)) d.0.1)
+  never : (IsAnswerOrMemory s.book command answer → ⊥) → (n : ScriptState) → ¬ (Commands command s (Some (reply_to answer)) n)
+  never not n d = not (subst (IsAnswerOrMemory s.book command) (sym (reply_is answer d.0 d.2)) d.1)
 
 pub command_lines : (t : TableName) → CommandLines t
 command_lines t =
@@ -110,8 +107,8 @@ command_lines t =
 -- ---- readings
 
 module _ (s : ScriptState) (told : BookState → Option LineReply) where
-  reads : OnBook (Reads told) s (told s.book) s × ((n : ScriptState) → OnBook (Reads told) s (told s.book) n → n ≡ s)
-  reads = (((refl, refl), refl), λ n d. both_is n s d.0.1 d.1)
+  reads : Reads told s (told s.book) s × ((n : ScriptState) → Reads told s (told s.book) n → n ≡ s)
+  reads = ((refl, refl), λ n d. d.1)
 
 first_word : Option LineReply → ℕ
 first_word (Some (Content (word ∷ words))) = word
@@ -128,19 +125,21 @@ reading_lines t =
     let content = λ (p : GuestPage) (b : BookState). let o : Option LineReply = Some (content_reply (bytes_of p b)) in o in
     let place = λ (p : GuestPage) (b : BookState). let o : Option LineReply = Some (ticket_reply (is_known b p) (ticket_of p b)) in o in record {
       nothing = reads m (λ b. None);
-      not_done = λ n d. cc d.0.0;
+      not_done = λ n d. cc d.0;
       content = reads m (content page);
-      not_another = λ n d. absurd (omega (arith, ap first_word d.0.0));
+      not_another = λ n d. absurd (omega (arith, ap first_word d.0));
       no_page = reads m (content (at 7 0));
       place = reads m (place (at 0 1));
-      not_private = λ n d. cc d.0.0;
-      mappers = λ pages e. (((ap (λ (l : List GuestPage). let o : Option (List GuestPage) = Some l in o) (sym e), refl), refl), λ n d. both_is n m d.0.1 d.1);
-      not_fewer = λ pages e n d. fewer (at 0 0) (at 0 1) (sym (d.0.0 ∙ ap (λ (l : List GuestPage). let o : Option (List GuestPage) = Some l in o) e));
-      not_without = λ n d. cc d.0.0;
-      no_mappers = (((refl, refl), refl), λ n d. both_is n m d.0.1 d.1);
-      not_empty = λ pages n d. cc d.0.0;
-      value = reads m (λ b. Some (Value (value_in Run b.knobs)));
-      not_zero = λ n d. cc d.0.0;
+      not_private = λ n d. cc d.0;
+      mappers = λ pages e. ((ap (λ (l : List GuestPage). let o : Option (List GuestPage) = Some l in o) (sym e), refl), λ n d. d.1);
+      not_fewer = λ pages e n d. fewer (at 0 0) (at 0 1) (sym (d.0 ∙ ap (λ (l : List GuestPage). let o : Option (List GuestPage) = Some l in o) e));
+      not_without = λ n d. cc d.0;
+      no_memory = ((refl, refl), λ n d. d.1);
+      not_for_memory = λ n d. cc d.0;
+      no_mappers = ((refl, refl), λ n d. d.1);
+      not_empty = λ pages n d. cc d.0;
+      value = reads m (λ b. Some (Value (shown_in (OfKnob Run) b)));
+      not_zero = λ n d. cc d.0;
     }
 
 -- ---- lookups
@@ -190,44 +189,44 @@ lookup_lines v h k is =
     let both = both_hold h k in
     let lt : 3 < frames_of v.table.shape = omega (arith, four) in
     let le : frames_of v.table.shape ≤ 4 = omega (arith, four) in record {
-      no_pass = (((refl, refl), refl), λ n d. both_is n s d.1 d.0.1);
-      holds = (((Holding h, (refl, refl), refl), refl), λ n d. both_is n s d.1 (d.0.2 ∙ ap (λ p. Idle v ∷ p ∷ []) d.0.1.1));
+      no_pass = (((refl, refl), (refl, refl)), λ n d. all_is n s d.1 d.0.1);
+      holds = (((Holding h, (refl, refl), refl), (refl, refl)), λ n d. all_is n s d.1 (d.0.2 ∙ ap (λ p. Idle v ∷ p ∷ []) d.0.1.1));
       no_place = (
-        ((Idle v, inr (le, (refl, refl)), refl), refl),
-        λ n d. ⊎_elim (λ a. absurd (omega (arith, a.0, four))) (λ b. both_is n s d.1 (d.0.2 ∙ ap (λ p. p ∷ Holding h ∷ []) b.1.1)) d.0.1,
+        ((Idle v, inr (le, (refl, refl)), refl), (refl, refl)),
+        λ n d. ⊎_elim (λ a. absurd (omega (arith, a.0, four))) (λ b. all_is n s d.1 (d.0.2 ∙ ap (λ p. p ∷ Holding h ∷ []) b.1.1)) d.0.1,
       );
       not_busy = λ n d. ⊎_elim (λ a. absurd (omega (arith, a.0, four))) (λ b. absurd (cc b.1.0)) d.0.1;
       not_refused = λ n d. ⊎_elim (λ a. never_found v 3 d.0.0 a.1) (λ b. absurd (omega (arith, b.0, four))) d.0.1;
       not_while_held = λ n d. absurd (cc d.0.1.0);
       vacant = λ log is_log. (
-        ((Idle (record v { log = v.log ++ log }), inl (lt, (refl, (log, refl, is_log))), refl), refl),
+        ((Idle (record v { log = v.log ++ log }), inl (lt, (refl, (log, refl, is_log))), refl), (refl, refl)),
         λ n d. ⊎_elim
-            (λ a. both_is n (one_holds (record v { log = v.log ++ log }) h) d.1 (d.0.2 ∙ ap (λ p. p ∷ Holding h ∷ []) (vacant_is v 3 log d.0.0 is_log a.1)))
+            (λ a. all_is n (one_holds (record v { log = v.log ++ log }) h) d.1 (d.0.2 ∙ ap (λ p. p ∷ Holding h ∷ []) (vacant_is v 3 log d.0.0 is_log a.1)))
             (λ b. absurd (cc b.1.0))
             d.0.1,
       );
       held = λ frame generation n d. ⊎_elim
-          (λ a. let f = held_is v 3 frame generation d.0.0 a.1 in (f.0, both_is n (both_hold f.0 h) d.1 (d.0.2 ∙ ap (λ p. p ∷ Holding h ∷ []) f.1), f.2, f.3))
+          (λ a. let f = held_is v 3 frame generation d.0.0 a.1 in (f.0, all_is n (both_hold f.0 h) d.1 (d.0.2 ∙ ap (λ p. p ∷ Holding h ∷ []) f.1), f.2, f.3))
           (λ b. absurd (cc b.1.0))
           d.0.1;
-      equal_no_pass = λ page. (((refl, refl), refl), λ n d. both_is n s d.1 d.0.1);
-      equal_holds = λ page. (((Holding h, (refl, refl), refl), refl), λ n d. both_is n s d.1 (d.0.2 ∙ ap (λ p. Idle v ∷ p ∷ []) d.0.1.1));
+      equal_no_pass = λ page. (((refl, refl), (refl, refl)), λ n d. all_is n s d.1 d.0.1);
+      equal_holds = λ page. (((Holding h, (refl, refl), refl), (refl, refl)), λ n d. all_is n s d.1 (d.0.2 ∙ ap (λ p. Idle v ∷ p ∷ []) d.0.1.1));
       equal_no_place = λ page. (
-        ((Idle v, inr (le, (refl, refl)), refl), refl),
-        λ n d. ⊎_elim (λ a. absurd (omega (arith, a.0, four))) (λ b. both_is n s d.1 (d.0.2 ∙ ap (λ p. p ∷ Holding h ∷ []) b.1.1)) d.0.1,
+        ((Idle v, inr (le, (refl, refl)), refl), (refl, refl)),
+        λ n d. ⊎_elim (λ a. absurd (omega (arith, a.0, four))) (λ b. all_is n s d.1 (d.0.2 ∙ ap (λ p. p ∷ Holding h ∷ []) b.1.1)) d.0.1,
       );
-      look_no_pass = (((refl, refl), refl), λ n d. both_is n s d.1 d.0.1);
-      look_idle = (((Idle v, (refl, refl), refl), refl), λ n d. both_is n s d.1 (d.0.2 ∙ ap (λ p. p ∷ Holding h ∷ []) d.0.1.1));
+      look_no_pass = (((refl, refl), (refl, refl)), λ n d. all_is n s d.1 d.0.1);
+      look_idle = (((Idle v, (refl, refl), refl), (refl, refl)), λ n d. all_is n s d.1 (d.0.2 ∙ ap (λ p. p ∷ Holding h ∷ []) d.0.1.1));
       not_looked = λ bytes n d. absurd (cc d.0.1.0);
-      looked = λ bytes n d. (let f = looked_is h bytes d.0.0 d.0.1 in (f.0, both_is n (one_holds v f.0) d.1 (d.0.2 ∙ ap (λ p. Idle v ∷ p ∷ []) f.1), f.2));
-      leave_no_pass = (((refl, refl), refl), λ n d. both_is n s d.1 d.0.1);
-      leave_idle = (((Idle v, (refl, refl), refl), refl), λ n d. both_is n s d.1 (d.0.2 ∙ ap (λ p. p ∷ Holding h ∷ []) d.0.1.1));
+      looked = λ bytes n d. (let f = looked_is h bytes d.0.0 d.0.1 in (f.0, all_is n (one_holds v f.0) d.1 (d.0.2 ∙ ap (λ p. Idle v ∷ p ∷ []) f.1), f.2));
+      leave_no_pass = (((refl, refl), (refl, refl)), λ n d. all_is n s d.1 d.0.1);
+      leave_idle = (((Idle v, (refl, refl), refl), (refl, refl)), λ n d. all_is n s d.1 (d.0.2 ∙ ap (λ p. p ∷ Holding h ∷ []) d.0.1.1));
       not_left = λ n d. absurd (cc d.0.1.0);
-      left = λ n d. (let f = left_is h d.0.0 d.0.1 in (f.0, both_is n _ d.1 (d.0.2 ∙ ap (λ p. Idle v ∷ p ∷ []) f.1)));
-      audit_holds = ((((refl, refl), (refl, (refl, tt))), refl), λ n d. both_is n both d.1 (holds_are h k n.passes d.0.1));
+      left = λ n d. (let f = left_is h d.0.0 d.0.1 in (f.0, all_is n _ d.1 (d.0.2 ∙ ap (λ p. Idle v ∷ p ∷ []) f.1)));
+      audit_holds = ((((refl, refl), (refl, (refl, tt))), (refl, refl)), λ n d. all_is n both d.1 (holds_are h k n.passes d.0.1));
       audit_not_held = λ n d. absurd d.0.0;
-      audit_memory = (((refl, (tt, (refl, tt))), refl), λ n d. both_is n s d.1 (memory_is v h n.passes d.0.0 d.0.1));
-      audited = λ rows n d. (let f = audited_is v h rows n.passes is d.0.0 d.0.1 in (f.0, both_is n (one_holds f.0 h) d.1 f.1, f.2));
+      audit_memory = (((refl, (tt, (refl, tt))), (refl, refl)), λ n d. all_is n s d.1 (memory_is v h n.passes d.0.0 d.0.1));
+      audited = λ rows n d. (let f = audited_is v h rows n.passes is d.0.0 d.0.1 in (f.0, all_is n (one_holds f.0 h) d.1 f.1, f.2));
       not_audited = λ rows n d. absurd (cc d.0.0.0);
     }
   where

@@ -1,10 +1,11 @@
 -- What a line is answered, and the state after it (own).
-use Rattle.std.specs.Prelude.{◌≡◌, ℕ, Bool, true, false, List, [], Option, Some, None, Ok, Err}
+use Rattle.std.specs.Prelude.{◌≡◌, ℕ, Bool, true, false, List, [], Option, Some, None, IsSome, Ok, Err}
 use Rattle.std.specs.List.{AllZip}
 use Rattle.ksm_base.specs.declared.command.Command.{Command}
 use Rattle.ksm_base.specs.declared.command.Command.TheVariants as commands
 use Rattle.ksm_base.specs.declared.reply.Reply.TheVariants as replies
 use Rattle.ksm_base.specs.declared.fault.Fault.TheVariants.{Memory, UnknownPage, UnknownPlace}
+use Rattle.ksm_base.specs.Journal.{journal_after}
 use Rattle.ksm_base.specs.State.{BookState}
 use Rattle.ksm_base.specs.Answers.{Answer, IsAnswerOrMemory}
 use Rattle.ksm_base.specs.Apply.{after}
@@ -18,7 +19,7 @@ use Rattle.ksm_script.specs.declared.pass_state.PassState.{PassState}
 use Rattle.ksm_script.specs.declared.refusal.Refusal.TheVariants.{Book}
 use Rattle.ksm_script.specs.declared.reply.LineReply.{LineReply}
 use Rattle.ksm_script.specs.declared.reply.LineReply.TheVariants.{Done, Content, Place, Private, Mappers as Pages, Scanned, Pruned, Unmerged, Value, Counters, Refused}
-use Rattle.ksm_script.specs.Knobs.{setting, value_in}
+use Rattle.ksm_script.specs.Knobs.{setting, shown_in}
 use Rattle.ksm_script.specs.State.{ScriptState}
 use Rattle.ksm_script.specs.Lookups.{Finds, Equals, LooksAt, GivesUp, AtPass, Audits, EndsIdle}
 use Rattle.ksm_script.specs.Replies.{text_of}
@@ -31,14 +32,19 @@ reply_to (Ok (replies.Pruned count)) = Pruned count
 reply_to (Ok (replies.Unmerged pages stop)) = Unmerged pages stop
 reply_to (Err fault) = Refused (Book fault)
 
--- A command is a step of the book; refused for memory it is left out.
-abbrev pub Commands : Command → BookState → Option LineReply → BookState → Type 0
-Commands command b reply next =
-    (answer : Answer) × IsAnswerOrMemory b command answer × (reply ≡ Some (reply_to answer)) × (next ≡ after b command answer)
+-- the state after a command with its answer
+abbrev pub commanded : ScriptState → Command → Answer → ScriptState
+commanded s command answer =
+    record { book = after s.book command answer; journal = journal_after s.journal command answer; passes = s.passes }
 
--- what a line reads is a function of the book state, which it keeps
-abbrev pub Reads : (BookState → Option LineReply) → BookState → Option LineReply → BookState → Type 0
-Reads told b reply next = (reply ≡ told b) × (next ≡ b)
+-- A command is a step of the book, and an entry of its journal; refused for memory it is left out.
+abbrev pub Commands : Command → ScriptState → Option LineReply → ScriptState → Type 0
+Commands command s reply next =
+    (answer : Answer) × IsAnswerOrMemory s.book command answer × (reply ≡ Some (reply_to answer)) × (next ≡ commanded s command answer)
+
+-- what a line reads is a function of the book state, and nothing changes
+abbrev pub Reads : (BookState → Option LineReply) → ScriptState → Option LineReply → ScriptState → Type 0
+Reads told s reply next = (reply ≡ told s.book) × (next ≡ s)
 
 -- the content of a page, if it has a row
 abbrev pub content_reply : Option (List ℕ) → LineReply
@@ -51,46 +57,46 @@ ticket_reply false place = Refused (Book UnknownPage)
 ticket_reply true None = Private
 ticket_reply true (Some place) = Place place
 
--- the pages that are merged at a place, if any are, or want of memory
+-- the pages that are merged at a place, or that none are; want of memory only where some are
 abbrev pub IsMappers : Option (List GuestPage) → LineReply → Type 0
 IsMappers pages (Pages items) = pages ≡ Some items.items
 IsMappers pages (Refused (Book UnknownPlace)) = pages ≡ None
-IsMappers pages (Refused (Book Memory)) = Unit {0}
+IsMappers pages (Refused (Book Memory)) = IsSome pages
 IsMappers pages _ = ⊥
 
--- what is merged at a place is listed, and the book state kept
-abbrev pub Lists : ℕ → BookState → Option LineReply → BookState → Type 0
-Lists place b None next = ⊥
-Lists place b (Some reply) next = IsMappers (mappers_of place b) reply × (next ≡ b)
+-- what is merged at a place is listed, and nothing changes
+abbrev pub Lists : ℕ → ScriptState → Option LineReply → ScriptState → Type 0
+Lists place s None next = ⊥
+Lists place s (Some reply) next = IsMappers (mappers_of place s.book) reply × (next ≡ s)
 
--- a line of the book leaves the passes as they are
-abbrev pub OnBook : (BookState → Option LineReply → BookState → Type 0) → ScriptState → Option LineReply → ScriptState → Type 0
-OnBook Does s reply next = Does s.book reply next.book × (next.passes ≡ s.passes)
+-- the book and its journal are as they were
+abbrev pub KeepsBook : ScriptState → ScriptState → Type 0
+KeepsBook s next = (next.book ≡ s.book) × (next.journal ≡ s.journal)
 
 -- a line of the passes leaves the book as it is
 abbrev pub OnPasses : (List PassState → LineReply → List PassState → Type 0) → ScriptState → Option LineReply → ScriptState → Type 0
 OnPasses Does s None next = ⊥
-OnPasses Does s (Some reply) next = Does s.passes reply next.passes × (next.book ≡ s.book)
+OnPasses Does s (Some reply) next = Does s.passes reply next.passes × KeepsBook s next
 
 -- a line is answered so in a state, and leaves the other one
 abbrev pub Answers : Line → ScriptState → Option LineReply → ScriptState → Type 0
-Answers Empty = OnBook (Reads (λ b. None))
-Answers (Register page node bytes) = OnBook (Commands (commands.Register page node bytes))
-Answers (Drop page) = OnBook (Commands (commands.Drop page))
-Answers (Store page bytes) = OnBook (Commands (commands.Store page bytes))
-Answers (Get page) = OnBook (Reads (λ b. Some (content_reply (bytes_of page b))))
-Answers (Ticket page) = OnBook (Reads (λ b. Some (ticket_reply (is_known b page) (ticket_of page b))))
-Answers (Mappers place) = OnBook (Lists place)
-Answers ScanPages = OnBook (λ b. Commands (commands.Scan b.knobs.pages_to_scan) b)
-Answers (Scan visits) = OnBook (Commands (commands.Scan visits))
-Answers Prune = OnBook (Commands commands.Prune)
-Answers (Unmerge guest) = OnBook (Commands (commands.Unmerge guest))
-Answers (Mergeable guest) = OnBook (Commands (commands.Mergeable guest))
-Answers (MovePage page node) = OnBook (Commands (commands.MovePage page node))
-Answers (MoveDup place node) = OnBook (Commands (commands.MoveDup place node))
-Answers (Set knob value) = OnBook (Commands (setting knob value))
-Answers (Show knob) = OnBook (Reads (λ b. Some (Value (value_in knob b.knobs))))
-Answers Stat = OnBook (Reads (λ b. Some (Counters (counters_of b))))
+Answers Empty = Reads (λ b. None)
+Answers (Register page node bytes) = Commands (commands.Register page node bytes)
+Answers (Drop page) = Commands (commands.Drop page)
+Answers (Store page bytes) = Commands (commands.Store page bytes)
+Answers (Get page) = Reads (λ b. Some (content_reply (bytes_of page b)))
+Answers (Ticket page) = Reads (λ b. Some (ticket_reply (is_known b page) (ticket_of page b)))
+Answers (Mappers place) = Lists place
+Answers ScanPages = λ s. Commands (commands.Scan s.book.knobs.pages_to_scan) s
+Answers (Scan visits) = Commands (commands.Scan visits)
+Answers Prune = Commands commands.Prune
+Answers (Unmerge guest) = Commands (commands.Unmerge guest)
+Answers (Mergeable guest) = Commands (commands.Mergeable guest)
+Answers (MovePage page node) = Commands (commands.MovePage page node)
+Answers (MoveDup place node) = Commands (commands.MoveDup place node)
+Answers (Set knob value) = Commands (setting knob value)
+Answers (Show shown) = Reads (λ b. Some (Value (shown_in shown b)))
+Answers Stat = Reads (λ b. Some (Counters (counters_of b)))
 Answers (Find number place) = OnPasses (AtPass number (Finds place))
 Answers (Equal number place bytes) = OnPasses (AtPass number (Equals place bytes))
 Answers (Look number) = OnPasses (AtPass number LooksAt)
@@ -99,7 +105,7 @@ Answers Audit = OnPasses Audits
 
 -- all holds are given back
 abbrev pub AllGivenBack : ScriptState → ScriptState → Type 0
-AllGivenBack s next = AllZip EndsIdle s.passes next.passes × (next.book ≡ s.book)
+AllGivenBack s next = AllZip EndsIdle s.passes next.passes × KeepsBook s next
 
 -- a line of no bytes has no reply
 abbrev pub reply_text : Option LineReply → List ℕ

@@ -3,7 +3,7 @@ use Rattle.std.specs.Prelude.{List, ℕ, [], ◌∷◌, Option, Some, None, opti
 use Rattle.ksm_script.specs.declared.line.Line.{Line}
 use Rattle.ksm_script.specs.declared.line.Line.TheVariants.{Empty, Register, Drop, Store, Get, Ticket, Mappers, ScanPages, Scan, Prune, Unmerge, Mergeable, MovePage, MoveDup, Set, Show, Stat, Find, Equal, Look, Leave, Audit}
 use Rattle.ksm_script.specs.Content.{content_of}
-use Rattle.ksm_script.specs.Reading.{◌>>=◌, field, guest_of, number_of, page_at, ended, alone, page_alone, knob_of}
+use Rattle.ksm_script.specs.Reading.{◌>>=◌, field, guest_of, number_of, page_at, ended, alone, page_alone, knob_of, shown_of}
 
 abbrev pub register_at : List (List ℕ) → Option Line
 register_at words = do
@@ -83,7 +83,7 @@ forms =
     ∷ (codes "move", move_page_at)
     ∷ (codes "movedup", move_dup_at)
     ∷ (codes "set", set_at)
-    ∷ (codes "show", λ words. option_map Show (alone knob_of words))
+    ∷ (codes "show", λ words. option_map Show (alone shown_of words))
     ∷ (codes "stat", name_alone Stat)
     ∷ (codes "find", find_at)
     ∷ (codes "equal", equal_at)

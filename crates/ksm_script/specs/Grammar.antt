@@ -4,7 +4,7 @@ use Rattle.std.specs.List.{slice_split}
 use Rattle.ksm_script.specs.declared.line.Line.{Line}
 use Rattle.ksm_script.specs.declared.line.Line.TheVariants.{Empty, Register, Drop, Store, Get, Ticket, Mappers, ScanPages, Scan, Prune, Unmerge, Mergeable, MovePage, MoveDup, Set, Show, Stat, Find, Equal, Look, Leave, Audit}
 use Rattle.ksm_script.specs.Content.{content_of}
-use Rattle.ksm_script.specs.Knobs.{knob_name}
+use Rattle.ksm_script.specs.Knobs.{knob_name, shown_name}
 
 -- the words of a line: its bytes, parted at each space
 abbrev pub words_of : List ℕ → List (List ℕ)
@@ -48,7 +48,7 @@ parts_of (Mergeable owner) = name (codes "mergeable") ∷ guest owner ∷ []
 parts_of (MovePage page node) = name (codes "move") ∷ guest page.guest ∷ number page.page ∷ number node ∷ []
 parts_of (MoveDup place node) = name (codes "movedup") ∷ number place ∷ number node ∷ []
 parts_of (Set knob value) = name (codes "set") ∷ name (knob_name knob) ∷ number value ∷ []
-parts_of (Show knob) = name (codes "show") ∷ name (knob_name knob) ∷ []
+parts_of (Show shown) = name (codes "show") ∷ name (shown_name shown) ∷ []
 parts_of Stat = name (codes "stat") ∷ []
 parts_of (Find pass place) = name (codes "find") ∷ number pass ∷ number place ∷ []
 parts_of (Equal pass place bytes) = name (codes "equal") ∷ number pass ∷ number place ∷ content bytes ∷ []

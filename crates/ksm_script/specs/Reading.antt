@@ -1,5 +1,5 @@
 -- Reading the words of a line from left to right.
-use Rattle.std.specs.Prelude.{◌≡◌, ℕ, ◌^◌, Bool, not, ◌&&◌, ◌||◌, ◌==◌, nat_lt, List, [], ◌∷◌, length, Option, Some, None, Result, Ok, Err, bytes_eq, slice_index, if◌then◌else◌}
+use Rattle.std.specs.Prelude.{◌≡◌, ℕ, ◌^◌, Bool, not, ◌&&◌, ◌||◌, ◌==◌, nat_lt, List, [], ◌∷◌, length, Option, Some, None, option_map, Result, Ok, Err, bytes_eq, slice_index, if◌then◌else◌}
 use Rattle.std.specs.Char.{is_ascii_digit}
 use Rattle.std.specs.List.{list_all}
 use Rattle.std.specs.Str.Parse.{digits_value}
@@ -7,9 +7,11 @@ use denote.Ref.{Bor}
 use Rattle.ksm_base.specs.declared.page.GuestPage.{GuestPage}
 use Rattle.ksm_script.specs.declared.line.LineFault.{LineFault}
 use Rattle.ksm_script.specs.declared.knob.Knob.{Knob}
-use Rattle.ksm_script.specs.declared.knob.Knob.TheVariants.{Run, PagesToScan, MergeAcrossNodes, MaxPageSharing}
+use Rattle.ksm_script.specs.declared.knob.Knob.TheVariants.{Run, PagesToScan, MergeAcrossNodes, MaxPageSharing, UseZeroPages}
+use Rattle.ksm_script.specs.declared.knob.Shown.{Shown}
+use Rattle.ksm_script.specs.declared.knob.Shown.TheVariants.{Knob as OfKnob, ZeroPages}
 use Rattle.ksm_script.specs.Grammar.{words_of}
-use Rattle.ksm_script.specs.Knobs.{knob_name}
+use Rattle.ksm_script.specs.Knobs.{knob_name, shown_name}
 
 -- the words of what is left of a line, if anything is
 abbrev pub words_left : Option (Bor (List ℕ)) → List (List ℕ)
@@ -83,4 +85,9 @@ knob_of word =
     else if bytes_eq word (knob_name PagesToScan) then Some PagesToScan
     else if bytes_eq word (knob_name MergeAcrossNodes) then Some MergeAcrossNodes
     else if bytes_eq word (knob_name MaxPageSharing) then Some MaxPageSharing
+    else if bytes_eq word (knob_name UseZeroPages) then Some UseZeroPages
     else None
+
+-- what is shown, by its name
+abbrev pub shown_of : List ℕ → Option Shown
+shown_of word = if bytes_eq word (shown_name ZeroPages) then Some ZeroPages else option_map OfKnob (knob_of word)

@@ -1,14 +1,14 @@
 -- Worked lines, by which the definitions of the script are tried: what a line is answered in a state, and what never (own).
-use Rattle.std.specs.Prelude.{◌≡◌, ℕ, List, [], ◌∷◌, ◌++◌, length, Option, None, Some, Ok, codes}
+use Rattle.std.specs.Prelude.{◌≡◌, ℕ, List, [], ◌∷◌, ◌++◌, length, Option, None, Some, Ok, Err, codes}
 use Rattle.std.specs.Global.{Vec}
 use Rattle.ksm_base.specs.declared.page.GuestPage.{GuestPage}
 use Rattle.ksm_base.specs.declared.command.Command.{Command}
 use Rattle.ksm_base.specs.declared.command.Command.TheVariants as commands
 use Rattle.ksm_base.specs.declared.reply.Reply.TheVariants as replies
+use Rattle.ksm_base.specs.declared.fault.Fault.{Fault}
 use Rattle.ksm_base.specs.declared.fault.Fault.TheVariants.{Memory, UnknownPage, NotRunning, BadValue, UnknownPlace, BadNode}
 use Rattle.ksm_base.specs.State.{opening}
 use Rattle.ksm_base.specs.Answers.{Answer}
-use Rattle.ksm_base.specs.Apply.{after}
 use Rattle.ksm_base.specs.Worked.{shape, at, full}
 use Rattle.frame_table.specs.declared.pass.Why.TheVariants.{Vacant}
 use Rattle.frame_table.specs.Named.{TableName, PassView, HeldView}
@@ -17,6 +17,7 @@ use Rattle.frame_table.specs.Seats.{new_pass}
 use Rattle.ksm_audit.specs.declared.report.Row.{Row}
 use Rattle.ksm_audit.specs.Lookups.{word_loads}
 use Rattle.ksm_script.specs.declared.knob.Knob.TheVariants.{Run}
+use Rattle.ksm_script.specs.declared.knob.Shown.TheVariants.{Knob as OfKnob}
 use Rattle.ksm_script.specs.declared.line.Line.{Line}
 use Rattle.ksm_script.specs.declared.line.Line.TheVariants as lines
 use Rattle.ksm_script.specs.declared.pass_state.PassState.TheVariants.{Idle, Holding}
@@ -24,7 +25,7 @@ use Rattle.ksm_script.specs.declared.refusal.Refusal.TheVariants.{Book, NoPass, 
 use Rattle.ksm_script.specs.declared.reply.LineReply.{LineReply}
 use Rattle.ksm_script.specs.declared.reply.LineReply.TheVariants.{Done, Content, Place, Private, Mappers, Scanned, Pruned, Unmerged, Value, Held, Gone, Busy, Audit, Refused}
 use Rattle.ksm_script.specs.State.{ScriptState}
-use Rattle.ksm_script.specs.Answering.{Answers}
+use Rattle.ksm_script.specs.Answering.{Answers, commanded}
 use Rattle.ksm_script.specs.Script.{IsNoLine}
 
 -- the line may be answered so, and then leaves this state and no other
@@ -35,46 +36,46 @@ Leads s line reply next = Answers line s reply next × ((n : ScriptState) → An
 abbrev pub Never : ScriptState → Line → Option LineReply → Type 0
 Never s line reply = (n : ScriptState) → ¬ (Answers line s reply n)
 
--- the state after a command with its answer
-abbrev pub does : ScriptState → Command → Answer → ScriptState
-does s command answer = record { book = after s.book command answer; passes = s.passes }
+-- a refusal is noted in the journal, and nothing else changes
+abbrev pub noted : ScriptState → Command → Fault → ScriptState
+noted s command fault = record s { journal = s.journal ++ (command, Err fault) ∷ [] }
 
 -- four frames and two passes, with no page
 abbrev pub start : TableName → ScriptState
-start t = record { book = opening (shape 1 4); passes = Idle (new_pass t) ∷ Idle (new_pass t) ∷ [] }
+start t = record { book = opening (shape 1 4); journal = []; passes = Idle (new_pass t) ∷ Idle (new_pass t) ∷ [] }
 
 abbrev pub register : ℕ → Command
 register page = commands.Register (at 0 page) 0 (full 0xaa)
 
 -- two equal pages are merged
 abbrev pub merged : TableName → ScriptState
-merged t = does (does (does (does (start t) (register 0) (Ok replies.Done)) (register 1) (Ok replies.Done)) (commands.SetRun 1) (Ok replies.Done)) (commands.Scan 4) (Ok (replies.Scanned 4 None))
+merged t = commanded (commanded (commanded (commanded (start t) (register 0) (Ok replies.Done)) (register 1) (Ok replies.Done)) (commands.SetRun 1) (Ok replies.Done)) (commands.Scan 4) (Ok (replies.Scanned 4 None))
 
 -- Lines that are commands
 pub record CommandLines (t : TableName) : Type 0 where
-  pub registered : Leads (start t) (lines.Register (at 0 0) 0 (full 0xaa)) (Some Done) (does (start t) (register 0) (Ok replies.Done))
+  pub registered : Leads (start t) (lines.Register (at 0 0) 0 (full 0xaa)) (Some Done) (commanded (start t) (register 0) (Ok replies.Done))
   pub no_memory : Leads (start t) (lines.Register (at 0 0) 0 (full 0xaa)) (Some (Refused (Book Memory))) (start t)
   pub not_unknown : Never (start t) (lines.Register (at 0 0) 0 (full 0xaa)) (Some (Refused (Book UnknownPage)))
-  pub no_page : Leads (start t) (lines.Drop (at 0 0)) (Some (Refused (Book UnknownPage))) (start t)
+  pub no_page : Leads (start t) (lines.Drop (at 0 0)) (Some (Refused (Book UnknownPage))) (noted (start t) (commands.Drop (at 0 0)) UnknownPage)
   pub not_dropped : Never (start t) (lines.Drop (at 0 0)) (Some Done)
-  pub stored : Leads (merged t) (lines.Store (at 0 0) (full 0xbb)) (Some Done) (does (merged t) (commands.Store (at 0 0) (full 0xbb)) (Ok replies.Done))
+  pub stored : Leads (merged t) (lines.Store (at 0 0) (full 0xbb)) (Some Done) (commanded (merged t) (commands.Store (at 0 0) (full 0xbb)) (Ok replies.Done))
   pub not_stored : Never (start t) (lines.Store (at 0 0) (full 0xbb)) (Some Done)
-  pub scanned : Leads (merged t) (lines.Scan 2) (Some (Scanned 2 None)) (does (merged t) (commands.Scan 2) (Ok (replies.Scanned 2 None)))
+  pub scanned : Leads (merged t) (lines.Scan 2) (Some (Scanned 2 None)) (commanded (merged t) (commands.Scan 2) (Ok (replies.Scanned 2 None)))
   pub not_more : Never (merged t) (lines.Scan 2) (Some (Scanned 3 None))
-  pub scanned_by_knob : Leads (merged t) lines.ScanPages (Some (Scanned 100 None)) (does (merged t) (commands.Scan 100) (Ok (replies.Scanned 100 None)))
+  pub scanned_by_knob : Leads (merged t) lines.ScanPages (Some (Scanned 100 None)) (commanded (merged t) (commands.Scan 100) (Ok (replies.Scanned 100 None)))
   pub not_by_knob : Never (merged t) lines.ScanPages (Some (Scanned 4 None))
-  pub not_running : Leads (start t) (lines.Scan 2) (Some (Refused (Book NotRunning))) (start t)
-  pub pruned : Leads (merged t) lines.Prune (Some (Pruned 0)) (does (merged t) commands.Prune (Ok (replies.Pruned 0)))
+  pub not_running : Leads (start t) (lines.Scan 2) (Some (Refused (Book NotRunning))) (noted (start t) (commands.Scan 2) NotRunning)
+  pub pruned : Leads (merged t) lines.Prune (Some (Pruned 0)) (commanded (merged t) commands.Prune (Ok (replies.Pruned 0)))
   pub not_pruned : Never (merged t) lines.Prune (Some (Pruned 1))
-  pub unmerged : Leads (merged t) (lines.Unmerge 0) (Some (Unmerged 2 None)) (does (merged t) (commands.Unmerge 0) (Ok (replies.Unmerged 2 None)))
+  pub unmerged : Leads (merged t) (lines.Unmerge 0) (Some (Unmerged 2 None)) (commanded (merged t) (commands.Unmerge 0) (Ok (replies.Unmerged 2 None)))
   pub not_one : Never (merged t) (lines.Unmerge 0) (Some (Unmerged 1 None))
-  pub mergeable : Leads (merged t) (lines.Mergeable 0) (Some Done) (does (merged t) (commands.Mergeable 0) (Ok replies.Done))
+  pub mergeable : Leads (merged t) (lines.Mergeable 0) (Some Done) (commanded (merged t) (commands.Mergeable 0) (Ok replies.Done))
   pub not_mergeable : Never (merged t) (lines.Mergeable 7) (Some Done)
-  pub no_node : Leads (merged t) (lines.MovePage (at 0 0) 9) (Some (Refused (Book BadNode))) (merged t)
+  pub no_node : Leads (merged t) (lines.MovePage (at 0 0) 9) (Some (Refused (Book BadNode))) (noted (merged t) (commands.MovePage (at 0 0) 9) BadNode)
   pub not_moved : Never (merged t) (lines.MovePage (at 0 0) 9) (Some Done)
-  pub no_dup : Leads (merged t) (lines.MoveDup 3 0) (Some (Refused (Book UnknownPlace))) (merged t)
+  pub no_dup : Leads (merged t) (lines.MoveDup 3 0) (Some (Refused (Book UnknownPlace))) (noted (merged t) (commands.MoveDup 3 0) UnknownPlace)
   pub not_moved_dup : Never (merged t) (lines.MoveDup 3 0) (Some Done)
-  pub bad_value : Leads (merged t) (lines.Set Run 3) (Some (Refused (Book BadValue))) (merged t)
+  pub bad_value : Leads (merged t) (lines.Set Run 3) (Some (Refused (Book BadValue))) (noted (merged t) (commands.SetRun 3) BadValue)
   pub not_set : Never (merged t) (lines.Set Run 3) (Some Done)
 
 -- Lines that read the book
@@ -89,18 +90,20 @@ pub record ReadingLines (t : TableName) : Type 0 where
   pub mappers : (pages : Vec GuestPage) → pages.items ≡ at 0 0 ∷ at 0 1 ∷ [] → Leads (merged t) (lines.Mappers 0) (Some (Mappers pages)) (merged t)
   pub not_fewer : (pages : Vec GuestPage) → pages.items ≡ at 0 0 ∷ [] → Never (merged t) (lines.Mappers 0) (Some (Mappers pages))
   pub not_without : Never (merged t) (lines.Mappers 0) (Some (Refused (Book UnknownPlace)))
+  pub no_memory : Leads (merged t) (lines.Mappers 0) (Some (Refused (Book Memory))) (merged t)
+  pub not_for_memory : Never (merged t) (lines.Mappers 1) (Some (Refused (Book Memory)))
   pub no_mappers : Leads (merged t) (lines.Mappers 1) (Some (Refused (Book UnknownPlace))) (merged t)
   pub not_empty : (pages : Vec GuestPage) → Never (merged t) (lines.Mappers 1) (Some (Mappers pages))
-  pub value : Leads (merged t) (lines.Show Run) (Some (Value 1)) (merged t)
-  pub not_zero : Never (merged t) (lines.Show Run) (Some (Value 0))
+  pub value : Leads (merged t) (lines.Show (OfKnob Run)) (Some (Value 1)) (merged t)
+  pub not_zero : Never (merged t) (lines.Show (OfKnob Run)) (Some (Value 0))
 
 -- the pass 0 holds nothing, and the pass 1 a frame
 abbrev pub one_holds : PassView → HeldView → ScriptState
-one_holds v h = record { book = opening (shape 1 4); passes = Idle v ∷ Holding h ∷ [] }
+one_holds v h = record { book = opening (shape 1 4); journal = []; passes = Idle v ∷ Holding h ∷ [] }
 
 -- both hold
 abbrev pub both_hold : HeldView → HeldView → ScriptState
-both_hold h k = record { book = opening (shape 1 4); passes = Holding h ∷ Holding k ∷ [] }
+both_hold h k = record { book = opening (shape 1 4); journal = []; passes = Holding h ∷ Holding k ∷ [] }
 
 -- Lines of the passes, on four places
 pub record LookupLines (v : PassView) (h k : HeldView) : Type 0 where
@@ -122,7 +125,7 @@ pub record LookupLines (v : PassView) (h k : HeldView) : Type 0 where
   pub leave_no_pass : Leads (one_holds v h) (lines.Leave 2) (Some (Refused NoPass)) (one_holds v h)
   pub leave_idle : Leads (one_holds v h) (lines.Leave 0) (Some (Refused NotHolding)) (one_holds v h)
   pub not_left : Never (one_holds v h) (lines.Leave 0) (Some Done)
-  pub left : (n : ScriptState) → Answers (lines.Leave 1) (one_holds v h) (Some Done) n → (w : PassView) × (n ≡ record { book = opening (shape 1 4); passes = Idle v ∷ Idle w ∷ [] })
+  pub left : (n : ScriptState) → Answers (lines.Leave 1) (one_holds v h) (Some Done) n → (w : PassView) × (n ≡ record { book = opening (shape 1 4); journal = []; passes = Idle v ∷ Idle w ∷ [] })
   pub audit_holds : Leads (both_hold h k) lines.Audit (Some (Refused PassHolds)) (both_hold h k)
   pub audit_not_held : Never (one_holds v h) lines.Audit (Some (Refused PassHolds))
   pub audit_memory : Leads (one_holds v h) lines.Audit (Some (Refused (Book Memory))) (one_holds v h)

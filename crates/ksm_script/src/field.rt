@@ -5,9 +5,9 @@ ghost use Rattle.std.specs.List.{list_all};
 ghost use Rattle.ksm_script.specs.Content.{hex_value, byte_at, word_at, page_of, content_of};
 ghost use Rattle.ksm_script.specs.Grammar.{words_of};
 ghost use Rattle.ksm_script.specs.Digits.{digits_of};
-ghost use Rattle.ksm_script.specs.Reading.{Gives, GivesField, words_left, field, guest_of, number_of, page_at, alone, page_alone, knob_of, ended};
+ghost use Rattle.ksm_script.specs.Reading.{Gives, GivesField, words_left, field, guest_of, number_of, page_at, alone, page_alone, knob_of, shown_of, ended};
 
-use crate::knob::{Knob, knob_named};
+use crate::knob::{Knob, Shown, knob_named, shown_named};
 use crate::line::LineFault;
 use ksm_base::{GuestPage, PAGE_WORDS, PageBytes};
 use std::array;
@@ -167,13 +167,14 @@ pub fn knob(left: Option<&[u8]>) -> Result<(Knob, Option<&[u8]>), LineFault>
     Ok((knob_named(word)?, left))
 }
 
-/// The last word as a knob.
-pub fn knob_alone(left: Option<&[u8]>) -> Result<Knob, LineFault>
-    ensures { Gives result (alone knob_of (words_left left.entry)) }
+/// The last word as what is shown.
+pub fn shown_alone(left: Option<&[u8]>) -> Result<Shown, LineFault>
+    ensures { Gives result (alone shown_of (words_left left.entry)) }
 {
-    let (knob, left) = knob(left)?;
+    let (word, left) = cut(left.ok_or(LineFault::Bad)?);
+    let shown = shown_named(word)?;
     ended(left)?;
-    Ok(knob)
+    Ok(shown)
 }
 
 /// The byte that digits 2k and 2k + 1 write.

@@ -1,7 +1,7 @@
 //! The knobs by their names.
 ghost use Rattle.std.specs.Prelude.{◌≡◌};
 ghost use Rattle.ksm_script.specs.Knobs.{setting, value_in};
-ghost use Rattle.ksm_script.specs.Reading.{Gives, knob_of};
+ghost use Rattle.ksm_script.specs.Reading.{Gives, knob_of, shown_of};
 
 use crate::field::is;
 use crate::line::LineFault;
@@ -18,6 +18,17 @@ pub enum Knob {
     MergeAcrossNodes,
     /// `max_page_sharing`
     MaxPageSharing,
+    /// `use_zero_pages`
+    UseZeroPages,
+}
+
+/// What a line shows, by its name in the language (admin-guide/mm/ksm).
+#[derive(Clone, Copy, Debug, PartialEq, Eq)]
+pub enum Shown {
+    /// A knob.
+    Knob(Knob),
+    /// `ksm_zero_pages`, a counter that no line sets.
+    ZeroPages,
 }
 
 impl Knob {
@@ -30,6 +41,7 @@ impl Knob {
             Knob::PagesToScan => Command::SetPagesToScan(value),
             Knob::MergeAcrossNodes => Command::SetAcross(value),
             Knob::MaxPageSharing => Command::SetLimit(value),
+            Knob::UseZeroPages => Command::SetZeroPages(value),
         }
     }
 
@@ -42,6 +54,7 @@ impl Knob {
             Knob::PagesToScan => knobs.pages_to_scan,
             Knob::MergeAcrossNodes => knobs.merge_across_nodes,
             Knob::MaxPageSharing => knobs.max_page_sharing,
+            Knob::UseZeroPages => knobs.use_zero_pages,
         }
     }
 }
@@ -58,7 +71,19 @@ pub fn knob_named(word: &[u8]) -> Result<Knob, LineFault>
         Ok(Knob::MergeAcrossNodes)
     } else if is(word, "max_page_sharing") {
         Ok(Knob::MaxPageSharing)
+    } else if is(word, "use_zero_pages") {
+        Ok(Knob::UseZeroPages)
     } else {
         Err(LineFault::Bad)
     }
+}
+
+/// What is shown under a name: a knob's, or a counter's.
+pub fn shown_named(word: &[u8]) -> Result<Shown, LineFault>
+    ensures { Gives result (shown_of word.now) }
+{
+    if is(word, "ksm_zero_pages") {
+        return Ok(Shown::ZeroPages);
+    }
+    Ok(Shown::Knob(knob_named(word)?))
 }

@@ -16,7 +16,7 @@ mod session;
 mod tests;
 mod worked;
 
-pub use knob::Knob;
+pub use knob::{Knob, Shown};
 pub use line::{Line, LineFault, read_line};
 pub use pass_state::PassState;
 pub use refusal::Refusal;

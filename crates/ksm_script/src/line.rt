@@ -6,10 +6,10 @@ ghost use Rattle.ksm_script.specs.Reading.{Gives, words_left};
 ghost use Rattle.ksm_script.specs.Forms.{forms, named_line, name_alone, register_at, store_at, scan_at, move_page_at, move_dup_at, set_at, find_at, equal_at};
 
 use crate::field::{
-    content_alone, cut, ended, guest_alone, is, knob, knob_alone, number, number_alone, page,
-    page_alone,
+    content_alone, cut, ended, guest_alone, is, knob, number, number_alone, page, page_alone,
+    shown_alone,
 };
-use crate::knob::Knob;
+use crate::knob::{Knob, Shown};
 use ksm_base::{GuestPage, PageBytes};
 use thiserror::Error;
 
@@ -76,9 +76,9 @@ pub enum Line {
         knob: Knob,
         value: u32,
     },
-    /// `show KNOB`
+    /// `show KNOB`, `show ksm_zero_pages`
     Show {
-        knob: Knob,
+        shown: Shown,
     },
     /// `stat`
     Stat,
@@ -155,7 +155,7 @@ fn named(name: &[u8], left: Option<&[u8]>) -> Result<Line, LineFault>
     } else if is(name, "set") {
         set(left)
     } else if is(name, "show") {
-        knob_alone(left).map(|knob| Line::Show { knob })
+        shown_alone(left).map(|shown| Line::Show { shown })
     } else if is(name, "stat") {
         alone(Line::Stat, left)
     } else if is(name, "find") {

@@ -12,6 +12,7 @@ use crate::reply::LineReply;
 use frame_table::{FrameTable, Pass};
 use ksm_audit::{AuditFault, OpenGate, audit};
 use ksm_base::Fault;
+use ksm_shared::{Ksm, Naming};
 use std::alloc::Global;
 use std::marker::Model;
 use std::mem;
@@ -135,22 +136,22 @@ fn put_idle(slots: &mut Vec<Option<PassState>>, idle: &mut Vec<Pass>)
 }
 
 /// Looks each place up with these passes, if there are any.
-fn audit_by<R: Threads + Sync>(
+fn audit_by<N: Naming, R: Threads + Sync>(
     rt: &R,
     alloc: Global,
-    table: &FrameTable,
+    ksm: &Ksm<N>,
     idle: Vec<Pass>,
 ) -> (LineReply, Vec<Pass>)
-    requires own { All (λ p. p.table ≡ table.now) idle.items }
+    requires own { All (λ p. p.table ≡ N.parts.frames) idle.items }
     ensures audited { AuditedBy idle.items result.0 result.1.items }
-    ensures own { All (λ p. p.table ≡ table.now) result.1.items }
+    ensures own { All (λ p. p.table ≡ N.parts.frames) result.1.items }
     ensures count { vec_len result.1 ≡ vec_len idle }
     ensures room { vec_capacity result.1 ≡ vec_capacity idle }
 {
     if idle.is_empty() {
         return (LineReply::Refused(Refusal::Holding), idle);
     }
-    match audit(rt, alloc, table, idle, &OpenGate) {
+    match audit(rt, alloc, ksm, idle, &OpenGate) {
         Ok((report, back)) => (LineReply::Audit(report), back),
         Err(fault) => {
             let AuditFault::Memory(back) = fault else {
@@ -231,20 +232,20 @@ impl Passes {
     }
 
     /// Looks each place up, by the passes that hold nothing.
-    pub fn audit<R: Threads + Sync>(
+    pub fn audit<N: Naming, R: Threads + Sync>(
         &mut self,
         rt: &R,
         alloc: Global,
-        table: &FrameTable,
+        ksm: &Ksm<N>,
     ) -> LineReply
-        requires own { All (λ s. table_of s ≡ table.now) self.old }
+        requires own { All (λ s. table_of s ≡ N.parts.frames) self.old }
         ensures audits { Audits self.old result self.new }
-        ensures own { All (λ s. table_of s ≡ table.now) self.new }
+        ensures own { All (λ s. table_of s ≡ N.parts.frames) self.new }
         ensures count { length self.new ≡ length self.old }
     {
         let mut idle = mem::replace(&mut self.room, Vec::new(alloc));
         take_idle(&mut self.slots, &mut idle);
-        let (reply, mut idle) = audit_by(rt, alloc, table, idle);
+        let (reply, mut idle) = audit_by(rt, alloc, ksm, idle);
         put_idle(&mut self.slots, &mut idle);
         let unused = mem::replace(&mut self.room, idle);
         unused.destroy_empty();

@@ -32,8 +32,8 @@ pub enum LineReply {
     Pruned(u64),
     /// `unmerged PAGES`, with the refusal that stopped it.
     Unmerged { pages: u64, stop: Option<Fault> },
-    /// The value of a knob.
-    Value(u32),
+    /// The value of a knob or a counter.
+    Value(u64),
     /// `stat shared=..`
     Counters(Counters),
     /// `held FRAME GENERATION`: the frame that is held, in this life.
@@ -70,7 +70,7 @@ pub fn write_reply<W: Write>(writer: &mut W, reply: &LineReply) -> Result<(), Ru
         LineReply::Scanned { visits, stop } => write_stopped(writer, "scanned ", *visits, *stop),
         LineReply::Pruned(count) => write_count(writer, "pruned ", *count),
         LineReply::Unmerged { pages, stop } => write_stopped(writer, "unmerged ", *pages, *stop),
-        LineReply::Value(value) => write_count(writer, "", u64::from(*value)),
+        LineReply::Value(value) => write_count(writer, "", *value),
         LineReply::Counters(counters) => write_counters(writer, counters),
         LineReply::Held { frame, generation } => write_held(writer, "held ", *frame, *generation),
         LineReply::Differs { frame, generation } => {

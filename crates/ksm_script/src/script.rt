@@ -1,21 +1,21 @@
 //! Runs of a session over a reader and a writer.
-ghost use Rattle.std.specs.Prelude.{◌≡◌, ◌+◌, ◌≤◌, ◌++◌, ◌⊎◌, ℕ, List, All, length, Some, Ok, Err, OnOk, IfErr};
+ghost use Rattle.std.specs.Prelude.{◌≡◌, All, Some, OnOk, IfErr};
 ghost use Rattle.std.specs.Io.Buffered.{reader_remaining, writer_contents};
-ghost use Rattle.std.specs.Io.KnownBytes.{Appends, IsAtEnd};
+ghost use Rattle.std.specs.Io.KnownBytes.{Appends};
 ghost use Rattle.ksm_script.specs.declared.reply.LineReply.{LineReply};
-ghost use Rattle.ksm_script.specs.declared.reply.LineReply.TheVariants.{BadLine as bad_line};
 ghost use Rattle.ksm_script.specs.Answering.{reply_text};
-ghost use Rattle.ksm_script.specs.Input.{IsPlain};
 ghost use Rattle.ksm_script.specs.Replies.{text_of};
 ghost use Rattle.ksm_script.specs.Lookups.{IsIdle};
-ghost use Rattle.ksm_script.specs.Script.{AnsweredAll, AnsweredBefore, AnsweredToBad, RunsThrough, RunsBefore, RunsToBad, IsReadAs};
-ghost use Rattle.ksm_script.specs.Texts.{AppendsBroken, AppendsPart};
+ghost use Rattle.ksm_script.specs.Script.{Goes, IsReadAs, Runs, streams};
+ghost use Rattle.ksm_script.specs.Texts.{AppendsPart};
 
 use crate::input::{ByBlocks, ByBytes, LineEnd, TakesLines};
 use crate::line::{Line, LineFault, read_line};
 use crate::reply::{LineReply, write_reply};
 use crate::session::Session;
+use ksm_shared::Naming;
 use std::io::{BufReader, BufWriter, Read, Write};
+use std::sync::Wait;
 use std::thread::Threads;
 use thiserror::Error;
 
@@ -45,32 +45,17 @@ pub enum End {
 /// interrupted one too. At `RunFault::Read` the replies to the whole lines read are written. At `RunFault::Write` a beginning of
 /// the last line's reply is written behind whole replies to the lines before, and no further line is read. At each end all holds are
 /// given back.
-pub fn run<T: Threads + Sync, R: Read, W: Write>(
+pub fn run<N: Naming, T: Threads + Wait + Sync, R: Read, W: Write>(
     rt: &T,
     reader: &mut R,
     writer: &mut W,
-    session: &mut Session,
+    session: &mut Session<N>,
 ) -> Result<End, RunFault>
-    ensures all { result ≡ Ok End.AllRead → (text : List ℕ)
-        × RunsThrough (R.remaining reader.old) (R.remaining reader.new) session.old.state session.new.state text
-        × Appends (W.contents writer.old) (W.contents writer.new) text
-        × IsAtEnd (R.remaining reader.new) }
-    ensures bad { (number : ℕ) → result ≡ Ok (End.BadLine number) → (text : List ℕ) × (count : ℕ) × (number ≡ count + 1)
-        × RunsToBad (R.remaining reader.old) (R.remaining reader.new) session.old.state session.new.state text count
-        × Appends (W.contents writer.old) (W.contents writer.new) (text ++ text_of (bad_line number)) }
-    ensures read_fault { result ≡ Err RunFault.Read → (text : List ℕ) × (count : ℕ) × (rest : List ℕ) × IsPlain rest × (length rest ≤ 256)
-        × RunsBefore (R.remaining reader.old) (R.remaining reader.new) session.old.state session.new.state text count rest
-        × Appends (W.contents writer.old) (W.contents writer.new) text }
-    ensures write_fault { result ≡ Err RunFault.Write → ((text : List ℕ) × (reply : LineReply)
-        × RunsThrough (R.remaining reader.old) (R.remaining reader.new) session.old.state session.new.state (text ++ text_of reply)
-        × AppendsBroken (W.contents writer.old) (W.contents writer.new) text (text_of reply))
-        ⊎ ((text : List ℕ) × (count : ℕ)
-        × RunsToBad (R.remaining reader.old) (R.remaining reader.new) session.old.state session.new.state text count
-        × AppendsBroken (W.contents writer.old) (W.contents writer.new) text (text_of (bad_line (count + 1)))) }
-    ensures table { session.new.keeper.table ≡ session.old.keeper.table }
+    ensures ran { Runs (streams (R.remaining reader.old) (R.remaining reader.new) (W.contents writer.old) (W.contents writer.new))
+        session.old.state session.new.state result }
     ensures idle { All IsIdle session.new.state.passes }
 {
-    let ended = run_by::<ByBytes, T, R, W>(rt, reader, writer, session);
+    let ended = run_by::<ByBytes, N, T, R, W>(rt, reader, writer, session);
     session.give_back();
     ended
 }
@@ -79,60 +64,30 @@ pub fn run<T: Threads + Sync, R: Read, W: Write>(
 ///
 /// Before the reader waits for more input, the replies are sent; where that fails, it is a failed read. Nothing is sent at the
 /// end.
-pub fn run_buffered<T: Threads + Sync, R: Read, W: Write + Drop>(
+pub fn run_buffered<N: Naming, T: Threads + Wait + Sync, R: Read, W: Write + Drop>(
     rt: &T,
     reader: &mut BufReader<R>,
     writer: &mut BufWriter<W>,
-    session: &mut Session,
+    session: &mut Session<N>,
 ) -> Result<End, RunFault>
-    ensures all { result ≡ Ok End.AllRead → (text : List ℕ)
-        × RunsThrough (reader_remaining R.remaining reader.old) (reader_remaining R.remaining reader.new) session.old.state session.new.state text
-        × Appends (writer_contents W.contents writer.old) (writer_contents W.contents writer.new) text
-        × IsAtEnd (reader_remaining R.remaining reader.new) }
-    ensures bad { (number : ℕ) → result ≡ Ok (End.BadLine number) → (text : List ℕ) × (count : ℕ) × (number ≡ count + 1)
-        × RunsToBad (reader_remaining R.remaining reader.old) (reader_remaining R.remaining reader.new) session.old.state session.new.state text count
-        × Appends (writer_contents W.contents writer.old) (writer_contents W.contents writer.new) (text ++ text_of (bad_line number)) }
-    ensures read_fault { result ≡ Err RunFault.Read → (text : List ℕ) × (count : ℕ) × (rest : List ℕ) × IsPlain rest × (length rest ≤ 256)
-        × RunsBefore (reader_remaining R.remaining reader.old) (reader_remaining R.remaining reader.new) session.old.state session.new.state text count rest
-        × Appends (writer_contents W.contents writer.old) (writer_contents W.contents writer.new) text }
-    ensures write_fault { result ≡ Err RunFault.Write → ((text : List ℕ) × (reply : LineReply)
-        × RunsThrough (reader_remaining R.remaining reader.old) (reader_remaining R.remaining reader.new) session.old.state session.new.state (text ++ text_of reply)
-        × AppendsBroken (writer_contents W.contents writer.old) (writer_contents W.contents writer.new) text (text_of reply))
-        ⊎ ((text : List ℕ) × (count : ℕ)
-        × RunsToBad (reader_remaining R.remaining reader.old) (reader_remaining R.remaining reader.new) session.old.state session.new.state text count
-        × AppendsBroken (writer_contents W.contents writer.old) (writer_contents W.contents writer.new) text (text_of (bad_line (count + 1)))) }
-    ensures table { session.new.keeper.table ≡ session.old.keeper.table }
+    ensures ran { Runs (streams (reader_remaining R.remaining reader.old) (reader_remaining R.remaining reader.new)
+        (writer_contents W.contents writer.old) (writer_contents W.contents writer.new)) session.old.state session.new.state result }
     ensures idle { All IsIdle session.new.state.passes }
 {
-    let ended = run_by::<ByBlocks, T, BufReader<R>, BufWriter<W>>(rt, reader, writer, session);
+    let ended = run_by::<ByBlocks, N, T, BufReader<R>, BufWriter<W>>(rt, reader, writer, session);
     session.give_back();
     ended
 }
 
 /// Answers each line, taken in this way.
-fn run_by<M: TakesLines<R, W>, T: Threads + Sync, R, W: Write>(
+fn run_by<M: TakesLines<R, W>, N: Naming, T: Threads + Wait + Sync, R, W: Write>(
     rt: &T,
     reader: &mut R,
     writer: &mut W,
-    session: &mut Session,
+    session: &mut Session<N>,
 ) -> Result<End, RunFault>
-    ensures all { result ≡ Ok End.AllRead → (text : List ℕ)
-        × AnsweredAll (M.remaining reader.old) (M.remaining reader.new) session.old.state session.new.state text
-        × Appends (W.contents writer.old) (W.contents writer.new) text
-        × IsAtEnd (M.remaining reader.new) }
-    ensures bad { (number : ℕ) → result ≡ Ok (End.BadLine number) → (text : List ℕ) × (count : ℕ) × (number ≡ count + 1)
-        × AnsweredToBad (M.remaining reader.old) (M.remaining reader.new) session.old.state session.new.state text count
-        × Appends (W.contents writer.old) (W.contents writer.new) (text ++ text_of (bad_line number)) }
-    ensures read_fault { result ≡ Err RunFault.Read → (text : List ℕ) × (count : ℕ) × (rest : List ℕ) × IsPlain rest × (length rest ≤ 256)
-        × AnsweredBefore (M.remaining reader.old) (M.remaining reader.new) session.old.state session.new.state text count rest
-        × Appends (W.contents writer.old) (W.contents writer.new) text }
-    ensures write_fault { result ≡ Err RunFault.Write → ((text : List ℕ) × (reply : LineReply)
-        × AnsweredAll (M.remaining reader.old) (M.remaining reader.new) session.old.state session.new.state (text ++ text_of reply)
-        × AppendsBroken (W.contents writer.old) (W.contents writer.new) text (text_of reply))
-        ⊎ ((text : List ℕ) × (count : ℕ)
-        × AnsweredToBad (M.remaining reader.old) (M.remaining reader.new) session.old.state session.new.state text count
-        × AppendsBroken (W.contents writer.old) (W.contents writer.new) text (text_of (bad_line (count + 1)))) }
-    ensures table { session.new.keeper.table ≡ session.old.keeper.table }
+    ensures { Goes (streams (M.remaining reader.old) (M.remaining reader.new) (W.contents writer.old) (W.contents writer.new))
+        session.old.state session.new.state result }
 {
     'lines: for number in 1..u64::MAX {
         let end = session.read_next::<M, R, W>(reader, writer)?;
@@ -152,7 +107,7 @@ fn run_by<M: TakesLines<R, W>, T: Threads + Sync, R, W: Write>(
 }
 
 /// The line that was read last, if it is not too long and one of the forms.
-fn line_of(session: &Session, end: LineEnd) -> Result<Line, LineFault>
+fn line_of<N: Naming>(session: &Session<N>, end: LineEnd) -> Result<Line, LineFault>
     ensures { IsReadAs result end session.now.line }
 {
     if end == LineEnd::TooLong {

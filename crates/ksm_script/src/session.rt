@@ -1,107 +1,106 @@
-//! A table with its passes, and the book on it.
-ghost use Rattle.std.specs.Prelude.{◌≡◌, ◌≤◌, ℕ, List, length, replicate, Ok, Some, IfOk, IfErr};
+//! A book of one caller with its passes.
+ghost use Rattle.std.specs.Prelude.{◌≡◌, ◌≤◌, ℕ, List, [], length, replicate, Ok, Some, IfOk, IfErr};
 ghost use Rattle.std.specs.Io.KnownBytes.{Consumes, IsAtEnd, Keeps};
 ghost use Rattle.ksm_base.specs.State.{opening};
-ghost use Rattle.ksm_base.specs.Values.{IsShape};
 ghost use Rattle.ksm_base.specs.Reading.{bytes_of, ticket_of, mappers_of};
 ghost use Rattle.ksm_base.specs.Refusals.{is_known};
 ghost use Rattle.ksm_base.specs.declared.command.Command.TheVariants.{Scan as scan};
-ghost use Rattle.ksm_script.specs.Knobs.{value_in};
+ghost use Rattle.ksm_script.specs.Knobs.{shown_in};
 ghost use Rattle.ksm_base.specs.Counting.{counters_of};
 ghost use Rattle.ksm_script.specs.declared.reply.LineReply.TheVariants.{Counters as counters_reply, Value as value_reply};
-ghost use Rattle.frame_table.specs.Seats.{Ends, new_pass};
+ghost use Rattle.frame_table.specs.Seats.{new_pass};
+ghost use Rattle.ksm_shared.specs.Locked.{EndsLawfully};
 ghost use Rattle.ksm_script.specs.declared.pass_state.PassState.TheVariants.{Idle as idle_state};
-ghost use Rattle.ksm_script.specs.Answering.{Answers, AllGivenBack, OnBook, OnPasses, Commands, IsMappers, reply_to, content_reply, ticket_reply};
+ghost use Rattle.ksm_script.specs.Answering.{Answers, AllGivenBack, OnPasses, Commands, IsMappers, reply_to, content_reply, ticket_reply};
 ghost use Rattle.ksm_script.specs.Input.{EndsAs, IsPlain};
 ghost use Rattle.ksm_script.specs.Lookups.{Acts, AtPass, Audits};
 
 use crate::input::{LineBuffer, LineEnd, TakesLines};
-use crate::knob::Knob;
+use crate::knob::Shown;
 use crate::line::Line;
 use crate::pass_state::Act;
 use crate::passes::Passes;
 use crate::refusal::Refusal;
 use crate::reply::LineReply;
 use crate::script::RunFault;
-use frame_table::{ClosedTable, FrameTable};
-use ksm_base::{Command, Fault, GuestPage, Reply, Shape};
-use ksm_book::Book;
+use frame_table::ClosedTable;
+use ksm_base::{Command, Fault, GuestPage, Reply};
+use ksm_shared::{Ksm, Naming, Parts, Share};
 use std::alloc::Global;
 use std::io::Write;
 use std::marker::Model;
+use std::sync::Wait;
 use std::thread::Threads;
 
-/// What a run works on. It must be closed.
-pub struct Session {
+/// What a run works on: a book of one caller, and its passes. Contracts see the book state to which its journal leads. It must be closed.
+pub struct Session<N: Naming> {
     alloc: Global,
-    table: FrameTable,
+    ksm: Ksm<N>,
+    share: Share<N>,
     passes: Passes,
-    book: Book,
     line: LineBuffer,
 }
 
-impl Model for Session {
+impl<N: Naming> Model for Session<N> {
     ghost use Rattle.std.specs.Prelude.{◌≡◌, All, length};
     ghost use Rattle.ksm_script.specs.Lookups.{table_of};
-    ghost use Rattle.ksm_script.specs.Seen.{SessionView};
+    ghost use Rattle.ksm_script.specs.Seen.{SessionView, script_of};
 
     ghost Value = { SessionView };
 
-    ghost view = { λ s. record { state = record { book = s.book.state; passes = s.passes }; keeper = s.book.keeper; line = s.line } };
+    ghost view = { λ s. record { state = script_of N.parts s.share s.passes; line = s.line } };
 
-    ghost invariant = { λ s. (s.book.keeper.table ≡ s.table) × (length s.passes ≡ s.table.shape.passes) × All (λ p. table_of p ≡ s.table) s.passes };
+    ghost invariant = { λ s. (N.parts.callers ≡ 1) × (length s.passes ≡ N.parts.frames.shape.passes) × All (λ p. table_of p ≡ N.parts.frames) s.passes };
 }
 
-impl Session {
-    /// A session whose book has no pages. Refused for memory alone; what was opened by then is closed.
-    pub fn open(alloc: Global, shape: Shape) -> Result<Session, Fault>
-        requires { IsShape shape }
-        ensures state { IfOk result (λ s. s.state.book ≡ opening shape) }
-        ensures passes { IfOk result (λ s. s.state.passes ≡ replicate shape.passes (idle_state (new_pass s.keeper.table))) }
-        ensures shape { IfOk result (λ s. s.keeper.table.shape ≡ shape) }
+impl<N: Naming> Session<N> {
+    /// A session whose book has no pages. Refused for memory alone; what was opened by then is closed. The line buffer is taken here.
+    pub fn open(alloc: Global, parts: Parts) -> Result<Session<N>, Fault>
+        requires name { parts ≡ N.parts }
+        requires alone { parts.callers ≡ 1 }
+        ensures book { IfOk result (λ s. s.state.book ≡ opening N.parts.frames.shape) }
+        ensures journal { IfOk result (λ s. s.state.journal ≡ []) }
+        ensures passes { IfOk result (λ s. s.state.passes ≡ replicate N.parts.frames.shape.passes (idle_state (new_pass N.parts.frames))) }
         ensures memory { IfErr result (λ fault. fault ≡ Fault.Memory) }
     {
-        let slots = Vec::with_capacity(alloc, shape.passes as usize)?;
-        let (table, keeper, passes) = match FrameTable::open(alloc, shape) {
+        let Ok(slots) = Vec::with_capacity(alloc, parts.shape().passes as usize) else {
+            drop(parts.close());
+            return Err(Fault::Memory);
+        };
+        let (ksm, passes, mut shares, _readers) = match Ksm::open(parts) {
             Ok(opened) => opened,
             Err(fault) => {
                 slots.destroy_empty();
                 return Err(fault);
             }
         };
-        match Book::open(alloc, keeper, shape) {
-            Ok(book) => {
-                let passes = Passes::new(&table, slots, passes);
-                Ok(Session {
-                    alloc,
-                    table,
-                    passes,
-                    book,
-                    line: LineBuffer::new(),
-                })
-            }
-            Err((keeper, fault)) => {
-                slots.destroy_empty();
-                drop(table.close(keeper, passes));
-                Err(fault)
-            }
-        }
+        let Some(share) = shares.pop() else {
+            unreachable!()
+        };
+        let passes = Passes::new(ksm.table(), slots, passes);
+        Ok(Session {
+            alloc,
+            ksm,
+            share,
+            passes,
+            line: LineBuffer::new(),
+        })
     }
 
     /// The table of the session, as its keeper left it. Holds are given back before.
-    pub fn close(self) -> ClosedTable
-        ensures shape { result.shape ≡ self.keeper.table.shape }
-        ensures ends { Ends self.keeper.ledger result }
+    pub fn close<R: Wait>(self, rt: &R) -> ClosedTable
+        ensures shape { result.shape ≡ N.parts.frames.shape }
+        ensures ends { EndsLawfully N.parts result }
     {
         let Session {
             alloc: _,
-            table,
+            ksm,
+            share: _,
             passes,
-            book,
             line: _,
         } = self;
-        let passes = passes.close(&table);
-        table.close(book.close(), passes)
+        let passes = passes.close(ksm.table());
+        ksm.close(rt, passes)
     }
 
     /// Reads the next line. It takes no memory.
@@ -111,7 +110,6 @@ impl Session {
         writer: &mut W,
     ) -> Result<LineEnd, RunFault>
         ensures state { self.new.state ≡ self.old.state }
-        ensures keeper { self.new.keeper ≡ self.old.keeper }
         ensures read { IfOk result (λ end. (bytes : List ℕ) × EndsAs end self.new.line bytes
             × Consumes (M.remaining reader.old) (M.remaining reader.new) bytes) }
         ensures plain { IsPlain self.new.line }
@@ -131,32 +129,44 @@ impl Session {
     }
 
     /// Does what a line says.
-    pub(crate) fn answer<R: Threads + Sync>(&mut self, rt: &R, line: Line) -> Option<LineReply>
+    pub(crate) fn answer<R: Threads + Wait + Sync>(
+        &mut self,
+        rt: &R,
+        line: Line,
+    ) -> Option<LineReply>
         ensures answers { Answers line self.old.state result self.new.state }
-        ensures table { self.new.keeper.table ≡ self.old.keeper.table }
     {
         match line {
             Line::Empty => None,
             Line::Register { page, node, bytes } => {
-                Some(self.command(Command::Register { page, node, bytes }))
+                Some(self.command(rt, Command::Register { page, node, bytes }))
             }
-            Line::Drop { page } => Some(self.command(Command::Drop { page })),
-            Line::Store { page, bytes } => Some(self.command(Command::Store { page, bytes })),
-            Line::Get { page } => Some(self.content(page)),
-            Line::Ticket { page } => Some(self.ticket(page)),
-            Line::Mappers { place } => Some(self.mappers(place)),
-            Line::ScanPages => Some(self.scan_pages()),
-            Line::Scan { visits } => Some(self.command(Command::Scan {
-                visits: u64::from(visits),
-            })),
-            Line::Prune => Some(self.command(Command::Prune)),
-            Line::Unmerge { guest } => Some(self.command(Command::Unmerge { guest })),
-            Line::Mergeable { guest } => Some(self.command(Command::Mergeable { guest })),
-            Line::MovePage { page, node } => Some(self.command(Command::MovePage { page, node })),
-            Line::MoveDup { place, node } => Some(self.command(Command::MoveDup { place, node })),
-            Line::Set { knob, value } => Some(self.command(knob.setting(value))),
-            Line::Show { knob } => Some(self.value(knob)),
-            Line::Stat => Some(self.counters()),
+            Line::Drop { page } => Some(self.command(rt, Command::Drop { page })),
+            Line::Store { page, bytes } => Some(self.command(rt, Command::Store { page, bytes })),
+            Line::Get { page } => Some(self.content(rt, page)),
+            Line::Ticket { page } => Some(self.ticket(rt, page)),
+            Line::Mappers { place } => Some(self.mappers(rt, place)),
+            Line::ScanPages => Some(self.scan_pages(rt)),
+            Line::Scan { visits } => Some(self.command(
+                rt,
+                Command::Scan {
+                    visits: u64::from(visits),
+                },
+            )),
+            Line::Prune => Some(self.command(rt, Command::Prune)),
+            Line::Unmerge { guest } => Some(self.command(rt, Command::Unmerge { guest })),
+            Line::Mergeable { guest } => Some(self.command(rt, Command::Mergeable { guest })),
+            Line::MovePage { page, node } => Some(self.command(
+                rt,
+                Command::MovePage { page, node },
+            )),
+            Line::MoveDup { place, node } => Some(self.command(
+                rt,
+                Command::MoveDup { place, node },
+            )),
+            Line::Set { knob, value } => Some(self.command(rt, knob.setting(value))),
+            Line::Show { shown } => Some(self.value(rt, shown)),
+            Line::Stat => Some(self.counters(rt)),
             Line::Find { pass, place } => Some(self.act(pass, Act::Find { place })),
             Line::Equal { pass, place, bytes } => {
                 Some(self.act(pass, Act::Equal { place, bytes }))
@@ -170,80 +180,85 @@ impl Session {
     /// Gives all holds back.
     pub(crate) fn give_back(&mut self)
         ensures given { AllGivenBack self.old.state self.new.state }
-        ensures table { self.new.keeper.table ≡ self.old.keeper.table }
     {
-        self.passes.give_back(&self.table);
+        self.passes.give_back(self.ksm.table());
     }
 
     fn act(&mut self, pass: u32, act: Act) -> LineReply
         ensures answers { OnPasses (AtPass pass (Acts act)) self.old.state (Some result) self.new.state }
-        ensures table { self.new.keeper.table ≡ self.old.keeper.table }
     {
-        self.passes.act(&self.table, pass, act)
+        self.passes.act(self.ksm.table(), pass, act)
     }
 
     fn audit<R: Threads + Sync>(&mut self, rt: &R) -> LineReply
         ensures answers { OnPasses Audits self.old.state (Some result) self.new.state }
-        ensures table { self.new.keeper.table ≡ self.old.keeper.table }
     {
-        self.passes.audit(rt, self.alloc, &self.table)
+        self.passes.audit(rt, self.alloc, &self.ksm)
     }
 
-    fn scan_pages(&mut self) -> LineReply
-        ensures answers { OnBook (Commands (scan self.old.state.book.knobs.pages_to_scan)) self.old.state (Some result) self.new.state }
-        ensures table { self.new.keeper.table ≡ self.old.keeper.table }
+    fn scan_pages<R: Wait>(&mut self, rt: &R) -> LineReply
+        ensures answers { Commands (scan self.old.state.book.knobs.pages_to_scan) self.old.state (Some result) self.new.state }
     {
-        let visits = u64::from(self.book.knobs().pages_to_scan);
-        self.command(Command::Scan { visits })
+        let knobs = self.ksm.knobs(rt, &mut self.share);
+        let visits = u64::from(knobs.pages_to_scan);
+        self.command(rt, Command::Scan { visits })
     }
 
-    fn ticket(&self, page: GuestPage) -> LineReply
-        ensures { result ≡ ticket_reply (is_known self.now.state.book page) (ticket_of page self.now.state.book) }
+    fn ticket<R: Wait>(&mut self, rt: &R, page: GuestPage) -> LineReply
+        ensures reply { result ≡ ticket_reply (is_known self.old.state.book page) (ticket_of page self.old.state.book) }
+        ensures state { self.new.state ≡ self.old.state }
     {
-        if !self.book.registered(page) {
+        if !self.ksm.registered(rt, &mut self.share, page) {
             return LineReply::Refused(Refusal::Book(Fault::UnknownPage));
         }
-        match self.book.ticket(page) {
+        match self.ksm.ticket(rt, &mut self.share, page) {
             None => LineReply::Private,
             Some(place) => LineReply::Place(place),
         }
     }
 
-    fn mappers(&self, place: u32) -> LineReply
-        ensures { IsMappers (mappers_of place self.now.state.book) result }
+    fn mappers<R: Wait>(&mut self, rt: &R, place: u32) -> LineReply
+        ensures reply { IsMappers (mappers_of place self.old.state.book) result }
+        ensures state { self.new.state ≡ self.old.state }
     {
-        match self.book.mappers(self.alloc, place) {
+        match self.ksm.mappers(rt, self.alloc, &mut self.share, place) {
             Ok(Some(pages)) => LineReply::Mappers(pages),
             Ok(None) => LineReply::Refused(Refusal::Book(Fault::UnknownPlace)),
             Err(fault) => LineReply::Refused(Refusal::Book(fault)),
         }
     }
 
-    fn value(&self, knob: Knob) -> LineReply
-        ensures { result ≡ value_reply (value_in knob self.now.state.book.knobs) }
+    fn value<R: Wait>(&mut self, rt: &R, shown: Shown) -> LineReply
+        ensures reply { result ≡ value_reply (shown_in shown self.old.state.book) }
+        ensures state { self.new.state ≡ self.old.state }
     {
-        LineReply::Value(knob.value_in(&self.book.knobs()))
+        match shown {
+            Shown::Knob(knob) => LineReply::Value(u64::from(knob.value_in(
+                &self.ksm.knobs(rt, &mut self.share),
+            ))),
+            Shown::ZeroPages => LineReply::Value(self.ksm.counters(rt, &mut self.share).zero),
+        }
     }
 
-    fn command(&mut self, command: Command) -> LineReply
-        ensures answers { OnBook (Commands command) self.old.state (Some result) self.new.state }
-        ensures table { self.new.keeper.table ≡ self.old.keeper.table }
+    fn command<R: Wait>(&mut self, rt: &R, command: Command) -> LineReply
+        ensures answers { Commands command self.old.state (Some result) self.new.state }
     {
-        reply_to(self.book.apply(&self.table, command))
+        let answer = self.ksm.command(rt, &mut self.share, command);
+        reply_to(answer.result())
     }
 
-    fn counters(&self) -> LineReply
-        ensures { result ≡ counters_reply (counters_of self.now.state.book) }
+    fn counters<R: Wait>(&mut self, rt: &R) -> LineReply
+        ensures reply { result ≡ counters_reply (counters_of self.old.state.book) }
+        ensures state { self.new.state ≡ self.old.state }
     {
-        LineReply::Counters(self.book.counters())
+        LineReply::Counters(self.ksm.counters(rt, &mut self.share))
     }
 
-    fn content(&mut self, page: GuestPage) -> LineReply
+    fn content<R: Wait>(&mut self, rt: &R, page: GuestPage) -> LineReply
         ensures reply { result ≡ content_reply (bytes_of page self.old.state.book) }
         ensures state { self.new.state ≡ self.old.state }
-        ensures table { self.new.keeper.table ≡ self.old.keeper.table }
     {
-        match self.book.read(&self.table, page) {
+        match self.ksm.read(rt, &mut self.share, page) {
             None => LineReply::Refused(Refusal::Book(Fault::UnknownPage)),
             Some(content) => LineReply::Content(content),
         }

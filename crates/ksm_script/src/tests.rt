@@ -1,13 +1,18 @@
 //! Runs over memory, by worked scripts.
+ghost use Rattle.std.specs.Prelude.{◌≡◌, IfOk};
+
 mod faults;
 mod lookups;
 mod selftests;
 
 use super::*;
 use ksm_base::{Fault, Shape};
+use ksm_shared::{Naming, Parts};
 use std::alloc::Global;
 use std::io::{self, Read, Write};
+use std::marker::Brand;
 use std::process::Abort;
+use std::sync::Wait;
 use std::test::Fail;
 use std::thread::Threads;
 
@@ -36,8 +41,10 @@ const ROW: Row = Row {
     end: End::AllRead,
 };
 
-/// A session of the row's sizes.
-fn open(alloc: Global, row: Row) -> Result<Session, Fault> {
+/// What a session of the row's sizes is made of.
+fn parts(alloc: Global, row: Row) -> Result<Parts, Fault>
+    ensures { IfOk result (λ parts. parts.callers ≡ 1) }
+{
     let shape = Shape {
         nodes: row.nodes,
         frames_per_node: row.frames,
@@ -48,27 +55,78 @@ fn open(alloc: Global, row: Row) -> Result<Session, Fault> {
     if !shape.check() {
         return Err(Fault::BadValue);
     }
-    Session::open(alloc, shape)
+    Parts::open(alloc, shape, 1)
+}
+
+/// How two runs of one session end, and what the second writes.
+type Ended = (Result<End, RunFault>, Result<End, RunFault>, Vec<u8>);
+
+/// A run of a new session over a reader and a writer, and then a run over more lines.
+fn runs<N: Naming, T: Threads + Wait + Sync, R: Read, W: Write>(
+    rt: &T,
+    alloc: Global,
+    parts: Parts,
+    reader: &mut R,
+    writer: &mut W,
+    more: &mut &[u8],
+) -> Result<Ended, Fault>
+    requires name { parts ≡ N.parts }
+    requires alone { parts.callers ≡ 1 }
+{
+    let mut session = Session::<N>::open(alloc, parts)?;
+    let mut written = Vec::new(alloc);
+    let first = run(rt, reader, writer, &mut session);
+    let second = run(rt, more, &mut written, &mut session);
+    drop(session.close(rt));
+    Ok((first, second, written))
+}
+
+/// The same in a session of the row's sizes.
+fn play_twice<T: Threads + Wait + Sync, R: Read, W: Write>(
+    rt: &T,
+    alloc: Global,
+    row: Row,
+    reader: &mut R,
+    writer: &mut W,
+    more: &mut &[u8],
+) -> Result<Ended, Fault> {
+    let parts = parts(alloc, row)?;
+    runs::<Brand, T, R, W>(rt, alloc, parts, reader, writer, more)
+}
+
+/// How a run of a new session over a reader and a writer ends.
+fn play_on<T: Threads + Wait + Sync, R: Read, W: Write>(
+    rt: &T,
+    alloc: Global,
+    row: Row,
+    reader: &mut R,
+    writer: &mut W,
+) -> Result<Result<End, RunFault>, Fault> {
+    let mut nothing: &[u8] = b"";
+    let ended = play_twice(rt, alloc, row, reader, writer, &mut nothing)?;
+    Ok(ended.0)
 }
 
 impl Row<'_> {
     /// What a new session writes, and how the run ends.
-    fn play<T: Threads + Sync>(
+    fn play<T: Threads + Wait + Sync>(
         &self,
         rt: &T,
         alloc: Global,
     ) -> Result<(Vec<u8>, Result<End, RunFault>), Fault> {
-        let mut session = open(alloc, *self)?;
         let mut reader = self.input;
         let mut written = Vec::new(alloc);
-        let outcome = run(rt, &mut reader, &mut written, &mut session);
-        drop(session.close());
+        let outcome = play_on(rt, alloc, *self, &mut reader, &mut written)?;
         Ok((written, outcome))
     }
 }
 
 /// Each script writes what its row says, and ends so.
-fn play_all<T: Abort + Threads + Sync>(rt: &T, alloc: Global, rows: &[Row]) -> Result<(), Fail> {
+fn play_all<T: Abort + Threads + Wait + Sync>(
+    rt: &T,
+    alloc: Global,
+    rows: &[Row],
+) -> Result<(), Fail> {
     for row in rows.iter() {
         let (written, outcome) = row.play(rt, alloc)?;
         assert_eq!(rt; outcome, Ok(row.end), "{}", row.name);
@@ -225,6 +283,40 @@ fn knob_rows(rt: HostRuntime) -> Result<(), Fail> {
     play_all(&rt, rt.alloc(), &rows)
 }
 
+/// Empty pages are mapped from the zero page, where the knob says so.
+#[test]
+fn zero_page_rows(rt: HostRuntime) -> Result<(), Fail> {
+    let rows = [
+        Row {
+            name: "empty_pages_become_zero",
+            input: b"set use_zero_pages 1\nreg 0 0 0 00\nreg 0 1 0 00\nreg 0 2 0 00\nset run 1\nscan 6\nstat\nshow ksm_zero_pages\nput 0 1 00\nshow ksm_zero_pages\nscan 3\nshow ksm_zero_pages\n",
+            output: b"ok\nok\nok\nok\nok\nscanned 6\nstat shared=0 sharing=0 unshared=0 volatile=0 chains=0 dups=0 full_scans=2\n3\nok\n2\nscanned 3\n3\n",
+            ..ROW
+        },
+        Row {
+            name: "zero_pages_and_no_frame",
+            nodes: 1,
+            frames: 2,
+            input: b"set use_zero_pages 1\nreg 0 0 0 00\nreg 0 1 0 00\nset run 1\nscan 4\nreg 0 2 0 11\nreg 0 3 0 22\nput 0 0 05\nget 0 0\nunmerge 0\nset run 2\nshow run\nset use_zero_pages 2\n",
+            output: b"ok\nok\nok\nok\nscanned 4\nok\nok\nrefused 4\n00000000000000000000000000000000\nunmerged 0 refused 4\nunmerged 0 refused 4\n0\nrefused 7\n",
+            ..ROW
+        },
+        Row {
+            name: "open_dup_before_zero_page",
+            input: b"reg 0 0 0 00\nreg 0 1 0 00\nset run 1\nscan 4\nset use_zero_pages 1\nreg 0 2 0 00\nscan 3\nstat\nshow ksm_zero_pages\n",
+            output: b"ok\nok\nok\nscanned 4\nok\nok\nscanned 3\nstat shared=1 sharing=2 unshared=0 volatile=0 chains=0 dups=0 full_scans=3\n0\n",
+            ..ROW
+        },
+        Row {
+            name: "zero_pages_are_shown_and_not_set",
+            input: b"show use_zero_pages\nshow ksm_zero_pages\nset use_zero_pages 1\nshow use_zero_pages\n",
+            output: b"0\n0\nok\n1\n",
+            ..ROW
+        },
+    ];
+    play_all(&rt, rt.alloc(), &rows)
+}
+
 /// Pages are unmerged, and are mergeable again.
 #[test]
 fn unmerging_rows(rt: HostRuntime) -> Result<(), Fail> {
@@ -277,7 +369,7 @@ fn moving_rows(rt: HostRuntime) -> Result<(), Fail> {
 }
 
 /// None of these is a line of the language.
-const BAD_LINES: [&[u8]; 56] = [
+const BAD_LINES: [&[u8]; 57] = [
     b"reg 0 0 0",
     b"reg 00 0 0 aa",
     b"reg 0 01 0 aa",
@@ -314,6 +406,7 @@ const BAD_LINES: [&[u8]; 56] = [
     b"scan 1 2",
     b"scan 01",
     b"set foo 1",
+    b"set ksm_zero_pages 1",
     b"set run",
     b"set run 1 1",
     b"show",
@@ -341,41 +434,44 @@ const BAD_LINES: [&[u8]; 56] = [
 fn every_bad_line(rt: HostRuntime) -> Result<(), Fail> {
     for line in BAD_LINES {
         assert_eq!(rt; read_line(line), Err(LineFault::Bad), "{line:?}");
-        let mut session = open(rt.alloc(), ROW)?;
         let mut reader = line;
         let mut written = Vec::new(rt.alloc());
-        let outcome = run(&rt, &mut reader, &mut written, &mut session);
-        drop(session.close());
+        let outcome = play_on(&rt, rt.alloc(), ROW, &mut reader, &mut written)?;
         assert_eq!(rt; outcome, Ok(End::BadLine(1)), "{line:?}");
         assert_eq!(rt; written.as_slice(), b"bad line 1\n".as_slice(), "{line:?}");
     }
     Ok(())
 }
 
-/// Empty lines count and have no reply; nothing behind the newline of a bad line is read; of a long one 257 bytes are.
+/// Empty lines count and have no reply, and nothing behind the newline of a bad line is read.
 #[test]
 fn lines_are_counted(rt: HostRuntime) -> Result<(), Fail> {
-    let mut session = open(rt.alloc(), ROW)?;
+    let alloc = rt.alloc();
     let mut reader: &[u8] = b"\n\nreg 0 0 0 AA\nget 0 0\n\nSTAT\nget 0 0\n";
-    let mut written = Vec::new(rt.alloc());
-    let outcome = run(&rt, &mut reader, &mut written, &mut session);
-    assert_eq!(rt; outcome, Ok(End::BadLine(6)));
+    let mut written = Vec::new(alloc);
+    let mut more: &[u8] = b"get 0 0\n";
+    let ended = play_twice(&rt, alloc, ROW, &mut reader, &mut written, &mut more)?;
+    assert_eq!(rt; (ended.0, ended.1), (Ok(End::BadLine(6)), Ok(End::AllRead)));
     assert_eq!(rt; reader, b"get 0 0\n".as_slice());
-    assert_eq!(rt;
-        run(&rt, &mut reader, &mut written, &mut session),
-        Ok(End::AllRead)
-    );
-    let long = [b'a'; 300];
-    let mut reader: &[u8] = &long;
-    assert_eq!(rt;
-        run(&rt, &mut reader, &mut written, &mut session),
-        Ok(End::BadLine(1))
-    );
-    assert_eq!(rt; reader.len(), 43);
-    drop(session.close());
     let page = "aaaaaaaaaaaaaaaaaaaaaaaaaaaaaaaa";
-    let wanted = format!(in rt.alloc(); "ok\n{page}\nbad line 6\n{page}\nbad line 1\n")?;
+    let wanted = format!(in alloc; "ok\n{page}\nbad line 6\n")?;
     assert_eq!(rt; written.as_slice(), wanted.as_bytes());
+    let wanted = format!(in alloc; "{page}\n")?;
+    assert_eq!(rt; ended.2.as_slice(), wanted.as_bytes());
+    Ok(())
+}
+
+/// Of a line that is too long, 257 bytes are read, and lines are numbered anew in the next run.
+#[test]
+fn long_lines_are_bad(rt: HostRuntime) -> Result<(), Fail> {
+    let long = [b'a'; 300];
+    let mut reader: &[u8] = b"\n";
+    let mut more: &[u8] = &long;
+    let mut written = Vec::new(rt.alloc());
+    let ended = play_twice(&rt, rt.alloc(), ROW, &mut reader, &mut written, &mut more)?;
+    assert_eq!(rt; (ended.0, ended.1), (Ok(End::AllRead), Ok(End::BadLine(1))));
+    assert_eq!(rt; more.len(), 43);
+    assert_eq!(rt; ended.2.as_slice(), b"bad line 1\n".as_slice());
     Ok(())
 }
 
@@ -434,23 +530,21 @@ const REPLIES: &[u8] =
 fn a_writer_that_fails_at_each_byte(rt: HostRuntime) -> Result<(), Fail> {
     for fails in [false, true] {
         for left in 0..REPLIES.len() {
-            let mut session = open(rt.alloc(), ROW)?;
             let mut reader = LINES;
             let mut writer = Narrow {
                 taken: Vec::new(rt.alloc()),
                 left,
                 fails,
             };
-            let outcome = run(&rt, &mut reader, &mut writer, &mut session);
-            assert_eq!(rt; outcome, Err(RunFault::Write));
+            let mut again: &[u8] = b"reg 0 0 0 aa\n";
+            let ended = play_twice(&rt, rt.alloc(), ROW, &mut reader, &mut writer, &mut again)?;
+            assert_eq!(rt;
+                (ended.0, ended.1),
+                (Err(RunFault::Write), Ok(End::AllRead))
+            );
             assert!(rt; REPLIES.starts_with(writer.taken.as_slice()));
             assert_eq!(rt; writer.taken.len(), left);
-            let mut again: &[u8] = b"reg 0 0 0 aa\n";
-            let mut written = Vec::new(rt.alloc());
-            let outcome = run(&rt, &mut again, &mut written, &mut session);
-            drop(session.close());
-            assert_eq!(rt; outcome, Ok(End::AllRead));
-            assert_eq!(rt; written.as_slice(), b"refused 3\n".as_slice());
+            assert_eq!(rt; ended.2.as_slice(), b"refused 3\n".as_slice());
         }
     }
     Ok(())
@@ -460,11 +554,9 @@ fn a_writer_that_fails_at_each_byte(rt: HostRuntime) -> Result<(), Fail> {
 #[test]
 fn a_reader_that_fails_at_each_byte(rt: HostRuntime) -> Result<(), Fail> {
     for left in 0..LINES.len() {
-        let mut session = open(rt.alloc(), ROW)?;
         let mut reader = Broken { bytes: LINES, left };
         let mut written = Vec::new(rt.alloc());
-        let outcome = run(&rt, &mut reader, &mut written, &mut session);
-        drop(session.close());
+        let outcome = play_on(&rt, rt.alloc(), ROW, &mut reader, &mut written)?;
         assert_eq!(rt; outcome, Err(RunFault::Read));
         let lines = LINES
             .iter()

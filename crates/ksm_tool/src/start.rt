@@ -1,8 +1,5 @@
-//! From the program's words to the opened session.
-ghost use Rattle.std.specs.Prelude.{◌≡◌, List, Err, IfErr, IfOk, map, replicate, string_bytes};
-ghost use Rattle.ksm_base.specs.State.{opening};
-ghost use Rattle.frame_table.specs.Seats.{new_pass};
-ghost use Rattle.ksm_script.specs.declared.pass_state.PassState.TheVariants.{Idle};
+//! From the program's words to the parts of its book.
+ghost use Rattle.std.specs.Prelude.{◌≡◌, List, Err, IfErr, IfOk, map, string_bytes};
 ghost use Rattle.ksm_tool.specs.Settings.{Given};
 ghost use Rattle.ksm_tool.specs.Statuses.{IsBeforeRun, told_of};
 ghost use Rattle.ksm_tool.specs.Told.{IsToldBy, Tells};
@@ -11,12 +8,12 @@ use crate::options::options;
 use crate::status::Status;
 use clap::Error;
 use ksm_base::Shape;
-use ksm_script::Session;
+use ksm_shared::Parts;
 use std::fmt::Display;
 use std::rt::Env;
 
 /// The program's words, its name first.
-pub fn words<R: Env + Eprint + AllocGlobal>(rt: &R) -> Result<Vec<String>, Status>
+fn words<R: Env + Eprint + AllocGlobal>(rt: &R) -> Result<Vec<String>, Status>
     ensures { IfErr result IsBeforeRun }
 {
     let words = match std::env::args(rt) {
@@ -32,16 +29,24 @@ pub fn words<R: Env + Eprint + AllocGlobal>(rt: &R) -> Result<Vec<String>, Statu
         .map_err(|_| Status::NoMemory)
 }
 
-/// The session that these words open. They are not understood only where they tell no shape.
-pub fn opened<R: Eprint + AllocGlobal>(rt: &R, words: &[String]) -> Result<Session, Status>
-    ensures told { IfOk result (λ s. IsToldBy (map string_bytes words.now) s.keeper.table.shape) }
-    ensures book { IfOk result (λ s. s.state.book ≡ opening s.keeper.table.shape) }
-    ensures passes { IfOk result (λ s. s.state.passes ≡ replicate s.keeper.table.shape.passes (Idle (new_pass s.keeper.table))) }
+/// The parts that the program's words open.
+pub fn started<R: Env + Eprint + AllocGlobal>(rt: &R) -> Result<Parts, Status>
+    ensures alone { IfOk result (λ parts. parts.callers ≡ 1) }
+    ensures status { IfErr result IsBeforeRun }
+{
+    let words = words(rt)?;
+    opened(rt, words.as_slice())
+}
+
+/// What these words open: the parts of a book of one caller. They are not understood only where they tell no shape.
+pub fn opened<R: Eprint + AllocGlobal>(rt: &R, words: &[String]) -> Result<Parts, Status>
+    ensures told { IfOk result (λ parts. IsToldBy (map string_bytes words.now) parts.frames.shape) }
+    ensures alone { IfOk result (λ parts. parts.callers ≡ 1) }
     ensures status { IfErr result IsBeforeRun }
     ensures refused { result ≡ Err Status.NotUnderstood → (given : List Given) → ¬ (Tells (map string_bytes words.now) given) }
 {
     let shape = told(rt, options(rt.alloc(), words))?;
-    Session::open(rt.alloc(), shape).map_err(|_| Status::NoMemory)
+    Parts::open(rt.alloc(), shape, 1).map_err(|_| Status::NoMemory)
 }
 
 /// The shape that was told, or the status to end with. Why the words are no options is said on standard error.

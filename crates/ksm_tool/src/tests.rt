@@ -1,4 +1,6 @@
 //! The program over memory: its words, its ends, and what a fault leaves.
+ghost use Rattle.std.specs.Prelude.{◌≡◌, IfSome};
+
 use super::*;
 use ksm_base::Shape;
 use std::alloc::{Alloc, AllocError, Allocator, Global};
@@ -8,8 +10,10 @@ use std::fmt::Display;
 use std::io::{BufRead, ErrorKind, Lines, Read, Write};
 use std::test::Fail;
 
-/// A session of one node of four frames.
-fn small(alloc: Global) -> Option<Session> {
+/// What a session of one node of four frames is made of.
+fn small(alloc: Global) -> Option<Parts>
+    ensures { IfSome result (λ parts. parts.callers ≡ 1) }
+{
     let shape = Shape {
         nodes: 1,
         frames_per_node: 4,
@@ -20,11 +24,11 @@ fn small(alloc: Global) -> Option<Session> {
     if !shape.check() {
         return None;
     }
-    Session::open(alloc, shape).ok()
+    Parts::open(alloc, shape, 1).ok()
 }
 
 /// Answers the script of a reader on a writer, in blocks of so many bytes.
-fn answered<T: Threads + Sync, I: Read + Drop, O: Write + Drop>(
+fn answered<T: Threads + Wait + Sync, I: Read + Drop, O: Write + Drop>(
     rt: &T,
     alloc: Global,
     block: usize,
@@ -33,11 +37,27 @@ fn answered<T: Threads + Sync, I: Read + Drop, O: Write + Drop>(
 ) -> Option<(Status, BufReader<I>, O)> {
     let mut reader = BufReader::with_capacity(alloc, block, input).ok()?;
     let mut writer = BufWriter::with_capacity(alloc, block, output).ok()?;
-    let mut session = small(alloc)?;
-    let status = answer(rt, &mut reader, &mut writer, &mut session);
-    drop(session.close());
+    let parts = small(alloc)?;
+    let status = answered_by::<Brand, T, I, O>(rt, alloc, parts, &mut reader, &mut writer)?;
     let (output, _) = writer.into_parts();
     Some((status, reader, output))
+}
+
+/// Answers the script in a new session.
+fn answered_by<N: Naming, T: Threads + Wait + Sync, I: Read, O: Write + Drop>(
+    rt: &T,
+    alloc: Global,
+    parts: Parts,
+    reader: &mut BufReader<I>,
+    writer: &mut BufWriter<O>,
+) -> Option<Status>
+    requires name { parts ≡ N.parts }
+    requires alone { parts.callers ≡ 1 }
+{
+    let mut session = Session::<N>::open(alloc, parts).ok()?;
+    let status = answer(rt, reader, writer, &mut session);
+    drop(session.close(rt));
+    Some(status)
 }
 
 /// Scripts, their output and their status, in blocks of each size.
@@ -289,7 +309,7 @@ impl Eprint for Host<'_> {
 }
 
 /// How the program ends at these words and this input, what it printed, and whether it said why.
-fn ended<T: Threads + Sync>(
+fn ended<T: Threads + Wait + Sync>(
     threads: &T,
     alloc: Global,
     words: &[&[u8]],

@@ -36,20 +36,20 @@ impl Read for Interrupted<'_> {
 fn the_reader_is_not_asked_again(rt: HostRuntime) -> Result<(), Fail> {
     let first: &[u8] = b"reg 0 0 0 aa\nget 0 0";
     for fails in [true, false] {
-        let mut session = open(rt.alloc(), ROW)?;
         let mut reader = Interrupted {
             first,
             fails,
             calls: 0,
         };
         let mut written = Vec::new(rt.alloc());
-        let outcome = run(&rt, &mut reader, &mut written, &mut session);
+        let mut rest: &[u8] = b"get 0 0\n";
+        let ended = play_twice(&rt, rt.alloc(), ROW, &mut reader, &mut written, &mut rest)?;
         let wanted = if fails {
             Err(RunFault::Read)
         } else {
             Ok(End::AllRead)
         };
-        assert_eq!(rt; outcome, wanted);
+        assert_eq!(rt; (ended.0, ended.1), (wanted, Ok(End::AllRead)));
         assert_eq!(rt; reader.calls, first.len() + 1);
         let text: &[u8] = if fails {
             b"ok
@@ -60,19 +60,12 @@ aaaaaaaaaaaaaaaaaaaaaaaaaaaaaaaa
 "
         };
         assert_eq!(rt; written.as_slice(), text);
-        let mut rest: &[u8] = b"get 0 0\n";
-        let mut more = Vec::new(rt.alloc());
         assert_eq!(rt;
-            run(&rt, &mut rest, &mut more, &mut session),
-            Ok(End::AllRead)
-        );
-        assert_eq!(rt;
-            more.as_slice(),
+            ended.2.as_slice(),
             b"aaaaaaaaaaaaaaaaaaaaaaaaaaaaaaaa
 "
                 .as_slice()
         );
-        drop(session.close());
     }
     Ok(())
 }
@@ -113,13 +106,12 @@ fn nothing_is_written_after_a_fault(rt: HostRuntime) -> Result<(), Fail> {
     let script: &[u8] = b"reg 0 0 0 aa\nget 0 0\ndrop 0 0\n";
     let whole = b"ok\naaaaaaaaaaaaaaaaaaaaaaaaaaaaaaaa\nok\n";
     for room in 0..whole.len() {
-        let mut session = open(rt.alloc(), ROW)?;
         let mut reader = script;
         let mut writer = FailsOnce {
             taken: Vec::new(rt.alloc()),
             room: Some(room),
         };
-        let outcome = run(&rt, &mut reader, &mut writer, &mut session);
+        let outcome = play_on(&rt, rt.alloc(), ROW, &mut reader, &mut writer)?;
         assert_eq!(rt; outcome, Err(RunFault::Write), "{room}");
         assert_eq!(rt; writer.taken.as_slice(), &whole[..room], "{room}");
         let left = if room < 3 {
@@ -130,7 +122,6 @@ fn nothing_is_written_after_a_fault(rt: HostRuntime) -> Result<(), Fail> {
             0
         };
         assert_eq!(rt; reader.len(), left, "{room}");
-        drop(session.close());
     }
     Ok(())
 }

@@ -93,20 +93,24 @@ fn pass_rows(rt: HostRuntime) -> Result<(), Fail> {
 /// What is held at the end of a run is given back, also where the run ends at a bad line.
 #[test]
 fn a_run_gives_its_holds_back(rt: HostRuntime) -> Result<(), Fail> {
-    let mut session = open(rt.alloc(), ROW)?;
-    let mut written = Vec::new(rt.alloc());
-    let mut merged: &[u8] = b"reg 0 0 0 aa\nreg 0 1 0 aa\nset run 1\nscan 4\nfind 0 0\nfind 0 0\n";
-    let outcome = run(&rt, &mut merged, &mut written, &mut session);
-    assert_eq!(rt; outcome, Ok(End::AllRead));
-    let mut again: &[u8] = b"look 0\nfind 0 0\nBAD\n";
-    let outcome = run(&rt, &mut again, &mut written, &mut session);
-    assert_eq!(rt; outcome, Ok(End::BadLine(3)));
-    let mut last: &[u8] = b"leave 0\nfind 0 0\n";
-    let outcome = run(&rt, &mut last, &mut written, &mut session);
-    assert_eq!(rt; outcome, Ok(End::AllRead));
-    drop(session.close());
-    let wanted: &[u8] =
-        b"ok\nok\nok\nscanned 4\nheld 0 1\nrefused 13\nrefused 14\nheld 0 1\nbad line 3\nrefused 14\nheld 0 1\n";
-    assert_eq!(rt; written.as_slice(), wanted);
+    let merged = b"reg 0 0 0 aa\nreg 0 1 0 aa\nset run 1\nscan 4\nfind 0 0\n";
+    let ends: [(&[u8], &[u8], Result<End, RunFault>); 2] = [
+        (b"find 0 0\n", b"refused 13\n", Ok(End::AllRead)),
+        (b"BAD\n", b"bad line 6\n", Ok(End::BadLine(6))),
+    ];
+    for (last, reply, end) in ends {
+        let mut reader = merged.chain(last);
+        let mut written = Vec::new(rt.alloc());
+        let mut more: &[u8] = b"look 0\nfind 0 0\n";
+        let ended = play_twice(&rt, rt.alloc(), ROW, &mut reader, &mut written, &mut more)?;
+        assert_eq!(rt; (ended.0, ended.1), (end, Ok(End::AllRead)));
+        assert!(rt;
+            written
+                .as_slice()
+                .starts_with(b"ok\nok\nok\nscanned 4\nheld 0 1\n")
+        );
+        assert!(rt; written.as_slice().ends_with(reply));
+        assert_eq!(rt; ended.2.as_slice(), b"refused 14\nheld 0 1\n".as_slice());
+    }
     Ok(())
 }

@@ -46,7 +46,11 @@ fn replies(alloc: Global, pages: u8, limit: u8) -> Result<String, AllocError>
     Ok(replies)
 }
 
-fn at_each_limit<T: Abort + Threads + Sync>(rt: &T, alloc: Global, pages: u8) -> Result<(), Fail> {
+fn at_each_limit<T: Abort + Threads + Wait + Sync>(
+    rt: &T,
+    alloc: Global,
+    pages: u8,
+) -> Result<(), Fail> {
     for limit in 2..9 {
         let input = equal_pages(alloc, pages, limit)?;
         let output = replies(alloc, pages, limit)?;
@@ -157,6 +161,34 @@ fn unmerging_takes_a_frame_for_each_page(rt: HostRuntime) -> Result<(), Fail> {
             frames: 8,
             input: b"reg 0 0 0 2a\nreg 0 1 0 2a\nreg 0 2 0 2a\nreg 0 3 0 2a\nreg 0 4 0 2a\nreg 0 5 0 2a\nreg 0 6 0 2a\nreg 0 7 0 2a\nset run 1\nscan 16\nunmerge 0\nticket 0 0\nticket 0 1\nticket 0 2\nticket 0 3\nticket 0 4\nticket 0 5\nticket 0 6\nticket 0 7\n",
             output: b"ok\nok\nok\nok\nok\nok\nok\nok\nok\nscanned 16\nunmerged 7 refused 4\nprivate\nprivate\nprivate\nprivate\nprivate\nprivate\nprivate\nplace 0\n",
+            ..ROW
+        },
+    ];
+    play_all(&rt, rt.alloc(), &rows)
+}
+
+/// Pages of zeroes merge with each other, or with the zero page; those that are unmerged or written leave it.
+#[test]
+fn zero_pages_merge(rt: HostRuntime) -> Result<(), Fail> {
+    let rows = [
+        Row {
+            name: "zero_pages_merge_with_each_other",
+            frames: 10,
+            input: b"reg 0 0 0 00\nreg 0 1 0 00\nreg 0 2 0 00\nreg 0 3 0 00\nreg 0 4 0 00\nreg 0 5 0 00\nreg 0 6 0 00\nreg 0 7 0 00\nreg 0 8 0 00\nreg 0 9 0 00\nset run 1\nscan 20\nstat\nshow ksm_zero_pages\n",
+            output: b"ok\nok\nok\nok\nok\nok\nok\nok\nok\nok\nok\nscanned 20\nstat shared=1 sharing=9 unshared=0 volatile=0 chains=0 dups=0 full_scans=2\n0\n",
+            ..ROW
+        },
+        Row {
+            name: "zero_pages_merge_with_the_zero_page",
+            frames: 10,
+            input: b"set use_zero_pages 1\nreg 0 0 0 00\nreg 0 1 0 00\nreg 0 2 0 00\nreg 0 3 0 00\nreg 0 4 0 00\nreg 0 5 0 00\nreg 0 6 0 00\nreg 0 7 0 00\nreg 0 8 0 00\nreg 0 9 0 00\nset run 1\nscan 20\nstat\nshow ksm_zero_pages\n",
+            output: b"ok\nok\nok\nok\nok\nok\nok\nok\nok\nok\nok\nok\nscanned 20\nstat shared=0 sharing=0 unshared=0 volatile=0 chains=0 dups=0 full_scans=2\n10\n",
+            ..ROW
+        },
+        Row {
+            name: "unmerged_and_written_zero_pages",
+            input: b"set use_zero_pages 1\nreg 0 0 0 00\nreg 0 1 0 00\nreg 1 0 0 00\nreg 1 1 0 00\nset run 1\nscan 8\nshow ksm_zero_pages\nunmerge 0\nshow ksm_zero_pages\nput 1 0 01\nput 1 1 02\nshow ksm_zero_pages\n",
+            output: b"ok\nok\nok\nok\nok\nok\nscanned 8\n4\nunmerged 2\n2\nok\nok\n0\n",
             ..ROW
         },
     ];

@@ -9,7 +9,7 @@ use Rattle.ksm_script.proofs.passes.Passes.audit.Goals as goal
 
 pub audit_by-reply-requires-clause-own : goal.audit_by-reply-requires-clause-own
 audit_by-reply-requires-clause-own g c κs within =
-    let t = c.args.table.now in
+    let t = g.N.Naming.parts.frames in
     subst (All (λ (v : PassView). v.table ≡ t)) (sym c.take_idle.ensures.idle) (idle_own t (present c.self.inside.slots.items) (subst (All (λ (s : PassState). table_of s ≡ t)) (sym c.self.view_is) c.requires.own))
 
 pub put_idle-requires : goal.put_idle-requires
@@ -21,7 +21,7 @@ put_idle-requires g c =
 
 pub invariant_of-self : goal.invariant_of-self
 invariant_of-self g c =
-    let t = c.args.table.now in
+    let t = g.N.Naming.parts.frames in
     let idle = ap (λ (l : List PassView). length l) c.take_idle.ensures.idle in
     let count : length c.audit_by-reply.result.1.items ≡ length (idle_of (present c.self.inside.slots.items)) =
     omega (arith, idle, c.audit_by-reply.ensures.count, c.take_idle.new.idle.ok.0, c.audit_by-reply.result.1.ok.0) in
@@ -33,7 +33,7 @@ invariant_of-self g c =
 
 pub returns-clause-audits : goal.returns-clause-audits
 returns-clause-audits g c =
-    let t = c.args.table.now in
+    let t = g.N.Naming.parts.frames in
     let idle = ap (λ (l : List PassView). length l) c.take_idle.ensures.idle in
     let count : length c.audit_by-reply.result.1.items ≡ length (idle_of (present c.self.inside.slots.items)) =
     omega (arith, idle, c.audit_by-reply.ensures.count, c.take_idle.new.idle.ok.0, c.audit_by-reply.result.1.ok.0) in
@@ -48,7 +48,7 @@ returns-clause-audits g c =
 
 pub returns-clause-own : goal.returns-clause-own
 returns-clause-own g c =
-    let t = c.args.table.now in
+    let t = g.N.Naming.parts.frames in
     let idle = ap (λ (l : List PassView). length l) c.take_idle.ensures.idle in
     let count : length c.audit_by-reply.result.1.items ≡ length (idle_of (present c.self.inside.slots.items)) =
     omega (arith, idle, c.audit_by-reply.ensures.count, c.take_idle.new.idle.ok.0, c.audit_by-reply.result.1.ok.0) in
@@ -57,7 +57,7 @@ returns-clause-own g c =
 
 pub returns-clause-count : goal.returns-clause-count
 returns-clause-count g c =
-    let t = c.args.table.now in
+    let t = g.N.Naming.parts.frames in
     let idle = ap (λ (l : List PassView). length l) c.take_idle.ensures.idle in
     let count : length c.audit_by-reply.result.1.items ≡ length (idle_of (present c.self.inside.slots.items)) =
     omega (arith, idle, c.audit_by-reply.ensures.count, c.take_idle.new.idle.ok.0, c.audit_by-reply.result.1.ok.0) in

@@ -1,8 +1,15 @@
-use Rattle.std.proofs.Common.{ap, ◌∙◌}
+use Rattle.std.proofs.Common.{◌∙◌, ap}
 use Rattle.ksm_base.specs.Counting.{counters_of}
+use Rattle.ksm_shared.specs.declared.seen.Caller.{Caller}
+use Rattle.ksm_shared.specs.Locked.{state_seen}
 use Rattle.ksm_script.specs.declared.reply.LineReply.TheVariants.{Counters}
 use Rattle.ksm_script.specs.Seen.{SessionView}
 use Rattle.ksm_script.proofs.session.Session.counters.Goals as goal
 
-pub returns : goal.returns
-returns c = ap (λ counters. Counters counters) (c.counters.ensures ∙ ap (λ (v : SessionView). counters_of v.state.book) c.self.view_is)
+pub returns-clause-reply : goal.returns-clause-reply
+returns-clause-reply g c =
+    ap (λ counters. Counters counters) (
+    c.counters.ensures.counters
+    ∙ ap (λ (s : Caller). counters_of (state_seen g.N.Naming.parts s)) (c.counters.ensures.alone c.self.invariant.0)
+    ∙ ap (λ (v : SessionView). counters_of v.state.book) c.self.view_is
+    )

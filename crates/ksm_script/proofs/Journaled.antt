@@ -1,0 +1,32 @@
+-- A command of one caller is a step of the script's state.
+use Rattle.std.proofs.Common.{◌≡◌, ◌∙◌, ◌++◌, List, Some, ap, sym, refl}
+use Rattle.std.proofs.lemmas.List.{append-nil}
+use Rattle.ksm_base.specs.declared.command.Command.{Command}
+use Rattle.ksm_base.specs.Answers.{Answer}
+use Rattle.ksm_base.specs.Journal.{journal_after}
+use Rattle.ksm_shared.specs.declared.seen.Caller.{Caller}
+use Rattle.ksm_shared.specs.declared.seen.Owned.{Owned}
+use Rattle.ksm_shared.specs.Locked.{SeesOn, StepsAlone, made_by}
+use Rattle.ksm_shared.specs.Named.{PartsId}
+use Rattle.ksm_shared.specs.Seen.{entries}
+use Rattle.ksm_shared.proofs.Extended.{new_journal}
+use Rattle.ksm_script.specs.declared.pass_state.PassState.{PassState}
+use Rattle.ksm_script.specs.Answering.{Commands, reply_to}
+use Rattle.ksm_script.specs.Seen.{script_of}
+use Rattle.ksm_script.specs.State.{ScriptState}
+
+module _ (parts : PartsId) (old new : Caller) (c : Command) (r : Answer) (one : parts.callers ≡ 1) (sees : SeesOn parts old new (made_by old.number c r)) where
+  -- nothing of anybody else comes in between
+  only_made : new.seen ≡ old.seen ++ made_by old.number c r
+  only_made =
+      sees.seen
+      ∙ ap (λ (l : List Owned). (old.seen ++ l) ++ made_by old.number c r) (sees.alone one)
+      ∙ ap (λ (l : List Owned). l ++ made_by old.number c r) (append-nil old.seen)
+
+  journaled : entries new.seen ≡ journal_after (entries old.seen) c r
+  journaled = sym (new_journal (entries old.seen) (journal_after (entries old.seen) c r) old.seen new.seen old.number c r refl refl only_made)
+
+  pub commands : (passes : List PassState) → StepsAlone parts old new c r → Commands c (script_of parts old passes) (Some (reply_to r)) (script_of parts new passes)
+  commands passes steps =
+      let step = steps one in
+      (r, step.0, refl, λ i. let z : ScriptState = record { book = step.1 i; journal = journaled i; passes = passes } in z)
