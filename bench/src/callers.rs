@@ -1,4 +1,5 @@
-//! `callers WORK THREADS ROUNDS`: the work of the program `caller_times` of this repository in plain Rust, with one mutex round table and book.
+//! `callers WORK THREADS ROUNDS`: the work of the program `caller_times` of this repository in plain Rust, with one mutex round table and book,
+//! and one `RwLock` round the row of counters.
 //!
 //! The book has just what that work needs: rows in a map, the frame of each, a journal, and places for lookups. A page that is merged
 //! already stays so, since no other page is stored to.
@@ -6,7 +7,7 @@
 use std::collections::BTreeMap;
 use std::hint::black_box;
 use std::ops::Bound::{Excluded, Unbounded};
-use std::sync::Mutex;
+use std::sync::{Mutex, RwLock};
 use std::sync::atomic::{AtomicBool, Ordering};
 use std::thread;
 
@@ -28,6 +29,20 @@ enum Answer {
     Done,
     Scanned(u64),
     Refused(u32),
+}
+
+/// Counters, and after how many entries of the journal they stand. A reader copies them whole.
+#[derive(Clone, Copy, Default)]
+#[allow(dead_code)]
+struct Counted {
+    number: u64,
+    shared: u64,
+    sharing: u64,
+    unshared: u64,
+    volatile: u64,
+    chains: u64,
+    dups: u64,
+    full_scans: u64,
 }
 
 struct Row {
@@ -144,6 +159,21 @@ impl Book {
     }
 }
 
+impl Book {
+    /// The counters; here no page changes from merged to private or back once the pairs are merged.
+    fn counted(&self) -> Counted {
+        let places = self.places.len() as u64;
+        Counted {
+            number: self.journal.len() as u64,
+            shared: places,
+            sharing: places,
+            volatile: self.rows.len() as u64 - 2 * places,
+            full_scans: self.passes,
+            ..Counted::default()
+        }
+    }
+}
+
 fn prepared() -> Book {
     let mut book = Book::default();
     for page in 0..64 {
@@ -199,6 +229,45 @@ fn look_in_threads(book: &Mutex<Book>, threads: u64, rounds: u64) -> u64 {
     })
 }
 
+fn ask_all(counted: &RwLock<Counted>, rounds: u64) -> u64 {
+    let mut sum = 0u64;
+    for _ in 0..rounds {
+        let row = *counted.read().unwrap();
+        let pages = row.shared + row.sharing + row.unshared + row.volatile;
+        sum = sum.wrapping_add(black_box((row, pages)).1);
+    }
+    sum
+}
+
+/// One more thread stores, and writes the counters after each store, until all rows were asked for.
+fn ask_beside(book: &Mutex<Book>, threads: u64, rounds: u64) -> u64 {
+    let counted = RwLock::new(book.lock().unwrap().counted());
+    let ended = AtomicBool::new(false);
+    thread::scope(|scope| {
+        scope.spawn(|| {
+            let mut round = 0;
+            while !ended.load(Ordering::SeqCst) {
+                let mut book = book.lock().unwrap();
+                let bytes = [round; PAGE_WORDS];
+                black_box(book.apply(Command::Store { page: (1, 0), bytes }));
+                *counted.write().unwrap() = book.counted();
+                round += 1;
+            }
+        });
+        let askers: Vec<_> = (0..4)
+            .map(|number| {
+                let rounds = if number < threads { rounds } else { 0 };
+                let counted = &counted;
+                scope.spawn(move || ask_all(counted, rounds))
+            })
+            .collect();
+        let sums = askers.into_iter().map(|asker| asker.join().unwrap());
+        let sum = sums.fold(0, u64::wrapping_add);
+        ended.store(true, Ordering::SeqCst);
+        sum
+    })
+}
+
 fn look_beside(book: &Mutex<Book>, threads: u64, rounds: u64) -> u64 {
     let ended = AtomicBool::new(false);
     thread::scope(|scope| {
@@ -221,6 +290,7 @@ fn main() {
     let sum = match words.first().map(String::as_str) {
         Some("lookups") => look_in_threads(&book, threads, rounds),
         Some("beside") => look_beside(&book, threads, rounds),
+        Some("rows") => ask_beside(&book, threads, rounds),
         _ => {
             thread::scope(|scope| {
                 for guest in 1..5 {

@@ -5,7 +5,7 @@ use crate::contents::Contents;
 use crate::dups::Dups;
 use crate::keeper::Keeper;
 use crate::rows::{Page, Row, Rows, State};
-use crate::table::PageBytes;
+use crate::table::{PageBytes, ZERO_PAGE};
 
 pub struct Book {
     pub keeper: Keeper,
@@ -31,6 +31,7 @@ impl Book {
                 pages_to_scan: 100,
                 merge_across_nodes: 1,
                 max_page_sharing: 256,
+                use_zero_pages: 0,
             },
             rows: Rows::default(),
             dups: Dups::open(places),
@@ -67,6 +68,7 @@ impl Book {
             Command::SetPagesToScan(pages) => self.set_pages_to_scan(pages),
             Command::SetAcross(across) => self.set_across(across),
             Command::SetLimit(limit) => self.set_limit(limit),
+            Command::SetZeroPages(zero_pages) => self.set_zero_pages(zero_pages),
         }
     }
 
@@ -75,6 +77,7 @@ impl Book {
         let frame = match self.rows.at(slot).state {
             State::Own { frame, .. } => frame,
             State::Merged { place, .. } => self.dups.at(place).frame,
+            State::Zero => return Ok(ZERO_PAGE),
         };
         Ok(self.keeper.table.load(frame))
     }
@@ -82,7 +85,7 @@ impl Book {
     /// The place of a merged page.
     pub fn ticket(&self, page: Page) -> Result<Option<u32>, Fault> {
         Ok(match self.rows.at(self.slot(page)?).state {
-            State::Own { .. } => None,
+            State::Own { .. } | State::Zero => None,
             State::Merged { place, .. } => Some(place),
         })
     }
@@ -118,6 +121,7 @@ impl Book {
         match self.rows.at(slot).state {
             State::Own { frame, .. } => self.keeper.table.load(frame),
             State::Merged { place, .. } => *self.contents.bytes(self.dups.at(place).content),
+            State::Zero => ZERO_PAGE,
         }
     }
 
@@ -142,12 +146,13 @@ impl Book {
         self.counters.waiting = 0;
     }
 
-    /// The row gives back the frame that it has, or leaves its dup.
+    /// The row gives back the frame that it has, if it has one, or leaves its dup.
     fn release(&mut self, slot: u32) {
         self.stop_waiting(slot);
         match self.rows.at(slot).state {
             State::Own { frame, .. } => self.keeper.sub(frame),
             State::Merged { place, item } => self.leave_dup(place, item),
+            State::Zero => self.counters.zero -= 1,
         }
     }
 
@@ -200,7 +205,7 @@ impl Book {
         let is_same = self.known(slot) == *bytes;
         let Row { state, home, .. } = *self.rows.at(slot);
         match state {
-            State::Merged { .. } => self.resettle(slot, home, bytes)?,
+            State::Merged { .. } | State::Zero => self.resettle(slot, home, bytes)?,
             State::Own { frame, .. } => {
                 self.stop_waiting(slot);
                 self.keeper.table.store(frame, bytes);
@@ -235,14 +240,14 @@ impl Book {
         }
     }
 
-    /// A merged row leaves its dup for a frame of its own; tells whether it was merged.
+    /// A row leaves its dup, or the zero page, for a frame of its own; tells whether it had none.
     fn unshare(&mut self, slot: u32) -> Result<bool, Fault> {
         let Row { state, home, .. } = *self.rows.at(slot);
-        let is_merged = matches!(state, State::Merged { .. });
-        if is_merged {
+        let is_shared = matches!(state, State::Merged { .. } | State::Zero);
+        if is_shared {
             self.resettle(slot, home, &self.known(slot))?;
         }
-        Ok(is_merged)
+        Ok(is_shared)
     }
 
     fn unmerge(&mut self, guest: u32) -> Answer {
@@ -253,7 +258,7 @@ impl Book {
         let mut pages = 0;
         for slot in slots {
             match self.unshare(slot) {
-                Ok(was_merged) => pages += u64::from(was_merged),
+                Ok(was_shared) => pages += u64::from(was_shared),
                 Err(fault) => return Ok(Reply::Unmerged(pages, Some(fault))),
             }
             self.stop_waiting(slot);
@@ -305,6 +310,14 @@ impl Book {
             return Err(Fault::BadValue);
         }
         self.knobs.pages_to_scan = pages;
+        Ok(Reply::Done)
+    }
+
+    fn set_zero_pages(&mut self, zero_pages: u32) -> Answer {
+        if zero_pages > 1 {
+            return Err(Fault::BadValue);
+        }
+        self.knobs.use_zero_pages = zero_pages;
         Ok(Reply::Done)
     }
 

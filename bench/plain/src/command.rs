@@ -18,6 +18,7 @@ pub enum Command {
     SetPagesToScan(u32),
     SetAcross(u32),
     SetLimit(u32),
+    SetZeroPages(u32),
 }
 
 #[derive(Clone, Copy)]
@@ -54,6 +55,7 @@ pub struct Knobs {
     pub pages_to_scan: u32,
     pub merge_across_nodes: u32,
     pub max_page_sharing: u32,
+    pub use_zero_pages: u32,
 }
 
 #[derive(Default)]
@@ -62,6 +64,7 @@ pub struct Counters {
     pub merged: u64,
     pub waiting: u64,
     pub mergeable: u64,
+    pub zero: u64,
     pub chains: u64,
     pub dups: u64,
     pub full_scans: u64,

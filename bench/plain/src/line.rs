@@ -11,6 +11,7 @@ pub enum Line {
     Ticket(Page),
     Rmap(u32),
     Show(Knob),
+    ShowZeroPages,
     Stat,
     Find(u32, u32),
     Equal(u32, u32, PageBytes),
@@ -25,6 +26,7 @@ pub enum Knob {
     PagesToScan,
     MergeAcrossNodes,
     MaxPageSharing,
+    UseZeroPages,
 }
 
 /// The line that the bytes write; none where they write none.
@@ -45,6 +47,10 @@ pub fn parse(bytes: &[u8]) -> Option<Line> {
         b"move" => Line::Command(Command::MovePage(words.page()?, words.number()?)),
         b"movedup" => Line::Command(Command::MoveDup(words.number()?, words.number()?)),
         b"set" => Line::Command(words.setting()?),
+        b"show" if words.0 == Some(b"ksm_zero_pages") => {
+            words.0 = None;
+            Line::ShowZeroPages
+        }
         b"show" => Line::Show(words.knob()?),
         b"stat" => Line::Stat,
         b"find" => Line::Find(words.number()?, words.number()?),
@@ -125,6 +131,7 @@ impl<'a> Words<'a> {
             b"pages_to_scan" => Some(Knob::PagesToScan),
             b"merge_across_nodes" => Some(Knob::MergeAcrossNodes),
             b"max_page_sharing" => Some(Knob::MaxPageSharing),
+            b"use_zero_pages" => Some(Knob::UseZeroPages),
             _ => None,
         }
     }
@@ -136,6 +143,7 @@ impl<'a> Words<'a> {
             Knob::PagesToScan => Command::SetPagesToScan(value),
             Knob::MergeAcrossNodes => Command::SetAcross(value),
             Knob::MaxPageSharing => Command::SetLimit(value),
+            Knob::UseZeroPages => Command::SetZeroPages(value),
         })
     }
 }

@@ -13,6 +13,8 @@ pub enum State {
     Own { frame: u32, waits_since: u64 },
     /// The item with this index of the dup at the place.
     Merged { place: u32, item: u32 },
+    /// On the zero page, with no frame.
+    Zero,
 }
 
 pub struct Row {

@@ -6,6 +6,7 @@ use std::ops::Bound;
 use crate::book::Book;
 use crate::command::{Answer, Fault, Reply};
 use crate::rows::State;
+use crate::table::ZERO_PAGE;
 
 impl Book {
     pub(crate) fn scan(&mut self, visits: u64) -> Answer {
@@ -58,12 +59,17 @@ impl Book {
             self.join_dup(best.place, slot, frame);
         } else if !self.rows.at(slot).unchanged {
             self.rows.at_mut(slot).unchanged = true;
+        } else if self.knobs.use_zero_pages == 1 && *self.contents.bytes(content) == ZERO_PAGE {
+            self.stop_waiting(slot);
+            self.keeper.sub(frame);
+            self.rows.at_mut(slot).state = State::Zero;
+            self.counters.zero += 1;
         } else if since == self.pass
             && let State::Own { frame: first, .. } = self.rows.at(other).state
         {
             self.make_dup((other, first), (slot, frame), content, tree);
         } else {
-            group.waiting = (slot, self.pass);
+            self.contents.group(content, tree).waiting = (slot, self.pass);
             self.rows.at_mut(slot).state = State::Own {
                 frame,
                 waits_since: self.pass,

@@ -49,6 +49,7 @@ impl Session {
             },
             Line::Rmap(place) => self.write_mappers(text, place)?,
             Line::Show(knob) => self.write_knob(text, knob),
+            Line::ShowZeroPages => write_number(text, b"", self.book.counters().zero),
             Line::Stat => write_counters(text, self.book.counters()),
             Line::Find(pass, place) => self.find(text, pass, place, None)?,
             Line::Equal(pass, place, content) => self.find(text, pass, place, Some(content))?,
@@ -83,6 +84,7 @@ impl Session {
             Knob::PagesToScan => knobs.pages_to_scan,
             Knob::MergeAcrossNodes => knobs.merge_across_nodes,
             Knob::MaxPageSharing => knobs.max_page_sharing,
+            Knob::UseZeroPages => knobs.use_zero_pages,
         };
         write_number(text, b"", value);
     }
@@ -205,7 +207,7 @@ fn write_counters(text: &mut Vec<u8>, counters: &Counters) {
     write_number(text, b"stat shared=", counters.shared);
     write_number(text, b" sharing=", counters.merged - counters.shared);
     write_number(text, b" unshared=", counters.waiting);
-    write_number(text, b" volatile=", counters.mergeable - counters.merged - counters.waiting);
+    write_number(text, b" volatile=", counters.mergeable - counters.merged - counters.waiting - counters.zero);
     write_number(text, b" chains=", counters.chains);
     write_number(text, b" dups=", counters.dups);
     write_number(text, b" full_scans=", counters.full_scans);

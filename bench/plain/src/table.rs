@@ -8,6 +8,8 @@ include!(concat!(env!("OUT_DIR"), "/page_words.rs"));
 /// What a page reads, its first byte in the lowest bits of the first word.
 pub type PageBytes = [u64; PAGE_WORDS];
 
+pub const ZERO_PAGE: PageBytes = [0; PAGE_WORDS];
+
 /// A frame word is the generation times this, and the count.
 const LIFE: u64 = 1 << 16;
 
