@@ -14,10 +14,10 @@ use Rattle.ksm_base.proofs.Edits.{find_passes}
 use Rattle.frame_table.specs.Named.{KeeperView}
 use Rattle.ksm_base.specs.declared.reply.Reply.TheVariants.{Done}
 use Rattle.ksm_book.specs.Carried.{TakesSteps}
-use Rattle.ksm_book.specs.Commands.{Mapped, TurnsAway, Moves, FindsHeld}
-use Rattle.ksm_book.specs.Keeping.{NoneLeft}
-use Rattle.ksm_book.specs.Laid.{Lay, MovesOr, mapped_lay}
-use Rattle.ksm_book.specs.Mounted.{IsMoved}
+use Rattle.ksm_layout.specs.Commands.{Mapped, TurnsAway, Moves, FindsHeld}
+use Rattle.ksm_layout.specs.Keeping.{NoneLeft}
+use Rattle.ksm_layout.specs.Laid.{Lay, MovesOr, mapped_lay}
+use Rattle.ksm_layout.specs.Mounted.{IsMoved}
 use Rattle.ksm_book.specs.Whole.{BookView, HasShown, mapped}
 
 module _ (b : BookState) (place node : ℕ) (dup : DupRow) (found : Some dup ≡ live_dup_at b place) where

@@ -6,10 +6,10 @@ use Rattle.ksm_base.specs.declared.page.GuestPage.{GuestPage}
 use Rattle.ksm_base.specs.declared.row.Row.{Row}
 use Rattle.ksm_base.specs.State.{BookState, with_none_waiting, pass_ended}
 use Rattle.ksm_base.specs.Visit.{next_row, pass_ended_at_last, pass_begun, visit_begun, handled, best_dup, row_visited, visit_ended, visit_of, visit, visits}
-use Rattle.ksm_book.specs.Scanned.{GoesOnAt, stays, moved_to, cursor_after, IsLeft}
-use Rattle.ksm_book.specs.Commands.{Deed, IsIdle, Performs, idle, handling, row_visiting, visiting_of, visiting, then_doing, scanning}
+use Rattle.ksm_pages.specs.Scanned.{GoesOnAt, stays, moved_to, cursor_after, IsLeft}
+use Rattle.ksm_layout.specs.Commands.{Deed, IsIdle, Performs, idle, handling, row_visiting, visiting_of, visiting, then_doing, scanning}
 use Rattle.ksm_book.specs.Whole.{BookView, mapped}
-use Rattle.ksm_book.proofs.Made.{made_none, made_then}
+use Rattle.ksm_layout.proofs.Made.{made_none, made_then}
 
 -- ---------------------------------------------------------------- one visit
 

@@ -22,12 +22,13 @@ use Rattle.frame_core.specs.declared.ledger.Ledger.{Ledger}
 use Rattle.frame_core.specs.declared.seat.Life.{Life}
 use Rattle.frame_core.specs.Ledger.{frame_at, named_at}
 use Rattle.frame_table.specs.Named.{KeeperView}
-use Rattle.ksm_book.specs.Commands.{frame_number}
-use Rattle.ksm_book.specs.Lawful.{LieLawfully}
-use Rattle.ksm_book.specs.Placement.{frame_in, row_in, no_row, uses, kind_for, is_frame, IsServed, FitsBase, life_or, place_frame, place_life, IsInLife, Placed}
+use Rattle.ksm_layout.specs.Commands.{frame_number}
+use Rattle.ksm_layout.specs.Lawful.{LieLawfully}
+use Rattle.ksm_layout.specs.Placement.{uses, kind_for, IsServed, FitsBase, life_or, place_frame, place_life, IsInLife, Placed}
+use Rattle.ksm_pages.specs.Listed.{frame_in, row_in, no_row, is_frame}
 use Rattle.ksm_book.specs.Promised.{own_frames, dup_frames, is_in_use, HasItsOwn, StandsOn, IsOutlived, LieOn}
-use Rattle.ksm_book.proofs.Laying.{own_kind, own_framed}
-use Rattle.ksm_book.proofs.Moves.{base_is_items, stale_is_loose, framed, is_that}
+use Rattle.ksm_layout.proofs.Laying.{own_kind, own_framed}
+use Rattle.ksm_layout.proofs.Moves.{base_is_items, stale_is_loose, framed, is_that}
 use Rattle.ksm_book.proofs.Standing.{Lives, frames_apart, item_framed, lives}
 
 -- what holds of each row with its frame

@@ -10,11 +10,10 @@ use Rattle.ksm_base.specs.Rows.{comes_before}
 use Rattle.ksm_base.specs.Apply.{unshared}
 use Rattle.frame_table.specs.Named.{KeeperView}
 use Rattle.ksm_book.specs.Carried.{UnmergesTo}
-use Rattle.ksm_book.specs.Commands.{Mapped, FindsNone, Provides, Resettles, ResettlesEach, leaving}
-use Rattle.ksm_book.specs.Listed.{rank}
-use Rattle.ksm_book.specs.Steps.{Made}
+use Rattle.ksm_layout.specs.Commands.{Mapped, FindsNone, Provides, Resettles, ResettlesEach, leaving}
+use Rattle.ksm_pages.specs.Listed.{rank, frame_in}
+use Rattle.ksm_layout.specs.Steps.{Made}
 use Rattle.ksm_book.specs.Unmerged.{first_changed}
-use Rattle.ksm_book.specs.Placement.{frame_in}
 use Rattle.ksm_book.proofs.Unmerged.{fault_of}
 
 -- rows that are unshared stand where they stood

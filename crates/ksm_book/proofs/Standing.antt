@@ -26,13 +26,14 @@ use Rattle.frame_core.specs.declared.frame.Kind.{Kind}
 use Rattle.frame_core.specs.declared.frame.Kind.TheVariants.{Private, Stable}
 use Rattle.frame_core.specs.declared.ledger.Ledger.{Ledger}
 use Rattle.frame_core.specs.Ledger.{frame_at}
-use Rattle.ksm_book.specs.Placement.{frame_in, row_in, no_row, kind_for, place_frame, IsInLife, IsServed, Placed}
+use Rattle.ksm_layout.specs.Placement.{kind_for, place_frame, IsInLife, IsServed, Placed}
+use Rattle.ksm_pages.specs.Listed.{frame_in, row_in, no_row}
 use Rattle.frame_table.specs.Named.{KeeperView}
-use Rattle.ksm_book.specs.Laid.{Lay, state_of}
+use Rattle.ksm_layout.specs.Laid.{Lay, state_of}
 use Rattle.ksm_book.specs.Promised.{FindsPlace, NumbersAreSmall}
-use Rattle.ksm_book.specs.Lawful.{LieLawfully}
-use Rattle.ksm_book.proofs.Laying.{own_kind, own_framed}
-use Rattle.ksm_book.proofs.Moves.{Serves, framed}
+use Rattle.ksm_layout.specs.Lawful.{LieLawfully}
+use Rattle.ksm_layout.proofs.Laying.{own_kind, own_framed}
+use Rattle.ksm_layout.proofs.Moves.{Serves, framed}
 use Rattle.ksm_book.proofs.Visiting.{state_of_item, waiting_is_alone}
 
 kind_of_item : (n : ℕ) (s : PageState) → merged_into n s ≡ true → kind_for s ≡ Stable

@@ -17,11 +17,12 @@ use Rattle.ksm_base.specs.declared.fault.Fault.TheVariants.{NoFrame, UnknownPage
 use Rattle.ksm_base.specs.Answers.{IsUnmerged, IsAnswerUnless, IsAnswerOrMemory, shared_rows}
 use Rattle.ksm_base.specs.State.{BookState}
 use Rattle.frame_table.specs.Named.{KeeperView}
-use Rattle.ksm_book.specs.Laid.{Lay, LodgesAs, state_of}
-use Rattle.ksm_book.specs.Steps.{Does}
-use Rattle.ksm_book.specs.Unmerged.{first_changed, is_shared_of, IsStop, Gave}
+use Rattle.ksm_layout.specs.Laid.{Lay, LodgesAs, state_of}
+use Rattle.ksm_layout.specs.Steps.{Does}
+use Rattle.ksm_book.specs.Unmerged.{first_changed, IsStop, Gave}
+use Rattle.ksm_pages.specs.Wanted.{is_shared_of}
 use Rattle.ksm_base.proofs.Orders.{ordered_change}
-use Rattle.ksm_book.proofs.Logs.{chained}
+use Rattle.ksm_layout.proofs.Logs.{chained}
 use Rattle.ksm_base.proofs.Pages.{same_page_refl, before_irrefl, not_both, before_differs, after_differs}
 use Rattle.ksm_base.proofs.Orders.{pairs_head, pairs_tail}
 use Rattle.ksm_base.proofs.RowCounts.{change_none}
@@ -226,11 +227,6 @@ find_known t (r ∷ rows) row found = by (t r) refl (find_known t rows row)
 
 pub filter_fits : (t : Row → Bool) (rows : List Row) → length (filter t rows) ≤ length rows
 filter_fits t rows = omega (arith, length-filter t rows, count_by-le-length t rows)
-
--- a row let go may stand in the stead of one that isn't merged
-pub gone_lodges : (b : Bool) (r : Row) → (b ≡ true → shared_state r.state ≡ false) → LodgesAs (if b then let_go r else r) r
-gone_lodges true r alone = (refl, refl, inr (alone refl, refl))
-gone_lodges false r alone = (refl, refl, inl refl)
 
 -- ---------------------------------------------------------------- the commands
 

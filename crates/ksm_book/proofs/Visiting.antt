@@ -25,10 +25,10 @@ use Rattle.ksm_base.proofs.SoundScan.{next_row_visited}
 use Rattle.ksm_base.proofs.SoundPair.{IsFree, new_place_free, next_is_new, IsPair, partner_pairs, WaitsFor, waits_tells}
 use Rattle.ksm_base.proofs.SoundCounts.{joined_count}
 use Rattle.ksm_base.proofs.Pages.{same_page_eq}
-use Rattle.ksm_book.specs.Commands.{idle, handling, row_visiting, pairing, emptying, staying, listed_in}
-use Rattle.ksm_book.specs.Laid.{Lay, Joins, Founds, new_dup, state_of}
-use Rattle.ksm_book.proofs.Found.{change_known}
-use Rattle.ksm_book.proofs.Linking.{own_not_merged}
+use Rattle.ksm_layout.specs.Commands.{idle, handling, row_visiting, pairing, emptying, staying, listed_in}
+use Rattle.ksm_layout.specs.Laid.{Lay, Joins, Founds, new_dup, state_of}
+use Rattle.ksm_layout.proofs.Found.{change_known}
+use Rattle.ksm_pages.proofs.Linking.{own_not_merged}
 
 pub state_of_item : (n : ℕ) (s : PageState) → merged_into n s ≡ true → s ≡ Merged n
 state_of_item n Private e = absurd (grind (arith, e))

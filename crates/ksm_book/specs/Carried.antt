@@ -13,9 +13,8 @@ use Rattle.ksm_base.specs.Rows.{row_at, shared_state}
 use Rattle.ksm_base.specs.Journal.{Entry}
 use Rattle.ksm_base.specs.State.{BookState}
 use Rattle.frame_table.specs.Named.{KeeperView}
-use Rattle.ksm_book.specs.Commands.{Mapped, IsIdle, TurnsAway, Admits, Resettles, ResettlesEach, Moves, FindsHeld, Performs, rewriting, dismissing}
-use Rattle.ksm_book.specs.Commands.{pruning, scanning}
-use Rattle.ksm_book.specs.Steps.{Does}
+use Rattle.ksm_layout.specs.Commands.{Mapped, IsIdle, TurnsAway, Admits, Resettles, ResettlesEach, Moves, FindsHeld, Performs, rewriting, dismissing, pruning, scanning}
+use Rattle.ksm_layout.specs.Steps.{Does}
 use Rattle.ksm_book.specs.Whole.{BookView, mapped, rows_in, nodes_got, HasShown}
 
 -- a page with a frame of its own is stored to in place, a merged or Zero one gets a new frame first

@@ -13,8 +13,8 @@ use Rattle.frame_core.specs.declared.frame.Kind.TheVariants.{Free, Filling, Priv
 use Rattle.frame_core.specs.declared.ledger.Ledger.{Ledger}
 use Rattle.frame_core.specs.declared.seat.Life.{Life}
 use Rattle.frame_core.specs.Ledger.{frame_at, named_at}
-use Rattle.ksm_book.specs.Placement.{node_of, place_frame}
-use Rattle.ksm_book.specs.Commands.{frame_number}
+use Rattle.ksm_layout.specs.Placement.{node_of, place_frame}
+use Rattle.ksm_layout.specs.Commands.{frame_number}
 
 -- the frames of the rows with a frame of their own, where each row has one of these frames or none, in order
 abbrev pub own_frames : List Row → List (Option ℕ) → List ℕ

@@ -5,17 +5,8 @@ use Rattle.ksm_base.specs.Answers.{every_row}
 use Rattle.ksm_base.specs.Refusals.{is_of}
 use Rattle.ksm_base.specs.Rows.{shared_state}
 use Rattle.frame_table.specs.Named.{KeeperView}
-use Rattle.ksm_book.specs.Steps.{Does}
-use Rattle.ksm_book.specs.Keeping.{NoneLeft}
-
--- a row of the guest, or any row where no guest is given
-abbrev pub of_guest : Option ℕ → Row → Bool
-of_guest None = every_row
-of_guest (Some guest) = is_of guest
-
--- a merged or Zero row of the guest
-abbrev pub is_shared_of : Option ℕ → Row → Bool
-is_shared_of guest r = of_guest guest r && shared_state r.state
+use Rattle.ksm_layout.specs.Steps.{Does}
+use Rattle.ksm_layout.specs.Keeping.{NoneLeft}
 
 -- the rows with a change made to the first n that pass a test
 abbrev pub first_changed : (Row → Bool) → (Row → Row) → ℕ → List Row → List Row

@@ -11,10 +11,11 @@ use Rattle.frame_core.specs.declared.event.KeeperStep.TheVariants.{Raise, Publis
 use Rattle.frame_core.specs.State.{count_in}
 use Rattle.frame_core.specs.Ledger.{frame_at}
 use Rattle.frame_table.specs.Named.{KeeperView}
-use Rattle.ksm_book.specs.Steps.{Log, Did, Does}
-use Rattle.ksm_book.specs.Commands.{Mapped, listed_in}
-use Rattle.ksm_book.specs.Keeping.{NoneLeft}
-use Rattle.ksm_book.specs.Listed.{Listed}
+use Rattle.ksm_layout.specs.Steps.{Log, Did, Does}
+use Rattle.ksm_layout.specs.Commands.{Mapped, listed_in}
+use Rattle.ksm_layout.specs.Keeping.{NoneLeft}
+use Rattle.ksm_layout.specs.Mounted.{HasLost, HasMoved}
+use Rattle.ksm_pages.specs.Listed.{Listed}
 
 -- what is seen of the book: its state, the frame of each row, in the order of the rows, and the keeper
 pub record BookView : Type 0 where
@@ -40,24 +41,6 @@ nodes_got b (Ok Done) command = listed (frame_needed b command)
 nodes_got b (Ok (Unmerged k stop)) (Unmerge guest) = map (λ r. r.home) (take k (shared_rows (is_of guest) b))
 nodes_got b (Ok (Unmerged k stop)) (SetRun v) = map (λ r. r.home) (take k (shared_rows every_row b))
 nodes_got b _ _ = []
-
--- the exchange of a frame word was tried, and found another count than the keeper's references
-pub record HasLost (v w : KeeperView) : Type 0 where
-  pub part : Log
-  pub did : Did v w [] part
-  pub frame : ℕ
-  pub found : ℕ
-  pub tried : Contains part (Freeze frame, found)
-  pub other : count_in found ≢ (frame_at w.ledger frame).base
-
--- a frame was raised and then published at the place
-pub record HasMoved (v w : KeeperView) (place node : ℕ) : Type 0 where
-  pub part : Log
-  pub did : Did v w (node ∷ []) part
-  pub frame : ℕ
-  pub before : ℕ
-  pub raised : Contains part (Raise frame, before)
-  pub published : Contains part (Publish place frame, 0)
 
 -- what the keeper's part of the log shows of an answer
 abbrev pub HasShown : BookState → KeeperView → KeeperView → Answer → Command → Type 0

@@ -11,10 +11,10 @@ ghost use Rattle.ksm_base.specs.State.{opening};
 ghost use Rattle.ksm_base.specs.Values.{IsShape};
 ghost use Rattle.frame_core.specs.Ledger.{first_ledger};
 ghost use Rattle.ksm_book.specs.Carried.{CarriedOut, unjournaled};
-ghost use Rattle.ksm_book.specs.Commands.{frame_of, listed_in};
-ghost use Rattle.ksm_book.specs.Laid.{LoadsIf};
+ghost use Rattle.ksm_layout.specs.Commands.{frame_of, listed_in};
+ghost use Rattle.ksm_layout.specs.Laid.{LoadsIf};
 ghost use Rattle.ksm_base.specs.Sound.{IsSound};
-ghost use Rattle.ksm_book.specs.Keeping.{spent};
+ghost use Rattle.ksm_layout.specs.Keeping.{spent};
 ghost use Rattle.ksm_book.specs.Promised.{FindsPlace, LieOn, NumbersAreSmall};
 
 use crate::journal::Journal;

@@ -5,16 +5,16 @@ ghost use Rattle.ksm_base.specs.declared.fault.Fault.TheVariants.{Memory};
 ghost use Rattle.ksm_base.specs.Apply.{after};
 ghost use Rattle.ksm_base.specs.Rows.{shared_state};
 ghost use Rattle.ksm_base.specs.Visit.{visit, visits, visit_begun, visit_ended, pass_ended_at_last, row_visited, paired, partner, stayed, next_row};
-ghost use Rattle.ksm_book.specs.Scanned.{GoesOnAt, stays as as_it_is};
-ghost use Rattle.ksm_book.specs.Steps.{Does};
+ghost use Rattle.ksm_pages.specs.Scanned.{GoesOnAt, stays as as_it_is};
+ghost use Rattle.ksm_layout.specs.Steps.{Does};
 ghost use Rattle.ksm_book.specs.Carried.{CarriedOut};
 ghost use Rattle.ksm_book.specs.Whole.{mapped};
-ghost use Rattle.ksm_book.specs.Commands.{IsIdle, Performs, scanning, visiting, row_visiting, staying, pairing};
+ghost use Rattle.ksm_layout.specs.Commands.{IsIdle, Performs, scanning, visiting, row_visiting, staying, pairing};
 
-use crate::row::{is_for_zero, is_shared, stays};
 use crate::state::State;
 use frame_table::FrameTable;
 use ksm_base::{Command, Fault, GuestPage, PageState, Reply, Row};
+use ksm_pages::row::{is_for_zero, is_shared, stays};
 
 // How many visits were made, and the row at which the pass goes on, if it does.
 #[derive(Clone, Copy)]

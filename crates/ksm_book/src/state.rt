@@ -8,18 +8,18 @@ ghost use Rattle.ksm_base.specs.Reading.{bytes_of, mappers_of, ticket_of};
 ghost use Rattle.ksm_base.specs.declared.fault.Fault.TheVariants.{Memory};
 ghost use Rattle.ksm_base.specs.Refusals.{is_known};
 ghost use Rattle.frame_core.specs.Ledger.{first_ledger};
-ghost use Rattle.ksm_book.specs.Commands.{frame_of};
-ghost use Rattle.ksm_book.specs.Laid.{LoadsIf};
+ghost use Rattle.ksm_layout.specs.Commands.{frame_of};
+ghost use Rattle.ksm_layout.specs.Laid.{LoadsIf};
 ghost use Rattle.ksm_base.specs.Sound.{IsSound};
 ghost use Rattle.ksm_book.specs.Carried.{CarriedOut};
-ghost use Rattle.ksm_book.specs.Keeping.{spent};
+ghost use Rattle.ksm_layout.specs.Keeping.{spent};
 ghost use Rattle.ksm_book.specs.Promised.{FindsPlace, LieOn, NumbersAreSmall};
 ghost use Rattle.ksm_book.specs.Whole.{rows_in};
 
-use crate::layout::Layout;
-use crate::row::{fresh_row, is_shared, moved, stored};
 use frame_table::{FrameTable, Keeper};
 use ksm_base::{Command, Counters, Fault, GuestPage, Knobs, PageBytes, PageState, Reply, Shape};
+use ksm_layout::Layout;
+use ksm_pages::row::{fresh_row, is_shared, moved, stored};
 use std::alloc::Global;
 use std::marker::Model;
 
@@ -33,7 +33,7 @@ pub struct State {
 impl Model for State {
     ghost use Rattle.ksm_base.specs.Sound.{IsSound};
     ghost use Rattle.ksm_book.specs.Whole.{BookView};
-    ghost use Rattle.ksm_book.specs.Laid.{state_of};
+    ghost use Rattle.ksm_layout.specs.Laid.{state_of};
 
     ghost Value = { BookView };
 

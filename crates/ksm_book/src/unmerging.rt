@@ -5,14 +5,15 @@ ghost use Rattle.ksm_base.specs.declared.fault.Fault.TheVariants.{NoFrame};
 ghost use Rattle.ksm_base.specs.Apply.{unshared as as_unshared};
 ghost use Rattle.ksm_base.specs.Rows.{InPageOrder};
 ghost use Rattle.ksm_book.specs.Carried.{CarriedOut, UnmergesTo};
-ghost use Rattle.ksm_book.specs.Laid.{mapped_lay};
-ghost use Rattle.ksm_book.specs.Unmerged.{is_shared_of, first_changed, IsStop, Gave};
+ghost use Rattle.ksm_layout.specs.Laid.{mapped_lay};
+ghost use Rattle.ksm_book.specs.Unmerged.{first_changed, IsStop, Gave};
+ghost use Rattle.ksm_pages.specs.Wanted.{is_shared_of};
 
-use crate::layout::Layout;
-use crate::row::unshared;
 use crate::state::State;
 use frame_table::FrameTable;
 use ksm_base::{Command, Fault, Knobs, Reply, Row};
+use ksm_layout::Layout;
+use ksm_pages::row::unshared;
 
 /// The merged and Zero pages of a guest, or all of them, get frames of their own in order, until one finds none on its home.
 /// Says how many did, and the row that did not.

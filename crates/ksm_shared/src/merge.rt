@@ -5,8 +5,8 @@ ghost use Rattle.ksm_base.specs.Journal.{IsLegal, ReadsLastStored, journal_after
 ghost use Rattle.ksm_base.specs.Reading.{bytes_of};
 ghost use Rattle.ksm_base.specs.Sound.{IsSound};
 ghost use Rattle.ksm_book.specs.Carried.{CarriedOut, unjournaled};
-ghost use Rattle.ksm_book.specs.Commands.{frame_of, listed_in};
-ghost use Rattle.ksm_book.specs.Laid.{LoadsIf};
+ghost use Rattle.ksm_layout.specs.Commands.{frame_of, listed_in};
+ghost use Rattle.ksm_layout.specs.Laid.{LoadsIf};
 ghost use Rattle.ksm_book.specs.Promised.{LieOn};
 ghost use Rattle.ksm_shared.specs.Handed.{missing_of};
 ghost use Rattle.ksm_shared.specs.Locked.{Gathered, LacksOne, SeesOn, made, made_by, part_of, said_of, state_seen};

@@ -4,11 +4,11 @@ use Rattle.std.proofs.lemmas.List.Elements.{All-filter}
 use Rattle.ksm_base.specs.declared.row.Row.{Row}
 use Rattle.ksm_base.specs.Rows.{row_at, change_row}
 use Rattle.ksm_book.specs.Carried.{UnmergesTo}
-use Rattle.ksm_book.specs.Commands.{FindsNone, ResettlesEach}
-use Rattle.ksm_book.specs.Laid.{Lay, mapped_lay}
-use Rattle.ksm_book.specs.Steps.{Does}
-use Rattle.ksm_book.specs.Unmerged.{is_shared_of}
-use Rattle.ksm_book.proofs.Logs.{chained}
+use Rattle.ksm_layout.specs.Commands.{FindsNone, ResettlesEach}
+use Rattle.ksm_layout.specs.Laid.{Lay, mapped_lay}
+use Rattle.ksm_layout.specs.Steps.{Does}
+use Rattle.ksm_pages.specs.Wanted.{is_shared_of}
+use Rattle.ksm_layout.proofs.Logs.{chained}
 use Rattle.ksm_book.proofs.Onward.{IsDoneTo, found_onward, done_more}
 use Rattle.ksm_book.proofs.Resettling.{placed, resettled_as, each_more, taken_more, unmerged_end}
 use Rattle.ksm_book.proofs.Unmerged.{next_is, one_unshared, none_past, some_within, all_some, homes_more, find_known, filter_fits, order_kept, unshared_off}

@@ -1,9 +1,10 @@
 use Rattle.std.proofs.Common.{◌≡◌, ◌≤◌, length, map, take}
 use Rattle.std.specs.Prelude.{filter}
 use Rattle.ksm_base.specs.Apply.{unshared}
-use Rattle.ksm_book.specs.Steps.{Does}
-use Rattle.ksm_book.specs.Unmerged.{is_shared_of, first_changed}
-use Rattle.ksm_book.specs.Commands.{ResettlesEach}
+use Rattle.ksm_layout.specs.Steps.{Does}
+use Rattle.ksm_book.specs.Unmerged.{first_changed}
+use Rattle.ksm_pages.specs.Wanted.{is_shared_of}
+use Rattle.ksm_layout.specs.Commands.{ResettlesEach}
 use Rattle.ksm_book.proofs.Onward.{IsDoneTo}
 use Rattle.ksm_book.proofs.Resettling.{placed}
 use Rattle.ksm_book.proofs.unmerging.unshare_pages.Given as goal

@@ -1,7 +1,7 @@
 use Rattle.std.proofs.Common.{sym, ap, subst}
 use Rattle.ksm_base.specs.Sound.{IsSound}
 use Rattle.ksm_base.proofs.SoundScan.{sound_none_waiting}
-use Rattle.ksm_book.specs.Laid.{Lay, state_of}
+use Rattle.ksm_layout.specs.Laid.{Lay, state_of}
 use Rattle.ksm_book.proofs.state.State.begin_visit.Goals as goal
 
 pub invariant_of-self : goal.invariant_of-self

@@ -3,7 +3,7 @@ use Rattle.std.specs.Prelude.{not}
 use Rattle.ksm_base.specs.Rows.{same_page}
 use Rattle.ksm_base.specs.Sound.{IsSound}
 use Rattle.ksm_base.proofs.SoundEdits.{sound_filtered}
-use Rattle.ksm_book.specs.Laid.{Lay, state_of}
+use Rattle.ksm_layout.specs.Laid.{Lay, state_of}
 use Rattle.ksm_book.proofs.state.State.drop_page.Goals as goal
 
 pub invariant_of-self : goal.invariant_of-self

@@ -1,5 +1,5 @@
 use Rattle.std.proofs.Common.{subst}
-use Rattle.ksm_book.specs.Laid.{state_of}
+use Rattle.ksm_layout.specs.Laid.{state_of}
 use Rattle.ksm_book.specs.Promised.{FindsPlace, LieOn, NumbersAreSmall}
 use Rattle.ksm_book.specs.Whole.{BookView}
 use Rattle.ksm_book.proofs.Promised.{lies_on}

@@ -3,8 +3,9 @@ use Rattle.ksm_base.specs.declared.command.Command.TheVariants.{MoveDup}
 use Rattle.ksm_base.specs.declared.knobs.Knobs.{Knobs}
 use Rattle.ksm_base.specs.Answers.{IsAnswerOrMemory}
 use Rattle.ksm_book.specs.Carried.{TakesSteps}
-use Rattle.ksm_book.specs.Laid.{state_of}
-use Rattle.ksm_book.specs.Whole.{BookView, HasMoved, HasShown}
+use Rattle.ksm_layout.specs.Laid.{state_of}
+use Rattle.ksm_book.specs.Whole.{BookView, HasShown}
+use Rattle.ksm_layout.specs.Mounted.{HasMoved}
 use Rattle.ksm_book.proofs.DupMoves.{place_is, live_there, moved_answer, moved_done, moved_shown, done_steps, fault_steps}
 use Rattle.ksm_book.proofs.state.State.move_dup.Goals as goal
 use Rattle.ksm_book.proofs.state.State.move_dup.Goals.{in-Ok, in-Err}

@@ -7,9 +7,9 @@ use Rattle.ksm_base.specs.Rows.{change_row}
 use Rattle.ksm_base.specs.Sound.{IsSound}
 use Rattle.ksm_base.specs.State.{BookState}
 use Rattle.ksm_base.proofs.SoundSteps.{sound_after}
-use Rattle.ksm_book.specs.Laid.{Lay, state_of}
+use Rattle.ksm_layout.specs.Laid.{Lay, state_of}
 use Rattle.ksm_book.specs.Whole.{BookView}
-use Rattle.ksm_book.proofs.Found.{change_nothing, change_own, found_known, moved_page, moved_home}
+use Rattle.ksm_layout.proofs.Found.{change_nothing, change_own, found_known, moved_page, moved_home}
 use Rattle.ksm_book.proofs.state.State.move_page.Goals as goal
 
 pub returns-then-row-node : goal.returns-then-row-node

@@ -5,10 +5,10 @@ use Rattle.ksm_base.specs.Rows.{with_dup}
 use Rattle.ksm_base.specs.Sound.{IsSound}
 use Rattle.ksm_base.specs.Visit.{next_row, partner, paired, made_dup}
 use Rattle.ksm_base.proofs.SoundScan.{next_row_visited, sound_paired}
-use Rattle.ksm_book.specs.Laid.{Lay, founded, state_of}
-use Rattle.ksm_book.specs.Commands.{Performs, founding, listed_in, pairing}
+use Rattle.ksm_layout.specs.Laid.{Lay, founded, state_of}
+use Rattle.ksm_layout.specs.Commands.{Performs, founding, listed_in, pairing}
 use Rattle.ksm_book.specs.Whole.{BookView, mapped}
-use Rattle.ksm_book.proofs.Found.{change_known}
+use Rattle.ksm_layout.proofs.Found.{change_known}
 use Rattle.ksm_book.proofs.Standing.{partner_finds_place}
 use Rattle.ksm_book.proofs.Visiting.{visited_at, partner_founds, joins_new, both_joined, same_dup, apart}
 use Rattle.ksm_book.proofs.state.State.pair.Goals as goal

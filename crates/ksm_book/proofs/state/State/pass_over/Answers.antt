@@ -1,8 +1,8 @@
 use Rattle.std.proofs.Common.{◌∙◌, List, sym, ap, subst}
 use Rattle.ksm_base.specs.declared.row.Row.{Row}
 use Rattle.ksm_base.specs.Visit.{pass_ended_at_last}
-use Rattle.ksm_book.specs.Commands.{Performs}
-use Rattle.ksm_book.specs.Scanned.{RunsOver}
+use Rattle.ksm_layout.specs.Commands.{Performs}
+use Rattle.ksm_pages.specs.Scanned.{RunsOver}
 use Rattle.ksm_book.specs.Whole.{BookView, mapped}
 use Rattle.ksm_book.proofs.Passing.{run_visits, run_scanning, performs_idle}
 use Rattle.ksm_book.proofs.state.State.pass_over.Goals as goal

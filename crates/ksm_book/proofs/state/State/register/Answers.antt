@@ -4,7 +4,7 @@ use Rattle.ksm_base.specs.Apply.{fresh_row}
 use Rattle.ksm_base.specs.Rows.{with_row}
 use Rattle.ksm_base.specs.Sound.{IsSound}
 use Rattle.ksm_base.proofs.SoundEdits.{sound_with_row}
-use Rattle.ksm_book.specs.Laid.{Lay, Housed, Unhoused, state_of}
+use Rattle.ksm_layout.specs.Laid.{Lay, Housed, Unhoused, state_of}
 use Rattle.ksm_book.proofs.state.State.register.Goals as goal
 
 -- the new row is there, and sound

@@ -1,11 +1,11 @@
 use Rattle.std.proofs.Common.{◌≡◌, ◌∙◌, ℕ, ◌+◌, [], sym, ap, subst, arith, rules}
 use Rattle.std.specs.Prelude.{IfOk, IfSome, OnErr}
 use Rattle.ksm_base.specs.Visit.{visits}
-use Rattle.ksm_book.specs.Commands.{IsIdle, Performs, scanning}
-use Rattle.ksm_book.specs.Steps.{Made}
+use Rattle.ksm_layout.specs.Commands.{IsIdle, Performs, scanning}
+use Rattle.ksm_layout.specs.Steps.{Made}
 use Rattle.ksm_book.specs.Whole.{mapped}
-use Rattle.ksm_book.specs.Scanned.{GoesOnAt}
-use Rattle.ksm_book.proofs.Logs.{chained}
+use Rattle.ksm_pages.specs.Scanned.{GoesOnAt}
+use Rattle.ksm_layout.proofs.Logs.{chained}
 use Rattle.ksm_book.proofs.Passing.{visits_on, performs_on}
 use Rattle.ksm_book.proofs.state.State.scan.Goals as goal
 

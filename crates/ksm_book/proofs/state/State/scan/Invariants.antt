@@ -1,9 +1,9 @@
 use Rattle.std.proofs.Common.{◌≡◌, ◌≤◌, ◌-◌, []}
 use Rattle.std.specs.Prelude.{IfSome}
 use Rattle.ksm_base.specs.Visit.{visits}
-use Rattle.ksm_book.specs.Scanned.{GoesOnAt}
-use Rattle.ksm_book.specs.Commands.{Performs, scanning}
-use Rattle.ksm_book.specs.Steps.{Does}
+use Rattle.ksm_pages.specs.Scanned.{GoesOnAt}
+use Rattle.ksm_layout.specs.Commands.{Performs, scanning}
+use Rattle.ksm_layout.specs.Steps.{Does}
 use Rattle.ksm_book.specs.Whole.{mapped}
 use Rattle.ksm_book.proofs.state.State.scan.Given as goal
 

@@ -15,7 +15,7 @@ use Rattle.ksm_base.specs.declared.knobs.Knobs.{Knobs}
 use Rattle.ksm_base.specs.Refusals.{changes_while_shared}
 use Rattle.ksm_base.proofs.SoundKnobs.{none_shared}
 use Rattle.ksm_base.proofs.SoundEdits.{no_dup_lives}
-use Rattle.ksm_book.specs.Laid.{Lay, state_of}
+use Rattle.ksm_layout.specs.Laid.{Lay, state_of}
 use Rattle.ksm_book.proofs.state.State.set_across.Goals as goal
 
 pub invariant_of-self : goal.invariant_of-self

@@ -5,7 +5,7 @@ use Rattle.ksm_base.specs.declared.reply.Reply.TheVariants.{Done}
 use Rattle.ksm_base.specs.Refusals.{changes_while_shared, refusal}
 use Rattle.ksm_base.specs.Sound.{IsSound}
 use Rattle.ksm_base.proofs.SoundKnobs.{sound_set_limit}
-use Rattle.ksm_book.specs.Laid.{state_of}
+use Rattle.ksm_layout.specs.Laid.{state_of}
 use Rattle.ksm_book.proofs.state.State.set_limit.Goals as goal
 
 pub invariant_of-self : goal.invariant_of-self

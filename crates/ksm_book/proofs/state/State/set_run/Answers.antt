@@ -3,7 +3,7 @@ use Rattle.ksm_base.specs.declared.command.Command.TheVariants.{SetRun}
 use Rattle.ksm_base.specs.declared.reply.Reply.TheVariants.{Done}
 use Rattle.ksm_base.specs.Sound.{IsSound}
 use Rattle.ksm_base.proofs.SoundSteps.{sound_after}
-use Rattle.ksm_book.specs.Laid.{state_of}
+use Rattle.ksm_layout.specs.Laid.{state_of}
 use Rattle.ksm_book.proofs.state.State.set_run.Goals as goal
 
 pub invariant_of-self : goal.invariant_of-self

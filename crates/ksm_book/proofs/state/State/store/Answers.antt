@@ -6,8 +6,8 @@ use Rattle.ksm_base.specs.Rows.{change_row, row_at, same_page, InPageOrder}
 use Rattle.ksm_base.specs.Sound.{IsSound}
 use Rattle.ksm_base.proofs.SoundEdits.{sound_changed, becomes_private}
 use Rattle.ksm_book.specs.Whole.{BookView}
-use Rattle.ksm_book.specs.Laid.{Lay, IsOnItsOwn, Knows, state_of}
-use Rattle.ksm_book.proofs.Found.{change_own, found_known, found_as, found_all}
+use Rattle.ksm_layout.specs.Laid.{Lay, IsOnItsOwn, Knows, state_of}
+use Rattle.ksm_layout.proofs.Found.{change_own, found_known, found_as, found_all}
 use Rattle.ksm_book.proofs.state.State.store.Goals as goal
 
 changed : (rows : List Row) (page : GuestPage) (bytes : List ℕ) (row new : Row) → InPageOrder rows → row_at page rows ≡ Some row → new ≡ stored bytes row → change_row new.page (λ _. new) rows ≡ change_row page (stored bytes) rows

@@ -12,9 +12,9 @@ use Rattle.ksm_base.specs.Rows.{change_rows}
 use Rattle.ksm_base.specs.Sound.{IsSound}
 use Rattle.ksm_base.proofs.SoundSteps.{sound_after}
 use Rattle.ksm_book.specs.Carried.{UnmergesTo}
-use Rattle.ksm_book.specs.Laid.{Lay, state_of, mapped_lay}
-use Rattle.ksm_book.specs.Steps.{Does}
-use Rattle.ksm_book.specs.Unmerged.{is_shared_of}
+use Rattle.ksm_layout.specs.Laid.{Lay, state_of, mapped_lay}
+use Rattle.ksm_layout.specs.Steps.{Does}
+use Rattle.ksm_pages.specs.Wanted.{is_shared_of}
 use Rattle.ksm_book.specs.Whole.{BookView, mapped}
 use Rattle.ksm_book.proofs.Resettling.{unmerged_end}
 use Rattle.ksm_book.proofs.Unmerged.{met_rows, none_left, unmerged_state, unmerge_answer, gave_does, fault_of}

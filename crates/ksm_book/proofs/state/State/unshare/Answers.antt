@@ -8,8 +8,8 @@ use Rattle.ksm_base.specs.Apply.{unshare_stopped}
 use Rattle.ksm_base.specs.Sound.{IsSound}
 use Rattle.ksm_base.proofs.SoundSteps.{sound_after}
 use Rattle.ksm_book.specs.Carried.{UnmergesTo}
-use Rattle.ksm_book.specs.Laid.{Lay, state_of, mapped_lay}
-use Rattle.ksm_book.specs.Steps.{Does}
+use Rattle.ksm_layout.specs.Laid.{Lay, state_of, mapped_lay}
+use Rattle.ksm_layout.specs.Steps.{Does}
 use Rattle.ksm_book.specs.Unmerged.{IsStop}
 use Rattle.ksm_book.specs.Whole.{BookView, mapped}
 use Rattle.ksm_book.proofs.Resettling.{unmerged_end}

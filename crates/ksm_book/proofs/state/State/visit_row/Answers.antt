@@ -7,10 +7,10 @@ use Rattle.ksm_base.specs.State.{BookState}
 use Rattle.ksm_base.specs.Visit.{is_best, next_row, row_visited}
 use Rattle.ksm_base.proofs.Edits.{find_passes}
 use Rattle.ksm_base.proofs.SoundScan.{next_row_visited, sound_row_visited}
-use Rattle.ksm_book.specs.Commands.{Performs, frame_on, frame_found, joining, listed_in, row_visiting}
-use Rattle.ksm_book.specs.Laid.{Lay, LodgesAs, state_of, mapped_lay}
+use Rattle.ksm_layout.specs.Commands.{Performs, frame_on, frame_found, joining, listed_in, row_visiting}
+use Rattle.ksm_layout.specs.Laid.{Lay, LodgesAs, state_of, mapped_lay}
 use Rattle.ksm_book.specs.Whole.{BookView, mapped}
-use Rattle.ksm_book.proofs.Found.{change_known, dup_known, found_as}
+use Rattle.ksm_layout.proofs.Found.{change_known, dup_known, found_as}
 use Rattle.ksm_book.proofs.Visiting.{visited_at, best_has_item, best_joins, state_of_item, visited_by, visiting_by, marked_by}
 use Rattle.ksm_book.proofs.state.State.visit_row.Goals as goal
 use Rattle.ksm_book.proofs.state.State.visit_row.Goals.{In_ok-join}

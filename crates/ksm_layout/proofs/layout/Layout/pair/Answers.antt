@@ -1,0 +1,122 @@
+use Rattle.std.proofs.Common.{◌≡◌, ◌<◌, ◌≤◌, ◌^◌, ℕ, Bool, false, [], ◌∷◌, ◌++◌, Option, Some, refl, sym, ap, ◌∙◌, subst, arith}
+use Rattle.std.specs.Prelude.{All, if◌then◌else◌}
+use Rattle.ksm_base.specs.Rows.{merged_into, row_at}
+use Rattle.ksm_base.specs.Values.{frames_of}
+use Rattle.frame_core.specs.declared.event.KeeperStep.TheVariants.{Publish, Withdraw, Add}
+use Rattle.ksm_layout.specs.Commands.{Performs, founding, frame_number, frame_on, leaving, withdrawing}
+use Rattle.ksm_layout.specs.Laid.{Lay, Founds, IsLaid, lay_of, mapped_lay}
+use Rattle.ksm_pages.specs.Linked.{PagesView, IsVacant, item_of_next}
+use Rattle.ksm_layout.specs.Steps.{Does, Made}
+use Rattle.ksm_layout.proofs.Laying.{has_frame, own_framed}
+use Rattle.ksm_layout.proofs.Ranks.{stands_as}
+use Rattle.ksm_layout.proofs.Logs.{chained, one_step}
+use Rattle.ksm_layout.proofs.Made.{made_one, made_then}
+use Rattle.ksm_layout.proofs.Paired.{both_frames, few_there, first_lawful, second_lawful, laid_paired}
+use Rattle.ksm_layout.proofs.Sharing.{not_taken, vacant_loose, spent_most}
+use Rattle.ksm_layout.proofs.layout.Layout.pair.Goals as goal
+
+pub invariant_of-self : goal.invariant_of-self
+invariant_of-self c = subst (λ (z : PagesView). IsLaid z.shape z.listed z.dups z.knobs z.next c.self.inside.keeper) (sym c.in_err-pair.ensures.refused) c.self.invariant
+
+pub pair-requires : goal.pair-requires
+pair-requires c =
+    let b = c.self.inside in
+    let p = b.pages in
+    let founds : Founds c.args.self.now c.args.place c.args.first = c.requires.founds in
+    let most : p.next ≤ 2 ^ 50 = spent_most p.shape p.listed p.dups p.knobs p.next b.keeper c.self.invariant in
+    let back = sym c.self.view_is in
+    record {
+      first_is = subst (λ (x : Lay). row_at c.args.first.page x.rows ≡ Some c.args.first) back founds.row_is;
+      second_is = subst (λ (x : Lay). row_at c.args.second.page x.rows ≡ Some c.args.second) back c.requires.second;
+      first_alone = founds.alone;
+      second_alone = c.requires.joins.alone;
+      apart = c.requires.apart;
+      inside = subst (λ (x : Lay). c.args.place < frames_of x.shape) back founds.inside;
+      vacant = subst (λ (x : Lay). IsVacant c.args.place x.rows x.dups) back founds.vacant;
+      number = omega (arith, most);
+      fresh = subst (λ (x : Lay). All (λ r. merged_into x.next r.state ≡ false) x.rows) back founds.fresh;
+    }
+
+pub clear-requires-clause-loose : goal.clear-requires-clause-loose
+clear-requires-clause-loose c =
+    let b = c.self.inside in
+    vacant_loose b.pages.shape b.pages.knobs.merge_across_nodes b.keeper.ledger b.pages.listed.rows b.pages.listed.frames b.pages.dups c.args.place c.self.invariant.placed (subst (λ (x : Lay). IsVacant c.args.place x.rows x.dups) (sym c.self.view_is) c.requires.founds.vacant)
+
+pub clear-requires-clause-empty : goal.clear-requires-clause-empty
+clear-requires-clause-empty c none =
+    let b = c.self.inside in
+    not_taken b.pages.shape b.pages.knobs.merge_across_nodes b.keeper.ledger b.pages.listed.rows b.pages.listed.frames b.pages.dups c.args.place c.self.invariant.placed (sym c.has_dup-taken.ensures ∙ none)
+
+pub known_frame-frame-requires : goal.known_frame-frame-requires
+known_frame-frame-requires c =
+    let b = c.self.inside in
+    let at = stands_as b.pages.listed c.args.self.now.rows c.args.first.page c.in-Some.held.row c.args.first c.in-Some.held.frame c.in-Some.ensures.at (ap (λ (x : Lay). x.rows) c.self.view_is) c.requires.founds.row_is in
+    has_frame b.pages.shape b.pages.listed b.pages.dups b.pages.knobs b.pages.next b.keeper c.self.invariant c.args.first.page c.args.first c.in-Some.held.frame at
+    (own_framed c.args.first.state c.requires.founds.alone)
+
+pub share-requires-clause-lawful : goal.share-requires-clause-lawful
+share-requires-clause-lawful c =
+    first_lawful c.self.inside.pages c.self.inside.keeper c.self.invariant c.args.self.now c.self.view_is c.args.place c.args.first c.args.second c.requires.founds c.requires.joins c.requires.second c.requires.apart
+    c.in-Some.held.row c.in-Some-find.lone.row c.in-Some.held.frame c.known_frame-frame.result c.known_frame-frame.ensures c.in-Some-find.lone.frame c.in-Some.ensures.at c.in-Some-find.ensures.at
+    c.pair.new.self c.in_ok-pair.ensures.rows c.in_ok-pair.ensures.made c.clear.new.keeper c.publish.new.self c.clear.ensures.own c.clear.ensures.ledger c.publish.ensures
+
+pub share-requires-clause-few : goal.share-requires-clause-few
+share-requires-clause-few c =
+    few_there c.self.inside.pages c.self.inside.keeper c.self.invariant c.args.self.now c.self.view_is c.args.place c.args.first c.args.second c.requires.founds c.requires.joins c.requires.second c.requires.apart
+    c.in-Some.held.row c.in-Some-find.lone.row c.in-Some.held.frame c.known_frame-frame.result c.known_frame-frame.ensures c.in-Some-find.lone.frame c.in-Some.ensures.at c.in-Some-find.ensures.at
+    c.pair.new.self c.in_ok-pair.ensures.rows c.in_ok-pair.ensures.made c.clear.new.keeper c.publish.new.self c.clear.ensures.own c.clear.ensures.ledger c.publish.ensures
+
+pub release_if-requires-clause-lawful : goal.release_if-requires-clause-lawful
+release_if-requires-clause-lawful c =
+    second_lawful c.self.inside.pages c.self.inside.keeper c.self.invariant c.args.self.now c.self.view_is c.args.place c.args.first c.args.second c.requires.founds c.requires.joins c.requires.second c.requires.apart
+    c.in-Some.held.row c.in-Some-find.lone.row c.in-Some.held.frame c.known_frame-frame.result c.known_frame-frame.ensures c.in-Some-find.lone.frame c.in-Some.ensures.at c.in-Some-find.ensures.at
+    c.pair.new.self c.in_ok-pair.ensures.rows c.in_ok-pair.ensures.made c.clear.new.keeper c.publish.new.self c.clear.ensures.own c.clear.ensures.ledger c.publish.ensures c.share.new.keeper c.share.ensures.own c.share.ensures.keeps
+
+pub invariant_of-self-2 : goal.invariant_of-self-2
+invariant_of-self-2 c =
+    laid_paired c.self.inside.pages c.self.inside.keeper c.self.invariant c.args.self.now c.self.view_is c.args.place c.args.first c.args.second c.requires.founds c.requires.joins c.requires.second c.requires.apart
+    c.in-Some.held.row c.in-Some-find.lone.row c.in-Some.held.frame c.known_frame-frame.result c.known_frame-frame.ensures c.in-Some-find.lone.frame c.in-Some.ensures.at c.in-Some-find.ensures.at
+    c.pair.new.self c.in_ok-pair.ensures.rows c.in_ok-pair.ensures.made c.clear.new.keeper c.publish.new.self c.clear.ensures.own c.clear.ensures.ledger c.publish.ensures c.share.new.keeper c.share.ensures.own c.share.ensures.keeps c.release_if.new.keeper c.release_if.ensures.own c.release_if.ensures.keeps c.share.ensures.spent c.release_if.ensures.spent
+
+pub returns-clause-does : goal.returns-clause-does
+returns-clause-does c =
+    let b = c.self.inside in
+    let k0 = b.keeper in
+    let k1 = c.clear.new.keeper in
+    let k2 = c.publish.new.self in
+    let k3 = c.share.new.keeper in
+    let k4 = c.release_if.new.keeper in
+    let first = c.clear.ensures.does in
+    let third = c.share.ensures.does in
+    let fourth = c.release_if.ensures.does in
+    let two = chained k0 k1 k2 [] [] first.0 _ first.1 (one_step k1 k2 (Publish c.args.place c.known_frame-frame.result) 0 [] tt refl c.publish.ensures) in
+    let three = chained k0 k2 k3 [] [] _ third.0 two third.1 in
+    subst (λ (x : Lay). Does x.keeper k4 []) c.self.view_is (_, chained k0 k3 k4 [] [] _ fourth.0 three fourth.1)
+
+pub returns-clause-performs : goal.returns-clause-performs
+returns-clause-performs c =
+    let b = c.self.inside in
+    let p = b.pages in
+    let k0 = b.keeper in
+    let k1 = c.clear.new.keeper in
+    let k2 = c.publish.new.self in
+    let k3 = c.share.new.keeper in
+    let k4 = c.release_if.new.keeper in
+    let f : ℕ = c.known_frame-frame.result in
+    let g : Option ℕ = c.in-Some-find.lone.frame in
+    let place : ℕ = c.args.place in
+    let on : frame_on p.listed c.args.first.page ≡ f = ap frame_number (c.in-Some.ensures.at.frame_is ∙ c.known_frame-frame.ensures) in
+    let cleared : Made k0 k1 (withdrawing p.dups place) =
+    subst (λ (t : Bool). Made k0 k1 (if t then Withdraw place ∷ [] else [])) c.has_dup-taken.ensures c.clear.ensures.made in
+    let whole : Made k0 k4 (withdrawing p.dups place ++ (Publish place f ∷ Add f ∷ leaving g)) =
+    made_then k0 k1 k4 (withdrawing p.dups place) (Publish place f ∷ Add f ∷ leaving g) cleared
+    (made_then k1 k2 k4 (Publish place f ∷ []) (Add f ∷ leaving g) (made_one k1 k2 (Publish place f) 0 c.publish.ensures)
+    (made_then k2 k3 k4 (Add f ∷ []) (leaving g) c.share.ensures.made c.release_if.ensures.made)) in
+    subst (λ (x : Lay). Performs (mapped_lay x) (mapped_lay (lay_of c.pair.new.self k4))
+    (founding x.dups (mapped_lay x).listed place c.args.first c.args.second)) c.self.view_is
+    (record {
+      made = subst (λ (z : ℕ × Option ℕ). Made k0 k4 (withdrawing p.dups place ++ (Publish place z.0 ∷ Add z.0 ∷ leaving z.1)))
+          (λ t. (sym on t, sym c.in-Some-find.ensures.at.frame_is t)) whole;
+      frames = both_frames p.listed c.pair.new.self.listed c.in-Some.held.row (item_of_next p c.args.first)
+          (item_of_next p c.args.second) c.in-Some.held.frame c.in-Some.ensures.at c.in_ok-pair.ensures.rows;
+    })

@@ -1,0 +1,152 @@
+-- What is found, counted and changed in the entries of the rows' map, said of the rows.
+use Rattle.std.proofs.Common.{◌≡◌, ℕ, Bool, true, false, cond, List, [], ◌∷◌, length, map, Option, Some, None, suc, refl, sym, ap, ◌∙◌, subst}
+use Rattle.std.specs.Prelude.{filter, find, count_by, option_map, ◌&&◌, ◌||◌}
+use Rattle.std.specs.List.{list_any}
+use Rattle.std.proofs.lemmas.List.Sums.{length-filter}
+use Rattle.std.specs.Map.{keys_of, values_of}
+use Rattle.std.specs.Map.Iter.{deref_pair}
+use Rattle.std.specs.Map.Calls.{RetainsPairs}
+use Rattle.std.specs.BTreeMap.Range.{range_contains, entries_between}
+use Rattle.std.specs.declared.ops.Bound.TheVariants.{Unbounded}
+use Rattle.std.specs.Ordering.{is_lt}
+use denote.Ref.{Bor}
+use Rattle.ksm_base.specs.declared.page.GuestPage.{GuestPage}
+use Rattle.ksm_base.specs.declared.row.Row.{Row}
+use Rattle.ksm_base.specs.Visit.{after_cursor}
+use Rattle.ksm_pages.specs.declared.entry.Entry.{Entry}
+use Rattle.ksm_pages.specs.Listed.{Listed}
+use Rattle.ksm_pages.specs.RowEntries.{row_of, frame_of, entry_of, listed, start_after, page_order}
+use Rattle.ksm_pages.proofs.RowLists.{Entries, rows_of, less_is}
+
+-- ---------------------------------------------------------------- tests
+
+-- a test of an entry that answers as one of its row does
+module _ (test : Row → Bool) (asked : Entry → Bool) (alike : (e : GuestPage × Entry) → asked e.1 ≡ test (row_of e)) where
+  any_value : (es : Entries) → list_any asked (values_of es) ≡ list_any test (rows_of es)
+  any_value [] = refl
+  any_value (e ∷ es) = λ t. alike e t || any_value es t
+
+  pub any_row : (es : Entries) (l : Listed) → listed es ≡ l → list_any asked (values_of es) ≡ list_any test l.rows
+  any_row es l is = any_value es ∙ ap (λ (v : Listed). list_any test v.rows) is
+
+  values_passing : (es : Entries) → length (filter asked (values_of es)) ≡ length (filter test (rows_of es))
+  values_passing [] = refl
+  values_passing (e ∷ es) = ap (λ (b : Bool). length (cond b (e.1 ∷ filter asked (values_of es)) (filter asked (values_of es)))) (alike e) ∙ by (test (row_of e)) (values_passing es)
+    where
+      by : (b : Bool) → length (filter asked (values_of es)) ≡ length (filter test (rows_of es)) → length (cond b (e.1 ∷ filter asked (values_of es)) (filter asked (values_of es))) ≡ length (cond b (row_of e ∷ filter test (rows_of es)) (filter test (rows_of es)))
+      by true rest = ap suc rest
+      by false rest = rest
+
+  pub rows_passing : (es : Entries) (l : Listed) → listed es ≡ l → length (filter asked (values_of es)) ≡ count_by test l.rows
+  rows_passing es l is = values_passing es ∙ length-filter test (rows_of es) ∙ ap (λ (v : Listed). count_by test v.rows) is
+
+-- a test of a page that answers as one of its row does
+module _ (test : Row → Bool) (asked : GuestPage → Bool) (alike : (e : GuestPage × Entry) → asked e.0 ≡ test (row_of e)) where
+  any_key : (es : Entries) → list_any asked (keys_of es) ≡ list_any test (rows_of es)
+  any_key [] = refl
+  any_key (e ∷ es) = λ t. alike e t || any_key es t
+
+  pub any_page : (es : Entries) (l : Listed) → listed es ≡ l → list_any asked (keys_of es) ≡ list_any test l.rows
+  any_page es l is = any_key es ∙ ap (λ (v : Listed). list_any test v.rows) is
+
+-- ---------------------------------------------------------------- searches
+
+-- the first entry whose row passes stands for the first row that does
+pub find_row : (test : Row → Bool) (es : Entries) → option_map row_of (find (λ e. test (row_of e)) es) ≡ find test (rows_of es)
+find_row test [] = refl
+find_row test (e ∷ es) = by (test (row_of e)) (find_row test es)
+  where
+    by : (b : Bool) → option_map row_of (find (λ x. test (row_of x)) es) ≡ find test (rows_of es) → option_map row_of (cond b (Some e) (find (λ x. test (row_of x)) es)) ≡ cond b (Some (row_of e)) (find test (rows_of es))
+    by true rest = refl
+    by false rest = rest
+
+-- the row of what a search lends
+abbrev pub row_lent : Bor GuestPage × Bor Entry → Row
+row_lent e = row_of (deref_pair e)
+
+lent_twice : (o : Option (Bor GuestPage × Bor Entry)) → option_map row_lent o ≡ option_map row_of (option_map deref_pair o)
+lent_twice None = refl
+lent_twice (Some e) = refl
+
+pub row_found : (test : Row → Bool) (es : Entries) (l : Listed) (o : Option (Bor GuestPage × Bor Entry)) → listed es ≡ l → option_map deref_pair o ≡ find (λ e. test (row_of e)) es → option_map row_lent o ≡ find test l.rows
+row_found test es l o is found = lent_twice o ∙ ap (option_map row_of) found ∙ find_row test es ∙ ap (λ (v : Listed). find test v.rows) is
+
+-- a search in a part of a list
+find_filter : {X : Type 0} (p q : X → Bool) (xs : List X) → find p (filter q xs) ≡ find (λ x. p x && q x) xs
+find_filter p q [] = refl
+find_filter {X} p q (x ∷ xs) = by (q x) (find_filter p q xs)
+  where
+    rest : Option X
+    rest = find (λ y. p y && q y) xs
+
+    kept : (a : Bool) → find p (filter q xs) ≡ rest → cond a (Some x) (find p (filter q xs)) ≡ cond (a && true) (Some x) rest
+    kept true e = refl
+    kept false e = e
+
+    dropped : (a : Bool) → find p (filter q xs) ≡ rest → find p (filter q xs) ≡ cond (a && false) (Some x) rest
+    dropped true e = e
+    dropped false e = e
+
+    by : (b : Bool) → find p (filter q xs) ≡ rest → find p (cond b (x ∷ filter q xs) (filter q xs)) ≡ cond (p x && b) (Some x) rest
+    by true e = kept (p x) e
+    by false e = dropped (p x) e
+
+and_true : (b : Bool) → (b && true) ≡ b
+and_true true = refl
+and_true false = refl
+
+-- a page lies in the range after a cursor where it comes after it
+pub in_range : (cursor : Option GuestPage) (page : GuestPage) → range_contains page_order (start_after cursor) Unbounded page ≡ after_cursor cursor page
+in_range None page = refl
+in_range (Some last) page = and_true (is_lt (page_order last page)) ∙ less_is last page
+
+find_alike : {X : Type 0} (p q : X → Bool) (xs : List X) → ((x : X) → p x ≡ q x) → find p xs ≡ find q xs
+find_alike p q [] alike = refl
+find_alike p q (x ∷ xs) alike = λ t. cond (alike x t) (Some x) (find_alike p q xs alike t)
+
+pub find_after : (test : Row → Bool) (cursor : Option GuestPage) (es : Entries) → find (λ e. test (row_of e)) (entries_between page_order (start_after cursor) Unbounded es) ≡ find (λ e. test (row_of e) && after_cursor cursor (row_of e).page) es
+find_after test cursor es =
+    find_filter (λ e. test (row_of e)) (λ e. range_contains page_order (start_after cursor) Unbounded e.0) es
+    ∙ find_alike _ _ es (λ e. ap (λ b. test (row_of e) && b) (in_range cursor e.0))
+
+-- ---------------------------------------------------------------- changes
+
+-- a closure that always keeps the entry, and writes g of it
+pub map_pairs : {F K X : Type 0} (T : F → K → X → Bool → X → F → Type 0) (g : K → X → X) (f : F) → ((k : K) (v : X) (b : Bool) (w : X) (f' : F) → T f k v b w f' → (b ≡ true) × (w ≡ g k v) × (f' ≡ f)) → (es kept : List (K × X)) → RetainsPairs T f es kept → kept ≡ map (λ e. (e.0, g e.0 e.1)) es
+map_pairs T g f h [] kept r = r
+map_pairs T g f h (e ∷ es) kept r =
+    let a = h e.0 e.1 r.0 r.1 r.2 r.4 in
+    let rest = map_pairs T g f h es r.3 (subst (λ u. RetainsPairs T u es r.3) a.2 r.5) in
+    r.6 ∙ ap (λ b. cond b ((e.0, r.1) ∷ r.3) r.3) a.0 ∙ (λ i. (e.0, a.1 i) ∷ rest i)
+
+-- a row with its change, put back under its page
+abbrev pub changed : (Row → Row) → GuestPage → Entry → Entry
+changed change page e = entry_of (change (row_of (page, e))) e.frame
+
+module _ (change : Row → Row) (keeps : (r : Row) → (change r).page ≡ r.page) where
+  rows_changed : (es : Entries) → rows_of (map (λ e. (e.0, changed change e.0 e.1)) es) ≡ map change (rows_of es)
+  rows_changed [] = refl
+  rows_changed (e ∷ es) = λ t. row_of (sym (keeps (row_of e)) t, changed change e.0 e.1) ∷ rows_changed es t
+
+  frames_kept : (es : Entries) → map frame_of (map (λ e. (e.0, changed change e.0 e.1)) es) ≡ map frame_of es
+  frames_kept [] = refl
+  frames_kept (e ∷ es) = ap (λ l. frame_of e ∷ l) (frames_kept es)
+
+  pub all_changed : (es fs : Entries) (l : Listed) → listed es ≡ l → fs ≡ map (λ e. (e.0, changed change e.0 e.1)) es → listed fs ≡ record { rows = map change l.rows; frames = l.frames }
+  all_changed es fs l is made = ap listed made ∙ (λ t. record { rows = rows_changed es t; frames = frames_kept es t }) ∙ ap (λ (v : Listed). record { rows = map change v.rows; frames = v.frames }) is
+
+-- an entry with its frame changed
+abbrev pub moved : (Option ℕ → Option ℕ) → GuestPage → Entry → Entry
+moved change page e = record e { frame = change e.frame }
+
+module _ (change : Option ℕ → Option ℕ) where
+  rows_kept : (es : Entries) → rows_of (map (λ e. (e.0, moved change e.0 e.1)) es) ≡ rows_of es
+  rows_kept [] = refl
+  rows_kept (e ∷ es) = ap (λ l. row_of e ∷ l) (rows_kept es)
+
+  frames_moved : (es : Entries) → map frame_of (map (λ e. (e.0, moved change e.0 e.1)) es) ≡ map change (map frame_of es)
+  frames_moved [] = refl
+  frames_moved (e ∷ es) = ap (λ l. change (frame_of e) ∷ l) (frames_moved es)
+
+  pub all_moved : (es fs : Entries) (l : Listed) → listed es ≡ l → fs ≡ map (λ e. (e.0, moved change e.0 e.1)) es → listed fs ≡ record { rows = l.rows; frames = map change l.frames }
+  all_moved es fs l is made = ap listed made ∙ (λ t. record { rows = rows_kept es t; frames = frames_moved es t }) ∙ ap (λ (v : Listed). record { rows = v.rows; frames = map change v.frames }) is

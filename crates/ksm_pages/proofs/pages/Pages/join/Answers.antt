@@ -1,0 +1,46 @@
+use Rattle.std.proofs.Common.{◌∙◌, refl, ap, sym, subst}
+use Rattle.ksm_base.specs.declared.row.PageState.TheVariants.{Merged}
+use Rattle.ksm_base.specs.Rows.{change_row, row_at}
+use Rattle.ksm_rmap.specs.Items.{with_item}
+use Rattle.ksm_tree.proofs.Changes.{rows_items}
+use Rattle.ksm_tree.proofs.Ties.{tied_absent}
+use Rattle.ksm_tree.proofs.Waiters.{row_stopped}
+use Rattle.ksm_tree.specs.Dups.{rows_of}
+use Rattle.ksm_pages.specs.Linked.{AreKept, AreLinked, HasRoom}
+use Rattle.ksm_pages.proofs.Linking.{own_not_merged, linked_joined, known_room, fewer_room, only_rows}
+use Rattle.ksm_pages.proofs.pages.Pages.join.Goals as goal
+
+pub join-requires-clause-known : goal.join-requires-clause-known
+join-requires-clause-known c =
+    known_room c.self.inside.rows.rows c.self.inside.dups.dups c.args.number c.self.invariant.linked.tied
+    (subst (λ v. HasRoom v.listed.rows v.dups c.args.number) (sym c.self.view_is) c.requires.room)
+
+pub join-requires-clause-fewer : goal.join-requires-clause-fewer
+join-requires-clause-fewer c =
+    fewer_room c.self.inside.rows.rows c.self.inside.dups.dups c.args.number c.self.invariant.linked.tied
+    (subst (λ v. HasRoom v.listed.rows v.dups c.args.number) (sym c.self.view_is) c.requires.room)
+
+pub join-requires-clause-absent : goal.join-requires-clause-absent
+join-requires-clause-absent c =
+    tied_absent c.self.inside.rows.rows c.args.row.page c.args.row c.self.invariant.linked.order
+    (ap (λ v. row_at c.args.row.page v.listed.rows) c.self.view_is ∙ c.requires.row_is) c.args.number c.self.inside.dups.dups (own_not_merged c.args.row.state c.requires.alone) c.self.invariant.linked.tied
+
+pub invariant_of-self-2 : goal.invariant_of-self-2
+invariant_of-self-2 c =
+    let old = c.self.inside in
+    let row = c.args.row in
+    let item = record row { state = Merged c.args.number } in
+    let found = ap (λ v. row_at row.page v.listed.rows) c.self.view_is ∙ c.requires.row_is in
+    subst (λ rows. AreKept old.shape old.knobs rows c.join.new.self c.stop_waiting.new.waiting) (sym c.replace.ensures.changed)
+    (record {
+      linked = subst (AreLinked old.shape (change_row row.page (λ _. item) old.rows.rows)) (sym c.in_ok-join.ensures.joined)
+          (linked_joined old.shape old.rows.rows old.dups c.self.invariant.linked row item c.args.number found (own_not_merged row.state c.requires.alone) refl);
+      waits = row_stopped old.knobs old.rows.rows old.waiting c.self.invariant.waits c.stop_waiting.new.waiting item row found refl c.stop_waiting.ensures;
+    })
+
+pub returns-clause-rest : goal.returns-clause-rest
+returns-clause-rest c =
+    let old = c.self.inside in
+    only_rows old.shape old.dups c.join.new.self old.knobs c.replace.new.self old.rows c.args.self.now
+    (ap (λ d. rows_of d.dups) c.in_ok-join.ensures.joined ∙ rows_items c.args.number (with_item c.args.row.page) old.dups.dups)
+    (ap (λ d. d.next) c.in_ok-join.ensures.joined) c.self.view_is

@@ -1,0 +1,62 @@
+use Rattle.std.proofs.Common.{◌≡◌, ◌∙◌, ℕ, ◌+◌, true, List, [], ◌∷◌, ap, sym, subst, refl}
+use Rattle.std.specs.Prelude.{is_some}
+use Rattle.ksm_base.specs.declared.row.DupRow.{DupRow}
+use Rattle.ksm_base.specs.declared.row.Row.{Row}
+use Rattle.ksm_base.specs.declared.row.PageState.TheVariants.{Merged}
+use Rattle.ksm_base.specs.Rows.{change_row, row_at, with_dup, merged_into}
+use Rattle.std.specs.Prelude.{All}
+use Rattle.std.proofs.Common.{false}
+use Rattle.ksm_rmap.specs.Items.{with_item}
+use Rattle.ksm_tree.proofs.Changes.{rows_new}
+use Rattle.ksm_tree.specs.Dups.{DupsState, rows_of}
+use Rattle.ksm_pages.specs.Linked.{AreKept, AreLinked, IsVacant, PagesView, next_dup}
+use Rattle.ksm_pages.proofs.Linking.{known_still, linked_made, none_live, own_not_merged}
+use Rattle.ksm_pages.proofs.Partners.{both_stopped}
+use Rattle.ksm_pages.proofs.pages.Pages.pair.Goals as goal
+
+pub new_dup-requires-clause-free : goal.new_dup-requires-clause-free
+new_dup-requires-clause-free c =
+    none_live c.args.place c.self.inside.rows.rows c.self.inside.dups.dups c.self.invariant.linked.tied
+    (subst (λ v. IsVacant c.args.place v.listed.rows v.dups) (sym c.self.view_is) c.requires.vacant)
+
+pub replace-requires-2 : goal.replace-requires-2
+replace-requires-2 c =
+    subst (λ rows. is_some (row_at c.args.second.page rows) ≡ true) (sym c.replace.ensures.changed)
+    (known_still c.args.second.page (record c.args.first { state = Merged c.in_ok-number.number }) c.self.inside.rows.rows
+    (ap (λ v. is_some (row_at c.args.second.page v.listed.rows)) c.self.view_is ∙ ap is_some c.requires.second_is))
+
+pub invariant_of-self-2 : goal.invariant_of-self-2
+invariant_of-self-2 c =
+    let old = c.self.inside in
+    let first = c.args.first in
+    let second = c.args.second in
+    let item_of : Row → Row = λ r. record r { state = Merged old.dups.next } in
+    let row : DupRow = record { number = old.dups.next; place = c.args.place; tree = c.tree_of-tree.result; bytes = first.bytes } in
+    let rows =
+    c.replace-2.ensures.changed
+    ∙ ap (change_row second.page (λ _. record second { state = Merged c.in_ok-number.number })) c.replace.ensures.changed
+    ∙ ap (λ n. change_row second.page (λ _. record second { state = Merged n }) (change_row first.page (λ _. record first { state = Merged n }) old.rows.rows)) c.in_ok-number.ensures.number in
+    let found = ap (λ v. row_at first.page v.listed.rows) c.self.view_is ∙ c.requires.first_is in
+    let also = ap (λ v. row_at second.page v.listed.rows) c.self.view_is ∙ c.requires.second_is in
+    subst (λ rs. AreKept old.shape old.knobs rs c.new_dup.new.self c.stop_waiting-2.new.waiting) (sym rows)
+    (record {
+      linked = subst (AreLinked old.shape (change_row second.page (λ _. item_of second) (change_row first.page (λ _. item_of first) old.rows.rows))) (sym c.in_ok-number.ensures.made)
+          (linked_made old.shape old.rows.rows old.dups c.self.invariant.linked first second row c.in_ok-number.ensures.lawful found also (own_not_merged first.state c.requires.first_alone) (own_not_merged second.state c.requires.second_alone)
+          (subst (λ v. All (λ r. merged_into v.next r.state ≡ false) v.listed.rows) (sym c.self.view_is) c.requires.fresh) refl);
+      waits = both_stopped old.knobs old.rows.rows old.waiting c.stop_waiting.new.waiting c.stop_waiting-2.new.waiting (item_of first) (item_of second) first second c.self.invariant.waits
+          found also c.requires.apart refl refl c.stop_waiting.ensures c.stop_waiting-2.ensures;
+    })
+
+pub returns-clause-made : goal.returns-clause-made
+returns-clause-made c =
+    let old = c.self.inside in
+    let listed = c.replace-2.new.self in
+    let first = c.args.first in
+    let dup : DupRow = record { number = old.dups.next; place = c.args.place; tree = c.tree_of-tree.result; bytes = first.bytes } in
+    let seen : DupsState → PagesView = λ d. record { shape = old.shape; listed = listed; dups = rows_of d.dups; knobs = old.knobs; next = d.next } in
+    let with_rows : List DupRow → PagesView = λ ds. record { shape = old.shape; listed = listed; dups = ds; knobs = old.knobs; next = old.dups.next + 1 } in
+    let of_tree : ℕ → PagesView = λ tree. with_rows (with_dup (record dup { tree = tree }) (rows_of old.dups.dups)) in
+    ap seen c.in_ok-number.ensures.made
+    ∙ ap with_rows (rows_new (record { row = dup; items = with_item c.args.second.page (first.page ∷ []) }) old.dups.dups)
+    ∙ ap of_tree c.tree_of-tree.ensures
+    ∙ ap (λ (v : PagesView). record v { listed = listed; dups = with_dup (next_dup v c.args.place first) v.dups; next = v.next + 1 }) c.self.view_is

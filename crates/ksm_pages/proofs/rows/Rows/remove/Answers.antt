@@ -1,0 +1,49 @@
+use Rattle.std.proofs.Common.{◌≡◌, ◌∙◌, sym, ap, Some, false, arith}
+use Rattle.std.specs.Prelude.{is_some}
+use Rattle.std.specs.Map.{lookup}
+use Rattle.ksm_base.specs.Rows.{row_at}
+use Rattle.ksm_pages.specs.Listed.{Listed}
+use Rattle.ksm_pages.specs.RowEntries.{listed}
+use Rattle.ksm_pages.proofs.RowLists.{Went, asks, known_by, went}
+use Rattle.ksm_pages.proofs.Tallies.{page_counted, page_gone}
+use Rattle.ksm_pages.proofs.rows.Rows.remove.Goals as goal
+use Rattle.ksm_pages.proofs.rows.Rows.remove.Goals.{In_default}
+
+-- the page has a row, so it has an entry
+never : (c : In_default) → ⊥
+never c =
+    let none : is_some (row_at c.args.page c.args.self.now.rows) ≡ false = ap (λ (l : Listed). is_some (row_at c.args.page l.rows)) (sym c.self.view_is) ∙ known_by c.args.page c.self.inside.entries.entries
+    ∙ ap is_some (sym c.remove.ensures.value ∙ c.in_default.is) in
+    grind (arith, none, c.requires)
+
+pub returns-in_default-clause-rows : goal.returns-in_default-clause-rows
+returns-in_default-clause-rows c = absurd (never c)
+
+pub returns-in_default-clause-frames : goal.returns-in_default-clause-frames
+returns-in_default-clause-frames c = absurd (never c)
+
+pub returns-in_default-clause-gone : goal.returns-in_default-clause-gone
+returns-in_default-clause-gone c = absurd (never c)
+
+went_out : (c : goal.After-self-1) → Went c.args.self.now (listed c.remove.new.self.entries) c.args.page
+went_out c = went c.self.inside.entries.entries c.remove.new.self.entries c.args.self.now c.args.page c.self.view_is c.len.ensures.ordered c.requires c.remove.ensures.entries
+
+pub without-self-inside-requires : goal.without-self-inside-requires
+without-self-inside-requires c =
+    let found : lookup (asks c.args.page) c.self.inside.entries.entries ≡ Some c.in-Some.entry = sym c.remove.ensures.value ∙ c.in-Some.is in
+    page_counted c.self.inside.entries.entries c.args.self.now c.args.page c.in-Some.entry c.row.result c.self.inside.tally c.self.view_is c.len.ensures.ordered found c.row.ensures c.self.invariant
+
+pub invariant_of-self-2 : goal.invariant_of-self-2
+invariant_of-self-2 c =
+    let found : lookup (asks c.args.page) c.self.inside.entries.entries ≡ Some c.in-Some.entry = sym c.remove.ensures.value ∙ c.in-Some.is in
+    page_gone c.self.inside.entries.entries c.args.self.now c.args.page c.in-Some.entry c.row.result c.self.inside.tally c.self.view_is c.len.ensures.ordered found c.row.ensures c.self.invariant
+    c.without-self-inside.result _ (went_out c).rows c.without-self-inside.ensures
+
+pub returns-clause-rows : goal.returns-clause-rows
+returns-clause-rows c = (went_out c).rows
+
+pub returns-clause-frames : goal.returns-clause-frames
+returns-clause-frames c = (went_out c).frames
+
+pub returns-clause-gone : goal.returns-clause-gone
+returns-clause-gone c = (went_out c).gone

@@ -1,0 +1,11 @@
+//! The pages of the book: which rows there are, on which frame each lies, which dups have them as items, and which of them wait.
+#![tactic(auto)]
+
+mod entry;
+mod pages;
+pub mod row;
+mod rows;
+mod tally;
+
+pub use pages::Pages;
+pub use rows::{Held, Rows};

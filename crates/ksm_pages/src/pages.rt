@@ -1,0 +1,437 @@
+//! The pages: the rows with their frames, the dups into which rows are merged, and the pages that wait, each told of the others' changes.
+
+ghost use Rattle.std.specs.Prelude.{◌≡◌, ◌<◌, ◌⊎◌, ◌+◌, ◌≤◌, [], true, false, None, Some, Err, All, count_by, filter, find, length, map, insert, remove, slice_set, is_some, ◌==◌, ◌&&◌, option_map, IfOk, IfErr, IfSome, OnOk, OnErr, MatchOption};
+ghost use Rattle.std.specs.List.{list_any};
+ghost use Rattle.ksm_base.specs.declared.fault.Fault.TheVariants.{Memory};
+ghost use Rattle.ksm_base.specs.declared.row.PageState.TheVariants.{Private, Merged, Zero};
+ghost use Rattle.ksm_base.specs.Apply.{is_before, let_go as as_let_go, unshared as as_unshared};
+ghost use Rattle.ksm_base.specs.Counting.{in_chain, leads_group, shared_count};
+ghost use Rattle.ksm_base.specs.Refusals.{is_of};
+ghost use Rattle.ksm_base.specs.Rows.{row_at, with_row, with_dup, without_page, change_row, change_rows, shared_state, merged_into, waiting_state, settled as as_settled, has_items, is_stale, dup_numbered};
+ghost use Rattle.ksm_base.specs.State.{default_knobs, place_count};
+ghost use Rattle.ksm_base.specs.Values.{IsShape};
+ghost use Rattle.ksm_base.specs.Visit.{best_dup, partner as row_waiting, new_place as a_new_place};
+ghost use Rattle.ksm_tree.specs.Bridge.{let_out};
+ghost use Rattle.ksm_tree.specs.Waits.{IsStopped};
+ghost use Rattle.ksm_pages.specs.Linked.{HasRoom, IsVacant, MayPair, ReplacedBoth, item_of_next, next_dup, elsewhere};
+ghost use Rattle.ksm_pages.specs.Listed.{rank, StandsAt, instead};
+
+use crate::row::{is_waiting, same_page, tree_of};
+use crate::rows::{Held, Rows};
+use ksm_base::{DupRow, Fault, GuestPage, Knobs, PageState, Row, Shape};
+use ksm_tree::{Choice, Dups, Waiting};
+use std::alloc::Global;
+use std::marker::Model;
+
+/// The rows with their frames, the dups with their items, the pages that wait, and the knobs, which say what tree a row is in.
+#[derive(Drop)]
+pub struct Pages {
+    shape: Shape,
+    rows: Rows,
+    dups: Dups,
+    waiting: Waiting,
+    knobs: Knobs,
+}
+
+impl Model for Pages {
+    ghost use Rattle.ksm_pages.specs.Linked.{PagesView, AreKept};
+    ghost use Rattle.ksm_tree.specs.Dups.{rows_of};
+
+    ghost Value = { PagesView };
+
+    ghost view = { λ p. record {
+      shape = p.shape;
+      listed = p.rows;
+      dups = rows_of p.dups.dups;
+      knobs = p.knobs;
+      next = p.dups.next;
+    } };
+
+    ghost invariant = { λ p. AreKept p.shape p.knobs p.rows.rows p.dups p.waiting };
+}
+
+// A row waits no more, if it did.
+fn stop_waiting(waiting: &mut Waiting, knobs: &Knobs, row: &Row)
+    ensures { IsStopped knobs.now row.now waiting.old waiting.new }
+{
+    if is_waiting(row.state) {
+        waiting.remove(tree_of(knobs, row), &row.bytes);
+    }
+}
+
+// A page leaves the dup of which its row's state says that it is an item.
+fn leave(dups: &mut Dups, state: PageState, page: GuestPage)
+    ensures { dups.new ≡ record dups.old { dups = let_out state page dups.old.dups } }
+{
+    if let PageState::Merged(number) = state {
+        dups.leave(number, page);
+    }
+}
+
+impl Pages {
+    /// No rows and no dups, with room for a dup at each place. Refused for memory alone.
+    pub fn open(alloc: Global, shape: Shape) -> Result<Pages, Fault>
+        requires { IsShape shape }
+        ensures opened { IfOk result (λ p. p ≡ record { shape = shape; listed = record { rows = []; frames = [] }; dups = []; knobs = default_knobs; next = 0 }) }
+        ensures fault { IfErr result (λ fault. fault ≡ Memory) }
+    {
+        Ok(Pages {
+            shape,
+            rows: Rows::new(alloc),
+            dups: Dups::open(alloc, shape.frames())?,
+            waiting: Waiting::new(alloc),
+            knobs: Knobs::DEFAULT,
+        })
+    }
+
+    pub fn shape(&self) -> Shape
+        ensures { result ≡ self.now.shape }
+    {
+        self.shape
+    }
+
+    pub fn knobs(&self) -> Knobs
+        ensures { result ≡ self.now.knobs }
+    {
+        self.knobs
+    }
+
+    /// Sets the knobs; `merge_across_nodes` changes only where no row waits.
+    pub fn set_knobs(&mut self, knobs: Knobs)
+        requires { (knobs.merge_across_nodes ≡ self.old.knobs.merge_across_nodes) ⊎ All (λ r. waiting_state r.state ≡ false) self.old.listed.rows }
+        ensures { self.new ≡ record self.old { knobs = knobs } }
+    {
+        self.knobs = knobs;
+    }
+
+    /// The rows with their frames.
+    pub fn rows(&self) -> &Rows
+        ensures { result.now ≡ self.now.listed }
+    {
+        &self.rows
+    }
+
+    /// The row of a page, with its frame.
+    pub fn find(&self, page: GuestPage) -> Option<Held>
+        ensures known { is_some (row_at page self.now.listed.rows) ≡ is_some result }
+        ensures at { MatchOption result (row_at page self.now.listed.rows ≡ None) (λ held. StandsAt self.now.listed page held.row held.frame) }
+    {
+        self.rows.find(page)
+    }
+
+    /// The dup that a row joins.
+    pub fn best(&self, row: &Row) -> Option<DupRow>
+        ensures { result ≡ best_dup self.now.knobs self.now.listed.rows self.now.dups row.now }
+    {
+        let tree = tree_of(&self.knobs, row);
+        let limit = self.knobs.max_page_sharing;
+        let number = self.dups.best(tree, &row.bytes, limit)?;
+        self.dups.row(number)
+    }
+
+    /// The row that waits for another.
+    pub fn partner(&self, row: &Row) -> Option<Row>
+        ensures { result ≡ row_waiting self.now.knobs self.now.listed.rows row.now }
+    {
+        let page = self.waiting.find(tree_of(&self.knobs, row), &row.bytes)?;
+        if same_page(page, row.page) {
+            return None;
+        }
+        let held = self.rows.find(page)?;
+        Some(held.row)
+    }
+
+    /// Where a new dup goes.
+    pub fn new_place(&self) -> u32
+        requires room { a_new_place (place_count self.now.shape) self.now.listed.rows self.now.dups < place_count self.now.shape }
+        ensures { result ≡ a_new_place (place_count self.now.shape) self.now.listed.rows self.now.dups }
+    {
+        match self.dups.choose_place() {
+            Choice::Empty(place) => place,
+            Choice::Stale(place) => place,
+        }
+    }
+
+    /// The least place of a stale dup.
+    pub fn stale_place(&self) -> Option<u32>
+        ensures place { result ≡ option_map (λ d. d.place) (find (is_stale self.now.listed.rows) self.now.dups) }
+        ensures vacant { IfSome result (λ place. IsVacant place self.now.listed.rows self.now.dups) }
+    {
+        self.dups.stale()
+    }
+
+    /// Whether a dup stands at the place.
+    pub fn has_dup(&self, place: u32) -> bool
+        ensures { result ≡ list_any (λ d. d.place == place) self.now.dups }
+    {
+        self.dups.at(place).is_some()
+    }
+
+    /// The dup with items at a place.
+    pub fn live_at(&self, place: u32) -> Option<DupRow>
+        ensures { result ≡ find (λ d. d.place == place && has_items self.now.listed.rows d) self.now.dups }
+    {
+        self.dups.live_at(place)
+    }
+
+    /// The dup with a number.
+    pub fn numbered(&self, number: u64) -> Option<DupRow>
+        ensures { result ≡ dup_numbered number self.now.dups }
+    {
+        self.dups.row(number)
+    }
+
+    /// The first item of the dup with this number.
+    pub fn item(&self, number: u64) -> Option<Row>
+        requires { is_some (dup_numbered number self.now.dups) ≡ true }
+        ensures { result ≡ find (λ r. merged_into number r.state) self.now.listed.rows }
+    {
+        if self.dups.items(number) == 0 {
+            return None;
+        }
+        let held = self.rows.find(self.dups.item(number, 0))?;
+        Some(held.row)
+    }
+
+    /// The pages merged into a dup, ascending. Refused for memory alone.
+    pub fn items(&self, alloc: Global, number: u64) -> Result<Vec<GuestPage>, Fault>
+        requires { is_some (dup_numbered number self.now.dups) ≡ true }
+        ensures items { IfOk result (λ pages. pages.items ≡ map (λ r. r.page) (filter (λ r. merged_into number r.state) self.now.listed.rows)) }
+        ensures fault { IfErr result (λ fault. fault ≡ Memory) }
+    {
+        let mut pages = Vec::new(alloc);
+        for i in 0..self.dups.items(number) {
+            pages.push(self.dups.item(number, i))?;
+        }
+        Ok(pages)
+    }
+
+    /// How many dups have an item.
+    pub fn count_shared(&self) -> usize
+        ensures { result ≡ shared_count self.now.listed.rows self.now.dups }
+    {
+        self.dups.count_shared()
+    }
+
+    /// How many dups are stale.
+    pub fn count_stale(&self) -> usize
+        ensures { result ≡ count_by (is_stale self.now.listed.rows) self.now.dups }
+    {
+        self.dups.count_stale()
+    }
+
+    /// How many dups are in a group of two or more.
+    pub fn count_dups(&self) -> usize
+        ensures { result ≡ count_by (in_chain self.now.dups) self.now.dups }
+    {
+        self.dups.count_grouped()
+    }
+
+    /// How many groups have two dups or more.
+    pub fn count_chains(&self) -> usize
+        ensures { result ≡ count_by (λ d. in_chain self.now.dups d && leads_group self.now.dups d) self.now.dups }
+    {
+        self.dups.count_chains()
+    }
+
+    /// Adds the row of a page that has none, with its frame. Refused for memory alone, it changes nothing.
+    pub fn insert(&mut self, row: Row, frame: Option<u32>) -> Result<(), Fault>
+        requires absent { row_at row.page self.old.listed.rows ≡ None }
+        requires alone { row.state ≡ Private }
+        ensures rows { OnOk result (self.new.listed.rows ≡ insert self.old.listed.rows (rank row.page self.old.listed.rows) row) }
+        ensures frames { OnOk result (self.new.listed.frames ≡ insert self.old.listed.frames (rank row.page self.old.listed.rows) frame) }
+        ensures added { OnOk result (self.new.listed.rows ≡ with_row row self.old.listed.rows) }
+        ensures place { OnOk result (rank row.page self.new.listed.rows ≡ rank row.page self.old.listed.rows) }
+        ensures within { rank row.page self.old.listed.rows ≤ length self.old.listed.rows }
+        ensures known { OnOk result (is_some (row_at row.page self.new.listed.rows) ≡ true) }
+        ensures paired { length self.old.listed.frames ≡ length self.old.listed.rows }
+        ensures rest { self.new ≡ record self.old { listed = self.new.listed } }
+        ensures refused { OnErr result (self.new ≡ self.old) }
+        ensures fault { OnErr result (result ≡ Err Memory) }
+    {
+        self.rows.insert(row, frame)
+    }
+
+    /// Puts a row of its own and its frame in the stead of those of its page, which leaves its dup.
+    pub fn replace(&mut self, row: Row, frame: Option<u32>)
+        requires known { is_some (row_at row.page self.old.listed.rows) ≡ true }
+        requires alone { row.state ≡ Private }
+        ensures rows { self.new.listed.rows ≡ slice_set self.old.listed.rows (rank row.page self.old.listed.rows) row }
+        ensures frames { self.new.listed.frames ≡ slice_set self.old.listed.frames (rank row.page self.old.listed.rows) frame }
+        ensures changed { self.new.listed.rows ≡ change_row row.page (λ _. row) self.old.listed.rows }
+        ensures rest { self.new ≡ record self.old { listed = self.new.listed } }
+    {
+        let Some(held) = self.rows.find(row.page) else {
+            return;
+        };
+        stop_waiting(&mut self.waiting, &self.knobs, &held.row);
+        leave(&mut self.dups, held.row.state, row.page);
+        self.rows.replace(row, frame);
+    }
+
+    /// Takes the row of a page away, which has one, and leaves its dup.
+    pub fn remove(&mut self, page: GuestPage)
+        requires { is_some (row_at page self.old.listed.rows) ≡ true }
+        ensures rows { self.new.listed.rows ≡ remove self.old.listed.rows (rank page self.old.listed.rows) }
+        ensures frames { self.new.listed.frames ≡ remove self.old.listed.frames (rank page self.old.listed.rows) }
+        ensures gone { self.new.listed.rows ≡ without_page page self.old.listed.rows }
+        ensures rest { self.new ≡ record self.old { listed = self.new.listed } }
+    {
+        let Some(held) = self.rows.find(page) else {
+            return;
+        };
+        stop_waiting(&mut self.waiting, &self.knobs, &held.row);
+        leave(&mut self.dups, held.row.state, page);
+        self.rows.remove(page);
+    }
+
+    /// A row with a frame of its own waits from now on, on it. Refused for memory alone, it changes nothing.
+    pub fn wait(&mut self, row: Row, frame: Option<u32>) -> Result<(), Fault>
+        requires row_is { row_at row.page self.old.listed.rows ≡ Some row }
+        requires alone { shared_state row.state ≡ false }
+        requires first { row_waiting self.old.knobs self.old.listed.rows row ≡ None }
+        ensures rows { OnOk result (self.new.listed.rows ≡ slice_set self.old.listed.rows (rank row.page self.old.listed.rows) (record row { state = PageState.Waiting })) }
+        ensures frames { OnOk result (self.new.listed.frames ≡ slice_set self.old.listed.frames (rank row.page self.old.listed.rows) frame) }
+        ensures changed { OnOk result (self.new.listed.rows ≡ change_row row.page (λ _. record row { state = PageState.Waiting }) self.old.listed.rows) }
+        ensures rest { self.new ≡ record self.old { listed = self.new.listed } }
+        ensures refused { OnErr result (self.new ≡ self.old) }
+        ensures fault { OnErr result (result ≡ Err Memory) }
+    {
+        if !is_waiting(row.state) {
+            let tree = tree_of(&self.knobs, &row);
+            self.waiting.add(tree, &row.bytes, row.page)?;
+        }
+        let waiting = Row {
+            state: PageState::Waiting,
+            ..row
+        };
+        self.rows.replace(waiting, frame);
+        Ok(())
+    }
+
+    /// A row becomes Zero, and has no frame any more.
+    pub fn become_zero(&mut self, row: Row)
+        requires row_is { row_at row.page self.old.listed.rows ≡ Some row }
+        requires alone { shared_state row.state ≡ false }
+        ensures rows { self.new.listed.rows ≡ slice_set self.old.listed.rows (rank row.page self.old.listed.rows) (record row { state = Zero }) }
+        ensures frames { self.new.listed.frames ≡ slice_set self.old.listed.frames (rank row.page self.old.listed.rows) None }
+        ensures changed { self.new.listed.rows ≡ change_row row.page (λ _. record row { state = Zero }) self.old.listed.rows }
+        ensures rest { self.new ≡ record self.old { listed = self.new.listed } }
+    {
+        stop_waiting(&mut self.waiting, &self.knobs, &row);
+        let zero = Row {
+            state: PageState::Zero,
+            ..row
+        };
+        self.rows.replace(zero, None);
+    }
+
+    /// A row with a frame of its own becomes an item of a dup, on the dup's frame. Refused for memory alone, it changes nothing.
+    pub fn join(&mut self, row: Row, number: u64, frame: Option<u32>) -> Result<(), Fault>
+        requires row_is { row_at row.page self.old.listed.rows ≡ Some row }
+        requires alone { shared_state row.state ≡ false }
+        requires room { HasRoom self.old.listed.rows self.old.dups number }
+        ensures rows { OnOk result (self.new.listed.rows ≡ slice_set self.old.listed.rows (rank row.page self.old.listed.rows) (record row { state = Merged number })) }
+        ensures frames { OnOk result (self.new.listed.frames ≡ slice_set self.old.listed.frames (rank row.page self.old.listed.rows) frame) }
+        ensures changed { OnOk result (self.new.listed.rows ≡ change_row row.page (λ _. record row { state = Merged number }) self.old.listed.rows) }
+        ensures rest { self.new ≡ record self.old { listed = self.new.listed } }
+        ensures refused { OnErr result (self.new ≡ self.old) }
+        ensures fault { OnErr result (result ≡ Err Memory) }
+    {
+        self.dups.join(number, row.page)?;
+        stop_waiting(&mut self.waiting, &self.knobs, &row);
+        let item = Row {
+            state: PageState::Merged(number),
+            ..row
+        };
+        self.rows.replace(item, frame);
+        Ok(())
+    }
+
+    /// Two rows with frames of their own become the items of a new dup at a place, on one frame. A stale dup at the place goes. Refused for memory alone, it changes nothing.
+    pub fn pair(
+        &mut self,
+        place: u32,
+        first: Row,
+        second: Row,
+        frame: Option<u32>,
+    ) -> Result<(), Fault>
+        requires { MayPair self.old place first second }
+        ensures rows { OnOk result (ReplacedBoth self.old.listed self.new.listed (item_of_next self.old first) (item_of_next self.old second) frame) }
+        ensures changed { OnOk result (self.new.listed.rows ≡ change_row second.page (λ _. item_of_next self.old second) (change_row first.page (λ _. item_of_next self.old first) self.old.listed.rows)) }
+        ensures made { OnOk result (self.new ≡ record self.old { listed = self.new.listed; dups = with_dup (next_dup self.old place first) self.old.dups; next = self.old.next + 1 }) }
+        ensures refused { OnErr result (self.new ≡ self.old) }
+        ensures fault { OnErr result (result ≡ Err Memory) }
+    {
+        let tree = tree_of(&self.knobs, &first);
+        let number = self
+            .dups
+            .new_dup(place, tree, &first.bytes, first.page, second.page)?;
+        stop_waiting(&mut self.waiting, &self.knobs, &first);
+        stop_waiting(&mut self.waiting, &self.knobs, &second);
+        let state = PageState::Merged(number);
+        self.rows.replace(Row { state, ..first }, frame);
+        self.rows.replace(Row { state, ..second }, frame);
+        Ok(())
+    }
+
+    /// The stale dup at a place goes, if there is one.
+    pub fn drop_stale(&mut self, place: u32)
+        requires { IsVacant place self.old.listed.rows self.old.dups }
+        ensures { self.new ≡ record self.old { dups = filter (elsewhere place) self.old.dups } }
+    {
+        if self.dups.at(place).is_some() {
+            self.dups.drop_stale(place);
+        }
+    }
+
+    /// No row waits any more: those that did are Private.
+    pub fn settle_all(&mut self)
+        ensures rows { self.new.listed.rows ≡ map as_settled self.old.listed.rows }
+        ensures frames { self.new.listed.frames ≡ self.old.listed.frames }
+        ensures rest { self.new ≡ record self.old { listed = self.new.listed } }
+    {
+        self.rows.settle_all();
+        self.waiting.clear();
+    }
+
+    /// All rows of a guest become mergeable.
+    pub fn make_mergeable(&mut self, guest: u16)
+        ensures rows { self.new.listed.rows ≡ change_rows (is_of guest) (λ r. record r { mergeable = true }) self.old.listed.rows }
+        ensures frames { self.new.listed.frames ≡ self.old.listed.frames }
+        ensures rest { self.new ≡ record self.old { listed = self.new.listed } }
+    {
+        self.rows.make_mergeable(guest);
+    }
+
+    /// Every row becomes Private and not unchanged, where none is merged or Zero.
+    pub fn unshare_all(&mut self)
+        requires { All (λ r. shared_state r.state ≡ false) self.old.listed.rows }
+        ensures rows { self.new.listed.rows ≡ map as_unshared self.old.listed.rows }
+        ensures frames { self.new.listed.frames ≡ self.old.listed.frames }
+        ensures rest { self.new ≡ record self.old { listed = self.new.listed } }
+    {
+        self.rows.unshare_all();
+        self.waiting.clear();
+    }
+
+    /// The rows of a guest that come before a row, or all of them, are alone and out of the scan, where none of them is merged or Zero.
+    pub fn let_go(&mut self, guest: u16, stop: Option<Row>)
+        requires { All (λ r. (is_of guest r && is_before stop r) ≡ true → shared_state r.state ≡ false) self.old.listed.rows }
+        ensures rows { self.new.listed.rows ≡ change_rows (λ r. is_of guest r && is_before stop r) as_let_go self.old.listed.rows }
+        ensures frames { self.new.listed.frames ≡ self.old.listed.frames }
+        ensures rest { self.new ≡ record self.old { listed = self.new.listed } }
+    {
+        self.rows.let_go(guest, stop);
+        self.waiting.let_go(guest, stop.map(|row| row.page));
+    }
+
+    /// All rows on the frame `old` go to the frame `new`.
+    pub fn move_frames(&mut self, old: u32, new: u32)
+        ensures rows { self.new.listed.rows ≡ self.old.listed.rows }
+        ensures frames { self.new.listed.frames ≡ map (instead old new) self.old.listed.frames }
+        ensures rest { self.new ≡ record self.old { listed = self.new.listed } }
+    {
+        self.rows.move_frames(old, new);
+    }
+}

@@ -1,0 +1,232 @@
+//! What is asked of one row, and what becomes of it.
+
+ghost use Rattle.std.specs.Prelude.{◌≡◌, ◌&&◌, bytes_eq, true, if◌then◌else◌};
+ghost use Rattle.ksm_base.specs.Answers.{every_row};
+ghost use Rattle.ksm_base.specs.Apply.{is_before, fresh_row as a_fresh_row, stored as with_bytes, moved as at_node, let_go as as_let_go, unshared as as_unshared};
+ghost use Rattle.ksm_base.specs.Refusals.{is_of as is_of_guest};
+ghost use Rattle.ksm_base.specs.Rows.{same_page as is_same_page, private_state, waiting_state, merged_state, zero_state, shared_state, all_zero as has_only_zeroes};
+ghost use Rattle.ksm_base.specs.State.{tree_of as row_tree};
+ghost use Rattle.ksm_base.specs.Visit.{is_for_zero as goes_to_zero};
+ghost use Rattle.ksm_pages.specs.Listed.{is_frame as is_this_frame};
+ghost use Rattle.ksm_pages.specs.Scanned.{stays as as_it_is};
+ghost use Rattle.ksm_pages.specs.Wanted.{is_shared_of as is_shared_of_guest, is_wanted as is_a_wanted};
+
+use ksm_base::{GuestPage, Knobs, PageBytes, PageState, Row};
+
+/// The rows that a search is for.
+#[derive(Clone, Copy)]
+pub enum Wanted {
+    /// Those that the scan visits.
+    Mergeable,
+    /// Merged and Zero ones of a guest, or of all guests where none is given.
+    SharedOf(Option<u16>),
+}
+
+/// Visits of rows that stay as they are: how many there are, the page of the last, and the row that is visited then.
+#[derive(Clone, Copy)]
+pub struct Run {
+    pub visits: u64,
+    pub last: Option<GuestPage>,
+    pub next: Option<Row>,
+}
+
+pub(crate) fn same_page(p: GuestPage, q: GuestPage) -> bool
+    ensures { result ≡ is_same_page p q }
+{
+    p == q
+}
+
+pub(crate) fn same_bytes(a: PageBytes, b: PageBytes) -> bool
+    ensures { result ≡ bytes_eq a b }
+{
+    a == b
+}
+
+pub(crate) fn is_of(row: &Row, guest: u16) -> bool
+    ensures { result ≡ is_of_guest guest row.now }
+{
+    row.page.guest == guest
+}
+
+pub(crate) fn is_private(state: PageState) -> bool
+    ensures { result ≡ private_state state }
+{
+    matches!(state, PageState::Private)
+}
+
+pub(crate) fn is_waiting(state: PageState) -> bool
+    ensures { result ≡ waiting_state state }
+{
+    matches!(state, PageState::Waiting)
+}
+
+pub(crate) fn is_merged(state: PageState) -> bool
+    ensures { result ≡ merged_state state }
+{
+    matches!(state, PageState::Merged(_))
+}
+
+pub(crate) fn is_zero(state: PageState) -> bool
+    ensures { result ≡ zero_state state }
+{
+    matches!(state, PageState::Zero)
+}
+
+/// Whether a page in this state is mapped from a page that others may read too.
+pub fn is_shared(state: PageState) -> bool
+    ensures { result ≡ shared_state state }
+{
+    matches!(state, PageState::Merged(_) | PageState::Zero)
+}
+
+/// Whether a visit leaves the row as it is.
+pub fn stays(row: &Row) -> bool
+    ensures { result ≡ as_it_is row.now }
+{
+    is_shared(row.state)
+}
+
+/// Whether each word is zero.
+pub(crate) fn all_zero(bytes: &PageBytes) -> bool
+    ensures { result ≡ has_only_zeroes bytes.now }
+{
+    bytes.iter().all(|word| *word == 0)
+}
+
+/// Whether a page has the frame with this number.
+pub(crate) fn is_frame(frame: Option<u32>, number: u32) -> bool
+    ensures { result ≡ is_this_frame number frame }
+{
+    match frame {
+        None => false,
+        Some(frame) => frame == number,
+    }
+}
+
+/// Whether a row is merged or Zero, and of the guest if one is given.
+pub(crate) fn is_shared_of(row: &Row, guest: Option<u16>) -> bool
+    ensures { result ≡ is_shared_of_guest guest row.now }
+{
+    match guest {
+        None => is_shared(row.state),
+        Some(guest) => is_of(row, guest) && is_shared(row.state),
+    }
+}
+
+/// Whether a search is for the row.
+pub(crate) fn is_wanted(row: &Row, wanted: Wanted) -> bool
+    ensures { result ≡ is_a_wanted wanted row.now }
+{
+    match wanted {
+        Wanted::Mergeable => row.mergeable,
+        Wanted::SharedOf(guest) => is_shared_of(row, guest),
+    }
+}
+
+/// Whether a row has only zeroes, and these merge with the zero page.
+pub fn is_for_zero(knobs: &Knobs, row: &Row) -> bool
+    ensures { result ≡ goes_to_zero knobs.now row.now }
+{
+    knobs.use_zero_pages == 1 && all_zero(&row.bytes)
+}
+
+/// The tree in which a row is looked for.
+pub(crate) fn tree_of(knobs: &Knobs, row: &Row) -> u32
+    ensures { result ≡ row_tree knobs.now row.now }
+{
+    if knobs.merge_across_nodes == 1 {
+        0
+    } else {
+        row.home
+    }
+}
+
+/// A new row.
+pub fn fresh_row(page: GuestPage, node: u32, bytes: PageBytes) -> Row
+    ensures { result ≡ a_fresh_row page node bytes }
+{
+    Row {
+        page,
+        home: node,
+        bytes,
+        mergeable: true,
+        unchanged: false,
+        state: PageState::Private,
+    }
+}
+
+/// The row after a store.
+pub fn stored(row: Row, bytes: PageBytes) -> Row
+    ensures { result ≡ with_bytes bytes row }
+{
+    Row {
+        bytes,
+        unchanged: row.unchanged && same_bytes(row.bytes, bytes),
+        state: PageState::Private,
+        ..row
+    }
+}
+
+/// The row after a move.
+pub fn moved(row: Row, node: u32) -> Row
+    ensures { result ≡ at_node node row }
+{
+    if row.home == node {
+        return row;
+    }
+    Row {
+        home: node,
+        state: PageState::Private,
+        ..row
+    }
+}
+
+/// The row, mergeable if it is of the guest.
+pub(crate) fn with_mergeable(row: Row, guest: u16) -> Row
+    ensures { result ≡ (if is_of_guest guest row then record row { mergeable = true } else row) }
+{
+    if is_of(&row, guest) {
+        return Row {
+            mergeable: true,
+            ..row
+        };
+    }
+    row
+}
+
+/// The row alone, and out of the scan.
+pub(crate) fn let_go(row: Row) -> Row
+    ensures { result ≡ as_let_go row }
+{
+    Row {
+        mergeable: false,
+        unchanged: false,
+        state: PageState::Private,
+        ..row
+    }
+}
+
+/// The row let go, if it is of the guest and comes before the one at which an unmerging stopped, if it did.
+pub(crate) fn let_go_before(row: Row, guest: u16, stop: Option<Row>) -> Row
+    ensures { result ≡ (if is_of_guest guest row && is_before stop row then as_let_go row else row) }
+{
+    let reached = match stop {
+        None => true,
+        Some(stop) => row.page < stop.page,
+    };
+    if is_of(&row, guest) && reached {
+        return let_go(row);
+    }
+    row
+}
+
+/// The row alone and not unchanged.
+pub fn unshared(row: Row) -> Row
+    ensures { result ≡ as_unshared row }
+{
+    Row {
+        unchanged: false,
+        state: PageState::Private,
+        ..row
+    }
+}
