@@ -10,7 +10,7 @@ use Rattle.ksm_script.specs.Content.{content_of}
 use Rattle.ksm_script.specs.Knobs.{knob_name, shown_name}
 use Rattle.ksm_base.specs.declared.page.GuestPage.{GuestPage}
 use Rattle.ksm_script.specs.Reading.{◌>>=◌, Gives, field, guest_of, number_of, page_at, ended, alone, page_alone, knob_of, shown_of}
-use Rattle.ksm_script.specs.Forms.{name_alone, register_at, store_at, move_page_at, move_dup_at, set_at, scan_at, find_at, equal_at, Form, forms, named_line, line_at}
+use Rattle.ksm_script.specs.Forms.{name_alone, register_at, store_at, move_page_at, move_dup_at, set_at, scan_at, find_at, equal_at, Form, forms, look_up_forms, named_line, line_at}
 use Rattle.ksm_script.proofs.Fields.{bind_some, mapped, some_is, none_some, field_takes, page_takes, ended_takes, words_are, behind_word, behind_page, page_alone_takes, alone_takes, number_written, guest_written, knob_written, shown_written}
 use Rattle.ksm_script.proofs.Fields as fields
 
@@ -223,9 +223,7 @@ abbrev AllTake : List Form → Type 0
 AllTake [] = Unit {0}
 AllTake (form ∷ later) = Takes form × AllTake later
 
-look_ups_take : AllTake (
-    (codes "find", find_at) ∷ (codes "equal", equal_at) ∷ (codes "look", λ words. option_map Look (alone number_of words))
-    ∷ (codes "leave", λ words. option_map Leave (alone number_of words)) ∷ (codes "audit", name_alone Audit) ∷ [])
+look_ups_take : AllTake look_up_forms
 look_ups_take = (
   find_takes,
   (

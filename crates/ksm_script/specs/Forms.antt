@@ -67,6 +67,16 @@ name_alone line words = do
 abbrev pub Form : Type 0
 Form = List ℕ × (List (List ℕ) → Option Line)
 
+-- the forms of the passes
+abbrev pub look_up_forms : List Form
+look_up_forms =
+    (codes "find", find_at)
+    ∷ (codes "equal", equal_at)
+    ∷ (codes "look", λ words. option_map Look (alone number_of words))
+    ∷ (codes "leave", λ words. option_map Leave (alone number_of words))
+    ∷ (codes "audit", name_alone Audit)
+    ∷ []
+
 abbrev pub forms : List Form
 forms =
     ([], name_alone Empty)
@@ -85,12 +95,7 @@ forms =
     ∷ (codes "set", set_at)
     ∷ (codes "show", λ words. option_map Show (alone shown_of words))
     ∷ (codes "stat", name_alone Stat)
-    ∷ (codes "find", find_at)
-    ∷ (codes "equal", equal_at)
-    ∷ (codes "look", λ words. option_map Look (alone number_of words))
-    ∷ (codes "leave", λ words. option_map Leave (alone number_of words))
-    ∷ (codes "audit", name_alone Audit)
-    ∷ []
+    ∷ look_up_forms
 
 -- the line that begins with a name
 abbrev pub named_line : List Form → List ℕ → List (List ℕ) → Option Line

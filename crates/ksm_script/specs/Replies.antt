@@ -7,8 +7,7 @@ use Rattle.ksm_base.specs.declared.fault.Fault.{Fault}
 use Rattle.ksm_base.specs.Values.{fault_number}
 use Rattle.ksm_script.specs.declared.reply.LineReply.{LineReply}
 use Rattle.ksm_script.specs.declared.reply.LineReply.TheVariants.{Done, Content, Place, Private, Mappers, Scanned, Pruned, Unmerged, Value, Counters as CountersReply, Held, Differs, Gone, Busy, Audit, Refused, BadLine}
-use Rattle.frame_table.specs.declared.pass.Why.{Why}
-use Rattle.frame_table.specs.declared.pass.Why.TheVariants.{Vacant, Zero, Generation}
+use Rattle.frame_table.specs.Gone.{why_number}
 use Rattle.ksm_audit.specs.declared.report.Row.{Row}
 use Rattle.ksm_audit.specs.declared.report.Row.TheVariants as rows
 use Rattle.ksm_script.specs.Texts.{content_text, refusal_number}
@@ -37,12 +36,6 @@ mapper_text page = concat (codes " " ∷ decimal page.guest ∷ codes ":" ∷ de
 -- the pages that are merged into a dup
 abbrev pub mappers_text : List GuestPage → List ℕ
 mappers_text pages = concat (codes "rmap" ∷ flat_map mapper_text pages ∷ codes "\n" ∷ [])
-
--- why there was nothing to hold
-abbrev pub why_number : Why → ℕ
-why_number Vacant = 1
-why_number Zero = 2
-why_number Generation = 3
 
 -- a name, and the frame that is held in a life
 abbrev pub held_text : List ℕ → ℕ → ℕ → List ℕ

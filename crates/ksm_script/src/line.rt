@@ -3,7 +3,7 @@ ghost use Rattle.std.specs.Prelude.{◌≡◌, IfOk, Ok};
 ghost use Rattle.ksm_script.specs.declared.line.Line.{Line};
 ghost use Rattle.ksm_script.specs.Grammar.{Writes};
 ghost use Rattle.ksm_script.specs.Reading.{Gives, words_left};
-ghost use Rattle.ksm_script.specs.Forms.{forms, named_line, name_alone, register_at, store_at, scan_at, move_page_at, move_dup_at, set_at, find_at, equal_at};
+ghost use Rattle.ksm_script.specs.Forms.{forms, look_up_forms, named_line, name_alone, register_at, store_at, scan_at, move_page_at, move_dup_at, set_at, find_at, equal_at};
 
 use crate::field::{
     content_alone, cut, ended, guest_alone, is, knob, number, number_alone, page, page_alone,
@@ -158,7 +158,16 @@ fn named(name: &[u8], left: Option<&[u8]>) -> Result<Line, LineFault>
         shown_alone(left).map(|shown| Line::Show { shown })
     } else if is(name, "stat") {
         alone(Line::Stat, left)
-    } else if is(name, "find") {
+    } else {
+        looking_up(name, left)
+    }
+}
+
+/// The line of the passes that begins with a name.
+fn looking_up(name: &[u8], left: Option<&[u8]>) -> Result<Line, LineFault>
+    ensures { Gives result (named_line look_up_forms name.now (words_left left.entry)) }
+{
+    if is(name, "find") {
         find(left)
     } else if is(name, "equal") {
         equal(left)

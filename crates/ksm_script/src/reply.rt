@@ -3,7 +3,7 @@ ghost use Rattle.std.specs.Prelude.{◌≡◌, OnOk, IfErr};
 ghost use Rattle.std.specs.List.{concat, flat_map};
 ghost use Rattle.std.specs.Io.KnownBytes.{Appends};
 ghost use Rattle.ksm_script.specs.Texts.{AppendsPart};
-ghost use Rattle.ksm_script.specs.Replies.{text_of, counted_text, stopped_text, counters_text, mapper_text, mappers_text, why_number, held_text, row_text, audit_text};
+ghost use Rattle.ksm_script.specs.Replies.{text_of, counted_text, stopped_text, counters_text, mapper_text, mappers_text, held_text, row_text, audit_text};
 
 use crate::output::{Piece, write_pieces, write_text};
 use crate::refusal::Refusal;
@@ -76,7 +76,7 @@ pub fn write_reply<W: Write>(writer: &mut W, reply: &LineReply) -> Result<(), Ru
         LineReply::Differs { frame, generation } => {
             write_held(writer, "differs ", *frame, *generation)
         }
-        LineReply::Gone(why) => write_count(writer, "gone ", why_number(*why)),
+        LineReply::Gone(why) => write_count(writer, "gone ", why.number()),
         LineReply::Busy => write_text(writer, b"busy\n"),
         LineReply::Audit(report) => write_audit(writer, report.rows()),
         LineReply::Refused(refusal) => write_count(writer, "refused ", u64::from(refusal.number())),
@@ -190,17 +190,6 @@ fn write_mappers<W: Write>(writer: &mut W, pages: &[GuestPage]) -> Result<(), Ru
     write_text(writer, b"\n")
 }
 
-/// The number of why there was nothing to hold.
-fn why_number(why: Why) -> u64
-    ensures { result ≡ why_number why }
-{
-    match why {
-        Why::Vacant => 1,
-        Why::Zero => 2,
-        Why::Generation => 3,
-    }
-}
-
 /// Writes a name, and the frame that is held in a life.
 fn write_held<W: Write>(
     writer: &mut W,
@@ -242,7 +231,7 @@ fn write_row<W: Write>(writer: &mut W, row: Row) -> Result<(), RunFault>
         ),
         Row::Gone(why) => write_pieces(
             writer,
-            &[Piece::Text(" gone:"), Piece::Number(why_number(why))],
+            &[Piece::Text(" gone:"), Piece::Number(why.number())],
         ),
         Row::Busy => write_text(writer, b" busy"),
     }

@@ -139,32 +139,21 @@ impl<N: Naming> Session<N> {
         match line {
             Line::Empty => None,
             Line::Register { page, node, bytes } => {
-                Some(self.command(rt, Command::Register { page, node, bytes }))
+                Some(self.apply(rt, Command::Register { page, node, bytes }))
             }
-            Line::Drop { page } => Some(self.command(rt, Command::Drop { page })),
-            Line::Store { page, bytes } => Some(self.command(rt, Command::Store { page, bytes })),
+            Line::Drop { page } => Some(self.apply(rt, Command::Drop { page })),
+            Line::Store { page, bytes } => Some(self.apply(rt, Command::Store { page, bytes })),
             Line::Get { page } => Some(self.content(rt, page)),
             Line::Ticket { page } => Some(self.ticket(rt, page)),
             Line::Mappers { place } => Some(self.mappers(rt, place)),
             Line::ScanPages => Some(self.scan_pages(rt)),
-            Line::Scan { visits } => Some(self.command(
-                rt,
-                Command::Scan {
-                    visits: u64::from(visits),
-                },
-            )),
-            Line::Prune => Some(self.command(rt, Command::Prune)),
-            Line::Unmerge { guest } => Some(self.command(rt, Command::Unmerge { guest })),
-            Line::Mergeable { guest } => Some(self.command(rt, Command::Mergeable { guest })),
-            Line::MovePage { page, node } => Some(self.command(
-                rt,
-                Command::MovePage { page, node },
-            )),
-            Line::MoveDup { place, node } => Some(self.command(
-                rt,
-                Command::MoveDup { place, node },
-            )),
-            Line::Set { knob, value } => Some(self.command(rt, knob.setting(value))),
+            Line::Scan { visits } => Some(self.scan(rt, visits)),
+            Line::Prune => Some(self.apply(rt, Command::Prune)),
+            Line::Unmerge { guest } => Some(self.apply(rt, Command::Unmerge { guest })),
+            Line::Mergeable { guest } => Some(self.apply(rt, Command::Mergeable { guest })),
+            Line::MovePage { page, node } => Some(self.apply(rt, Command::MovePage { page, node })),
+            Line::MoveDup { place, node } => Some(self.apply(rt, Command::MoveDup { place, node })),
+            Line::Set { knob, value } => Some(self.apply(rt, knob.setting(value))),
             Line::Show { shown } => Some(self.value(rt, shown)),
             Line::Stat => Some(self.counters(rt)),
             Line::Find { pass, place } => Some(self.act(pass, Act::Find { place })),
@@ -200,8 +189,14 @@ impl<N: Naming> Session<N> {
         ensures answers { Commands (scan self.old.state.book.knobs.pages_to_scan) self.old.state (Some result) self.new.state }
     {
         let knobs = self.ksm.knobs(rt, &mut self.share);
-        let visits = u64::from(knobs.pages_to_scan);
-        self.command(rt, Command::Scan { visits })
+        self.scan(rt, knobs.pages_to_scan)
+    }
+
+    fn scan<R: Wait>(&mut self, rt: &R, visits: u32) -> LineReply
+        ensures answers { Commands (scan visits) self.old.state (Some result) self.new.state }
+    {
+        let visits = u64::from(visits);
+        self.apply(rt, Command::Scan { visits })
     }
 
     fn ticket<R: Wait>(&mut self, rt: &R, page: GuestPage) -> LineReply
@@ -240,7 +235,7 @@ impl<N: Naming> Session<N> {
         }
     }
 
-    fn command<R: Wait>(&mut self, rt: &R, command: Command) -> LineReply
+    fn apply<R: Wait>(&mut self, rt: &R, command: Command) -> LineReply
         ensures answers { Commands command self.old.state (Some result) self.new.state }
     {
         let answer = self.ksm.command(rt, &mut self.share, command);

@@ -1,6 +1,7 @@
 //! The answers to a script, sent to their end.
-ghost use Rattle.std.specs.Prelude.{◌≡◌, ◌≢◌, ℕ, List, Ok};
+ghost use Rattle.std.specs.Prelude.{◌≡◌, ◌≢◌, ℕ, List, Ok, IsTrue};
 ghost use Rattle.std.specs.Io.Buffered.{reader_remaining, writer_contents, writer_inner};
+ghost use Rattle.std.specs.Io.KnownBytes.{Keeps};
 ghost use Rattle.ksm_script.specs.Script.{Runs, streams};
 ghost use Rattle.ksm_script.specs.Texts.{AppendsPart};
 ghost use Rattle.ksm_tool.specs.Sent.{Replies};
@@ -33,6 +34,15 @@ pub fn answer<N: Naming, T: Threads + Wait + Sync, I: Read, O: Write + Drop>(
     ensures began { result ≢ Status.NoMemory }
 {
     let ended = run_buffered(rt, reader, writer, session);
-    let are_sent = ended.is_ok() && writer.flush().is_ok();
+    let are_sent = ended.is_ok() && sent(writer);
     Status::after(ended, are_sent)
+}
+
+/// Sends what waits in the writer, and tells whether nothing waits there any more.
+#[tactic(auto, using(crate::proofs::Sent::kept_where_sent))]
+fn sent<O: Write + Drop>(writer: &mut BufWriter<O>) -> bool
+    ensures kept { Keeps (writer_contents O.contents writer.old) (writer_contents O.contents writer.new) }
+    ensures sent { IsTrue result → Keeps (writer_contents O.contents writer.old) (O.contents (writer_inner writer.new)) }
+{
+    writer.flush().is_ok()
 }

@@ -1,7 +1,7 @@
 use Rattle.std.proofs.Common.{◌≡◌, ◌∙◌, true, sym}
-use Rattle.std.specs.Io.Buffered.{writer_buffer, writer_contents, writer_inner}
+use Rattle.std.specs.Io.Buffered.{writer_contents, writer_inner}
 use Rattle.std.specs.Io.KnownBytes.{Keeps}
-use Rattle.ksm_tool.proofs.Sent.{kept_where_sent, sent_all, sent_to_bad, stands_after, stands_sent}
+use Rattle.ksm_tool.proofs.Sent.{sent_all, sent_to_bad, stands_after, stands_sent}
 use Rattle.ksm_tool.proofs.answer.answer.Given.{Over}
 use Rattle.ksm_tool.proofs.answer.answer.Goals.{then-is_ok, else-is_ok}
 use Rattle.ksm_tool.proofs.answer.answer.Goals as goal
@@ -9,9 +9,7 @@ use Rattle.ksm_tool.proofs.answer.answer.Goals as goal
 are_kept : (g : Over) (c : goal.After-after g) → c.if-is_ok.are_sent ≡ true
     → Keeps (writer_contents g.O.Write.contents c.run_buffered-ended.new.writer) (g.O.Write.contents (writer_inner c.if-is_ok.writer))
 are_kept g c = elim c.if-is_ok.branch [
-  | then-is_ok w ↦ rw w.writer-is (rw w.are_sent-is
-      (λ e. kept_where_sent (g.O.Write.contents (writer_inner w.flush.new.self)) (writer_buffer w.flush.new.self) (writer_contents g.O.Write.contents c.run_buffered-ended.new.writer)
-      w.flush.result w.flush.ensures.ok w.flush.ensures.bytes (sym w.is_ok-are_sent.ensures.value ∙ e)))
+  | then-is_ok w ↦ rw w.writer-is (rw w.are_sent-is w.sent-are_sent.ensures.sent)
   | else-is_ok w ↦ rw w.are_sent-is (λ e. absurd (cc e))
 ]
 
@@ -19,7 +17,7 @@ pub returns-clause-written : goal.returns-clause-written
 returns-clause-written g c =
     let after = stands_after _ _ _ c.run_buffered-ended.result c.run_buffered-ended.ensures.ran in
     elim c.if-is_ok.branch [
-      | then-is_ok w ↦ rw w.writer-is (stands_sent _ _ _ _ w.flush.ensures.bytes after)
+      | then-is_ok w ↦ rw w.writer-is (stands_sent _ _ _ _ w.sent-are_sent.ensures.kept after)
       | else-is_ok w ↦ rw w.writer-is after
     ]
 

@@ -4,7 +4,7 @@ use Rattle.ksm_script.specs.Answering.{Commands, reply_to}
 use Rattle.ksm_script.specs.Seen.{SessionView, script_of}
 use Rattle.ksm_script.specs.State.{ScriptState}
 use Rattle.ksm_script.proofs.Journaled.{commands}
-use Rattle.ksm_script.proofs.session.Session.command.Goals as goal
+use Rattle.ksm_script.proofs.session.Session.apply.Goals as goal
 
 pub returns : goal.returns
 returns g c =
