@@ -9,6 +9,7 @@ pub mod Steps
 pub mod Lookup
 pub mod Rounds
 pub mod Equal
+pub mod Gone
 pub mod Seats
 pub mod Running
 pub mod Worked

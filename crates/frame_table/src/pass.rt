@@ -5,6 +5,7 @@ ghost use Rattle.frame_core.specs.declared.seat.Phase.TheVariants.{Placed};
 ghost use Rattle.frame_table.specs.Views.{IsIn};
 ghost use Rattle.frame_table.specs.Rounds.{GoesRound};
 ghost use Rattle.frame_table.specs.Lookup.{LooksUp};
+ghost use Rattle.frame_table.specs.Gone.{why_number};
 
 use crate::held::Held;
 use crate::table::FrameTable;
@@ -42,6 +43,15 @@ pub enum Why {
     Zero = 2,
     /// The frame was in another life than the place named.
     Generation = 3,
+}
+
+impl Why {
+    /// The number by which a reply tells why, 1 to 3.
+    pub fn number(self) -> u64
+        ensures { result ≡ why_number self }
+    {
+        self as u64
+    }
 }
 
 /// The answer to a lookup.
