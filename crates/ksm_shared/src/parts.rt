@@ -79,8 +79,7 @@ impl Parts {
 
     /// Ends them where no book is made of them. No frame was given, and no place names one.
     pub fn close(self) -> ClosedTable
-        ensures shape { result.shape ≡ self.frames.shape }
-        ensures ends { Ends (new_keeper self.frames).ledger result }
+        ensures { (result.shape ≡ self.frames.shape) × Ends (new_keeper self.frames).ledger result }
     {
         let Parts {
             alloc: _,
