@@ -3,11 +3,19 @@ use ksm_base::{Command, Fault, GuestPage, PAGE_WORDS};
 use ksm_shared::{Ksm, Naming, Share};
 use std::sync::Wait;
 
-// A page of a guest, with this word everywhere.
-fn register(guest: u16, page: u32, word: u64) -> Command {
+/// A page of a guest, with this word everywhere.
+pub fn register(guest: u16, page: u32, word: u64) -> Command {
     Command::Register {
         page: GuestPage { guest, page },
         node: 0,
+        bytes: [word; PAGE_WORDS],
+    }
+}
+
+/// A store of this word everywhere to the guest's page.
+pub fn store(guest: u16, word: u64) -> Command {
+    Command::Store {
+        page: GuestPage { guest, page: 0 },
         bytes: [word; PAGE_WORDS],
     }
 }
@@ -44,9 +52,7 @@ pub fn store_one<N: Naming>(
     guest: u16,
     round: u64,
 ) {
-    let page = GuestPage { guest, page: 0 };
-    let bytes = [round; PAGE_WORDS];
-    make(rt, ksm, share, Command::Store { page, bytes });
+    make(rt, ksm, share, store(guest, round));
 }
 
 /// So many stores to the guest's page.

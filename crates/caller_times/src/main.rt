@@ -3,11 +3,13 @@
 //! `caller_times WORK THREADS ROUNDS`. On 256 frames 64 pages are merged in pairs, at 32 places, and four callers have a page each. Where WORK
 //! is `commands`, each of 1 to 4 threads stores so many times to its page. Where it is `lookups`, each makes so many lookups (a find, a read
 //! of all words and a leave), going round the 32 places. Where it is `beside`, it is the same while one more caller scans. Where it is `rows`,
-//! each asks for so many rows of counters while one caller stores. What it prints is the length of the journal, and the wrapping sum of all
-//! words read, or of all pages that the rows tell of; for `beside` and `rows` the sum alone counts.
+//! each asks for so many rows of counters while one caller stores. Where it is `published`, one caller registers a page and stores so many
+//! times to it, with nothing before. What it prints is the length of the journal, and the wrapping sum of all words read, of all pages that the
+//! rows tell of, or of the entries that the row published last lacked, over all answers; for `beside` and `rows` the sum alone counts.
 #![tactic(auto)]
 
 mod book;
+mod published;
 mod rows;
 mod run;
 mod worker;
@@ -33,6 +35,7 @@ fn work(word: &str) -> Work {
         "lookups" => Work::Lookups,
         "beside" => Work::Beside,
         "rows" => Work::Rows,
+        "published" => Work::Published,
         _ => Work::Commands,
     }
 }

@@ -3,6 +3,7 @@ ghost use Rattle.std.specs.Prelude.{◌≡◌, ◌+◌, ◌≤◌, [], All, IsSo
 ghost use Rattle.ksm_base.specs.Values.{frames_of};
 
 use crate::book::{prepare, store_all};
+use crate::published::lacking_in_all;
 use crate::rows::ask_all;
 use crate::worker::{Worker, look_on};
 use frame_table::Pass;
@@ -29,6 +30,7 @@ pub enum Work {
     Lookups,
     Beside,
     Rows,
+    Published,
 }
 
 /// What is done, in how many threads, and how many times in each.
@@ -227,7 +229,8 @@ fn look_for<N: Naming + Send + Sync, R: Threads + Wait + Sync>(
     take_back::<N>(workers, passes)
 }
 
-// All that is asked; answers the length of the journal, where nobody scanned, and the sum of all words read, or of all pages told of.
+// All that is asked; answers the length of the journal, where nobody scanned, and the sum of all words read, of all pages told of, or of the
+// entries that were not published.
 fn work_on<N: Naming + Send + Sync, R: Threads + Wait + Sync>(
     rt: &R,
     ksm: &Ksm<N>,
@@ -244,11 +247,16 @@ fn work_on<N: Naming + Send + Sync, R: Threads + Wait + Sync>(
     ensures passes { All (λ p. p.table ≡ N.parts.frames) passes.new.items }
     ensures all { vec_len passes.new ≡ vec_len passes.old }
 {
-    if let Some(share) = shares.last_mut() {
-        prepare(rt, ksm, share);
-    }
     let mut looks = asked;
     let mut told = 0u64;
+    if let Some(share) = shares.last_mut() {
+        if let Work::Published = asked.work {
+            told = lacking_in_all(rt, ksm, share, asked.rounds);
+            looks.rounds = 0;
+        } else {
+            prepare(rt, ksm, share);
+        }
+    }
     if let Work::Commands = asked.work {
         let _ = command_all(rt, ksm, &mut shares, asked);
         looks.rounds = 0;

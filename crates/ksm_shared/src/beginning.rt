@@ -1,5 +1,5 @@
 //! Beginnings of the one journal, which can be copied and compared. Their entries have no bytes: only how many there are is kept.
-ghost use Rattle.std.specs.Prelude.{◌≡◌, ◌<◌, ◌^◌, ◌++◌, ◌∷◌, [], length, MatchBool};
+ghost use Rattle.std.specs.Prelude.{◌≡◌, ◌<◌, ◌^◌, ◌++◌, ◌∷◌, [], false, length, MatchBool};
 ghost use mathlib.Core.List.{IsPrefix};
 ghost use Rattle.ksm_shared.specs.Published.{length_word};
 
@@ -107,12 +107,13 @@ impl Beginning {
         self.count <= other.count
     }
 
-    /// Adds an entry to all that was seen, and says whether it did. It did not where the journal was longer.
+    /// Adds an entry to all that was seen, and says whether it did. It did not where the journal was longer, and then has seen that.
     pub fn add(&mut self, word: &LengthWord, entry: &Entry) -> bool
         requires word { word.now ≡ length_word self.old.logbook }
         requires room { length self.old.journal < 2 ^ 62 }
         ensures logbook { self.new.logbook ≡ self.old.logbook }
         ensures added { MatchBool result (self.new.journal ≡ self.old.journal ++ entry.now ∷ []) (IsPrefix self.old.journal self.new.journal) }
+        ensures longer { result ≡ false → length self.old.journal < length self.new.journal }
     {
         let mut offer: Offer<Entry, u64, HasLength, NoTrade> = self
             .seen

@@ -1,6 +1,7 @@
 //! What a shared book is made of, before it has a name.
 ghost use Rattle.std.specs.Prelude.{◌≡◌, ◌≤◌, IfOk, IfErr};
 ghost use Rattle.ksm_base.specs.Values.{IsShape};
+ghost use Rattle.frame_table.specs.Seats.{Ends, new_keeper};
 
 use crate::beginning::{LengthWord, SeenJournal};
 use crate::seen::{SeenSeat, SeenTable};
@@ -76,9 +77,9 @@ impl Parts {
         self.shape
     }
 
-    /// Ends them where no book is made of them.
+    /// Ends them where no book is made of them. No frame was given, and no place names one.
     pub fn close(self) -> ClosedTable
-        ensures { result.shape ≡ self.frames.shape }
+        ensures { (result.shape ≡ self.frames.shape) × Ends (new_keeper self.frames).ledger result }
     {
         let Parts {
             alloc: _,

@@ -1,5 +1,5 @@
 //! What follows the journal under the lock, and publishes the counters after it.
-ghost use Rattle.std.specs.Prelude.{◌≡◌, ◌<◌, ◌≤◌, ◌++◌, ◌⊎◌, true, [], IfOk, IfErr};
+ghost use Rattle.std.specs.Prelude.{◌≡◌, ◌<◌, ◌≤◌, ◌^◌, ◌++◌, ◌⊎◌, true, [], length, IfOk, IfErr};
 ghost use Rattle.ksm_base.specs.Counting.{counters_of};
 ghost use Rattle.ksm_base.specs.Journal.{AreAnswers, replay};
 ghost use Rattle.ksm_base.specs.State.{opening};
@@ -80,11 +80,12 @@ impl<N: Naming> Publisher<N> {
     }
 
     /// Follows the journal by its next entry, if there is one, and publishes the counters after it. Where memory is refused nothing new is
-    /// published, and the next call publishes.
+    /// published, and the next call publishes. It follows until it meets entries that it did not add, or 2^60 of them.
     pub fn follow<R: Wait>(&mut self, rt: &R, next: &Option<Entry>, counters: Counters)
         requires legal { self.old.follows ≡ true → AreAnswers (opening N.parts.frames.shape) (self.old.journal ++ list_of next.now) }
         requires counters { self.old.follows ≡ true → counters ≡ counters_of (replay (opening N.parts.frames.shape) (self.old.journal ++ list_of next.now)) }
         ensures follows { self.new.follows ≡ true → (self.old.follows ≡ true) × (self.new.journal ≡ self.old.journal ++ list_of next.now) }
+        ensures stays { self.old.follows ≡ true → length self.old.journal < 2 ^ 60 → (self.new.follows ≡ true) ⊎ (length self.old.journal < length self.new.journal) }
         ensures shown { (self.new.shown ≡ self.old.shown) ⊎ ((self.new.follows ≡ true) × (self.new.shown ≡ self.new.journal)) }
     {
         self.follows = goes_on(self.follows, &self.word, &mut self.followed, next);
@@ -111,6 +112,7 @@ fn goes_on(follows: bool, word: &LengthWord, followed: &mut Beginning, next: &Op
     requires { word.now ≡ length_word followed.old.logbook }
     ensures logbook { followed.new.logbook ≡ followed.old.logbook }
     ensures follows { result ≡ true → (follows ≡ true) × (followed.new.journal ≡ followed.old.journal ++ list_of next.now) }
+    ensures stays { follows ≡ true → length followed.old.journal < 2 ^ 60 → (result ≡ true) ⊎ (length followed.old.journal < length followed.new.journal) }
 {
     let Some(entry) = next else {
         return follows;
