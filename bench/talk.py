@@ -1,14 +1,19 @@
 """Talks to ksmbook over pipes, one line at a time."""
 
 import os
+import re
 import subprocess
 import threading
 
 TOP = os.path.dirname(os.path.dirname(os.path.abspath(__file__)))
 PROGRAM = os.path.join(TOP, "crates", "ksm_tool", "out", "ksm_tool")
-
-
 PLAIN = os.path.join(TOP, "bench", "plain", "target", "release", "plain")
+
+
+def page_words():
+    """The words of a page, from where ksmbook has them."""
+    with open(os.path.join(TOP, "crates", "ksm_base", "src", "page.rt"), encoding="utf-8") as source:
+        return int(re.search(r"^pub const PAGE_WORDS: usize = (\d+);", source.read(), re.MULTILINE)[1])
 
 
 def build():

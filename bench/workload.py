@@ -1,20 +1,12 @@
 """Writes scripts for measuring: pages on four nodes of 256 frames, the same script each time."""
 
-import os
 import random
-import re
 
 import talk
 
 NODES = 4
 OPTIONS = ["--nodes", str(NODES), "--frames", "256"]
 PAGES = NODES * 256
-
-
-def page_words():
-    """The words of a page, from where ksmbook has them."""
-    with open(os.path.join(talk.TOP, "crates", "ksm_base", "src", "page.rt"), encoding="utf-8") as source:
-        return int(re.search(r"^pub const PAGE_WORDS: usize = (\d+);", source.read(), re.MULTILINE)[1])
 
 
 class Script:
@@ -124,7 +116,7 @@ def write_stores(file, pages, is_enough):
 def write_full_stores(file, pages, is_enough):
     """The same with every digit of a page written."""
     script = Script(file, pages)
-    words = page_words()
+    words = talk.page_words()
     for number in range(pages):
         script.register(number, number % 256)
     while not is_enough(script):

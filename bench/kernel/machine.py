@@ -8,9 +8,13 @@ import os
 import re
 import shutil
 import subprocess
+import sys
 import tempfile
 
 HERE = os.path.dirname(os.path.abspath(__file__))
+sys.path.insert(0, os.path.dirname(HERE))
+import talk  # pylint: disable=wrong-import-position
+
 CACHE = os.environ.get("KSMBOOK_CACHE") or os.path.join(
     os.environ.get("XDG_CACHE_HOME") or os.path.expanduser("~/.cache"), "ksmbook", "kernel")
 BOOT_SECONDS = 600
@@ -61,7 +65,8 @@ def build(root):
     """Builds the driver as the program /init of a root folder."""
     sources = os.path.join(HERE, "driver")
     files = sorted(name for name in os.listdir(sources) if name.endswith(".c"))
-    subprocess.run(["cc", *C_FLAGS, "-o", os.path.join(root, "init"), *files], cwd=sources, check=True)
+    size = f"-DCONTENT={8 * talk.page_words()}"
+    subprocess.run(["cc", *C_FLAGS, size, "-o", os.path.join(root, "init"), *files], cwd=sources, check=True)
 
 
 def pack(root, path):

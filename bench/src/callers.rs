@@ -11,8 +11,7 @@ use std::sync::{Mutex, RwLock};
 use std::sync::atomic::{AtomicBool, Ordering};
 use std::thread;
 
-/// The words of a page, as `PAGE_WORDS` of `ksm_base`.
-const PAGE_WORDS: usize = 2;
+include!(concat!(env!("OUT_DIR"), "/page_words.rs"));
 
 type Page = (u16, u32);
 type Bytes = [u64; PAGE_WORDS];

@@ -9,8 +9,7 @@ mod plain;
 
 use std::process::{Command, Output};
 
-/// The words of a page, as `PAGE_WORDS` of `ksm_base`.
-const PAGE_WORDS: usize = 2;
+include!(concat!(env!("OUT_DIR"), "/page_words.rs"));
 
 const TABLE: &str = concat!(
     env!("CARGO_MANIFEST_DIR"),

@@ -135,7 +135,7 @@ static void say_content(const unsigned char content[CONTENT])
 	say("");
 }
 
-/* Reads 2 digits, which fill all bytes, or 32. */
+/* Reads 2 digits, which fill all bytes, or two for each byte. */
 static void read_content(const char *digits, unsigned char content[CONTENT])
 {
 	bool is_short = strlen(digits) == 2;

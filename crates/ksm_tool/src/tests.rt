@@ -2,7 +2,7 @@
 ghost use Rattle.std.specs.Prelude.{◌≡◌, IfSome};
 
 use super::*;
-use ksm_base::Shape;
+use ksm_base::{PAGE_WORDS, Shape};
 use std::alloc::{Alloc, AllocError, Allocator, Global};
 use std::cell::RefCell;
 use std::env::FillError;
@@ -25,6 +25,11 @@ fn small(alloc: Global) -> Option<Parts>
         return None;
     }
     Parts::open(alloc, shape, 1).ok()
+}
+
+/// The digits of a page that is full of the byte aa.
+fn page(alloc: Global) -> Result<String, AllocError> {
+    "aa".repeat(alloc, 8 * PAGE_WORDS)
 }
 
 /// Answers the script of a reader on a writer, in blocks of so many bytes.
@@ -63,13 +68,11 @@ fn answered_by<N: Naming, T: Threads + Wait + Sync, I: Read, O: Write + Drop>(
 /// Scripts, their output and their status, in blocks of each size.
 #[test]
 fn scripts_are_answered_to_their_end(rt: HostRuntime) -> Result<(), Fail> {
+    let page = page(rt.alloc())?;
+    let read = format!(in rt.alloc(); "ok\n{page}\n")?;
     let cases: [(&[u8], &[u8], Status); 4] = [
         (b"", b"", Status::Done),
-        (
-            b"reg 0 0 0 aa\n\nget 0 0",
-            b"ok\naaaaaaaaaaaaaaaaaaaaaaaaaaaaaaaa\n",
-            Status::Done,
-        ),
+        (b"reg 0 0 0 aa\n\nget 0 0", read.as_bytes(), Status::Done),
         (
             b"reg 0 0 0 aa\nfoo\nreg 0 1 0 aa\n",
             b"ok\nbad line 2\n",
@@ -125,10 +128,12 @@ impl Write for FailsOnce {
 /// An output that fails once after any number of bytes has just these, and the status tells of it.
 #[test]
 fn nothing_is_sent_after_a_failed_write(rt: HostRuntime) -> Result<(), Fail> {
+    let page = page(rt.alloc())?;
+    let read = format!(in rt.alloc(); "ok\n{page}\nrefused 2\n")?;
     let cases: [(&[u8], &[u8], Status); 2] = [
         (
             b"reg 0 0 0 aa\nget 0 0\nget 1 0\n",
-            b"ok\naaaaaaaaaaaaaaaaaaaaaaaaaaaaaaaa\nrefused 2\n",
+            read.as_bytes(),
             Status::Done,
         ),
         (
@@ -333,11 +338,10 @@ fn each_end_has_its_status(rt: HostRuntime) -> Result<(), Fail> {
     let shape: [&[u8]; 5] = [b"ksmbook", b"--nodes", b"1", b"--frames", b"4"];
     let script = b"reg 0 0 0 aa\nget 0 0\n";
     let run = ended(&rt, rt.alloc(), &shape, script);
+    let page = page(rt.alloc())?;
+    let read = format!(in rt.alloc(); "ok\n{page}\n")?;
     assert_eq!(rt; run.0, Status::Done);
-    assert_eq!(rt;
-        run.1.as_slice(),
-        b"ok\naaaaaaaaaaaaaaaaaaaaaaaaaaaaaaaa\n".as_slice()
-    );
+    assert_eq!(rt; run.1.as_slice(), read.as_bytes());
     assert!(rt; !run.2);
     let run = ended(&rt, rt.alloc(), &shape, b"reg 0 0 0 aa\nfoo\n");
     assert_eq!(rt; run.0, Status::NotUnderstood);

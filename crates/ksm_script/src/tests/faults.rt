@@ -51,21 +51,11 @@ fn the_reader_is_not_asked_again(rt: HostRuntime) -> Result<(), Fail> {
         };
         assert_eq!(rt; (ended.0, ended.1), (wanted, Ok(End::AllRead)));
         assert_eq!(rt; reader.calls, first.len() + 1);
-        let text: &[u8] = if fails {
-            b"ok
-"
-        } else {
-            b"ok
-aaaaaaaaaaaaaaaaaaaaaaaaaaaaaaaa
-"
-        };
-        assert_eq!(rt; written.as_slice(), text);
-        assert_eq!(rt;
-            ended.2.as_slice(),
-            b"aaaaaaaaaaaaaaaaaaaaaaaaaaaaaaaa
-"
-                .as_slice()
-        );
+        let text = if fails { "ok\n" } else { "ok\n[aa]\n" };
+        let text = with_pages(rt.alloc(), text)?;
+        assert_eq!(rt; written.as_slice(), text.as_bytes());
+        let text = with_pages(rt.alloc(), "[aa]\n")?;
+        assert_eq!(rt; ended.2.as_slice(), text.as_bytes());
     }
     Ok(())
 }
@@ -104,7 +94,9 @@ impl Write for FailsOnce {
 #[test]
 fn nothing_is_written_after_a_fault(rt: HostRuntime) -> Result<(), Fail> {
     let script: &[u8] = b"reg 0 0 0 aa\nget 0 0\ndrop 0 0\n";
-    let whole = b"ok\naaaaaaaaaaaaaaaaaaaaaaaaaaaaaaaa\nok\n";
+    let whole = with_pages(rt.alloc(), "ok\n[aa]\nok\n")?;
+    let whole = whole.as_bytes();
+    let read = with_pages(rt.alloc(), "ok\n[aa]\n")?.len();
     for room in 0..whole.len() {
         let mut reader = script;
         let mut writer = FailsOnce {
@@ -116,7 +108,7 @@ fn nothing_is_written_after_a_fault(rt: HostRuntime) -> Result<(), Fail> {
         assert_eq!(rt; writer.taken.as_slice(), &whole[..room], "{room}");
         let left = if room < 3 {
             17
-        } else if room < 36 {
+        } else if room < read {
             9
         } else {
             0
