@@ -1,5 +1,5 @@
-/// How many 64-bit words a page has: 2, so a page is 16 bytes (own; a page of the machine has 4,096).
-pub const PAGE_WORDS: usize = 2;
+/// How many 64-bit words a page has: 8, so a page is 64 bytes (own; a page of the machine has 4,096).
+pub const PAGE_WORDS: usize = 8;
 
 /// The content of a page, word by word: byte 8i of the page is the lowest byte of word i (own).
 pub type PageBytes = [u64; PAGE_WORDS];

@@ -201,13 +201,13 @@ fn in_order(alloc: Global, bytes: usize) -> Result<String, AllocError> {
 
 /// The digits of a page are its bytes in order.
 #[test]
-fn byte_order_of_sixteen(rt: HostRuntime) -> Result<(), Fail> {
+fn byte_order_of_sixty_four(rt: HostRuntime) -> Result<(), Fail> {
     let alloc = rt.alloc();
     let digits = in_order(alloc, 8 * PAGE_WORDS)?;
     let input = format!(in alloc; "reg 0 0 0 {digits}\nget 0 0\n")?;
     let output = format!(in alloc; "ok\n{digits}\n")?;
     let rows = [Row {
-        name: "byte_order_of_sixteen",
+        name: "byte_order_of_sixty_four",
         input: input.as_bytes(),
         output: output.as_str(),
         ..ROW
@@ -497,6 +497,22 @@ fn every_bad_line(rt: HostRuntime) -> Result<(), Fail> {
         assert_eq!(rt; written.as_slice(), b"bad line 1\n".as_slice(), "{line:?}");
     }
     Ok(())
+}
+
+/// A quarter of the digits of a page is no page.
+#[test]
+fn thirty_two_digits_are_bad(rt: HostRuntime) -> Result<(), Fail> {
+    let alloc = rt.alloc();
+    let digits = in_order(alloc, 16)?;
+    let input = format!(in alloc; "reg 0 0 0 {digits}\n")?;
+    let rows = [Row {
+        name: "thirty_two_digits_are_bad",
+        input: input.as_bytes(),
+        output: "bad line 1\n",
+        end: End::BadLine(1),
+        ..ROW
+    }];
+    play_all(&rt, alloc, &rows)
 }
 
 /// A page is written in two digits or in all, and in no other number of them.
