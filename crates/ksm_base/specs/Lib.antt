@@ -9,14 +9,3 @@ pub mod Apply
 pub mod Journal
 pub mod Sound
 pub mod Reading
-pub mod Worked
-pub mod WorkedMerging
-pub mod WorkedKnobs
-pub mod WorkedFrames
-pub mod WorkedEdges
-pub mod WorkedRefusals
-pub mod WorkedPlaces
-pub mod WorkedPasses
-pub mod WorkedFlags
-pub mod WorkedZeroPages
-pub mod WorkedSelftests

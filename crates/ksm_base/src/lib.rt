@@ -11,7 +11,6 @@ mod reply;
 mod row;
 mod shape;
 mod sound;
-mod worked;
 
 pub use command::Command;
 pub use counters::Counters;

@@ -1,7 +1,0 @@
--- Line by line: a search for it breaks off where pages have eight words.
-use Rattle.std.proofs.Common.{refl}
-use Rattle.ksm_base.proofs.worked.stopped_run_of_two_keeps_the_cursor.Goals as goal
-
-pub returns : goal.returns
-returns c =
-    (tt, (tt, (refl, (refl, (tt, (tt, (refl, (refl, (refl, (refl, (refl, (refl, (refl, (refl, (tt, (refl, (refl, (refl, tt))))))))))))))))))

@@ -1,7 +1,0 @@
--- Line by line: a search for it breaks off where pages have eight words.
-use Rattle.std.proofs.Common.{arith, refl}
-use Rattle.ksm_base.proofs.worked.stopped_scan_changes_nothing_else.Goals as goal
-
-pub returns : goal.returns
-returns c =
-    (tt, (tt, (tt, (tt, (tt, (tt, (tt, (tt, (refl, (refl, (refl, (tt, (tt, (refl, ((refl, omega arith), (refl, (refl, (refl, (refl, (refl, (refl, (refl, (refl, (refl, (refl, (refl, ((refl, omega arith), (refl, (refl, (refl, (refl, (refl, (refl, (refl, (refl, (refl, (refl, (refl, (tt, (refl, (refl, (refl, tt))))))))))))))))))))))))))))))))))))))))))

@@ -1,7 +1,0 @@
--- Line by line: a search for it breaks off where pages have eight words.
-use Rattle.std.proofs.Common.{refl}
-use Rattle.ksm_base.proofs.worked.unmerging_leaves_the_dups.Goals as goal
-
-pub returns : goal.returns
-returns c =
-    (tt, (tt, (tt, (tt, (tt, (tt, (tt, (tt, (refl, (refl, (refl, (tt, (tt, (refl, (refl, (refl, (refl, (refl, (refl, (refl, (refl, (refl, (refl, (refl, (refl, (tt, (refl, (refl, (refl, (tt, (refl, (refl, (refl, (refl, (tt, (refl, (refl, (refl, (refl, (refl, (refl, (refl, (refl, (refl, (refl, (refl, tt))))))))))))))))))))))))))))))))))))))))))))))

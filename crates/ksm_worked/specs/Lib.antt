@@ -1,0 +1,11 @@
+pub mod Scripts
+pub mod Merging
+pub mod Knobs
+pub mod Frames
+pub mod Edges
+pub mod Refusals
+pub mod Places
+pub mod Passes
+pub mod Flags
+pub mod ZeroPages
+pub mod Selftests

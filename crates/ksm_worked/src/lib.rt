@@ -1,0 +1,13 @@
+//! The worked scripts: what the definitions of the book answer and show, line by line. Each is a law, with nothing to run.
+#![tactic(auto)]
+
+pub mod edges;
+pub mod flags;
+pub mod frames;
+pub mod kernel;
+pub mod knobs;
+pub mod merging;
+pub mod passes;
+pub mod places;
+pub mod refusals;
+pub mod zero_pages;
