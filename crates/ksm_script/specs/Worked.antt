@@ -11,7 +11,6 @@ use Rattle.ksm_base.specs.declared.reply.Reply.TheVariants as replies
 use Rattle.ksm_base.specs.declared.fault.Fault.{Fault}
 use Rattle.ksm_base.specs.declared.fault.Fault.TheVariants.{Memory, UnknownPage, NotRunning, BadValue, UnknownPlace, BadNode}
 use Rattle.ksm_base.specs.State.{opening}
-use Rattle.ksm_base.specs.Answers.{Answer}
 use Rattle.frame_table.specs.declared.pass.Why.TheVariants.{Vacant}
 use Rattle.frame_table.specs.Named.{TableName, PassView, HeldView}
 use Rattle.frame_table.specs.Lookup.{Log, IsVacant}

@@ -13,6 +13,8 @@ mod session;
 mod tests;
 mod worked;
 
+#[cfg(test)]
+use ksm_lines::{LineFault, read_line};
 pub use pass_state::PassState;
 pub use refusal::Refusal;
 pub use reply::{LineReply, write_reply};
