@@ -1,8 +1,3 @@
-pub mod Booleans
-pub mod Words
-pub mod Numbers
-pub mod Fields
-pub mod Lines
 pub mod Blocks
 pub mod Hex
 pub mod Journaled

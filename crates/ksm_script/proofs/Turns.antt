@@ -4,18 +4,18 @@ use Rattle.std.specs.Io.KnownBytes.{Appends, Consumes, IsAtEnd, Keeps}
 use Rattle.std.proofs.lemmas.List.{append-nil}
 use Rattle.std.proofs.KnownBytes.{Appends-kept, Appends-nil, Appends-trans, Consumes-nil, Consumes-trans}
 use Rattle.ksm_script.specs.State.{ScriptState}
-use Rattle.ksm_script.specs.declared.line.Line.{Line}
-use Rattle.ksm_script.specs.declared.line.LineFault.{LineFault}
+use Rattle.ksm_lines.specs.declared.line.Line.{Line}
+use Rattle.ksm_lines.specs.declared.line.LineFault.{LineFault}
 use Rattle.ksm_script.specs.declared.reply.LineReply.{LineReply}
 use Rattle.ksm_script.specs.declared.script.End.{End}
 use Rattle.ksm_script.specs.declared.script.RunFault.{RunFault}
 use Rattle.ksm_script.specs.declared.script.RunFault.TheVariants.{Write}
 use Rattle.ksm_script.specs.declared.input.LineEnd.{LineEnd}
 use Rattle.ksm_script.specs.declared.input.LineEnd.TheVariants.{Newline, Input, TooLong}
-use Rattle.ksm_script.specs.Grammar.{Writes}
+use Rattle.ksm_lines.specs.Grammar.{Writes, IsNoLine}
 use Rattle.ksm_script.specs.Input.{EndsAs, IsPlain}
 use Rattle.ksm_script.specs.Answering.{Answers, reply_text}
-use Rattle.ksm_script.specs.Script.{Answered, none, more, CarriesOut, ReadFor, AnsweredAll, AnsweredLast, IsNoLine, IsBad, IsReadAs, AnsweredToBad, Streams, Goes}
+use Rattle.ksm_script.specs.Script.{Answered, none, more, CarriesOut, ReadFor, AnsweredAll, AnsweredLast, IsBad, IsReadAs, AnsweredToBad, Streams, Goes}
 
 -- a failed write is told as one
 pub broke : (io : Streams) (from to : ScriptState) (told : Result End RunFault) → told ≡ Err Write → Goes io from to (Err Write) → Goes io from to told

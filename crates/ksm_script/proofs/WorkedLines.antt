@@ -1,6 +1,5 @@
 -- The worked lines hold.
 use Rattle.std.proofs.Common.{◌≡◌, ℕ, ◌<◌, ◌≤◌, ⊎_elim, inl, inr, List, [], ◌∷◌, ◌++◌, length, Option, Some, None, Ok, Err, sym, refl, ap, ◌∙◌, subst, arith}
-use Rattle.std.specs.Prelude.{codes}
 use Rattle.std.specs.List.{AllZip}
 use Rattle.ksm_base.specs.declared.command.Command.{Command}
 use Rattle.ksm_base.specs.declared.command.Command.TheVariants as commands
@@ -11,31 +10,24 @@ use Rattle.ksm_base.specs.State.{BookState}
 use Rattle.ksm_base.specs.declared.page.GuestPage.{GuestPage}
 use Rattle.ksm_base.specs.Reading.{bytes_of, ticket_of}
 use Rattle.ksm_base.specs.Refusals.{is_known}
-use Rattle.ksm_script.specs.declared.knob.Knob.TheVariants.{Run}
-use Rattle.ksm_script.specs.declared.knob.Shown.TheVariants.{Knob as OfKnob}
-use Rattle.ksm_script.specs.Knobs.{shown_in}
-use Rattle.ksm_script.specs.declared.line.Line.TheVariants as lines
+use Rattle.ksm_lines.specs.declared.knob.Knob.TheVariants.{Run}
+use Rattle.ksm_lines.specs.declared.knob.Shown.TheVariants.{Knob as OfKnob}
+use Rattle.ksm_lines.specs.Knobs.{shown_in}
 use Rattle.ksm_base.specs.Answers.{Answer, IsAnswerOrMemory}
-use Rattle.ksm_base.specs.Worked.{shape, at, full}
 use Rattle.frame_table.specs.declared.pass.Why.TheVariants.{Vacant}
 use Rattle.frame_table.specs.Named.{TableName, PassView, HeldView}
 use Rattle.frame_table.specs.Lookup.{Log, IsVacant}
 use Rattle.ksm_audit.specs.declared.report.Row.{Row}
 use Rattle.ksm_audit.specs.Lookups.{word_loads}
-use Rattle.ksm_script.specs.declared.line.Line.{Line}
 use Rattle.ksm_script.specs.declared.pass_state.PassState.{PassState}
 use Rattle.ksm_script.specs.declared.pass_state.PassState.TheVariants.{Idle, Holding}
 use Rattle.ksm_script.specs.declared.refusal.Refusal.TheVariants.{Book}
 use Rattle.ksm_script.specs.declared.reply.LineReply.{LineReply}
 use Rattle.ksm_script.specs.declared.reply.LineReply.TheVariants.{Done, Content, Scanned, Pruned, Unmerged, Value, Held, Gone, Audit, Refused}
-use Rattle.ksm_script.specs.Grammar.{words_of}
-use Rattle.ksm_script.specs.Forms.{line_at}
 use Rattle.ksm_script.specs.State.{ScriptState}
 use Rattle.ksm_script.specs.Lookups.{Found, LooksAt, GivesUp, AuditedBy, HoldsStill, idle_of}
 use Rattle.ksm_script.specs.Answering.{Commands, KeepsBook, Reads, commanded, reply_to, content_reply, ticket_reply}
-use Rattle.ksm_script.specs.Script.{IsNoLine}
-use Rattle.ksm_script.specs.Worked.{start, register, merged, one_holds, both_hold, CommandLines, ReadingLines, LookupLines, BadLines}
-use Rattle.ksm_script.proofs.Lines.{line_again, line_takes}
+use Rattle.ksm_script.specs.Worked.{shape, at, full, start, register, merged, one_holds, both_hold, CommandLines, ReadingLines, LookupLines}
 
 all_is : (n s : ScriptState) → KeepsBook s n → n.passes ≡ s.passes → n ≡ s
 all_is n s b p = λ i. let z : ScriptState = record { book = b.0 i; journal = b.1 i; passes = p i } in z
@@ -233,24 +225,3 @@ lookup_lines v h k is =
     never_found : (v : PassView) (place : ℕ) (next : PassState) → Found v place (Refused (Book UnknownPlace)) next → ⊥
     never_found v place (Idle w) f = f
     never_found v place (Holding h) f = f
-
--- ---- bad lines
-
--- what is not read as a line is written by none
-none_writes : (bytes : List ℕ) → (let none : Option Line = None in line_at (words_of bytes) ≡ none) → IsNoLine bytes
-none_writes bytes e form written = cc (sym e ∙ line_again form (words_of bytes) written)
-
-pub bad_lines : BadLines
-bad_lines = record {
-  capitals = none_writes (codes "STAT") refl;
-  no_word = none_writes (codes " ") refl;
-  leading_zero = none_writes (codes "get 00 0") refl;
-  large_guest = none_writes (codes "get 65536 0") refl;
-  odd_digits = none_writes (codes "put 0 0 b") refl;
-  no_place = none_writes (codes "find 0") refl;
-  one_more = none_writes (codes "audit 0") refl;
-  empty = λ no_line. no_line lines.Empty (refl, tt);
-  stat = λ no_line. no_line lines.Stat (refl, tt);
-  find = λ no_line. no_line (lines.Find 0 0) (line_takes (words_of (codes "find 0 0")) (lines.Find 0 0) refl);
-  audit = λ no_line. no_line lines.Audit (refl, tt);
-}

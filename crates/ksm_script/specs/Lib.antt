@@ -1,9 +1,3 @@
-pub mod Content
-pub mod Knobs
-pub mod Grammar
-pub mod Reading
-pub mod Digits
-pub mod Forms
 pub mod Texts
 pub mod Pieces
 pub mod Replies

@@ -1,8 +1,8 @@
 -- What a run reads and writes (own).
 use Rattle.std.specs.Prelude.{◌≡◌, ◌≢◌, ℕ, ◌+◌, ◌≤◌, List, [], ◌∷◌, ◌++◌, length, Option, Some, ◌⊎◌, Result, Ok, Err}
 use Rattle.std.specs.Io.KnownBytes.{Appends, Consumes, IsAtEnd}
-use Rattle.ksm_script.specs.declared.line.Line.{Line}
-use Rattle.ksm_script.specs.declared.line.LineFault.{LineFault}
+use Rattle.ksm_lines.specs.declared.line.Line.{Line}
+use Rattle.ksm_lines.specs.declared.line.LineFault.{LineFault}
 use Rattle.ksm_script.specs.declared.reply.LineReply.{LineReply}
 use Rattle.ksm_script.specs.declared.reply.LineReply.TheVariants.{BadLine as Bad}
 use Rattle.ksm_script.specs.declared.script.End.{End}
@@ -11,7 +11,7 @@ use Rattle.ksm_script.specs.declared.script.RunFault.{RunFault}
 use Rattle.ksm_script.specs.declared.script.RunFault.TheVariants.{Read, Write}
 use Rattle.ksm_script.specs.declared.input.LineEnd.{LineEnd}
 use Rattle.ksm_script.specs.declared.input.LineEnd.TheVariants.{Newline, Input, TooLong}
-use Rattle.ksm_script.specs.Grammar.{Writes}
+use Rattle.ksm_lines.specs.Grammar.{Writes, IsNoLine}
 use Rattle.ksm_script.specs.Input.{EndsAs, IsPlain}
 use Rattle.ksm_script.specs.State.{ScriptState}
 use Rattle.ksm_script.specs.Answering.{Answers, AllGivenBack, reply_text}
@@ -51,10 +51,6 @@ AnsweredLast old new from to text reply =
 -- so many whole lines were read and answered with a text, and some bytes were read behind them
 abbrev pub AnsweredBefore : Option (List ℕ) → Option (List ℕ) → ScriptState → ScriptState → List ℕ → ℕ → List ℕ → Type 0
 AnsweredBefore old new from to text count bytes = (lines : List ℕ) × Answered from lines text count to × Consumes old new (lines ++ bytes)
-
--- no form of a line is written so
-abbrev pub IsNoLine : List ℕ → Type 0
-IsNoLine line = (form : Line) → ¬ (Writes form line)
 
 -- a bad line, by how it ended: none of the forms, or more bytes than a line may have
 abbrev pub IsBad : LineEnd → List ℕ → Option (List ℕ) → Type 0

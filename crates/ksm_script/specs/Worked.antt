@@ -1,32 +1,44 @@
 -- Worked lines, by which the definitions of the script are tried: what a line is answered in a state, and what never (own).
-use Rattle.std.specs.Prelude.{◌≡◌, ℕ, List, [], ◌∷◌, ◌++◌, length, Option, None, Some, Ok, Err, codes}
+use Rattle.std.specs.Prelude.{◌≡◌, ℕ, ◌*◌, ◌^◌, List, [], ◌∷◌, ◌++◌, length, Option, None, Some, Ok, Err}
 use Rattle.std.specs.Global.{Vec}
+use Rattle.std.specs.List.{repeat}
 use Rattle.ksm_base.specs.declared.page.GuestPage.{GuestPage}
+use Rattle.ksm_base.specs.declared.page.TheConstants.{PAGE_WORDS}
+use Rattle.ksm_base.specs.declared.shape.Shape.{Shape}
 use Rattle.ksm_base.specs.declared.command.Command.{Command}
 use Rattle.ksm_base.specs.declared.command.Command.TheVariants as commands
 use Rattle.ksm_base.specs.declared.reply.Reply.TheVariants as replies
 use Rattle.ksm_base.specs.declared.fault.Fault.{Fault}
 use Rattle.ksm_base.specs.declared.fault.Fault.TheVariants.{Memory, UnknownPage, NotRunning, BadValue, UnknownPlace, BadNode}
 use Rattle.ksm_base.specs.State.{opening}
-use Rattle.ksm_base.specs.Answers.{Answer}
-use Rattle.ksm_base.specs.Worked.{shape, at, full}
 use Rattle.frame_table.specs.declared.pass.Why.TheVariants.{Vacant}
 use Rattle.frame_table.specs.Named.{TableName, PassView, HeldView}
 use Rattle.frame_table.specs.Lookup.{Log, IsVacant}
 use Rattle.frame_table.specs.Seats.{new_pass}
 use Rattle.ksm_audit.specs.declared.report.Row.{Row}
 use Rattle.ksm_audit.specs.Lookups.{word_loads}
-use Rattle.ksm_script.specs.declared.knob.Knob.TheVariants.{Run}
-use Rattle.ksm_script.specs.declared.knob.Shown.TheVariants.{Knob as OfKnob}
-use Rattle.ksm_script.specs.declared.line.Line.{Line}
-use Rattle.ksm_script.specs.declared.line.Line.TheVariants as lines
+use Rattle.ksm_lines.specs.declared.knob.Knob.TheVariants.{Run}
+use Rattle.ksm_lines.specs.declared.knob.Shown.TheVariants.{Knob as OfKnob}
+use Rattle.ksm_lines.specs.declared.line.Line.{Line}
+use Rattle.ksm_lines.specs.declared.line.Line.TheVariants as lines
 use Rattle.ksm_script.specs.declared.pass_state.PassState.TheVariants.{Idle, Holding}
 use Rattle.ksm_script.specs.declared.refusal.Refusal.TheVariants.{Book, NoPass, NotHolding, Holding as PassHolds}
 use Rattle.ksm_script.specs.declared.reply.LineReply.{LineReply}
 use Rattle.ksm_script.specs.declared.reply.LineReply.TheVariants.{Done, Content, Place, Private, Mappers, Scanned, Pruned, Unmerged, Value, Held, Gone, Busy, Audit, Refused}
 use Rattle.ksm_script.specs.State.{ScriptState}
 use Rattle.ksm_script.specs.Answering.{Answers, commanded}
-use Rattle.ksm_script.specs.Script.{IsNoLine}
+
+-- a shape of so many nodes and frames a node
+abbrev pub shape : ℕ → ℕ → Shape
+shape nodes frames = record { nodes = nodes; frames_per_node = frames; passes = 2; last_generation = 2 ^ 40; tries = 8 }
+
+-- a page by its guest and number
+abbrev pub at : ℕ → ℕ → GuestPage
+at guest page = record { guest = guest; page = page }
+
+-- bytes that are all equal
+abbrev pub full : ℕ → List ℕ
+full byte = repeat PAGE_WORDS (byte * 0x0101010101010101 ∷ [])
 
 -- the line may be answered so, and then leaves this state and no other
 abbrev pub Leads : ScriptState → Line → Option LineReply → ScriptState → Type 0
@@ -131,17 +143,3 @@ pub record LookupLines (v : PassView) (h k : HeldView) : Type 0 where
   pub audit_memory : Leads (one_holds v h) lines.Audit (Some (Refused (Book Memory))) (one_holds v h)
   pub audited : (rows : List Row) (n : ScriptState) → Answers lines.Audit (one_holds v h) (Some (Audit rows)) n → (w : PassView) × (n ≡ one_holds w h) × (length rows ≡ 4)
   pub not_audited : (rows : List Row) → Never (both_hold h k) lines.Audit (Some (Audit rows))
-
--- Bytes that are no line, and bytes that are one
-pub record BadLines : Type 0 where
-  pub capitals : IsNoLine (codes "STAT")
-  pub no_word : IsNoLine (codes " ")
-  pub leading_zero : IsNoLine (codes "get 00 0")
-  pub large_guest : IsNoLine (codes "get 65536 0")
-  pub odd_digits : IsNoLine (codes "put 0 0 b")
-  pub no_place : IsNoLine (codes "find 0")
-  pub one_more : IsNoLine (codes "audit 0")
-  pub empty : ¬ (IsNoLine [])
-  pub stat : ¬ (IsNoLine (codes "stat"))
-  pub find : ¬ (IsNoLine (codes "find 0 0"))
-  pub audit : ¬ (IsNoLine (codes "audit"))

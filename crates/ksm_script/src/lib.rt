@@ -1,10 +1,7 @@
-//! The script language: lines in, reply lines out. A line is a command of the book, or a lookup by one of the passes.
+//! Scripts: lines in, reply lines out. A line is a command of the book, or a lookup by one of the passes.
 #![tactic(auto)]
 
-mod field;
 mod input;
-mod knob;
-mod line;
 mod output;
 mod pass_state;
 mod passes;
@@ -16,11 +13,11 @@ mod session;
 mod tests;
 mod worked;
 
-pub use knob::{Knob, Shown};
-pub use line::{Line, LineFault, read_line};
+#[cfg(test)]
+use ksm_lines::{LineFault, read_line};
 pub use pass_state::PassState;
 pub use refusal::Refusal;
 pub use reply::{LineReply, write_reply};
 pub use script::{End, RunFault, run, run_buffered};
 pub use session::Session;
-pub use worked::{bad_lines, command_lines, lookup_lines, reading_lines};
+pub use worked::{command_lines, lookup_lines, reading_lines};

@@ -10,9 +10,9 @@ ghost use Rattle.ksm_script.specs.Script.{Goes, IsReadAs, Runs, streams};
 ghost use Rattle.ksm_script.specs.Texts.{AppendsPart};
 
 use crate::input::{ByBlocks, ByBytes, LineEnd, TakesLines};
-use crate::line::{Line, LineFault, read_line};
 use crate::reply::{LineReply, write_reply};
 use crate::session::Session;
+use ksm_lines::{Line, LineFault, read_line};
 use ksm_shared::Naming;
 use std::io::{BufReader, BufWriter, Read, Write};
 use std::sync::Wait;

@@ -1,8 +1,7 @@
 //! Laws: worked lines, by which the definitions of the script are tried. They cost nothing to call.
 ghost use Rattle.std.specs.Prelude.{◌≡◌};
-ghost use Rattle.ksm_base.specs.Worked.{shape};
 ghost use Rattle.frame_table.specs.Named.{TableName, PassView, HeldView};
-ghost use Rattle.ksm_script.specs.Worked.{CommandLines, ReadingLines, LookupLines, BadLines};
+ghost use Rattle.ksm_script.specs.Worked.{shape, CommandLines, ReadingLines, LookupLines};
 
 /// What lines that are commands are answered, and what never.
 pub fn command_lines()
@@ -17,9 +16,4 @@ pub fn reading_lines()
 /// What lines of the passes are answered, and what never.
 pub fn lookup_lines()
     ensures { (v : PassView) (h k : HeldView) → v.table.shape ≡ shape 1 4 → LookupLines v h k }
-{}
-
-/// Which bytes are no line.
-pub fn bad_lines()
-    ensures { BadLines }
 {}

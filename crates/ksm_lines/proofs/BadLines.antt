@@ -1,0 +1,28 @@
+-- The worked lines hold.
+use Rattle.std.proofs.Common.{◌≡◌, ℕ, List, Option, None, sym, refl, ◌∙◌}
+use Rattle.std.specs.Prelude.{codes}
+use Rattle.ksm_lines.specs.declared.line.Line.{Line}
+use Rattle.ksm_lines.specs.declared.line.Line.TheVariants as lines
+use Rattle.ksm_lines.specs.Grammar.{words_of, IsNoLine}
+use Rattle.ksm_lines.specs.Forms.{line_at}
+use Rattle.ksm_lines.specs.Worked.{BadLines}
+use Rattle.ksm_lines.proofs.Lines.{line_again, line_takes}
+
+-- what is not read as a line is written by none
+none_writes : (bytes : List ℕ) → (let none : Option Line = None in line_at (words_of bytes) ≡ none) → IsNoLine bytes
+none_writes bytes e form written = cc (sym e ∙ line_again form (words_of bytes) written)
+
+pub bad_lines : BadLines
+bad_lines = record {
+  capitals = none_writes (codes "STAT") refl;
+  no_word = none_writes (codes " ") refl;
+  leading_zero = none_writes (codes "get 00 0") refl;
+  large_guest = none_writes (codes "get 65536 0") refl;
+  odd_digits = none_writes (codes "put 0 0 b") refl;
+  no_place = none_writes (codes "find 0") refl;
+  one_more = none_writes (codes "audit 0") refl;
+  empty = λ no_line. no_line lines.Empty (refl, tt);
+  stat = λ no_line. no_line lines.Stat (refl, tt);
+  find = λ no_line. no_line (lines.Find 0 0) (line_takes (words_of (codes "find 0 0")) (lines.Find 0 0) refl);
+  audit = λ no_line. no_line lines.Audit (refl, tt);
+}

@@ -1,0 +1,100 @@
+-- A word is read as a number exactly where it is the number's decimal text.
+use Rattle.std.proofs.Common.{◌≡◌, ℕ, ◌+◌, ◌-◌, ◌*◌, ◌^◌, ◌<◌, ◌≤◌, Bool, true, false, not, ◌&&◌, ◌||◌, ltb, eqb, List, length, take, get_or, eq-eqb, Some, None, inl, inr, refl, sym, ap, ap₂, subst, ◌∙◌, rules, arith}
+use Rattle.std.specs.Prelude.{decimal}
+use Rattle.std.specs.Char.{is_ascii_digit}
+use Rattle.std.specs.List.{list_all}
+use Rattle.std.specs.Str.Parse.{digits_value}
+use Rattle.std.proofs.lemmas.Bool.{cases_lt, le-ltb, lt-ltb, ltb-true, eqb-true}
+use Rattle.std.proofs.lemmas.Fmt.{decimal_digit, decimal_nonempty, first_decimal, digits_decimal, digits_value-decimal, decimal-digits_value}
+use Rattle.std.proofs.lemmas.Str.Parse.{IsNumeralModel, numerals_by_value}
+use Rattle.ksm_lines.specs.Digits.{digits_of}
+use Rattle.ksm_lines.specs.Reading.{is_plain, number_below}
+use Rattle.std.proofs.lemmas.Str.Parse.{digits_value-take-le}
+use Rattle.std.proofs.lemmas.Int.Digits.{digits_value_more}
+use Rattle.std.proofs.lemmas.List.Folds.{list_all_more}
+use Rattle.std.specs.Char.{digit_value}
+use Rattle.ksm_lines.proofs.Booleans.{chosen, is_chosen, first_true, second_true}
+
+-- decimal digits, as a test
+own : IsNumeralModel (λ word. list_all is_ascii_digit word ≡ true) (digits_value 10)
+own = numerals_by_value _ (search rules)
+
+pub record IsPlain (word : List ℕ) : Type 0 where
+  pub digits : list_all is_ascii_digit word ≡ true
+  pub long : 0 < length word
+  pub no_zero : get_or word 0 0 ≡ 48 → length word ≡ 1
+
+zero_alone : (a b : Bool) → (not a || b) ≡ true → a ≡ true → b ≡ true
+zero_alone true b e h = e
+zero_alone false b e h = absurd cc
+
+pub plain_parts : (word : List ℕ) → is_plain word ≡ true → IsPlain word
+plain_parts word e =
+    let digits_long = first_true (list_all is_ascii_digit word && ltb 0 (length word)) _ e in
+    let zero = second_true (list_all is_ascii_digit word && ltb 0 (length word)) _ e in
+    record {
+      digits = first_true (list_all is_ascii_digit word) _ digits_long;
+      long = ltb-true _ _ (second_true (list_all is_ascii_digit word) _ digits_long);
+      no_zero = λ h. eqb-true _ _ (zero_alone (eqb (get_or word 0 0) 48) _ zero (eq-eqb _ _ h));
+    }
+
+not_zero : (a b : Bool) → (a ≡ true → b ≡ true) → (not a || b) ≡ true
+not_zero true b h = h refl
+not_zero false b h = refl
+
+-- the digits as far as they are read
+abbrev pub IsReadTo : ℕ → List ℕ → ℕ → Type 0
+IsReadTo i word value = (list_all is_ascii_digit (take i word) ≡ true) × (value ≡ digits_value 10 (take i word)) × (value < 2 ^ 32)
+
+-- digits that write a number out of range
+pub no_digits_high : (word : List ℕ) (i value : ℕ) → value ≡ digits_value 10 (take i word) → 2 ^ 32 ≤ value → digits_of word ≡ None
+no_digits_high word i value is high =
+    let all : 2 ^ 32 ≤ digits_value 10 word = omega (arith, digits_value-take-le 10 word i (omega arith)) in
+    rw (le-ltb _ _ all) (neither (list_all is_ascii_digit word))
+  where
+    neither : (b : Bool) → chosen (b && false) (digits_value 10 word) ≡ None
+    neither true = refl
+    neither false = refl
+
+digit_value_of : (c : ℕ) → 48 ≤ c → c ≤ 57 → digit_value c ≡ c - 48
+digit_value_of c low high = let less : c < 58 = omega arith in rw (le-ltb _ _ low, lt-ltb _ _ less) refl
+
+-- one digit more
+module _ (word : List ℕ) (i value digit : ℕ) (lt : i < length word) (low : 48 ≤ get_or word i 0) (high : get_or word i 0 ≤ 57)
+    (is : digit ≡ get_or word i 0 - 48) (read : IsReadTo i word value) where
+  pub value_more : value * 10 + digit ≡ digits_value 10 (take (i + 1) word)
+  value_more = ap₂ (λ v d. v * 10 + d) read.1 (is ∙ sym (digit_value_of (get_or word i 0) low high)) ∙ sym (digits_value_more 10 word i lt)
+
+  pub read_more : is_ascii_digit (get_or word i 0) ≡ true → value * 10 + digit < 2 ^ 32 → IsReadTo (i + 1) word (value * 10 + digit)
+  read_more digits small = (list_all_more is_ascii_digit word i 0 lt ∙ ap₂ (λ a b. a && b) read.0 digits, value_more, small)
+
+-- ---- the number's decimal text
+
+below_all : (n limit : ℕ) → n < limit → limit ≤ 2 ^ 64 → n < 2 ^ 64
+below_all n limit lt small = omega arith
+
+pub number_takes : (limit : ℕ) (word : List ℕ) (n : ℕ) → limit ≤ 2 ^ 64 → number_below limit word ≡ Some n → (n < limit) × (word ≡ decimal n)
+number_takes limit word n small e =
+    let is = is_chosen (is_plain word && ltb (digits_value 10 word) limit) (digits_value 10 word) n e in
+    let plain = plain_parts word (first_true _ _ is.0) in
+    let lt : digits_value 10 word < limit = ltb-true _ _ (second_true _ _ is.0) in
+    let wide : digits_value 10 word < 2 ^ 64 = below_all (digits_value 10 word) limit lt small in
+    let text = decimal-digits_value own word plain.digits plain.long plain.no_zero wide in
+    (subst (λ k. k < limit) (sym is.1) lt, sym text ∙ ap decimal (sym is.1))
+
+zero_short : (n : ℕ) → n < 2 ^ 64 → get_or (decimal n) 0 0 ≡ 48 → length (decimal n) ≡ 1
+zero_short n lt e =
+    elim (cases_lt 0 n) [
+      | inl more ↦ omega (arith, first_decimal n more lt)
+      | inr none ↦ let zero : n ≡ 0 = omega arith in ap length (decimal_digit n (omega arith))
+    ]
+
+pub decimal_plain : (n : ℕ) → n < 2 ^ 64 → is_plain (decimal n) ≡ true
+decimal_plain n lt =
+    let tail = not_zero (eqb (get_or (decimal n) 0 0) 48) (eqb (length (decimal n)) 1) (λ h. eq-eqb _ _ (zero_short n lt (eqb-true _ _ h))) in
+    rw (digits_decimal own n lt, lt-ltb _ _ (decimal_nonempty n lt), tail) refl
+
+pub number_again : (limit n : ℕ) → limit ≤ 2 ^ 64 → n < limit → number_below limit (decimal n) ≡ Some n
+number_again limit n small lt =
+    let wide : n < 2 ^ 64 = omega arith in
+    rw (decimal_plain n wide, digits_value-decimal own n wide, lt-ltb _ _ lt) refl

@@ -1,0 +1,45 @@
+-- Words, parted at each space.
+use Rattle.std.proofs.Common.{◌≡◌, ℕ, ◌+◌, ◌-◌, ◌<◌, Bool, true, false, cond, List, [], ◌∷◌, length, take, drop, Some, None, refl, sym, ap, ◌∙◌}
+use Rattle.std.specs.Prelude.{position}
+use Rattle.std.specs.List.{slice_split, onto_first, position_from, position_or_len}
+use Rattle.std.proofs.lemmas.Bool.{ltb-true}
+use Rattle.std.proofs.lemmas.Iterator.Adapters.{position_from-zero}
+use Rattle.std.proofs.lemmas.List.{take_rest}
+use Rattle.std.proofs.lemmas.List.Splits.{slice_split_first}
+use Rattle.ksm_lines.specs.Reading.{ended}
+use Rattle.ksm_lines.proofs.Booleans.{is_chosen}
+
+-- there is always a first part
+pub split_part : {X : Type 0} (p : X → Bool) (xs : List X) → (first : List X) × (rest : List (List X)) × (slice_split p xs ≡ first ∷ rest)
+split_part p [] = ([], [], refl)
+split_part {X = X} p (x ∷ xs) =
+    let later = split_part p xs in
+    elim (p x) as (λ b. (first : List X) × (rest : List (List X)) × (cond b ([] ∷ slice_split p xs) (onto_first x (slice_split p xs)) ≡ first ∷ rest)) [
+      | true ↦ ([], slice_split p xs, refl)
+      | false ↦ (x ∷ later.0, later.1, ap (onto_first x) later.2)
+    ]
+
+-- words that are left have a first one
+pub not_ended : (p : ℕ → Bool) (text : List ℕ) → ended (slice_split p text) ≡ None
+not_ended p text = let part = split_part p text in ap ended part.2
+
+-- the words before and behind the first space
+pub cut_at : (p : ℕ → Bool) (text : List ℕ) (at : ℕ) → position p text ≡ Some at
+    → slice_split p text ≡ take at text ∷ slice_split p (take (length text - (at + 1)) (drop (at + 1) text))
+cut_at p text at e =
+    let is = is_chosen _ _ _ e in
+    let lt : position_or_len p text < length text = ltb-true _ _ is.0 in
+    let behind : take (length text - (at + 1)) (drop (at + 1) text) ≡ drop (at + 1) text = take_rest text (at + 1) in
+    rw (behind, is.1) (slice_split_first p text 0 lt)
+
+one_word : (p : ℕ → Bool) (text : List ℕ) (i : ℕ) → position_from p i text ≡ None → slice_split p text ≡ text ∷ []
+one_word p [] i e = refl
+one_word p (x ∷ xs) i e =
+    elim (p x) as (λ b. cond b (Some i) (position_from p (i + 1) xs) ≡ None → cond b ([] ∷ slice_split p xs) (onto_first x (slice_split p xs)) ≡ (x ∷ xs) ∷ []) [
+      | true ↦ λ h. absurd cc
+      | false ↦ λ h. ap (onto_first x) (one_word p xs (i + 1) h)
+    ] e
+
+-- without a space there is one word
+pub cut_none : (p : ℕ → Bool) (text : List ℕ) → position p text ≡ None → slice_split p text ≡ text ∷ []
+cut_none p text e = one_word p text 0 (sym (position_from-zero p text) ∙ e)

@@ -1,0 +1,45 @@
+-- The knobs, and what else is shown, by their names (admin-guide/mm/ksm).
+use Rattle.std.specs.Prelude.{ℕ, List, codes}
+use Rattle.ksm_base.specs.declared.command.Command.{Command}
+use Rattle.ksm_base.specs.declared.command.Command.TheVariants.{SetRun, SetPagesToScan, SetAcross, SetLimit, SetZeroPages}
+use Rattle.ksm_base.specs.declared.knobs.Knobs.{Knobs}
+use Rattle.ksm_base.specs.Counting.{counters_of}
+use Rattle.ksm_base.specs.State.{BookState}
+use Rattle.ksm_lines.specs.declared.knob.Knob.{Knob}
+use Rattle.ksm_lines.specs.declared.knob.Shown.{Shown}
+use Rattle.ksm_lines.specs.declared.knob.Shown.TheVariants.{Knob as OfKnob, ZeroPages}
+use Rattle.ksm_lines.specs.declared.knob.Knob.TheVariants.{Run, PagesToScan, MergeAcrossNodes, MaxPageSharing, UseZeroPages}
+
+-- the name of a knob
+abbrev pub knob_name : Knob → List ℕ
+knob_name Run = codes "run"
+knob_name PagesToScan = codes "pages_to_scan"
+knob_name MergeAcrossNodes = codes "merge_across_nodes"
+knob_name MaxPageSharing = codes "max_page_sharing"
+knob_name UseZeroPages = codes "use_zero_pages"
+
+-- the name of what is shown
+abbrev pub shown_name : Shown → List ℕ
+shown_name (OfKnob knob) = knob_name knob
+shown_name ZeroPages = codes "ksm_zero_pages"
+
+-- the command that sets a knob
+abbrev pub setting : Knob → ℕ → Command
+setting Run value = SetRun value
+setting PagesToScan value = SetPagesToScan value
+setting MergeAcrossNodes value = SetAcross value
+setting MaxPageSharing value = SetLimit value
+setting UseZeroPages value = SetZeroPages value
+
+-- what a knob is set to
+abbrev pub value_in : Knob → Knobs → ℕ
+value_in Run knobs = knobs.run
+value_in PagesToScan knobs = knobs.pages_to_scan
+value_in MergeAcrossNodes knobs = knobs.merge_across_nodes
+value_in MaxPageSharing knobs = knobs.max_page_sharing
+value_in UseZeroPages knobs = knobs.use_zero_pages
+
+-- the value that is shown: a knob's, or how many pages are mapped from the zero page
+abbrev pub shown_in : Shown → BookState → ℕ
+shown_in (OfKnob knob) b = value_in knob b.knobs
+shown_in ZeroPages b = (counters_of b).zero

@@ -1,0 +1,7 @@
+pub mod Content
+pub mod Knobs
+pub mod Grammar
+pub mod Reading
+pub mod Digits
+pub mod Forms
+pub mod Worked

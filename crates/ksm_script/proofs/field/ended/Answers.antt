@@ -1,7 +1,0 @@
-use Rattle.std.proofs.Common.{eqb, ◌∙◌, ap}
-use Rattle.ksm_script.specs.Reading.{ended, words_left}
-use Rattle.ksm_script.proofs.Words.{not_ended}
-use Rattle.ksm_script.proofs.field.ended.Goals as goal
-
-pub returns-in-Some : goal.returns-in-Some
-returns-in-Some c = ap (λ left. ended (words_left left)) c.in-Some.is ∙ not_ended (λ byte. eqb byte 32) c.in-Some.field-0.now
