@@ -1,4 +1,6 @@
-use super::*;
+//! The frame core by worked events: one frame in two lives.
+
+use frame_core::{Core, Event, KeeperStep, Kind, Phase, ReaderStep, Step, run};
 use ksm_base::Shape;
 use std::process::Abort;
 use std::test::*;

@@ -1,12 +1,13 @@
+//! The book by its commands: pages merge, are written, move, and give their frames back, and the journal has each command.
 ghost use Rattle.std.specs.Prelude.{◌≡◌, All, IfOk, vec_len};
 ghost use Rattle.ksm_base.specs.Values.{IsShape, frames_of};
 
-use crate::Book;
 use frame_table::{Found, FrameTable, Pass};
 use ksm_base::Command::{
     Drop, Mergeable, MoveDup, MovePage, Prune, Register, Scan, SetAcross, SetLimit, SetRun, Store,
 };
 use ksm_base::{Command, Counters, Fault, GuestPage, PAGE_WORDS, PageBytes, Reply, Shape};
+use ksm_book::Book;
 use std::alloc::Global;
 use std::process::Abort;
 use std::test::Fail;

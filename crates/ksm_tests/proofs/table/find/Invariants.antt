@@ -1,5 +1,5 @@
 use Rattle.std.proofs.Common.{◌≡◌}
-use Rattle.frame_table.proofs.tests.find.Given as goal
+use Rattle.ksm_tests.proofs.table.find.Given as goal
 
 abbrev pub invariant-loop-i : goal.invariant-loop-i
 invariant-loop-i l = l.held.table ≡ l.table

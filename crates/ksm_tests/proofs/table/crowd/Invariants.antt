@@ -1,8 +1,8 @@
 use Rattle.std.proofs.Common.{◌≡◌, ◌+◌, ◌≤◌, vec_len, vec_capacity}
 use Rattle.std.specs.Prelude.{All, IsSomeAnd}
 use Rattle.frame_table.specs.Named.{PassView}
-use Rattle.frame_table.specs.declared.tests.Worker.{Worker}
-use Rattle.frame_table.proofs.tests.crowd.Given as goal
+use Rattle.ksm_tests.specs.declared.table.Worker.{Worker}
+use Rattle.ksm_tests.proofs.table.crowd.Given as goal
 
 -- the passes that are left, and the workers that have one
 abbrev pub invariant-loop-pass : goal.invariant-loop-pass

@@ -1,8 +1,8 @@
 use Rattle.std.proofs.Common.{◌≡◌, ◌+◌, ◌≤◌, vec_len, vec_capacity}
 use Rattle.std.specs.Prelude.{All, IsSomeAnd}
 use Rattle.frame_table.specs.Named.{PassView}
-use Rattle.frame_table.specs.declared.tests.Worker.{Worker}
-use Rattle.frame_table.proofs.tests.take_back.Given as goal
+use Rattle.ksm_tests.specs.declared.table.Worker.{Worker}
+use Rattle.ksm_tests.proofs.table.take_back.Given as goal
 
 -- the passes taken back, and the workers that still have one
 abbrev pub invariant-loop-worker : goal.invariant-loop-worker

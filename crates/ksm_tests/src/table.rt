@@ -1,3 +1,4 @@
+//! The frame table: lookups while a frame is named, dying and given again, on one thread, on two, and by a crowd against a keeper.
 ghost use Rattle.std.specs.Prelude.{◌≡◌, ◌+◌, ◌<◌, ◌≤◌, All, IsTrue, IsSomeAnd, Some, length, vec_len, vec_capacity};
 ghost use Rattle.std.specs.Thread.{IsSync};
 ghost use Rattle.ksm_base.specs.Values.{IsShape, frames_of};
@@ -8,8 +9,8 @@ ghost use Rattle.frame_core.specs.declared.seat.Life.{Life};
 ghost use Rattle.frame_table.specs.Kept.{May};
 ghost use Rattle.frame_table.specs.Seats.{new_keeper};
 
-use crate::{Found, FoundEqual, FrameTable, Held, Keeper, Pass, Why};
 use frame_core::Kind;
+use frame_table::{Found, FoundEqual, FrameTable, Held, Keeper, Pass, Why};
 use ksm_base::{Fault, PAGE_WORDS, PageBytes, Shape};
 use std::alloc::Global;
 use std::test::Fail;

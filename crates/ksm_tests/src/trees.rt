@@ -1,7 +1,8 @@
+//! The trees of the book: the pages that wait, and the dups with their items.
 ghost use Rattle.std.specs.Prelude.{◌≡◌};
 
-use super::*;
 use ksm_base::{GuestPage, PageBytes};
+use ksm_tree::{Choice, Dups, Waiting};
 use std::test::Fail;
 
 fn page(number: u32) -> GuestPage

@@ -1,5 +1,5 @@
 use Rattle.std.proofs.Common.{◌≡◌}
-use Rattle.frame_table.proofs.tests.is_of_one_life.Given as goal
+use Rattle.ksm_tests.proofs.table.is_of_one_life.Given as goal
 
 abbrev pub invariant-loop : goal.invariant-loop
 invariant-loop l = l.held.table ≡ l.table

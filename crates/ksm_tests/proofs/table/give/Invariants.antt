@@ -2,7 +2,7 @@ use Rattle.std.proofs.Common.{◌≡◌, ◌+◌, length}
 use Rattle.ksm_base.specs.Values.{frames_of}
 use Rattle.frame_core.specs.declared.frame.Kind.TheVariants.{Filling}
 use Rattle.frame_core.specs.Ledger.{frame_at}
-use Rattle.frame_table.proofs.tests.give.Given as goal
+use Rattle.ksm_tests.proofs.table.give.Given as goal
 
 abbrev pub invariant-loop-i : goal.invariant-loop-i
 invariant-loop-i l = record {

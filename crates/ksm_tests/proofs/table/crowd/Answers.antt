@@ -1,9 +1,9 @@
 use Rattle.std.proofs.Common.{rules, ◌≡◌}
 use Rattle.std.specs.Prelude.{IsSomeAnd}
 use Rattle.frame_table.specs.Named.{PassView}
-use Rattle.frame_table.specs.declared.tests.Worker.{Worker}
+use Rattle.ksm_tests.specs.declared.table.Worker.{Worker}
 use Rattle.frame_table.proofs.Elements.{all_put, all_left, one_taken}
-use Rattle.frame_table.proofs.tests.crowd.Goals as goal
+use Rattle.ksm_tests.proofs.table.crowd.Goals as goal
 
 pub loop-pass-preserved : goal.loop-pass-preserved
 loop-pass-preserved g c =
