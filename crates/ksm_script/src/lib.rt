@@ -12,8 +12,6 @@ mod refusal;
 mod reply;
 mod script;
 mod session;
-#[cfg(test)]
-mod tests;
 mod worked;
 
 pub use knob::{Knob, Shown};

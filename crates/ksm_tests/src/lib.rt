@@ -2,9 +2,13 @@
 #![tactic(auto)]
 
 #[cfg(test)]
+mod audits;
+#[cfg(test)]
 mod book;
 #[cfg(test)]
 mod events;
+#[cfg(test)]
+mod script;
 #[cfg(test)]
 mod table;
 #[cfg(test)]

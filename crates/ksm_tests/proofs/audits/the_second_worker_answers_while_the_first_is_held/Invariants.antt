@@ -1,4 +1,4 @@
-use Rattle.ksm_audit.proofs.tests.the_second_worker_answers_while_the_first_is_held.Given as goal
+use Rattle.ksm_tests.proofs.audits.the_second_worker_answers_while_the_first_is_held.Given as goal
 
 -- the parts that were just opened
 abbrev pub ghosts-held_audit : goal.ghosts-held_audit

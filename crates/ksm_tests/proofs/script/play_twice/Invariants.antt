@@ -1,4 +1,4 @@
-use Rattle.ksm_script.proofs.tests.play_twice.Given as goal
+use Rattle.ksm_tests.proofs.script.play_twice.Given as goal
 
 -- the parts that were just opened
 abbrev pub ghosts-runs : goal.ghosts-runs

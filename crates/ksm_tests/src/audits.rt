@@ -1,7 +1,8 @@
+//! Audits of a shared book: their rows while a frame is named, dying and given again, a held worker, and a gate that refuses.
 ghost use Rattle.std.specs.Prelude.{◌≡◌, ◌<◌, All, vec_len};
 
-use crate::{AuditFault, Gate, OpenGate, Report, Row, audit};
 use frame_table::{Pass, Why};
+use ksm_audit::{AuditFault, Gate, OpenGate, Report, Row, audit};
 use ksm_base::{Command, Fault, GuestPage, PAGE_WORDS, PageBytes, Reply, Shape};
 use ksm_shared::{Ksm, Naming, Parts, Share};
 use std::alloc::Global;

@@ -1,4 +1,4 @@
-use Rattle.ksm_audit.proofs.tests.rows_of_three_books.Given as goal
+use Rattle.ksm_tests.proofs.audits.rows_of_three_books.Given as goal
 
 -- the parts that were just opened
 abbrev pub ghosts-three_books : goal.ghosts-three_books

@@ -1,4 +1,4 @@
-use Rattle.ksm_audit.proofs.tests.a_refusal_ends_the_audit.Given as goal
+use Rattle.ksm_tests.proofs.audits.a_refusal_ends_the_audit.Given as goal
 
 -- the parts that were just opened
 abbrev pub ghosts-refused_audit : goal.ghosts-refused_audit

@@ -5,8 +5,8 @@ mod faults;
 mod lookups;
 mod selftests;
 
-use super::*;
 use ksm_base::{Fault, PAGE_WORDS, Shape};
+use ksm_script::{End, LineFault, RunFault, Session, read_line, run};
 use ksm_shared::{Naming, Parts};
 use std::alloc::{AllocError, Global};
 use std::io::{self, Read, Write};
