@@ -18,6 +18,3 @@ pub use frame::{FRAME_WORDS, Frame, FrameWord, Kind};
 pub use ledger::{Ledger, Note};
 pub use protocol::{Core, run};
 pub use seat::{Aim, Life, Phase};
-
-#[cfg(test)]
-mod tests;

@@ -25,6 +25,3 @@ pub use laws::{steps_are_the_cores, the_running_table_is_safe};
 pub use pass::{Found, Pass, Why};
 pub use table::FrameTable;
 pub use view::{FrameRule, Tally, View};
-
-#[cfg(test)]
-mod tests;

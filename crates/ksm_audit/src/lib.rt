@@ -18,6 +18,3 @@ pub use auditing::{AuditFault, audit};
 pub use gate::{Gate, OpenGate};
 pub use report::{Report, Row};
 pub use visit::read_page;
-
-#[cfg(test)]
-mod tests;

@@ -11,6 +11,3 @@ mod unmerging;
 
 pub use book::Book;
 pub use journal::Journal;
-
-#[cfg(test)]
-mod tests;

@@ -9,8 +9,6 @@ mod refusal;
 mod reply;
 mod script;
 mod session;
-#[cfg(test)]
-mod tests;
 mod worked;
 
 #[cfg(test)]

@@ -17,6 +17,3 @@ pub mod waiting_laws;
 pub use choice::Choice;
 pub use dups::Dups;
 pub use waiting::Waiting;
-
-#[cfg(test)]
-mod tests;

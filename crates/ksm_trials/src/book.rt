@@ -1,0 +1,250 @@
+//! The book by its commands: pages merge, are written, move, and give their frames back, and the journal has each command.
+ghost use Rattle.std.specs.Prelude.{◌≡◌, All, IfOk, vec_len};
+ghost use Rattle.ksm_base.specs.Values.{IsShape, frames_of};
+
+use frame_table::{Found, FrameTable, Pass};
+use ksm_base::Command::{
+    Drop, Mergeable, MoveDup, MovePage, Prune, Register, Scan, SetAcross, SetLimit, SetRun, Store,
+};
+use ksm_base::{Command, Counters, Fault, GuestPage, PAGE_WORDS, PageBytes, Reply, Shape};
+use ksm_book::Book;
+use std::alloc::Global;
+use std::process::Abort;
+use std::test::Fail;
+
+// One node with four frames.
+const SHAPE: Shape = Shape {
+    nodes: 1,
+    frames_per_node: 4,
+    passes: 1,
+    last_generation: 1 << 40,
+    tries: 8,
+};
+
+const DONE: Result<Reply, Fault> = Ok(Reply::Done);
+
+fn page(page: u32) -> GuestPage {
+    GuestPage { guest: 0, page }
+}
+
+fn filled(word: u64) -> PageBytes {
+    [word; PAGE_WORDS]
+}
+
+fn registered(number: u32, node: u32) -> Command {
+    Register {
+        page: page(number),
+        node,
+        bytes: filled(10),
+    }
+}
+
+fn stored(number: u32) -> Command {
+    Store {
+        page: page(number),
+        bytes: filled(10),
+    }
+}
+
+fn scanned(visits: u64) -> Result<Reply, Fault> {
+    Ok(Reply::Scanned { visits, stop: None })
+}
+
+// A table with its passes, and a book on it.
+fn opened(alloc: Global, shape: Shape) -> Result<(FrameTable, Book, Vec<Pass>), Fault>
+    requires { IsShape shape }
+    ensures shape { IfOk result (λ t. t.0.shape ≡ shape) }
+    ensures own { IfOk result (λ t. t.1.keeper.table ≡ t.0) }
+    ensures passes { IfOk result (λ t. (vec_len t.2 ≡ shape.passes) × All (λ p. p.table ≡ t.0) t.2.items) }
+{
+    let (table, keeper, passes) = FrameTable::open(alloc, shape)?;
+    match Book::open(alloc, keeper, shape) {
+        Ok(book) => Ok((table, book, passes)),
+        Err((keeper, fault)) => {
+            let _ = table.close(keeper, passes);
+            Err(fault)
+        }
+    }
+}
+
+// Two pages of one content, merged by two passes.
+fn merge_two(rt: &impl Abort, table: &FrameTable, book: &mut Book)
+    requires own { book.old.keeper.table ≡ table.now }
+    ensures own { book.new.keeper.table ≡ table.now }
+{
+    assert_eq!(rt; book.apply(table, registered(0, 0)), DONE);
+    assert_eq!(rt; book.apply(table, registered(1, 0)), DONE);
+    assert_eq!(rt; book.apply(table, SetRun(1)), DONE);
+    assert_eq!(rt; book.apply(table, Scan { visits: 4 }), scanned(4));
+}
+
+// Two private pages, after two passes.
+const NONE_SHARED: Counters = Counters {
+    shared: 0,
+    sharing: 0,
+    unshared: 0,
+    volatile: 2,
+    zero: 0,
+    chains: 0,
+    dups: 0,
+    full_scans: 2,
+};
+
+// They are merged by a third, beside a stale dup.
+const MERGED_AGAIN: Counters = Counters {
+    shared: 1,
+    sharing: 1,
+    unshared: 0,
+    volatile: 0,
+    zero: 0,
+    chains: 1,
+    dups: 2,
+    full_scans: 3,
+};
+
+// Two pages of one content, merged by the second pass. A store of the same bytes still copies each, and the next pass merges them again
+// beside the stale dup.
+#[test]
+fn equal_store_still_copies(rt: HostRuntime) -> Result<(), Fail> {
+    let (table, mut book, passes) = opened(rt.alloc(), SHAPE)?;
+    assert_eq!(rt;
+        book.apply(&table, Scan { visits: 1 }),
+        Err(Fault::NotRunning)
+    );
+    merge_two(&rt, &table, &mut book);
+    assert_eq!(rt; book.ticket(page(1)), Some(0));
+    assert_eq!(rt; book.apply(&table, stored(0)), DONE);
+    assert_eq!(rt; book.apply(&table, stored(1)), DONE);
+    assert_eq!(rt; book.counters(), NONE_SHARED);
+    assert_eq!(rt; book.apply(&table, Scan { visits: 2 }), scanned(2));
+    assert_eq!(rt; book.counters(), MERGED_AGAIN);
+    assert_eq!(rt; book.ticket(page(0)), Some(1));
+    assert_eq!(rt; book.read(&table, page(1)), Some(filled(10)));
+    let mappers = match book.mappers(rt.alloc(), 1) {
+        Ok(Some(pages)) => pages.len(),
+        _ => 0,
+    };
+    assert_eq!(rt; mappers, 2);
+    assert_eq!(rt; book.apply(&table, SetLimit(2)), Err(Fault::SharedPages));
+    assert_eq!(rt; book.apply(&table, Prune), Ok(Reply::Pruned(1)));
+    let closed = table.close(book.close(), passes);
+    assert_eq!(rt; closed.place(0), 0);
+    Ok(())
+}
+
+// Pages on two nodes, which merge only while the knob says so.
+#[test]
+fn pages_of_two_nodes(rt: HostRuntime) -> Result<(), Fail> {
+    let shape = Shape { nodes: 2, ..SHAPE };
+    let (table, mut book, passes) = opened(rt.alloc(), shape)?;
+    assert_eq!(rt; book.apply(&table, SetAcross(0)), DONE);
+    assert_eq!(rt; book.apply(&table, registered(0, 0)), DONE);
+    assert_eq!(rt; book.apply(&table, registered(1, 1)), DONE);
+    assert_eq!(rt; book.apply(&table, SetRun(1)), DONE);
+    assert_eq!(rt; book.apply(&table, Scan { visits: 4 }), scanned(4));
+    assert_eq!(rt; book.counters().unshared, 2);
+    let moving = MovePage {
+        page: page(0),
+        node: 1,
+    };
+    assert_eq!(rt; book.apply(&table, moving), DONE);
+    assert_eq!(rt; book.apply(&table, Scan { visits: 4 }), scanned(4));
+    assert_eq!(rt; book.counters().shared, 1);
+    let across = MoveDup { place: 0, node: 0 };
+    assert_eq!(rt; book.apply(&table, across), Err(Fault::CrossesNodes));
+    assert_eq!(rt; book.apply(&table, MoveDup { place: 0, node: 1 }), DONE);
+    assert_eq!(rt; book.read(&table, page(0)), Some(filled(10)));
+    let vacant = MoveDup { place: 3, node: 1 };
+    assert_eq!(rt; book.apply(&table, vacant), Err(Fault::UnknownPlace));
+    let nowhere = MoveDup { place: 0, node: 9 };
+    assert_eq!(rt; book.apply(&table, nowhere), Err(Fault::BadNode));
+    assert_eq!(rt; book.knobs().merge_across_nodes, 0);
+    assert_eq!(rt;
+        book.apply(&table, Mergeable { guest: 1 }),
+        Err(Fault::UnknownPage)
+    );
+    assert_eq!(rt; book.apply(&table, Drop { page: page(0) }), DONE);
+    assert_eq!(rt; book.registered(page(0)), false);
+    let _ = table.close(book.close(), passes);
+    Ok(())
+}
+
+// The dup at the first place, to a frame of its own node.
+const MOVE: Command = MoveDup { place: 0, node: 0 };
+
+// What the move answers while a pass holds the dup's frame; none where the lookup got no hold.
+fn moved_while_held(
+    book: &mut Book,
+    table: &FrameTable,
+    pass: Pass,
+) -> (Option<Result<Reply, Fault>>, Pass)
+    requires own { book.old.keeper.table ≡ table.now }
+    requires pass { pass.table ≡ table.now }
+    requires places { frames_of table.now.shape ≡ 4 }
+    ensures own { book.new.keeper.table ≡ table.now }
+    ensures pass { result.1.table ≡ table.now }
+{
+    match pass.find(table, 0) {
+        Found::Held(held) => {
+            let answer = book.apply(table, MOVE);
+            (Some(answer), held.leave(table))
+        }
+        Found::Gone(pass, _) => (None, pass),
+        Found::Busy(pass) => (None, pass),
+    }
+}
+
+// A move of a dup is refused while a pass holds its frame, and done once the pass has left it. The refused one gives no frame.
+#[test]
+fn held_dup_moves_once_it_is_left(rt: HostRuntime) -> Result<(), Fail> {
+    let (table, mut book, mut passes) = opened(rt.alloc(), SHAPE)?;
+    let Some(pass) = passes.pop() else {
+        unreachable!()
+    };
+    merge_two(&rt, &table, &mut book);
+    let (answer, pass) = moved_while_held(&mut book, &table, pass);
+    assert_eq!(rt; answer, Some(Err(Fault::InUse)));
+    assert_eq!(rt; book.apply(&table, MOVE), DONE);
+    assert_eq!(rt; book.read(&table, page(1)), Some(filled(10)));
+    passes.push_reserved(pass);
+    let closed = table.close(book.close(), passes);
+    assert_eq!(rt; (closed.generation(0), closed.count(0)), (1, 0));
+    assert_eq!(rt; (closed.generation(1), closed.count(1)), (2, 2));
+    assert_eq!(rt; closed.place(0), 2 * 1024 + 1);
+    Ok(())
+}
+
+// The journal has each command with its answer, in order, those refused included.
+#[test]
+fn journal_tells_each_command(rt: HostRuntime) -> Result<(), Fail> {
+    let (table, mut book, passes) = opened(rt.alloc(), SHAPE)?;
+    assert_eq!(rt; book.journal().get(0), None);
+    merge_two(&rt, &table, &mut book);
+    let refused = book.apply(&table, registered(0, 0));
+    assert_eq!(rt; refused, Err(Fault::AlreadyRegistered));
+    assert_eq!(rt; book.apply(&table, stored(1)), DONE);
+    assert_eq!(rt; book.journal().len(), 6);
+    assert_eq!(rt; book.journal().get(0), Some((registered(0, 0), DONE)));
+    let scan = Scan { visits: 4 };
+    assert_eq!(rt; book.journal().get(3), Some((scan, scanned(4))));
+    assert_eq!(rt; book.journal().get(4), Some((registered(0, 0), refused)));
+    assert_eq!(rt; book.journal().get(5), Some((stored(1), DONE)));
+    assert_eq!(rt; book.journal().get(6), None);
+    let _ = table.close(book.close(), passes);
+    Ok(())
+}
+
+// A frame that a page has left is reaped and given again before a higher one is given.
+#[test]
+fn frame_left_is_given_again(rt: HostRuntime) -> Result<(), Fail> {
+    let (table, mut book, passes) = opened(rt.alloc(), SHAPE)?;
+    assert_eq!(rt; book.apply(&table, registered(0, 0)), DONE);
+    assert_eq!(rt; book.apply(&table, registered(1, 0)), DONE);
+    assert_eq!(rt; book.apply(&table, Drop { page: page(0) }), DONE);
+    assert_eq!(rt; book.apply(&table, registered(2, 0)), DONE);
+    let closed = table.close(book.close(), passes);
+    assert_eq!(rt; (closed.generation(0), closed.count(0)), (2, 1));
+    assert_eq!(rt; (closed.generation(1), closed.count(1)), (1, 1));
+    assert_eq!(rt; closed.generation(2), 0);
+    Ok(())
+}
