@@ -11,8 +11,6 @@ mod script;
 mod session;
 mod worked;
 
-#[cfg(test)]
-use ksm_lines::{LineFault, read_line};
 pub use pass_state::PassState;
 pub use refusal::Refusal;
 pub use reply::{LineReply, write_reply};
