@@ -17,7 +17,7 @@
 
 #define AREA ((unsigned char *)0x100000000)
 
-enum { PAGE = 4096, BIND = 2, MOVE = 2, MOVE_ALL = 4, NODE_BITS = 64, KSM_FLAG = 21 };
+enum { PAGE = 4096, BIND = 2, MOVE = 2, MOVE_ALL = 4, NODE_BITS = 64, KSM_FLAG = 21, ZERO_FLAG = 24 };
 
 /* What a guest can be told to do, with its arguments, and what it answers. */
 enum deed { STORE, LOAD, TOUCH, DISCARD, MARK, HOLD, LOOK, LEAVE };
@@ -328,4 +328,10 @@ bool guest_is_merged(const struct guest *guest, size_t slot)
 	if (!frame)
 		return false;
 	return flags_can_be_trusted() ? flags_tell_merged(frame) : smaps_tells_merged(guest, slot);
+}
+
+bool guest_is_zero(const struct guest *guest, size_t slot)
+{
+	uint64_t frame = guest_frame(guest, slot);
+	return frame && number_at("/proc/kpageflags", frame) >> ZERO_FLAG & 1;
 }

@@ -59,4 +59,7 @@ uint64_t guest_frame(const struct guest *guest, size_t slot);
 /* Tells whether a page lies on a frame of KSM's. */
 bool guest_is_merged(const struct guest *guest, size_t slot);
 
+/* Tells whether a page is mapped from the zero page. */
+bool guest_is_zero(const struct guest *guest, size_t slot);
+
 #endif

@@ -77,11 +77,17 @@ static bool is_merged(const struct page *page)
 	return page->is_registered && guest_is_merged(page->owner, page->slot);
 }
 
-static size_t count_merged(void)
+/* Tells whether a page has no frame of its own: it is merged, or mapped from the zero page. */
+static bool is_shared(const struct page *page)
+{
+	return is_merged(page) || (page->is_registered && guest_is_zero(page->owner, page->slot));
+}
+
+static size_t count_shared(void)
 {
 	size_t count = 0;
 	for (size_t i = 0; i < page_count; i++)
-		count += is_merged(&pages[i]);
+		count += is_shared(&pages[i]);
 	return count;
 }
 
@@ -98,7 +104,7 @@ static void bring_home(void)
 {
 	for (size_t i = 0; i < page_count; i++) {
 		struct page *page = &pages[i];
-		if (page->is_registered && !is_merged(page) && guest_node(page->owner, page->slot) != page->home
+		if (page->is_registered && !is_shared(page) && guest_node(page->owner, page->slot) != page->home
 		    && !guest_move(page->owner, page->slot, page->home, false))
 			fail("a page does not come home");
 	}
@@ -267,13 +273,13 @@ static void do_nothing(char **words)
 static void do_unmerge(char **words)
 {
 	struct guest *guest = guest_of(words[0]);
-	size_t before = count_merged();
+	size_t before = count_shared();
 	if (!guest)
 		return refuse(UNKNOWN_PAGE);
 	int error = guest_mark(guest, 0, guest->slots, false);
 	if (error)
 		return say_error(error);
-	fprintf(out, "unmerged %zu\n", before - count_merged());
+	fprintf(out, "unmerged %zu\n", before - count_shared());
 	bring_home();
 	for (size_t i = 0; i < page_count; i++)
 		if (pages[i].owner == guest)
@@ -299,7 +305,7 @@ static void do_move(char **words)
 		return refuse(BAD_NODE);
 	if (!page)
 		return refuse(UNKNOWN_PAGE);
-	if (node != page->home && is_merged(page))
+	if (node != page->home && is_shared(page))
 		guest_touch(page->owner, page->slot, node);
 	else if (node != page->home && !guest_move(page->owner, page->slot, node, false))
 		return say("error not moved");
@@ -331,11 +337,11 @@ static void set_visits(long value)
 
 static void set_run(long value)
 {
-	size_t before = count_merged();
+	size_t before = count_shared();
 	int error = ksm_write("run", value);
 	if (error || value != 2)
 		return say_error(error);
-	fprintf(out, "unmerged %zu\n", before - count_merged());
+	fprintf(out, "unmerged %zu\n", before - count_shared());
 	bring_home();
 	at_pass_start = true;
 }
