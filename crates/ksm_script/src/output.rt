@@ -85,10 +85,7 @@ fn write_content<W: Write>(writer: &mut W, content: &PageBytes) -> Result<(), Ru
     ensures fault { IfErr result (λ e. (e ≡ RunFault.Write)
         × AppendsPart (W.contents writer.old) (W.contents writer.new) (content_text content.now)) }
 {
-    for word in content {
-        write_text(writer, &digits_of(*word))?;
-    }
-    Ok(())
+    write_text(writer, content.map(digits_of).as_flattened())
 }
 
 /// Writes a part of a text.
