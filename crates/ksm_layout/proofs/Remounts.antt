@@ -187,7 +187,7 @@ module _ (pages : PagesView) (k : KeeperView) (h : IsLaid pages.shape pages.list
         items_go f' = lodged_instead g f' (λ r. merged_into dup.number r.state) v.rows v.frames p.paired (λ i lt.
             ap (λ x. is_frame x (frame_in v.frames i)) on_frame.0
             ∙ find_all test (λ d. IsInLife w.ledger d.place → is_frame (place_frame w.ledger d.place) (frame_in v.frames i) ≡ merged_into d.number (row_in v.rows i).state) dups dup live
-                (λ m d less. λ life. lies_as_item sh across w.ledger v.rows v.frames dups p m d less life i lt) on_frame.1)
+            (λ m d less. λ life. lies_as_item sh across w.ledger v.rows v.frames dups p m d less life i lt) on_frame.1)
 
         base : n.base ≡ item_count v.rows dup
         base = ap (λ x. (frame_at w.ledger x).base) on_frame.0

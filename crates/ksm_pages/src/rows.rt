@@ -20,8 +20,8 @@ ghost use Rattle.ksm_pages.specs.Wanted.{is_shared_of as is_shared_of_guest, is_
 
 use crate::entry::Entry;
 use crate::row::{
-    Run, Wanted, is_merged, is_private, is_waiting, is_wanted, is_zero, let_go_before,
-    stays, unshared, with_mergeable,
+    Run, Wanted, is_merged, is_private, is_waiting, is_wanted, is_zero, let_go_before, stays,
+    unshared, with_mergeable,
 };
 use crate::tally::Tally;
 use ksm_base::{Fault, GuestPage, PageState, Row};

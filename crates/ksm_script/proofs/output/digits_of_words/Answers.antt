@@ -16,8 +16,8 @@ loop-i-preserved c =
     let within : i < length words = omega (arith, c.told-content, c.loop-i-test.true) in (
       length-set c.loop-i.digits i c.digits_of.result ∙ c.loop-i.invariant.0,
       take_more_set c.loop-i.digits i c.digits_of.result inside
-      ∙ (λ t. c.loop-i.invariant.1 t ++ c.digits_of.ensures t ∷ [])
-      ∙ sym (ap (map word_digits) (take_more words i 0 within) ∙ map_pushed word_digits (take i words) (get_or words i 0)),
+          ∙ (λ t. c.loop-i.invariant.1 t ++ c.digits_of.ensures t ∷ [])
+          ∙ sym (ap (map word_digits) (take_more words i 0 within) ∙ map_pushed word_digits (take i words) (get_or words i 0)),
     )
 
 pub returns : goal.returns

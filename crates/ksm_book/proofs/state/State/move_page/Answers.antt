@@ -12,14 +12,14 @@ use Rattle.ksm_book.specs.Whole.{BookView}
 use Rattle.ksm_layout.proofs.Found.{change_nothing, change_own, found_known, moved_page, moved_home}
 use Rattle.ksm_book.proofs.state.State.move_page.Goals as goal
 
-pub returns-then-row-node : goal.returns-then-row-node
-returns-then-row-node c = record {
+pub returns-then-held-node : goal.returns-then-held-node
+returns-then-held-node c = record {
   own = search rules;
   answer = search rules;
   state =
       let s = c.self.inside in
       let same = change_nothing c.args.page (moved c.args.node) s.layout.rows c.in-Some.held.row c.self.invariant.rows_rise c.in-Some.ensures.found
-      (moved_home c.args.node c.in-Some.held.row c.if-row-node.true) in
+      (moved_home c.args.node c.in-Some.held.row c.if-held-node.true) in
       sym (ap (λ (x : BookView). x.state) c.self.view_is) ∙ ap (λ rows. record (state_of s.layout s.cursor s.passes) { rows = rows }) (sym same)
       ∙ ap (λ (x : BookView). record x.state { rows = change_row c.args.page (moved c.args.node) x.state.rows }) c.self.view_is;
   steps = search rules;
