@@ -1,6 +1,6 @@
 //! The rows in an ordered map: each page with what the book knows of it, and the frame that serves it, if one does.
 //!
-//! With n rows, `has`, `find`, `insert`, `replace` and `remove` take a number of steps in the order of log n. `next`
+//! With n rows, `has`, `find`, `insert`, `replace`, `remove` and `lodge` take a number of steps in the order of log n. `next`
 //! and `next_shared` take as many, and one for each row that they pass over; `run` so too, and one for each of its
 //! visits. `len`, `any_mergeable` and the counts take one. All other calls walk over the rows.
 
