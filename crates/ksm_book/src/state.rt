@@ -126,15 +126,15 @@ impl State {
         requires own { self.old.keeper.table ≡ table.now }
         ensures { CarriedOut self.old self.new (Command.Store page bytes) result }
     {
-        let Some(row) = self.layout.row(page) else {
+        let Some(held) = self.layout.find(page) else {
             return Err(Fault::UnknownPage);
         };
-        if !is_shared(row.state) {
-            self.layout.rewrite(table, stored(row, bytes));
+        if !is_shared(held.row.state) {
+            self.layout.rewrite(table, held, stored(held.row, bytes));
             return Ok(Reply::Done);
         }
-        if !self.layout.resettle(table, stored(row, bytes)) {
-            return Err(Fault::NoFrame(row.home));
+        if !self.layout.resettle(table, stored(held.row, bytes)) {
+            return Err(Fault::NoFrame(held.row.home));
         }
         Ok(Reply::Done)
     }
@@ -169,7 +169,7 @@ impl State {
     pub fn ticket(&self, page: GuestPage) -> Option<u32>
         ensures { result ≡ ticket_of page self.now.state }
     {
-        match self.layout.row(page)?.state {
+        match self.layout.find(page)?.row.state {
             PageState::Merged(number) => Some(self.layout.numbered(number)?.place),
             _ => None,
         }
@@ -222,13 +222,13 @@ impl State {
         if node >= self.layout.shape().nodes {
             return Err(Fault::BadNode);
         }
-        let Some(row) = self.layout.row(page) else {
+        let Some(held) = self.layout.find(page) else {
             return Err(Fault::UnknownPage);
         };
-        if row.home == node {
+        if held.row.home == node {
             return Ok(Reply::Done);
         }
-        if !self.layout.resettle(table, moved(row, node)) {
+        if !self.layout.resettle(table, moved(held.row, node)) {
             return Err(Fault::NoFrame(node));
         }
         Ok(Reply::Done)

@@ -9,7 +9,7 @@ use Rattle.std.proofs.Common.{◌++◌, ◌∷◌}
 use Rattle.std.proofs.lemmas.Bool.{cases_Bool, lt-ltb}
 use Rattle.std.proofs.lemmas.List.Elements.{All-head, All-tail}
 use Rattle.std.proofs.Common.{[]}
-use Rattle.std.specs.Prelude.{count_by}
+use Rattle.std.specs.Prelude.{count_by, map}
 use Rattle.std.proofs.lemmas.List.Sums.{sum_by-cons}
 use Rattle.std.proofs.lemmas.Bool.Decides.{nat_tests}
 use Rattle.ksm_base.specs.Rows.{item_count}
@@ -35,7 +35,7 @@ use Rattle.ksm_base.specs.declared.row.Row.{Row}
 use Rattle.ksm_base.specs.declared.row.DupRow.{DupRow}
 use Rattle.ksm_base.specs.Rows.{shared_state, zero_state, merged_into}
 use Rattle.ksm_layout.specs.Placement.{uses, in_hand, kind_for, FitsBase, IsServed, life_or, place_frame, place_life, IsInLife, RowFits, Agrees, DupFits, Placed}
-use Rattle.ksm_pages.specs.Listed.{frame_in, row_in, no_row, is_frame}
+use Rattle.ksm_pages.specs.Listed.{frame_in, row_in, no_row, is_frame, instead, lodged}
 
 -- one, where it is frame f
 abbrev pub one_at : ℕ → Option ℕ → ℕ
@@ -543,16 +543,10 @@ counts_agree f test (r ∷ rs) (g ∷ gs) e h =
     let here : one_at f g ≡ cond (test r) 1 0 = ap (λ (b : Bool). cond b 1 0) (h 0 (omega arith)) in
     sum_by-cons (one_at f) g gs ∙ (λ i. here i + rest i) ∙ sym (sum_by-cons (λ x. cond (test x) 1 0) r rs)
 
--- the references on the frame of a dup in its life are its items
-pub base_is_items : (sh : Shape) (across : ℕ) (k : Ledger) (rows : List Row) (frames : List (Option ℕ)) (dups : List DupRow) (p : Placed sh across k rows frames dups None) (n : ℕ) (d : DupRow) → n < length dups → IsInLife k (get_or dups n d).place
-    → (frame_at k (place_frame k (get_or dups n d).place)).base ≡ item_count rows (get_or dups n d)
-base_is_items sh across k rows frames dups p n d lt life =
-    let e : DupRow = get_or dups n d in
-    let f : ℕ = place_frame k e.place in
-    let b : (frame_at k f).base ≡ uses f frames + 0 = p.bases f in
-    let c : uses f frames ≡ item_count rows e = counts_agree f (λ r. merged_into e.number r.state) rows frames p.paired (λ i l.
-    by (row_in rows i) (frame_in frames i) (p.each_row i l)) in
-    omega (arith, b, c)
+-- the rows on the frame of a dup in its life are its items
+pub lies_as_item : (sh : Shape) (across : ℕ) (k : Ledger) (rows : List Row) (frames : List (Option ℕ)) (dups : List DupRow) (p : Placed sh across k rows frames dups None) (n : ℕ) (d : DupRow) → n < length dups → IsInLife k (get_or dups n d).place
+    → (i : ℕ) → i < length rows → is_frame (place_frame k (get_or dups n d).place) (frame_in frames i) ≡ merged_into (get_or dups n d).number (row_in rows i).state
+lies_as_item sh across k rows frames dups p n d lt life i l = by (row_in rows i) (frame_in frames i) (p.each_row i l)
   where
     same_tests : (x y : Bool) → (x ≡ true → y ≡ true) → (y ≡ true → x ≡ true) → x ≡ y
     same_tests true y f g = sym (f refl)
@@ -574,6 +568,26 @@ base_is_items sh across k rows frames dups p n d lt life =
     by r (Some g) h =
         let a = h.1 n d lt in
         same_tests (g == place_frame k (get_or dups n d).place) (merged_into (get_or dups n d).number r.state) (λ t. a.back life (eqb-eq' _ _ t)) (λ m. eq-eqb _ _ (a.item m).0)
+
+-- where the rows that pass are those on a frame, they go from it to another
+pub lodged_instead : (f g : ℕ) (test : Row → Bool) (rows : List Row) (frames : List (Option ℕ)) → length frames ≡ length rows → ((i : ℕ) → i < length rows → is_frame f (frame_in frames i) ≡ test (row_in rows i)) → lodged test g rows frames ≡ map (instead f g) frames
+lodged_instead f g test [] [] e h = refl
+lodged_instead f g test [] (o ∷ os) e h = absurd (omega arith)
+lodged_instead f g test (r ∷ rs) [] e h = absurd (omega arith)
+lodged_instead f g test (r ∷ rs) (o ∷ os) e h =
+    let rest = lodged_instead f g test rs os (omega arith) (λ i lt. h (suc i) (omega arith)) in
+    let here : is_frame f o ≡ test r = h 0 (omega arith) in
+    λ t. cond (sym here t) (Some g) o ∷ rest t
+
+-- the references on the frame of a dup in its life are its items
+pub base_is_items : (sh : Shape) (across : ℕ) (k : Ledger) (rows : List Row) (frames : List (Option ℕ)) (dups : List DupRow) (p : Placed sh across k rows frames dups None) (n : ℕ) (d : DupRow) → n < length dups → IsInLife k (get_or dups n d).place
+    → (frame_at k (place_frame k (get_or dups n d).place)).base ≡ item_count rows (get_or dups n d)
+base_is_items sh across k rows frames dups p n d lt life =
+    let e : DupRow = get_or dups n d in
+    let f : ℕ = place_frame k e.place in
+    let b : (frame_at k f).base ≡ uses f frames + 0 = p.bases f in
+    let c : uses f frames ≡ item_count rows e = counts_agree f (λ r. merged_into e.number r.state) rows frames p.paired (lies_as_item sh across k rows frames dups p n d lt life) in
+    omega (arith, b, c)
 
 -- above the limit stands no frame, and a stale dup's frame is not stable in its life
 pub stale_is_loose : (sh : Shape) (across : ℕ) (k : Ledger) (rows : List Row) (frames : List (Option ℕ)) (dups : List DupRow) (p : Placed sh across k rows frames dups None) (n : ℕ) (d : DupRow) → n < length dups → item_count rows (get_or dups n d) ≡ 0 → IsInLife k (get_or dups n d).place

@@ -34,7 +34,7 @@ use Rattle.ksm_layout.specs.Keeping.{past_lives, spent_on, spent}
 use Rattle.ksm_layout.specs.Commands.{Finds, Moves, FindsHeld, dup_frame, frame_found, frame_number, mounting}
 use Rattle.ksm_layout.specs.Laid.{Lay, IsLaid, state_of, lay_of, mapped_lay}
 use Rattle.ksm_pages.specs.Linked.{PagesView}
-use Rattle.ksm_pages.specs.Listed.{Listed, rank, StandsAt, instead}
+use Rattle.ksm_pages.specs.Listed.{Listed, rank, StandsAt, instead, is_frame, frame_in, row_in, lodged}
 use Rattle.ksm_layout.specs.Mounted.{FoundFree, Mounted, HasLost, HasMoved}
 use Rattle.ksm_layout.specs.Steps.{Log, Did, Made, IsLowestFree, free_kind}
 use Rattle.ksm_layout.proofs.Filling.{at_again, node_end, on_node}
@@ -42,7 +42,7 @@ use Rattle.ksm_layout.proofs.Keeping.{spent_set}
 use Rattle.ksm_layout.proofs.Laying.{kept, shape_same, has_frame}
 use Rattle.ksm_layout.proofs.Logs.{chained, one_step}
 use Rattle.ksm_layout.proofs.Made.{made_one}
-use Rattle.ksm_layout.proofs.Moves.{Serves, base_is_items}
+use Rattle.ksm_layout.proofs.Moves.{Serves, base_is_items, lies_as_item, lodged_instead}
 use Rattle.ksm_layout.proofs.Remounted.{remounted}
 
 abbrev is_stable : Kind → Type 0
@@ -181,6 +181,13 @@ module _ (pages : PagesView) (k : KeeperView) (h : IsLaid pages.shape pages.list
 
         stable : n.kind ≡ Stable
         stable = fits.0.kind ∙ ap kind_for (merged_is item.state dup.number is_item)
+
+        -- the dup's items are the rows on its frame, so they go from there
+        items_go : (f' : ℕ) → lodged (λ r. merged_into dup.number r.state) f' v.rows v.frames ≡ map (instead g f') v.frames
+        items_go f' = lodged_instead g f' (λ r. merged_into dup.number r.state) v.rows v.frames p.paired (λ i lt.
+            ap (λ x. is_frame x (frame_in v.frames i)) on_frame.0
+            ∙ find_all test (λ d. IsInLife w.ledger d.place → is_frame (place_frame w.ledger d.place) (frame_in v.frames i) ≡ merged_into d.number (row_in v.rows i).state) dups dup live
+            (λ m d less. λ life. lies_as_item sh across w.ledger v.rows v.frames dups p m d less life i lt) on_frame.1)
 
         base : n.base ≡ item_count v.rows dup
         base = ap (λ x. (frame_at w.ledger x).base) on_frame.0
@@ -330,7 +337,7 @@ module _ (pages : PagesView) (k : KeeperView) (h : IsLaid pages.shape pages.list
                   })
 
               pub moves : Finds k w node f → Made u x (mounting g f dup.place n.base (frame_at u.ledger g).content) → (pages' : PagesView)
-                  → pages'.listed.frames ≡ map (instead g f) v.frames → Moves (mapped_lay now) (mapped_lay (lay_of pages' x)) dup node
+                  → pages'.listed.frames ≡ lodged (λ r. merged_into dup.number r.state) f v.rows v.frames → Moves (mapped_lay now) (mapped_lay (lay_of pages' x)) dup node
               moves found mounts pages' frames = subst (λ (y : Lay). Moves (mapped_lay y) (mapped_lay (lay_of pages' x)) dup node) is (record {
                 frame = f;
                 searched = w;
@@ -340,7 +347,7 @@ module _ (pages : PagesView) (k : KeeperView) (h : IsLaid pages.shape pages.list
                 exchanged = ap (λ y. (frame_at u.ledger y).kind) dup_frame_is ∙ mount_dying;
                 mounts = subst (λ (z : ℕ × ℕ × List ℕ). Made u x (mounting z.0 f dup.place z.1 z.2))
                     (λ t. (sym dup_frame_is t, base t, (ap (λ (y : Note). y.content) at_g ∙ bytes) t)) mounts;
-                frames = frames ∙ ap (λ y. map (instead y f) v.frames) (sym dup_frame_is);
+                frames = frames ∙ items_go f ∙ ap (λ y. map (instead y f) v.frames) (sym dup_frame_is);
               })
 
               abbrev full : Note
@@ -359,7 +366,7 @@ module _ (pages : PagesView) (k : KeeperView) (h : IsLaid pages.shape pages.list
               left_is : g ≡ place_frame w.ledger m.place
               left_is = on_frame.0 ∙ ap (λ (y : DupRow). place_frame w.ledger y.place) (sym m_is)
 
-              pub laid_moved_dup : (v' : Listed) → v'.rows ≡ v.rows → v'.frames ≡ map (instead g f) v.frames → IsLaid sh v' dups knobs next x
+              pub laid_moved_dup : (v' : Listed) → v'.rows ≡ v.rows → v'.frames ≡ lodged (λ r. merged_into dup.number r.state) f v.rows v.frames → IsLaid sh v' dups knobs next x
               laid_moved_dup v' rows frames =
                   let q = remounted sh across w.ledger v.rows v.frames dups p index.0 dup index.1 f inside lowest.free
                   (subst (λ (y : DupRow). IsInLife w.ledger y.place) (sym m_is) on_frame.1)
@@ -377,7 +384,7 @@ module _ (pages : PagesView) (k : KeeperView) (h : IsLaid pages.shape pages.list
                             places = set w.ledger.places (m_is i).place (Some life);
                           }) ∙ sym ledger_is) t,
                           sym rows t,
-                          (ap (λ y. map (instead y f) v.frames) (sym left_is) ∙ sym frames) t,
+                          (ap (λ y. map (instead y f) v.frames) (sym left_is) ∙ sym (frames ∙ items_go f)) t,
                         )) q;
                     spent = spent_still;
                   }

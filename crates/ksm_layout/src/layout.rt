@@ -1,6 +1,6 @@
 //! Rows and dups as they lie in the keeper's frames: each call is one lawful change of both.
 
-ghost use Rattle.std.specs.Prelude.{◌≡◌, ◌<◌, ◌≤◌, ◌+◌, ◌^◌, ◌⊎◌, [], true, false, None, Some, Err, All, count_by, filter, find, map, is_some, ◌==◌, ◌&&◌, option_map, OnOk, OnErr, IfOk, IfErr, IsSome};
+ghost use Rattle.std.specs.Prelude.{◌≡◌, ◌<◌, ◌≤◌, ◌+◌, ◌^◌, ◌⊎◌, [], true, false, None, Some, Err, All, count_by, filter, find, map, is_some, ◌==◌, ◌&&◌, option_map, MatchOption, OnOk, OnErr, IfOk, IfErr, IsSome};
 ghost use Rattle.ksm_base.specs.declared.fault.Fault.TheVariants.{Memory};
 ghost use Rattle.ksm_base.specs.declared.row.PageState.TheVariants.{Private, Waiting, Merged, Zero};
 ghost use Rattle.ksm_base.specs.Rows.{row_at, with_row, without_page, change_row, change_rows, shared_state, merged_into, waiting_state, same_page, settled, has_items, is_stale, dup_numbered, InPlaceOrder};
@@ -15,6 +15,7 @@ ghost use Rattle.frame_core.specs.Ledger.{first_ledger};
 ghost use Rattle.ksm_layout.specs.Laid.{IsHoused, IsAdmitted, IsResettled, Knows, IsOnItsOwn, LodgesAs, Joins, Founds, founded, LoadsIf, mapped_lay, state_of};
 ghost use Rattle.ksm_layout.specs.Commands.{frame_of, frame_on, Performs, rewriting, dismissing, emptying, joining, founding, withdrawing, pruning};
 ghost use Rattle.ksm_pages.specs.Linked.{IsVacant, elsewhere};
+ghost use Rattle.ksm_pages.specs.Listed.{StandsAt};
 ghost use Rattle.ksm_layout.specs.Keeping.{spent};
 ghost use Rattle.ksm_layout.specs.Lawful.{LieLawfully};
 ghost use Rattle.ksm_layout.specs.Steps.{Does, Made};
@@ -25,7 +26,7 @@ use crate::frame_keeper::FrameKeeper;
 use crate::frames::{clear, known_frame, load, release_if, share, take_frame, write};
 use frame_table::{FrameTable, Keeper};
 use ksm_base::{Counters, DupRow, Fault, GuestPage, Knobs, PageBytes, PageState, Row, Shape};
-use ksm_pages::{Pages, Rows};
+use ksm_pages::{Held, Pages, Rows};
 use std::alloc::Global;
 use std::marker::Model;
 
@@ -183,14 +184,11 @@ impl Layout {
         }
     }
 
-    /// The row of a page.
-    pub fn row(&self, page: GuestPage) -> Option<Row>
-        ensures { result ≡ row_at page self.now.rows }
+    /// The row of a page, with its frame.
+    pub fn find(&self, page: GuestPage) -> Option<Held>
+        ensures { MatchOption result (row_at page self.now.rows ≡ None) (λ held. StandsAt (mapped_lay self.now).listed page held.row held.frame) }
     {
-        match self.pages.find(page) {
-            None => None,
-            Some(held) => Some(held.row),
-        }
+        self.pages.find(page)
     }
 
     /// The bytes of a page, loaded from the words of its frame; a Zero page has none, and no step is made.
@@ -245,33 +243,30 @@ impl Layout {
     {
         let shape = self.pages.shape();
         let home = row.home;
-        let Some(held) = self.pages.find(row.page) else {
-            return false;
-        };
         let Some(frame) = take_frame(&mut self.keeper, table, shape, home, row.bytes) else {
             return false;
         };
-        self.pages.replace(row, Some(frame));
+        let Some(held) = self.pages.replace(row, Some(frame)) else {
+            return false;
+        };
         release_if(&mut self.keeper, table, held.frame);
         true
     }
 
-    /// Stores the bytes of a row to the frame that its page has of its own.
-    pub fn rewrite(&mut self, table: &FrameTable, row: Row)
+    /// Stores the bytes of a row to the frame that its page has of its own, which was found.
+    pub fn rewrite(&mut self, table: &FrameTable, held: Held, row: Row)
         requires own { self.old.keeper.table ≡ table.now }
-        requires known { Knows self.old.rows row (IsOnItsOwn row) }
+        requires found { StandsAt (mapped_lay self.old).listed row.page held.row held.frame }
+        requires lone { IsOnItsOwn row held.row }
         requires alone { row.state ≡ Private }
         ensures own { self.new.keeper.table ≡ self.old.keeper.table }
         ensures state { self.new ≡ record self.old { rows = change_row row.page (λ _. row) self.old.rows; keeper = self.new.keeper } }
         ensures does { Does self.old.keeper self.new.keeper [] }
         ensures performs { Performs (mapped_lay self.old) (mapped_lay self.new) (rewriting (mapped_lay self.old).listed row) }
     {
-        let Some(held) = self.pages.find(row.page) else {
-            return;
-        };
+        self.pages.replace(row, held.frame);
         let frame = known_frame(held.frame);
         write(&mut self.keeper, table, frame, row.bytes);
-        self.pages.replace(row, held.frame);
     }
 
     /// Puts a row of its own in the stead of its page's, on the same frame.
@@ -329,10 +324,9 @@ impl Layout {
         ensures does { Does self.old.keeper self.new.keeper [] }
         ensures performs { Performs (mapped_lay self.old) (mapped_lay self.new) (dismissing (mapped_lay self.old).listed page) }
     {
-        let Some(gone) = self.pages.find(page) else {
+        let Some(gone) = self.pages.remove(page) else {
             return;
         };
-        self.pages.remove(page);
         release_if(&mut self.keeper, table, gone.frame);
     }
 

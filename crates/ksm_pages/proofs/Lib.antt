@@ -1,5 +1,6 @@
 pub mod RowLists
 pub mod RowWalks
+pub mod Lodging
 pub mod Linking
 pub mod Partners
 pub mod Tallies

@@ -84,7 +84,7 @@ none_changed k row [] after = refl
 none_changed k row (e ∷ es) after =
     ap (λ (b : Bool). cond b row (row_of e) ∷ change_row k (λ _. row) (rows_of es)) (before_differs k e.0 (before_is k e.0 after.0)) ∙ ap (λ l. row_of e ∷ l) (none_changed k row es after.1)
 
-none_there : (k : GuestPage) (es : Entries) → After k es → row_at k (rows_of es) ≡ None
+pub none_there : (k : GuestPage) (es : Entries) → After k es → row_at k (rows_of es) ≡ None
 none_there k [] after = refl
 none_there k (e ∷ es) after =
     ap (λ (b : Bool). cond b (Some (row_of e)) (row_at k (rows_of es))) (before_differs k e.0 (before_is k e.0 after.0)) ∙ none_there k es after.1

@@ -134,19 +134,3 @@ module _ (change : Row → Row) (keeps : (r : Row) → (change r).page ≡ r.pag
 
   pub all_changed : (es fs : Entries) (l : Listed) → listed es ≡ l → fs ≡ map (λ e. (e.0, changed change e.0 e.1)) es → listed fs ≡ record { rows = map change l.rows; frames = l.frames }
   all_changed es fs l is made = ap listed made ∙ (λ t. record { rows = rows_changed es t; frames = frames_kept es t }) ∙ ap (λ (v : Listed). record { rows = map change v.rows; frames = v.frames }) is
-
--- an entry with its frame changed
-abbrev pub moved : (Option ℕ → Option ℕ) → GuestPage → Entry → Entry
-moved change page e = record e { frame = change e.frame }
-
-module _ (change : Option ℕ → Option ℕ) where
-  rows_kept : (es : Entries) → rows_of (map (λ e. (e.0, moved change e.0 e.1)) es) ≡ rows_of es
-  rows_kept [] = refl
-  rows_kept (e ∷ es) = ap (λ l. row_of e ∷ l) (rows_kept es)
-
-  frames_moved : (es : Entries) → map frame_of (map (λ e. (e.0, moved change e.0 e.1)) es) ≡ map change (map frame_of es)
-  frames_moved [] = refl
-  frames_moved (e ∷ es) = ap (λ l. change (frame_of e) ∷ l) (frames_moved es)
-
-  pub all_moved : (es fs : Entries) (l : Listed) → listed es ≡ l → fs ≡ map (λ e. (e.0, moved change e.0 e.1)) es → listed fs ≡ record { rows = l.rows; frames = map change l.frames }
-  all_moved es fs l is made = ap listed made ∙ (λ t. record { rows = rows_kept es t; frames = frames_moved es t }) ∙ ap (λ (v : Listed). record { rows = v.rows; frames = map change v.frames }) is

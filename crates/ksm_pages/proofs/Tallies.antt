@@ -264,3 +264,18 @@ module _ (es : List (GuestPage × Entry)) (l : Listed) (page : GuestPage) (v : E
 
   pub page_gone : (u : Tally) (rows : List Row) → rows ≡ remove l.rows (rank page l.rows) → IsMore row u t → IsTally rows u
   page_gone u rows made from = rw made (tally_taken l.rows (rank page l.rows) no_row row t u there.inside there.row_is seen from)
+
+-- where no row waits, all stay as they are
+still : (s : PageState) → waiting_state s ≡ false → settled_state s ≡ s
+still Private e = refl
+still Waiting e = absurd (grind (arith, e))
+still (Merged number) e = refl
+still Zero e = refl
+
+pub none_settle : (rows : List Row) → count_by (λ r. waiting_state r.state) rows ≡ 0 → map settled rows ≡ rows
+none_settle [] none = refl
+none_settle (r ∷ rows) none =
+    let more = count_more (λ (x : Row). waiting_state x.state) r rows in
+    let alone : waiting_state r.state ≡ false = grind (arith, none, more) in
+    let rest = none_settle rows (grind (arith, none, more)) in
+    λ t. record r { state = still r.state alone t } ∷ rest t

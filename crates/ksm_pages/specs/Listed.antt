@@ -1,5 +1,5 @@
 -- Rows in the order of their pages, each with its frame, if it has one (own).
-use Rattle.std.specs.Prelude.{Bool, ◌≡◌, if◌then◌else◌, true, false, ℕ, ◌<◌, ◌==◌, List, [], length, filter, Option, Some, None, slice_index_or}
+use Rattle.std.specs.Prelude.{Bool, ◌≡◌, if◌then◌else◌, true, false, ℕ, ◌<◌, ◌==◌, List, [], ◌∷◌, length, filter, Option, Some, None, slice_index_or}
 use Rattle.ksm_base.specs.declared.page.GuestPage.{GuestPage}
 use Rattle.ksm_base.specs.declared.row.PageState.TheVariants.{Private as OwnPage}
 use Rattle.ksm_base.specs.declared.row.Row.{Row}
@@ -37,6 +37,12 @@ pub record StandsAt (v : Listed) (page : GuestPage) (row : Row) (frame : Option 
   pub row_is : row_in v.rows (rank page v.rows) ≡ row
   pub frame_is : frame_in v.frames (rank page v.rows) ≡ frame
   pub found : row_at page v.rows ≡ Some row
+
+-- the frames, where the rows that pass lie on the frame g
+abbrev pub lodged : (Row → Bool) → ℕ → List Row → List (Option ℕ) → List (Option ℕ)
+lodged test g [] frames = frames
+lodged test g (r ∷ rows) [] = []
+lodged test g (r ∷ rows) (frame ∷ frames) = (if test r then Some g else frame) ∷ lodged test g rows frames
 
 -- the frame g in the stead of f
 abbrev pub instead : ℕ → ℕ → Option ℕ → Option ℕ

@@ -14,7 +14,7 @@ ghost use Rattle.ksm_base.specs.Visit.{best_dup, partner as row_waiting, new_pla
 ghost use Rattle.ksm_tree.specs.Bridge.{let_out};
 ghost use Rattle.ksm_tree.specs.Waits.{IsStopped};
 ghost use Rattle.ksm_pages.specs.Linked.{HasRoom, IsVacant, MayPair, ReplacedBoth, item_of_next, next_dup, elsewhere};
-ghost use Rattle.ksm_pages.specs.Listed.{rank, StandsAt, instead};
+ghost use Rattle.ksm_pages.specs.Listed.{rank, StandsAt, lodged};
 
 use crate::row::{is_waiting, same_page, tree_of};
 use crate::rows::{Held, Rows};
@@ -252,37 +252,39 @@ impl Pages {
         self.rows.insert(row, frame)
     }
 
-    /// Puts a row of its own and its frame in the stead of those of its page, which leaves its dup.
-    pub fn replace(&mut self, row: Row, frame: Option<u32>)
+    /// Puts a row of its own and its frame in the stead of those of its page, which leaves its dup, and gives what stood there.
+    pub fn replace(&mut self, row: Row, frame: Option<u32>) -> Option<Held>
         requires known { is_some (row_at row.page self.old.listed.rows) ≡ true }
         requires alone { row.state ≡ Private }
+        ensures stood { MatchOption result ⊥ (λ held. StandsAt self.old.listed row.page held.row held.frame) }
         ensures rows { self.new.listed.rows ≡ slice_set self.old.listed.rows (rank row.page self.old.listed.rows) row }
         ensures frames { self.new.listed.frames ≡ slice_set self.old.listed.frames (rank row.page self.old.listed.rows) frame }
         ensures changed { self.new.listed.rows ≡ change_row row.page (λ _. row) self.old.listed.rows }
         ensures rest { self.new ≡ record self.old { listed = self.new.listed } }
     {
-        let Some(held) = self.rows.find(row.page) else {
-            return;
+        let Some(held) = self.rows.replace(row, frame) else {
+            return None;
         };
         stop_waiting(&mut self.waiting, &self.knobs, &held.row);
         leave(&mut self.dups, held.row.state, row.page);
-        self.rows.replace(row, frame);
+        Some(held)
     }
 
-    /// Takes the row of a page away, which has one, and leaves its dup.
-    pub fn remove(&mut self, page: GuestPage)
+    /// Takes the row of a page away, which has one, leaves its dup, and gives what stood there.
+    pub fn remove(&mut self, page: GuestPage) -> Option<Held>
         requires { is_some (row_at page self.old.listed.rows) ≡ true }
+        ensures stood { MatchOption result ⊥ (λ held. StandsAt self.old.listed page held.row held.frame) }
         ensures rows { self.new.listed.rows ≡ remove self.old.listed.rows (rank page self.old.listed.rows) }
         ensures frames { self.new.listed.frames ≡ remove self.old.listed.frames (rank page self.old.listed.rows) }
         ensures gone { self.new.listed.rows ≡ without_page page self.old.listed.rows }
         ensures rest { self.new ≡ record self.old { listed = self.new.listed } }
     {
-        let Some(held) = self.rows.find(page) else {
-            return;
+        let Some(held) = self.rows.remove(page) else {
+            return None;
         };
         stop_waiting(&mut self.waiting, &self.knobs, &held.row);
         leave(&mut self.dups, held.row.state, page);
-        self.rows.remove(page);
+        Some(held)
     }
 
     /// A row with a frame of its own waits from now on, on it. Refused for memory alone, it changes nothing.
@@ -426,12 +428,15 @@ impl Pages {
         self.waiting.let_go(guest, stop.map(|row| row.page));
     }
 
-    /// All rows on the frame `old` go to the frame `new`.
-    pub fn move_frames(&mut self, old: u32, new: u32)
+    /// All pages merged into a dup go to another frame.
+    pub fn move_items(&mut self, number: u64, frame: u32)
+        requires { is_some (dup_numbered number self.old.dups) ≡ true }
         ensures rows { self.new.listed.rows ≡ self.old.listed.rows }
-        ensures frames { self.new.listed.frames ≡ map (instead old new) self.old.listed.frames }
+        ensures frames { self.new.listed.frames ≡ lodged (λ r. merged_into number r.state) frame self.old.listed.rows self.old.listed.frames }
         ensures rest { self.new ≡ record self.old { listed = self.new.listed } }
     {
-        self.rows.move_frames(old, new);
+        for i in 0..self.dups.items(number) {
+            self.rows.lodge(self.dups.item(number, i), frame);
+        }
     }
 }

@@ -7,7 +7,6 @@ ghost use Rattle.ksm_base.specs.Refusals.{is_of as is_of_guest};
 ghost use Rattle.ksm_base.specs.Rows.{same_page as is_same_page, private_state, waiting_state, merged_state, zero_state, shared_state, all_zero as has_only_zeroes};
 ghost use Rattle.ksm_base.specs.State.{tree_of as row_tree};
 ghost use Rattle.ksm_base.specs.Visit.{is_for_zero as goes_to_zero};
-ghost use Rattle.ksm_pages.specs.Listed.{is_frame as is_this_frame};
 ghost use Rattle.ksm_pages.specs.Scanned.{stays as as_it_is};
 ghost use Rattle.ksm_pages.specs.Wanted.{is_shared_of as is_shared_of_guest, is_wanted as is_a_wanted};
 
@@ -91,16 +90,6 @@ pub(crate) fn all_zero(bytes: &PageBytes) -> bool
     ensures { result ≡ has_only_zeroes bytes.now }
 {
     bytes.iter().all(|word| *word == 0)
-}
-
-/// Whether a page has the frame with this number.
-pub(crate) fn is_frame(frame: Option<u32>, number: u32) -> bool
-    ensures { result ≡ is_this_frame number frame }
-{
-    match frame {
-        None => false,
-        Some(frame) => frame == number,
-    }
 }
 
 /// Whether a row is merged or Zero, and of the guest if one is given.

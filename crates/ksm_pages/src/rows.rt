@@ -1,6 +1,6 @@
 //! The rows in an ordered map: each page with what the book knows of it, and the frame that serves it, if one does.
 //!
-//! With n rows, `has`, `find`, `insert`, `replace` and `remove` take a number of steps in the order of log n. `next`
+//! With n rows, `has`, `find`, `insert`, `replace`, `remove` and `lodge` take a number of steps in the order of log n. `next`
 //! and `next_shared` take as many, and one for each row that they pass over; `run` so too, and one for each of its
 //! visits. `len`, `any_mergeable` and the counts take one. All other calls walk over the rows.
 
@@ -10,9 +10,9 @@ ghost use Rattle.std.specs.Map.Iter.{deref_pair};
 ghost use Rattle.ksm_base.specs.declared.fault.Fault.TheVariants.{Memory};
 ghost use Rattle.ksm_base.specs.Refusals.{is_of as is_of_guest};
 ghost use Rattle.ksm_base.specs.Apply.{is_before, let_go as as_let_go, unshared as as_unshared};
-ghost use Rattle.ksm_base.specs.Rows.{row_at, with_row, without_page, change_row, change_rows, private_state, waiting_state, merged_state, zero_state, settled as as_settled};
+ghost use Rattle.ksm_base.specs.Rows.{row_at, with_row, without_page, change_row, change_rows, same_page, private_state, waiting_state, merged_state, zero_state, settled as as_settled};
 ghost use Rattle.ksm_base.specs.Visit.{after_cursor as comes_after, next_row as row_to_visit};
-ghost use Rattle.ksm_pages.specs.Listed.{rank, StandsAt, instead};
+ghost use Rattle.ksm_pages.specs.Listed.{rank, StandsAt, lodged};
 ghost use Rattle.ksm_pages.specs.RowEntries.{row_of, start_after};
 ghost use Rattle.ksm_pages.specs.Scanned.{stays as as_it_is, RunsOver};
 ghost use Rattle.ksm_pages.specs.Tallied.{IsTally};
@@ -20,8 +20,8 @@ ghost use Rattle.ksm_pages.specs.Wanted.{is_shared_of as is_shared_of_guest, is_
 
 use crate::entry::Entry;
 use crate::row::{
-    Run, Wanted, is_frame, is_merged, is_private, is_waiting, is_wanted, is_zero, let_go_before,
-    stays, unshared, with_mergeable,
+    Run, Wanted, is_merged, is_private, is_waiting, is_wanted, is_zero, let_go_before, stays,
+    unshared, with_mergeable,
 };
 use crate::tally::Tally;
 use ksm_base::{Fault, GuestPage, PageState, Row};
@@ -185,9 +185,10 @@ impl Rows {
         Ok(())
     }
 
-    /// Puts a row and its frame in the stead of those of its page, which has a row.
-    pub(crate) fn replace(&mut self, row: Row, frame: Option<u32>)
+    /// Puts a row and its frame in the stead of those of its page, which has a row, and gives what stood there.
+    pub(crate) fn replace(&mut self, row: Row, frame: Option<u32>) -> Option<Held>
         requires { is_some (row_at row.page self.old.rows) ≡ true }
+        ensures stood { MatchOption result ⊥ (λ held. StandsAt self.old row.page held.row held.frame) }
         ensures rows { self.new.rows ≡ slice_set self.old.rows (rank row.page self.old.rows) row }
         ensures frames { self.new.frames ≡ slice_set self.old.frames (rank row.page self.old.rows) frame }
         ensures changed { self.new.rows ≡ change_row row.page (λ _. row) self.old.rows }
@@ -196,16 +197,22 @@ impl Rows {
         // The contract of `len` says that the number fits.
         let _ = self.entries.len();
         let Some(entry) = self.entries.get_mut(&row.page) else {
-            return;
+            return None;
         };
         let old = entry.row(row.page);
+        let left = entry.frame;
         *entry = kept;
         self.tally = self.tally.without(&old).with(&row);
+        Some(Held {
+            row: old,
+            frame: left,
+        })
     }
 
-    /// Takes the row of a page away, which has one.
-    pub(crate) fn remove(&mut self, page: GuestPage)
+    /// Takes the row of a page away, which has one, and gives what stood there.
+    pub(crate) fn remove(&mut self, page: GuestPage) -> Option<Held>
         requires { is_some (row_at page self.old.rows) ≡ true }
+        ensures stood { MatchOption result ⊥ (λ held. StandsAt self.old page held.row held.frame) }
         ensures rows { self.new.rows ≡ remove self.old.rows (rank page self.old.rows) }
         ensures frames { self.new.frames ≡ remove self.old.frames (rank page self.old.rows) }
         ensures gone { self.new.rows ≡ without_page page self.old.rows }
@@ -213,9 +220,27 @@ impl Rows {
         // The contract of `len` says that the keys ascend, that of `remove` does so of those that are left.
         let _ = self.entries.len();
         let Some(entry) = self.entries.remove(&page) else {
+            return None;
+        };
+        let row = entry.row(page);
+        self.tally = self.tally.without(&row);
+        Some(Held {
+            row,
+            frame: entry.frame,
+        })
+    }
+
+    /// The row of a page goes to another frame, if it has a row.
+    pub(crate) fn lodge(&mut self, page: GuestPage, frame: u32)
+        ensures rows { self.new.rows ≡ self.old.rows }
+        ensures frames { self.new.frames ≡ lodged (λ r. same_page r.page page) frame self.old.rows self.old.frames }
+    {
+        // The contract of `len` says that the keys ascend.
+        let _ = self.entries.len();
+        let Some(entry) = self.entries.get_mut(&page) else {
             return;
         };
-        self.tally = self.tally.without(&entry.row(page));
+        entry.frame = Some(frame);
     }
 
     // The first row after the cursor that a search is for.
@@ -309,6 +334,9 @@ impl Rows {
         ensures rows { self.new.rows ≡ map as_settled self.old.rows }
         ensures frames { self.new.frames ≡ self.old.frames }
     {
+        if self.tally.waiting == 0 {
+            return;
+        }
         self.entries.retain(|_, entry| {
             if is_waiting(entry.state) {
                 entry.state = PageState::Private;
@@ -353,18 +381,5 @@ impl Rows {
             true
         });
         self.tally = tally_of(&self.entries);
-    }
-
-    /// All rows on the frame `old` go to the frame `new`.
-    pub(crate) fn move_frames(&mut self, old: u32, new: u32)
-        ensures rows { self.new.rows ≡ self.old.rows }
-        ensures frames { self.new.frames ≡ map (instead old new) self.old.frames }
-    {
-        self.entries.retain(|_, entry| {
-            if is_frame(entry.frame, old) {
-                entry.frame = Some(new);
-            }
-            true
-        });
     }
 }

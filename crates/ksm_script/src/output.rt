@@ -1,12 +1,12 @@
 //! Texts on a writer, whole or, at a fault, a beginning.
-ghost use Rattle.std.specs.Prelude.{◌≡◌, ◌+◌, ◌<◌, ◌≤◌, length, drop, OnOk, IfErr, decimal};
+ghost use Rattle.std.specs.Prelude.{◌≡◌, ◌+◌, ◌<◌, ◌≤◌, length, drop, map, OnOk, IfErr, decimal};
 ghost use Rattle.std.specs.List.{flat_map};
 ghost use Rattle.std.specs.Io.KnownBytes.{Appends};
 ghost use Rattle.ksm_script.specs.Texts.{AppendsPart, word_digits, content_text};
 ghost use Rattle.ksm_script.specs.Pieces.{piece_text};
 
 use crate::script::RunFault;
-use ksm_base::PageBytes;
+use ksm_base::{PAGE_WORDS, PageBytes};
 use std::io::Write;
 
 /// How many digits the longest number has.
@@ -79,16 +79,25 @@ fn digits_of(word: u64) -> [u8; 16]
     digits
 }
 
+/// The digits of the words of a page.
+fn digits_of_words(content: &PageBytes) -> [[u8; 16]; PAGE_WORDS]
+    ensures { result ≡ map word_digits content.now }
+{
+    let mut digits = [[0; 16]; PAGE_WORDS];
+    for i in 0..PAGE_WORDS {
+        digits[i] = digits_of(content[i]);
+    }
+    digits
+}
+
 /// Writes the content of a page, its bytes in order, two digits each.
 fn write_content<W: Write>(writer: &mut W, content: &PageBytes) -> Result<(), RunFault>
     ensures whole { OnOk result (Appends (W.contents writer.old) (W.contents writer.new) (content_text content.now)) }
     ensures fault { IfErr result (λ e. (e ≡ RunFault.Write)
         × AppendsPart (W.contents writer.old) (W.contents writer.new) (content_text content.now)) }
 {
-    for word in content {
-        write_text(writer, &digits_of(*word))?;
-    }
-    Ok(())
+    let digits = digits_of_words(content);
+    write_text(writer, digits.as_flattened())
 }
 
 /// Writes a part of a text.

@@ -41,7 +41,7 @@ impl Layout {
             return Err(Fault::InUse);
         }
         mount(&mut self.keeper, table, left, frame, dup.place, items);
-        self.pages.move_frames(left, frame);
+        self.pages.move_items(dup.number, frame);
         Ok(())
     }
 }

@@ -1,13 +1,19 @@
-use Rattle.std.proofs.Common.{arith}
-use Rattle.ksm_script.specs.Texts.{word_digits}
-use Rattle.ksm_script.proofs.Parts.{pieces_whole, pieces_part, broken_off}
+use Rattle.std.proofs.Common.{◌≡◌, ◌∙◌, ap, subst}
+use Rattle.std.specs.Prelude.{OnOk, IfErr}
+use Rattle.std.specs.Io.KnownBytes.{Appends}
+use Rattle.std.specs.List.{flat_map}
+use Rattle.std.proofs.lemmas.List.Folds.{flat_map-map}
+use Rattle.ksm_script.specs.declared.script.RunFault.TheVariants.{Write}
+use Rattle.ksm_script.specs.Texts.{AppendsPart, content_text, word_digits}
 use Rattle.ksm_script.proofs.output.write_content.Goals as goal
 
-pub returns-in_err-write_text-clause-fault : goal.returns-in_err-write_text-clause-fault
-returns-in_err-write_text-clause-fault g c =
-    broken_off c.from_residual.result c.in_err-write_text.field-0.0 _ c.from_residual.ensures.1 c.in_err-write_text.ensures.fault.0
-    (pieces_part word_digits c.args.content.now c.loop-word.word-index 0 _ _ _ _ (omega (arith, c.loop-word-test.true, c.told-content)) c.digits_of.ensures c.loop-word.invariant c.in_err-write_text.ensures.fault.1)
-
-pub loop-word-preserved : goal.loop-word-preserved
-loop-word-preserved g c =
-    pieces_whole word_digits c.args.content.now c.loop-word.word-index 0 _ _ _ _ (omega (arith, c.loop-word-test.true, c.told-content)) c.digits_of.ensures c.loop-word.invariant c.in_ok-write_text.ensures.whole
+pub returns : goal.returns
+returns g c =
+    let old = g.W.Write.contents c.args.writer.now in
+    let new = g.W.Write.contents c.write_text.new.writer in
+    let text : c.as_flattened.result.now ≡ content_text c.args.content.now =
+    c.as_flattened.ensures.value ∙ ap (flat_map (λ x. x)) c.digits_of_words-digits.ensures ∙ flat_map-map (λ x. x) word_digits c.args.content.now in
+    record {
+      whole = subst (λ x. OnOk c.write_text.result (Appends old new x)) text c.write_text.ensures.whole;
+      fault = subst (λ x. IfErr c.write_text.result (λ e. (e ≡ Write) × AppendsPart old new x)) text c.write_text.ensures.fault;
+    }

@@ -12,14 +12,14 @@ use Rattle.ksm_book.specs.Whole.{BookView}
 use Rattle.ksm_layout.proofs.Found.{change_nothing, change_own, found_known, moved_page, moved_home}
 use Rattle.ksm_book.proofs.state.State.move_page.Goals as goal
 
-pub returns-then-row-node : goal.returns-then-row-node
-returns-then-row-node c = record {
+pub returns-then-held-node : goal.returns-then-held-node
+returns-then-held-node c = record {
   own = search rules;
   answer = search rules;
   state =
       let s = c.self.inside in
-      let same = change_nothing c.args.page (moved c.args.node) s.layout.rows c.in-Some.row c.self.invariant.rows_rise (sym c.in-Some.ensures)
-      (moved_home c.args.node c.in-Some.row c.if-row-node.true) in
+      let same = change_nothing c.args.page (moved c.args.node) s.layout.rows c.in-Some.held.row c.self.invariant.rows_rise c.in-Some.ensures.found
+      (moved_home c.args.node c.in-Some.held.row c.if-held-node.true) in
       sym (ap (λ (x : BookView). x.state) c.self.view_is) ∙ ap (λ rows. record (state_of s.layout s.cursor s.passes) { rows = rows }) (sym same)
       ∙ ap (λ (x : BookView). record x.state { rows = change_row c.args.page (moved c.args.node) x.state.rows }) c.self.view_is;
   steps = search rules;
@@ -28,7 +28,7 @@ returns-then-row-node c = record {
 }
 
 pub resettle-requires-clause-known : goal.resettle-requires-clause-known
-resettle-requires-clause-known c = found_known c.args.page c.self.inside.layout.rows c.in-Some.row c.moved.result (sym c.in-Some.ensures) (ap (λ (x : Row). x.page) c.moved.ensures ∙ moved_page c.args.node c.in-Some.row)
+resettle-requires-clause-known c = found_known c.args.page c.self.inside.layout.rows c.in-Some.held.row c.moved.result c.in-Some.ensures.found (ap (λ (x : Row). x.page) c.moved.ensures ∙ moved_page c.args.node c.in-Some.held.row)
 
 there : (c : goal.Else-not-resettle) → state_of c.resettle.new.self c.self.inside.cursor c.self.inside.passes ≡ record (state_of c.self.inside.layout c.self.inside.cursor c.self.inside.passes) { rows = change_row c.args.page (moved c.args.node) c.self.inside.layout.rows }
 there c =
@@ -36,7 +36,7 @@ there c =
     let b : BookState = state_of s.layout s.cursor s.passes in
     ap (λ (x : Lay). state_of x s.cursor s.passes) c.if-not-resettle.ensures.housed.state
     ∙ ap (λ (x : Row). record b { rows = change_row x.page (λ _. x) s.layout.rows }) c.moved.ensures
-    ∙ ap (λ rows. record b { rows = rows }) (change_own c.args.page (moved c.args.node) s.layout.rows c.in-Some.row c.self.invariant.rows_rise (sym c.in-Some.ensures) (moved_page c.args.node c.in-Some.row))
+    ∙ ap (λ rows. record b { rows = rows }) (change_own c.args.page (moved c.args.node) s.layout.rows c.in-Some.held.row c.self.invariant.rows_rise c.in-Some.ensures.found (moved_page c.args.node c.in-Some.held.row))
 
 pub returns : goal.returns
 returns c = record {

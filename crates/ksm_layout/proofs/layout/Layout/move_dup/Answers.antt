@@ -18,6 +18,12 @@ item-requires c =
     dup_known (λ d. d.place == c.args.dup.place && has_items p.listed.rows d) p.dups c.args.dup
     (ap (λ (x : Lay). find (λ d. d.place == c.args.dup.place && has_items x.rows d) x.dups) c.self.view_is ∙ c.requires.live)
 
+pub move_items-requires : goal.move_items-requires
+move_items-requires c =
+    let p = c.self.inside.pages in
+    dup_known (λ d. d.place == c.args.dup.place && has_items p.listed.rows d) p.dups c.args.dup
+    (ap (λ (x : Lay). find (λ d. d.place == c.args.dup.place && has_items x.rows d) x.dups) c.self.view_is ∙ c.requires.live)
+
 pub returns-in_default-clause-moved : goal.returns-in_default-clause-moved
 returns-in_default-clause-moved c =
     let b = c.self.inside in
@@ -104,7 +110,7 @@ invariant_of-self-2 c =
     let all = c.freeze.ensures.2.0 c.if-not-freeze.false in
     let mounted = subst (λ x. Mounted c.freeze.new.self c.mount.new.keeper c.known_frame-left.result c.in-Some-seek.frame c.args.dup.place x)
     c.base-items.ensures c.mount.ensures.mounted in
-    relisted b.pages c.move_frames.new.self c.mount.new.keeper c.move_frames.ensures.rest (laid_moved_dup b.pages b.keeper c.self.invariant c.args.self.now c.self.view_is c.requires.sound c.args.dup c.requires.live c.in-Some.item c.in-Some.ensures c.in-Some-find.held.row c.in-Some-find.held.frame c.known_frame-left.result c.known_frame-left.ensures c.in-Some-find.ensures.at c.seek.new.keeper c.seek.ensures.own c.args.node c.in-Some-seek.frame c.requires.node c.requires.home c.in-Some-seek.ensures.found c.freeze.new.self c.freeze.ensures.0 c.freeze.ensures.1 all c.mount.new.keeper c.mount.ensures.own mounted c.move_frames.new.self.listed c.move_frames.ensures.rows c.move_frames.ensures.frames)
+    relisted b.pages c.move_items.new.self c.mount.new.keeper c.move_items.ensures.rest (laid_moved_dup b.pages b.keeper c.self.invariant c.args.self.now c.self.view_is c.requires.sound c.args.dup c.requires.live c.in-Some.item c.in-Some.ensures c.in-Some-find.held.row c.in-Some-find.held.frame c.known_frame-left.result c.known_frame-left.ensures c.in-Some-find.ensures.at c.seek.new.keeper c.seek.ensures.own c.args.node c.in-Some-seek.frame c.requires.node c.requires.home c.in-Some-seek.ensures.found c.freeze.new.self c.freeze.ensures.0 c.freeze.ensures.1 all c.mount.new.keeper c.mount.ensures.own mounted c.move_items.new.self.listed c.move_items.ensures.rows c.move_items.ensures.frames)
 
 pub returns-clause-moved : goal.returns-clause-moved
 returns-clause-moved c =
@@ -148,7 +154,7 @@ returns-clause-moves c =
     c.in-Some-find.held.row c.in-Some-find.held.frame c.known_frame-left.result c.known_frame-left.ensures c.in-Some-find.ensures.at
     c.seek.new.keeper c.seek.ensures.own c.args.node c.in-Some-seek.frame c.requires.node c.requires.home c.in-Some-seek.ensures.found
     c.freeze.new.self c.freeze.ensures.0 c.freeze.ensures.1 all c.mount.new.keeper c.mount.ensures.own mounted c.in-Some-seek.ensures.made made
-    c.move_frames.new.self c.move_frames.ensures.frames
+    c.move_items.new.self c.move_items.ensures.frames
 
 pub known_frame-left-requires : goal.known_frame-left-requires
 known_frame-left-requires c =

@@ -7,11 +7,11 @@ use Rattle.ksm_pages.specs.Linked.{AreKept, AreLinked}
 use Rattle.ksm_pages.proofs.Linking.{linked_dropped, only_rows}
 use Rattle.ksm_pages.proofs.pages.Pages.remove.Goals as goal
 
-pub invariant_of-self : goal.invariant_of-self
-invariant_of-self c =
+pub invariant_of-self-2 : goal.invariant_of-self-2
+invariant_of-self-2 c =
     let old = c.self.inside in
     let row = c.in-Some.held.row in
-    let found = c.in-Some.ensures.at.found in
+    let found = c.in-Some.ensures.stood.found in
     subst (λ rows. AreKept old.shape old.knobs rows c.leave.new.dups c.stop_waiting.new.waiting) (sym c.remove.ensures.gone)
     (record {
       linked = subst (AreLinked old.shape (without_page c.args.page old.rows.rows)) (sym c.leave.ensures)

@@ -1,10 +1,10 @@
-use Rattle.std.proofs.Common.{◌≡◌, ◌∙◌, sym, ap, Some, false, arith}
+use Rattle.std.proofs.Common.{◌≡◌, ◌∙◌, sym, ap, subst, Some, false, arith}
 use Rattle.std.specs.Prelude.{is_some}
 use Rattle.std.specs.Map.{lookup}
 use Rattle.ksm_base.specs.Rows.{row_at}
-use Rattle.ksm_pages.specs.Listed.{Listed}
+use Rattle.ksm_pages.specs.Listed.{Listed, StandsAt}
 use Rattle.ksm_pages.specs.RowEntries.{listed}
-use Rattle.ksm_pages.proofs.RowLists.{Went, asks, known_by, went}
+use Rattle.ksm_pages.proofs.RowLists.{Went, asks, known_by, stands_at, went}
 use Rattle.ksm_pages.proofs.Tallies.{page_counted, page_gone}
 use Rattle.ksm_pages.proofs.rows.Rows.remove.Goals as goal
 use Rattle.ksm_pages.proofs.rows.Rows.remove.Goals.{In_default}
@@ -15,6 +15,9 @@ never c =
     let none : is_some (row_at c.args.page c.args.self.now.rows) ≡ false = ap (λ (l : Listed). is_some (row_at c.args.page l.rows)) (sym c.self.view_is) ∙ known_by c.args.page c.self.inside.entries.entries
     ∙ ap is_some (sym c.remove.ensures.value ∙ c.in_default.is) in
     grind (arith, none, c.requires)
+
+pub returns-in_default-clause-stood : goal.returns-in_default-clause-stood
+returns-in_default-clause-stood c = never c
 
 pub returns-in_default-clause-rows : goal.returns-in_default-clause-rows
 returns-in_default-clause-rows c = absurd (never c)
@@ -31,13 +34,19 @@ went_out c = went c.self.inside.entries.entries c.remove.new.self.entries c.args
 pub without-self-inside-requires : goal.without-self-inside-requires
 without-self-inside-requires c =
     let found : lookup (asks c.args.page) c.self.inside.entries.entries ≡ Some c.in-Some.entry = sym c.remove.ensures.value ∙ c.in-Some.is in
-    page_counted c.self.inside.entries.entries c.args.self.now c.args.page c.in-Some.entry c.row.result c.self.inside.tally c.self.view_is c.len.ensures.ordered found c.row.ensures c.self.invariant
+    page_counted c.self.inside.entries.entries c.args.self.now c.args.page c.in-Some.entry c.row-row.result c.self.inside.tally c.self.view_is c.len.ensures.ordered found c.row-row.ensures c.self.invariant
 
 pub invariant_of-self-2 : goal.invariant_of-self-2
 invariant_of-self-2 c =
     let found : lookup (asks c.args.page) c.self.inside.entries.entries ≡ Some c.in-Some.entry = sym c.remove.ensures.value ∙ c.in-Some.is in
-    page_gone c.self.inside.entries.entries c.args.self.now c.args.page c.in-Some.entry c.row.result c.self.inside.tally c.self.view_is c.len.ensures.ordered found c.row.ensures c.self.invariant
+    page_gone c.self.inside.entries.entries c.args.self.now c.args.page c.in-Some.entry c.row-row.result c.self.inside.tally c.self.view_is c.len.ensures.ordered found c.row-row.ensures c.self.invariant
     c.without-self-inside.result _ (went_out c).rows c.without-self-inside.ensures
+
+pub returns-clause-stood : goal.returns-clause-stood
+returns-clause-stood c =
+    let found : lookup (asks c.args.page) c.self.inside.entries.entries ≡ Some c.in-Some.entry = sym c.remove.ensures.value ∙ c.in-Some.is in
+    subst (λ (l : Listed). StandsAt l c.args.page c.row-row.result c.in-Some.entry.frame) c.self.view_is
+    (subst (λ r. StandsAt (listed c.self.inside.entries.entries) c.args.page r c.in-Some.entry.frame) (sym c.row-row.ensures) (stands_at c.args.page c.in-Some.entry c.self.inside.entries.entries c.len.ensures.ordered found))
 
 pub returns-clause-rows : goal.returns-clause-rows
 returns-clause-rows c = (went_out c).rows

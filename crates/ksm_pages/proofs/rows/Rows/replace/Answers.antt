@@ -1,11 +1,11 @@
-use Rattle.std.proofs.Common.{◌≡◌, sym, ◌∙◌, ap, Some, false, arith}
+use Rattle.std.proofs.Common.{◌≡◌, sym, ◌∙◌, ap, subst, Some, false, arith}
 use Rattle.std.specs.Prelude.{is_some}
 use Rattle.std.specs.Option.{option_copied_mut}
 use Rattle.std.specs.Map.{lookup, set_value}
 use Rattle.ksm_base.specs.Rows.{row_at}
-use Rattle.ksm_pages.specs.Listed.{Listed}
+use Rattle.ksm_pages.specs.Listed.{Listed, StandsAt}
 use Rattle.ksm_pages.specs.RowEntries.{listed}
-use Rattle.ksm_pages.proofs.RowLists.{asks, known_by, Replaced, replaced}
+use Rattle.ksm_pages.proofs.RowLists.{asks, known_by, stands_at, Replaced, replaced}
 use Rattle.ksm_pages.proofs.Tallies.{page_counted, page_replaced, page_room}
 use Rattle.ksm_pages.proofs.rows.Rows.replace.Goals as goal
 
@@ -15,6 +15,9 @@ never c =
     let none : is_some (row_at c.args.row.page c.args.self.now.rows) ≡ false = ap (λ (l : Listed). is_some (row_at c.args.row.page l.rows)) (sym c.self.view_is) ∙ known_by c.args.row.page c.self.inside.entries.entries
     ∙ ap is_some (sym c.get_mut.ensures.value ∙ ap option_copied_mut c.in_default.is) in
     grind (arith, none, c.requires)
+
+pub returns-in_default-clause-stood : goal.returns-in_default-clause-stood
+returns-in_default-clause-stood c = never c
 
 pub returns-in_default-clause-rows : goal.returns-in_default-clause-rows
 returns-in_default-clause-rows c = absurd (never c)
@@ -28,6 +31,12 @@ returns-in_default-clause-changed c = absurd (never c)
 written : (c : goal.After-self-3-1) → Replaced c.args.self.now (listed (c.get_mut.follows.lender c.new-kept.result).entries) c.args.row c.args.frame
 written c = replaced c.self.inside.entries.entries (c.get_mut.follows.lender c.new-kept.result).entries c.args.self.now c.args.row c.args.frame c.self.view_is c.get_mut.ensures.ordered c.requires
     ((c.get_mut.follows.holds c.new-kept.result).0 ∙ ap (set_value (asks c.args.row.page) c.self.inside.entries.entries) c.new-kept.ensures)
+
+pub returns-clause-stood : goal.returns-clause-stood
+returns-clause-stood c =
+    let found : lookup (asks c.args.row.page) c.self.inside.entries.entries ≡ Some c.in-Some.entry.now = sym c.get_mut.ensures.value ∙ ap option_copied_mut c.in-Some.is in
+    subst (λ (l : Listed). StandsAt l c.args.row.page c.row-old.result c.in-Some.entry.now.frame) c.self.view_is
+    (subst (λ r. StandsAt (listed c.self.inside.entries.entries) c.args.row.page r c.in-Some.entry.now.frame) (sym c.row-old.ensures) (stands_at c.args.row.page c.in-Some.entry.now c.self.inside.entries.entries c.get_mut.ensures.ordered found))
 
 pub returns-clause-rows : goal.returns-clause-rows
 returns-clause-rows c = (written c).rows

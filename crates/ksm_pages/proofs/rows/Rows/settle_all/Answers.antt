@@ -1,5 +1,5 @@
 use Rattle.std.proofs.Common.{◌≡◌, ◌∙◌, refl, sym, ap, map, subst, rules}
-use Rattle.std.specs.Prelude.{if◌then◌else◌}
+use Rattle.std.specs.Prelude.{count_by, if◌then◌else◌}
 use Rattle.ksm_base.specs.declared.page.GuestPage.{GuestPage}
 use Rattle.ksm_base.specs.declared.row.PageState.{PageState}
 use Rattle.ksm_base.specs.declared.row.PageState.TheVariants.{Private, Waiting, Merged, Zero}
@@ -9,7 +9,7 @@ use Rattle.ksm_pages.specs.Listed.{Listed}
 use Rattle.ksm_pages.specs.RowEntries.{listed, row_of}
 use Rattle.ksm_pages.specs.Tallied.{IsTally}
 use Rattle.ksm_pages.proofs.RowWalks.{map_pairs, all_changed}
-use Rattle.ksm_pages.proofs.Tallies.{tally_settled, tally_within}
+use Rattle.ksm_pages.proofs.Tallies.{none_settle, tally_settled, tally_within}
 use Rattle.ksm_pages.proofs.rows.Rows.settle_all.Goals as goal
 
 -- an entry that waits no more
@@ -27,6 +27,10 @@ written c =
     let es = c.self.inside.entries.entries in
     all_changed settled (λ r. refl) es c.retain.new.self.entries c.args.self.now c.self.view_is
     (map_pairs _ calmed _ (λ k v b w f' t. search rules) es c.retain.new.self.entries c.retain.ensures.filtered ∙ (λ t. map (λ e. (e.0, record e.1 { state = calms e.1.state t })) es))
+
+-- no row waits
+pub returns-then-self-eq0-clause-rows : goal.returns-then-self-eq0-clause-rows
+returns-then-self-eq0-clause-rows c = sym (none_settle c.args.self.now.rows (ap (λ (l : Listed). count_by (λ r. waiting_state r.state) l.rows) (sym c.self.view_is) ∙ sym c.self.invariant.waiting ∙ c.if-self-eq0.true))
 
 pub returns-clause-rows : goal.returns-clause-rows
 returns-clause-rows c = ap (λ (l : Listed). l.rows) (written c)

@@ -1,0 +1,8 @@
+use Rattle.std.proofs.Common.{◌≡◌, length, map, take}
+use Rattle.ksm_base.specs.declared.page.TheConstants.{PAGE_WORDS}
+use Rattle.ksm_script.specs.Texts.{word_digits}
+use Rattle.ksm_script.proofs.output.digits_of_words.Given as goal
+
+-- the first words have their digits
+abbrev pub invariant-loop-i : goal.invariant-loop-i
+invariant-loop-i l = (length l.digits ≡ PAGE_WORDS) × (take l.i l.digits ≡ map word_digits (take l.i l.content))
