@@ -1,6 +1,6 @@
 -- A lawful placement says the sentences that are promised.
 use Rattle.std.proofs.Common.{inl, inr, ◌≡◌, ◌≢◌, ℕ, zero, suc, ◌+◌, ◌<◌, ◌≤◌, Bool, true, false, List, [], ◌∷◌, ◌++◌, length, map, get_or, Option, Some, None, refl, sym, ap, ◌∙◌, subst, arith}
-use Rattle.std.specs.Prelude.{All, AllPairs, Contains, ◌==◌, not, count_by, filter, is_some, nat_lt, slice_index, MatchOption}
+use Rattle.std.specs.Prelude.{All, AllPairs, Contains, ◌==◌, not, count_by, filter, is_some, MatchOption}
 use Rattle.std.specs.List.{zip}
 use Rattle.std.proofs.lemmas.Bool.{cases_Bool, lt-ltb, not-true}
 use Rattle.std.proofs.lemmas.Bool.Decides.{nat_tests}
@@ -24,7 +24,7 @@ use Rattle.frame_core.specs.Ledger.{frame_at, named_at}
 use Rattle.frame_table.specs.Named.{KeeperView}
 use Rattle.ksm_layout.specs.Commands.{frame_number}
 use Rattle.ksm_layout.specs.Lawful.{LieLawfully}
-use Rattle.ksm_layout.specs.Placement.{uses, kind_for, IsServed, FitsBase, life_or, place_frame, place_life, IsInLife, Placed}
+use Rattle.ksm_layout.specs.Placement.{uses, kind_for, IsServed, FitsBase, life_or, place_frame, Placed}
 use Rattle.ksm_pages.specs.Listed.{frame_in, row_in, no_row, is_frame}
 use Rattle.ksm_book.specs.Promised.{own_frames, dup_frames, is_in_use, HasItsOwn, StandsOn, IsOutlived, LieOn}
 use Rattle.ksm_layout.proofs.Laying.{own_kind, own_framed}

@@ -1,5 +1,5 @@
 -- Rows that are changed one after another, in order.
-use Rattle.std.proofs.Common.{inl, inr, ◌≡◌, ℕ, zero, suc, ◌+◌, ◌<◌, ◌≤◌, Bool, true, false, cond, List, [], ◌∷◌, ◌++◌, length, map, take, get_or, Option, Some, None, Ok, append-nil, refl, sym, ap, ◌∙◌, subst, arith}
+use Rattle.std.proofs.Common.{◌≡◌, ℕ, zero, suc, ◌+◌, ◌<◌, ◌≤◌, Bool, true, false, cond, List, [], ◌∷◌, ◌++◌, length, map, take, get_or, Option, Some, None, Ok, append-nil, refl, sym, ap, ◌∙◌, subst, arith}
 use Rattle.std.specs.Prelude.{All, filter, find, slice_get, is_some, not, option_map, MatchOption, ◌&&◌, if◌then◌else◌}
 use Rattle.std.proofs.lemmas.List.Sums.{length-filter, count_by-le-length}
 use Rattle.std.proofs.lemmas.List.Elements.{All-head, All-tail, All-map}
@@ -17,7 +17,7 @@ use Rattle.ksm_base.specs.declared.fault.Fault.TheVariants.{NoFrame, UnknownPage
 use Rattle.ksm_base.specs.Answers.{IsUnmerged, IsAnswerUnless, IsAnswerOrMemory, shared_rows}
 use Rattle.ksm_base.specs.State.{BookState}
 use Rattle.frame_table.specs.Named.{KeeperView}
-use Rattle.ksm_layout.specs.Laid.{Lay, LodgesAs, state_of}
+use Rattle.ksm_layout.specs.Laid.{Lay, state_of}
 use Rattle.ksm_layout.specs.Steps.{Does}
 use Rattle.ksm_book.specs.Unmerged.{first_changed, IsStop, Gave}
 use Rattle.ksm_pages.specs.Wanted.{is_shared_of}

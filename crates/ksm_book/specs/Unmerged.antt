@@ -1,9 +1,6 @@
 -- Rows that leave their dups, or the zero page, one after another, in order (own).
-use Rattle.std.specs.Prelude.{◌≡◌, ℕ, zero, suc, length, slice_get, Bool, ◌&&◌, List, [], ◌∷◌, Option, None, Some, if◌then◌else◌}
+use Rattle.std.specs.Prelude.{◌≡◌, ℕ, zero, suc, length, slice_get, Bool, List, [], ◌∷◌, Option, None, Some, if◌then◌else◌}
 use Rattle.ksm_base.specs.declared.row.Row.{Row}
-use Rattle.ksm_base.specs.Answers.{every_row}
-use Rattle.ksm_base.specs.Refusals.{is_of}
-use Rattle.ksm_base.specs.Rows.{shared_state}
 use Rattle.frame_table.specs.Named.{KeeperView}
 use Rattle.ksm_layout.specs.Steps.{Does}
 use Rattle.ksm_layout.specs.Keeping.{NoneLeft}

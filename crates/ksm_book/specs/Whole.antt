@@ -1,5 +1,5 @@
 -- The book with the keeper of its frames, and what a command does with the keeper (own).
-use Rattle.std.specs.Prelude.{◌≢◌, ℕ, List, [], ◌∷◌, map, take, Contains, Option, Some, None, Ok, Err}
+use Rattle.std.specs.Prelude.{ℕ, List, [], ◌∷◌, map, take, Option, Some, None, Ok, Err}
 use Rattle.ksm_base.specs.declared.command.Command.{Command}
 use Rattle.ksm_base.specs.declared.command.Command.TheVariants.{Unmerge, MoveDup, SetRun}
 use Rattle.ksm_base.specs.declared.reply.Reply.TheVariants.{Done, Unmerged}
@@ -7,11 +7,8 @@ use Rattle.ksm_base.specs.declared.fault.Fault.TheVariants.{NoFrame, InUse}
 use Rattle.ksm_base.specs.Refusals.{is_of}
 use Rattle.ksm_base.specs.Answers.{Answer, frame_needed, shared_rows, every_row}
 use Rattle.ksm_base.specs.State.{BookState}
-use Rattle.frame_core.specs.declared.event.KeeperStep.TheVariants.{Raise, Publish, Freeze}
-use Rattle.frame_core.specs.State.{count_in}
-use Rattle.frame_core.specs.Ledger.{frame_at}
 use Rattle.frame_table.specs.Named.{KeeperView}
-use Rattle.ksm_layout.specs.Steps.{Log, Did, Does}
+use Rattle.ksm_layout.specs.Steps.{Does}
 use Rattle.ksm_layout.specs.Commands.{Mapped, listed_in}
 use Rattle.ksm_layout.specs.Keeping.{NoneLeft}
 use Rattle.ksm_layout.specs.Mounted.{HasLost, HasMoved}

@@ -1,5 +1,5 @@
 -- Rows that go to another frame, one after another.
-use Rattle.std.proofs.Common.{◌≡◌, ℕ, suc, ◌+◌, ◌<◌, Bool, true, false, cond, List, [], ◌∷◌, length, map, get_or, take, Option, Some, None, refl, sym, ap, ◌∙◌, subst, inl, inr, arith}
+use Rattle.std.proofs.Common.{◌≡◌, ℕ, suc, ◌+◌, Bool, true, false, cond, List, [], ◌∷◌, map, get_or, take, Option, Some, None, refl, sym, ap, ◌∙◌, inl, inr, arith}
 use Rattle.std.specs.Prelude.{All, filter, is_some, ◌||◌}
 use Rattle.std.specs.List.{list_any, slice_get}
 use Rattle.std.specs.Map.{keys_of, lookup, set_value}
@@ -13,8 +13,8 @@ use Rattle.ksm_base.specs.Rows.{InPageOrder, comes_before, row_at, same_page}
 use Rattle.ksm_base.proofs.Orders.{pairs_tail}
 use Rattle.ksm_base.proofs.Pages.{after_differs, before_differs, same_page_refl}
 use Rattle.ksm_pages.specs.declared.entry.Entry.{Entry}
-use Rattle.ksm_pages.specs.Listed.{Listed, lodged}
-use Rattle.ksm_pages.specs.RowEntries.{row_of, frame_of, listed}
+use Rattle.ksm_pages.specs.Listed.{lodged}
+use Rattle.ksm_pages.specs.RowEntries.{row_of, frame_of}
 use Rattle.ksm_pages.proofs.Linking.{take_next}
 use Rattle.ksm_pages.proofs.RowLists.{Entries, Sorted, asks, beside, known_by, none_there, order, rows_of}
 

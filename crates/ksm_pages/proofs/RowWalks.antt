@@ -1,5 +1,5 @@
 -- What is found, counted and changed in the entries of the rows' map, said of the rows.
-use Rattle.std.proofs.Common.{◌≡◌, ℕ, Bool, true, false, cond, List, [], ◌∷◌, length, map, Option, Some, None, suc, refl, sym, ap, ◌∙◌, subst}
+use Rattle.std.proofs.Common.{◌≡◌, Bool, true, false, cond, List, [], ◌∷◌, length, map, Option, Some, None, suc, refl, sym, ap, ◌∙◌, subst}
 use Rattle.std.specs.Prelude.{filter, find, count_by, option_map, ◌&&◌, ◌||◌}
 use Rattle.std.specs.List.{list_any}
 use Rattle.std.proofs.lemmas.List.Sums.{length-filter}

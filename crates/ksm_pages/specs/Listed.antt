@@ -1,5 +1,5 @@
 -- Rows in the order of their pages, each with its frame, if it has one (own).
-use Rattle.std.specs.Prelude.{Bool, ◌≡◌, if◌then◌else◌, true, false, ℕ, ◌<◌, ◌==◌, List, [], ◌∷◌, length, filter, Option, Some, None, slice_index_or}
+use Rattle.std.specs.Prelude.{Bool, ◌≡◌, if◌then◌else◌, false, ℕ, ◌<◌, ◌==◌, List, [], ◌∷◌, length, filter, Option, Some, None, slice_index_or}
 use Rattle.ksm_base.specs.declared.page.GuestPage.{GuestPage}
 use Rattle.ksm_base.specs.declared.row.PageState.TheVariants.{Private as OwnPage}
 use Rattle.ksm_base.specs.declared.row.Row.{Row}

@@ -1,6 +1,5 @@
 use Rattle.std.proofs.Common.{◌≡◌, ◌∙◌, ◌++◌, ◌∷◌, ◌<◌, List, [], get_or, length, length-set, map, take, refl, sym, ap, arith}
 use Rattle.std.proofs.lemmas.List.{take_all, take_more, take_more_set}
-use Rattle.ksm_base.specs.declared.page.TheConstants.{PAGE_WORDS}
 use Rattle.ksm_script.specs.Texts.{word_digits}
 use Rattle.ksm_script.proofs.output.digits_of_words.Goals as goal
 

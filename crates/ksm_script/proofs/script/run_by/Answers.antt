@@ -1,5 +1,4 @@
 use Rattle.std.proofs.Common.{rules, ◌≡◌, ◌≢◌, ◌++◌, length, inl, inr, ℕ, subst, sym}
-use Rattle.std.specs.Io.KnownBytes.{Appends}
 use Rattle.std.proofs.KnownBytes.{Appends-trans}
 use Rattle.ksm_script.specs.declared.input.LineEnd.TheVariants.{Input}
 use Rattle.ksm_script.specs.declared.reply.LineReply.TheVariants.{BadLine as bad_line}

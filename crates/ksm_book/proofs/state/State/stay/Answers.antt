@@ -1,15 +1,14 @@
-use Rattle.std.proofs.Common.{◌≡◌, ◌∙◌, refl, sym, ap, subst}
+use Rattle.std.proofs.Common.{◌≡◌, ◌∙◌, sym, ap, subst}
 use Rattle.ksm_base.specs.declared.row.PageState.TheVariants.{Zero}
-use Rattle.ksm_base.specs.Rows.{change_row}
 use Rattle.ksm_base.specs.Sound.{IsSound}
 use Rattle.ksm_base.specs.State.{BookState}
 use Rattle.ksm_base.specs.Visit.{is_for_zero, next_row, stayed}
 use Rattle.ksm_base.proofs.SoundScan.{next_row_visited, sound_stayed}
-use Rattle.ksm_layout.specs.Commands.{Performs, emptying, listed_in, staying}
+use Rattle.ksm_layout.specs.Commands.{Performs, staying}
 use Rattle.ksm_layout.specs.Laid.{Lay, state_of, mapped_lay}
 use Rattle.ksm_book.specs.Whole.{BookView, mapped}
 use Rattle.ksm_layout.proofs.Found.{change_known}
-use Rattle.ksm_book.proofs.Visiting.{visited_at, emptied_by, emptying_by, paired_by, pairing_by}
+use Rattle.ksm_book.proofs.Visiting.{visited_at, emptied_by, emptying_by}
 use Rattle.ksm_book.proofs.state.State.stay.Goals as goal
 
 pub become_zero-requires-clause-row_is : goal.become_zero-requires-clause-row_is

@@ -1,6 +1,5 @@
-use Rattle.std.proofs.Common.{refl, ap}
+use Rattle.std.proofs.Common.{refl}
 use Rattle.ksm_base.specs.declared.row.PageState.TheVariants.{Zero}
-use Rattle.ksm_layout.specs.Laid.{Lay}
 use Rattle.ksm_layout.proofs.Laying.{lawful, emptied_hand, laid_emptied, relisted}
 use Rattle.ksm_layout.proofs.layout.Layout.become_zero.Goals as goal
 

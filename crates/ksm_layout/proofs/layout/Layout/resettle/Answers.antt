@@ -1,4 +1,4 @@
-use Rattle.std.proofs.Common.{◌∙◌, ◌∷◌, [], Some, ap, subst}
+use Rattle.std.proofs.Common.{◌∙◌, ◌∷◌, [], ap, subst}
 use Rattle.ksm_layout.proofs.Laying.{lawful, shape_same, taken_hand, laid_moved, laid_kept, relaid, relisted}
 use Rattle.ksm_base.specs.Rows.{change_row}
 use Rattle.ksm_layout.specs.Laid.{Lay}
