@@ -1,11 +1,7 @@
-use Rattle.std.proofs.Common.{◌≡◌, ◌∙◌, ◌++◌, ◌∷◌, ◌<◌, List, [], get_or, length, length-set, map, take, refl, sym, ap, arith}
-use Rattle.std.proofs.lemmas.List.{take_all, take_more, take_more_set}
+use Rattle.std.proofs.Common.{◌≡◌, ◌∙◌, ◌++◌, ◌∷◌, ◌<◌, [], get_or, length, length-set, map, take, sym, ap, arith}
+use Rattle.std.proofs.lemmas.List.{map-append, take_all, take_more, take_more_set}
 use Rattle.ksm_script.specs.Texts.{word_digits}
 use Rattle.ksm_script.proofs.output.digits_of_words.Goals as goal
-
-map_pushed : {X Y : Type 0} (f : X → Y) (xs : List X) (x : X) → map f (xs ++ x ∷ []) ≡ map f xs ++ f x ∷ []
-map_pushed f [] x = refl
-map_pushed f (y ∷ xs) x = ap (λ l. f y ∷ l) (map_pushed f xs x)
 
 pub loop-i-preserved : goal.loop-i-preserved
 loop-i-preserved c =
@@ -16,7 +12,7 @@ loop-i-preserved c =
       length-set c.loop-i.digits i c.digits_of.result ∙ c.loop-i.invariant.0,
       take_more_set c.loop-i.digits i c.digits_of.result inside
           ∙ (λ t. c.loop-i.invariant.1 t ++ c.digits_of.ensures t ∷ [])
-          ∙ sym (ap (map word_digits) (take_more words i 0 within) ∙ map_pushed word_digits (take i words) (get_or words i 0)),
+          ∙ sym (ap (map word_digits) (take_more words i 0 within) ∙ map-append word_digits (take i words) (get_or words i 0 ∷ [])),
     )
 
 pub returns : goal.returns
