@@ -4,7 +4,7 @@ ghost use Rattle.ksm_tree.specs.Waits.{AreLetGo, IsAdded, IsRemoved, is_ahead, w
 use crate::content::Content;
 use ksm_base::{Fault, GuestPage, PageBytes};
 use std::alloc::Global;
-use std::collections::BTreeMap;
+use std::collections::HashMap;
 use std::marker::Model;
 
 /// The pages that wait for an equal one: at most one of each tree and bytes (mm/ksm, the unstable tree).
@@ -12,7 +12,7 @@ use std::marker::Model;
 /// Each call costs the logarithm of their number, but `let_go` and `clear`, which cost their number.
 #[derive(Drop)]
 pub struct Waiting {
-    pages: BTreeMap<Content, GuestPage>,
+    pages: HashMap<Content, GuestPage>,
 }
 
 impl Model for Waiting {
@@ -41,7 +41,7 @@ impl Waiting {
         ensures { result ≡ [] }
     {
         Waiting {
-            pages: BTreeMap::new(alloc),
+            pages: HashMap::new(alloc),
         }
     }
 
