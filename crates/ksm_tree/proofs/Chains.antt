@@ -1,8 +1,7 @@
 -- The chain of a group after its entry in the map has changed.
 use Rattle.std.proofs.Common.{length-append, ◌≡◌, ◌∙◌, ℕ, ◌<◌, List, [], ◌∷◌, Option, None, Some, Bool, true, false, cond, sym, ap, refl, subst, arith}
 use Rattle.std.specs.Prelude.{◌&&◌, ◌==◌, nat_lt, bytes_eq, filter, length, Result, Ok, Err, OnOk, OnErr, if◌then◌else◌}
-use Rattle.std.specs.BTreeMap.{BTreeMap, get, IsUnchanged, UpdatesBy}
-use Rattle.std.specs.Ordering.{is_eq}
+use Rattle.std.specs.HashMap.{HashMap, get, IsUnchanged, UpdatesBy}
 use Rattle.std.proofs.lemmas.Option.{none-some, same_Some}
 use Rattle.std.specs.Map.{lookup}
 use Rattle.std.specs.Option.{ForSome}
@@ -11,7 +10,7 @@ use Rattle.std.proofs.lemmas.Bool.Decides.{nat_tests}
 use Rattle.std.proofs.lemmas.Slice.Eq.{bytes_eq-Decides}
 use Rattle.ksm_tree.specs.declared.content.Content.{Content}
 use Rattle.ksm_tree.specs.declared.places.Places.{Places}
-use Rattle.ksm_tree.specs.contracts.content.ContentOrd.TheImpl as content_ord
+use Rattle.ksm_tree.specs.contracts.content.ContentPartialEq.TheImpl as content_eq
 use Rattle.ksm_tree.specs.Groups.{AllPeopled, chain_in}
 use Rattle.ksm_tree.specs.Places.{with_place}
 use Rattle.ksm_tree.proofs.Keys.{same_content}
@@ -21,7 +20,7 @@ abbrev pub listed : Option Places → List ℕ
 listed None = []
 listed (Some chain) = chain.list.items
 
-pub chain_found : (q : Content) (es : List (Content × Places)) → chain_in q.tree q.bytes es ≡ listed (lookup (λ k. is_eq (content_ord.ghosts.cmp q k)) es)
+pub chain_found : (q : Content) (es : List (Content × Places)) → chain_in q.tree q.bytes es ≡ listed (lookup (λ k. content_eq.ghosts.eq q k) es)
 chain_found q [] = refl
 chain_found q (e ∷ es) =
     let rest = chain_found q es in
@@ -46,14 +45,14 @@ same_chain key t b es here =
     λ i. chain_in (sym tree i) (sym bytes i) es
 
 -- one entry changed: its chain is a function of what it was, and the others stay
-pub chain_changed : (key : Content) (old new : BTreeMap Content Places) (w : Option Places) (f : List ℕ → List ℕ) → UpdatesBy content_ord.ghosts.cmp (content_ord.ghosts.cmp key) old new w → listed w ≡ f (chain_in key.tree key.bytes old.entries) → (t : ℕ) (b : List ℕ) → chain_in t b new.entries ≡ (if t == key.tree && bytes_eq b key.bytes then f (chain_in t b old.entries) else chain_in t b old.entries)
+pub chain_changed : {S : Type 0} (key : Content) (old new : HashMap Content Places S) (w : Option Places) (f : List ℕ → List ℕ) → UpdatesBy content_eq.ghosts.eq (content_eq.ghosts.eq key) old new w → listed w ≡ f (chain_in key.tree key.bytes old.entries) → (t : ℕ) (b : List ℕ) → chain_in t b new.entries ≡ (if t == key.tree && bytes_eq b key.bytes then f (chain_in t b old.entries) else chain_in t b old.entries)
 chain_changed key old new w f updates is t b =
     let q : Content = record { tree = t; bytes = b } in
     let s = t == key.tree && bytes_eq b key.bytes in
     chain_found q new.entries
     ∙ ap listed (updates.0 q)
-    ∙ ap (λ s. listed (cond s w (get content_ord.ghosts.cmp old q))) (same_content key q)
-    ∙ listed_cond s w (get content_ord.ghosts.cmp old q)
+    ∙ ap (λ s. listed (cond s w (get content_eq.ghosts.eq old q))) (same_content key q)
+    ∙ listed_cond s w (get content_eq.ghosts.eq old q)
     ∙ (λ i. cond s (is i) (sym (chain_found q old.entries) i))
     ∙ picked s (f (chain_in key.tree key.bytes old.entries)) (f (chain_in t b old.entries)) (chain_in t b old.entries) (λ here. ap f (same_chain key t b old.entries here))
 
@@ -62,7 +61,7 @@ cond_same true x = refl
 cond_same false x = refl
 
 -- one entry changed, and its chain is what it was
-pub chain_same : (key : Content) (old new : BTreeMap Content Places) (w : Option Places) → UpdatesBy content_ord.ghosts.cmp (content_ord.ghosts.cmp key) old new w → listed w ≡ chain_in key.tree key.bytes old.entries → (t : ℕ) (b : List ℕ) → chain_in t b new.entries ≡ chain_in t b old.entries
+pub chain_same : {S : Type 0} (key : Content) (old new : HashMap Content Places S) (w : Option Places) → UpdatesBy content_eq.ghosts.eq (content_eq.ghosts.eq key) old new w → listed w ≡ chain_in key.tree key.bytes old.entries → (t : ℕ) (b : List ℕ) → chain_in t b new.entries ≡ chain_in t b old.entries
 chain_same key old new w updates is t b =
     chain_changed key old new w (λ chain. chain) updates is t b ∙ cond_same (t == key.tree && bytes_eq b key.bytes) (chain_in t b old.entries)
 
@@ -74,7 +73,7 @@ chain_empty key es f keeps none t b =
     ∙ picked s (chain_in t b es) (f (chain_in t b es)) (chain_in t b es) (λ here. let e = sym (same_chain key t b es here) ∙ none in e ∙ sym (ap f e ∙ keeps))
 
 -- at an entry that is there, and where there is none
-pub chain_here : (key : Content) (old : BTreeMap Content Places) (chain : Option Places) → chain ≡ get content_ord.ghosts.cmp old key → chain_in key.tree key.bytes old.entries ≡ listed chain
+pub chain_here : {S : Type 0} (key : Content) (old : HashMap Content Places S) (chain : Option Places) → chain ≡ get content_eq.ghosts.eq old key → chain_in key.tree key.bytes old.entries ≡ listed chain
 chain_here key old chain is = chain_found key old.entries ∙ ap listed (sym is)
 
 -- a list of length 0
@@ -83,7 +82,7 @@ none_of [] none = refl
 none_of (x ∷ xs) none = grind (arith, nat_tests, none)
 
 -- the chain of a key after its entry has changed
-pub chain_now : (key : Content) (old new : BTreeMap Content Places) (w : Option Places) → UpdatesBy content_ord.ghosts.cmp (content_ord.ghosts.cmp key) old new w → chain_in key.tree key.bytes new.entries ≡ listed w
+pub chain_now : {S : Type 0} (key : Content) (old new : HashMap Content Places S) (w : Option Places) → UpdatesBy content_eq.ghosts.eq (content_eq.ghosts.eq key) old new w → chain_in key.tree key.bytes new.entries ≡ listed w
 chain_now key old new w updates = chain_here key new w (sym updates.1)
 
 -- each group has a place, where the one changed has
@@ -94,9 +93,9 @@ cond_peopled : (s : Bool) (v w : Option Places) → IsPeopled v → IsPeopled w 
 cond_peopled true v w first second = first
 cond_peopled false v w first second = second
 
-pub peopled_changed : (key : Content) (old new : BTreeMap Content Places) (w : Option Places) → UpdatesBy content_ord.ghosts.cmp (content_ord.ghosts.cmp key) old new w → AllPeopled old → IsPeopled w → AllPeopled new
+pub peopled_changed : {S : Type 0} (key : Content) (old new : HashMap Content Places S) (w : Option Places) → UpdatesBy content_eq.ghosts.eq (content_eq.ghosts.eq key) old new w → AllPeopled old → IsPeopled w → AllPeopled new
 peopled_changed key old new w updates was is content =
-    subst IsPeopled (sym (updates.0 content)) (cond_peopled (is_eq (content_ord.ghosts.cmp key content)) w (get content_ord.ghosts.cmp old content) is (was content))
+    subst IsPeopled (sym (updates.0 content)) (cond_peopled (content_eq.ghosts.eq key content) w (get content_eq.ghosts.eq old content) is (was content))
 
 pub none_peopled : IsPeopled None
 none_peopled chain is = absurd (none-some chain is)
@@ -112,17 +111,17 @@ pub some_of : (xs : List ℕ) → (length xs == 0) ≡ false → 0 < length xs
 some_of xs more = grind (arith, nat_tests, more)
 
 -- one entry put in, or refused
-pub peopled_inserted : {T E : Type 0} (key : Content) (old new : BTreeMap Content Places) (w : Option Places) (r : Result T E) → OnOk r (UpdatesBy content_ord.ghosts.cmp (content_ord.ghosts.cmp key) old new w) → OnErr r (IsUnchanged old new) → AllPeopled old → IsPeopled w → AllPeopled new
+pub peopled_inserted : {S T E : Type 0} (key : Content) (old new : HashMap Content Places S) (w : Option Places) (r : Result T E) → OnOk r (UpdatesBy content_eq.ghosts.eq (content_eq.ghosts.eq key) old new w) → OnErr r (IsUnchanged old new) → AllPeopled old → IsPeopled w → AllPeopled new
 peopled_inserted key old new w (Ok x) updates kept was is = peopled_changed key old new w updates was is
 peopled_inserted key old new w (Err e) updates kept was is =
-    λ content chain found. was content chain (ap (lookup (λ k. is_eq (content_ord.ghosts.cmp content k))) (sym kept) ∙ found)
+    λ content chain found. was content chain (ap (lookup (λ k. content_eq.ghosts.eq content k)) (sym kept) ∙ found)
 
 -- one entry changed, and taken out then
 gone_peopled : (s : Bool) (v w : Option Places) → IsPeopled v → IsPeopled (cond s None (cond s w v))
 gone_peopled true v w is = none_peopled
 gone_peopled false v w is = is
 
-pub peopled_gone : (key : Content) (old lent new : BTreeMap Content Places) (w : Option Places) → UpdatesBy content_ord.ghosts.cmp (content_ord.ghosts.cmp key) old lent w → UpdatesBy content_ord.ghosts.cmp (content_ord.ghosts.cmp key) lent new None → AllPeopled old → AllPeopled new
+pub peopled_gone : {S : Type 0} (key : Content) (old lent new : HashMap Content Places S) (w : Option Places) → UpdatesBy content_eq.ghosts.eq (content_eq.ghosts.eq key) old lent w → UpdatesBy content_eq.ghosts.eq (content_eq.ghosts.eq key) lent new None → AllPeopled old → AllPeopled new
 peopled_gone key old lent new w first second was content =
-    let s = is_eq (content_ord.ghosts.cmp key content) in
-    subst IsPeopled (sym (second.0 content ∙ ap (cond s None) (first.0 content))) (gone_peopled s (get content_ord.ghosts.cmp old content) w (was content))
+    let s = content_eq.ghosts.eq key content in
+    subst IsPeopled (sym (second.0 content ∙ ap (cond s None) (first.0 content))) (gone_peopled s (get content_eq.ghosts.eq old content) w (was content))

@@ -1,29 +1,20 @@
 -- The keys of the maps: equal where tree and bytes are.
-use Rattle.std.proofs.Common.{◌≡◌, ◌∙◌, ℕ, List, [], ◌∷◌, true, nat_cmp, Less, Equal, Greater, refl, arith}
+use Rattle.std.proofs.Common.{◌≡◌, ℕ, List, [], ◌∷◌, true, refl, arith}
 use Rattle.std.specs.Prelude.{map, ◌&&◌, ◌==◌, bytes_eq}
-use Rattle.std.specs.Ordering.{is_eq, ordering_then}
-use Rattle.std.specs.declared.cmp.Ordering.{Ordering}
-use Rattle.std.specs.Cmp.Lexicographic.{slice_cmp}
 use Rattle.std.proofs.lemmas.Bool.{and_parts}
 use Rattle.std.proofs.lemmas.Bool.Decides.{nat_tests}
 use Rattle.std.proofs.lemmas.Slice.Eq.{bytes_eq-Decides}
-use Rattle.std.proofs.lemmas.Map.Text.{is_eq-slice_cmp}
 use Rattle.std.specs.Map.{lookup}
 use Rattle.ksm_base.specs.declared.page.GuestPage.{GuestPage}
 use Rattle.ksm_base.specs.declared.row.DupRow.{DupRow}
 use Rattle.ksm_tree.specs.Index.{in_group}
 use Rattle.ksm_tree.specs.Waits.{waiting_page, waiting_at}
 use Rattle.ksm_tree.specs.declared.content.Content.{Content}
-use Rattle.ksm_tree.specs.contracts.content.ContentOrd.TheImpl as content_ord
+use Rattle.ksm_tree.specs.contracts.content.ContentPartialEq.TheImpl as content_eq
 
 -- equal numbers, and equal words
-eq_numbers : (m n : ℕ) → is_eq (nat_cmp m n) ≡ (n == m)
+eq_numbers : (m n : ℕ) → (m == n) ≡ (n == m)
 eq_numbers m n = grind (arith, nat_tests)
-
-eq_both : (a b : Ordering) → is_eq (ordering_then a b) ≡ (is_eq a && is_eq b)
-eq_both Less b = refl
-eq_both Equal b = refl
-eq_both Greater b = refl
 
 pub eq_bytes : (xs ys : List ℕ) → bytes_eq xs ys ≡ bytes_eq ys xs
 eq_bytes [] [] = refl
@@ -31,13 +22,11 @@ eq_bytes [] (y ∷ ys) = refl
 eq_bytes (x ∷ xs) [] = refl
 eq_bytes (x ∷ xs) (y ∷ ys) = let rest = eq_bytes xs ys in grind (arith, nat_tests, rest)
 
-pub same_content : (k q : Content) → is_eq (content_ord.ghosts.cmp k q) ≡ (q.tree == k.tree && bytes_eq q.bytes k.bytes)
-same_content k q =
-    eq_both (nat_cmp k.tree q.tree) (slice_cmp nat_cmp k.bytes q.bytes)
-    ∙ (λ i. eq_numbers k.tree q.tree i && (is_eq-slice_cmp k.bytes q.bytes ∙ eq_bytes k.bytes q.bytes) i)
+pub same_content : (k q : Content) → content_eq.ghosts.eq k q ≡ (q.tree == k.tree && bytes_eq q.bytes k.bytes)
+same_content k q = λ i. eq_numbers k.tree q.tree i && eq_bytes k.bytes q.bytes i
 
 -- the page that waits for a content is what the map has at its key
-pub waiting_found : (t : ℕ) (b : List ℕ) (es : List (Content × GuestPage)) → waiting_page t b (map waiting_at es) ≡ lookup (λ q. is_eq (content_ord.ghosts.cmp (record { tree = t; bytes = b }) q)) es
+pub waiting_found : (t : ℕ) (b : List ℕ) (es : List (Content × GuestPage)) → waiting_page t b (map waiting_at es) ≡ lookup (content_eq.ghosts.eq (record { tree = t; bytes = b })) es
 waiting_found t b [] = refl
 waiting_found t b (e ∷ es) =
     let rest = waiting_found t b es in

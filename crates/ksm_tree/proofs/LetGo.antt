@@ -2,12 +2,9 @@
 use Rattle.std.proofs.Common.{◌≡◌, ◌∙◌, ℕ, Bool, true, false, cond, List, map, Option, None, Some, refl, sym, ap, inl, inr}
 use Rattle.std.specs.Prelude.{not, ◌&&◌, ◌==◌, filter, option_map, if◌then◌else◌}
 use Rattle.std.specs.Map.{lookup, keys_of}
-use Rattle.std.specs.Ordering.{is_eq}
-use Rattle.std.specs.List.Sorted.{IsStrictlySortedBy}
+use Rattle.std.specs.List.{IsDistinct}
 use Rattle.std.proofs.lemmas.Bool.{cases_Bool}
-use Rattle.std.proofs.lemmas.Cmp.{eq_by_cmp_equiv}
 use Rattle.std.proofs.lemmas.Map.Entries.{lookup-filter-values, option_filter}
-use Rattle.std.proofs.lemmas.Map.Keys.{IsDistinct-from_sorted}
 use Rattle.ksm_base.specs.declared.knobs.Knobs.{Knobs}
 use Rattle.ksm_base.specs.declared.page.GuestPage.{GuestPage}
 use Rattle.ksm_base.specs.declared.row.Row.{Row}
@@ -17,8 +14,8 @@ use Rattle.ksm_base.specs.Rows.{change_rows, row_at, same_page}
 use Rattle.ksm_base.proofs.Edits.{find_passes}
 use Rattle.ksm_base.proofs.Pages.{same_page_eq}
 use Rattle.ksm_tree.specs.declared.content.Content.{Content}
-use Rattle.ksm_tree.specs.contracts.content.ContentOrd.TheImpl as content_ord
-use Rattle.ksm_tree.specs.contracts.content.ContentOrd.TheImpl.Laws.{total-law}
+use Rattle.ksm_tree.specs.contracts.content.ContentPartialEq.TheImpl as content_eq
+use Rattle.ksm_tree.specs.contracts.content.ContentEq.TheImpl.Laws.{laws-law}
 use Rattle.ksm_tree.specs.Waits.{AreLetGo, AreWaiting, is_ahead, names, unless_let_go, waiting_at, waiting_page, waits_there, WaitingPage}
 use Rattle.ksm_tree.proofs.Keys.{waiting_found}
 use Rattle.ksm_tree.proofs.Waiters.{at_mapped}
@@ -39,13 +36,13 @@ filtered guest stop (Some page) = turned (goes guest stop page)
 
 -- the entries whose pages aren't let go
 pub left : (guest : ℕ) (stop : Option GuestPage) (es fs : List (Content × GuestPage)) (w : List WaitingPage) → map waiting_at es ≡ w
-    → IsStrictlySortedBy content_ord.ghosts.cmp (keys_of es) → fs ≡ filter (λ e. not (goes guest stop e.1)) es → AreLetGo guest stop w (map waiting_at fs)
-left guest stop es fs w is rise kept t b =
+    → IsDistinct content_eq.ghosts.eq (keys_of es) → fs ≡ filter (λ e. not (goes guest stop e.1)) es → AreLetGo guest stop w (map waiting_at fs)
+left guest stop es fs w is distinct kept t b =
     let q : Content = record { tree = t; bytes = b } in
     waiting_found t b fs
-    ∙ ap (lookup (λ k. is_eq (content_ord.ghosts.cmp q k))) kept
-    ∙ lookup-filter-values (eq_by_cmp_equiv total-law) (λ page. not (goes guest stop page)) q es (IsDistinct-from_sorted content_ord.ghosts.cmp (keys_of es) rise)
-    ∙ filtered guest stop (lookup (λ k. is_eq (content_ord.ghosts.cmp q k)) es)
+    ∙ ap (lookup (content_eq.ghosts.eq q)) kept
+    ∙ lookup-filter-values laws-law (λ page. not (goes guest stop page)) q es distinct
+    ∙ filtered guest stop (lookup (content_eq.ghosts.eq q) es)
     ∙ ap (unless_let_go guest stop) (sym (waiting_found t b es) ∙ ap (waiting_page t b) is)
 
 -- ---------------------------------------------------------------- the rows

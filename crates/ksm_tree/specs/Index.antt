@@ -1,7 +1,6 @@
 -- Where a dup of a number, and the dups of a tree and bytes, are found. (own)
-use Rattle.std.specs.Prelude.{◌≡◌, ℕ, ◌≤◌, Bool, ◌&&◌, ◌==◌, List, map, filter, find, option_map, Option, bytes_eq}
-use Rattle.std.specs.BTreeMap.{get}
-use Rattle.std.specs.Ordering.{nat_cmp}
+use Rattle.std.specs.Prelude.{◌≡◌, ℕ, ◌≤◌, Bool, ◌&&◌, ◌==◌, List, map, filter, find, option_map, Option, bytes_eq, nat_eq}
+use Rattle.std.specs.HashMap.{get}
 use Rattle.ksm_base.specs.declared.row.DupRow.{DupRow}
 use Rattle.ksm_tree.specs.declared.index.Index.{Index}
 use Rattle.ksm_tree.specs.Dups.{DupsState, AreDups, rows_of}
@@ -11,7 +10,7 @@ use Rattle.ksm_tree.specs.Totals.{AreTotals}
 
 -- the place that an index has for a number, and the places that it has for a tree and bytes
 abbrev pub place_of : ℕ → Index → Option ℕ
-place_of number index = get nat_cmp index.numbers number
+place_of number index = get nat_eq index.numbers number
 
 abbrev pub places_of : ℕ → List ℕ → Index → List ℕ
 places_of tree bytes index = chain_in tree bytes index.groups.chains.entries

@@ -3,7 +3,7 @@ ghost use Rattle.std.specs.Prelude.{◌≡◌};
 use ksm_base::PageBytes;
 
 /// A tree and the bytes of a page: what a group has in common, and what a page waits for.
-#[derive(Clone, Copy, Debug, PartialEq, Eq, PartialOrd, Ord)]
+#[derive(Clone, Copy, Debug, PartialEq, Eq, Hash)]
 pub struct Content {
     pub tree: u32,
     pub bytes: PageBytes,

@@ -17,7 +17,7 @@ use std::marker::Model;
 
 /// The dups with their items, by place, by number, and by tree and bytes (mm/ksm, stable nodes and their chains).
 ///
-/// A look-up by number or by content costs the logarithm of how many there are, and `best` the length of the chain too; what is counted is known. Room for every place is taken at the start, so only a new dup and a new item may want memory.
+/// A look-up by number or by content costs a hash and a comparison, in the mean, and `best` the length of the chain too; what is counted is known. The hash has a fixed seed: where contents were picked that collide, a look-up costs a comparison for each. Room for every place is taken at the start, so only a new dup and a new item may want memory.
 #[derive(Drop)]
 pub struct Dups {
     alloc: Global,

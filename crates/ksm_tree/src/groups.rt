@@ -8,12 +8,12 @@ use crate::places::Places;
 use crate::totals::Totals;
 use ksm_base::Fault;
 use std::alloc::Global;
-use std::collections::BTreeMap;
+use std::collections::HashMap;
 
 /// The groups: for each tree and bytes the places of its dups, in ascending order; and how many of them are chains.
 #[derive(Drop)]
 pub struct Groups {
-    pub chains: BTreeMap<Content, Places>,
+    pub chains: HashMap<Content, Places>,
     pub totals: Totals,
     ghost peopled: { AllPeopled chains },
 }
@@ -25,7 +25,7 @@ impl Groups {
         ensures totals { result.totals ≡ record { chains = 0; dups = 0 } }
     {
         Groups {
-            chains: BTreeMap::new(alloc),
+            chains: HashMap::new(alloc),
             totals: Totals { chains: 0, dups: 0 },
         }
     }

@@ -6,12 +6,12 @@ use crate::content::Content;
 use crate::groups::Groups;
 use ksm_base::{DupRow, Fault, PageBytes};
 use std::alloc::Global;
-use std::collections::BTreeMap;
+use std::collections::HashMap;
 
 /// Where the dups are: the place of each number, and the places of each group.
 #[derive(Drop)]
 pub struct Index {
-    pub numbers: BTreeMap<u64, u32>,
+    pub numbers: HashMap<u64, u32>,
     pub groups: Groups,
 }
 
@@ -25,7 +25,7 @@ impl Index {
         ensures totals { result.groups.totals ≡ record { chains = 0; dups = 0 } }
     {
         Index {
-            numbers: BTreeMap::new(alloc),
+            numbers: HashMap::new(alloc),
             groups: Groups::new(alloc),
         }
     }

@@ -4,15 +4,17 @@ ghost use Rattle.ksm_tree.specs.Waits.{AreLetGo, IsAdded, IsRemoved, is_ahead, w
 use crate::content::Content;
 use ksm_base::{Fault, GuestPage, PageBytes};
 use std::alloc::Global;
-use std::collections::BTreeMap;
+use std::collections::HashMap;
 use std::marker::Model;
 
 /// The pages that wait for an equal one: at most one of each tree and bytes (mm/ksm, the unstable tree).
 ///
-/// Each call costs the logarithm of their number, but `let_go` and `clear`, which cost their number.
+/// `find`, `add` and `remove` cost a hash and a comparison, in the mean; an `add` that finds no room left moves all of them. `let_go` and
+/// `clear` cost the number of the most that waited at once. The hash has a fixed seed: where contents were picked that collide, a look-up
+/// costs a comparison for each.
 #[derive(Drop)]
 pub struct Waiting {
-    pages: BTreeMap<Content, GuestPage>,
+    pages: HashMap<Content, GuestPage>,
 }
 
 impl Model for Waiting {
@@ -41,7 +43,7 @@ impl Waiting {
         ensures { result ≡ [] }
     {
         Waiting {
-            pages: BTreeMap::new(alloc),
+            pages: HashMap::new(alloc),
         }
     }
 

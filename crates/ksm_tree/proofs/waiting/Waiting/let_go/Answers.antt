@@ -8,5 +8,5 @@ use Rattle.ksm_tree.proofs.waiting.Waiting.let_go.Goals as goal
 
 pub returns : goal.returns
 returns c =
-    left c.args.guest c.args.stop c.self.inside.pages.entries c.retain.new.self.entries c.args.self.now c.self.view_is c.retain.ensures.was_ordered
+    left c.args.guest c.args.stop c.self.inside.pages.entries c.retain.new.self.entries c.args.self.now c.self.view_is c.retain.ensures.was_unique
     (filter_same_pairs _ (λ (e : Content × GuestPage). not (goes c.args.guest c.args.stop e.1)) _ (λ k v b w f' s. search rules) c.self.inside.pages.entries c.retain.new.self.entries c.retain.ensures.filtered)

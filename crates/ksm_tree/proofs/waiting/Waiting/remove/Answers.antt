@@ -1,8 +1,7 @@
 use Rattle.std.proofs.Common.{◌∙◌, cond, None, sym, ap}
-use Rattle.std.specs.Ordering.{is_eq}
 use Rattle.ksm_tree.specs.declared.content.Content.{Content}
 use Rattle.ksm_tree.specs.Waits.{waiting_page}
-use Rattle.ksm_tree.specs.contracts.content.ContentOrd.TheImpl as content_ord
+use Rattle.ksm_tree.specs.contracts.content.ContentPartialEq.TheImpl as content_eq
 use Rattle.ksm_tree.proofs.Keys.{waiting_found, same_content}
 use Rattle.ksm_tree.proofs.waiting.Waiting.remove.Goals as goal
 
@@ -10,7 +9,7 @@ pub returns : goal.returns
 returns c t b =
     let q : Content = record { tree = t; bytes = b } in
     let key : Content = record { tree = c.args.tree; bytes = c.args.bytes.now } in
-    let here = ap (λ k. is_eq (content_ord.ghosts.cmp k q)) c.of.ensures ∙ same_content key q in
+    let here = ap (λ k. content_eq.ghosts.eq k q) c.of.ensures ∙ same_content key q in
     let elsewhere = sym (waiting_found t b c.self.inside.pages.entries) ∙ ap (waiting_page t b) c.self.view_is in
     waiting_found t b c.remove.new.self.entries
     ∙ c.remove.ensures.updates.0 q
