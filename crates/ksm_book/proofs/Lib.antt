@@ -8,3 +8,4 @@ pub mod Entering
 pub mod Journaled
 pub mod Resettling
 pub mod Passing
+pub mod Gathered

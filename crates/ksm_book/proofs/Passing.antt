@@ -22,7 +22,7 @@ pass_goes_on b row next = ap (λ o. if is_some b.cursor && is_none o then pass_e
     either false = refl
 
 -- what is done before a visit in the midst of a pass
-begins_none : (b : BookState) (row : Row) → GoesOnAt b row → visit_begun b ≡ b
+pub begins_none : (b : BookState) (row : Row) → GoesOnAt b row → visit_begun b ≡ b
 begins_none b row goes = ap pass_begun (pass_goes_on b row goes.1) ∙ ap (λ (x : Bool). if x then with_none_waiting b else b) (none b.cursor goes.0)
   where
     none : (o : Option GuestPage) → is_some o ≡ true → is_none o ≡ false
@@ -48,7 +48,7 @@ visiting_kept b frames row goes left =
 
 -- ---------------------------------------------------------------- a run of visits
 
-cursor_stands : (n : ℕ) (cursor : Option GuestPage) (rows : List Row) → is_some cursor ≡ true → is_some (cursor_after n cursor rows) ≡ true
+pub cursor_stands : (n : ℕ) (cursor : Option GuestPage) (rows : List Row) → is_some cursor ≡ true → is_some (cursor_after n cursor rows) ≡ true
 cursor_stands zero cursor rows some = some
 cursor_stands (suc n) cursor rows some = moved (cursor_after n cursor rows) (next_row (cursor_after n cursor rows) rows) (cursor_stands n cursor rows some)
   where
@@ -56,7 +56,7 @@ cursor_stands (suc n) cursor rows some = moved (cursor_after n cursor rows) (nex
     moved at None h = h
     moved at (Some row) h = refl
 
-left_row : (o : Option Row) → IsLeft o → (row : Row) × (o ≡ Some row) × (stays row ≡ true)
+pub left_row : (o : Option Row) → IsLeft o → (row : Row) × (o ≡ Some row) × (stays row ≡ true)
 left_row None h = absurd h
 left_row (Some row) h = (row, refl, h)
 

@@ -3,3 +3,4 @@ pub mod Carried
 pub mod Unmerged
 pub mod Promised
 pub mod Entered
+pub mod Gathered

@@ -1,7 +1,7 @@
 -- A walk along the entries after the cursor finds the rows that are visited next.
-use Rattle.std.proofs.Common.{inl, inr, ◌⊎◌, ◌≡◌, ℕ, suc, ◌<◌, ◌+◌, Bool, true, false, cond}
+use Rattle.std.proofs.Common.{inl, inr, ◌⊎◌, ◌≡◌, ℕ, suc, ◌<◌, ◌≤◌, ◌+◌, ◌-◌, Bool, true, false, cond}
 use Rattle.std.proofs.Common.{List, [], ◌∷◌, ◌++◌, Option, Some, None, refl, sym, ap, ◌∙◌, subst, arith}
-use Rattle.std.specs.Prelude.{find, filter, option_map, ◌&&◌}
+use Rattle.std.specs.Prelude.{find, filter, option_map, MatchOption, ⊤, ◌&&◌}
 use Rattle.std.specs.Map.{keys_of}
 use Rattle.std.specs.BTreeMap.Range.{entries_between, range_contains}
 use Rattle.std.specs.declared.ops.Bound.TheVariants.{Unbounded}
@@ -12,7 +12,7 @@ use Rattle.ksm_base.specs.Rows.{comes_before}
 use Rattle.ksm_base.specs.Visit.{after_cursor, next_row}
 use Rattle.ksm_base.proofs.Pages.{before_irrefl, before_trans, not_both}
 use Rattle.ksm_pages.specs.declared.row.Run.{Run}
-use Rattle.ksm_pages.specs.Scanned.{stays, moved_to, cursor_after, IsLeft}
+use Rattle.ksm_pages.specs.Scanned.{stays, moved_to, cursor_after, IsLeft, IsRun, AreAhead}
 use Rattle.ksm_pages.specs.declared.entry.Entry.{Entry}
 use Rattle.ksm_pages.specs.RowEntries.{row_of, page_order, start_after}
 use Rattle.ksm_pages.proofs.RowLists.{Entries, Sorted, After, order, rows_of, before_is}
@@ -152,3 +152,62 @@ module _ (es : Entries) (sorted : Sorted es) (rows : List Row) (are : rows_of es
         ends = ends_later es e rest so_far.ends;
         yet = refl;
       }
+
+  -- the run meets a row that it does not go over: there it stops, and behind it the next one begins
+  pub run_stops : (n : ℕ) (run : Run) (e : GuestPage × Entry) (row : Row) (rest : Entries) → RunsTo es rows cursor run (e ∷ rest) → e.1.mergeable ≡ true
+      → row ≡ row_of e → run.visits ≤ n → (run.visits < n → stays row ≡ false) → IsRun n rows cursor (record run { next = Some row })
+  run_stops n run e row rest so_far wanted is most longest = record {
+    over = record { left = so_far.left; last = so_far.last; next = ap Some is ∙ sym (run_meets run e rest so_far wanted) };
+    most = most;
+    longest = longest;
+  }
+
+  pub run_restarts : (run : Run) (e : GuestPage × Entry) (rest : Entries) → RunsTo es rows cursor run (e ∷ rest)
+      → RunsTo es rows (Some e.0) (record { visits = 0; last = Some e.0; next = None }) rest
+  run_restarts run e rest so_far = record {
+    left = λ k lt. absurd (omega (arith, lt));
+    last = refl;
+    onward = ap (next_row (Some e.0)) (sym are ∙ ap rows_of so_far.ends.1) ∙ next_behind so_far.ends.0 e rest (subst Sorted so_far.ends.1 sorted);
+    ends = ends_later es e rest so_far.ends;
+    yet = refl;
+  }
+
+  -- no row is left to meet
+  pub run_ends : (n : ℕ) (run : Run) → RunsTo es rows cursor run [] → run.visits ≤ n → IsRun n rows cursor run
+  run_ends n run so_far most = record {
+    over = record { left = so_far.left; last = so_far.last; next = so_far.yet ∙ sym so_far.onward };
+    most = most;
+    longest = λ lt. subst (λ (o : Option Row). MatchOption o ⊤ (λ r. stays r ≡ false)) (sym so_far.yet) tt;
+  }
+
+-- ---------------------------------------------------------------- run by run
+
+-- runs that are done lead from the cursor, with n visits at most, to where the next one begins, with k left
+abbrev pub LeadTo : ℕ → List Row → Option GuestPage → List Run → ℕ → Option GuestPage → Type 0
+LeadTo n rows cursor [] k at = (k ≡ n) × (at ≡ cursor)
+LeadTo n rows cursor (run ∷ runs) k at = IsRun n rows cursor run × MatchOption run.next ⊥ (λ r. LeadTo (n - run.visits - 1) rows (Some r.page) runs k at)
+
+on_found : {T : Type 0} (X : Type 0) {P Q : T → Type 0} (o : Option T) → ((x : T) → P x → Q x) → MatchOption o ⊥ P → MatchOption o X Q
+on_found X None f h = absurd h
+on_found X (Some x) f h = f x h
+
+pub lead_on : (n : ℕ) (rows : List Row) (cursor : Option GuestPage) (runs : List Run) (k : ℕ) (at : Option GuestPage) (run : Run) (row : Row)
+    → LeadTo n rows cursor runs k at → IsRun k rows at run → run.next ≡ Some row → LeadTo n rows cursor (runs ++ run ∷ []) (k - run.visits - 1) (Some row.page)
+lead_on n rows cursor [] k at run row (left, here) is next = (
+  subst (λ (x : ℕ × Option GuestPage). IsRun x.0 rows x.1 run) (λ t. (left t, here t)) is,
+  subst
+      (λ (o : Option Row). MatchOption o ⊥ (λ r. (k - run.visits - 1 ≡ n - run.visits - 1) × (Some row.page ≡ Some r.page)))
+      (sym next) (ap (λ m. m - run.visits - 1) left, refl),
+)
+lead_on n rows cursor (first ∷ runs) k at run row (does, on) is next =
+    (does, on_found _ first.next (λ r lead. lead_on (n - first.visits - 1) rows (Some r.page) runs k at run row lead is next) on)
+
+none_behind : (n : ℕ) (rows : List Row) (runs : List Run) (o : Option Row) → runs ≡ [] → MatchOption o (runs ≡ []) (λ r. AreAhead n rows (Some r.page) runs)
+none_behind n rows runs None none = none
+none_behind n rows runs (Some r) none = subst (AreAhead n rows (Some r.page)) (sym none) tt
+
+pub all_ahead : (n : ℕ) (rows : List Row) (cursor : Option GuestPage) (runs : List Run) (k : ℕ) (at : Option GuestPage) (run : Run)
+    → LeadTo n rows cursor runs k at → IsRun k rows at run → AreAhead n rows cursor (runs ++ run ∷ [])
+all_ahead n rows cursor [] k at run (left, here) is = (subst (λ (x : ℕ × Option GuestPage). IsRun x.0 rows x.1 run) (λ t. (left t, here t)) is, none_behind (n - run.visits - 1) rows [] run.next refl)
+all_ahead n rows cursor (first ∷ runs) k at run (does, on) is =
+    (does, on_found _ first.next (λ r lead. all_ahead (n - first.visits - 1) rows (Some r.page) runs k at run lead is) on)

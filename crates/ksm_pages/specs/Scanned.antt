@@ -1,8 +1,8 @@
 -- What one visit of the scan leaves to the next, and a run of visits that change no row (own).
-use Rattle.std.specs.Prelude.{◌≡◌, ℕ, zero, suc, ◌<◌, Bool, true, List, Option, Some, None, is_some, MatchOption}
+use Rattle.std.specs.Prelude.{◌≡◌, ℕ, zero, suc, ◌<◌, ◌≤◌, ◌-◌, ⊤, Bool, true, false, List, [], ◌∷◌, filter, Option, Some, None, is_some, MatchOption}
 use Rattle.ksm_base.specs.declared.page.GuestPage.{GuestPage}
 use Rattle.ksm_base.specs.declared.row.Row.{Row}
-use Rattle.ksm_base.specs.Rows.{shared_state}
+use Rattle.ksm_base.specs.Rows.{comes_before, shared_state}
 use Rattle.ksm_base.specs.State.{BookState}
 use Rattle.ksm_base.specs.Visit.{next_row}
 use Rattle.ksm_pages.specs.declared.row.Run.{Run}
@@ -10,6 +10,10 @@ use Rattle.ksm_pages.specs.declared.row.Run.{Run}
 -- a pass is under way, and goes on at this row
 abbrev pub GoesOnAt : BookState → Row → Type 0
 GoesOnAt b row = (is_some b.cursor ≡ true) × (next_row b.cursor b.rows ≡ Some row)
+
+-- a pass is under way, and goes on
+abbrev pub IsUnderWay : BookState → Type 0
+IsUnderWay b = (is_some b.cursor ≡ true) × (is_some (next_row b.cursor b.rows) ≡ true)
 
 -- a visit leaves the row as it is
 abbrev pub stays : Row → Bool
@@ -34,3 +38,19 @@ pub record RunsOver (rows : List Row) (cursor : Option GuestPage) (run : Run) : 
   pub left : (k : ℕ) → k < run.visits → IsLeft (next_row (cursor_after k cursor rows) rows)
   pub last : run.last ≡ cursor_after run.visits cursor rows
   pub next : run.next ≡ next_row run.last rows
+
+-- a run from the cursor on, of n visits at most, and no shorter than it has to be
+pub record IsRun (n : ℕ) (rows : List Row) (cursor : Option GuestPage) (run : Run) : Type 0 where
+  pub over : RunsOver rows cursor run
+  pub most : run.visits ≤ n
+  pub longest : run.visits < n → MatchOption run.next ⊤ (λ r. stays r ≡ false)
+
+-- runs for n visits at most, each from the row on that the one before goes on with; behind a run that ends the pass is none
+abbrev pub AreAhead : ℕ → List Row → Option GuestPage → List Run → Type 0
+AreAhead n rows cursor [] = ⊤
+AreAhead n rows cursor (run ∷ runs) =
+    IsRun n rows cursor run × MatchOption run.next (runs ≡ []) (λ r. AreAhead (n - run.visits - 1) rows (Some r.page) runs)
+
+-- the rows that come after a page are the same
+abbrev pub AreKeptAfter : GuestPage → List Row → List Row → Type 0
+AreKeptAfter page old new = filter (λ r. comes_before page r.page) new ≡ filter (λ r. comes_before page r.page) old

@@ -1,6 +1,6 @@
 //! What is asked of one row, and what becomes of it.
 
-ghost use Rattle.std.specs.Prelude.{◌≡◌, ◌&&◌, bytes_eq, true, if◌then◌else◌};
+ghost use Rattle.std.specs.Prelude.{◌≡◌, ◌&&◌, bytes_eq, true, None, if◌then◌else◌};
 ghost use Rattle.ksm_base.specs.Answers.{every_row};
 ghost use Rattle.ksm_base.specs.Apply.{is_before, fresh_row as a_fresh_row, stored as with_bytes, moved as at_node, let_go as as_let_go, unshared as as_unshared};
 ghost use Rattle.ksm_base.specs.Refusals.{is_of as is_of_guest};
@@ -10,6 +10,7 @@ ghost use Rattle.ksm_base.specs.Visit.{is_for_zero as goes_to_zero};
 ghost use Rattle.ksm_pages.specs.Scanned.{stays as as_it_is};
 ghost use Rattle.ksm_pages.specs.Wanted.{is_shared_of as is_shared_of_guest, is_wanted as is_a_wanted};
 
+use arrayvec::ArrayVec;
 use ksm_base::{GuestPage, Knobs, PageBytes, PageState, Row};
 
 /// The rows that a search is for.
@@ -22,11 +23,27 @@ pub enum Wanted {
 }
 
 /// Visits of rows that stay as they are: how many there are, the page of the last, and the row that is visited then.
-#[derive(Clone, Copy)]
+#[derive(Clone, Copy, Default)]
 pub struct Run {
     pub visits: u64,
     pub last: Option<GuestPage>,
     pub next: Option<Row>,
+}
+
+/// Runs, each from the row on that was to be visited after the one before.
+pub type Runs = ArrayVec<Run, 16>;
+
+impl Run {
+    /// A run that begins behind the cursor, with no visit yet.
+    pub(crate) fn from(cursor: Option<GuestPage>) -> Run
+        ensures { result ≡ record { visits = 0; last = cursor; next = None } }
+    {
+        Run {
+            visits: 0,
+            last: cursor,
+            next: None,
+        }
+    }
 }
 
 pub(crate) fn same_page(p: GuestPage, q: GuestPage) -> bool

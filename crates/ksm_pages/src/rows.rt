@@ -1,7 +1,7 @@
 //! The rows in an ordered map: each page with what the book knows of it, and the frame that serves it, if one does.
 //!
 //! With n rows, `has`, `find`, `insert`, `replace`, `remove` and `lodge` take a number of steps in the order of log n. `next`
-//! and `next_shared` take as many, and one for each row that they pass over; `run` so too, and one for each of its
+//! and `next_shared` take as many, and one for each row that they pass over; `ahead` so too, and one for each of its
 //! visits. `len`, `any_mergeable` and the counts take one. All other calls walk over the rows.
 
 ghost use Rattle.std.specs.Prelude.{◌≡◌, ◌<◌, ◌≤◌, [], None, Some, length, filter, find, count_by, map, insert, remove, slice_set, false, MatchOption, OnOk, OnErr, Err, is_some, true, option_map, ◌&&◌};
@@ -14,13 +14,13 @@ ghost use Rattle.ksm_base.specs.Rows.{row_at, with_row, without_page, change_row
 ghost use Rattle.ksm_base.specs.Visit.{after_cursor as comes_after, next_row as row_to_visit};
 ghost use Rattle.ksm_pages.specs.Listed.{rank, StandsAt, lodged};
 ghost use Rattle.ksm_pages.specs.RowEntries.{row_of, start_after};
-ghost use Rattle.ksm_pages.specs.Scanned.{stays as as_it_is, RunsOver};
+ghost use Rattle.ksm_pages.specs.Scanned.{AreAhead};
 ghost use Rattle.ksm_pages.specs.Tallied.{IsTally};
 ghost use Rattle.ksm_pages.specs.Wanted.{is_shared_of as is_shared_of_guest, is_wanted as is_a_wanted};
 
 use crate::entry::Entry;
 use crate::row::{
-    Run, Wanted, is_merged, is_private, is_waiting, is_wanted, is_zero, let_go_before, stays,
+    Run, Runs, Wanted, is_merged, is_private, is_waiting, is_wanted, is_zero, let_go_before, stays,
     unshared, with_mergeable,
 };
 use crate::tally::Tally;
@@ -76,30 +76,35 @@ fn after_cursor(cursor: Option<GuestPage>) -> Bound<GuestPage>
     }
 }
 
-// The next visits, `most` at most, up to a row that does not stay as it is: one walk along the entries.
-fn run_along(entries: &BTreeMap<GuestPage, Entry>, cursor: Option<GuestPage>, most: u64) -> Run
-    ensures over { RunsOver (map row_of entries.now.entries) cursor result }
-    ensures most { result.visits ≤ most }
-    ensures longest { result.visits < most → MatchOption result.next (result.next ≡ None) (λ r. as_it_is r ≡ false) }
+// What comes after the cursor, run by run, for `most` visits at most: one walk along the entries.
+fn runs_along(entries: &BTreeMap<GuestPage, Entry>, cursor: Option<GuestPage>, most: u64) -> Runs
+    ensures ahead { AreAhead most (map row_of entries.now.entries) cursor result.items }
+    ensures some { 0 < length result.items }
 {
-    let mut run = Run {
-        visits: 0,
-        last: cursor,
-        next: None,
-    };
+    let mut runs = Runs::new();
+    let mut run = Run::from(cursor);
+    let mut left = most;
     for (page, entry) in entries.range((after_cursor(cursor), Bound::Unbounded)) {
         if !entry.mergeable {
             continue;
         }
         let row = entry.row(*page);
-        if run.visits == most || !stays(&row) {
-            run.next = Some(row);
-            return run;
+        if left > 0 && stays(&row) {
+            run.visits += 1;
+            run.last = Some(*page);
+            left -= 1;
+            continue;
         }
-        run.visits += 1;
-        run.last = Some(*page);
+        run.next = Some(row);
+        runs.push(run);
+        if left == 0 || runs.is_full() {
+            return runs;
+        }
+        left -= 1;
+        run = Run::from(Some(*page));
     }
-    run
+    runs.push(run);
+    runs
 }
 
 // Counts the rows.
@@ -261,13 +266,13 @@ impl Rows {
         self.first_after(cursor, Wanted::Mergeable)
     }
 
-    /// The next visits, `most` at most, up to a row that does not stay as it is.
-    pub fn run(&self, cursor: Option<GuestPage>, most: u64) -> Run
-        ensures over { RunsOver self.now.rows cursor result }
-        ensures most { result.visits ≤ most }
-        ensures longest { result.visits < most → MatchOption result.next (result.next ≡ None) (λ r. as_it_is r ≡ false) }
+    /// What comes after the cursor, run by run, for `most` visits at most, up to the end of the pass or as far as there is
+    /// room for. There is always a first run.
+    pub fn ahead(&self, cursor: Option<GuestPage>, most: u64) -> Runs
+        ensures ahead { AreAhead most self.now.rows cursor result.items }
+        ensures some { 0 < length result.items }
     {
-        run_along(&self.entries, cursor, most)
+        runs_along(&self.entries, cursor, most)
     }
 
     /// The first merged or Zero row of a guest after the cursor, or of all where no guest is given.

@@ -1,18 +1,22 @@
-use Rattle.std.proofs.Common.{◌≡◌, ◌∙◌, ℕ, Option, refl, sym, ap, subst}
+use Rattle.std.proofs.Common.{◌≡◌, ◌∙◌, ℕ, false, List, Option, refl, sym, ap, subst, rules}
+use Rattle.std.specs.Prelude.{filter}
 use Rattle.ksm_base.specs.declared.row.Row.{Row}
-use Rattle.ksm_base.specs.declared.row.PageState.TheVariants.{Waiting}
-use Rattle.ksm_base.specs.Rows.{with_dup}
+use Rattle.ksm_base.specs.declared.row.PageState.TheVariants.{Waiting, Merged}
+use Rattle.ksm_base.specs.Rows.{comes_before, with_dup}
 use Rattle.ksm_base.specs.Sound.{IsSound}
 use Rattle.ksm_base.specs.Visit.{next_row, partner, paired, made_dup}
 use Rattle.ksm_base.proofs.SoundScan.{next_row_visited, sound_paired}
+use Rattle.ksm_base.proofs.Pages.{not_both}
+use Rattle.ksm_pages.specs.Scanned.{AreKeptAfter}
 use Rattle.ksm_layout.specs.Laid.{Lay, founded, state_of}
 use Rattle.ksm_layout.specs.Commands.{Performs, founding, listed_in, pairing}
 use Rattle.ksm_book.specs.Whole.{BookView, mapped}
 use Rattle.ksm_layout.proofs.Found.{change_known}
+use Rattle.ksm_book.proofs.Gathered.{kept_row, kept_other}
 use Rattle.ksm_book.proofs.Standing.{partner_finds_place}
 use Rattle.ksm_book.proofs.Visiting.{visited_at, partner_founds, joins_new, both_joined, same_dup, apart}
 use Rattle.ksm_book.proofs.state.State.pair.Goals as goal
-use Rattle.ksm_book.proofs.state.State.pair.Goals.{In_ok-wait, In_ok-pair}
+use Rattle.ksm_book.proofs.state.State.pair.Goals.{In_ok-wait}
 
 pub wait-requires-clause-row_is : goal.wait-requires-clause-row_is
 wait-requires-clause-row_is c =
@@ -70,7 +74,7 @@ pair-requires-clause-apart c =
     (ap (λ (x : BookView). next_row x.state.cursor x.state.rows) c.self.view_is ∙ c.requires.next) c.requires.alone (sym c.in-Some.ensures)
 
 -- both rows are the items of a new dup
-merged : (c : In_ok-pair) → state_of c.pair.new.self c.self.inside.cursor c.self.inside.passes ≡ paired (partner c.self.inside.layout.knobs c.self.inside.layout.rows c.args.row) (state_of c.self.inside.layout c.self.inside.cursor c.self.inside.passes) c.args.row
+merged : (c : goal.After-lt) → state_of c.pair.new.self c.self.inside.cursor c.self.inside.passes ≡ paired (partner c.self.inside.layout.knobs c.self.inside.layout.rows c.args.row) (state_of c.self.inside.layout c.self.inside.cursor c.self.inside.passes) c.args.row
 merged c =
     let s = c.self.inside in
     let b = state_of s.layout s.cursor s.passes in
@@ -115,3 +119,22 @@ returns-clause-performs c =
     let placed = subst (λ (p : ℕ). Performs old new (founding b.dups (listed_in b s.layout.frames) p c.in-Some.other row)) c.new_place-place.ensures c.in_ok-pair.ensures.performs in
     let paired_so = subst (λ (o : Option Row). Performs old new (pairing o b s.layout.frames row)) c.in-Some.ensures placed in
     subst (λ (x : BookView). Performs (mapped x) new (pairing (partner x.state.knobs x.state.rows row) x.state x.frames row)) c.self.view_is paired_so
+
+pub returns-clause-kept : goal.returns-clause-kept
+returns-clause-kept c = λ earlier.
+    let lay = c.self.inside.layout in
+    let row = c.args.row in
+    let other = c.in-Some.other in
+    let first = founded lay c.new_place-place.result other in
+    let apart : comes_before row.page other.page ≡ false = not_both other.page row.page (search (rules, earlier)) in
+    subst (λ (rows : List Row). AreKeptAfter row.page rows c.pair.new.self.rows) (ap (λ (x : BookView). x.state.rows) c.self.view_is)
+    (ap (λ (x : Lay). filter (λ r. comes_before row.page r.page) x.rows) c.in_ok-pair.ensures.state
+    ∙ kept_row row (record row { state = Merged lay.next }) first.rows refl ∙ kept_other row.page other.page (record other { state = Merged lay.next }) lay.rows apart refl)
+
+pub returns-in_default-clause-kept : goal.returns-in_default-clause-kept
+returns-in_default-clause-kept c = λ kept.
+    let lay = c.self.inside.layout in
+    let row = c.args.row in
+    subst (λ (rows : List Row). AreKeptAfter row.page rows c.wait.new.self.rows) (ap (λ (x : BookView). x.state.rows) c.self.view_is)
+    (ap (λ (x : Lay). filter (λ r. comes_before row.page r.page) x.rows) c.in_ok-wait.ensures.state
+    ∙ kept_row row (record row { state = Waiting }) lay.rows refl)

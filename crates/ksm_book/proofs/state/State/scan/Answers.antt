@@ -1,10 +1,10 @@
-use Rattle.std.proofs.Common.{◌≡◌, ◌∙◌, ℕ, ◌+◌, [], sym, ap, subst, arith, rules}
-use Rattle.std.specs.Prelude.{IfOk, IfSome, OnErr}
+use Rattle.std.proofs.Common.{◌≡◌, ◌∙◌, ℕ, ◌+◌, ◌-◌, [], sym, ap, subst, arith, rules}
+use Rattle.std.specs.Prelude.{IfOk, OnErr}
 use Rattle.ksm_base.specs.Visit.{visits}
 use Rattle.ksm_layout.specs.Commands.{IsIdle, Performs, scanning}
 use Rattle.ksm_layout.specs.Steps.{Made}
 use Rattle.ksm_book.specs.Whole.{mapped}
-use Rattle.ksm_pages.specs.Scanned.{GoesOnAt}
+use Rattle.ksm_book.specs.Gathered.{IsAhead}
 use Rattle.ksm_layout.proofs.Logs.{chained}
 use Rattle.ksm_book.proofs.Passing.{visits_on, performs_on}
 use Rattle.ksm_book.proofs.state.State.scan.Goals as goal
@@ -13,20 +13,22 @@ pub loop-done-preserved : goal.loop-done-preserved
 loop-done-preserved c =
     let first = c.loop-done.invariant.does in
     let second = c.visit_some.ensures.does in
-    let more : ℕ = c.in-Ok.visited.visits in
+    let more : ℕ = c.in-Ok.visits in
+    let left : c.args.count - c.loop-done.done - more ≡ c.args.count - (c.loop-done.done + more) = omega arith in
     let sum : more + c.loop-done.done ≡ c.loop-done.done + more = omega arith in
     record {
       most = omega (arith, c.in-Ok.ensures.most, c.loop-done-test.true);
       own = c.visit_some.ensures.own ∙ c.loop-done.invariant.own;
-      state = subst (λ r. IfOk r (λ v. c.visit_some.new.self.state ≡ visits v.visits c.loop-done.self.state)) c.in-Ok.is c.visit_some.ensures.ok
+      state = subst (λ r. IfOk r (λ v. c.visit_some.new.self.state ≡ visits v c.loop-done.self.state)) c.in-Ok.is c.visit_some.ensures.ok
           ∙ ap (visits more) c.loop-done.invariant.state ∙ sym (visits_on c.loop-done.done more c.args.self.now.state)
           ∙ ap (λ n. visits n c.args.self.now.state) sum;
-      next = subst (λ r. IfOk r (λ v. IfSome v.next (GoesOnAt c.visit_some.new.self.state))) c.in-Ok.is c.visit_some.ensures.next;
+      ahead = subst (λ n. IsAhead n c.visit_some.new.self.state c.visit_some.new.ahead) left
+          (subst (λ r. IfOk r (λ v. IsAhead (c.args.count - c.loop-done.done - v) c.visit_some.new.self.state c.visit_some.new.ahead)) c.in-Ok.is c.visit_some.ensures.ahead);
       does = (_, chained c.args.self.now.keeper c.loop-done.self.keeper c.visit_some.new.self.keeper [] [] first.0 second.0 first.1 second.1);
       performs = subst (λ n. Performs (mapped c.args.self.now) (mapped c.visit_some.new.self) (scanning n c.args.self.now.state c.args.self.now.frames)) sum
           (performs_on c.args.self.now c.loop-done.self c.visit_some.new.self c.loop-done.done more c.loop-done.invariant.state c.loop-done.invariant.performs
           (subst (λ r. IfOk r (λ v. Performs (mapped c.loop-done.self) (mapped c.visit_some.new.self)
-          (scanning v.visits c.loop-done.self.state c.loop-done.self.frames)))
+          (scanning v c.loop-done.self.state c.loop-done.self.frames)))
           c.in-Ok.is c.visit_some.ensures.performs));
     }
 

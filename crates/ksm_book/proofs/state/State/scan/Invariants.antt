@@ -1,10 +1,9 @@
 use Rattle.std.proofs.Common.{◌≡◌, ◌≤◌, ◌-◌, []}
-use Rattle.std.specs.Prelude.{IfSome}
 use Rattle.ksm_base.specs.Visit.{visits}
-use Rattle.ksm_pages.specs.Scanned.{GoesOnAt}
 use Rattle.ksm_layout.specs.Commands.{Performs, scanning}
 use Rattle.ksm_layout.specs.Steps.{Does}
 use Rattle.ksm_book.specs.Whole.{mapped}
+use Rattle.ksm_book.specs.Gathered.{IsAhead}
 use Rattle.ksm_book.proofs.state.State.scan.Given as goal
 
 abbrev pub invariant-loop-done : goal.invariant-loop-done
@@ -12,7 +11,7 @@ invariant-loop-done l = record {
   most : l.done ≤ l.count;
   own : l.self.keeper.table ≡ l.fn.self.keeper.table;
   state : l.self.state ≡ visits l.done l.fn.self.state;
-  next : IfSome l.next (GoesOnAt l.self.state);
+  ahead : IsAhead (l.fn.count - l.done) l.self.state l.ahead;
   does : Does l.fn.self.keeper l.self.keeper [];
   performs : Performs (mapped l.fn.self) (mapped l.self) (scanning l.done l.fn.self.state l.fn.self.frames);
 }

@@ -1,4 +1,9 @@
-use Rattle.std.proofs.Common.{◌≡◌, ◌∙◌, sym, ap, subst}
+use Rattle.std.proofs.Common.{◌≡◌, ◌∙◌, List, refl, sym, ap, subst}
+use Rattle.std.specs.Prelude.{filter}
+use Rattle.ksm_base.specs.declared.row.Row.{Row}
+use Rattle.ksm_base.specs.Rows.{comes_before}
+use Rattle.ksm_pages.specs.Scanned.{AreKeptAfter}
+use Rattle.ksm_book.proofs.Gathered.{kept_row}
 use Rattle.ksm_base.specs.declared.row.PageState.TheVariants.{Zero}
 use Rattle.ksm_base.specs.Sound.{IsSound}
 use Rattle.ksm_base.specs.State.{BookState}
@@ -47,3 +52,10 @@ returns-then-is_for_zero-clause-performs c =
     let is = ap (λ k. is_for_zero k row) (sym c.knobs.ensures) ∙ sym c.is_for_zero.ensures ∙ c.if-is_for_zero.true in
     subst (λ (x : BookView). Performs (mapped x) (mapped new) (staying x.state x.frames row)) c.self.view_is
     (subst (Performs (mapped_lay s.layout) (mapped new)) (sym (emptying_by b s.layout.frames row is)) c.become_zero.ensures.performs)
+
+pub returns-then-is_for_zero-clause-kept : goal.returns-then-is_for_zero-clause-kept
+returns-then-is_for_zero-clause-kept c = λ kept.
+    let lay = c.self.inside.layout in
+    let row = c.args.row in
+    subst (λ (rows : List Row). AreKeptAfter row.page rows c.become_zero.new.self.rows) (ap (λ (x : BookView). x.state.rows) c.self.view_is)
+    (ap (λ (x : Lay). filter (λ r. comes_before row.page r.page) x.rows) c.become_zero.ensures.state ∙ kept_row row (record row { state = Zero }) lay.rows refl)
