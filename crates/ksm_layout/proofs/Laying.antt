@@ -184,11 +184,11 @@ module _ (sh : Shape) (v : Listed) (dups : List DupRow) (knobs : Knobs) (next : 
     }
 
     -- the row changes on its frame
-    pub laid_amended : (v' : Listed) → LodgesAs r page_row → v'.rows ≡ set v.rows i r → v'.frames ≡ set v.frames i f → IsLaid sh v' dups knobs next k
+    pub laid_amended : (v' : Listed) → LodgesAs r page_row → v'.rows ≡ set v.rows i r → v'.frames ≡ v.frames → IsLaid sh v' dups knobs next k
     laid_amended v' lodges rows frames = record {
       small = h.small;
       same = h.same;
-      placed = subst (λ (z : List Row × List (Option ℕ)). Placed sh across k.ledger z.0 z.1 dups None) (λ t. (sym rows t, sym (frames ∙ ap (set v.frames i) (sym at.frame_is) ∙ set-get_or v.frames i None) t))
+      placed = subst (λ (z : List Row × List (Option ℕ)). Placed sh across k.ledger z.0 z.1 dups None) (λ t. (sym rows t, sym frames t))
           (rewritten sh across k.ledger v.rows v.frames dups None i r at.inside h.placed (subst (λ x. IsServed sh k.ledger dups r x) (sym at.frame_is) (lodged_as sh across k.ledger v.rows v.frames dups None h.placed page_row r f lodges found_fits)));
       spent = h.spent;
     }
@@ -227,6 +227,11 @@ module _ (sh : Shape) (v : Listed) (dups : List DupRow) (knobs : Knobs) (next : 
 -- what is known of the row of a row's page
 pub known_as : (fact : Row → Type 0) (rows : List Row) (row page_row : Row) → row_at row.page rows ≡ Some page_row → Knows rows row fact → fact page_row
 known_as fact rows row page_row at known = subst (λ (x : Option Row). MatchOption x ⊥ fact) at known
+
+-- a page that has such a row has a row
+pub known_some : (fact : Row → Type 0) (o : Option Row) → MatchOption o ⊥ fact → is_some o ≡ true
+known_some fact None never = absurd never
+known_some fact (Some row) known = refl
 
 -- the frame of a row may be read
 pub readable : (x : Kind) (s : PageState) → zero_state s ≡ false → x ≡ kind_for s → IsReadable x

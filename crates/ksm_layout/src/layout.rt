@@ -275,10 +275,7 @@ impl Layout {
         requires alone { row.state ≡ Private }
         ensures { self.new ≡ record self.old { rows = change_row row.page (λ _. row) self.old.rows } }
     {
-        let Some(held) = self.pages.find(row.page) else {
-            return;
-        };
-        self.pages.replace(row, held.frame);
+        self.pages.revise(row);
     }
 
     /// A row with a frame of its own waits from now on. Refused for memory alone.
@@ -291,11 +288,7 @@ impl Layout {
         ensures refused { OnErr result (self.new ≡ self.old) }
         ensures fault { OnErr result (result ≡ Err Memory) }
     {
-        let Some(held) = self.pages.find(row.page) else {
-            return Ok(());
-        };
-        self.pages.wait(row, held.frame)?;
-        Ok(())
+        self.pages.wait(row)
     }
 
     /// The page of a row with a frame of its own becomes Zero, and leaves its frame.
@@ -308,10 +301,9 @@ impl Layout {
         ensures does { Does self.old.keeper self.new.keeper [] }
         ensures performs { Performs (mapped_lay self.old) (mapped_lay self.new) (emptying (mapped_lay self.old).listed row) }
     {
-        let Some(held) = self.pages.find(row.page) else {
+        let Some(held) = self.pages.become_zero(row) else {
             return;
         };
-        self.pages.become_zero(row);
         release_if(&mut self.keeper, table, held.frame);
     }
 
@@ -383,14 +375,13 @@ impl Layout {
         let PageState::Merged(number) = item.state else {
             return Ok(());
         };
-        let Some(lone) = self.pages.find(row.page) else {
-            return Ok(());
-        };
         let Some(other) = self.pages.find(item.page) else {
             return Ok(());
         };
         let frame = known_frame(other.frame);
-        self.pages.join(row, number, other.frame)?;
+        let Some(lone) = self.pages.join(row, number, other.frame)? else {
+            return Ok(());
+        };
         share(&mut self.keeper, table, frame);
         release_if(&mut self.keeper, table, lone.frame);
         Ok(())

@@ -1,7 +1,9 @@
 -- Entries of the rows' map, and the rows that they stand for.
 use Rattle.std.proofs.Common.{◌≡◌, ℕ, suc, ◌<◌, ◌≤◌, Bool, true, false, cond, List, [], ◌∷◌, ◌++◌, length, set, Option, Some, None, refl, sym, ap, ◌∙◌, subst, arith}
-use Rattle.std.specs.Prelude.{map, filter, insert, remove, not, is_some}
+use Rattle.std.specs.Prelude.{MatchOption, map, filter, insert, remove, not, is_some}
 use Rattle.std.proofs.lemmas.Bool.Decides.{nat_tests}
+use Rattle.std.proofs.lemmas.List.{set-get_or}
+use Rattle.std.proofs.lemmas.Option.{same_Some}
 use Rattle.std.proofs.lemmas.Map.Keys.{sorted_head, sorted_tail}
 use Rattle.std.specs.List.{AllByRecursion}
 use Rattle.std.specs.List.Sorted.{IsStrictlySortedBy}
@@ -15,6 +17,7 @@ use Rattle.ksm_base.specs.declared.row.Row.{Row}
 use Rattle.ksm_base.specs.Rows.{comes_before, same_page, row_at, with_row, without_page, change_row}
 use Rattle.ksm_base.specs.contracts.page.GuestPageOrd.TheImpl as page_ord
 use Rattle.ksm_pages.specs.declared.entry.Entry.{Entry}
+use Rattle.ksm_pages.specs.declared.rows.Held.{Held}
 use Rattle.ksm_pages.specs.Listed.{frame_in, row_in, Listed, rank, StandsAt}
 use Rattle.ksm_pages.specs.RowEntries.{row_of, frame_of, entry_of, listed}
 use Rattle.ksm_base.proofs.Pages.{same_page_eq, not_both, before_differs, before_trans}
@@ -173,6 +176,12 @@ stands k v (e ∷ es) sorted found = beside (Stands (listed (e ∷ es)) k (row_o
 pub stands_at : (k : GuestPage) (v : Entry) (es : Entries) → Sorted es → lookup (asks k) es ≡ Some v → StandsAt (listed es) k (row_of (k, v)) v.frame
 stands_at k v es sorted found = let s = stands k v es sorted found in record { inside = s.0; row_is = s.1; frame_is = s.2; found = s.3 }
 
+-- what stood at a page is its row, on the frame that is listed there
+pub stood_there : (v : Listed) (k : GuestPage) (row : Row) (o : Option Held) → MatchOption o ⊥ (λ held. StandsAt v k held.row held.frame) → row_at k v.rows ≡ Some row → StandsAt v k row (frame_in v.frames (rank k v.rows))
+stood_there v k row None never found = absurd never
+stood_there v k row (Some held) at found =
+    subst (λ (z : Row × Option ℕ). StandsAt v k z.0 z.1) (λ t. (same_Some held.row row (sym at.found ∙ found) t, sym at.frame_is t)) at
+
 -- a value was set at place n
 pub record SetAt (k : GuestPage) (w : Entry) (es : Entries) (n : ℕ) : Type 0 where
   pub rows : rows_of (set_value (asks k) es w) ≡ set (rows_of es) n (row_of (k, w))
@@ -309,6 +318,25 @@ replaced es fs l row frame is sorted known made =
     subst (λ v. Replaced v (listed fs) row frame) is (subst (λ x. Replaced (listed es) (listed x) row frame) (sym made)
     (let c = set_at row.page (entry_of row frame) es sorted (ap (λ (v : Listed). is_some (row_at row.page v.rows)) is ∙ known) in
     record { rows = c.rows; frames = c.frames; changed = c.changed }))
+
+-- the row at the rank of its page is another now, on the frame where it was
+pub record Revised (old new : Listed) (row : Row) : Type 0 where
+  pub rows : new.rows ≡ set old.rows (rank row.page old.rows) row
+  pub frames : new.frames ≡ old.frames
+  pub changed : new.rows ≡ change_row row.page (λ _. row) old.rows
+
+pub revised : (es fs : Entries) (l : Listed) (row : Row) (v : Entry) → listed es ≡ l → Sorted es → lookup (asks row.page) es ≡ Some v → fs ≡ set_value (asks row.page) es (entry_of row v.frame) → Revised l (listed fs) row
+revised es fs l row v is sorted found made =
+    subst (λ x. Revised x (listed fs) row) is (
+    let known = known_by row.page es ∙ ap is_some found in
+    let c = replaced es fs (listed es) row v.frame refl sorted known made in
+    let at = stands_at row.page v es sorted found in
+    let i = rank row.page (rows_of es) in
+    record {
+      rows = c.rows;
+      frames = c.frames ∙ ap (set (map frame_of es) i) (sym at.frame_is) ∙ set-get_or (map frame_of es) i None;
+      changed = c.changed;
+    })
 
 -- the row at the rank of a page went
 pub record Went (old new : Listed) (page : GuestPage) : Type 0 where

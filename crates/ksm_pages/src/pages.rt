@@ -14,7 +14,7 @@ ghost use Rattle.ksm_base.specs.Visit.{best_dup, partner as row_waiting, new_pla
 ghost use Rattle.ksm_tree.specs.Bridge.{let_out};
 ghost use Rattle.ksm_tree.specs.Waits.{IsStopped};
 ghost use Rattle.ksm_pages.specs.Linked.{HasRoom, IsVacant, MayPair, ReplacedBoth, item_of_next, next_dup, elsewhere};
-ghost use Rattle.ksm_pages.specs.Listed.{rank, StandsAt, lodged};
+ghost use Rattle.ksm_pages.specs.Listed.{frame_in, rank, StandsAt, lodged};
 
 use crate::row::{is_waiting, same_page, tree_of};
 use crate::rows::{Held, Rows};
@@ -270,6 +270,24 @@ impl Pages {
         Some(held)
     }
 
+    /// Puts a row of its own in the stead of its page's, which leaves its dup, on the frame where it is, and gives what stood there.
+    pub fn revise(&mut self, row: Row) -> Option<Held>
+        requires known { is_some (row_at row.page self.old.listed.rows) ≡ true }
+        requires alone { row.state ≡ Private }
+        ensures stood { MatchOption result ⊥ (λ held. StandsAt self.old.listed row.page held.row held.frame) }
+        ensures rows { self.new.listed.rows ≡ slice_set self.old.listed.rows (rank row.page self.old.listed.rows) row }
+        ensures frames { self.new.listed.frames ≡ self.old.listed.frames }
+        ensures changed { self.new.listed.rows ≡ change_row row.page (λ _. row) self.old.listed.rows }
+        ensures rest { self.new ≡ record self.old { listed = self.new.listed } }
+    {
+        let Some(held) = self.rows.revise(row) else {
+            return None;
+        };
+        stop_waiting(&mut self.waiting, &self.knobs, &held.row);
+        leave(&mut self.dups, held.row.state, row.page);
+        Some(held)
+    }
+
     /// Takes the row of a page away, which has one, leaves its dup, and gives what stood there.
     pub fn remove(&mut self, page: GuestPage) -> Option<Held>
         requires { is_some (row_at page self.old.listed.rows) ≡ true }
@@ -287,13 +305,14 @@ impl Pages {
         Some(held)
     }
 
-    /// A row with a frame of its own waits from now on, on it. Refused for memory alone, it changes nothing.
-    pub fn wait(&mut self, row: Row, frame: Option<u32>) -> Result<(), Fault>
+    /// A row with a frame of its own waits from now on, on that frame. Refused for memory alone, it changes nothing.
+    pub fn wait(&mut self, row: Row) -> Result<(), Fault>
         requires row_is { row_at row.page self.old.listed.rows ≡ Some row }
         requires alone { shared_state row.state ≡ false }
         requires first { row_waiting self.old.knobs self.old.listed.rows row ≡ None }
+        ensures stood { OnOk result (StandsAt self.old.listed row.page row (frame_in self.old.listed.frames (rank row.page self.old.listed.rows))) }
         ensures rows { OnOk result (self.new.listed.rows ≡ slice_set self.old.listed.rows (rank row.page self.old.listed.rows) (record row { state = PageState.Waiting })) }
-        ensures frames { OnOk result (self.new.listed.frames ≡ slice_set self.old.listed.frames (rank row.page self.old.listed.rows) frame) }
+        ensures frames { OnOk result (self.new.listed.frames ≡ self.old.listed.frames) }
         ensures changed { OnOk result (self.new.listed.rows ≡ change_row row.page (λ _. record row { state = PageState.Waiting }) self.old.listed.rows) }
         ensures rest { self.new ≡ record self.old { listed = self.new.listed } }
         ensures refused { OnErr result (self.new ≡ self.old) }
@@ -307,14 +326,15 @@ impl Pages {
             state: PageState::Waiting,
             ..row
         };
-        self.rows.replace(waiting, frame);
+        self.rows.revise(waiting);
         Ok(())
     }
 
-    /// A row becomes Zero, and has no frame any more.
-    pub fn become_zero(&mut self, row: Row)
+    /// A row becomes Zero, and has no frame any more. Gives what stood there.
+    pub fn become_zero(&mut self, row: Row) -> Option<Held>
         requires row_is { row_at row.page self.old.listed.rows ≡ Some row }
         requires alone { shared_state row.state ≡ false }
+        ensures stood { MatchOption result ⊥ (λ held. StandsAt self.old.listed row.page held.row held.frame) }
         ensures rows { self.new.listed.rows ≡ slice_set self.old.listed.rows (rank row.page self.old.listed.rows) (record row { state = Zero }) }
         ensures frames { self.new.listed.frames ≡ slice_set self.old.listed.frames (rank row.page self.old.listed.rows) None }
         ensures changed { self.new.listed.rows ≡ change_row row.page (λ _. record row { state = Zero }) self.old.listed.rows }
@@ -325,14 +345,15 @@ impl Pages {
             state: PageState::Zero,
             ..row
         };
-        self.rows.replace(zero, None);
+        self.rows.replace(zero, None)
     }
 
-    /// A row with a frame of its own becomes an item of a dup, on the dup's frame. Refused for memory alone, it changes nothing.
-    pub fn join(&mut self, row: Row, number: u64, frame: Option<u32>) -> Result<(), Fault>
+    /// A row with a frame of its own becomes an item of a dup, on the dup's frame. Gives what stood there. Refused for memory alone, it changes nothing.
+    pub fn join(&mut self, row: Row, number: u64, frame: Option<u32>) -> Result<Option<Held>, Fault>
         requires row_is { row_at row.page self.old.listed.rows ≡ Some row }
         requires alone { shared_state row.state ≡ false }
         requires room { HasRoom self.old.listed.rows self.old.dups number }
+        ensures stood { IfOk result (λ stood. MatchOption stood ⊥ (λ held. StandsAt self.old.listed row.page held.row held.frame)) }
         ensures rows { OnOk result (self.new.listed.rows ≡ slice_set self.old.listed.rows (rank row.page self.old.listed.rows) (record row { state = Merged number })) }
         ensures frames { OnOk result (self.new.listed.frames ≡ slice_set self.old.listed.frames (rank row.page self.old.listed.rows) frame) }
         ensures changed { OnOk result (self.new.listed.rows ≡ change_row row.page (λ _. record row { state = Merged number }) self.old.listed.rows) }
@@ -346,8 +367,7 @@ impl Pages {
             state: PageState::Merged(number),
             ..row
         };
-        self.rows.replace(item, frame);
-        Ok(())
+        Ok(self.rows.replace(item, frame))
     }
 
     /// Two rows with frames of their own become the items of a new dup at a place, on one frame. A stale dup at the place goes. Refused for memory alone, it changes nothing.

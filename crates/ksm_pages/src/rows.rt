@@ -1,8 +1,8 @@
 //! The rows in an ordered map: each page with what the book knows of it, and the frame that serves it, if one does.
 //!
-//! With n rows, `has`, `find`, `insert`, `replace`, `remove` and `lodge` take a number of steps in the order of log n. `next`
-//! and `next_shared` take as many, and one for each row that they pass over; `ahead` so too, and one for each of its
-//! visits. `len`, `any_mergeable` and the counts take one. All other calls walk over the rows.
+//! With n rows, `has`, `find`, `insert`, `replace`, `revise`, `remove` and `lodge` search once, in a number of steps in
+//! the order of log n. `next` and `next_shared` take as many, and one for each row that they pass over; `ahead` so too,
+//! and one for each of its visits. `len`, `any_mergeable` and the counts take one. All other calls walk over the rows.
 
 ghost use Rattle.std.specs.Prelude.{◌≡◌, ◌<◌, ◌≤◌, [], None, Some, length, filter, find, count_by, map, insert, remove, slice_set, false, MatchOption, OnOk, OnErr, Err, is_some, true, option_map, ◌&&◌};
 ghost use Rattle.std.specs.List.{list_any};
@@ -212,6 +212,28 @@ impl Rows {
             row: old,
             frame: left,
         })
+    }
+
+    /// Puts a row in the stead of its page's, which has one, on the frame where it is, and gives what stood there.
+    pub(crate) fn revise(&mut self, row: Row) -> Option<Held>
+        requires { is_some (row_at row.page self.old.rows) ≡ true }
+        ensures stood { MatchOption result ⊥ (λ held. StandsAt self.old row.page held.row held.frame) }
+        ensures rows { self.new.rows ≡ slice_set self.old.rows (rank row.page self.old.rows) row }
+        ensures frames { self.new.frames ≡ self.old.frames }
+        ensures changed { self.new.rows ≡ change_row row.page (λ _. row) self.old.rows }
+    {
+        // The contract of `len` says that the number fits.
+        let _ = self.entries.len();
+        let Some(entry) = self.entries.get_mut(&row.page) else {
+            return None;
+        };
+        let held = Held {
+            row: entry.row(row.page),
+            frame: entry.frame,
+        };
+        entry.set_row(row);
+        self.tally = self.tally.without(&held.row).with(&row);
+        Some(held)
     }
 
     /// Takes the row of a page away, which has one, and gives what stood there.
