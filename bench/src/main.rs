@@ -1,7 +1,7 @@
 //! `lookups [ROUNDS [RUNS [BEFORE]]]`: the processor time of a lookup (find, read all words, leave) on a table of 1,024 frames: of the
 //! table, by the program `lookup_times` of this repository, and of the same words in plain Rust, by this program; where BEFORE is the path
-//! of the `lookup_times` of another tree, of that one too. All run as programs of their own, in turn; what a run with no lookup takes is
-//! taken off.
+//! of the `lookup_times` of another tree, of that one too. All run as programs of their own, in turn; the least that a run with no lookup
+//! takes is taken off.
 //!
 //! `lookups plain PLACES THREADS ROUNDS` is the plain form alone.
 
@@ -70,20 +70,23 @@ fn measure(rounds: u64, runs: u32, other: Option<&str>) {
     }
 }
 
-/// The least processor time that a lookup took of each program, in nanoseconds; all must print the same sum.
+/// The processor time of a lookup of each program, in nanoseconds: the least that a run took, without the least that a run with no
+/// lookup took. All must print the same sum.
 fn best_times(subjects: &[(&str, &str, &[&str])], places: &str, threads: usize, rounds: u64, runs: u32) -> Vec<f64> {
-    let mut best = vec![f64::INFINITY; subjects.len()];
+    let mut idle = vec![f64::INFINITY; subjects.len()];
+    let mut busy = idle.clone();
     for _ in 0..runs {
         let mut sums = Vec::new();
-        for (best, (_, program, first)) in best.iter_mut().zip(subjects) {
-            let (_, idle) = run(program, first, places, threads, 0);
+        for (at, (_, program, first)) in subjects.iter().enumerate() {
+            idle[at] = idle[at].min(run(program, first, places, threads, 0).1);
             let (sum, time) = run(program, first, places, threads, rounds);
-            *best = best.min((time - idle) / (threads as u64 * rounds) as f64);
+            busy[at] = busy[at].min(time);
             sums.push(sum);
         }
         assert!(sums.iter().all(|sum| *sum == sums[0]), "the words read");
     }
-    best
+    let lookups = (threads as u64 * rounds) as f64;
+    busy.iter().zip(&idle).map(|(busy, idle)| (busy - idle) / lookups).collect()
 }
 
 fn main() {
