@@ -205,11 +205,7 @@ fn write_held<W: Write>(
 }
 
 /// Writes what a lookup of an audit held and read.
-fn write_found<W: Write>(
-    writer: &mut W,
-    generation: u64,
-    bytes: &PageBytes,
-) -> Result<(), RunFault>
+fn write_found<W: Write>(writer: &mut W, generation: u64, bytes: &PageBytes) -> Result<(), RunFault>
     ensures whole { OnOk result (Appends (W.contents writer.old) (W.contents writer.new) (row_text (found_row generation bytes.now))) }
     ensures fault { IfErr result (λ e. (e ≡ RunFault.Write)
         × AppendsPart (W.contents writer.old) (W.contents writer.new) (row_text (found_row generation bytes.now))) }

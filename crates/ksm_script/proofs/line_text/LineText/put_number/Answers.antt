@@ -19,8 +19,9 @@ pub returns-clause-room : goal.returns-clause-room
 returns-clause-room c =
     let text = drop c.self.inside.start c.self.inside.bytes in
     omega (
-    arith,
-    short c.args.number c.ranges.number.fits,
-    ap length c.self.view_is,
-    ap length c.write_digits-self-inside.ensures.written,
-    length-append (decimal c.args.number) text)
+      arith,
+      short c.args.number c.ranges.number.fits,
+      ap length c.self.view_is,
+      ap length c.write_digits-self-inside.ensures.written,
+      length-append (decimal c.args.number) text,
+    )
