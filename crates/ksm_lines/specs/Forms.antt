@@ -77,16 +77,10 @@ look_up_forms =
     ∷ (codes "audit", name_alone Audit)
     ∷ []
 
-abbrev pub forms : List Form
-forms =
-    ([], name_alone Empty)
-    ∷ (codes "reg", register_at)
-    ∷ (codes "drop", λ words. option_map Drop (page_alone words))
-    ∷ (codes "put", store_at)
-    ∷ (codes "get", λ words. option_map Get (page_alone words))
-    ∷ (codes "ticket", λ words. option_map Ticket (page_alone words))
-    ∷ (codes "rmap", λ words. option_map Mappers (alone number_of words))
-    ∷ (codes "scan", scan_at)
+-- the forms of the scan, of guests, moves, settings and counters, and those of the passes
+abbrev pub managing_forms : List Form
+managing_forms =
+    (codes "scan", scan_at)
     ∷ (codes "prune", name_alone Prune)
     ∷ (codes "unmerge", λ words. option_map Unmerge (alone guest_of words))
     ∷ (codes "mergeable", λ words. option_map Mergeable (alone guest_of words))
@@ -96,6 +90,17 @@ forms =
     ∷ (codes "show", λ words. option_map Show (alone shown_of words))
     ∷ (codes "stat", name_alone Stat)
     ∷ look_up_forms
+
+abbrev pub forms : List Form
+forms =
+    ([], name_alone Empty)
+    ∷ (codes "reg", register_at)
+    ∷ (codes "drop", λ words. option_map Drop (page_alone words))
+    ∷ (codes "put", store_at)
+    ∷ (codes "get", λ words. option_map Get (page_alone words))
+    ∷ (codes "ticket", λ words. option_map Ticket (page_alone words))
+    ∷ (codes "rmap", λ words. option_map Mappers (alone number_of words))
+    ∷ managing_forms
 
 -- the line that begins with a name
 abbrev pub named_line : List Form → List ℕ → List (List ℕ) → Option Line

@@ -3,7 +3,7 @@ ghost use Rattle.std.specs.Prelude.{◌≡◌, IfOk, Ok};
 ghost use Rattle.ksm_lines.specs.declared.line.Line.{Line};
 ghost use Rattle.ksm_lines.specs.Grammar.{Writes};
 ghost use Rattle.ksm_lines.specs.Reading.{Gives, words_left};
-ghost use Rattle.ksm_lines.specs.Forms.{forms, look_up_forms, named_line, name_alone, register_at, store_at, scan_at, move_page_at, move_dup_at, set_at, find_at, equal_at};
+ghost use Rattle.ksm_lines.specs.Forms.{forms, managing_forms, look_up_forms, named_line, name_alone, register_at, store_at, scan_at, move_page_at, move_dup_at, set_at, find_at, equal_at};
 
 use crate::field::{
     content_alone, cut, ended, guest_alone, is, knob, number, number_alone, page, page_alone,
@@ -127,40 +127,61 @@ fn named(name: &[u8], left: Option<&[u8]>) -> Result<Line, LineFault>
     ensures { Gives result (named_line forms name.now (words_left left.entry)) }
 {
     if is(name, "") {
-        alone(Line::Empty, left)
-    } else if is(name, "reg") {
-        register(left)
-    } else if is(name, "drop") {
-        page_alone(left).map(|page| Line::Drop { page })
-    } else if is(name, "put") {
-        store(left)
-    } else if is(name, "get") {
-        page_alone(left).map(|page| Line::Get { page })
-    } else if is(name, "ticket") {
-        page_alone(left).map(|page| Line::Ticket { page })
-    } else if is(name, "rmap") {
-        number_alone(left).map(|place| Line::Mappers { place })
-    } else if is(name, "scan") {
-        scan(left)
-    } else if is(name, "prune") {
-        alone(Line::Prune, left)
-    } else if is(name, "unmerge") {
-        guest_alone(left).map(|guest| Line::Unmerge { guest })
-    } else if is(name, "mergeable") {
-        guest_alone(left).map(|guest| Line::Mergeable { guest })
-    } else if is(name, "move") {
-        move_page(left)
-    } else if is(name, "movedup") {
-        move_dup(left)
-    } else if is(name, "set") {
-        set(left)
-    } else if is(name, "show") {
-        shown_alone(left).map(|shown| Line::Show { shown })
-    } else if is(name, "stat") {
-        alone(Line::Stat, left)
-    } else {
-        looking_up(name, left)
+        return alone(Line::Empty, left);
     }
+    if is(name, "reg") {
+        return register(left);
+    }
+    if is(name, "drop") {
+        return page_alone(left).map(|page| Line::Drop { page });
+    }
+    if is(name, "put") {
+        return store(left);
+    }
+    if is(name, "get") {
+        return page_alone(left).map(|page| Line::Get { page });
+    }
+    if is(name, "ticket") {
+        return page_alone(left).map(|page| Line::Ticket { page });
+    }
+    if is(name, "rmap") {
+        return number_alone(left).map(|place| Line::Mappers { place });
+    }
+    managing(name, left)
+}
+
+/// The line of the scan, of guests, moves, settings and counters, or of the passes, that begins with a name.
+fn managing(name: &[u8], left: Option<&[u8]>) -> Result<Line, LineFault>
+    ensures { Gives result (named_line managing_forms name.now (words_left left.entry)) }
+{
+    if is(name, "scan") {
+        return scan(left);
+    }
+    if is(name, "prune") {
+        return alone(Line::Prune, left);
+    }
+    if is(name, "unmerge") {
+        return guest_alone(left).map(|guest| Line::Unmerge { guest });
+    }
+    if is(name, "mergeable") {
+        return guest_alone(left).map(|guest| Line::Mergeable { guest });
+    }
+    if is(name, "move") {
+        return move_page(left);
+    }
+    if is(name, "movedup") {
+        return move_dup(left);
+    }
+    if is(name, "set") {
+        return set(left);
+    }
+    if is(name, "show") {
+        return shown_alone(left).map(|shown| Line::Show { shown });
+    }
+    if is(name, "stat") {
+        return alone(Line::Stat, left);
+    }
+    looking_up(name, left)
 }
 
 /// The line of the passes that begins with a name.
@@ -168,18 +189,21 @@ fn looking_up(name: &[u8], left: Option<&[u8]>) -> Result<Line, LineFault>
     ensures { Gives result (named_line look_up_forms name.now (words_left left.entry)) }
 {
     if is(name, "find") {
-        find(left)
-    } else if is(name, "equal") {
-        equal(left)
-    } else if is(name, "look") {
-        number_alone(left).map(|pass| Line::Look { pass })
-    } else if is(name, "leave") {
-        number_alone(left).map(|pass| Line::Leave { pass })
-    } else if is(name, "audit") {
-        alone(Line::Audit, left)
-    } else {
-        Err(LineFault::Bad)
+        return find(left);
     }
+    if is(name, "equal") {
+        return equal(left);
+    }
+    if is(name, "look") {
+        return number_alone(left).map(|pass| Line::Look { pass });
+    }
+    if is(name, "leave") {
+        return number_alone(left).map(|pass| Line::Leave { pass });
+    }
+    if is(name, "audit") {
+        return alone(Line::Audit, left);
+    }
+    Err(LineFault::Bad)
 }
 
 /// A line that is its name alone.

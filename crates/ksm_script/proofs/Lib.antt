@@ -2,7 +2,6 @@ pub mod Blocks
 pub mod Hex
 pub mod Journaled
 pub mod Parts
-pub mod Decimals
 pub mod Slots
 pub mod Turns
 pub mod WorkedLines

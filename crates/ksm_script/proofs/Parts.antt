@@ -6,7 +6,7 @@ use Rattle.std.proofs.Math.Seq.{take-add}
 use Rattle.std.specs.List.{flat_map}
 use Rattle.std.specs.Io.KnownBytes.{Appends, Keeps}
 use Rattle.std.proofs.KnownBytes.{Appends-trans, Appends-kept}
-use Rattle.std.specs.Prelude.{IfErr, IsErrAnd}
+use Rattle.std.specs.Prelude.{IfErr, IsErrAnd, OnOk}
 use Rattle.ksm_script.specs.declared.script.RunFault.{RunFault}
 use Rattle.ksm_script.specs.declared.script.RunFault.TheVariants.{Write}
 use Rattle.ksm_script.specs.Texts.{AppendsBroken, AppendsPart}
@@ -69,3 +69,12 @@ pub fault_after : {A : Type 0} (r : Result A RunFault) (a b c : Option (List ℕ
     → IfErr r (λ e. (e ≡ Write) × AppendsPart b c next) → IfErr r (λ e. (e ≡ Write) × AppendsPart a c (text ++ next))
 fault_after (Ok x) a b c text next p h = tt
 fault_after (Err e) a b c text next p h = (h.0, part_after a b c text next p h.1)
+
+-- a text was written, whole or in part, that is the wanted one
+pub whole_is : {A : Type 0} (r : Result A RunFault) (a b : Option (List ℕ)) (text wanted : List ℕ) → text ≡ wanted
+    → OnOk r (Appends a b text) → OnOk r (Appends a b wanted)
+whole_is r a b text wanted e = subst (λ t. OnOk r (Appends a b t)) e
+
+pub part_is : {A : Type 0} (r : Result A RunFault) (a b : Option (List ℕ)) (text wanted : List ℕ) → text ≡ wanted
+    → IfErr r (λ e. (e ≡ Write) × AppendsPart a b text) → IfErr r (λ e. (e ≡ Write) × AppendsPart a b wanted)
+part_is r a b text wanted e = subst (λ t. IfErr r (λ f. (f ≡ Write) × AppendsPart a b t)) e

@@ -1,5 +1,4 @@
 pub mod Texts
-pub mod Pieces
 pub mod Replies
 pub mod Input
 pub mod Takes

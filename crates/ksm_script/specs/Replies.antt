@@ -12,6 +12,10 @@ use Rattle.ksm_audit.specs.declared.report.Row.{Row}
 use Rattle.ksm_audit.specs.declared.report.Row.TheVariants as rows
 use Rattle.ksm_script.specs.Texts.{content_text, refusal_number}
 
+-- the content of a page
+abbrev pub content_line : List ℕ → List ℕ
+content_line content = concat (content_text content ∷ codes "\n" ∷ [])
+
 -- a name and a number
 abbrev pub counted_text : List ℕ → ℕ → List ℕ
 counted_text name count = concat (name ∷ decimal count ∷ codes "\n" ∷ [])
@@ -54,7 +58,7 @@ audit_text rows = concat (codes "audit" ∷ flat_map row_text rows ∷ codes "\n
 -- the line of a reply
 abbrev pub text_of : LineReply → List ℕ
 text_of Done = codes "ok\n"
-text_of (Content content) = concat (content_text content ∷ codes "\n" ∷ [])
+text_of (Content content) = content_line content
 text_of (Place place) = counted_text (codes "place ") place
 text_of Private = codes "private\n"
 text_of (Mappers pages) = mappers_text pages.items

@@ -2,6 +2,7 @@
 #![tactic(auto)]
 
 mod input;
+mod line_text;
 mod output;
 mod pass_state;
 mod passes;

@@ -1,11 +1,13 @@
 //! The replies of the language.
-ghost use Rattle.std.specs.Prelude.{◌≡◌, OnOk, IfErr};
+ghost use Rattle.std.specs.Prelude.{◌≡◌, ◌≤◌, length, OnOk, IfErr};
 ghost use Rattle.std.specs.List.{concat, flat_map};
 ghost use Rattle.std.specs.Io.KnownBytes.{Appends};
 ghost use Rattle.ksm_script.specs.Texts.{AppendsPart};
-ghost use Rattle.ksm_script.specs.Replies.{text_of, counted_text, stopped_text, counters_text, mapper_text, mappers_text, held_text, row_text, audit_text};
+ghost use Rattle.ksm_audit.specs.declared.report.Row.TheVariants.{Found as found_row, Gone as gone_row};
+ghost use Rattle.ksm_script.specs.Replies.{text_of, content_line, counted_text, stopped_text, counters_text, mapper_text, mappers_text, held_text, row_text, audit_text};
 
-use crate::output::{Piece, write_pieces, write_text};
+use crate::line_text::LineText;
+use crate::output::write_text;
 use crate::refusal::Refusal;
 use crate::script::RunFault;
 use frame_table::Why;
@@ -60,10 +62,9 @@ pub fn write_reply<W: Write>(writer: &mut W, reply: &LineReply) -> Result<(), Ru
     ensures fault { IfErr result (λ e. (e ≡ RunFault.Write)
         × AppendsPart (W.contents writer.old) (W.contents writer.new) (text_of reply.now)) }
 {
-    const END: Piece<'static> = Piece::Text("\n");
     match reply {
         LineReply::Done => write_text(writer, b"ok\n"),
-        LineReply::Content(content) => write_pieces(writer, &[Piece::Content(*content), END]),
+        LineReply::Content(content) => write_content(writer, content),
         LineReply::Place(place) => write_count(writer, "place ", u64::from(*place)),
         LineReply::Private => write_text(writer, b"private\n"),
         LineReply::Mappers(pages) => write_mappers(writer, pages.as_slice()),
@@ -84,16 +85,29 @@ pub fn write_reply<W: Write>(writer: &mut W, reply: &LineReply) -> Result<(), Ru
     }
 }
 
+/// Writes the content of a page, its bytes in order, two digits each.
+fn write_content<W: Write>(writer: &mut W, content: &PageBytes) -> Result<(), RunFault>
+    ensures whole { OnOk result (Appends (W.contents writer.old) (W.contents writer.new) (content_line content.now)) }
+    ensures fault { IfErr result (λ e. (e ≡ RunFault.Write)
+        × AppendsPart (W.contents writer.old) (W.contents writer.new) (content_line content.now)) }
+{
+    let mut text = LineText::new();
+    text.put_name("\n");
+    text.put_content(content);
+    write_text(writer, text.as_slice())
+}
+
 /// Writes a name and a number.
 fn write_count<W: Write>(writer: &mut W, name: &str, count: u64) -> Result<(), RunFault>
+    requires { length name.now ≤ 16 }
     ensures whole { OnOk result (Appends (W.contents writer.old) (W.contents writer.new) (counted_text name.now count)) }
     ensures fault { IfErr result (λ e. (e ≡ RunFault.Write)
         × AppendsPart (W.contents writer.old) (W.contents writer.new) (counted_text name.now count)) }
 {
-    write_pieces(
-        writer,
-        &[Piece::Text(name), Piece::Number(count), Piece::Text("\n")],
-    )
+    let mut text = LineText::new();
+    text.put_name("\n");
+    text.put_named(name, count);
+    write_text(writer, text.as_slice())
 }
 
 /// Writes a name, a number, and the refusal that stopped the command, if one did.
@@ -103,23 +117,19 @@ fn write_stopped<W: Write>(
     count: u64,
     stop: Option<Fault>,
 ) -> Result<(), RunFault>
+    requires { length name.now ≤ 16 }
     ensures whole { OnOk result (Appends (W.contents writer.old) (W.contents writer.new) (stopped_text name.now count stop)) }
     ensures fault { IfErr result (λ e. (e ≡ RunFault.Write)
         × AppendsPart (W.contents writer.old) (W.contents writer.new) (stopped_text name.now count stop)) }
 {
-    match stop {
-        None => write_count(writer, name, count),
-        Some(fault) => write_pieces(
-            writer,
-            &[
-                Piece::Text(name),
-                Piece::Number(count),
-                Piece::Text(" refused "),
-                Piece::Number(u64::from(fault.number())),
-                Piece::Text("\n"),
-            ],
-        ),
-    }
+    let Some(fault) = stop else {
+        return write_count(writer, name, count);
+    };
+    let mut text = LineText::new();
+    text.put_name("\n");
+    text.put_named(" refused ", u64::from(fault.number()));
+    text.put_named(name, count);
+    write_text(writer, text.as_slice())
 }
 
 /// Writes the counters, each behind its name.
@@ -128,26 +138,16 @@ fn write_counters<W: Write>(writer: &mut W, counters: &Counters) -> Result<(), R
     ensures fault { IfErr result (λ e. (e ≡ RunFault.Write)
         × AppendsPart (W.contents writer.old) (W.contents writer.new) (counters_text counters.now)) }
 {
-    write_pieces(
-        writer,
-        &[
-            Piece::Text("stat shared="),
-            Piece::Number(counters.shared),
-            Piece::Text(" sharing="),
-            Piece::Number(counters.sharing),
-            Piece::Text(" unshared="),
-            Piece::Number(counters.unshared),
-            Piece::Text(" volatile="),
-            Piece::Number(counters.volatile),
-            Piece::Text(" chains="),
-            Piece::Number(counters.chains),
-            Piece::Text(" dups="),
-            Piece::Number(counters.dups),
-            Piece::Text(" full_scans="),
-            Piece::Number(counters.full_scans),
-            Piece::Text("\n"),
-        ],
-    )
+    let mut text = LineText::new();
+    text.put_name("\n");
+    text.put_named(" full_scans=", counters.full_scans);
+    text.put_named(" dups=", counters.dups);
+    text.put_named(" chains=", counters.chains);
+    text.put_named(" volatile=", counters.volatile);
+    text.put_named(" unshared=", counters.unshared);
+    text.put_named(" sharing=", counters.sharing);
+    text.put_named("stat shared=", counters.shared);
+    write_text(writer, text.as_slice())
 }
 
 /// Writes one page of a dup.
@@ -156,15 +156,10 @@ fn write_mapper<W: Write>(writer: &mut W, page: GuestPage) -> Result<(), RunFaul
     ensures fault { IfErr result (λ e. (e ≡ RunFault.Write)
         × AppendsPart (W.contents writer.old) (W.contents writer.new) (mapper_text page)) }
 {
-    write_pieces(
-        writer,
-        &[
-            Piece::Text(" "),
-            Piece::Number(u64::from(page.guest)),
-            Piece::Text(":"),
-            Piece::Number(u64::from(page.page)),
-        ],
-    )
+    let mut text = LineText::new();
+    text.put_named(":", u64::from(page.page));
+    text.put_named(" ", u64::from(page.guest));
+    write_text(writer, text.as_slice())
 }
 
 /// Writes the pages of a dup, each behind a space.
@@ -197,20 +192,40 @@ fn write_held<W: Write>(
     frame: u32,
     generation: u64,
 ) -> Result<(), RunFault>
+    requires { length name.now ≤ 16 }
     ensures whole { OnOk result (Appends (W.contents writer.old) (W.contents writer.new) (held_text name.now frame generation)) }
     ensures fault { IfErr result (λ e. (e ≡ RunFault.Write)
         × AppendsPart (W.contents writer.old) (W.contents writer.new) (held_text name.now frame generation)) }
 {
-    write_pieces(
-        writer,
-        &[
-            Piece::Text(name),
-            Piece::Number(u64::from(frame)),
-            Piece::Text(" "),
-            Piece::Number(generation),
-            Piece::Text("\n"),
-        ],
-    )
+    let mut text = LineText::new();
+    text.put_name("\n");
+    text.put_named(" ", generation);
+    text.put_named(name, u64::from(frame));
+    write_text(writer, text.as_slice())
+}
+
+/// Writes what a lookup of an audit held and read.
+fn write_found<W: Write>(writer: &mut W, generation: u64, bytes: &PageBytes) -> Result<(), RunFault>
+    ensures whole { OnOk result (Appends (W.contents writer.old) (W.contents writer.new) (row_text (found_row generation bytes.now))) }
+    ensures fault { IfErr result (λ e. (e ≡ RunFault.Write)
+        × AppendsPart (W.contents writer.old) (W.contents writer.new) (row_text (found_row generation bytes.now))) }
+{
+    let mut text = LineText::new();
+    text.put_content(bytes);
+    text.put_name(":");
+    text.put_named(" found:", generation);
+    write_text(writer, text.as_slice())
+}
+
+/// Writes why a lookup of an audit held nothing.
+fn write_gone<W: Write>(writer: &mut W, why: Why) -> Result<(), RunFault>
+    ensures whole { OnOk result (Appends (W.contents writer.old) (W.contents writer.new) (row_text (gone_row why))) }
+    ensures fault { IfErr result (λ e. (e ≡ RunFault.Write)
+        × AppendsPart (W.contents writer.old) (W.contents writer.new) (row_text (gone_row why))) }
+{
+    let mut text = LineText::new();
+    text.put_named(" gone:", why.number());
+    write_text(writer, text.as_slice())
 }
 
 /// Writes how the lookup of one place ended.
@@ -220,19 +235,8 @@ fn write_row<W: Write>(writer: &mut W, row: Row) -> Result<(), RunFault>
         × AppendsPart (W.contents writer.old) (W.contents writer.new) (row_text row)) }
 {
     match row {
-        Row::Found { generation, bytes } => write_pieces(
-            writer,
-            &[
-                Piece::Text(" found:"),
-                Piece::Number(generation),
-                Piece::Text(":"),
-                Piece::Content(bytes),
-            ],
-        ),
-        Row::Gone(why) => write_pieces(
-            writer,
-            &[Piece::Text(" gone:"), Piece::Number(why.number())],
-        ),
+        Row::Found { generation, bytes } => write_found(writer, generation, &bytes),
+        Row::Gone(why) => write_gone(writer, why),
         Row::Busy => write_text(writer, b" busy"),
     }
 }

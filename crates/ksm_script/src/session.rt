@@ -135,34 +135,33 @@ impl<N: Naming> Session<N> {
     ) -> Option<LineReply>
         ensures answers { Answers line self.old.state result self.new.state }
     {
-        match line {
-            Line::Empty => None,
-            Line::Register { page, node, bytes } => {
-                Some(self.apply(rt, Command::Register { page, node, bytes }))
-            }
-            Line::Drop { page } => Some(self.apply(rt, Command::Drop { page })),
-            Line::Store { page, bytes } => Some(self.apply(rt, Command::Store { page, bytes })),
-            Line::Get { page } => Some(self.content(rt, page)),
-            Line::Ticket { page } => Some(self.ticket(rt, page)),
-            Line::Mappers { place } => Some(self.mappers(rt, place)),
-            Line::ScanPages => Some(self.scan_pages(rt)),
-            Line::Scan { visits } => Some(self.scan(rt, visits)),
-            Line::Prune => Some(self.apply(rt, Command::Prune)),
-            Line::Unmerge { guest } => Some(self.apply(rt, Command::Unmerge { guest })),
-            Line::Mergeable { guest } => Some(self.apply(rt, Command::Mergeable { guest })),
-            Line::MovePage { page, node } => Some(self.apply(rt, Command::MovePage { page, node })),
-            Line::MoveDup { place, node } => Some(self.apply(rt, Command::MoveDup { place, node })),
-            Line::Set { knob, value } => Some(self.apply(rt, knob.setting(value))),
-            Line::Show { shown } => Some(self.value(rt, shown)),
-            Line::Stat => Some(self.counters(rt)),
-            Line::Find { pass, place } => Some(self.act(pass, Act::Find { place })),
+        let command = match line {
+            Line::Empty => return None,
+            Line::Register { page, node, bytes } => Command::Register { page, node, bytes },
+            Line::Drop { page } => Command::Drop { page },
+            Line::Store { page, bytes } => Command::Store { page, bytes },
+            Line::Get { page } => return Some(self.content(rt, page)),
+            Line::Ticket { page } => return Some(self.ticket(rt, page)),
+            Line::Mappers { place } => return Some(self.mappers(rt, place)),
+            Line::ScanPages => return Some(self.scan_pages(rt)),
+            Line::Scan { visits } => scan_of(visits),
+            Line::Prune => Command::Prune,
+            Line::Unmerge { guest } => Command::Unmerge { guest },
+            Line::Mergeable { guest } => Command::Mergeable { guest },
+            Line::MovePage { page, node } => Command::MovePage { page, node },
+            Line::MoveDup { place, node } => Command::MoveDup { place, node },
+            Line::Set { knob, value } => knob.setting(value),
+            Line::Show { shown } => return Some(self.value(rt, shown)),
+            Line::Stat => return Some(self.counters(rt)),
+            Line::Find { pass, place } => return Some(self.act(pass, Act::Find { place })),
             Line::Equal { pass, place, bytes } => {
-                Some(self.act(pass, Act::Equal { place, bytes }))
+                return Some(self.act(pass, Act::Equal { place, bytes }));
             }
-            Line::Look { pass } => Some(self.act(pass, Act::Look)),
-            Line::Leave { pass } => Some(self.act(pass, Act::Leave)),
-            Line::Audit => Some(self.audit(rt)),
-        }
+            Line::Look { pass } => return Some(self.act(pass, Act::Look)),
+            Line::Leave { pass } => return Some(self.act(pass, Act::Leave)),
+            Line::Audit => return Some(self.audit(rt)),
+        };
+        Some(self.apply(rt, command))
     }
 
     /// Gives all holds back.
@@ -188,14 +187,7 @@ impl<N: Naming> Session<N> {
         ensures answers { Commands (scan self.old.state.book.knobs.pages_to_scan) self.old.state (Some result) self.new.state }
     {
         let knobs = self.ksm.knobs(rt, &mut self.share);
-        self.scan(rt, knobs.pages_to_scan)
-    }
-
-    fn scan<R: Wait>(&mut self, rt: &R, visits: u32) -> LineReply
-        ensures answers { Commands (scan visits) self.old.state (Some result) self.new.state }
-    {
-        let visits = u64::from(visits);
-        self.apply(rt, Command::Scan { visits })
+        self.apply(rt, scan_of(knobs.pages_to_scan))
     }
 
     fn ticket<R: Wait>(&mut self, rt: &R, page: GuestPage) -> LineReply
@@ -257,6 +249,14 @@ impl<N: Naming> Session<N> {
             Some(content) => LineReply::Content(content),
         }
     }
+}
+
+/// The command that makes so many visits.
+fn scan_of(visits: u32) -> Command
+    ensures { result ≡ scan visits }
+{
+    let visits = u64::from(visits);
+    Command::Scan { visits }
 }
 
 /// The reply to the answer of a command.

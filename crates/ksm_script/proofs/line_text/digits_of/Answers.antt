@@ -1,7 +1,7 @@
 use Rattle.std.proofs.Common.{◌*◌, ◌∙◌, ap, sym, length}
 use Rattle.hex.specs.Hex.{encode_lower}
 use Rattle.ksm_script.proofs.Hex.{at_ok, word_encoded}
-use Rattle.ksm_script.proofs.output.digits_of.Goals as goal
+use Rattle.ksm_script.proofs.line_text.digits_of.Goals as goal
 
 pub returns : goal.returns
 returns c =

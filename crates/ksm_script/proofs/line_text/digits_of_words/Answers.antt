@@ -1,7 +1,7 @@
-use Rattle.std.proofs.Common.{◌≡◌, ◌∙◌, ◌++◌, ◌∷◌, ◌<◌, [], get_or, length, length-set, map, take, sym, ap, arith}
+use Rattle.std.proofs.Common.{◌∙◌, ◌++◌, ◌∷◌, ◌<◌, [], get_or, length, length-set, map, take, sym, ap, arith}
 use Rattle.std.proofs.lemmas.List.{map-append, take_all, take_more, take_more_set}
 use Rattle.ksm_script.specs.Texts.{word_digits}
-use Rattle.ksm_script.proofs.output.digits_of_words.Goals as goal
+use Rattle.ksm_script.proofs.line_text.digits_of_words.Goals as goal
 
 pub loop-i-preserved : goal.loop-i-preserved
 loop-i-preserved c =

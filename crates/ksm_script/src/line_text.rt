@@ -1,0 +1,121 @@
+//! Texts that are put together from their ends.
+ghost use Rattle.std.specs.Prelude.{◌≡◌, ◌+◌, ◌*◌, ◌≤◌, ◌++◌, [], length, map, decimal};
+ghost use Rattle.ksm_script.specs.Texts.{word_digits, content_text};
+
+use itoa::write_digits;
+use ksm_base::{PAGE_WORDS, PageBytes};
+use std::marker::Model;
+
+/// How many bytes a text has at most: the counters are 68 bytes of names and seven numbers.
+const TEXT_ROOM: usize = 208;
+
+/// A text that is put together from its end. Contracts see its bytes.
+#[derive(Drop)]
+pub struct LineText {
+    bytes: [u8; TEXT_ROOM],
+    start: usize,
+}
+
+impl Model for LineText {
+    ghost use Rattle.std.specs.Prelude.{◌≤◌, List, ℕ, drop};
+
+    ghost Value = { List ℕ };
+
+    ghost view = { λ t. drop t.start t.bytes };
+
+    ghost invariant = { λ t. t.start ≤ 208 };
+}
+
+/// The digits of a word of a page, from its lowest byte on.
+#[inline(always)]
+fn digits_of(word: u64) -> [u8; 16]
+    ensures { result ≡ word_digits word }
+{
+    let mut digits = [0; 16];
+    let _ = hex::encode_to_slice(&word.to_le_bytes(), &mut digits);
+    digits
+}
+
+/// The digits of the words of a page.
+fn digits_of_words(content: &PageBytes) -> [[u8; 16]; PAGE_WORDS]
+    ensures { result ≡ map word_digits content.now }
+{
+    let mut digits = [[0; 16]; PAGE_WORDS];
+    for i in 0..PAGE_WORDS {
+        digits[i] = digits_of(content[i]);
+    }
+    digits
+}
+
+impl LineText {
+    /// The text of no bytes.
+    #[inline(always)]
+    pub fn new() -> LineText
+        ensures { result ≡ [] }
+    {
+        LineText {
+            bytes: [0; TEXT_ROOM],
+            start: TEXT_ROOM,
+        }
+    }
+
+    /// Puts bytes before the text.
+    #[inline(always)]
+    pub fn put_bytes(&mut self, bytes: &[u8])
+        requires { length bytes.now + length self.old ≤ 208 }
+        ensures { self.new ≡ bytes.now ++ self.old }
+    {
+        let end = self.start;
+        let start = end - bytes.len();
+        self.bytes[start..end].copy_from_slice(bytes);
+        self.start = start;
+    }
+
+    /// Puts a name before the text.
+    #[inline(always)]
+    pub fn put_name(&mut self, name: &str)
+        requires { length name.now + length self.old ≤ 208 }
+        ensures { self.new ≡ name.now ++ self.old }
+    {
+        self.put_bytes(name.as_bytes());
+    }
+
+    /// Puts the decimal digits of a number before the text.
+    #[inline(always)]
+    pub fn put_number(&mut self, number: u64)
+        requires { 20 + length self.old ≤ 208 }
+        ensures text { self.new ≡ decimal number ++ self.old }
+        ensures room { length self.new ≤ 20 + length self.old }
+    {
+        self.start = write_digits(number, &mut self.bytes, self.start);
+    }
+
+    /// Puts a name and a number behind it before the text.
+    #[inline(always)]
+    pub fn put_named(&mut self, name: &str, number: u64)
+        requires { length name.now + 20 + length self.old ≤ 208 }
+        ensures text { self.new ≡ name.now ++ (decimal number ++ self.old) }
+        ensures room { length self.new ≤ length name.now + 20 + length self.old }
+    {
+        self.put_number(number);
+        self.put_name(name);
+    }
+
+    /// Puts the digits of a page's content before the text.
+    pub fn put_content(&mut self, content: &PageBytes)
+        requires { 16 * PAGE_WORDS + length self.old ≤ 208 }
+        ensures text { self.new ≡ content_text content.now ++ self.old }
+        ensures room { length self.new ≡ 16 * PAGE_WORDS + length self.old }
+    {
+        let digits = digits_of_words(content);
+        self.put_bytes(digits.as_flattened());
+    }
+
+    /// The bytes.
+    #[inline(always)]
+    pub fn as_slice(&self) -> &[u8]
+        ensures { result.now ≡ self.now }
+    {
+        &self.bytes[self.start..]
+    }
+}
