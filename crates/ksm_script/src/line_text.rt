@@ -1,13 +1,14 @@
 //! Texts that are put together from their ends.
 ghost use Rattle.std.specs.Prelude.{◌≡◌, ◌+◌, ◌*◌, ◌≤◌, ◌++◌, [], length, map, decimal};
+ghost use Rattle.ksm_script.specs.declared.line_text.TheConstants.{TEXT_ROOM as ROOM};
 ghost use Rattle.ksm_script.specs.Texts.{word_digits, content_text};
 
 use itoa::write_digits;
 use ksm_base::{PAGE_WORDS, PageBytes};
 use std::marker::Model;
 
-/// How many bytes a text has at most: the counters are 68 bytes of names and seven numbers.
-const TEXT_ROOM: usize = 208;
+/// How many bytes a text has at most: the counters are 68 bytes of names and seven numbers of 20 digits, and a page has 16 digits a word.
+const TEXT_ROOM: usize = 208 + 16 * PAGE_WORDS;
 
 /// A text that is put together from its end. Contracts see its bytes.
 #[derive(Drop)]
@@ -18,12 +19,13 @@ pub struct LineText {
 
 impl Model for LineText {
     ghost use Rattle.std.specs.Prelude.{◌≤◌, List, ℕ, drop};
+    ghost use Rattle.ksm_script.specs.declared.line_text.TheConstants.{TEXT_ROOM as ROOM};
 
     ghost Value = { List ℕ };
 
     ghost view = { λ t. drop t.start t.bytes };
 
-    ghost invariant = { λ t. t.start ≤ 208 };
+    ghost invariant = { λ t. t.start ≤ ROOM };
 }
 
 /// The digits of a word of a page, from its lowest byte on.
@@ -62,7 +64,7 @@ impl LineText {
     /// Puts bytes before the text.
     #[inline(always)]
     pub fn put_bytes(&mut self, bytes: &[u8])
-        requires { length bytes.now + length self.old ≤ 208 }
+        requires { length bytes.now + length self.old ≤ ROOM }
         ensures { self.new ≡ bytes.now ++ self.old }
     {
         let end = self.start;
@@ -74,7 +76,7 @@ impl LineText {
     /// Puts a name before the text.
     #[inline(always)]
     pub fn put_name(&mut self, name: &str)
-        requires { length name.now + length self.old ≤ 208 }
+        requires { length name.now + length self.old ≤ ROOM }
         ensures { self.new ≡ name.now ++ self.old }
     {
         self.put_bytes(name.as_bytes());
@@ -83,7 +85,7 @@ impl LineText {
     /// Puts the decimal digits of a number before the text.
     #[inline(always)]
     pub fn put_number(&mut self, number: u64)
-        requires { 20 + length self.old ≤ 208 }
+        requires { 20 + length self.old ≤ ROOM }
         ensures text { self.new ≡ decimal number ++ self.old }
         ensures room { length self.new ≤ 20 + length self.old }
     {
@@ -93,7 +95,7 @@ impl LineText {
     /// Puts a name and a number behind it before the text.
     #[inline(always)]
     pub fn put_named(&mut self, name: &str, number: u64)
-        requires { length name.now + 20 + length self.old ≤ 208 }
+        requires { length name.now + 20 + length self.old ≤ ROOM }
         ensures text { self.new ≡ name.now ++ (decimal number ++ self.old) }
         ensures room { length self.new ≤ length name.now + 20 + length self.old }
     {
@@ -103,7 +105,7 @@ impl LineText {
 
     /// Puts the digits of a page's content before the text.
     pub fn put_content(&mut self, content: &PageBytes)
-        requires { 16 * PAGE_WORDS + length self.old ≤ 208 }
+        requires { 16 * PAGE_WORDS + length self.old ≤ ROOM }
         ensures text { self.new ≡ content_text content.now ++ self.old }
         ensures room { length self.new ≡ 16 * PAGE_WORDS + length self.old }
     {
