@@ -1,5 +1,6 @@
 //! Audits of a shared book: their rows while a frame is named, dying and given again, a held worker, and a gate that refuses.
 ghost use Rattle.std.specs.Prelude.{◌≡◌, ◌<◌, All, vec_len};
+ghost use Rattle.ksm_base.specs.Values.{frames_of};
 
 use frame_table::{Pass, Why};
 use ksm_audit::{AuditFault, Gate, OpenGate, Report, Row, audit};
@@ -223,6 +224,7 @@ fn three_books<N: Naming, R: Threads + Wait + Abort + Sync>(
 ) -> Result<(), Fail>
     requires name { parts ≡ N.parts }
     requires passes { parts.frames.shape.passes ≡ 2 }
+    requires frames { 0 < frames_of parts.frames.shape }
 {
     let (ksm, passes, mut shares, _readers) = Ksm::<N>::open(parts)?;
     let Some(mut share) = shares.pop() else {
