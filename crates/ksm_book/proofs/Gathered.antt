@@ -1,7 +1,7 @@
 -- What was found of the rows after the cursor stays true while none of them changes.
-use Rattle.std.proofs.Common.{◌≡◌, ℕ, zero, suc, ◌-◌, ◌<◌, ◌≤◌, Bool, true, false, cond, List, [], ◌∷◌, Option, Some, None, refl, sym, ap, ◌∙◌, subst, arith, inl, inr}
-use Rattle.std.specs.Prelude.{◌&&◌, ◌||◌, IfSome, MatchOption, ⊤, filter, find, is_some, nat_lt}
-use Rattle.std.proofs.lemmas.Bool.{cases_Bool, and_parts}
+use Rattle.std.proofs.Common.{◌≡◌, ℕ, zero, suc, ◌-◌, Bool, true, false, cond, List, [], ◌∷◌, Option, Some, None, refl, sym, ap, ◌∙◌, subst, arith}
+use Rattle.std.specs.Prelude.{◌&&◌, ◌||◌, IfSome, MatchOption, filter, find, is_some, nat_lt}
+use Rattle.std.proofs.lemmas.Bool.{and_parts}
 use Rattle.std.proofs.lemmas.Bool.Decides.{nat_tests}
 use Rattle.ksm_base.specs.declared.page.GuestPage.{GuestPage}
 use Rattle.ksm_base.specs.declared.row.Row.{Row}
@@ -11,7 +11,7 @@ use Rattle.ksm_base.specs.Visit.{next_row, visit_begun}
 use Rattle.ksm_base.proofs.Edits.{find_passes}
 use Rattle.ksm_base.proofs.Pages.{before_irrefl, same_page_eq}
 use Rattle.ksm_pages.specs.declared.row.Run.{Run}
-use Rattle.ksm_pages.specs.Scanned.{AreAhead, AreKeptAfter, GoesOnAt, IsLeft, IsRun, IsUnderWay, RunsOver, moved_to, cursor_after, stays}
+use Rattle.ksm_pages.specs.Scanned.{AreAhead, AreKeptAfter, GoesOnAt, IsLeft, IsRun, IsUnderWay, moved_to, cursor_after}
 use Rattle.ksm_book.specs.declared.scan.Ahead.{Ahead}
 use Rattle.ksm_book.specs.Gathered.{IsAhead}
 use Rattle.ksm_book.proofs.Passing.{begins_none}

@@ -1,4 +1,4 @@
-use Rattle.std.proofs.Common.{◌≡◌, ℕ, ◌+◌, ◌<◌, ◌≤◌}
+use Rattle.std.proofs.Common.{◌+◌, ◌<◌, ◌≤◌}
 use Rattle.std.specs.Prelude.{Option}
 use Rattle.arrayvec.specs.ArrayVec.{array_vec_len}
 use Rattle.ksm_base.specs.declared.page.GuestPage.{GuestPage}

@@ -1,6 +1,4 @@
-use Rattle.std.proofs.Common.{◌-◌, List, [], Some, sym, ap, subst, ◌∙◌, rules}
-use Rattle.ksm_base.specs.declared.row.Row.{Row}
-use Rattle.ksm_pages.specs.declared.row.Run.{Run}
+use Rattle.std.proofs.Common.{◌-◌, Some, sym, ap, subst, ◌∙◌}
 use Rattle.ksm_pages.specs.Scanned.{AreAhead}
 use Rattle.ksm_book.specs.declared.scan.Ahead.{Ahead}
 use Rattle.ksm_book.proofs.Gathered.{behind_ahead, kept_behind}
