@@ -25,6 +25,15 @@ struct Ahead {
     behind: IntoIter<Run, 16>,
 }
 
+impl Ahead {
+    // Nothing is known of the runs behind any more.
+    fn forget(&mut self)
+        ensures { self.new ≡ record self.old { behind = [] } }
+    {
+        self.behind = Runs::new().into_iter();
+    }
+}
+
 impl State {
     /// Makes visits.
     pub fn scan(&mut self, table: &FrameTable, count: u64) -> Result<Reply, Fault>
@@ -126,7 +135,7 @@ impl State {
             return Ok(());
         };
         if !self.visit_row(table, row)? {
-            ahead.behind = Runs::new().into_iter();
+            ahead.forget();
         }
         self.end_visit(row.page, ahead, most - 1);
         Ok(())
@@ -199,6 +208,13 @@ impl State {
         if let Some(run) = ahead.behind.next() {
             return run;
         }
+        self.gather(ahead, most)
+    }
+
+    // The runs behind the page visited last, found anew. Gives the first. By itself: a function clears its locals, and most visits need none of these.
+    fn gather(&self, ahead: &mut Ahead, most: u64) -> Run
+        ensures { AreAhead most self.now.state.rows self.now.state.cursor (result ∷ ahead.new.behind) }
+    {
         let mut behind = self.layout.rows().ahead(self.cursor, most).into_iter();
         let Some(run) = behind.next() else {
             unreachable!();
