@@ -190,19 +190,6 @@ pub fn moved(row: Row, node: u32) -> Row
     }
 }
 
-/// The row, mergeable if it is of the guest.
-pub(crate) fn with_mergeable(row: Row, guest: u16) -> Row
-    ensures { result ≡ (if is_of_guest guest row then record row { mergeable = true } else row) }
-{
-    if is_of(&row, guest) {
-        return Row {
-            mergeable: true,
-            ..row
-        };
-    }
-    row
-}
-
 /// The row alone, and out of the scan.
 pub(crate) fn let_go(row: Row) -> Row
     ensures { result ≡ as_let_go row }

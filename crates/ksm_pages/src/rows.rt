@@ -3,7 +3,8 @@
 //! With n rows, `has`, `find`, `insert`, `replace`, `revise`, `remove` and `lodge` search once, in a number of steps in
 //! the order of log n. `has_guest` does so too. `next` and `next_shared` take as many, and one for each row that they pass
 //! over, which are rows of the guest alone where one is given; `ahead` so too, and one for each of its visits. `len`,
-//! `any_mergeable` and the counts take one. All other calls walk over the rows.
+//! `any_mergeable` and the counts take one. `make_mergeable` searches twice for each row of the guest, and once more. All
+//! other calls walk over the rows.
 
 ghost use Rattle.std.specs.Prelude.{◌≡◌, ◌<◌, ◌≤◌, [], None, Some, length, filter, find, count_by, map, insert, remove, slice_set, false, MatchOption, OnOk, OnErr, Err, is_some, true, option_map, ◌&&◌};
 ghost use Rattle.std.specs.List.{list_any};
@@ -22,7 +23,7 @@ ghost use Rattle.ksm_pages.specs.Wanted.{is_shared_of as is_shared_of_guest, is_
 use crate::entry::Entry;
 use crate::row::{
     Run, Runs, Wanted, is_merged, is_private, is_waiting, is_wanted, is_zero, let_go_before, stays,
-    unshared, with_mergeable,
+    unshared,
 };
 use crate::tally::Tally;
 use ksm_base::{Fault, GuestPage, PageState, Row};
@@ -394,6 +395,23 @@ impl Rows {
         self.tally.zero
     }
 
+    /// All rows of a guest become mergeable.
+    pub(crate) fn make_mergeable(&mut self, guest: u16)
+        ensures rows { self.new.rows ≡ change_rows (is_of_guest guest) (λ r. record r { mergeable = true }) self.old.rows }
+        ensures frames { self.new.frames ≡ self.old.frames }
+    {
+        // The contract of `len` says that the keys ascend.
+        let _ = self.entries.len();
+        let mut last = None;
+        while let Some(row) = self.first_of(last, guest, Wanted::Before(None)) {
+            self.revise(Row {
+                mergeable: true,
+                ..row
+            });
+            last = Some(row.page);
+        }
+    }
+
     // The calls that follow write every entry and drop none. They do it by `retain`, whose contract says what is
     // written to each value; that of a loop over `values_mut` does not.
 
@@ -412,18 +430,6 @@ impl Rows {
             true
         });
         self.tally = self.tally.settled();
-    }
-
-    /// All rows of a guest become mergeable.
-    pub(crate) fn make_mergeable(&mut self, guest: u16)
-        ensures rows { self.new.rows ≡ change_rows (is_of_guest guest) (λ r. record r { mergeable = true }) self.old.rows }
-        ensures frames { self.new.frames ≡ self.old.frames }
-    {
-        self.entries.retain(|page, entry| {
-            entry.set_row(with_mergeable(entry.row(*page), guest));
-            true
-        });
-        self.tally = tally_of(&self.entries);
     }
 
     /// Every row becomes Private and not unchanged.
