@@ -1,5 +1,6 @@
 pub mod RowLists
 pub mod RowWalks
+pub mod GuestWalks
 pub mod Lodging
 pub mod Linking
 pub mod Partners

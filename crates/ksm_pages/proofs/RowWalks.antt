@@ -1,12 +1,13 @@
 -- What is found, counted and changed in the entries of the rows' map, said of the rows.
-use Rattle.std.proofs.Common.{◌≡◌, Bool, true, false, cond, List, [], ◌∷◌, length, map, Option, Some, None, suc, refl, sym, ap, ◌∙◌, subst}
-use Rattle.std.specs.Prelude.{filter, find, count_by, option_map, ◌&&◌, ◌||◌}
+use Rattle.std.proofs.Common.{◌≡◌, ℕ, Bool, true, false, cond, List, [], ◌∷◌, length, map, Option, Some, None, suc, refl, sym, ap, ◌∙◌, subst}
+use Rattle.std.specs.Prelude.{filter, find, count_by, option_map, ◌&&◌, ◌||◌, nat_le}
 use Rattle.std.specs.List.{list_any}
 use Rattle.std.proofs.lemmas.List.Sums.{length-filter}
-use Rattle.std.specs.Map.{keys_of, values_of}
+use Rattle.std.specs.Map.{values_of}
 use Rattle.std.specs.Map.Iter.{deref_pair}
 use Rattle.std.specs.Map.Calls.{RetainsPairs}
-use Rattle.std.specs.BTreeMap.Range.{range_contains, entries_between}
+use Rattle.std.specs.BTreeMap.Range.{range_contains, is_from_start, entries_between}
+use Rattle.std.specs.declared.ops.Bound.{Bound}
 use Rattle.std.specs.declared.ops.Bound.TheVariants.{Unbounded}
 use Rattle.std.specs.Ordering.{is_lt}
 use denote.Ref.{Bor}
@@ -15,7 +16,7 @@ use Rattle.ksm_base.specs.declared.row.Row.{Row}
 use Rattle.ksm_base.specs.Visit.{after_cursor}
 use Rattle.ksm_pages.specs.declared.entry.Entry.{Entry}
 use Rattle.ksm_pages.specs.Listed.{Listed}
-use Rattle.ksm_pages.specs.RowEntries.{row_of, frame_of, entry_of, listed, start_after, page_order}
+use Rattle.ksm_pages.specs.RowEntries.{row_of, frame_of, entry_of, listed, start_after, page_order, BeginsAt}
 use Rattle.ksm_pages.proofs.RowLists.{Entries, rows_of, less_is}
 
 -- ---------------------------------------------------------------- tests
@@ -39,15 +40,6 @@ module _ (test : Row → Bool) (asked : Entry → Bool) (alike : (e : GuestPage 
 
   pub rows_passing : (es : Entries) (l : Listed) → listed es ≡ l → length (filter asked (values_of es)) ≡ count_by test l.rows
   rows_passing es l is = values_passing es ∙ length-filter test (rows_of es) ∙ ap (λ (v : Listed). count_by test v.rows) is
-
--- a test of a page that answers as one of its row does
-module _ (test : Row → Bool) (asked : GuestPage → Bool) (alike : (e : GuestPage × Entry) → asked e.0 ≡ test (row_of e)) where
-  any_key : (es : Entries) → list_any asked (keys_of es) ≡ list_any test (rows_of es)
-  any_key [] = refl
-  any_key (e ∷ es) = λ t. alike e t || any_key es t
-
-  pub any_page : (es : Entries) (l : Listed) → listed es ≡ l → list_any asked (keys_of es) ≡ list_any test l.rows
-  any_page es l is = any_key es ∙ ap (λ (v : Listed). list_any test v.rows) is
 
 -- ---------------------------------------------------------------- searches
 
@@ -108,6 +100,13 @@ pub find_after : (test : Row → Bool) (cursor : Option GuestPage) (es : Entries
 find_after test cursor es =
     find_filter (λ e. test (row_of e)) (λ e. range_contains page_order (start_after cursor) Unbounded e.0) es
     ∙ find_alike _ _ es (λ e. ap (λ b. test (row_of e) && b) (in_range cursor e.0))
+
+pub find_from : (test : Row → Bool) (guest : ℕ) (cursor : Option GuestPage) (start : Bound GuestPage) → BeginsAt guest cursor start → (es : Entries)
+    → find (λ e. test (row_of e)) (entries_between page_order start Unbounded es)
+    ≡ find (λ e. test (row_of e) && (after_cursor cursor (row_of e).page && nat_le guest (row_of e).page.guest)) es
+find_from test guest cursor start begins es =
+    find_filter (λ e. test (row_of e)) (λ e. range_contains page_order start Unbounded e.0) es
+    ∙ find_alike _ _ es (λ e. ap (λ b. test (row_of e) && b) (and_true (is_from_start page_order start e.0) ∙ begins e.0))
 
 -- ---------------------------------------------------------------- changes
 

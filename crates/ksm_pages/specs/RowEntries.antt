@@ -1,9 +1,11 @@
 -- The entries of the rows' map, read as two lists side by side (own).
-use Rattle.std.specs.Prelude.{ℕ, List, map, Option, None, Some}
+use Rattle.std.specs.Prelude.{◌≡◌, ℕ, nat_le, ◌&&◌, List, map, Option, None, Some}
+use Rattle.std.specs.BTreeMap.Range.{is_from_start}
 use Rattle.std.specs.declared.ops.Bound.{Bound}
 use Rattle.std.specs.declared.ops.Bound.TheVariants.{Excluded, Unbounded}
 use Rattle.ksm_base.specs.declared.page.GuestPage.{GuestPage}
 use Rattle.ksm_base.specs.declared.row.Row.{Row}
+use Rattle.ksm_base.specs.Visit.{after_cursor}
 use Rattle.std.specs.declared.cmp.Ordering.{Ordering}
 use Rattle.ksm_base.specs.contracts.page.GuestPageOrd.TheImpl as page_ord
 use Rattle.ksm_pages.specs.declared.entry.Entry.{Entry}
@@ -33,3 +35,7 @@ page_order = page_ord.ghosts.cmp
 abbrev pub start_after : Option GuestPage → Bound GuestPage
 start_after None = Unbounded
 start_after (Some last) = Excluded last
+
+-- the pages from here on are those after the cursor, of this guest or a greater one
+abbrev pub BeginsAt : ℕ → Option GuestPage → Bound GuestPage → Type 0
+BeginsAt guest cursor start = (page : GuestPage) → is_from_start page_order start page ≡ (after_cursor cursor page && nat_le guest page.guest)

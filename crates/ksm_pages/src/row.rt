@@ -8,7 +8,7 @@ ghost use Rattle.ksm_base.specs.Rows.{same_page as is_same_page, private_state, 
 ghost use Rattle.ksm_base.specs.State.{tree_of as row_tree};
 ghost use Rattle.ksm_base.specs.Visit.{is_for_zero as goes_to_zero};
 ghost use Rattle.ksm_pages.specs.Scanned.{stays as as_it_is};
-ghost use Rattle.ksm_pages.specs.Wanted.{is_shared_of as is_shared_of_guest, is_wanted as is_a_wanted};
+ghost use Rattle.ksm_pages.specs.Wanted.{is_wanted as is_a_wanted};
 
 use arrayvec::ArrayVec;
 use ksm_base::{GuestPage, Knobs, PageBytes, PageState, Row};
@@ -18,8 +18,10 @@ use ksm_base::{GuestPage, Knobs, PageBytes, PageState, Row};
 pub enum Wanted {
     /// Those that the scan visits.
     Mergeable,
-    /// Merged and Zero ones of a guest, or of all guests where none is given.
-    SharedOf(Option<u16>),
+    /// Merged and Zero ones.
+    Shared,
+    /// Those before the one at which an unmerging stopped, or all where it did not.
+    Before(Option<Row>),
 }
 
 /// Visits of rows that stay as they are: how many there are, the page of the last, and the row that is visited then.
@@ -109,13 +111,13 @@ pub(crate) fn all_zero(bytes: &PageBytes) -> bool
     bytes.iter().all(|word| *word == 0)
 }
 
-/// Whether a row is merged or Zero, and of the guest if one is given.
-pub(crate) fn is_shared_of(row: &Row, guest: Option<u16>) -> bool
-    ensures { result ≡ is_shared_of_guest guest row.now }
+/// Whether a row comes before the one at which an unmerging stopped, if it did.
+pub(crate) fn comes_before_stop(row: &Row, stop: Option<Row>) -> bool
+    ensures { result ≡ is_before stop row.now }
 {
-    match guest {
-        None => is_shared(row.state),
-        Some(guest) => is_of(row, guest) && is_shared(row.state),
+    match stop {
+        None => true,
+        Some(stop) => row.page < stop.page,
     }
 }
 
@@ -125,7 +127,8 @@ pub(crate) fn is_wanted(row: &Row, wanted: Wanted) -> bool
 {
     match wanted {
         Wanted::Mergeable => row.mergeable,
-        Wanted::SharedOf(guest) => is_shared_of(row, guest),
+        Wanted::Shared => is_shared(row.state),
+        Wanted::Before(stop) => comes_before_stop(row, stop),
     }
 }
 
@@ -187,19 +190,6 @@ pub fn moved(row: Row, node: u32) -> Row
     }
 }
 
-/// The row, mergeable if it is of the guest.
-pub(crate) fn with_mergeable(row: Row, guest: u16) -> Row
-    ensures { result ≡ (if is_of_guest guest row then record row { mergeable = true } else row) }
-{
-    if is_of(&row, guest) {
-        return Row {
-            mergeable: true,
-            ..row
-        };
-    }
-    row
-}
-
 /// The row alone, and out of the scan.
 pub(crate) fn let_go(row: Row) -> Row
     ensures { result ≡ as_let_go row }
@@ -216,11 +206,7 @@ pub(crate) fn let_go(row: Row) -> Row
 pub(crate) fn let_go_before(row: Row, guest: u16, stop: Option<Row>) -> Row
     ensures { result ≡ (if is_of_guest guest row && is_before stop row then as_let_go row else row) }
 {
-    let reached = match stop {
-        None => true,
-        Some(stop) => row.page < stop.page,
-    };
-    if is_of(&row, guest) && reached {
+    if is_of(&row, guest) && comes_before_stop(&row, stop) {
         return let_go(row);
     }
     row

@@ -1,8 +1,10 @@
 //! The rows in an ordered map: each page with what the book knows of it, and the frame that serves it, if one does.
 //!
 //! With n rows, `has`, `find`, `insert`, `replace`, `revise`, `remove` and `lodge` search once, in a number of steps in
-//! the order of log n. `next` and `next_shared` take as many, and one for each row that they pass over; `ahead` so too,
-//! and one for each of its visits. `len`, `any_mergeable` and the counts take one. All other calls walk over the rows.
+//! the order of log n. `has_guest` does so too. `next` and `next_shared` take as many, and one for each row that they pass
+//! over, which are rows of the guest alone where one is given; `ahead` so too, and one for each of its visits. `len`,
+//! `any_mergeable` and the counts take one. `make_mergeable` searches twice for each row of the guest, and once more. All
+//! other calls walk over the rows.
 
 ghost use Rattle.std.specs.Prelude.{◌≡◌, ◌<◌, ◌≤◌, [], None, Some, length, filter, find, count_by, map, insert, remove, slice_set, false, MatchOption, OnOk, OnErr, Err, is_some, true, option_map, ◌&&◌};
 ghost use Rattle.std.specs.List.{list_any};
@@ -13,15 +15,15 @@ ghost use Rattle.ksm_base.specs.Apply.{is_before, let_go as as_let_go, unshared 
 ghost use Rattle.ksm_base.specs.Rows.{row_at, with_row, without_page, change_row, change_rows, same_page, private_state, waiting_state, merged_state, zero_state, settled as as_settled};
 ghost use Rattle.ksm_base.specs.Visit.{after_cursor as comes_after, next_row as row_to_visit};
 ghost use Rattle.ksm_pages.specs.Listed.{rank, StandsAt, lodged};
-ghost use Rattle.ksm_pages.specs.RowEntries.{row_of, start_after};
+ghost use Rattle.ksm_pages.specs.RowEntries.{row_of, start_after, BeginsAt};
 ghost use Rattle.ksm_pages.specs.Scanned.{AreAhead};
 ghost use Rattle.ksm_pages.specs.Tallied.{IsTally};
-ghost use Rattle.ksm_pages.specs.Wanted.{is_shared_of as is_shared_of_guest, is_wanted as is_a_wanted};
+ghost use Rattle.ksm_pages.specs.Wanted.{is_shared_of as is_shared_of_guest, is_wanted as is_a_wanted, up_to};
 
 use crate::entry::Entry;
 use crate::row::{
     Run, Runs, Wanted, is_merged, is_private, is_waiting, is_wanted, is_zero, let_go_before, stays,
-    unshared, with_mergeable,
+    unshared,
 };
 use crate::tally::Tally;
 use ksm_base::{Fault, GuestPage, PageState, Row};
@@ -74,6 +76,27 @@ fn after_cursor(cursor: Option<GuestPage>) -> Bound<GuestPage>
         None => Bound::Unbounded,
         Some(last) => Bound::Excluded(last),
     }
+}
+
+// Where the pages of a guest after the cursor begin.
+fn guest_after(cursor: Option<GuestPage>, guest: u16) -> Bound<GuestPage>
+    ensures { BeginsAt guest cursor result }
+{
+    match cursor {
+        Some(last) if last.guest >= guest => Bound::Excluded(last),
+        _ => Bound::Included(GuestPage { guest, page: 0 }),
+    }
+}
+
+// What a walk stopped at, unless it is of a greater guest.
+fn up_to_guest(found: Option<Row>, guest: u16) -> Option<Row>
+    ensures { result ≡ up_to guest found }
+{
+    let row = found?;
+    if row.page.guest > guest {
+        return None;
+    }
+    Some(row)
 }
 
 // What comes after the cursor, run by run, for `most` visits at most: one walk along the entries.
@@ -281,6 +304,22 @@ impl Rows {
         )
     }
 
+    /// The first row of a guest after the cursor that a search is for. It ends at the first row of a greater guest.
+    pub(crate) fn first_of(
+        &self,
+        cursor: Option<GuestPage>,
+        guest: u16,
+        wanted: Wanted,
+    ) -> Option<Row>
+        ensures { result ≡ find (λ r. (is_of_guest guest r && is_a_wanted wanted r) && comes_after cursor r.page) self.now.rows }
+    {
+        let found = self
+            .entries
+            .range((guest_after(cursor, guest), Bound::Unbounded))
+            .find(|(page, entry)| page.guest > guest || is_wanted(&entry.row(**page), wanted));
+        up_to_guest(row_found(found), guest)
+    }
+
     /// The row that is visited next: the least mergeable one after the cursor.
     pub fn next(&self, cursor: Option<GuestPage>) -> Option<Row>
         ensures { result ≡ row_to_visit cursor self.now.rows }
@@ -301,14 +340,17 @@ impl Rows {
     pub fn next_shared(&self, cursor: Option<GuestPage>, guest: Option<u16>) -> Option<Row>
         ensures { result ≡ find (λ r. is_shared_of_guest guest r && comes_after cursor r.page) self.now.rows }
     {
-        self.first_after(cursor, Wanted::SharedOf(guest))
+        match guest {
+            None => self.first_after(cursor, Wanted::Shared),
+            Some(guest) => self.first_of(cursor, guest, Wanted::Shared),
+        }
     }
 
     /// Whether the guest has a row.
     pub fn has_guest(&self, guest: u16) -> bool
         ensures { result ≡ list_any (is_of_guest guest) self.now.rows }
     {
-        self.entries.keys().any(|page| page.guest == guest)
+        self.first_of(None, guest, Wanted::Before(None)).is_some()
     }
 
     /// Whether the scan has a row to visit.
@@ -353,6 +395,23 @@ impl Rows {
         self.tally.zero
     }
 
+    /// All rows of a guest become mergeable.
+    pub(crate) fn make_mergeable(&mut self, guest: u16)
+        ensures rows { self.new.rows ≡ change_rows (is_of_guest guest) (λ r. record r { mergeable = true }) self.old.rows }
+        ensures frames { self.new.frames ≡ self.old.frames }
+    {
+        // The contract of `len` says that the keys ascend.
+        let _ = self.entries.len();
+        let mut last = None;
+        while let Some(row) = self.first_of(last, guest, Wanted::Before(None)) {
+            self.revise(Row {
+                mergeable: true,
+                ..row
+            });
+            last = Some(row.page);
+        }
+    }
+
     // The calls that follow write every entry and drop none. They do it by `retain`, whose contract says what is
     // written to each value; that of a loop over `values_mut` does not.
 
@@ -371,18 +430,6 @@ impl Rows {
             true
         });
         self.tally = self.tally.settled();
-    }
-
-    /// All rows of a guest become mergeable.
-    pub(crate) fn make_mergeable(&mut self, guest: u16)
-        ensures rows { self.new.rows ≡ change_rows (is_of_guest guest) (λ r. record r { mergeable = true }) self.old.rows }
-        ensures frames { self.new.frames ≡ self.old.frames }
-    {
-        self.entries.retain(|page, entry| {
-            entry.set_row(with_mergeable(entry.row(*page), guest));
-            true
-        });
-        self.tally = tally_of(&self.entries);
     }
 
     /// Every row becomes Private and not unchanged.
