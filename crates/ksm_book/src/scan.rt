@@ -22,7 +22,7 @@ use ksm_pages::row::{Run, Runs, is_for_zero, is_shared};
 #[derive(Drop)]
 struct Ahead {
     run: Option<Run>,
-    behind: IntoIter<Run, 16>,
+    behind: IntoIter<Run, 12>,
 }
 
 impl Ahead {

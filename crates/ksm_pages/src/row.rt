@@ -33,7 +33,7 @@ pub struct Run {
 }
 
 /// Runs, each from the row on that was to be visited after the one before.
-pub type Runs = ArrayVec<Run, 16>;
+pub type Runs = ArrayVec<Run, 12>;
 
 impl Run {
     /// A run that begins behind the cursor, with no visit yet.

@@ -8,7 +8,7 @@ use Rattle.ksm_pages.proofs.rows.runs_along.Given as goal
 
 abbrev pub invariant-loop-page : goal.invariant-loop-page
 invariant-loop-page l = record {
-  room : array_vec_len l.runs < 16;
+  room : array_vec_len l.runs < 12;
   most : l.left + l.run.visits ≤ l.fn.most;
   sorted : Sorted l.fn.entries.entries;
   runs : (at : Option GuestPage) × LeadTo l.fn.most (rows_of l.fn.entries.entries) l.fn.cursor l.runs.items (l.left + l.run.visits) at
