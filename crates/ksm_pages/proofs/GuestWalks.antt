@@ -1,6 +1,6 @@
 -- Walks along the rows of one guest: the search for the next one, and a change of each in turn.
 use Rattle.std.proofs.Common.{◌≡◌, ◌<◌, ◌≤◌, ◌+◌, ℕ, Bool, true, false, cond, List, [], ◌∷◌, Option, Some, None, inl, inr, refl, sym, ap, ◌∙◌, subst, arith}
-use Rattle.std.specs.Prelude.{All, AllPairs, count_by, find, is_some, map, nat_le, nat_lt, not, ◌&&◌, ◌||◌, ◌==◌, if◌then◌else◌}
+use Rattle.std.specs.Prelude.{All, count_by, find, is_some, map, nat_le, nat_lt, not, ◌&&◌, ◌||◌, ◌==◌, if◌then◌else◌}
 use Rattle.std.specs.List.{list_any}
 use Rattle.std.specs.Map.{keys_of}
 use Rattle.std.proofs.lemmas.Bool.{cases_order}
@@ -19,7 +19,6 @@ use Rattle.ksm_base.proofs.Edits.{count_more, find_all, find_none, find_passes}
 use Rattle.ksm_base.proofs.Orders.{ordered_change, pairs_head, pairs_tail}
 use Rattle.ksm_base.proofs.Pages.{after_differs, before_differs, before_irrefl, before_trans, not_both, same_page_refl}
 use Rattle.ksm_base.proofs.RowCounts.{each_at_page}
-use Rattle.ksm_pages.specs.declared.entry.Entry.{Entry}
 use Rattle.ksm_pages.specs.RowEntries.{row_of}
 use Rattle.ksm_pages.specs.Wanted.{up_to}
 use Rattle.ksm_pages.proofs.RowLists.{Entries, Sorted, After, order, rows_of, before_is}

@@ -14,7 +14,7 @@ use Rattle.ksm_base.specs.declared.row.DupRow.{DupRow}
 use Rattle.ksm_base.specs.declared.row.Row.{Row}
 use Rattle.ksm_base.specs.declared.knobs.Knobs.{Knobs}
 use Rattle.ksm_base.specs.declared.shape.Shape.{Shape}
-use Rattle.ksm_base.specs.Apply.{let_go, unshared}
+use Rattle.ksm_base.specs.Apply.{unshared}
 use Rattle.ksm_base.specs.Reading.{items_of}
 use Rattle.ksm_base.specs.Rows.{shared_state, InPageOrder, InPlaceOrder, same_page, row_at, with_row, without_page, change_row, change_rows, merged_state, merged_into, settled, settled_state, item_count, is_stale as is_stale_row, dup_numbered}
 use Rattle.ksm_base.specs.State.{place_count, tree_of}
@@ -175,11 +175,6 @@ module _ (shape : Shape) (rows : List Row) (dups : DupsState) (linked : AreLinke
     linked_mergeable =
         let f : Row → Row = λ r. record r { mergeable = true } in
         linked_mapped shape rows dups linked (λ r. if test r then f r else r) (changed_page test f (λ r. refl)) (λ k d lt. changed_keeps test f (get_or rows k d) (λ _. (refl, λ number. refl)))
-
-    pub linked_let_go : All (λ r. test r ≡ true → merged_state r.state ≡ false) rows → AreLinked shape (change_rows test let_go rows) dups
-    linked_let_go alone =
-        linked_mapped shape rows dups linked (λ r. if test r then let_go r else r) (changed_page test let_go (λ r. refl))
-        (λ k d lt. changed_keeps test let_go (get_or rows k d) (λ passes. (refl, λ number. alone_same number (get_or rows k d).state (alone k d lt passes))))
 
 -- ---------------------------------------------------------------- what is read from the dups
 

@@ -1,9 +1,6 @@
 -- What is found, counted and changed in the entries of the rows' map, said of the rows.
-use Rattle.std.proofs.Common.{◌≡◌, ℕ, Bool, true, false, cond, List, [], ◌∷◌, length, map, Option, Some, None, suc, refl, sym, ap, ◌∙◌, subst}
-use Rattle.std.specs.Prelude.{filter, find, count_by, option_map, ◌&&◌, ◌||◌, nat_le}
-use Rattle.std.specs.List.{list_any}
-use Rattle.std.proofs.lemmas.List.Sums.{length-filter}
-use Rattle.std.specs.Map.{values_of}
+use Rattle.std.proofs.Common.{◌≡◌, ℕ, Bool, true, false, cond, List, [], ◌∷◌, map, Option, Some, None, refl, sym, ap, ◌∙◌, subst}
+use Rattle.std.specs.Prelude.{filter, find, option_map, ◌&&◌, nat_le}
 use Rattle.std.specs.Map.Iter.{deref_pair}
 use Rattle.std.specs.Map.Calls.{RetainsPairs}
 use Rattle.std.specs.BTreeMap.Range.{range_contains, is_from_start, entries_between}
@@ -18,28 +15,6 @@ use Rattle.ksm_pages.specs.declared.entry.Entry.{Entry}
 use Rattle.ksm_pages.specs.Listed.{Listed}
 use Rattle.ksm_pages.specs.RowEntries.{row_of, frame_of, entry_of, listed, start_after, page_order, BeginsAt}
 use Rattle.ksm_pages.proofs.RowLists.{Entries, rows_of, less_is}
-
--- ---------------------------------------------------------------- tests
-
--- a test of an entry that answers as one of its row does
-module _ (test : Row → Bool) (asked : Entry → Bool) (alike : (e : GuestPage × Entry) → asked e.1 ≡ test (row_of e)) where
-  any_value : (es : Entries) → list_any asked (values_of es) ≡ list_any test (rows_of es)
-  any_value [] = refl
-  any_value (e ∷ es) = λ t. alike e t || any_value es t
-
-  pub any_row : (es : Entries) (l : Listed) → listed es ≡ l → list_any asked (values_of es) ≡ list_any test l.rows
-  any_row es l is = any_value es ∙ ap (λ (v : Listed). list_any test v.rows) is
-
-  values_passing : (es : Entries) → length (filter asked (values_of es)) ≡ length (filter test (rows_of es))
-  values_passing [] = refl
-  values_passing (e ∷ es) = ap (λ (b : Bool). length (cond b (e.1 ∷ filter asked (values_of es)) (filter asked (values_of es)))) (alike e) ∙ by (test (row_of e)) (values_passing es)
-    where
-      by : (b : Bool) → length (filter asked (values_of es)) ≡ length (filter test (rows_of es)) → length (cond b (e.1 ∷ filter asked (values_of es)) (filter asked (values_of es))) ≡ length (cond b (row_of e ∷ filter test (rows_of es)) (filter test (rows_of es)))
-      by true rest = ap suc rest
-      by false rest = rest
-
-  pub rows_passing : (es : Entries) (l : Listed) → listed es ≡ l → length (filter asked (values_of es)) ≡ count_by test l.rows
-  rows_passing es l is = values_passing es ∙ length-filter test (rows_of es) ∙ ap (λ (v : Listed). count_by test v.rows) is
 
 -- ---------------------------------------------------------------- searches
 

@@ -16,7 +16,7 @@ ghost use Rattle.ksm_tree.specs.Waits.{IsStopped};
 ghost use Rattle.ksm_pages.specs.Linked.{HasRoom, IsVacant, MayPair, ReplacedBoth, item_of_next, next_dup, elsewhere};
 ghost use Rattle.ksm_pages.specs.Listed.{frame_in, rank, StandsAt, lodged};
 
-use crate::row::{is_waiting, same_page, tree_of};
+use crate::row::{Wanted, is_waiting, let_go, same_page, tree_of};
 use crate::rows::{Held, Rows};
 use ksm_base::{DupRow, Fault, GuestPage, Knobs, PageState, Row, Shape};
 use ksm_tree::{Choice, Dups, Waiting};
@@ -444,8 +444,11 @@ impl Pages {
         ensures frames { self.new.listed.frames ≡ self.old.listed.frames }
         ensures rest { self.new ≡ record self.old { listed = self.new.listed } }
     {
-        self.rows.let_go(guest, stop);
-        self.waiting.let_go(guest, stop.map(|row| row.page));
+        let mut last = None;
+        while let Some(row) = self.rows.first_of(last, guest, Wanted::Before(stop)) {
+            self.revise(let_go(row));
+            last = Some(row.page);
+        }
     }
 
     /// All pages merged into a dup go to another frame.

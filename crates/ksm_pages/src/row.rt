@@ -3,7 +3,6 @@
 ghost use Rattle.std.specs.Prelude.{◌≡◌, ◌&&◌, bytes_eq, true, None, if◌then◌else◌};
 ghost use Rattle.ksm_base.specs.Answers.{every_row};
 ghost use Rattle.ksm_base.specs.Apply.{is_before, fresh_row as a_fresh_row, stored as with_bytes, moved as at_node, let_go as as_let_go, unshared as as_unshared};
-ghost use Rattle.ksm_base.specs.Refusals.{is_of as is_of_guest};
 ghost use Rattle.ksm_base.specs.Rows.{same_page as is_same_page, private_state, waiting_state, merged_state, zero_state, shared_state, all_zero as has_only_zeroes};
 ghost use Rattle.ksm_base.specs.State.{tree_of as row_tree};
 ghost use Rattle.ksm_base.specs.Visit.{is_for_zero as goes_to_zero};
@@ -58,12 +57,6 @@ pub(crate) fn same_bytes(a: PageBytes, b: PageBytes) -> bool
     ensures { result ≡ bytes_eq a b }
 {
     a == b
-}
-
-pub(crate) fn is_of(row: &Row, guest: u16) -> bool
-    ensures { result ≡ is_of_guest guest row.now }
-{
-    row.page.guest == guest
 }
 
 pub(crate) fn is_private(state: PageState) -> bool
@@ -200,16 +193,6 @@ pub(crate) fn let_go(row: Row) -> Row
         state: PageState::Private,
         ..row
     }
-}
-
-/// The row let go, if it is of the guest and comes before the one at which an unmerging stopped, if it did.
-pub(crate) fn let_go_before(row: Row, guest: u16, stop: Option<Row>) -> Row
-    ensures { result ≡ (if is_of_guest guest row && is_before stop row then as_let_go row else row) }
-{
-    if is_of(&row, guest) && comes_before_stop(&row, stop) {
-        return let_go(row);
-    }
-    row
 }
 
 /// The row alone and not unchanged.

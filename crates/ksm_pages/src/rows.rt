@@ -3,15 +3,15 @@
 //! With n rows, `has`, `find`, `insert`, `replace`, `revise`, `remove` and `lodge` search once, in a number of steps in
 //! the order of log n. `has_guest` does so too. `next` and `next_shared` take as many, and one for each row that they pass
 //! over, which are rows of the guest alone where one is given; `ahead` so too, and one for each of its visits. `len`,
-//! `any_mergeable` and the counts take one. `make_mergeable` searches twice for each row of the guest, and once more. All
-//! other calls walk over the rows.
+//! `any_mergeable` and the counts take one. `make_mergeable` searches twice for each row of the guest, and once more.
+//! `settle_all`, where a row waits, and `unshare_all` walk over the rows.
 
 ghost use Rattle.std.specs.Prelude.{◌≡◌, ◌<◌, ◌≤◌, [], None, Some, length, filter, find, count_by, map, insert, remove, slice_set, false, MatchOption, OnOk, OnErr, Err, is_some, true, option_map, ◌&&◌};
 ghost use Rattle.std.specs.List.{list_any};
 ghost use Rattle.std.specs.Map.Iter.{deref_pair};
 ghost use Rattle.ksm_base.specs.declared.fault.Fault.TheVariants.{Memory};
 ghost use Rattle.ksm_base.specs.Refusals.{is_of as is_of_guest};
-ghost use Rattle.ksm_base.specs.Apply.{is_before, let_go as as_let_go, unshared as as_unshared};
+ghost use Rattle.ksm_base.specs.Apply.{unshared as as_unshared};
 ghost use Rattle.ksm_base.specs.Rows.{row_at, with_row, without_page, change_row, change_rows, same_page, private_state, waiting_state, merged_state, zero_state, settled as as_settled};
 ghost use Rattle.ksm_base.specs.Visit.{after_cursor as comes_after, next_row as row_to_visit};
 ghost use Rattle.ksm_pages.specs.Listed.{rank, StandsAt, lodged};
@@ -21,10 +21,7 @@ ghost use Rattle.ksm_pages.specs.Tallied.{IsTally};
 ghost use Rattle.ksm_pages.specs.Wanted.{is_shared_of as is_shared_of_guest, is_wanted as is_a_wanted, up_to};
 
 use crate::entry::Entry;
-use crate::row::{
-    Run, Runs, Wanted, is_merged, is_private, is_waiting, is_wanted, is_zero, let_go_before, stays,
-    unshared,
-};
+use crate::row::{Run, Runs, Wanted, is_waiting, is_wanted, stays, unshared};
 use crate::tally::Tally;
 use ksm_base::{Fault, GuestPage, PageState, Row};
 use std::alloc::Global;
@@ -128,35 +125,6 @@ fn runs_along(entries: &BTreeMap<GuestPage, Entry>, cursor: Option<GuestPage>, m
     }
     runs.push(run);
     runs
-}
-
-// Counts the rows.
-fn tally_of(entries: &BTreeMap<GuestPage, Entry>) -> Tally
-    ensures { IsTally (map row_of entries.now.entries) result }
-{
-    Tally {
-        mergeable: entries.values().filter(|entry| entry.mergeable).count(),
-        merged: entries
-            .values()
-            .filter(|entry| is_merged(entry.state))
-            .count(),
-        waiting: entries
-            .values()
-            .filter(|entry| is_waiting(entry.state))
-            .count(),
-        volatile: entries
-            .values()
-            .filter(|entry| entry.mergeable && is_private(entry.state))
-            .count(),
-        pending: entries
-            .values()
-            .filter(|entry| entry.mergeable && is_waiting(entry.state))
-            .count(),
-        zero: entries
-            .values()
-            .filter(|entry| is_zero(entry.state))
-            .count(),
-    }
 }
 
 impl Rows {
@@ -442,18 +410,5 @@ impl Rows {
             true
         });
         self.tally = self.tally.unshared();
-    }
-
-    /// The rows of a guest that come before the one at which an unmerging stopped, or all of them, are alone and out of
-    /// the scan.
-    pub(crate) fn let_go(&mut self, guest: u16, stop: Option<Row>)
-        ensures rows { self.new.rows ≡ change_rows (λ r. is_of_guest guest r && is_before stop r) as_let_go self.old.rows }
-        ensures frames { self.new.frames ≡ self.old.frames }
-    {
-        self.entries.retain(|page, entry| {
-            entry.set_row(let_go_before(entry.row(*page), guest, stop));
-            true
-        });
-        self.tally = tally_of(&self.entries);
     }
 }

@@ -1,24 +1,62 @@
-use Rattle.std.proofs.Common.{get_or, rules, ◌≡◌, sym, subst, true, false}
-use Rattle.std.specs.Prelude.{All, ◌&&◌, option_map}
+use Rattle.std.proofs.Common.{◌≡◌, ◌∙◌, refl, sym, ap, subst, Some, None}
+use Rattle.std.specs.Prelude.{find, is_some}
 use Rattle.ksm_base.specs.declared.row.Row.{Row}
-use Rattle.ksm_base.specs.Apply.{is_before}
-use Rattle.ksm_base.specs.Refusals.{is_of}
-use Rattle.ksm_base.specs.Rows.{shared_state}
-use Rattle.ksm_tree.proofs.LetGo.{rows_let_go}
-use Rattle.ksm_tree.specs.Waits.{AreLetGo}
-use Rattle.ksm_pages.specs.Linked.{AreKept}
-use Rattle.ksm_pages.proofs.Linking.{linked_let_go, own_not_merged}
+use Rattle.ksm_base.specs.Apply.{let_go}
+use Rattle.ksm_base.specs.Rows.{InPageOrder, change_row, row_at}
+use Rattle.ksm_pages.specs.Linked.{PagesView}
+use Rattle.ksm_pages.proofs.GuestWalks.{begun, changed_to, fewer_left, finished, known_now, left, one_more, order_before, seen_before}
 use Rattle.ksm_pages.proofs.pages.Pages.let_go.Goals as goal
 
-pub invariant_of-self : goal.invariant_of-self
-invariant_of-self c =
-    let old = c.self.inside in
-    let test = λ (r : Row). is_of c.args.guest r && is_before c.args.stop r in
-    let alone = subst (λ v. All (λ r. test r ≡ true → shared_state r.state ≡ false) v.listed.rows) (sym c.self.view_is) c.requires in
-    let page_is : c.map.result ≡ option_map (λ (r : Row). r.page) c.args.stop = search rules in
-    let gone = subst (λ stop. AreLetGo c.args.guest stop old.waiting c.let_go-2.new.self) page_is c.let_go-2.ensures in
-    subst (λ rows. AreKept old.shape old.knobs rows old.dups c.let_go-2.new.self) (sym c.let_go.ensures.rows)
-    (record {
-      linked = linked_let_go old.shape old.rows.rows old.dups c.self.invariant.linked test (λ k d lt passes. own_not_merged (get_or old.rows.rows k d).state (alone k d lt passes));
-      waits = rows_let_go old.knobs old.rows.rows old.waiting c.let_go-2.new.self c.args.guest c.args.stop gone c.self.invariant.waits;
-    })
+pub loop-row-init : goal.loop-row-init
+loop-row-init c =
+    let old : PagesView = c.args.self.now in
+    ap (λ rows. record old { listed = record { rows = rows; frames = old.listed.frames } }) (sym (begun c.args.guest c.args.stop let_go old.listed.rows))
+
+pub revise-requires-clause-known : goal.revise-requires-clause-known
+revise-requires-clause-known c =
+    let now = c.loop-row.self.listed.rows in
+    let made = ap (λ (v : PagesView). v.listed.rows) c.loop-row.invariant in
+    let order = order_before c.args.guest c.args.stop let_go (λ r. refl) c.loop-row.last c.args.self.now.listed.rows
+    (subst InPageOrder (ap (λ (v : PagesView). v.listed.rows) c.self.view_is ∙ made) c.self.invariant.linked.order) in
+    let found = ap (λ (v : PagesView). find (left c.args.guest c.args.stop c.loop-row.last) v.listed.rows) (sym c.self.view_is) ∙ sym c.first_of.ensures ∙ c.in-Some.is in
+    ap (λ (r : Row). is_some (row_at r.page now)) c.let_go.ensures
+    ∙ ap is_some (known_now c.args.guest c.args.stop let_go (λ r. refl) c.loop-row.last c.args.self.now.listed.rows now c.in-Some.row order made found)
+
+pub revise-requires-clause-alone : goal.revise-requires-clause-alone
+revise-requires-clause-alone c = ap (λ (r : Row). r.state) c.let_go.ensures
+
+pub loop-row-preserved : goal.loop-row-preserved
+loop-row-preserved c =
+    let old : PagesView = c.args.self.now in
+    let now = c.loop-row.self.listed.rows in
+    let row = c.in-Some.row in
+    let made = ap (λ (v : PagesView). v.listed.rows) c.loop-row.invariant in
+    let order = order_before c.args.guest c.args.stop let_go (λ r. refl) c.loop-row.last old.listed.rows
+    (subst InPageOrder (ap (λ (v : PagesView). v.listed.rows) c.self.view_is ∙ made) c.self.invariant.linked.order) in
+    let found = seen_before c.args.guest c.args.stop let_go (λ r. refl) c.loop-row.last old.listed.rows now (Some row) made
+    (sym c.in-Some.is ∙ c.first_of.ensures ∙ ap (λ (v : PagesView). find (left c.args.guest c.args.stop c.loop-row.last) v.listed.rows) c.self.view_is) in
+    let rows : c.revise.new.self.listed.rows ≡ changed_to c.args.guest c.args.stop let_go (Some row.page) old.listed.rows =
+    c.revise.ensures.changed ∙ ap (λ (r : Row). change_row r.page (λ _. r) now) c.let_go.ensures ∙ ap (change_row row.page (λ _. let_go row)) made
+    ∙ one_more c.args.guest c.args.stop let_go (λ r. refl) c.loop-row.last old.listed.rows row order found in
+    let frames : c.revise.new.self.listed.frames ≡ old.listed.frames = c.revise.ensures.frames ∙ ap (λ (v : PagesView). v.listed.frames) c.loop-row.invariant in
+    c.revise.ensures.rest ∙ (λ i. record (c.loop-row.invariant i) { listed = record { rows = rows i; frames = frames i } })
+
+pub loop-row-smaller : goal.loop-row-smaller
+loop-row-smaller c =
+    let made = ap (λ (v : PagesView). v.listed.rows) c.loop-row.invariant in
+    fewer_left c.args.guest c.args.stop c.loop-row.last c.args.self.now.listed.rows c.in-Some.row
+    (seen_before c.args.guest c.args.stop let_go (λ r. refl) c.loop-row.last c.args.self.now.listed.rows c.loop-row.self.listed.rows (Some c.in-Some.row) made
+    (sym c.in-Some.is ∙ c.first_of.ensures ∙ ap (λ (v : PagesView). find (left c.args.guest c.args.stop c.loop-row.last) v.listed.rows) c.self.view_is))
+
+pub returns-clause-rows : goal.returns-clause-rows
+returns-clause-rows c =
+    let made = ap (λ (v : PagesView). v.listed.rows) c.loop-row.invariant in
+    made ∙ finished c.args.guest c.args.stop let_go (λ r. refl) c.loop-row.last c.args.self.now.listed.rows
+    (seen_before c.args.guest c.args.stop let_go (λ r. refl) c.loop-row.last c.args.self.now.listed.rows c.loop-row.self.listed.rows None made
+    (sym c.in_default.is ∙ c.first_of.ensures ∙ ap (λ (v : PagesView). find (left c.args.guest c.args.stop c.loop-row.last) v.listed.rows) c.self.view_is))
+
+pub returns-clause-frames : goal.returns-clause-frames
+returns-clause-frames c = ap (λ (v : PagesView). v.listed.frames) c.loop-row.invariant
+
+pub returns-clause-rest : goal.returns-clause-rest
+returns-clause-rest c = c.loop-row.invariant ∙ sym (ap (λ (v : PagesView). record c.args.self.now { listed = v.listed }) c.loop-row.invariant)
