@@ -27,10 +27,7 @@ fn one_page_waits_for_each_content(rt: HostRuntime) -> Result<(), Fail> {
     waiting.remove(0, &bytes(7));
     assert_eq!(rt; waiting.find(0, &bytes(7)), None);
     waiting.add(1, &bytes(7), page(2))?;
-    waiting.let_go(3, Some(page(2)));
     assert_eq!(rt; waiting.find(1, &bytes(7)), Some(page(2)));
-    waiting.let_go(3, Some(page(3)));
-    assert_eq!(rt; waiting.find(1, &bytes(7)), None);
     waiting.clear();
     assert_eq!(rt; waiting.find(1, &bytes(7)), None);
     Ok(())

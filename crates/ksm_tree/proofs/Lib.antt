@@ -6,7 +6,6 @@ pub mod Counts
 pub mod Grouped
 pub mod Indexed
 pub mod Keys
-pub mod LetGo
 pub mod Made
 pub mod Numbers
 pub mod OneSlot

@@ -1,9 +1,9 @@
 -- The waiting pages, by tree and bytes (mm/ksm: the unstable tree; that one page waits for each content is own).
-use Rattle.std.specs.Prelude.{◌≡◌, ℕ, Bool, true, false, ◌&&◌, ◌==◌, List, find, option_map, Option, None, Some, bytes_eq, if◌then◌else◌}
+use Rattle.std.specs.Prelude.{◌≡◌, ℕ, Bool, false, ◌&&◌, ◌==◌, List, find, option_map, Option, None, Some, bytes_eq, if◌then◌else◌}
 use Rattle.ksm_base.specs.declared.knobs.Knobs.{Knobs}
 use Rattle.ksm_base.specs.declared.page.GuestPage.{GuestPage}
 use Rattle.ksm_base.specs.declared.row.Row.{Row}
-use Rattle.ksm_base.specs.Rows.{comes_before, row_at, same_page, waiting_state}
+use Rattle.ksm_base.specs.Rows.{row_at, same_page, waiting_state}
 use Rattle.ksm_base.specs.State.{tree_of}
 use Rattle.ksm_tree.specs.declared.content.Content.{Content}
 
@@ -36,20 +36,6 @@ IsRemoved tree bytes old new = (t : ℕ) (b : List ℕ) → waiting_page t b new
 -- the new waiting pages are the old ones, but for that of a row if it waits
 abbrev pub IsStopped : Knobs → Row → List WaitingPage → List WaitingPage → Type 0
 IsStopped knobs row old new = (t : ℕ) (b : List ℕ) → waiting_page t b new ≡ (if waiting_state row.state && (t == tree_of knobs row && bytes_eq b row.bytes) then None else waiting_page t b old)
-
--- whether a page comes before the one at which an unmerging stopped, or it didn't stop
-abbrev pub is_ahead : Option GuestPage → GuestPage → Bool
-is_ahead None page = true
-is_ahead (Some stop) page = comes_before page stop
-
--- the page that waits, if an unmerging of a guest doesn't let it go
-abbrev pub unless_let_go : ℕ → Option GuestPage → Option GuestPage → Option GuestPage
-unless_let_go guest stop None = None
-unless_let_go guest stop (Some page) = if page.guest == guest && is_ahead stop page then None else Some page
-
--- the new waiting pages are the old ones, but for those of a guest that an unmerging lets go
-abbrev pub AreLetGo : ℕ → Option GuestPage → List WaitingPage → List WaitingPage → Type 0
-AreLetGo guest stop old new = (t : ℕ) (b : List ℕ) → waiting_page t b new ≡ unless_let_go guest stop (waiting_page t b old)
 
 -- whether a page is the one that waits
 abbrev pub names : GuestPage → Option GuestPage → Bool

@@ -1,5 +1,5 @@
-ghost use Rattle.std.specs.Prelude.{◌≡◌, ◌&&◌, ◌==◌, [], None, IfErr, OnOk, OnErr};
-ghost use Rattle.ksm_tree.specs.Waits.{AreLetGo, IsAdded, IsRemoved, is_ahead, waiting_page};
+ghost use Rattle.std.specs.Prelude.{◌≡◌, [], None, IfErr, OnOk, OnErr};
+ghost use Rattle.ksm_tree.specs.Waits.{IsAdded, IsRemoved, waiting_page};
 
 use crate::content::Content;
 use ksm_base::{Fault, GuestPage, PageBytes};
@@ -9,9 +9,9 @@ use std::marker::Model;
 
 /// The pages that wait for an equal one: at most one of each tree and bytes (mm/ksm, the unstable tree).
 ///
-/// `find`, `add` and `remove` cost a hash and a comparison, in the mean; an `add` that finds no room left moves all of them. `let_go` and
-/// `clear` cost the number of the most that waited at once. The hash has a fixed seed: where contents were picked that collide, a look-up
-/// costs a comparison for each.
+/// `find`, `add` and `remove` cost a hash and a comparison, in the mean; an `add` that finds no room left moves all of them. `clear` costs
+/// the number of the most that waited at once. The hash has a fixed seed: where contents were picked that collide, a look-up costs a
+/// comparison for each.
 #[derive(Drop)]
 pub struct Waiting {
     pages: HashMap<Content, GuestPage>,
@@ -24,17 +24,6 @@ impl Model for Waiting {
     ghost Value = { List WaitingPage };
 
     ghost view = { λ w. map waiting_at w.pages.entries };
-}
-
-// Whether a page is of a guest, and before the one at which an unmerging stopped, if it did.
-fn goes(page: GuestPage, guest: u16, stop: Option<GuestPage>) -> bool
-    ensures { result ≡ (page.guest == guest && is_ahead stop page) }
-{
-    let reached = match stop {
-        None => true,
-        Some(stop) => page < stop,
-    };
-    page.guest == guest && reached
 }
 
 impl Waiting {
@@ -70,13 +59,6 @@ impl Waiting {
         ensures { IsRemoved tree bytes.now self.old self.new }
     {
         self.pages.remove(&Content::of(tree, bytes));
-    }
-
-    /// The waiting pages of a guest that come before the one at which an unmerging stopped, or all of them, wait no more.
-    pub fn let_go(&mut self, guest: u16, stop: Option<GuestPage>)
-        ensures { AreLetGo guest stop self.old self.new }
-    {
-        self.pages.retain(|_, page| !goes(*page, guest, stop));
     }
 
     /// No page waits any more.

@@ -6,12 +6,10 @@ ghost use Rattle.ksm_base.specs.declared.knobs.Knobs.{Knobs};
 ghost use Rattle.ksm_base.specs.declared.page.GuestPage.{GuestPage};
 ghost use Rattle.ksm_base.specs.declared.row.PageState.TheVariants.{Waiting};
 ghost use Rattle.ksm_base.specs.declared.row.Row.{Row};
-ghost use Rattle.ksm_base.specs.Apply.{is_before, let_go as as_let_go};
-ghost use Rattle.ksm_base.specs.Refusals.{is_of};
 ghost use Rattle.ksm_base.specs.Rows.{change_row, change_rows, InPageOrder, row_at, same_page, waiting_state, with_row, without_page};
 ghost use Rattle.ksm_base.specs.State.{tree_of};
 ghost use Rattle.ksm_base.specs.Visit.{partner as row_waiting};
-ghost use Rattle.ksm_tree.specs.Waits.{AreLetGo, AreWaiting, IsAdded, IsAlike, IsRemoved, IsStopped, names, waiting_page, waits_there, WaitingPage};
+ghost use Rattle.ksm_tree.specs.Waits.{AreWaiting, IsAdded, IsAlike, IsRemoved, IsStopped, names, waiting_page, waits_there, WaitingPage};
 
 /// What a look-up tells of the rows.
 pub fn look_up_finds_the_row()
@@ -60,9 +58,6 @@ pub fn all_rows_change()
         → AreWaiting knobs rows waiting → AreWaiting knobs (map change rows) waiting }
     ensures changed { (knobs : Knobs) (rows : List Row) (waiting : List WaitingPage) (test : Row → Bool) (change : Row → Row) → All (λ r. test r ≡ true → IsAlike r (change r)) rows
         → AreWaiting knobs rows waiting → AreWaiting knobs (change_rows test change rows) waiting }
-    ensures let_go { (knobs : Knobs) (rows : List Row) (waiting new : List WaitingPage) (guest : ℕ) (stop : Option Row)
-        → AreLetGo guest (option_map (λ r. r.page) stop) waiting new → AreWaiting knobs rows waiting
-        → AreWaiting knobs (change_rows (λ r. is_of guest r && is_before stop r) as_let_go rows) new }
     ensures tuned { (knobs tuned : Knobs) (rows : List Row) (waiting : List WaitingPage) → tuned.merge_across_nodes ≡ knobs.merge_across_nodes
         → AreWaiting knobs rows waiting → AreWaiting tuned rows waiting }
 {}

@@ -1,4 +1,3 @@
-use Rattle.ksm_tree.proofs.LetGo.{rows_let_go}
 use Rattle.ksm_tree.proofs.Waiters.{none_waiting, rows_mapped, rows_changed, knobs_tuned}
 use Rattle.ksm_tree.proofs.waiting_laws.all_rows_change.Goals as goal
 
@@ -13,6 +12,3 @@ returns-clause-changed c knobs rows waiting test change alike are = rows_changed
 
 pub returns-clause-tuned : goal.returns-clause-tuned
 returns-clause-tuned c knobs tuned rows waiting same are = knobs_tuned knobs rows waiting are tuned same
-
-pub returns-clause-let_go : goal.returns-clause-let_go
-returns-clause-let_go c knobs rows waiting new guest stop gone are = rows_let_go knobs rows waiting new guest stop gone are
