@@ -6,7 +6,7 @@ pub type PageBytes = [u64; PAGE_WORDS];
 
 /// A page of a guest, in the order of guests, then of pages (own; in admin-guide/mm/ksm a page of an area that a program
 /// marked mergeable).
-#[derive(Clone, Copy, Debug, PartialEq, Eq, PartialOrd, Ord, Default)]
+#[derive(Clone, Copy, Debug, PartialEq, Eq, PartialOrd, Ord, Hash, Default)]
 pub struct GuestPage {
     /// The guest, 0 to 65,535.
     pub guest: u16,

@@ -1,19 +1,26 @@
 -- What was found of the rows after the cursor stays true while none of them changes.
-use Rattle.std.proofs.Common.{◌≡◌, ℕ, zero, suc, ◌-◌, Bool, true, false, cond, List, [], ◌∷◌, Option, Some, None, refl, sym, ap, ◌∙◌, subst, arith}
-use Rattle.std.specs.Prelude.{◌&&◌, ◌||◌, IfSome, MatchOption, filter, find, is_some, nat_lt}
-use Rattle.std.proofs.lemmas.Bool.{and_parts}
+use Rattle.std.proofs.Common.{inl, inr, ◌⊎◌, ◌≡◌, ℕ, zero, suc, ◌-◌, Bool, true, false, cond, List, [], ◌∷◌, get_or, Option, Some, None, refl, sym, ap, ◌∙◌, subst, arith}
+use Rattle.std.specs.Prelude.{◌&&◌, ◌||◌, ⊤, All as Each, IfSome, MatchOption, filter, find, map, option_map, slice_get, is_some, is_none, nat_lt}
+use Rattle.std.proofs.lemmas.Bool.{and_parts, cond_both}
 use Rattle.std.proofs.lemmas.Bool.Decides.{nat_tests}
+use Rattle.std.proofs.lemmas.List.Elements.{All-head, All-tail}
+use Rattle.std.proofs.lemmas.Option.{same_Some}
 use Rattle.ksm_base.specs.declared.page.GuestPage.{GuestPage}
+use Rattle.ksm_base.specs.declared.row.PageState.{PageState}
+use Rattle.ksm_base.specs.declared.row.PageState.TheVariants.{Private, Waiting, Merged, Zero}
 use Rattle.ksm_base.specs.declared.row.Row.{Row}
-use Rattle.ksm_base.specs.Rows.{comes_before, same_page, change_row}
-use Rattle.ksm_base.specs.State.{BookState}
-use Rattle.ksm_base.specs.Visit.{next_row, visit_begun}
-use Rattle.ksm_base.proofs.Edits.{find_passes}
+use Rattle.ksm_base.specs.Rows.{InPageOrder, comes_before, same_page, row_at, change_row, settled, settled_state, shared_state}
+use Rattle.ksm_base.specs.State.{BookState, pass_ended, with_none_waiting}
+use Rattle.ksm_base.specs.Visit.{after_cursor, next_row, pass_begun, pass_ended_at_last, visit_begun}
+use Rattle.ksm_base.proofs.Edits.{find_all, find_passes}
 use Rattle.ksm_base.proofs.Pages.{before_irrefl, same_page_eq}
+use Rattle.ksm_base.proofs.RowCounts.{each_at_page}
 use Rattle.ksm_pages.specs.declared.row.Run.{Run}
-use Rattle.ksm_pages.specs.Scanned.{AreAhead, AreKeptAfter, GoesOnAt, IsLeft, IsRun, IsUnderWay, moved_to, cursor_after}
+use Rattle.ksm_pages.specs.Scanned.{AreAhead, AreKeptAfter, AreRuns, GoesOnAt, IsLeft as IsLeftOver, IsRun, IsUnderWay, RunsOver, mark, moved_to, page_of, cursor_after}
 use Rattle.ksm_book.specs.declared.scan.Ahead.{Ahead}
-use Rattle.ksm_book.specs.Gathered.{IsAhead}
+use Rattle.ksm_book.specs.declared.scan.Remains.{Remains}
+use Rattle.ksm_book.specs.declared.scan.Remains.TheVariants.{All, Behind, Nothing}
+use Rattle.ksm_book.specs.Gathered.{GoesOnAtPage, IsAhead, IsKnown, IsLeft, Remain, behind}
 use Rattle.ksm_book.proofs.Passing.{begins_none}
 
 -- ---------------------------------------------------------------- a change of one row
@@ -41,7 +48,72 @@ kept_other p q new (r ∷ rows) apart at = by (same_page r.page q) refl (kept_ot
 pub kept_row : (row new : Row) (rows : List Row) → new.page ≡ row.page → AreKeptAfter row.page rows (change_row row.page (λ _. new) rows)
 kept_row row new rows at = kept_other row.page row.page new rows (before_irrefl row.page) at
 
--- ---------------------------------------------------------------- what was found
+-- ---------------------------------------------------------------- two lists of rows along which the scan goes one way
+
+-- rows of one page that stay or not alike, or none
+abbrev Alike : Option Row → Option Row → Type 0
+Alike a b = option_map mark a ≡ option_map mark b
+
+page_marked : (a : Option Row) → option_map (λ (m : GuestPage × (Bool × Bool)). m.0) (option_map mark a) ≡ page_of a
+page_marked None = refl
+page_marked (Some r) = refl
+
+page_alike : (a b : Option Row) → Alike a b → page_of a ≡ page_of b
+page_alike a b alike = sym (page_marked a) ∙ ap (option_map (λ (m : GuestPage × (Bool × Bool)). m.0)) alike ∙ page_marked b
+
+moved_page : (at : Option GuestPage) (a : Option Row) (page : GuestPage) → page_of a ≡ Some page → moved_to at a ≡ Some page
+moved_page at None page is = absurd (grind (arith, ap is_some is))
+moved_page at (Some r) page is = is
+
+moved_alike : (at : Option GuestPage) (a b : Option Row) → Alike a b → moved_to at a ≡ moved_to at b
+moved_alike at a None alike = by a (page_alike a None alike)
+  where
+    by : (a : Option Row) → page_of a ≡ None → moved_to at a ≡ at
+    by None is = refl
+    by (Some r) is = absurd (grind (arith, ap is_some is))
+moved_alike at a (Some s) alike = moved_page at a s.page (page_alike a (Some s) alike)
+
+left_alike : (a b : Option Row) → Alike a b → IsLeftOver b → IsLeftOver a
+left_alike a None alike left = absurd left
+left_alike None (Some s) alike left = absurd (grind (arith, ap is_some alike))
+left_alike (Some r) (Some s) alike left = ap (λ (m : GuestPage × (Bool × Bool)). m.1.1) (same_Some (mark r) (mark s) alike) ∙ left
+
+module _ (old new : List Row) (From : Option GuestPage → Type 0) (alike : (cursor : Option GuestPage) → From cursor → Alike (next_row cursor new) (next_row cursor old))
+    (onward : (cursor : Option GuestPage) → From cursor → From (moved_to cursor (next_row cursor old))) where
+  kept_cursor : (k : ℕ) (cursor : Option GuestPage) → From cursor → (cursor_after k cursor new ≡ cursor_after k cursor old) × From (cursor_after k cursor old)
+  kept_cursor zero cursor from = (refl, from)
+  kept_cursor (suc k) cursor from =
+      let before = kept_cursor k cursor from in
+      let at = cursor_after k cursor old in
+      (ap (λ (c : Option GuestPage). moved_to c (next_row c new)) before.0 ∙ moved_alike at (next_row at new) (next_row at old) (alike at before.1), onward at before.1)
+
+  kept_over : (cursor : Option GuestPage) (run : Run) → From cursor → RunsOver old cursor run → RunsOver new cursor run
+  kept_over cursor run from over =
+      let at = kept_cursor run.visits cursor from in
+      record {
+        left = λ k lt. let before = kept_cursor k cursor from in
+            left_alike _ _ (ap (λ (c : Option GuestPage). option_map mark (next_row c new)) before.0 ∙ alike (cursor_after k cursor old) before.1) (over.left k lt);
+        last = over.last ∙ sym at.0;
+        next = over.next ∙ sym (page_alike _ _ (alike run.last (subst From (sym over.last) at.1)));
+      }
+
+  kept_runs : (cursor : Option GuestPage) (runs : List Run) → From cursor → AreRuns old cursor runs → AreRuns new cursor runs
+  kept_runs cursor [] from are = tt
+  kept_runs cursor (run ∷ runs) from (over, on) =
+      (kept_over cursor run from over, by run.next refl on (λ page. kept_runs (Some page) runs))
+    where
+      from_page : (page : GuestPage) → run.next ≡ Some page → From (Some page)
+      from_page page next =
+          let last = subst From (sym over.last) (kept_cursor run.visits cursor from).1 in
+          subst From (moved_page run.last (next_row run.last old) page (sym over.next ∙ next)) (onward run.last last)
+
+      by : (o : Option GuestPage) → run.next ≡ o → MatchOption o (runs ≡ []) (λ page. AreRuns old (Some page) runs)
+          → ((page : GuestPage) → From (Some page) → AreRuns old (Some page) runs → AreRuns new (Some page) runs)
+          → MatchOption o (runs ≡ []) (λ page. AreRuns new (Some page) runs)
+      by None is none rest = none
+      by (Some page) is are rest = rest page (from_page page is) are
+
+-- ---------------------------------------------------------------- the rows after a page are the same
 
 -- a cursor that does not stand before p
 abbrev pub IsFrom : GuestPage → Option GuestPage → Type 0
@@ -87,97 +159,192 @@ module _ (p : GuestPage) (old new : List Row) (kept : AreKeptAfter p old new) wh
   from_moved cursor None found from = from
   from_moved cursor (Some row) found from = from_next cursor row from found
 
-  kept_cursor : (k : ℕ) (cursor : Option GuestPage) → IsFrom p cursor → (cursor_after k cursor new ≡ cursor_after k cursor old) × IsFrom p (cursor_after k cursor old)
-  kept_cursor zero cursor from = (refl, from)
-  kept_cursor (suc k) cursor from =
-      let before = kept_cursor k cursor from in
-      let at = cursor_after k cursor old in
-      (ap (λ (c : Option GuestPage). moved_to c (next_row c new)) before.0 ∙ ap (moved_to at) (kept_next at before.1), from_moved at (next_row at old) refl before.1)
+  pub kept_behind : (runs : List Run) → AreRuns old (Some p) runs → AreRuns new (Some p) runs
+  kept_behind runs are = kept_runs old new (IsFrom p) (λ cursor from. ap (option_map mark) (kept_next cursor from)) (λ cursor from. from_moved cursor (next_row cursor old) refl from)
+      (Some p) runs (from_itself p) are
 
-  kept_run : (n : ℕ) (cursor : Option GuestPage) (run : Run) → IsFrom p cursor → IsRun n old cursor run → IsRun n new cursor run
-  kept_run n cursor run from is =
-      let at = kept_cursor run.visits cursor from in
-      record {
-        over = record {
-          left = λ k lt. let before = kept_cursor k cursor from in
-              subst IsLeft (sym (ap (λ (c : Option GuestPage). next_row c new) before.0 ∙ kept_next (cursor_after k cursor old) before.1)) (is.over.left k lt);
-          last = is.over.last ∙ sym at.0;
-          next = is.over.next ∙ sym (kept_next run.last (subst (IsFrom p) (sym is.over.last) at.1));
-        };
-        most = is.most;
-        longest = is.longest;
-      }
+-- ---------------------------------------------------------------- each row is visited or not as before, and stays or not
 
-  pub kept_ahead : (n : ℕ) (cursor : Option GuestPage) (runs : List Run) → IsFrom p cursor → AreAhead n old cursor runs → AreAhead n new cursor runs
-  kept_ahead n cursor [] from are = tt
-  kept_ahead n cursor (run ∷ runs) from (is, on) =
-      (kept_run n cursor run from is, by run.next refl on (λ row. kept_ahead (n - run.visits - 1) (Some row.page) runs))
+next_marked : (cursor : Option GuestPage) (rows : List Row)
+    → option_map mark (next_row cursor rows) ≡ find (λ (m : GuestPage × (Bool × Bool)). m.1.0 && after_cursor cursor m.0) (map mark rows)
+next_marked cursor [] = refl
+next_marked cursor (r ∷ rows) = by (r.mergeable && after_cursor cursor r.page) (next_marked cursor rows)
+  where
+    by : {o : Option (GuestPage × (Bool × Bool))} (b : Bool) → option_map mark (next_row cursor rows) ≡ o → option_map mark (cond b (Some r) (next_row cursor rows)) ≡ cond b (Some (mark r)) o
+    by true rest = refl
+    by false rest = rest
+
+module _ (old new : List Row) (same : map mark new ≡ map mark old) where
+  kept_marked : (cursor : Option GuestPage) (runs : List Run) → AreRuns old cursor runs → AreRuns new cursor runs
+  kept_marked cursor runs are =
+      kept_runs old new (λ c. ⊤)
+      (λ c from. next_marked c new ∙ ap (find (λ (m : GuestPage × (Bool × Bool)). m.1.0 && after_cursor c m.0)) same ∙ sym (next_marked c old)) (λ c from. tt)
+      cursor runs tt are
+
+  known_marked : (ahead : Ahead) → IsKnown old ahead → IsKnown new ahead
+  known_marked ahead known = (known.0, by ahead.from known.1)
     where
-      by : (o : Option Row) → run.next ≡ o → MatchOption o (runs ≡ []) (λ r. AreAhead (n - run.visits - 1) old (Some r.page) runs)
-          → ((row : Row) → IsFrom p (Some row.page) → AreAhead (n - run.visits - 1) old (Some row.page) runs → AreAhead (n - run.visits - 1) new (Some row.page) runs)
-          → MatchOption o (runs ≡ []) (λ r. AreAhead (n - run.visits - 1) new (Some r.page) runs)
-      by None found none rest = none
-      by (Some row) found are rest =
-          rest row (from_next run.last row (subst (IsFrom p) (sym is.over.last) (kept_cursor run.visits cursor from).1) (sym is.over.next ∙ found)) are
+      by : (o : Option GuestPage) → IfSome o (λ page. AreRuns old (Some page) ahead.found.items) → IfSome o (λ page. AreRuns new (Some page) ahead.found.items)
+      by None are = tt
+      by (Some page) are = kept_marked (Some page) ahead.found.items are
 
-  pub kept_behind : (n : ℕ) (runs : List Run) → AreAhead n old (Some p) runs → AreAhead n new (Some p) runs
-  kept_behind n runs are = kept_ahead n (Some p) runs (from_itself p) are
+change_marks : (page : GuestPage) (new : Row) (rows : List Row) → Each (λ r. same_page r.page page ≡ true → mark r ≡ mark new) rows
+    → map mark (change_row page (λ _. new) rows) ≡ map mark rows
+change_marks page new [] each = refl
+change_marks page new (r ∷ rows) each = λ t. by (same_page r.page page) (All-head P r rows each) t ∷ change_marks page new rows (All-tail P r rows each) t
+  where
+    P : Row → Type 0
+    P x = same_page x.page page ≡ true → mark x ≡ mark new
 
--- ---------------------------------------------------------------- the first run
+    by : (b : Bool) → (b ≡ true → mark r ≡ mark new) → mark (cond b new r) ≡ mark r
+    by true is = sym (is refl)
+    by false is = refl
+
+-- a row has another in its stead that is visited or not, and stays or not, as it did
+pub marks_row : (row new : Row) (rows : List Row) → InPageOrder rows → row_at row.page rows ≡ Some row → mark new ≡ mark row → map mark (change_row row.page (λ _. new) rows) ≡ map mark rows
+marks_row row new rows rise found same = change_marks row.page new rows (λ k d lt at. alike (get_or rows k d) (each_at_page rows rise k d lt) at)
+  where
+    alike : (r : Row) → row_at r.page rows ≡ Some r → same_page r.page row.page ≡ true → mark r ≡ mark new
+    alike r is at = ap mark (same_Some r row (sym (ap (λ p. row_at p rows) (sym (same_page_eq r.page row.page at)) ∙ is) ∙ found)) ∙ sym same
+
+marks_settled : (rows : List Row) → map mark (map settled rows) ≡ map mark rows
+marks_settled [] = refl
+marks_settled (r ∷ rows) = λ t. (r.page, (r.mergeable, same r.state t)) ∷ marks_settled rows t
+  where
+    same : (s : PageState) → shared_state (settled_state s) ≡ shared_state s
+    same Private = refl
+    same Waiting = refl
+    same (Merged d) = refl
+    same Zero = refl
+
+marks_begun : (b : BookState) → map mark (visit_begun b).rows ≡ map mark b.rows
+marks_begun b =
+    begins (pass_ended_at_last b)
+    ∙ cond_both (is_some b.cursor && is_none (next_row b.cursor b.rows)) (pass_ended b) b (λ (x : BookState). map mark x.rows ≡ map mark b.rows) (λ _. refl) (λ _. refl)
+  where
+    begins : (x : BookState) → map mark (pass_begun x).rows ≡ map mark x.rows
+    begins x = cond_both (is_none x.cursor) (with_none_waiting x) x (λ (y : BookState). map mark y.rows ≡ map mark x.rows) (λ _. marks_settled x.rows) (λ _. refl)
+
+pub known_begun : (b begun : BookState) (ahead : Ahead) → IsKnown b.rows ahead → begun ≡ visit_begun b → IsKnown begun.rows ahead
+known_begun b begun ahead known is = known_marked b.rows begun.rows (ap (λ (x : BookState). map mark x.rows) is ∙ marks_begun b) ahead known
+
+-- ---------------------------------------------------------------- runs that were found
+
+some_page : (o : Option Row) → is_some (page_of o) ≡ is_some o
+some_page None = refl
+some_page (Some r) = refl
 
 -- whether the pass goes on
-pub run_goes_on : (n : ℕ) (rows : List Row) (cursor : Option GuestPage) (run : Run) → IsRun n rows cursor run
-    → is_some (next_row cursor rows) ≡ (nat_lt 0 run.visits || is_some run.next)
-run_goes_on n rows cursor run is = by run.visits refl
+pub run_goes_on : (rows : List Row) (cursor : Option GuestPage) (run : Run) → RunsOver rows cursor run → is_some (next_row cursor rows) ≡ (nat_lt 0 run.visits || is_some run.next)
+run_goes_on rows cursor run over = by run.visits refl
   where
-    left_some : (o : Option Row) → IsLeft o → is_some o ≡ true
+    left_some : (o : Option Row) → IsLeftOver o → is_some o ≡ true
     left_some None left = absurd left
     left_some (Some r) left = refl
 
     by : (k : ℕ) → run.visits ≡ k → is_some (next_row cursor rows) ≡ (nat_lt 0 k || is_some run.next)
-    by zero none = ap (λ (c : Option GuestPage). is_some (next_row c rows)) (sym (is.over.last ∙ ap (λ m. cursor_after m cursor rows) none)) ∙ ap is_some (sym is.over.next)
+    by zero none = ap (λ (c : Option GuestPage). is_some (next_row c rows)) (sym (over.last ∙ ap (λ m. cursor_after m cursor rows) none)) ∙ sym (some_page (next_row run.last rows))
+        ∙ ap is_some (sym over.next)
     by (suc k) some =
         let passes : nat_lt 0 (suc k) ≡ true = grind (arith, nat_tests) in
-        left_some (next_row cursor rows) (is.over.left 0 (omega (arith, some))) ∙ sym (ap (λ b. b || is_some run.next) passes)
+        left_some (next_row cursor rows) (over.left 0 (omega (arith, some))) ∙ sym (ap (λ b. b || is_some run.next) passes)
 
 -- what is left of a run once its visits were made
-pub run_passed : (n : ℕ) (rows : List Row) (cursor : Option GuestPage) (run : Run) (runs : List Run) → AreAhead n rows cursor (run ∷ runs)
-    → AreAhead (n - run.visits) rows run.last (record run { visits = 0 } ∷ runs)
-run_passed n rows cursor run runs (is, on) = (
-  record {
-    over = record { left = λ k lt. absurd (omega (arith, lt)); last = refl; next = is.over.next };
-    most = omega arith;
-    longest = λ less. is.longest (omega (arith, less));
-  },
-  subst (λ k. MatchOption run.next (runs ≡ []) (λ r. AreAhead k rows (Some r.page) runs)) same on,
-)
-  where
-    same : n - run.visits - 1 ≡ n - run.visits - 0 - 1
-    same = omega arith
+pub run_passed : (rows : List Row) (cursor : Option GuestPage) (run : Run) (runs : List Run) → AreRuns rows cursor (run ∷ runs) → AreRuns rows run.last (record run { visits = 0 } ∷ runs)
+run_passed rows cursor run runs (over, on) = (record { left = λ k lt. absurd (omega (arith, lt)); last = refl; next = over.next }, on)
 
--- the row at which the pass goes on, where the run has no visit before it
-pub run_at_row : (n : ℕ) (b : BookState) (run : Run) (row : Row) → is_some b.cursor ≡ true → IsRun n b.rows b.cursor run → run.visits ≡ 0 → run.next ≡ Some row → GoesOnAt b row
-run_at_row n b run row some is none next =
-    (some, ap (λ (c : Option GuestPage). next_row c b.rows) (sym (is.over.last ∙ ap (λ m. cursor_after m b.cursor b.rows) none)) ∙ sym is.over.next ∙ next)
+-- the page at which the pass goes on, where the run has no visit before it
+pub run_at_page : (b : BookState) (run : Run) (page : GuestPage) → is_some b.cursor ≡ true → RunsOver b.rows b.cursor run → run.visits ≡ 0 → run.next ≡ Some page → GoesOnAtPage b page
+run_at_page b run page some over none next =
+    (some, ap (λ (c : Option GuestPage). page_of (next_row c b.rows)) (sym (over.last ∙ ap (λ m. cursor_after m b.cursor b.rows) none)) ∙ sym over.next ∙ next)
 
 some_row : (o : Option Row) → is_some o ≡ true → (r : Row) × (o ≡ Some r)
 some_row None is = absurd (grind (arith, is))
 some_row (Some r) is = (r, refl)
 
--- the runs behind the row that is visited
-pub behind_ahead : (n : ℕ) (b begun : BookState) (ahead : Ahead) (row : Row) → IsAhead n b ahead → IfSome ahead.run (λ run. run.visits ≡ 0) → begun ≡ visit_begun b
-    → next_row begun.cursor begun.rows ≡ Some row → AreAhead (n - 1) begun.rows (Some row.page) ahead.behind
-behind_ahead n b begun ahead row are none is next = by ahead.run are none
+-- the row of the page at which the pass goes on
+pub row_there : (b : BookState) (page : GuestPage) → InPageOrder b.rows → GoesOnAtPage b page → row_at page b.rows ≡ next_row b.cursor b.rows
+row_there b page rise (some, is) = by (next_row b.cursor b.rows) refl is
   where
-    by : (o : Option Run) → MatchOption o (ahead.behind ≡ []) (λ run. IsUnderWay b × AreAhead n b.rows b.cursor (run ∷ ahead.behind)) → IfSome o (λ run. run.visits ≡ 0)
-        → AreAhead (n - 1) begun.rows (Some row.page) ahead.behind
-    by None nothing none = subst (AreAhead (n - 1) begun.rows (Some row.page)) (sym nothing) tt
-    by (Some run) (under_way, (runs, on)) none =
+    by : (o : Option Row) → next_row b.cursor b.rows ≡ o → page_of o ≡ Some page → row_at page b.rows ≡ o
+    by None found is = absurd (grind (arith, ap is_some is))
+    by (Some r) found is =
+        ap (λ p. row_at p b.rows) (sym (same_Some r.page page is))
+        ∙ find_all (λ x. x.mergeable && after_cursor b.cursor x.page) (λ x. row_at x.page b.rows ≡ Some x) b.rows r found (each_at_page b.rows rise)
+
+pub goes_on_at : (b : BookState) (page : GuestPage) → GoesOnAtPage b page → (row : Row) × GoesOnAt b row
+goes_on_at b page (some, is) = let found = some_row (next_row b.cursor b.rows) (sym (some_page (next_row b.cursor b.rows)) ∙ ap is_some is) in (found.0, (some, found.1))
+
+-- the runs behind the row that is visited
+pub behind_ahead : (b begun : BookState) (ahead : Ahead) (row : Row) → IsAhead b ahead → IfSome ahead.run (λ run. run.visits ≡ 0) → begun ≡ visit_begun b
+    → next_row begun.cursor begun.rows ≡ Some row → AreRuns begun.rows (Some row.page) (behind ahead)
+behind_ahead b begun ahead row are none is next = by ahead.run are.0 none
+  where
+    by : (o : Option Run) → MatchOption o (behind ahead ≡ []) (λ run. IsUnderWay b × AreRuns b.rows b.cursor (run ∷ behind ahead)) → IfSome o (λ run. run.visits ≡ 0)
+        → AreRuns begun.rows (Some row.page) (behind ahead)
+    by None nothing none = subst (AreRuns begun.rows (Some row.page)) (sym nothing) tt
+    by (Some run) (under_way, (over, on)) none =
         let found = some_row (next_row b.cursor b.rows) under_way.1 in
         let same : begun ≡ b = is ∙ begins_none b found.0 (under_way.0, found.1) in
-        let at : run.next ≡ Some row = runs.over.next ∙ ap (λ (c : Option GuestPage). next_row c b.rows) (runs.over.last ∙ ap (λ m. cursor_after m b.cursor b.rows) none)
-        ∙ ap (λ (x : BookState). next_row x.cursor x.rows) (sym same) ∙ next in
-        let behind : AreAhead (n - run.visits - 1) b.rows (Some row.page) ahead.behind =
-        subst (λ (o : Option Row). MatchOption o (ahead.behind ≡ []) (λ r. AreAhead (n - run.visits - 1) b.rows (Some r.page) ahead.behind)) at on in
-        let left : n - run.visits - 1 ≡ n - 1 = omega (arith, none) in
-        subst (λ (x : ℕ × BookState). AreAhead x.0 x.1.rows (Some row.page) ahead.behind) (λ t. (left t, sym same t)) behind
+        let at : run.next ≡ Some row.page = over.next ∙ ap (λ (c : Option GuestPage). page_of (next_row c b.rows)) (over.last ∙ ap (λ m. cursor_after m b.cursor b.rows) none)
+        ∙ ap (λ (x : BookState). page_of (next_row x.cursor x.rows)) (sym same) ∙ ap page_of next in
+        let behind_it : AreRuns b.rows (Some row.page) (behind ahead) =
+        subst (λ (o : Option GuestPage). MatchOption o (behind ahead ≡ []) (λ page. AreRuns b.rows (Some page) (behind ahead))) at on in
+        subst (λ (x : BookState). AreRuns x.rows (Some row.page) (behind ahead)) (sym same) behind_it
+
+-- what is known once a page was visited
+pub left_known : (remains : Remains) (page : GuestPage) (old new : List Row) (before after : Ahead) → Remain remains page old new → IsLeft remains before after
+    → AreRuns old (Some page) (behind before) → IsKnown old before → AreRuns new (Some page) (behind after) × IsKnown new after
+left_known All page old new before after same left runs known =
+    subst (λ (a : Ahead). AreRuns new (Some page) (behind a) × IsKnown new a) (sym left) (kept_marked old new same (Some page) (behind before) runs, known_marked old new same before known)
+left_known Behind page old new before after kept left runs known =
+    (subst (AreRuns new (Some page)) (sym left.0) (kept_behind page old new kept (behind before) runs), (left.1, subst (λ o. IfSome o (λ p. AreRuns new (Some p) after.found.items)) (sym left.2) tt))
+left_known Nothing page old new before after kept left runs known =
+    (subst (AreRuns new (Some page)) (sym left.0) tt, (left.1, subst (λ o. IfSome o (λ p. AreRuns new (Some p) after.found.items)) (sym left.2) tt))
+
+-- runs that are found for some visits are runs
+pub ahead_runs : (n : ℕ) (rows : List Row) (cursor : Option GuestPage) (runs : List Run) → AreAhead n rows cursor runs → AreRuns rows cursor runs
+ahead_runs n rows cursor [] are = tt
+ahead_runs n rows cursor (run ∷ runs) (is, on) = (is.over, by run.next on (λ page. ahead_runs (n - run.visits - 1) rows (Some page) runs))
+  where
+    by : (o : Option GuestPage) → MatchOption o (runs ≡ []) (λ page. AreAhead (n - run.visits - 1) rows (Some page) runs)
+        → ((page : GuestPage) → AreAhead (n - run.visits - 1) rows (Some page) runs → AreRuns rows (Some page) runs) → MatchOption o (runs ≡ []) (λ page. AreRuns rows (Some page) runs)
+    by None none rest = none
+    by (Some page) are rest = rest page are
+
+none_behind : (rows : List Row) (runs : List Run) (o : Option GuestPage) → runs ≡ [] → MatchOption o (runs ≡ []) (λ page. AreRuns rows (Some page) runs)
+none_behind rows runs None none = none
+none_behind rows runs (Some page) none = subst (AreRuns rows (Some page)) (sym none) tt
+
+-- the first of the runs that were found, with those behind it, or alone
+pub gathered : (n : ℕ) (rows : List Row) (cursor : Option GuestPage) (run : Run) (found later : List Run) (taken : Option Run) → IsRun n rows cursor run → AreAhead n rows cursor found
+    → IfSome (slice_get found 0) (λ r. r ≡ run) → MatchOption taken ((found ≡ []) × (later ≡ [])) (λ r. found ≡ r ∷ later) → AreRuns rows cursor (run ∷ later)
+gathered n rows cursor run found later None is are first (none, alone) = subst (λ l. AreRuns rows cursor (run ∷ l)) (sym alone) (is.over, none_behind rows [] run.next refl)
+gathered n rows cursor run found later (Some r) is are first split =
+    subst (λ x. AreRuns rows cursor (x ∷ later)) (subst (λ (l : List Run). IfSome (slice_get l 0) (λ x. x ≡ run)) split first)
+    (subst (AreRuns rows cursor) split (ahead_runs n rows cursor found are))
+
+-- they are known from the cursor on
+pub known_from : (rows : List Row) (cursor : Option GuestPage) (runs : List Run) → AreRuns rows cursor runs → IfSome cursor (λ page. AreRuns rows (Some page) runs)
+known_from rows None runs are = tt
+known_from rows (Some page) runs are = are
+
+-- where no row is visited, nothing is behind
+pub none_ahead : (b begun : BookState) (ahead : Ahead) → IsAhead b ahead → begun ≡ visit_begun b → next_row begun.cursor begun.rows ≡ None → behind ahead ≡ []
+none_ahead b begun ahead are is none = by ahead.run are.0
+  where
+    by : (o : Option Run) → MatchOption o (behind ahead ≡ []) (λ run. IsUnderWay b × AreRuns b.rows b.cursor (run ∷ behind ahead)) → behind ahead ≡ []
+    by None nothing = nothing
+    by (Some run) (under_way, runs) =
+        let found = some_row (next_row b.cursor b.rows) under_way.1 in
+        let same : begun ≡ b = is ∙ begins_none b found.0 (under_way.0, found.1) in
+        absurd (grind (arith, ap is_some (sym found.1 ∙ ap (λ (x : BookState). next_row x.cursor x.rows) (sym same) ∙ none)))
+
+-- the first run of those that are begun again, or the next one
+pub begun_again : (rows : List Row) (page : GuestPage) (before after : Ahead) → AreRuns rows (Some page) (behind before) → IsKnown rows before
+    → (after ≡ before) ⊎ ((before.from ≡ Some page) × (after ≡ record before { at = 0 })) → AreRuns rows (Some page) (behind after) × IsKnown rows after
+begun_again rows page before after runs known how = elim how [
+  | inl same ↦ subst (λ (a : Ahead). AreRuns rows (Some page) (behind a) × IsKnown rows a) (sym same) (runs, known)
+  | inr again ↦ subst (λ (a : Ahead). AreRuns rows (Some page) (behind a) × IsKnown rows a) (sym again.1)
+      (subst (λ (o : Option GuestPage). IfSome o (λ p. AreRuns rows (Some p) before.found.items)) again.0 known.1, (omega arith, known.1))
+]

@@ -1,36 +1,113 @@
 //! The scan: visits of mergeable pages, in the order of their pages, pass after pass.
 
-ghost use Rattle.std.specs.Prelude.{◌≡◌, ◌≤◌, ◌-◌, [], ◌∷◌, None, Some, Err, OnOk, IfOk, OnErr, IfNone, IfSome, IsSome, IsTrue, MatchBool, MatchOption, is_some, true, false};
+ghost use Rattle.std.specs.Prelude.{◌≡◌, ◌≤◌, ◌⊎◌, if◌then◌else◌, [], ◌∷◌, None, Some, Err, OnOk, IfOk, OnErr, IfNone, IfSome, IsSome, MatchBool, MatchOption, is_some, length, true, false};
 ghost use Rattle.ksm_base.specs.declared.fault.Fault.TheVariants.{Memory};
 ghost use Rattle.ksm_base.specs.Apply.{after};
-ghost use Rattle.ksm_base.specs.Rows.{shared_state};
+ghost use Rattle.ksm_base.specs.Rows.{InPageOrder, comes_before, row_at, shared_state};
 ghost use Rattle.ksm_base.specs.Visit.{visit, visits, visit_begun, visit_ended, pass_ended_at_last, row_visited, paired, partner, stayed, next_row};
-ghost use Rattle.ksm_pages.specs.Scanned.{AreAhead, AreKeptAfter, GoesOnAt, IsUnderWay, RunsOver};
+ghost use Rattle.ksm_pages.specs.Scanned.{AreRuns, GoesOnAt, IsUnderWay, RunsOver};
 ghost use Rattle.ksm_layout.specs.Steps.{Does};
 ghost use Rattle.ksm_book.specs.Carried.{CarriedOut};
-ghost use Rattle.ksm_book.specs.Gathered.{IsAhead};
+ghost use Rattle.ksm_book.specs.Gathered.{GoesOnAtPage, IsAhead, IsKnown, IsLeft, Remain, behind};
 ghost use Rattle.ksm_book.specs.Whole.{mapped};
 ghost use Rattle.ksm_layout.specs.Commands.{IsIdle, Performs, scanning, visiting, row_visiting, staying, pairing};
 
 use crate::state::State;
-use arrayvec::IntoIter;
 use frame_table::FrameTable;
 use ksm_base::{Command, Fault, GuestPage, PageState, Reply, Row};
-use ksm_pages::row::{Run, Runs, is_for_zero, is_shared};
+use ksm_pages::row::{Run, is_for_zero, is_shared};
+use std::alloc::Global;
 
-// The runs that come after the cursor, as far as they are known: the one in which the pass goes on, and those behind it.
+// What remains true of the runs that were found, once a page was visited.
+#[derive(Clone, Copy)]
+enum Remains {
+    // All of them: each page is still visited or not, and still stays or not.
+    All,
+    // Those behind the page.
+    Behind,
+    // Nothing that is known.
+    Nothing,
+}
+
+// What remains true once a page was merged with another one.
+fn remains_after(other: GuestPage, page: GuestPage) -> Remains
+    ensures { result ≡ (if comes_before other page then Remains.Behind else Remains.Nothing) }
+{
+    if other < page {
+        return Remains::Behind;
+    }
+    Remains::Nothing
+}
+
+// The runs that come after the cursor, as far as they are known: the one in which the pass goes on, and those behind it. They are
+// found from a page on, and are true of the next pass too, as long as no page starts or ends to stay as it is.
 #[derive(Drop)]
 struct Ahead {
     run: Option<Run>,
-    behind: IntoIter<Run, 12>,
+    found: Vec<Run>,
+    at: usize,
+    from: Option<GuestPage>,
 }
 
 impl Ahead {
-    // Nothing is known of the runs behind any more.
-    fn forget(&mut self)
-        ensures { self.new ≡ record self.old { behind = [] } }
+    // Nothing is known.
+    fn new(alloc: Global) -> Ahead
+        ensures run { result.run ≡ None }
+        ensures behind { behind result ≡ [] }
+        ensures within { result.at ≤ length result.found.items }
+        ensures from { result.from ≡ None }
     {
-        self.behind = Runs::new().into_iter();
+        Ahead {
+            run: None,
+            found: Vec::new(alloc),
+            at: 0,
+            from: None,
+        }
+    }
+
+    // The run behind the one under way, which is then the one under way.
+    fn take(&mut self) -> Option<Run>
+        requires { self.old.at ≤ length self.old.found.items }
+        ensures taken { MatchOption result ((behind self.old ≡ []) × (behind self.new ≡ [])) (λ run. behind self.old ≡ run ∷ behind self.new) }
+        ensures found { self.new.found ≡ self.old.found }
+        ensures from { self.new.from ≡ self.old.from }
+        ensures within { self.new.at ≤ length self.new.found.items }
+    {
+        let run = *self.found.get(self.at)?;
+        self.at += 1;
+        Some(run)
+    }
+
+    // Where the last run is through, the pass goes on with the first one, if that begins behind this page.
+    fn begin_again(&mut self, page: GuestPage)
+        requires { self.old.at ≤ length self.old.found.items }
+        ensures { (self.new ≡ self.old) ⊎ ((self.old.from ≡ Some page) × (self.new ≡ record self.old { at = 0 })) }
+    {
+        if self.at < self.found.len() {
+            return;
+        }
+        let Some(from) = self.from else {
+            return;
+        };
+        if from == page {
+            self.at = 0;
+        }
+    }
+
+    // Forgets what is not true any more.
+    fn keep(&mut self, remains: Remains)
+        requires { self.old.at ≤ length self.old.found.items }
+        ensures { IsLeft remains self.old self.new }
+    {
+        match remains {
+            Remains::All => {}
+            Remains::Behind => self.from = None,
+            Remains::Nothing => {
+                self.found.clear();
+                self.at = 0;
+                self.from = None;
+            }
+        }
     }
 }
 
@@ -49,10 +126,7 @@ impl State {
                 stop: None,
             });
         }
-        let mut ahead = Ahead {
-            run: None,
-            behind: Runs::new().into_iter(),
-        };
+        let mut ahead = Ahead::new(self.alloc);
         let mut done = 0;
         while done < count {
             match self.visit_some(table, &mut ahead, count - done) {
@@ -74,20 +148,20 @@ impl State {
     // At least one visit, and `most` at most: a run of them where the rows stay as they are.
     fn visit_some(&mut self, table: &FrameTable, ahead: &mut Ahead, most: u64) -> Result<u64, Fault>
         requires own { self.old.keeper.table ≡ table.now }
-        requires ahead { IsAhead most self.old.state ahead.old }
+        requires ahead { IsAhead self.old.state ahead.old }
         requires most { 1 ≤ most }
         ensures own { self.new.keeper.table ≡ self.old.keeper.table }
         ensures some { IfOk result (λ v. 1 ≤ v) }
         ensures most { IfOk result (λ v. v ≤ most) }
         ensures ok { IfOk result (λ v. self.new.state ≡ visits v self.old.state) }
-        ensures ahead { IfOk result (λ v. IsAhead (most - v) self.new.state ahead.new) }
+        ensures ahead { OnOk result (IsAhead self.new.state ahead.new) }
         ensures err { OnErr result (self.new.state ≡ visit_begun self.old.state) }
         ensures fault { OnErr result (result ≡ Err Memory) }
         ensures does { Does self.old.keeper self.new.keeper [] }
         ensures performs { IfOk result (λ v. Performs (mapped self.old) (mapped self.new) (scanning v self.old.state self.old.frames)) }
         ensures idle { OnErr result (IsIdle (mapped self.old) (mapped self.new)) }
     {
-        if let Some(run) = ahead.run
+        if let Some(run) = self.run_within(ahead, most)
             && run.visits > 0
         {
             ahead.run = self.pass_over(run);
@@ -95,6 +169,20 @@ impl State {
         }
         self.visit(table, ahead, most)?;
         Ok(1)
+    }
+
+    // The run in which the pass goes on, found anew where it has more visits than are wanted.
+    fn run_within(&self, ahead: &mut Ahead, most: u64) -> Option<Run>
+        requires { IsAhead self.now.state ahead.old }
+        ensures ahead { IsAhead self.now.state ahead.new }
+        ensures run { result ≡ ahead.new.run }
+        ensures most { IfSome result (λ run. run.visits ≤ most) }
+    {
+        let run = ahead.run?;
+        if run.visits > most {
+            ahead.run = Some(self.gather(ahead, most));
+        }
+        ahead.run
     }
 
     // The visits of a run, which leave the rows as they are. Gives what is left of it, if the pass goes on.
@@ -115,15 +203,15 @@ impl State {
         goes_on.then_some(Run { visits: 0, ..run })
     }
 
-    // One visit, of the row at which the pass goes on, if that is known. Where memory is refused, the visit has only begun.
+    // One visit, of the page at which the pass goes on, if that is known. Where memory is refused, the visit has only begun.
     fn visit(&mut self, table: &FrameTable, ahead: &mut Ahead, most: u64) -> Result<(), Fault>
         requires own { self.old.keeper.table ≡ table.now }
-        requires ahead { IsAhead most self.old.state ahead.old }
+        requires ahead { IsAhead self.old.state ahead.old }
         requires at_row { IfSome ahead.old.run (λ run. run.visits ≡ 0) }
         requires most { 1 ≤ most }
         ensures own { self.new.keeper.table ≡ self.old.keeper.table }
         ensures ok { OnOk result (self.new.state ≡ visit self.old.state) }
-        ensures ahead { OnOk result (IsAhead (most - 1) self.new.state ahead.new) }
+        ensures ahead { OnOk result (IsAhead self.new.state ahead.new) }
         ensures err { OnErr result (self.new.state ≡ visit_begun self.old.state) }
         ensures fault { OnErr result (result ≡ Err Memory) }
         ensures does { Does self.old.keeper self.new.keeper [] }
@@ -134,9 +222,8 @@ impl State {
         let Some(row) = self.begin_visit(known) else {
             return Ok(());
         };
-        if !self.visit_row(table, row)? {
-            ahead.forget();
-        }
+        let remains = self.visit_row(table, row)?;
+        ahead.keep(remains);
         self.end_visit(row.page, ahead, most - 1);
         Ok(())
     }
@@ -167,16 +254,16 @@ impl State {
         }
     }
 
-    // What is done before a page is visited, where the row at which the pass goes on may be known. Gives the row to visit.
-    fn begin_visit(&mut self, known: Option<Row>) -> Option<Row>
-        requires known { IfSome known (GoesOnAt self.old.state) }
+    // What is done before a page is visited, where the page at which the pass goes on may be known. Gives the row to visit.
+    fn begin_visit(&mut self, known: Option<GuestPage>) -> Option<Row>
+        requires known { IfSome known (GoesOnAtPage self.old.state) }
         ensures state { self.new.state ≡ visit_begun self.old.state }
         ensures next { result ≡ next_row self.new.state.cursor self.new.state.rows }
         ensures none { IfNone result (self.new.state.cursor ≡ None) }
         ensures idle { IsIdle (mapped self.old) (mapped self.new) }
     {
-        if known.is_some() {
-            return known;
+        if let Some(page) = known {
+            return self.row(page);
         }
         let next = self.end_pass();
         if next.is_some() {
@@ -186,50 +273,69 @@ impl State {
         self.layout.rows().next(None)
     }
 
+    // The row of a page.
+    fn row(&self, page: GuestPage) -> Option<Row>
+        ensures row { result ≡ row_at page self.now.state.rows }
+        ensures order { InPageOrder self.now.state.rows }
+    {
+        let held = self.layout.find(page)?;
+        Some(held.row)
+    }
+
     // What is done after a page was visited. The runs behind it were found before, as far as they are known.
     fn end_visit(&mut self, page: GuestPage, ahead: &mut Ahead, most: u64)
-        requires behind { AreAhead most self.old.state.rows (Some page) ahead.old.behind }
+        requires behind { AreRuns self.old.state.rows (Some page) (behind ahead.old) }
+        requires again { IsKnown self.old.state.rows ahead.old }
         ensures state { self.new.state ≡ visit_ended self.old.state page }
-        ensures ahead { IsAhead most self.new.state ahead.new }
+        ensures ahead { IsAhead self.new.state ahead.new }
         ensures idle { IsIdle (mapped self.old) (mapped self.new) }
     {
         self.cursor = Some(page);
-        let run = self.next_run(ahead, most);
+        let run = self.next_run(page, ahead, most);
         let goes_on = run.visits > 0 || run.next.is_some();
         self.close_pass(goes_on);
         ahead.run = goes_on.then_some(run);
     }
 
-    // The run in which the pass goes on: the first one behind the page visited last, found anew where none is known.
-    fn next_run(&self, ahead: &mut Ahead, most: u64) -> Run
-        requires { AreAhead most self.now.state.rows self.now.state.cursor ahead.old.behind }
-        ensures { AreAhead most self.now.state.rows self.now.state.cursor (result ∷ ahead.new.behind) }
+    // The run in which the pass goes on: the first one behind the page visited last, that of an earlier pass if it is known, else found anew.
+    fn next_run(&self, page: GuestPage, ahead: &mut Ahead, most: u64) -> Run
+        requires page { self.now.state.cursor ≡ Some page }
+        requires behind { AreRuns self.now.state.rows (Some page) (behind ahead.old) }
+        requires again { IsKnown self.now.state.rows ahead.old }
+        ensures behind { AreRuns self.now.state.rows (Some page) (result ∷ behind ahead.new) }
+        ensures again { IsKnown self.now.state.rows ahead.new }
     {
-        if let Some(run) = ahead.behind.next() {
-            return run;
+        ahead.begin_again(page);
+        match ahead.take() {
+            Some(run) => run,
+            None => self.gather(ahead, most),
         }
-        self.gather(ahead, most)
     }
 
-    // The runs behind the page visited last, found anew. Gives the first. By itself: a function clears its locals, and most visits need none of these.
+    // The runs behind the page visited last, found anew, for `most` visits at most. Gives the first.
     fn gather(&self, ahead: &mut Ahead, most: u64) -> Run
-        ensures { AreAhead most self.now.state.rows self.now.state.cursor (result ∷ ahead.new.behind) }
+        ensures behind { AreRuns self.now.state.rows self.now.state.cursor (result ∷ behind ahead.new) }
+        ensures again { IsKnown self.now.state.rows ahead.new }
+        ensures most { result.visits ≤ most }
     {
-        let mut behind = self.layout.rows().ahead(self.cursor, most).into_iter();
-        let Some(run) = behind.next() else {
-            unreachable!();
-        };
-        ahead.behind = behind;
+        ahead.found.clear();
+        let run = self
+            .layout
+            .rows()
+            .ahead(self.cursor, most, &mut ahead.found);
+        ahead.at = 0;
+        ahead.from = self.cursor;
+        let _ = ahead.take();
         run
     }
 
-    // What becomes of the page that is visited. Says whether all pages after it stay as they are. Where memory is refused, nothing.
-    fn visit_row(&mut self, table: &FrameTable, row: Row) -> Result<bool, Fault>
+    // What becomes of the page that is visited. Says what remains true of the runs. Where memory is refused, nothing becomes of it.
+    fn visit_row(&mut self, table: &FrameTable, row: Row) -> Result<Remains, Fault>
         requires own { self.old.keeper.table ≡ table.now }
         requires next { next_row self.old.state.cursor self.old.state.rows ≡ Some row }
         ensures own { self.new.keeper.table ≡ self.old.keeper.table }
         ensures ok { OnOk result (self.new.state ≡ row_visited self.old.state row) }
-        ensures kept { IfOk result (λ kept. IsTrue kept → AreKeptAfter row.page self.old.state.rows self.new.state.rows) }
+        ensures remains { IfOk result (λ remains. Remain remains row.page self.old.state.rows self.new.state.rows) }
         ensures err { OnErr result (self.new.state ≡ self.old.state) }
         ensures fault { OnErr result (result ≡ Err Memory) }
         ensures does { Does self.old.keeper self.new.keeper [] }
@@ -237,13 +343,13 @@ impl State {
         ensures idle { OnErr result (IsIdle (mapped self.old) (mapped self.new)) }
     {
         if is_shared(row.state) {
-            return Ok(true);
+            return Ok(Remains::All);
         }
         if let Some(dup) = self.layout.best(&row) {
             if let Some(item) = self.layout.item(dup.number) {
                 self.layout.join(table, row, item)?;
             }
-            return Ok(true);
+            return Ok(Remains::Behind);
         }
         if !row.unchanged {
             self.layout.amend(Row {
@@ -251,19 +357,19 @@ impl State {
                 state: PageState::Private,
                 ..row
             });
-            return Ok(true);
+            return Ok(Remains::All);
         }
         self.stay(table, row)
     }
 
-    // A page whose bytes stayed becomes Zero, or is merged with the one that waits for it, or waits. Says whether all pages after it stay as they are.
-    fn stay(&mut self, table: &FrameTable, row: Row) -> Result<bool, Fault>
+    // A page whose bytes stayed becomes Zero, or is merged with the one that waits for it, or waits. Says what remains true of the runs.
+    fn stay(&mut self, table: &FrameTable, row: Row) -> Result<Remains, Fault>
         requires own { self.old.keeper.table ≡ table.now }
         requires next { next_row self.old.state.cursor self.old.state.rows ≡ Some row }
         requires alone { shared_state row.state ≡ false }
         ensures own { self.new.keeper.table ≡ self.old.keeper.table }
         ensures ok { OnOk result (self.new.state ≡ stayed self.old.state row) }
-        ensures kept { IfOk result (λ kept. IsTrue kept → AreKeptAfter row.page self.old.state.rows self.new.state.rows) }
+        ensures remains { IfOk result (λ remains. Remain remains row.page self.old.state.rows self.new.state.rows) }
         ensures err { OnErr result (self.new.state ≡ self.old.state) }
         ensures fault { OnErr result (result ≡ Err Memory) }
         ensures does { Does self.old.keeper self.new.keeper [] }
@@ -272,19 +378,19 @@ impl State {
     {
         if is_for_zero(&self.layout.knobs(), &row) {
             self.layout.become_zero(table, row);
-            return Ok(true);
+            return Ok(Remains::Behind);
         }
         self.pair(table, row)
     }
 
-    // A page whose bytes stayed is merged with the one that waits for it, or waits. Says whether all pages after it stay as they are.
-    fn pair(&mut self, table: &FrameTable, row: Row) -> Result<bool, Fault>
+    // A page whose bytes stayed is merged with the one that waits for it, or waits. Says what remains true of the runs.
+    fn pair(&mut self, table: &FrameTable, row: Row) -> Result<Remains, Fault>
         requires own { self.old.keeper.table ≡ table.now }
         requires next { next_row self.old.state.cursor self.old.state.rows ≡ Some row }
         requires alone { shared_state row.state ≡ false }
         ensures own { self.new.keeper.table ≡ self.old.keeper.table }
         ensures ok { OnOk result (self.new.state ≡ paired (partner self.old.state.knobs self.old.state.rows row) self.old.state row) }
-        ensures kept { IfOk result (λ kept. IsTrue kept → AreKeptAfter row.page self.old.state.rows self.new.state.rows) }
+        ensures remains { IfOk result (λ remains. Remain remains row.page self.old.state.rows self.new.state.rows) }
         ensures err { OnErr result (self.new.state ≡ self.old.state) }
         ensures fault { OnErr result (result ≡ Err Memory) }
         ensures does { Does self.old.keeper self.new.keeper [] }
@@ -293,11 +399,11 @@ impl State {
     {
         let Some(other) = self.layout.partner(&row) else {
             self.layout.wait(row)?;
-            return Ok(true);
+            return Ok(Remains::All);
         };
         self.layout.lies_lawfully();
         let place = self.layout.new_place();
         self.layout.pair(table, place, other, row)?;
-        Ok(other.page < row.page)
+        Ok(remains_after(other.page, row.page))
     }
 }

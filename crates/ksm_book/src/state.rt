@@ -25,6 +25,7 @@ use std::marker::Model;
 
 /// The rows and dups in their frames, the page visited last in this pass, and how many passes have ended.
 pub struct State {
+    pub(crate) alloc: Global,
     pub(crate) layout: Layout,
     pub(crate) cursor: Option<GuestPage>,
     pub(crate) passes: u64,
@@ -52,6 +53,7 @@ impl State {
         ensures refused { IfErr result (λ e. (e.0 ≡ keeper) × (e.1 ≡ Memory)) }
     {
         Ok(State {
+            alloc,
             layout: Layout::open(alloc, keeper, shape)?,
             cursor: None,
             passes: 0,
@@ -63,6 +65,7 @@ impl State {
         ensures { result ≡ self.keeper }
     {
         let State {
+            alloc: _,
             layout,
             cursor: _,
             passes: _,

@@ -34,6 +34,7 @@ use Rattle.ksm_layout.specs.Keeping.{past_lives, spent_on, spent}
 use Rattle.ksm_layout.specs.Commands.{Finds, Moves, FindsHeld, dup_frame, frame_found, frame_number, mounting}
 use Rattle.ksm_layout.specs.Laid.{Lay, IsLaid, state_of, lay_of, mapped_lay}
 use Rattle.ksm_pages.specs.Linked.{PagesView}
+use Rattle.ksm_pages.specs.Lodged.{ItemsLieOn}
 use Rattle.ksm_pages.specs.Listed.{Listed, rank, StandsAt, instead, is_frame, frame_in, row_in, lodged}
 use Rattle.ksm_layout.specs.Mounted.{FoundFree, Mounted, HasLost, HasMoved}
 use Rattle.ksm_layout.specs.Steps.{Log, Did, Made, IsLowestFree, free_kind}
@@ -129,15 +130,27 @@ module _ (pages : PagesView) (k : KeeperView) (h : IsLaid pages.shape pages.list
       apart (ap (λ (y : DupRow). y.place) (e_is ∙ sym m_is))
 
   -- there is an item
-  pub some_item : None ≡ find (λ r. merged_into dup.number r.state) v.rows → ⊥
+  some_item : None ≡ find (λ r. merged_into dup.number r.state) v.rows → ⊥
   some_item none = (let zero' = count_none (λ r. merged_into dup.number r.state) v.rows (find_none (λ r. merged_into dup.number r.state) v.rows (sym none)) in let one = item_some in omega (arith, zero', one))
+
+  first_of : (o : Option Row) → o ≡ find (λ r. merged_into dup.number r.state) v.rows → (first : Row) × (Some first ≡ find (λ r. merged_into dup.number r.state) v.rows)
+  first_of None is = absurd (some_item is)
+  first_of (Some first) is = (first, is)
+
+  -- the dup has a first item
+  pub item_there : (first : Row) × (Some first ≡ find (λ r. merged_into dup.number r.state) v.rows)
+  item_there = first_of (find (λ r. merged_into dup.number r.state) v.rows) refl
 
   module _ (first : Row) (searched : Some first ≡ find (λ r. merged_into dup.number r.state) v.rows) where
     abbrev by_item : Row → Bool
     by_item r = merged_into dup.number r.state
 
-    pub first_known : row_at first.page v.rows ≡ Some first
+    first_known : row_at first.page v.rows ≡ Some first
     first_known = find_all by_item (λ r. row_at r.page v.rows ≡ Some r) v.rows first (sym searched) (each_at_page v.rows s.rows_rise)
+
+    -- it lies where the dup's items do
+    pub item_stands : (o : Option ℕ) → ItemsLieOn v dup.number o → StandsAt v first.page first o
+    item_stands o lie = lie first.page first first_known (find_passes by_item v.rows first (sym searched))
 
     -- it has a frame
     pub framed_item : (item : Row) (o : Option ℕ) → StandsAt v first.page item o → is_some o ≡ true

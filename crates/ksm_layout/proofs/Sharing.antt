@@ -26,7 +26,7 @@ use Rattle.frame_core.specs.Ledger.{frame_at, named_at, with_frame, ledger_after
 use Rattle.frame_core.specs.Rule.{GenerationFits}
 use Rattle.frame_table.specs.Named.{KeeperView}
 use Rattle.frame_table.specs.Kept.{did}
-use Rattle.ksm_layout.specs.Placement.{life_or, place_frame, IsInLife, RowFits, IsServed, Placed}
+use Rattle.ksm_layout.specs.Placement.{life_or, place_frame, kind_for, IsInLife, RowFits, IsServed, Placed}
 use Rattle.ksm_pages.specs.Listed.{frame_in, row_in, no_row, Listed, rank, StandsAt}
 use Rattle.ksm_layout.specs.Keeping.{Keeps, past_lives, spent_on, spent}
 use Rattle.ksm_layout.specs.Laid.{IsLaid, LodgesAs}
@@ -47,6 +47,12 @@ merged_not_zero OwnPage e = absurd (grind (arith, e))
 merged_not_zero Waiting e = absurd (grind (arith, e))
 merged_not_zero (Merged d) e = refl
 merged_not_zero Zero e = absurd (grind (arith, e))
+
+stable_kind : (s : PageState) → merged_state s ≡ true → kind_for s ≡ Stable
+stable_kind OwnPage e = absurd (grind (arith, e))
+stable_kind Waiting e = absurd (grind (arith, e))
+stable_kind (Merged d) e = refl
+stable_kind Zero e = absurd (grind (arith, e))
 
 module _ (sh : Shape) (v : Listed) (dups : List DupRow) (knobs : Knobs) (next : ℕ) (k : KeeperView) (h : IsLaid sh v dups knobs next k) where
   abbrev across : ℕ
@@ -84,6 +90,12 @@ module _ (sh : Shape) (v : Listed) (dups : List DupRow) (knobs : Knobs) (next : 
 
     item_fits : Serves sh k.ledger dups item g
     item_fits = subst (λ (z : Row × Option ℕ). IsServed sh k.ledger dups z.0 z.1) (λ t. (there.row_is t, there.frame_is t)) (h.placed.each_row j there.inside)
+
+    pub item_inside : g < frames_of k.table.shape
+    item_inside = subst (λ (x : Shape). g < frames_of x) (sym h.same) item_fits.0.frame
+
+    pub item_stable : (frame_at k.ledger g).kind ≡ Stable
+    item_stable = item_fits.0.kind ∙ stable_kind item.state merged
 
     pub item_base : (room : (d : DupRow) × Contains dups d × (merged_into d.number item.state ≡ true) × (item_count v.rows d ≤ 1023)) → (frame_at k.ledger g).base ≤ 1023
     item_base room =

@@ -375,11 +375,8 @@ impl Layout {
         let PageState::Merged(number) = item.state else {
             return Ok(());
         };
-        let Some(other) = self.pages.find(item.page) else {
-            return Ok(());
-        };
-        let frame = known_frame(other.frame);
-        let Some(lone) = self.pages.join(row, number, other.frame)? else {
+        let frame = known_frame(self.pages.dup_frame(number));
+        let Some(lone) = self.pages.join(row, number)? else {
             return Ok(());
         };
         share(&mut self.keeper, table, frame);

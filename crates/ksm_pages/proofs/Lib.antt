@@ -1,7 +1,11 @@
 pub mod RowLists
 pub mod RowWalks
+pub mod Paging
+pub mod PagePlaces
 pub mod GuestWalks
-pub mod Lodging
+pub mod Ranks
+pub mod Seen
+pub mod Settling
 pub mod Linking
 pub mod Partners
 pub mod Tallies

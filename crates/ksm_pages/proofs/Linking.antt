@@ -39,7 +39,7 @@ use Rattle.ksm_base.proofs.Pages.{same_page_eq}
 
 -- ---------------------------------------------------------------- changes
 
-keeps_page : (row : Row) (r : Row) → (if same_page r.page row.page then row else r).page ≡ r.page
+pub keeps_page : (row : Row) (r : Row) → (if same_page r.page row.page then row else r).page ≡ r.page
 keeps_page row r = cond_both (same_page r.page row.page) row r (λ x. x.page ≡ r.page) (λ same. sym (same_page_eq r.page row.page same)) (λ _. refl)
 
 -- a row in the stead of that of its page
@@ -142,6 +142,10 @@ only_rows shape old now knobs listed mid v dups next seen =
 pub either_way : {T E : Type 0} (P Q R : Type 0) (r : Result T E) → (P → R) → (Q → R) → OnOk r P → OnErr r Q → R
 either_way P Q R (Ok x) ok err p q = ok p
 either_way P Q R (Err e) ok err p q = err q
+
+pub ok_both : {T E : Type 0} (P Q R : Type 0) (r : Result T E) → (P → Q → R) → OnOk r P → OnOk r Q → OnOk r R
+ok_both P Q R (Ok x) both p q = both p q
+ok_both P Q R (Err e) both p q = tt
 
 -- ---------------------------------------------------------------- changes of all rows
 

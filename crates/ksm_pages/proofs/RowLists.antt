@@ -6,12 +6,11 @@ use Rattle.std.proofs.lemmas.List.{set-get_or}
 use Rattle.std.proofs.lemmas.Option.{same_Some}
 use Rattle.std.proofs.lemmas.Map.Keys.{sorted_head, sorted_tail}
 use Rattle.std.specs.List.{AllByRecursion}
-use Rattle.std.specs.List.Sorted.{IsStrictlySortedBy}
 use Rattle.std.specs.Ordering.{is_eq, is_lt, is_gt, match_ordering}
 use Rattle.std.specs.declared.cmp.Ordering.{Ordering}
 use Rattle.std.specs.declared.cmp.Ordering.TheVariants.{Less, Equal, Greater}
 use Rattle.std.specs.Map.{keys_of, lookup, set_value, remove_entry}
-use Rattle.std.specs.BTreeMap.{insert_entry, is_at}
+use Rattle.std.specs.BTreeMap.{insert_entry}
 use Rattle.ksm_base.specs.declared.page.GuestPage.{GuestPage}
 use Rattle.ksm_base.specs.declared.row.Row.{Row}
 use Rattle.ksm_base.specs.Rows.{comes_before, same_page, row_at, with_row, without_page, change_row}
@@ -19,26 +18,17 @@ use Rattle.ksm_base.specs.contracts.page.GuestPageOrd.TheImpl as page_ord
 use Rattle.ksm_pages.specs.declared.entry.Entry.{Entry}
 use Rattle.ksm_pages.specs.declared.rows.Held.{Held}
 use Rattle.ksm_pages.specs.Listed.{frame_in, row_in, Listed, rank, StandsAt}
+pub use Rattle.ksm_pages.specs.Paged.{Entries, Sorted, asks}
 use Rattle.ksm_pages.specs.RowEntries.{row_of, frame_of, entry_of, listed}
 use Rattle.ksm_base.proofs.Pages.{same_page_eq, not_both, before_differs, before_trans}
 
 abbrev pub order : GuestPage → GuestPage → Ordering
 order = page_ord.ghosts.cmp
 
-abbrev pub Entries : Type 0
-Entries = List (GuestPage × Entry)
-
-abbrev pub Sorted : Entries → Type 0
-Sorted es = IsStrictlySortedBy order (keys_of es)
-
 abbrev pub rows_of : Entries → List Row
 rows_of es = map row_of es
 
--- the query for a page
-abbrev pub asks : GuestPage → GuestPage → Bool
-asks page = is_at (order page)
-
-asks_is : (p q : GuestPage) → asks p q ≡ same_page q p
+pub asks_is : (p q : GuestPage) → asks p q ≡ same_page q p
 asks_is p q = grind (arith, nat_tests)
 
 pub less_is : (p q : GuestPage) → is_lt (order p q) ≡ comes_before p q
@@ -154,6 +144,13 @@ none_by k es none = go (row_at k (rows_of es)) (known_by k es ∙ ap is_some non
     go : (o : Option Row) → is_some o ≡ false → o ≡ None
     go None e = refl
     go (Some r) e = absurd (grind (arith, e))
+
+pub no_entry_by : (k : GuestPage) (es : Entries) → row_at k (rows_of es) ≡ None → lookup (asks k) es ≡ None
+no_entry_by k es none = go (lookup (asks k) es) (sym (known_by k es) ∙ ap is_some none)
+  where
+    go : (o : Option Entry) → is_some o ≡ false → o ≡ None
+    go None e = refl
+    go (Some v) e = absurd (grind (arith, e))
 
 -- the page's row, with its frame, stands at place n
 abbrev Stands : Listed → GuestPage → Row → Option ℕ → ℕ → Type 0

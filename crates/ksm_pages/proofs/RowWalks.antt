@@ -13,7 +13,8 @@ use Rattle.ksm_base.specs.declared.row.Row.{Row}
 use Rattle.ksm_base.specs.Visit.{after_cursor}
 use Rattle.ksm_pages.specs.declared.entry.Entry.{Entry}
 use Rattle.ksm_pages.specs.Listed.{Listed}
-use Rattle.ksm_pages.specs.RowEntries.{row_of, frame_of, entry_of, listed, start_after, page_order, BeginsAt}
+pub use Rattle.ksm_pages.specs.Paged.{changed}
+use Rattle.ksm_pages.specs.RowEntries.{row_of, frame_of, listed, start_after, page_order, BeginsAt}
 use Rattle.ksm_pages.proofs.RowLists.{Entries, rows_of, less_is}
 
 -- ---------------------------------------------------------------- searches
@@ -92,10 +93,6 @@ map_pairs T g f h (e ∷ es) kept r =
     let a = h e.0 e.1 r.0 r.1 r.2 r.4 in
     let rest = map_pairs T g f h es r.3 (subst (λ u. RetainsPairs T u es r.3) a.2 r.5) in
     r.6 ∙ ap (λ b. cond b ((e.0, r.1) ∷ r.3) r.3) a.0 ∙ (λ i. (e.0, a.1 i) ∷ rest i)
-
--- a row with its change, put back under its page
-abbrev pub changed : (Row → Row) → GuestPage → Entry → Entry
-changed change page e = entry_of (change (row_of (page, e))) e.frame
 
 module _ (change : Row → Row) (keeps : (r : Row) → (change r).page ≡ r.page) where
   rows_changed : (es : Entries) → rows_of (map (λ e. (e.0, changed change e.0 e.1)) es) ≡ map change (rows_of es)

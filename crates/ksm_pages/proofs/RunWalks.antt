@@ -1,7 +1,7 @@
 -- A walk along the entries after the cursor finds the rows that are visited next.
 use Rattle.std.proofs.Common.{inl, inr, ◌⊎◌, ◌≡◌, ℕ, suc, ◌<◌, ◌≤◌, ◌+◌, ◌-◌, Bool, true, false, cond}
 use Rattle.std.proofs.Common.{List, [], ◌∷◌, ◌++◌, Option, Some, None, refl, sym, ap, ◌∙◌, subst, arith}
-use Rattle.std.specs.Prelude.{find, filter, option_map, MatchOption, ⊤, ◌&&◌}
+use Rattle.std.specs.Prelude.{find, filter, option_map, slice_get, unwrap_or, if◌then◌else◌, IfSome, MatchOption, ⊤, ◌&&◌}
 use Rattle.std.specs.Map.{keys_of}
 use Rattle.std.specs.BTreeMap.Range.{entries_between, range_contains}
 use Rattle.std.specs.declared.ops.Bound.TheVariants.{Unbounded}
@@ -12,7 +12,7 @@ use Rattle.ksm_base.specs.Rows.{comes_before}
 use Rattle.ksm_base.specs.Visit.{after_cursor, next_row}
 use Rattle.ksm_base.proofs.Pages.{before_irrefl, before_trans, not_both}
 use Rattle.ksm_pages.specs.declared.row.Run.{Run}
-use Rattle.ksm_pages.specs.Scanned.{stays, moved_to, cursor_after, IsLeft, IsRun, AreAhead}
+use Rattle.ksm_pages.specs.Scanned.{stays, moved_to, cursor_after, page_of, IsLeft, IsRun, AreAhead}
 use Rattle.ksm_pages.specs.declared.entry.Entry.{Entry}
 use Rattle.ksm_pages.specs.RowEntries.{row_of, page_order, start_after}
 use Rattle.ksm_pages.proofs.RowLists.{Entries, Sorted, After, order, rows_of, before_is}
@@ -154,13 +154,15 @@ module _ (es : Entries) (sorted : Sorted es) (rows : List Row) (are : rows_of es
       }
 
   -- the run meets a row that it does not go over: there it stops, and behind it the next one begins
-  pub run_stops : (n : ℕ) (run : Run) (e : GuestPage × Entry) (row : Row) (rest : Entries) → RunsTo es rows cursor run (e ∷ rest) → e.1.mergeable ≡ true
-      → row ≡ row_of e → run.visits ≤ n → (run.visits < n → stays row ≡ false) → IsRun n rows cursor (record run { next = Some row })
-  run_stops n run e row rest so_far wanted is most longest = record {
-    over = record { left = so_far.left; last = so_far.last; next = ap Some is ∙ sym (run_meets run e rest so_far wanted) };
-    most = most;
-    longest = longest;
-  }
+  pub run_stops : (n : ℕ) (run : Run) (e : GuestPage × Entry) (rest : Entries) → RunsTo es rows cursor run (e ∷ rest) → e.1.mergeable ≡ true
+      → run.visits ≤ n → (run.visits < n → stays (row_of e) ≡ false) → IsRun n rows cursor (record run { next = Some e.0 })
+  run_stops n run e rest so_far wanted most longest =
+      let meets = run_meets run e rest so_far wanted in
+      record {
+        over = record { left = so_far.left; last = so_far.last; next = sym (ap page_of meets) };
+        most = most;
+        longest = λ less. subst (λ o. MatchOption o ⊤ (λ r. stays r ≡ false)) (sym meets) (longest less);
+      }
 
   pub run_restarts : (run : Run) (e : GuestPage × Entry) (rest : Entries) → RunsTo es rows cursor run (e ∷ rest)
       → RunsTo es rows (Some e.0) (record { visits = 0; last = Some e.0; next = None }) rest
@@ -175,9 +177,9 @@ module _ (es : Entries) (sorted : Sorted es) (rows : List Row) (are : rows_of es
   -- no row is left to meet
   pub run_ends : (n : ℕ) (run : Run) → RunsTo es rows cursor run [] → run.visits ≤ n → IsRun n rows cursor run
   run_ends n run so_far most = record {
-    over = record { left = so_far.left; last = so_far.last; next = so_far.yet ∙ sym so_far.onward };
+    over = record { left = so_far.left; last = so_far.last; next = so_far.yet ∙ sym (ap page_of so_far.onward) };
     most = most;
-    longest = λ lt. subst (λ (o : Option Row). MatchOption o ⊤ (λ r. stays r ≡ false)) (sym so_far.yet) tt;
+    longest = λ lt. subst (λ (o : Option Row). MatchOption o ⊤ (λ r. stays r ≡ false)) (sym so_far.onward) tt;
   }
 
 -- ---------------------------------------------------------------- run by run
@@ -185,29 +187,55 @@ module _ (es : Entries) (sorted : Sorted es) (rows : List Row) (are : rows_of es
 -- runs that are done lead from the cursor, with n visits at most, to where the next one begins, with k left
 abbrev pub LeadTo : ℕ → List Row → Option GuestPage → List Run → ℕ → Option GuestPage → Type 0
 LeadTo n rows cursor [] k at = (k ≡ n) × (at ≡ cursor)
-LeadTo n rows cursor (run ∷ runs) k at = IsRun n rows cursor run × MatchOption run.next ⊥ (λ r. LeadTo (n - run.visits - 1) rows (Some r.page) runs k at)
+LeadTo n rows cursor (run ∷ runs) k at = IsRun n rows cursor run × MatchOption run.next ⊥ (λ page. LeadTo (n - run.visits - 1) rows (Some page) runs k at)
 
 on_found : {T : Type 0} (X : Type 0) {P Q : T → Type 0} (o : Option T) → ((x : T) → P x → Q x) → MatchOption o ⊥ P → MatchOption o X Q
 on_found X None f h = absurd h
 on_found X (Some x) f h = f x h
 
-pub lead_on : (n : ℕ) (rows : List Row) (cursor : Option GuestPage) (runs : List Run) (k : ℕ) (at : Option GuestPage) (run : Run) (row : Row)
-    → LeadTo n rows cursor runs k at → IsRun k rows at run → run.next ≡ Some row → LeadTo n rows cursor (runs ++ run ∷ []) (k - run.visits - 1) (Some row.page)
-lead_on n rows cursor [] k at run row (left, here) is next = (
+pub lead_on : (n : ℕ) (rows : List Row) (cursor : Option GuestPage) (runs : List Run) (k : ℕ) (at : Option GuestPage) (run : Run) (page : GuestPage)
+    → LeadTo n rows cursor runs k at → IsRun k rows at run → run.next ≡ Some page → LeadTo n rows cursor (runs ++ run ∷ []) (k - run.visits - 1) (Some page)
+lead_on n rows cursor [] k at run page (left, here) is next = (
   subst (λ (x : ℕ × Option GuestPage). IsRun x.0 rows x.1 run) (λ t. (left t, here t)) is,
   subst
-      (λ (o : Option Row). MatchOption o ⊥ (λ r. (k - run.visits - 1 ≡ n - run.visits - 1) × (Some row.page ≡ Some r.page)))
+      (λ (o : Option GuestPage). MatchOption o ⊥ (λ p. (k - run.visits - 1 ≡ n - run.visits - 1) × (Some page ≡ Some p)))
       (sym next) (ap (λ m. m - run.visits - 1) left, refl),
 )
-lead_on n rows cursor (first ∷ runs) k at run row (does, on) is next =
-    (does, on_found _ first.next (λ r lead. lead_on (n - first.visits - 1) rows (Some r.page) runs k at run row lead is next) on)
+lead_on n rows cursor (first ∷ runs) k at run page (does, on) is next =
+    (does, on_found _ first.next (λ p lead. lead_on (n - first.visits - 1) rows (Some p) runs k at run page lead is next) on)
 
-none_behind : (n : ℕ) (rows : List Row) (runs : List Run) (o : Option Row) → runs ≡ [] → MatchOption o (runs ≡ []) (λ r. AreAhead n rows (Some r.page) runs)
+none_behind : (n : ℕ) (rows : List Row) (runs : List Run) (o : Option GuestPage) → runs ≡ [] → MatchOption o (runs ≡ []) (λ p. AreAhead n rows (Some p) runs)
 none_behind n rows runs None none = none
-none_behind n rows runs (Some r) none = subst (AreAhead n rows (Some r.page)) (sym none) tt
+none_behind n rows runs (Some p) none = subst (AreAhead n rows (Some p)) (sym none) tt
 
 pub all_ahead : (n : ℕ) (rows : List Row) (cursor : Option GuestPage) (runs : List Run) (k : ℕ) (at : Option GuestPage) (run : Run)
     → LeadTo n rows cursor runs k at → IsRun k rows at run → AreAhead n rows cursor (runs ++ run ∷ [])
 all_ahead n rows cursor [] k at run (left, here) is = (subst (λ (x : ℕ × Option GuestPage). IsRun x.0 rows x.1 run) (λ t. (left t, here t)) is, none_behind (n - run.visits - 1) rows [] run.next refl)
 all_ahead n rows cursor (first ∷ runs) k at run (does, on) is =
-    (does, on_found _ first.next (λ r lead. all_ahead (n - first.visits - 1) rows (Some r.page) runs k at run lead is) on)
+    (does, on_found _ first.next (λ p lead. all_ahead (n - first.visits - 1) rows (Some p) runs k at run lead is) on)
+
+-- those that are done, where there was no memory for one more
+pub some_ahead : (n : ℕ) (rows : List Row) (cursor : Option GuestPage) (runs : List Run) (k : ℕ) (at : Option GuestPage)
+    → LeadTo n rows cursor runs k at → AreAhead n rows cursor runs
+some_ahead n rows cursor [] k at lead = tt
+some_ahead n rows cursor (first ∷ runs) k at (does, on) =
+    (does, on_found _ first.next (λ p lead. some_ahead (n - first.visits - 1) rows (Some p) runs k at lead) on)
+
+-- the runs that are found, whether there was memory for the last one or not, and the first of them
+pub found_ahead : (n : ℕ) (rows : List Row) (cursor : Option GuestPage) (runs found : List Run) (k : ℕ) (at : Option GuestPage) (run : Run) (b : Bool)
+    → LeadTo n rows cursor runs k at → IsRun k rows at run → found ≡ (if b then runs ++ run ∷ [] else runs)
+    → AreAhead n rows cursor found × IsRun n rows cursor (unwrap_or (slice_get found 0) run)
+found_ahead n rows cursor runs found k at run b lead is are =
+    subst (λ l. AreAhead n rows cursor l × IsRun n rows cursor (unwrap_or (slice_get l 0) run)) (sym are) (by b runs lead)
+  where
+    by : (b : Bool) (runs : List Run) → LeadTo n rows cursor runs k at
+        → AreAhead n rows cursor (if b then runs ++ run ∷ [] else runs) × IsRun n rows cursor (unwrap_or (slice_get (if b then runs ++ run ∷ [] else runs) 0) run)
+    by true [] lead = let are = all_ahead n rows cursor [] k at run lead is in (are, are.0)
+    by true (first ∷ runs) lead = let are = all_ahead n rows cursor (first ∷ runs) k at run lead is in (are, are.0)
+    by false [] lead = (tt, subst (λ (x : ℕ × Option GuestPage). IsRun x.0 rows x.1 run) (λ t. (lead.0 t, lead.1 t)) is)
+    by false (first ∷ runs) lead = let are = some_ahead n rows cursor (first ∷ runs) k at lead in (are, are.0)
+
+-- an item that is there is what is taken for it
+pub there : {X : Type 0} (o : Option X) (x : X) → IfSome o (λ y. y ≡ unwrap_or o x)
+there None x = tt
+there (Some y) x = refl

@@ -1,9 +1,11 @@
 -- Rows in the order of their pages, each with its frame, if it has one (own).
-use Rattle.std.specs.Prelude.{Bool, ◌≡◌, if◌then◌else◌, false, ℕ, ◌<◌, ◌==◌, List, [], ◌∷◌, length, filter, Option, Some, None, slice_index_or}
+use Rattle.std.specs.Prelude.{Bool, ◌≡◌, if◌then◌else◌, true, false, ℕ, All, ◌<◌, ◌==◌, List, [], ◌∷◌, length, filter, Option, Some, None, slice_index_or}
 use Rattle.ksm_base.specs.declared.page.GuestPage.{GuestPage}
 use Rattle.ksm_base.specs.declared.row.PageState.TheVariants.{Private as OwnPage}
 use Rattle.ksm_base.specs.declared.row.Row.{Row}
-use Rattle.ksm_base.specs.Rows.{comes_before, row_at}
+use Rattle.std.specs.List.{list_any}
+use Rattle.ksm_base.specs.Rows.{comes_before, row_at, same_page, waiting_state}
+use Rattle.ksm_tree.specs.Waits.{WaitingPage}
 
 -- the row at a place beyond a list
 abbrev pub no_row : Row
@@ -47,3 +49,7 @@ lodged test g (r ∷ rows) (frame ∷ frames) = (if test r then Some g else fram
 -- the frame g in the stead of f
 abbrev pub instead : ℕ → ℕ → Option ℕ → Option ℕ
 instead f g frame = if is_frame f frame then Some g else frame
+
+-- each row that waits is of one of these pages
+abbrev pub AreNamed : List WaitingPage → List Row → Type 0
+AreNamed waiting rows = All (λ r. waiting_state r.state ≡ true → list_any (λ w. same_page r.page w.page) waiting ≡ true) rows

@@ -1,5 +1,5 @@
 -- What one visit of the scan leaves to the next, and a run of visits that change no row (own).
-use Rattle.std.specs.Prelude.{◌≡◌, ℕ, zero, suc, ◌<◌, ◌≤◌, ◌-◌, ⊤, Bool, true, false, List, [], ◌∷◌, filter, Option, Some, None, is_some, MatchOption}
+use Rattle.std.specs.Prelude.{◌≡◌, ℕ, zero, suc, ◌<◌, ◌≤◌, ◌-◌, ⊤, Bool, true, false, List, [], ◌∷◌, filter, Option, Some, None, is_some, option_map, MatchOption}
 use Rattle.ksm_base.specs.declared.page.GuestPage.{GuestPage}
 use Rattle.ksm_base.specs.declared.row.Row.{Row}
 use Rattle.ksm_base.specs.Rows.{comes_before, shared_state}
@@ -33,23 +33,36 @@ cursor_after (suc n) cursor rows = let at = cursor_after n cursor rows in moved_
 abbrev pub IsLeft : Option Row → Type 0
 IsLeft found = MatchOption found ⊥ (λ r. stays r ≡ true)
 
--- the rows visited next stay as they are, as many as the run has; after them the cursor and the row to visit are these
+-- the page of a row, if there is one
+abbrev pub page_of : Option Row → Option GuestPage
+page_of found = option_map (λ r. r.page) found
+
+-- the rows visited next stay as they are, as many as the run has; after them the cursor and the page to visit are these
 pub record RunsOver (rows : List Row) (cursor : Option GuestPage) (run : Run) : Type 0 where
   pub left : (k : ℕ) → k < run.visits → IsLeft (next_row (cursor_after k cursor rows) rows)
   pub last : run.last ≡ cursor_after run.visits cursor rows
-  pub next : run.next ≡ next_row run.last rows
+  pub next : run.next ≡ page_of (next_row run.last rows)
 
 -- a run from the cursor on, of n visits at most, and no shorter than it has to be
 pub record IsRun (n : ℕ) (rows : List Row) (cursor : Option GuestPage) (run : Run) : Type 0 where
   pub over : RunsOver rows cursor run
   pub most : run.visits ≤ n
-  pub longest : run.visits < n → MatchOption run.next ⊤ (λ r. stays r ≡ false)
+  pub longest : run.visits < n → MatchOption (next_row run.last rows) ⊤ (λ r. stays r ≡ false)
 
--- runs for n visits at most, each from the row on that the one before goes on with; behind a run that ends the pass is none
+-- runs for n visits at most, each from the page on that the one before goes on with; behind a run that ends the pass is none
 abbrev pub AreAhead : ℕ → List Row → Option GuestPage → List Run → Type 0
 AreAhead n rows cursor [] = ⊤
 AreAhead n rows cursor (run ∷ runs) =
-    IsRun n rows cursor run × MatchOption run.next (runs ≡ []) (λ r. AreAhead (n - run.visits - 1) rows (Some r.page) runs)
+    IsRun n rows cursor run × MatchOption run.next (runs ≡ []) (λ page. AreAhead (n - run.visits - 1) rows (Some page) runs)
+
+-- the same of runs that may be longer than there are visits left
+abbrev pub AreRuns : List Row → Option GuestPage → List Run → Type 0
+AreRuns rows cursor [] = ⊤
+AreRuns rows cursor (run ∷ runs) = RunsOver rows cursor run × MatchOption run.next (runs ≡ []) (λ page. AreRuns rows (Some page) runs)
+
+-- what the way of the scan depends on: each row's page, whether the scan visits it, and whether a visit leaves it as it is
+abbrev pub mark : Row → GuestPage × (Bool × Bool)
+mark r = (r.page, (r.mergeable, stays r))
 
 -- the rows that come after a page are the same
 abbrev pub AreKeptAfter : GuestPage → List Row → List Row → Type 0

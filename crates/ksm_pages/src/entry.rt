@@ -2,7 +2,9 @@
 
 ghost use Rattle.std.specs.Prelude.{◌≡◌};
 ghost use Rattle.ksm_pages.specs.RowEntries.{row_of, entry_of};
+ghost use Rattle.ksm_pages.specs.Wanted.{is_wanted as is_a_wanted};
 
+use crate::row::{Wanted, is_shared};
 use ksm_base::{GuestPage, PageBytes, PageState, Row};
 
 /// What a row says beside its page, and the frame that serves the page, if one does.
@@ -43,6 +45,18 @@ impl Entry {
             mergeable: self.mergeable,
             unchanged: self.unchanged,
             state: self.state,
+        }
+    }
+
+    /// Whether a search is for that row. The row itself is not made, so that a walk copies no row that it passes over.
+    pub fn is_wanted(&self, page: GuestPage, wanted: &Wanted) -> bool
+        ensures { result ≡ is_a_wanted wanted.now (row_of (page, self.now)) }
+    {
+        match wanted {
+            Wanted::Mergeable => self.mergeable,
+            Wanted::Shared => is_shared(self.state),
+            Wanted::Before(None) => true,
+            Wanted::Before(Some(stop)) => page < stop.page,
         }
     }
 

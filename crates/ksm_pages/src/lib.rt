@@ -2,6 +2,7 @@
 #![tactic(auto)]
 
 mod entry;
+mod page_map;
 mod pages;
 pub mod row;
 mod rows;

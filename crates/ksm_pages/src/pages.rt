@@ -15,8 +15,10 @@ ghost use Rattle.ksm_tree.specs.Bridge.{let_out};
 ghost use Rattle.ksm_tree.specs.Waits.{IsStopped};
 ghost use Rattle.ksm_pages.specs.Linked.{HasRoom, IsVacant, MayPair, ReplacedBoth, item_of_next, next_dup, elsewhere};
 ghost use Rattle.ksm_pages.specs.Listed.{frame_in, rank, StandsAt, lodged};
+ghost use Rattle.ksm_pages.specs.Lodged.{frame_seen, frames_seen, lodging, listed_seen, ItemsLieOn, LiesWith};
+ghost use Rattle.ksm_tree.specs.Dups.{rows_of};
 
-use crate::row::{Wanted, is_waiting, let_go, same_page, tree_of};
+use crate::row::{Wanted, is_merged, is_waiting, let_go, same_page, tree_of};
 use crate::rows::{Held, Rows};
 use ksm_base::{DupRow, Fault, GuestPage, Knobs, PageState, Row, Shape};
 use ksm_tree::{Choice, Dups, Waiting};
@@ -24,30 +26,35 @@ use std::alloc::Global;
 use std::marker::Model;
 
 /// The rows with their frames, the dups with their items, the pages that wait, and the knobs, which say what tree a row is in.
+///
+/// The frame of a dup is kept once, at the dup's place, and the entries of the rows merged into it have none: to move a dup
+/// writes one number, however many pages are merged into it, and to say where a merged page lies costs a hash more.
 #[derive(Drop)]
 pub struct Pages {
     shape: Shape,
     rows: Rows,
     dups: Dups,
+    lodgings: Vec<Option<u32>>,
     waiting: Waiting,
     knobs: Knobs,
 }
 
 impl Model for Pages {
-    ghost use Rattle.ksm_pages.specs.Linked.{PagesView, AreKept};
+    ghost use Rattle.ksm_pages.specs.Linked.{PagesView};
+    ghost use Rattle.ksm_pages.specs.Lodged.{AreLodged, listed_seen};
     ghost use Rattle.ksm_tree.specs.Dups.{rows_of};
 
     ghost Value = { PagesView };
 
     ghost view = { λ p. record {
       shape = p.shape;
-      listed = p.rows;
+      listed = listed_seen (rows_of p.dups.dups) p.lodgings.items p.rows;
       dups = rows_of p.dups.dups;
       knobs = p.knobs;
       next = p.dups.next;
     } };
 
-    ghost invariant = { λ p. AreKept p.shape p.knobs p.rows.rows p.dups p.waiting };
+    ghost invariant = { λ p. AreLodged p.shape p.knobs p.rows p.dups p.waiting p.lodgings.items };
 }
 
 // A row waits no more, if it did.
@@ -68,6 +75,57 @@ fn leave(dups: &mut Dups, state: PageState, page: GuestPage)
     }
 }
 
+// The frame kept for a dup.
+fn lodging_of(dups: &Dups, lodgings: &[Option<u32>], number: u64) -> Option<u32>
+    ensures { result ≡ lodging (rows_of dups.now.dups) lodgings.now number }
+{
+    let dup = dups.row(number)?;
+    match lodgings.get(dup.place as usize) {
+        Some(frame) => *frame,
+        None => None,
+    }
+}
+
+// What an entry has, with the frame where the row lies: where its dup does, if it is merged.
+fn seen(dups: &Dups, lodgings: &[Option<u32>], held: Held) -> Held
+    ensures row { result.row ≡ held.row }
+    ensures frame { result.frame ≡ frame_seen (lodging (rows_of dups.now.dups) lodgings.now) held.row.state held.frame }
+{
+    let PageState::Merged(number) = held.row.state else {
+        return held;
+    };
+    Held {
+        frame: lodging_of(dups, lodgings, number),
+        ..held
+    }
+}
+
+// Puts a row of its own in the stead of its page's, on the frame where that lay, which its entry has from now on; gives what stood there.
+fn revise_where_it_lies(
+    rows: &mut Rows,
+    dups: &Dups,
+    lodgings: &[Option<u32>],
+    row: Row,
+) -> Option<Held>
+    requires known { is_some (row_at row.page rows.old.rows) ≡ true }
+    requires alone { row.state ≡ Private }
+    requires paired { length rows.old.frames ≡ length rows.old.rows }
+    ensures stood { MatchOption result ⊥ (λ held. StandsAt (listed_seen (rows_of dups.now.dups) lodgings.now rows.old) row.page held.row held.frame) }
+    ensures rows { rows.new.rows ≡ slice_set rows.old.rows (rank row.page rows.old.rows) row }
+    ensures changed { rows.new.rows ≡ change_row row.page (λ _. row) rows.old.rows }
+    ensures frames { frames_seen (lodging (rows_of dups.now.dups) lodgings.now) rows.new.rows rows.new.frames ≡ frames_seen (lodging (rows_of dups.now.dups) lodgings.now) rows.old.rows rows.old.frames }
+    ensures paired { length rows.new.frames ≡ length rows.new.rows }
+{
+    let Some(held) = rows.revise(row) else {
+        return None;
+    };
+    let held = seen(dups, lodgings, held);
+    if is_merged(held.row.state) {
+        rows.replace(row, held.frame);
+    }
+    Some(held)
+}
+
 impl Pages {
     /// No rows and no dups, with room for a dup at each place. Refused for memory alone.
     pub fn open(alloc: Global, shape: Shape) -> Result<Pages, Fault>
@@ -75,10 +133,12 @@ impl Pages {
         ensures opened { IfOk result (λ p. p ≡ record { shape = shape; listed = record { rows = []; frames = [] }; dups = []; knobs = default_knobs; next = 0 }) }
         ensures fault { IfErr result (λ fault. fault ≡ Memory) }
     {
+        let places = shape.frames();
         Ok(Pages {
             shape,
             rows: Rows::new(alloc),
-            dups: Dups::open(alloc, shape.frames())?,
+            dups: Dups::open(alloc, places)?,
+            lodgings: vec![in alloc; None; places as usize]?,
             waiting: Waiting::new(alloc),
             knobs: Knobs::DEFAULT,
         })
@@ -104,9 +164,9 @@ impl Pages {
         self.knobs = knobs;
     }
 
-    /// The rows with their frames.
+    /// The rows.
     pub fn rows(&self) -> &Rows
-        ensures { result.now ≡ self.now.listed }
+        ensures { result.now.rows ≡ self.now.listed.rows }
     {
         &self.rows
     }
@@ -116,7 +176,8 @@ impl Pages {
         ensures known { is_some (row_at page self.now.listed.rows) ≡ is_some result }
         ensures at { MatchOption result (row_at page self.now.listed.rows ≡ None) (λ held. StandsAt self.now.listed page held.row held.frame) }
     {
-        self.rows.find(page)
+        let held = self.rows.find(page)?;
+        Some(seen(&self.dups, &self.lodgings, held))
     }
 
     /// The dup that a row joins.
@@ -179,6 +240,13 @@ impl Pages {
         ensures { result ≡ dup_numbered number self.now.dups }
     {
         self.dups.row(number)
+    }
+
+    /// The frame on which the pages merged into the dup with a number lie.
+    pub fn dup_frame(&self, number: u64) -> Option<u32>
+        ensures { ItemsLieOn self.now.listed number result }
+    {
+        lodging_of(&self.dups, &self.lodgings, number)
     }
 
     /// The first item of the dup with this number.
@@ -265,9 +333,10 @@ impl Pages {
         let Some(held) = self.rows.replace(row, frame) else {
             return None;
         };
+        let stood = seen(&self.dups, &self.lodgings, held);
         stop_waiting(&mut self.waiting, &self.knobs, &held.row);
         leave(&mut self.dups, held.row.state, row.page);
-        Some(held)
+        Some(stood)
     }
 
     /// Puts a row of its own in the stead of its page's, which leaves its dup, on the frame where it is, and gives what stood there.
@@ -280,7 +349,8 @@ impl Pages {
         ensures changed { self.new.listed.rows ≡ change_row row.page (λ _. row) self.old.listed.rows }
         ensures rest { self.new ≡ record self.old { listed = self.new.listed } }
     {
-        let Some(held) = self.rows.revise(row) else {
+        let Some(held) = revise_where_it_lies(&mut self.rows, &self.dups, &self.lodgings, row)
+        else {
             return None;
         };
         stop_waiting(&mut self.waiting, &self.knobs, &held.row);
@@ -300,9 +370,10 @@ impl Pages {
         let Some(held) = self.rows.remove(page) else {
             return None;
         };
+        let stood = seen(&self.dups, &self.lodgings, held);
         stop_waiting(&mut self.waiting, &self.knobs, &held.row);
         leave(&mut self.dups, held.row.state, page);
-        Some(held)
+        Some(stood)
     }
 
     /// A row with a frame of its own waits from now on, on that frame. Refused for memory alone, it changes nothing.
@@ -349,13 +420,13 @@ impl Pages {
     }
 
     /// A row with a frame of its own becomes an item of a dup, on the dup's frame. Gives what stood there. Refused for memory alone, it changes nothing.
-    pub fn join(&mut self, row: Row, number: u64, frame: Option<u32>) -> Result<Option<Held>, Fault>
+    pub fn join(&mut self, row: Row, number: u64) -> Result<Option<Held>, Fault>
         requires row_is { row_at row.page self.old.listed.rows ≡ Some row }
         requires alone { shared_state row.state ≡ false }
         requires room { HasRoom self.old.listed.rows self.old.dups number }
         ensures stood { IfOk result (λ stood. MatchOption stood ⊥ (λ held. StandsAt self.old.listed row.page held.row held.frame)) }
         ensures rows { OnOk result (self.new.listed.rows ≡ slice_set self.old.listed.rows (rank row.page self.old.listed.rows) (record row { state = Merged number })) }
-        ensures frames { OnOk result (self.new.listed.frames ≡ slice_set self.old.listed.frames (rank row.page self.old.listed.rows) frame) }
+        ensures frames { OnOk result (LiesWith self.old.listed number row.page self.new.listed.frames) }
         ensures changed { OnOk result (self.new.listed.rows ≡ change_row row.page (λ _. record row { state = Merged number }) self.old.listed.rows) }
         ensures rest { self.new ≡ record self.old { listed = self.new.listed } }
         ensures refused { OnErr result (self.new ≡ self.old) }
@@ -367,7 +438,7 @@ impl Pages {
             state: PageState::Merged(number),
             ..row
         };
-        Ok(self.rows.replace(item, frame))
+        Ok(self.rows.replace(item, None))
     }
 
     /// Two rows with frames of their own become the items of a new dup at a place, on one frame. A stale dup at the place goes. Refused for memory alone, it changes nothing.
@@ -391,9 +462,10 @@ impl Pages {
             .new_dup(place, tree, &first.bytes, first.page, second.page)?;
         stop_waiting(&mut self.waiting, &self.knobs, &first);
         stop_waiting(&mut self.waiting, &self.knobs, &second);
+        self.lodgings[place as usize] = frame;
         let state = PageState::Merged(number);
-        self.rows.replace(Row { state, ..first }, frame);
-        self.rows.replace(Row { state, ..second }, frame);
+        self.rows.replace(Row { state, ..first }, None);
+        self.rows.replace(Row { state, ..second }, None);
         Ok(())
     }
 
@@ -413,7 +485,7 @@ impl Pages {
         ensures frames { self.new.listed.frames ≡ self.old.listed.frames }
         ensures rest { self.new ≡ record self.old { listed = self.new.listed } }
     {
-        self.rows.settle_all();
+        self.rows.settle_all(&self.waiting);
         self.waiting.clear();
     }
 
@@ -458,8 +530,11 @@ impl Pages {
         ensures frames { self.new.listed.frames ≡ lodged (λ r. merged_into number r.state) frame self.old.listed.rows self.old.listed.frames }
         ensures rest { self.new ≡ record self.old { listed = self.new.listed } }
     {
-        for i in 0..self.dups.items(number) {
-            self.rows.lodge(self.dups.item(number, i), frame);
-        }
+        let Some(dup) = self.dups.row(number) else {
+            return;
+        };
+        // The contract of `at` says that each place has one dup, and there is room for each place.
+        let _ = self.dups.at(dup.place);
+        self.lodgings[dup.place as usize] = Some(frame);
     }
 }

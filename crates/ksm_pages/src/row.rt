@@ -2,14 +2,11 @@
 
 ghost use Rattle.std.specs.Prelude.{◌≡◌, ◌&&◌, bytes_eq, true, None, if◌then◌else◌};
 ghost use Rattle.ksm_base.specs.Answers.{every_row};
-ghost use Rattle.ksm_base.specs.Apply.{is_before, fresh_row as a_fresh_row, stored as with_bytes, moved as at_node, let_go as as_let_go, unshared as as_unshared};
-ghost use Rattle.ksm_base.specs.Rows.{same_page as is_same_page, private_state, waiting_state, merged_state, zero_state, shared_state, all_zero as has_only_zeroes};
+ghost use Rattle.ksm_base.specs.Apply.{fresh_row as a_fresh_row, stored as with_bytes, moved as at_node, let_go as as_let_go, unshared as as_unshared};
+ghost use Rattle.ksm_base.specs.Rows.{same_page as is_same_page, private_state, waiting_state, merged_state, zero_state, shared_state, settled_state, all_zero as has_only_zeroes};
 ghost use Rattle.ksm_base.specs.State.{tree_of as row_tree};
 ghost use Rattle.ksm_base.specs.Visit.{is_for_zero as goes_to_zero};
-ghost use Rattle.ksm_pages.specs.Scanned.{stays as as_it_is};
-ghost use Rattle.ksm_pages.specs.Wanted.{is_wanted as is_a_wanted};
 
-use arrayvec::ArrayVec;
 use ksm_base::{GuestPage, Knobs, PageBytes, PageState, Row};
 
 /// The rows that a search is for.
@@ -23,16 +20,13 @@ pub enum Wanted {
     Before(Option<Row>),
 }
 
-/// Visits of rows that stay as they are: how many there are, the page of the last, and the row that is visited then.
-#[derive(Clone, Copy, Default)]
+/// Visits of rows that stay as they are: how many there are, the page of the last, and the page that is visited then.
+#[derive(Clone, Copy)]
 pub struct Run {
     pub visits: u64,
     pub last: Option<GuestPage>,
-    pub next: Option<Row>,
+    pub next: Option<GuestPage>,
 }
-
-/// Runs, each from the row on that was to be visited after the one before.
-pub type Runs = ArrayVec<Run, 12>;
 
 impl Run {
     /// A run that begins behind the cursor, with no visit yet.
@@ -71,6 +65,16 @@ pub(crate) fn is_waiting(state: PageState) -> bool
     matches!(state, PageState::Waiting)
 }
 
+/// The state of a page that waits no more.
+pub(crate) fn settled(state: PageState) -> PageState
+    ensures { result ≡ settled_state state }
+{
+    match state {
+        PageState::Waiting => PageState::Private,
+        other => other,
+    }
+}
+
 pub(crate) fn is_merged(state: PageState) -> bool
     ensures { result ≡ merged_state state }
 {
@@ -90,39 +94,11 @@ pub fn is_shared(state: PageState) -> bool
     matches!(state, PageState::Merged(_) | PageState::Zero)
 }
 
-/// Whether a visit leaves the row as it is.
-pub fn stays(row: &Row) -> bool
-    ensures { result ≡ as_it_is row.now }
-{
-    is_shared(row.state)
-}
-
 /// Whether each word is zero.
 pub(crate) fn all_zero(bytes: &PageBytes) -> bool
     ensures { result ≡ has_only_zeroes bytes.now }
 {
     bytes.iter().all(|word| *word == 0)
-}
-
-/// Whether a row comes before the one at which an unmerging stopped, if it did.
-pub(crate) fn comes_before_stop(row: &Row, stop: Option<Row>) -> bool
-    ensures { result ≡ is_before stop row.now }
-{
-    match stop {
-        None => true,
-        Some(stop) => row.page < stop.page,
-    }
-}
-
-/// Whether a search is for the row.
-pub(crate) fn is_wanted(row: &Row, wanted: Wanted) -> bool
-    ensures { result ≡ is_a_wanted wanted row.now }
-{
-    match wanted {
-        Wanted::Mergeable => row.mergeable,
-        Wanted::Shared => is_shared(row.state),
-        Wanted::Before(stop) => comes_before_stop(row, stop),
-    }
 }
 
 /// Whether a row has only zeroes, and these merge with the zero page.

@@ -1,12 +1,15 @@
-//! The rows in an ordered map: each page with what the book knows of it, and the frame that serves it, if one does.
+//! The rows in the order of their pages, each found by a hash: each page with what the book knows of it, and the frame
+//! that serves it, if one does.
 //!
-//! With n rows, `has`, `find`, `insert`, `replace`, `revise`, `remove` and `lodge` search once, in a number of steps in
-//! the order of log n. `has_guest` does so too. `next` and `next_shared` take as many, and one for each row that they pass
-//! over, which are rows of the guest alone where one is given; `ahead` so too, and one for each of its visits. `len`,
-//! `any_mergeable` and the counts take one. `make_mergeable` searches twice for each row of the guest, and once more.
-//! `settle_all`, where a row waits, and `unshare_all` walk over the rows.
+//! With n rows, `has`, `find`, `replace` and `revise` cost a hash and a comparison in the mean. `insert` and `remove` also
+//! search in the order, in a number of steps in the order of log n, and an `insert` that finds no room moves all rows. The
+//! hash has a fixed seed, so pages can be picked that collide: then a search takes a step for each.
+//! `has_guest` searches once in the order. `next` and `next_shared` do so too, and take one step for each row that they
+//! pass over, which are rows of the guest alone where one is given; `ahead` so too, and one for each of its visits.
+//! `len`, `any_mergeable` and the counts take one. `make_mergeable` searches in the order for each row of the guest, and
+//! once more, and finds each by a hash. `settle_all` finds each row that waits by a hash. `unshare_all` walks over the rows.
 
-ghost use Rattle.std.specs.Prelude.{◌≡◌, ◌<◌, ◌≤◌, [], None, Some, length, filter, find, count_by, map, insert, remove, slice_set, false, MatchOption, OnOk, OnErr, Err, is_some, true, option_map, ◌&&◌};
+ghost use Rattle.std.specs.Prelude.{◌≡◌, ◌<◌, ◌≤◌, [], None, Some, length, filter, find, count_by, map, insert, remove, slice_set, false, MatchOption, OnOk, OnErr, Err, is_some, true, option_map, ◌&&◌, slice_get, unwrap_or, IfSome};
 ghost use Rattle.std.specs.List.{list_any};
 ghost use Rattle.std.specs.Map.Iter.{deref_pair};
 ghost use Rattle.ksm_base.specs.declared.fault.Fault.TheVariants.{Memory};
@@ -14,18 +17,19 @@ ghost use Rattle.ksm_base.specs.Refusals.{is_of as is_of_guest};
 ghost use Rattle.ksm_base.specs.Apply.{unshared as as_unshared};
 ghost use Rattle.ksm_base.specs.Rows.{row_at, with_row, without_page, change_row, change_rows, same_page, private_state, waiting_state, merged_state, zero_state, settled as as_settled};
 ghost use Rattle.ksm_base.specs.Visit.{after_cursor as comes_after, next_row as row_to_visit};
-ghost use Rattle.ksm_pages.specs.Listed.{rank, StandsAt, lodged};
+ghost use Rattle.ksm_pages.specs.Listed.{AreNamed, rank, StandsAt};
 ghost use Rattle.ksm_pages.specs.RowEntries.{row_of, start_after, BeginsAt};
-ghost use Rattle.ksm_pages.specs.Scanned.{AreAhead};
+ghost use Rattle.ksm_pages.specs.Scanned.{AreAhead, IsRun};
 ghost use Rattle.ksm_pages.specs.Tallied.{IsTally};
 ghost use Rattle.ksm_pages.specs.Wanted.{is_shared_of as is_shared_of_guest, is_wanted as is_a_wanted, up_to};
 
 use crate::entry::Entry;
-use crate::row::{Run, Runs, Wanted, is_waiting, is_wanted, stays, unshared};
+use crate::page_map::PageMap;
+use crate::row::{Run, Wanted, is_shared};
 use crate::tally::Tally;
-use ksm_base::{Fault, GuestPage, PageState, Row};
+use ksm_base::{Fault, GuestPage, Row};
+use ksm_tree::Waiting;
 use std::alloc::Global;
-use std::collections::BTreeMap;
 use std::marker::Model;
 use std::ops::Bound;
 
@@ -39,7 +43,7 @@ pub struct Held {
 /// The rows in the order of their pages, each page once, each with its frame.
 #[derive(Drop)]
 pub struct Rows {
-    entries: BTreeMap<GuestPage, Entry>,
+    entries: PageMap,
     tally: Tally,
 }
 
@@ -52,9 +56,9 @@ impl Model for Rows {
     ghost use Rattle.ksm_pages.specs.RowEntries.{listed, row_of};
     ghost use Rattle.ksm_pages.specs.Tallied.{IsTally};
 
-    ghost view = { λ r. listed r.entries.entries };
+    ghost view = { λ r. listed r.entries };
 
-    ghost invariant = { λ r. IsTally (map row_of r.entries.entries) r.tally };
+    ghost invariant = { λ r. IsTally (map row_of r.entries) r.tally };
 }
 
 // The row of the entry that a search found.
@@ -96,35 +100,44 @@ fn up_to_guest(found: Option<Row>, guest: u16) -> Option<Row>
     Some(row)
 }
 
-// What comes after the cursor, run by run, for `most` visits at most: one walk along the entries.
-fn runs_along(entries: &BTreeMap<GuestPage, Entry>, cursor: Option<GuestPage>, most: u64) -> Runs
-    ensures ahead { AreAhead most (map row_of entries.now.entries) cursor result.items }
-    ensures some { 0 < length result.items }
+// The first of the runs that were found, or this one where there was no room for any.
+fn first_run(found: &[Run], run: Run) -> Run
+    ensures { result ≡ unwrap_or (slice_get found.now 0) run }
 {
-    let mut runs = Runs::new();
+    match found.first() {
+        Some(first) => *first,
+        None => run,
+    }
+}
+
+// What comes after the cursor, run by run, for `most` visits at most: one walk along the entries, as far as there is memory for runs. Gives the first.
+fn runs_along(entries: &PageMap, cursor: Option<GuestPage>, most: u64, found: &mut Vec<Run>) -> Run
+    requires { found.old.items ≡ [] }
+    ensures run { IsRun most (map row_of entries.now) cursor result }
+    ensures ahead { AreAhead most (map row_of entries.now) cursor found.new.items }
+    ensures first { IfSome (slice_get found.new.items 0) (λ run. run ≡ result) }
+{
     let mut run = Run::from(cursor);
     let mut left = most;
-    for (page, entry) in entries.range((after_cursor(cursor), Bound::Unbounded)) {
+    for (page, entry) in entries.range(after_cursor(cursor)) {
         if !entry.mergeable {
             continue;
         }
-        let row = entry.row(*page);
-        if left > 0 && stays(&row) {
+        if left > 0 && is_shared(entry.state) {
             run.visits += 1;
             run.last = Some(*page);
             left -= 1;
             continue;
         }
-        run.next = Some(row);
-        runs.push(run);
-        if left == 0 || runs.is_full() {
-            return runs;
+        run.next = Some(*page);
+        if found.push(run).is_err() || left == 0 {
+            return first_run(found, run);
         }
         left -= 1;
         run = Run::from(Some(*page));
     }
-    runs.push(run);
-    runs
+    let _ = found.push(run);
+    first_run(found, run)
 }
 
 impl Rows {
@@ -133,7 +146,7 @@ impl Rows {
         ensures { result ≡ record { rows = []; frames = [] } }
     {
         Rows {
-            entries: BTreeMap::new(alloc),
+            entries: PageMap::new(alloc),
             tally: Tally::NONE,
         }
     }
@@ -142,7 +155,7 @@ impl Rows {
     pub fn has(&self, page: GuestPage) -> bool
         ensures { result ≡ is_some (row_at page self.now.rows) }
     {
-        self.entries.contains_key(&page)
+        self.entries.has(page)
     }
 
     /// The row of a page, with its frame.
@@ -150,9 +163,7 @@ impl Rows {
         ensures known { is_some (row_at page self.now.rows) ≡ is_some result }
         ensures at { MatchOption result (row_at page self.now.rows ≡ None) (λ held. StandsAt self.now page held.row held.frame) }
     {
-        // The contract of `len` says that the keys ascend, that of `get` does not.
-        let _ = self.entries.len();
-        match self.entries.get(&page) {
+        match self.entries.get(page) {
             None => None,
             Some(entry) => Some(Held {
                 row: entry.row(page),
@@ -174,9 +185,9 @@ impl Rows {
         ensures refused { OnErr result (self.new ≡ self.old) }
         ensures fault { OnErr result (result ≡ Err Memory) }
     {
-        let _ = self.entries.insert(row.page, Entry::new(row, frame))?;
         // The contract of `len` says that the number fits.
         let _ = self.entries.len();
+        self.entries.insert(row.page, Entry::new(row, frame))?;
         self.tally = self.tally.with(&row);
         Ok(())
     }
@@ -189,19 +200,16 @@ impl Rows {
         ensures frames { self.new.frames ≡ slice_set self.old.frames (rank row.page self.old.rows) frame }
         ensures changed { self.new.rows ≡ change_row row.page (λ _. row) self.old.rows }
     {
-        let kept = Entry::new(row, frame);
         // The contract of `len` says that the number fits.
         let _ = self.entries.len();
-        let Some(entry) = self.entries.get_mut(&row.page) else {
+        let Some(left) = self.entries.set(row.page, Entry::new(row, frame)) else {
             return None;
         };
-        let old = entry.row(row.page);
-        let left = entry.frame;
-        *entry = kept;
+        let old = left.row(row.page);
         self.tally = self.tally.without(&old).with(&row);
         Some(Held {
             row: old,
-            frame: left,
+            frame: left.frame,
         })
     }
 
@@ -215,14 +223,13 @@ impl Rows {
     {
         // The contract of `len` says that the number fits.
         let _ = self.entries.len();
-        let Some(entry) = self.entries.get_mut(&row.page) else {
+        let Some(left) = self.entries.revise(row) else {
             return None;
         };
         let held = Held {
-            row: entry.row(row.page),
-            frame: entry.frame,
+            row: left.row(row.page),
+            frame: left.frame,
         };
-        entry.set_row(row);
         self.tally = self.tally.without(&held.row).with(&row);
         Some(held)
     }
@@ -235,9 +242,7 @@ impl Rows {
         ensures frames { self.new.frames ≡ remove self.old.frames (rank page self.old.rows) }
         ensures gone { self.new.rows ≡ without_page page self.old.rows }
     {
-        // The contract of `len` says that the keys ascend, that of `remove` does so of those that are left.
-        let _ = self.entries.len();
-        let Some(entry) = self.entries.remove(&page) else {
+        let Some(entry) = self.entries.remove(page) else {
             return None;
         };
         let row = entry.row(page);
@@ -248,27 +253,14 @@ impl Rows {
         })
     }
 
-    /// The row of a page goes to another frame, if it has a row.
-    pub(crate) fn lodge(&mut self, page: GuestPage, frame: u32)
-        ensures rows { self.new.rows ≡ self.old.rows }
-        ensures frames { self.new.frames ≡ lodged (λ r. same_page r.page page) frame self.old.rows self.old.frames }
-    {
-        // The contract of `len` says that the keys ascend.
-        let _ = self.entries.len();
-        let Some(entry) = self.entries.get_mut(&page) else {
-            return;
-        };
-        entry.frame = Some(frame);
-    }
-
     // The first row after the cursor that a search is for.
     fn first_after(&self, cursor: Option<GuestPage>, wanted: Wanted) -> Option<Row>
         ensures { result ≡ find (λ r. is_a_wanted wanted r && comes_after cursor r.page) self.now.rows }
     {
         row_found(
             self.entries
-                .range((after_cursor(cursor), Bound::Unbounded))
-                .find(|(page, entry)| is_wanted(&entry.row(**page), wanted)),
+                .range(after_cursor(cursor))
+                .find(|(page, entry)| entry.is_wanted(**page, &wanted)),
         )
     }
 
@@ -281,10 +273,9 @@ impl Rows {
     ) -> Option<Row>
         ensures { result ≡ find (λ r. (is_of_guest guest r && is_a_wanted wanted r) && comes_after cursor r.page) self.now.rows }
     {
-        let found = self
-            .entries
-            .range((guest_after(cursor, guest), Bound::Unbounded))
-            .find(|(page, entry)| page.guest > guest || is_wanted(&entry.row(**page), wanted));
+        let found = self.entries.range(guest_after(cursor, guest)).find(|(page, entry)| page.guest
+            > guest
+            || entry.is_wanted(**page, &wanted));
         up_to_guest(row_found(found), guest)
     }
 
@@ -296,12 +287,14 @@ impl Rows {
     }
 
     /// What comes after the cursor, run by run, for `most` visits at most, up to the end of the pass or as far as there is
-    /// room for. There is always a first run.
-    pub fn ahead(&self, cursor: Option<GuestPage>, most: u64) -> Runs
-        ensures ahead { AreAhead most self.now.rows cursor result.items }
-        ensures some { 0 < length result.items }
+    /// memory for runs. Gives the first run, which wants no memory.
+    pub fn ahead(&self, cursor: Option<GuestPage>, most: u64, found: &mut Vec<Run>) -> Run
+        requires { found.old.items ≡ [] }
+        ensures run { IsRun most self.now.rows cursor result }
+        ensures ahead { AreAhead most self.now.rows cursor found.new.items }
+        ensures first { IfSome (slice_get found.new.items 0) (λ run. run ≡ result) }
     {
-        runs_along(&self.entries, cursor, most)
+        runs_along(&self.entries, cursor, most, found)
     }
 
     /// The first merged or Zero row of a guest after the cursor, or of all where no guest is given.
@@ -380,23 +373,15 @@ impl Rows {
         }
     }
 
-    // The calls that follow write every entry and drop none. They do it by `retain`, whose contract says what is
-    // written to each value; that of a loop over `values_mut` does not.
-
-    /// No row waits any more: those that did are Private.
-    pub(crate) fn settle_all(&mut self)
+    /// No row waits any more: those that did, which are of these pages, are Private.
+    pub(crate) fn settle_all(&mut self, waiting: &Waiting)
+        requires { AreNamed waiting.now self.old.rows }
         ensures rows { self.new.rows ≡ map as_settled self.old.rows }
         ensures frames { self.new.frames ≡ self.old.frames }
     {
-        if self.tally.waiting == 0 {
-            return;
+        for page in waiting.pages() {
+            self.entries.settle(*page);
         }
-        self.entries.retain(|_, entry| {
-            if is_waiting(entry.state) {
-                entry.state = PageState::Private;
-            }
-            true
-        });
         self.tally = self.tally.settled();
     }
 
@@ -405,10 +390,7 @@ impl Rows {
         ensures rows { self.new.rows ≡ map as_unshared self.old.rows }
         ensures frames { self.new.frames ≡ self.old.frames }
     {
-        self.entries.retain(|page, entry| {
-            entry.set_row(unshared(entry.row(*page)));
-            true
-        });
+        self.entries.unshare_all();
         self.tally = self.tally.unshared();
     }
 }

@@ -1,10 +1,11 @@
-ghost use Rattle.std.specs.Prelude.{◌≡◌, [], None, IfErr, OnOk, OnErr};
+ghost use Rattle.std.specs.Prelude.{◌≡◌, [], None, IfErr, OnOk, OnErr, map};
 ghost use Rattle.ksm_tree.specs.Waits.{IsAdded, IsRemoved, waiting_page};
 
 use crate::content::Content;
 use ksm_base::{Fault, GuestPage, PageBytes};
 use std::alloc::Global;
 use std::collections::HashMap;
+use std::collections::hash_map::Values;
 use std::marker::Model;
 
 /// The pages that wait for an equal one: at most one of each tree and bytes (mm/ksm, the unstable tree).
@@ -59,6 +60,13 @@ impl Waiting {
         ensures { IsRemoved tree bytes.now self.old self.new }
     {
         self.pages.remove(&Content::of(tree, bytes));
+    }
+
+    /// The pages that wait, in no order.
+    pub fn pages(&self) -> Values<'_, Content, GuestPage>
+        ensures { result ≡ map (λ w. w.page) self.now }
+    {
+        self.pages.values()
     }
 
     /// No page waits any more.

@@ -25,13 +25,7 @@ impl Layout {
         ensures moved { IsMoved self.old.keeper self.new.keeper dup.place node result }
         ensures moves { MovesOr self.old self.new dup node result }
     {
-        let Some(item) = self.pages.item(dup.number) else {
-            return Ok(());
-        };
-        let Some(held) = self.pages.find(item.page) else {
-            return Ok(());
-        };
-        let left = known_frame(held.frame);
+        let left = known_frame(self.pages.dup_frame(dup.number));
         let shape = self.pages.shape();
         let Some(frame) = seek(&mut self.keeper, table, shape, node) else {
             return Err(Fault::NoFrame(node));

@@ -1,5 +1,6 @@
-use Rattle.std.proofs.Common.{◌≡◌, ◌∙◌, ℕ, false, List, Option, refl, sym, ap, subst, rules}
-use Rattle.std.specs.Prelude.{filter}
+use Rattle.std.proofs.Common.{◌≡◌, ◌∙◌, ℕ, List, Option, refl, sym, ap, subst}
+use Rattle.std.specs.Prelude.{filter, map}
+use Rattle.std.proofs.lemmas.Bool.{cond_both}
 use Rattle.ksm_base.specs.declared.row.Row.{Row}
 use Rattle.ksm_base.specs.declared.row.PageState.TheVariants.{Waiting, Merged}
 use Rattle.ksm_base.specs.Rows.{comes_before, with_dup}
@@ -7,12 +8,15 @@ use Rattle.ksm_base.specs.Sound.{IsSound}
 use Rattle.ksm_base.specs.Visit.{next_row, partner, paired, made_dup}
 use Rattle.ksm_base.proofs.SoundScan.{next_row_visited, sound_paired}
 use Rattle.ksm_base.proofs.Pages.{not_both}
-use Rattle.ksm_pages.specs.Scanned.{AreKeptAfter}
+use Rattle.ksm_pages.specs.Scanned.{mark}
 use Rattle.ksm_layout.specs.Laid.{Lay, founded, state_of}
 use Rattle.ksm_layout.specs.Commands.{Performs, founding, listed_in, pairing}
 use Rattle.ksm_book.specs.Whole.{BookView, mapped}
 use Rattle.ksm_layout.proofs.Found.{change_known}
-use Rattle.ksm_book.proofs.Gathered.{kept_row, kept_other}
+use Rattle.ksm_book.specs.declared.scan.Remains.{Remains}
+use Rattle.ksm_book.specs.declared.scan.Remains.TheVariants.{Behind, Nothing}
+use Rattle.ksm_book.specs.Gathered.{Remain}
+use Rattle.ksm_book.proofs.Gathered.{kept_row, kept_other, marks_row}
 use Rattle.ksm_book.proofs.Standing.{partner_finds_place}
 use Rattle.ksm_book.proofs.Visiting.{visited_at, partner_founds, joins_new, both_joined, same_dup, apart}
 use Rattle.ksm_book.proofs.state.State.pair.Goals as goal
@@ -74,7 +78,7 @@ pair-requires-clause-apart c =
     (ap (λ (x : BookView). next_row x.state.cursor x.state.rows) c.self.view_is ∙ c.requires.next) c.requires.alone (sym c.in-Some.ensures)
 
 -- both rows are the items of a new dup
-merged : (c : goal.After-lt) → state_of c.pair.new.self c.self.inside.cursor c.self.inside.passes ≡ paired (partner c.self.inside.layout.knobs c.self.inside.layout.rows c.args.row) (state_of c.self.inside.layout c.self.inside.cursor c.self.inside.passes) c.args.row
+merged : (c : goal.After-remains_after) → state_of c.pair.new.self c.self.inside.cursor c.self.inside.passes ≡ paired (partner c.self.inside.layout.knobs c.self.inside.layout.rows c.args.row) (state_of c.self.inside.layout c.self.inside.cursor c.self.inside.passes) c.args.row
 merged c =
     let s = c.self.inside in
     let b = state_of s.layout s.cursor s.passes in
@@ -120,21 +124,27 @@ returns-clause-performs c =
     let paired_so = subst (λ (o : Option Row). Performs old new (pairing o b s.layout.frames row)) c.in-Some.ensures placed in
     subst (λ (x : BookView). Performs (mapped x) new (pairing (partner x.state.knobs x.state.rows row) x.state x.frames row)) c.self.view_is paired_so
 
-pub returns-clause-kept : goal.returns-clause-kept
-returns-clause-kept c = λ earlier.
+pub returns-clause-remains : goal.returns-clause-remains
+returns-clause-remains c =
     let lay = c.self.inside.layout in
     let row = c.args.row in
     let other = c.in-Some.other in
     let first = founded lay c.new_place-place.result other in
-    let apart : comes_before row.page other.page ≡ false = not_both other.page row.page (search (rules, earlier)) in
-    subst (λ (rows : List Row). AreKeptAfter row.page rows c.pair.new.self.rows) (ap (λ (x : BookView). x.state.rows) c.self.view_is)
-    (ap (λ (x : Lay). filter (λ r. comes_before row.page r.page) x.rows) c.in_ok-pair.ensures.state
-    ∙ kept_row row (record row { state = Merged lay.next }) first.rows refl ∙ kept_other row.page other.page (record other { state = Merged lay.next }) lay.rows apart refl)
+    subst (λ (x : Remains × List Row). Remain x.0 row.page x.1 c.pair.new.self.rows) (λ t. (sym c.remains_after.ensures t, ap (λ (x : BookView). x.state.rows) c.self.view_is t))
+    (cond_both (comes_before other.page row.page) Behind Nothing (λ (x : Remains). Remain x row.page lay.rows c.pair.new.self.rows)
+    (λ earlier.
+    ap (λ (x : Lay). filter (λ r. comes_before row.page r.page) x.rows) c.in_ok-pair.ensures.state
+    ∙ kept_row row (record row { state = Merged lay.next }) first.rows refl
+    ∙ kept_other row.page other.page (record other { state = Merged lay.next }) lay.rows (not_both other.page row.page earlier) refl)
+    (λ later. tt))
 
-pub returns-in_default-clause-kept : goal.returns-in_default-clause-kept
-returns-in_default-clause-kept c = λ kept.
-    let lay = c.self.inside.layout in
+pub returns-in_default-clause-remains : goal.returns-in_default-clause-remains
+returns-in_default-clause-remains c =
+    let s = c.self.inside in
+    let lay = s.layout in
     let row = c.args.row in
-    subst (λ (rows : List Row). AreKeptAfter row.page rows c.wait.new.self.rows) (ap (λ (x : BookView). x.state.rows) c.self.view_is)
-    (ap (λ (x : Lay). filter (λ r. comes_before row.page r.page) x.rows) c.in_ok-wait.ensures.state
-    ∙ kept_row row (record row { state = Waiting }) lay.rows refl)
+    let new : Row = record row { state = Waiting } in
+    let found = visited_at (state_of lay s.cursor s.passes) row c.self.invariant (ap (λ (x : BookView). next_row x.state.cursor x.state.rows) c.self.view_is ∙ c.requires.next) in
+    subst (λ (rows : List Row). map mark c.wait.new.self.rows ≡ map mark rows) (ap (λ (x : BookView). x.state.rows) c.self.view_is)
+    (ap (λ (x : Lay). map mark x.rows) c.in_ok-wait.ensures.state
+    ∙ marks_row row new lay.rows c.self.invariant.rows_rise found (ap (λ b. (row.page, (row.mergeable, b))) (sym c.requires.alone)))

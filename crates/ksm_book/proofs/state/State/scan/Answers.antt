@@ -1,5 +1,5 @@
-use Rattle.std.proofs.Common.{◌≡◌, ◌∙◌, ℕ, ◌+◌, ◌-◌, [], sym, ap, subst, arith, rules}
-use Rattle.std.specs.Prelude.{IfOk, OnErr}
+use Rattle.std.proofs.Common.{◌≡◌, ◌∙◌, ℕ, ◌+◌, [], sym, ap, subst, arith, rules}
+use Rattle.std.specs.Prelude.{IfOk, OnErr, OnOk}
 use Rattle.ksm_base.specs.Visit.{visits}
 use Rattle.ksm_layout.specs.Commands.{IsIdle, Performs, scanning}
 use Rattle.ksm_layout.specs.Steps.{Made}
@@ -14,7 +14,6 @@ loop-done-preserved c =
     let first = c.loop-done.invariant.does in
     let second = c.visit_some.ensures.does in
     let more : ℕ = c.in-Ok.visits in
-    let left : c.args.count - c.loop-done.done - more ≡ c.args.count - (c.loop-done.done + more) = omega arith in
     let sum : more + c.loop-done.done ≡ c.loop-done.done + more = omega arith in
     record {
       most = omega (arith, c.in-Ok.ensures.most, c.loop-done-test.true);
@@ -22,8 +21,7 @@ loop-done-preserved c =
       state = subst (λ r. IfOk r (λ v. c.visit_some.new.self.state ≡ visits v c.loop-done.self.state)) c.in-Ok.is c.visit_some.ensures.ok
           ∙ ap (visits more) c.loop-done.invariant.state ∙ sym (visits_on c.loop-done.done more c.args.self.now.state)
           ∙ ap (λ n. visits n c.args.self.now.state) sum;
-      ahead = subst (λ n. IsAhead n c.visit_some.new.self.state c.visit_some.new.ahead) left
-          (subst (λ r. IfOk r (λ v. IsAhead (c.args.count - c.loop-done.done - v) c.visit_some.new.self.state c.visit_some.new.ahead)) c.in-Ok.is c.visit_some.ensures.ahead);
+      ahead = subst (λ r. OnOk r (IsAhead c.visit_some.new.self.state c.visit_some.new.ahead)) c.in-Ok.is c.visit_some.ensures.ahead;
       does = (_, chained c.args.self.now.keeper c.loop-done.self.keeper c.visit_some.new.self.keeper [] [] first.0 second.0 first.1 second.1);
       performs = subst (λ n. Performs (mapped c.args.self.now) (mapped c.visit_some.new.self) (scanning n c.args.self.now.state c.args.self.now.frames)) sum
           (performs_on c.args.self.now c.loop-done.self c.visit_some.new.self c.loop-done.done more c.loop-done.invariant.state c.loop-done.invariant.performs

@@ -11,7 +11,7 @@ invariant-loop-done l = record {
   most : l.done ≤ l.count;
   own : l.self.keeper.table ≡ l.fn.self.keeper.table;
   state : l.self.state ≡ visits l.done l.fn.self.state;
-  ahead : IsAhead (l.fn.count - l.done) l.self.state l.ahead;
+  ahead : IsAhead l.self.state l.ahead;
   does : Does l.fn.self.keeper l.self.keeper [];
   performs : Performs (mapped l.fn.self) (mapped l.self) (scanning l.done l.fn.self.state l.fn.self.frames);
 }

@@ -1,11 +1,13 @@
-use Rattle.std.proofs.Common.{◌≡◌, ◌≤◌, None, false, subst, arith, rules}
+use Rattle.std.proofs.Common.{◌≡◌, ◌∙◌, ◌≤◌, None, false, sym, ap, subst, arith, rules}
 use Rattle.std.proofs.lemmas.Bool.Decides.{nat_tests}
 use Rattle.ksm_base.specs.declared.command.Command.TheVariants.{SetLimit}
 use Rattle.ksm_base.specs.declared.reply.Reply.TheVariants.{Done}
+use Rattle.ksm_base.specs.declared.knobs.Knobs.{Knobs}
 use Rattle.ksm_base.specs.Refusals.{changes_while_shared, refusal}
 use Rattle.ksm_base.specs.Sound.{IsSound}
 use Rattle.ksm_base.proofs.SoundKnobs.{sound_set_limit}
 use Rattle.ksm_layout.specs.Laid.{state_of}
+use Rattle.ksm_book.specs.Whole.{BookView}
 use Rattle.ksm_book.proofs.state.State.set_limit.Goals as goal
 
 pub invariant_of-self : goal.invariant_of-self
@@ -14,6 +16,8 @@ invariant_of-self c =
     let b = state_of s.layout s.cursor s.passes in
     let inside = c.if-not-contains.ensures in
     let within : (2 ≤ c.args.limit) × (c.args.limit ≤ 1024) = search rules in
-    let calm : changes_while_shared b b.knobs.max_page_sharing c.args.limit ≡ false = search rules in
+    let calm : changes_while_shared b b.knobs.max_page_sharing c.args.limit ≡ false =
+    ap (λ (k : Knobs). changes_while_shared b k.max_page_sharing c.args.limit) (sym c.knobs-knobs.ensures)
+    ∙ ap (λ (x : BookView). changes_while_shared x.state c.knobs-knobs.result.max_page_sharing c.args.limit) c.self.view_is ∙ sym c.if-would_change_shared.ensures in
     let accepted : refusal b (SetLimit c.args.limit) ≡ None = grind (arith, nat_tests, within.0, within.1, calm) in
     subst IsSound (search rules) (sound_set_limit b c.args.limit Done accepted c.self.invariant)

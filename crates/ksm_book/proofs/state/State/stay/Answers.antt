@@ -53,8 +53,8 @@ returns-then-is_for_zero-clause-performs c =
     subst (λ (x : BookView). Performs (mapped x) (mapped new) (staying x.state x.frames row)) c.self.view_is
     (subst (Performs (mapped_lay s.layout) (mapped new)) (sym (emptying_by b s.layout.frames row is)) c.become_zero.ensures.performs)
 
-pub returns-then-is_for_zero-clause-kept : goal.returns-then-is_for_zero-clause-kept
-returns-then-is_for_zero-clause-kept c = λ kept.
+pub returns-then-is_for_zero-clause-remains : goal.returns-then-is_for_zero-clause-remains
+returns-then-is_for_zero-clause-remains c =
     let lay = c.self.inside.layout in
     let row = c.args.row in
     subst (λ (rows : List Row). AreKeptAfter row.page rows c.become_zero.new.self.rows) (ap (λ (x : BookView). x.state.rows) c.self.view_is)

@@ -1,22 +1,28 @@
-use Rattle.std.proofs.Common.{◌-◌, Some, sym, ap, subst, ◌∙◌}
-use Rattle.ksm_pages.specs.Scanned.{AreAhead}
+use Rattle.std.proofs.Common.{◌≡◌, ◌∙◌, [], ◌∷◌, sym, subst}
+use Rattle.std.specs.Prelude.{MatchOption}
+use Rattle.ksm_pages.specs.Scanned.{AreRuns, IsUnderWay}
+use Rattle.ksm_book.specs.Gathered.{behind}
 use Rattle.ksm_book.specs.declared.scan.Ahead.{Ahead}
-use Rattle.ksm_book.proofs.Gathered.{behind_ahead, kept_behind}
+use Rattle.ksm_book.proofs.Gathered.{behind_ahead, known_begun, left_known, none_ahead}
 use Rattle.ksm_book.proofs.state.State.visit.Goals as goal
-use Rattle.ksm_book.proofs.state.State.visit.Goals.{then-not-branch, else-not-branch}
 
--- where a page that comes later changed, nothing is known of the rows behind any more
 pub end_visit-requires : goal.end_visit-requires
 end_visit-requires c =
-    let rows = c.visit_row.new.self.state.rows in
-    let page = c.in-Some.row.page in
+    let b = c.args.self.now.state in
     let begun = c.begin_visit.new.self.state in
-    let before = behind_ahead c.args.most c.args.self.now.state begun c.args.ahead.now c.in-Some.row c.requires.ahead c.requires.at_row
-    c.begin_visit.ensures.state (sym c.in-Some.ensures.next) in
-    record {
-      behind = elim c.if-not-branch.branch [
-        | then-not-branch w ↦ subst (AreAhead (c.args.most - 1) rows (Some page)) (sym (ap (λ (a : Ahead). a.behind) (w.ahead-is ∙ w.forget.ensures))) tt
-        | else-not-branch w ↦ subst (AreAhead (c.args.most - 1) rows (Some page)) (sym (ap (λ (a : Ahead). a.behind) w.ahead-is))
-            (kept_behind page begun.rows rows (c.in_ok-visit_row.ensures.kept w.if-not-branch.false) (c.args.most - 1) c.args.ahead.now.behind before)
-      ];
-    }
+    let row = c.in-Some.row in
+    let taken : Ahead = record c.args.ahead.now { run = c.take.new.self } in
+    let runs = behind_ahead b begun c.args.ahead.now row c.requires.ahead c.requires.at_row c.begin_visit.ensures.state (sym c.in-Some.ensures.next) in
+    let known = known_begun b begun c.args.ahead.now c.requires.ahead.1 c.begin_visit.ensures.state in
+    let left = left_known c.in_ok-remains.remains row.page begun.rows c.visit_row.new.self.state.rows taken c.keep.new.self c.in_ok-remains.ensures.remains c.keep.ensures runs known in
+    record { behind = left.0; again = left.1 }
+
+pub returns-in_default-clause-ahead : goal.returns-in_default-clause-ahead
+returns-in_default-clause-ahead c =
+    let b = c.args.self.now.state in
+    let begun = c.begin_visit.new.self.state in (
+      subst (λ o. MatchOption o (behind c.args.ahead.now ≡ []) (λ run. IsUnderWay begun × AreRuns begun.rows begun.cursor (run ∷ behind c.args.ahead.now)))
+          (sym c.take.ensures.after)
+          (none_ahead b begun c.args.ahead.now c.requires.ahead c.begin_visit.ensures.state (sym c.begin_visit.ensures.next ∙ c.in_default.is)),
+      known_begun b begun c.args.ahead.now c.requires.ahead.1 c.begin_visit.ensures.state,
+    )

@@ -1,10 +1,10 @@
 use Rattle.std.proofs.Common.{inr, ◌≡◌, ◌∙◌, true, List, Option, Some, None, refl, sym, ap, subst}
 use Rattle.ksm_base.specs.declared.row.PageState.TheVariants.{Private, Merged}
 use Rattle.ksm_base.specs.declared.row.Row.{Row}
-use Rattle.std.specs.Prelude.{filter}
+use Rattle.std.specs.Prelude.{filter, map}
 use Rattle.ksm_base.specs.Rows.{change_row, comes_before, merged_into}
-use Rattle.ksm_pages.specs.Scanned.{AreKeptAfter}
-use Rattle.ksm_book.proofs.Gathered.{kept_row}
+use Rattle.ksm_pages.specs.Scanned.{AreKeptAfter, mark}
+use Rattle.ksm_book.proofs.Gathered.{kept_row, marks_row}
 use Rattle.ksm_base.specs.Sound.{IsSound}
 use Rattle.ksm_base.specs.State.{BookState}
 use Rattle.ksm_base.specs.Visit.{is_best, next_row, row_visited}
@@ -104,18 +104,21 @@ returns-in_default-item-clause-performs c =
     let s = c.self.inside in
     absurd (best_has_item (state_of s.layout s.cursor s.passes) c.args.row c.in-Some.dup (sym c.in-Some.ensures) (sym c.in_default-item.ensures))
 
-pub returns-in_ok-join-clause-kept : goal.returns-in_ok-join-clause-kept
-returns-in_ok-join-clause-kept c = λ kept.
+pub returns-in_ok-join-clause-remains : goal.returns-in_ok-join-clause-remains
+returns-in_ok-join-clause-remains c =
     let lay = c.self.inside.layout in
     let row = c.args.row in
     subst (λ (rows : List Row). AreKeptAfter row.page rows c.join.new.self.rows) (ap (λ (x : BookView). x.state.rows) c.self.view_is)
     (ap (λ (x : Lay). filter (λ r. comes_before row.page r.page) x.rows) c.in_ok-join.ensures.state
     ∙ kept_row row (record row { state = c.in-Some-item.item.state }) lay.rows refl)
 
-pub returns-then-not-row-clause-kept : goal.returns-then-not-row-clause-kept
-returns-then-not-row-clause-kept c = λ kept.
-    let lay = c.self.inside.layout in
+pub returns-then-not-row-clause-remains : goal.returns-then-not-row-clause-remains
+returns-then-not-row-clause-remains c =
+    let s = c.self.inside in
+    let lay = s.layout in
     let row = c.args.row in
-    subst (λ (rows : List Row). AreKeptAfter row.page rows c.amend.new.self.rows) (ap (λ (x : BookView). x.state.rows) c.self.view_is)
-    (ap (λ (x : Lay). filter (λ r. comes_before row.page r.page) x.rows) c.amend.ensures
-    ∙ kept_row row (record row { unchanged = true; state = Private }) lay.rows refl)
+    let new : Row = record row { unchanged = true; state = Private } in
+    let found = visited_at (state_of lay s.cursor s.passes) row c.self.invariant (ap (λ (x : BookView). next_row x.state.cursor x.state.rows) c.self.view_is ∙ c.requires.next) in
+    subst (λ (rows : List Row). map mark c.amend.new.self.rows ≡ map mark rows) (ap (λ (x : BookView). x.state.rows) c.self.view_is)
+    (ap (λ (x : Lay). map mark x.rows) c.amend.ensures
+    ∙ marks_row row new lay.rows c.self.invariant.rows_rise found (ap (λ b. (row.page, (row.mergeable, b))) c.if-is_shared.ensures))

@@ -1,9 +1,13 @@
-use Rattle.std.proofs.Common.{◌∙◌, refl, ap, sym, subst}
+use Rattle.std.proofs.Common.{◌∙◌, refl, ap, sym, subst, None}
 use Rattle.ksm_base.specs.declared.row.PageState.TheVariants.{Zero}
 use Rattle.ksm_base.specs.Rows.{row_at}
 use Rattle.ksm_tree.proofs.Waiters.{row_stopped}
 use Rattle.ksm_pages.specs.Linked.{AreKept}
 use Rattle.ksm_pages.proofs.Linking.{linked_alone, own_not_merged}
+use Rattle.ksm_pages.proofs.Seen.{paired_put, seen_put, stood_own}
+use Rattle.std.specs.Prelude.{slice_set, MatchOption}
+use Rattle.ksm_pages.specs.Listed.{rank, StandsAt}
+use Rattle.ksm_tree.specs.Dups.{rows_of}
 use Rattle.ksm_pages.proofs.pages.Pages.become_zero.Goals as goal
 
 pub invariant_of-self : goal.invariant_of-self
@@ -12,8 +16,31 @@ invariant_of-self c =
     let row = c.args.row in
     let zero = record row { state = Zero } in
     let found = ap (λ v. row_at row.page v.listed.rows) c.self.view_is ∙ c.requires.row_is in
-    subst (λ rows. AreKept old.shape old.knobs rows old.dups c.stop_waiting.new.waiting) (sym c.replace.ensures.changed)
-    (record {
-      linked = linked_alone old.shape old.rows.rows old.dups c.self.invariant.linked row zero found (own_not_merged row.state c.requires.alone) refl;
-      waits = row_stopped old.knobs old.rows.rows old.waiting c.self.invariant.waits c.stop_waiting.new.waiting zero row found refl c.stop_waiting.ensures;
-    })
+    record {
+      kept = subst (λ rows. AreKept old.shape old.knobs rows old.dups c.stop_waiting.new.waiting) (sym c.replace.ensures.changed)
+          (record {
+            linked = linked_alone old.shape old.rows.rows old.dups c.self.invariant.kept.linked row zero found
+                (own_not_merged row.state c.requires.alone) refl;
+            waits = row_stopped old.knobs old.rows.rows old.waiting c.self.invariant.kept.waits c.stop_waiting.new.waiting zero row found refl
+                c.stop_waiting.ensures;
+          });
+      paired = paired_put old.rows c.replace.new.self (rank row.page old.rows.rows) zero None c.self.invariant.paired c.replace.ensures.rows
+          c.replace.ensures.frames;
+      room = c.self.invariant.room;
+    }
+
+pub returns-clause-stood : goal.returns-clause-stood
+returns-clause-stood c =
+    let old = c.self.inside in
+    let row = c.args.row in
+    subst (λ v. MatchOption c.replace.result ⊥ (λ held. StandsAt v.listed row.page held.row held.frame)) c.self.view_is
+    (stood_own (rows_of old.dups.dups) old.lodgings.items old.rows row.page c.replace.result row c.self.invariant.paired c.replace.ensures.stood
+    (ap (λ v. row_at row.page v.listed.rows) c.self.view_is ∙ c.requires.row_is) (own_not_merged row.state c.requires.alone))
+
+pub returns-clause-frames : goal.returns-clause-frames
+returns-clause-frames c =
+    let old = c.self.inside in
+    let zero = record c.args.row { state = Zero } in
+    seen_put (rows_of old.dups.dups) (rows_of old.dups.dups) old.lodgings.items old.rows c.replace.new.self zero None None refl c.replace.ensures.rows
+    c.replace.ensures.frames refl
+    ∙ ap (λ v. slice_set v.listed.frames (rank zero.page v.listed.rows) None) c.self.view_is

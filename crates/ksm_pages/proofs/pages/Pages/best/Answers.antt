@@ -11,7 +11,7 @@ returns-in_err-number c =
     let dups = c.self.inside.dups in
     let of_tree = ap (λ t. option_map (λ d. d.row.number) (best_of t c.args.row.now.bytes knobs.max_page_sharing dups.dups)) (sym c.tree_of-tree.ensures) in
     c.from_residual.ensures
-    ∙ none_best knobs c.self.inside.rows.rows dups c.args.row.now c.self.invariant.linked.tied (of_tree ∙ sym c.in_err-number.ensures.best)
+    ∙ none_best knobs c.self.inside.rows.rows dups c.args.row.now c.self.invariant.kept.linked.tied (of_tree ∙ sym c.in_err-number.ensures.best)
     ∙ ap (λ v. best_dup v.knobs v.listed.rows v.dups c.args.row.now) c.self.view_is
 
 pub returns : goal.returns
@@ -20,5 +20,5 @@ returns c =
     let dups = c.self.inside.dups in
     let of_tree = ap (λ t. option_map (λ d. d.row.number) (best_of t c.args.row.now.bytes knobs.max_page_sharing dups.dups)) (sym c.tree_of-tree.ensures) in
     c.row.ensures
-    ∙ best_numbered knobs c.self.inside.rows.rows dups c.args.row.now c.self.invariant.linked.tied c.in_ok-number.number c.in_ok-number.ensures.lawful (of_tree ∙ sym c.in_ok-number.ensures.best)
+    ∙ best_numbered knobs c.self.inside.rows.rows dups c.args.row.now c.self.invariant.kept.linked.tied c.in_ok-number.number c.in_ok-number.ensures.lawful (of_tree ∙ sym c.in_ok-number.ensures.best)
     ∙ ap (λ v. best_dup v.knobs v.listed.rows v.dups c.args.row.now) c.self.view_is

@@ -8,4 +8,4 @@ pub returns : goal.returns
 returns c =
     let rows = c.self.inside.rows.rows in
     let dups = c.self.inside.dups.dups in
-    c.count_shared.ensures ∙ live_count rows dups (tied_counted rows dups c.self.invariant.linked.tied) ∙ ap (λ v. shared_count v.listed.rows v.dups) c.self.view_is
+    c.count_shared.ensures ∙ live_count rows dups (tied_counted rows dups c.self.invariant.kept.linked.tied) ∙ ap (λ v. shared_count v.listed.rows v.dups) c.self.view_is

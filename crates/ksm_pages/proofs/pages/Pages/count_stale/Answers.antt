@@ -9,4 +9,4 @@ pub returns : goal.returns
 returns c =
     let rows = c.self.inside.rows.rows in
     let dups = c.self.inside.dups.dups in
-    c.count_stale.ensures ∙ stale_count rows dups (tied_counted rows dups c.self.invariant.linked.tied) ∙ ap (λ v. count_by (is_stale v.listed.rows) v.dups) c.self.view_is
+    c.count_stale.ensures ∙ stale_count rows dups (tied_counted rows dups c.self.invariant.kept.linked.tied) ∙ ap (λ v. count_by (is_stale v.listed.rows) v.dups) c.self.view_is

@@ -16,6 +16,6 @@ pub returns-clause-items : goal.returns-clause-items
 returns-clause-items c =
     let pages = items_of c.args.number c.self.inside.dups.dups in
     c.loop-i.invariant ∙ take_all c.loop-i.i pages (omega (arith, c.items-i-end.ensures, c.loop-i-test.false))
-    ∙ items_numbered_are c.self.inside.rows.rows c.self.inside.dups.dups c.args.number c.self.invariant.linked.tied
+    ∙ items_numbered_are c.self.inside.rows.rows c.self.inside.dups.dups c.args.number c.self.invariant.kept.linked.tied
     (ap (λ v. is_some (dup_numbered c.args.number v.dups)) c.self.view_is ∙ c.requires)
     ∙ ap (λ v. map (λ (r : Row). r.page) (filter (λ r. merged_into c.args.number r.state) v.listed.rows)) c.self.view_is

@@ -1,4 +1,4 @@
-use Rattle.std.proofs.Common.{◌∙◌, refl, ap, sym, subst}
+use Rattle.std.proofs.Common.{◌∙◌, refl, ap, sym, subst, None}
 use Rattle.ksm_base.specs.declared.row.PageState.TheVariants.{Merged}
 use Rattle.ksm_base.specs.Rows.{change_row, row_at}
 use Rattle.ksm_rmap.specs.Items.{with_item}
@@ -8,22 +8,27 @@ use Rattle.ksm_tree.proofs.Waiters.{row_stopped}
 use Rattle.ksm_tree.specs.Dups.{rows_of}
 use Rattle.ksm_pages.specs.Linked.{AreKept, AreLinked, HasRoom}
 use Rattle.ksm_pages.proofs.Linking.{own_not_merged, linked_joined, known_room, fewer_room, only_rows}
+use Rattle.ksm_pages.proofs.Seen.{item_lies, paired_put, seen_put, stood_own}
+use Rattle.std.specs.Prelude.{MatchOption}
+use Rattle.ksm_pages.specs.Listed.{StandsAt, rank}
+use Rattle.ksm_pages.specs.Lodged.{LiesWith, listed_seen}
 use Rattle.ksm_pages.proofs.pages.Pages.join.Goals as goal
 
 pub join-requires-clause-known : goal.join-requires-clause-known
 join-requires-clause-known c =
-    known_room c.self.inside.rows.rows c.self.inside.dups.dups c.args.number c.self.invariant.linked.tied
+    known_room c.self.inside.rows.rows c.self.inside.dups.dups c.args.number c.self.invariant.kept.linked.tied
     (subst (λ v. HasRoom v.listed.rows v.dups c.args.number) (sym c.self.view_is) c.requires.room)
 
 pub join-requires-clause-fewer : goal.join-requires-clause-fewer
 join-requires-clause-fewer c =
-    fewer_room c.self.inside.rows.rows c.self.inside.dups.dups c.args.number c.self.invariant.linked.tied
+    fewer_room c.self.inside.rows.rows c.self.inside.dups.dups c.args.number c.self.invariant.kept.linked.tied
     (subst (λ v. HasRoom v.listed.rows v.dups c.args.number) (sym c.self.view_is) c.requires.room)
 
 pub join-requires-clause-absent : goal.join-requires-clause-absent
 join-requires-clause-absent c =
-    tied_absent c.self.inside.rows.rows c.args.row.page c.args.row c.self.invariant.linked.order
-    (ap (λ v. row_at c.args.row.page v.listed.rows) c.self.view_is ∙ c.requires.row_is) c.args.number c.self.inside.dups.dups (own_not_merged c.args.row.state c.requires.alone) c.self.invariant.linked.tied
+    tied_absent c.self.inside.rows.rows c.args.row.page c.args.row c.self.invariant.kept.linked.order
+    (ap (λ v. row_at c.args.row.page v.listed.rows) c.self.view_is ∙ c.requires.row_is) c.args.number c.self.inside.dups.dups
+    (own_not_merged c.args.row.state c.requires.alone) c.self.invariant.kept.linked.tied
 
 pub invariant_of-self-2 : goal.invariant_of-self-2
 invariant_of-self-2 c =
@@ -31,16 +36,45 @@ invariant_of-self-2 c =
     let row = c.args.row in
     let item = record row { state = Merged c.args.number } in
     let found = ap (λ v. row_at row.page v.listed.rows) c.self.view_is ∙ c.requires.row_is in
-    subst (λ rows. AreKept old.shape old.knobs rows c.join.new.self c.stop_waiting.new.waiting) (sym c.replace.ensures.changed)
-    (record {
-      linked = subst (AreLinked old.shape (change_row row.page (λ _. item) old.rows.rows)) (sym c.in_ok-join.ensures.joined)
-          (linked_joined old.shape old.rows.rows old.dups c.self.invariant.linked row item c.args.number found (own_not_merged row.state c.requires.alone) refl);
-      waits = row_stopped old.knobs old.rows.rows old.waiting c.self.invariant.waits c.stop_waiting.new.waiting item row found refl c.stop_waiting.ensures;
-    })
+    record {
+      kept = subst (λ rows. AreKept old.shape old.knobs rows c.join.new.self c.stop_waiting.new.waiting) (sym c.replace.ensures.changed)
+          (record {
+            linked = subst (AreLinked old.shape (change_row row.page (λ _. item) old.rows.rows)) (sym c.in_ok-join.ensures.joined)
+                (linked_joined old.shape old.rows.rows old.dups c.self.invariant.kept.linked row item c.args.number found
+                (own_not_merged row.state c.requires.alone) refl);
+            waits = row_stopped old.knobs old.rows.rows old.waiting c.self.invariant.kept.waits c.stop_waiting.new.waiting item row found refl
+                c.stop_waiting.ensures;
+          });
+      paired = paired_put old.rows c.replace.new.self (rank row.page old.rows.rows) item None c.self.invariant.paired c.replace.ensures.rows
+          c.replace.ensures.frames;
+      room = c.self.invariant.room;
+    }
 
 pub returns-clause-rest : goal.returns-clause-rest
 returns-clause-rest c =
     let old = c.self.inside in
-    only_rows old.shape old.dups c.join.new.self old.knobs c.replace.new.self old.rows c.args.self.now
+    only_rows old.shape old.dups c.join.new.self old.knobs (listed_seen (rows_of c.join.new.self.dups) old.lodgings.items c.replace.new.self)
+    (listed_seen (rows_of old.dups.dups) old.lodgings.items old.rows) c.args.self.now
     (ap (λ d. rows_of d.dups) c.in_ok-join.ensures.joined ∙ rows_items c.args.number (with_item c.args.row.page) old.dups.dups)
     (ap (λ d. d.next) c.in_ok-join.ensures.joined) c.self.view_is
+
+pub returns-clause-stood : goal.returns-clause-stood
+returns-clause-stood c =
+    let old = c.self.inside in
+    let row = c.args.row in
+    subst (λ v. MatchOption c.replace.result ⊥ (λ held. StandsAt v.listed row.page held.row held.frame)) c.self.view_is
+    (stood_own (rows_of old.dups.dups) old.lodgings.items old.rows row.page c.replace.result row c.self.invariant.paired c.replace.ensures.stood
+    (ap (λ v. row_at row.page v.listed.rows) c.self.view_is ∙ c.requires.row_is) (own_not_merged row.state c.requires.alone))
+
+pub returns-clause-frames : goal.returns-clause-frames
+returns-clause-frames c =
+    let old = c.self.inside in
+    let item = record c.args.row { state = Merged c.args.number } in
+    let dups = rows_of old.dups.dups in
+    let same = ap (λ d. rows_of d.dups) c.in_ok-join.ensures.joined ∙ rows_items c.args.number (with_item c.args.row.page) old.dups.dups in
+    subst (λ v. LiesWith v.listed c.args.number item.page (listed_seen (rows_of c.join.new.self.dups) old.lodgings.items c.replace.new.self).frames)
+    c.self.view_is
+    (λ page r frame at merged.
+    seen_put dups (rows_of c.join.new.self.dups) old.lodgings.items old.rows c.replace.new.self item None frame same c.replace.ensures.rows
+    c.replace.ensures.frames
+    (sym (item_lies dups old.lodgings.items old.rows page r frame c.args.number c.self.invariant.paired at merged)))

@@ -17,7 +17,7 @@ revise-requires-clause-known c =
     let now = c.loop-row.self.listed.rows in
     let made = ap (λ (v : PagesView). v.listed.rows) c.loop-row.invariant in
     let order = order_before c.args.guest c.args.stop let_go (λ r. refl) c.loop-row.last c.args.self.now.listed.rows
-    (subst InPageOrder (ap (λ (v : PagesView). v.listed.rows) c.self.view_is ∙ made) c.self.invariant.linked.order) in
+    (subst InPageOrder (ap (λ (v : PagesView). v.listed.rows) c.self.view_is ∙ made) c.self.invariant.kept.linked.order) in
     let found = ap (λ (v : PagesView). find (left c.args.guest c.args.stop c.loop-row.last) v.listed.rows) (sym c.self.view_is) ∙ sym c.first_of.ensures ∙ c.in-Some.is in
     ap (λ (r : Row). is_some (row_at r.page now)) c.let_go.ensures
     ∙ ap is_some (known_now c.args.guest c.args.stop let_go (λ r. refl) c.loop-row.last c.args.self.now.listed.rows now c.in-Some.row order made found)
@@ -32,7 +32,7 @@ loop-row-preserved c =
     let row = c.in-Some.row in
     let made = ap (λ (v : PagesView). v.listed.rows) c.loop-row.invariant in
     let order = order_before c.args.guest c.args.stop let_go (λ r. refl) c.loop-row.last old.listed.rows
-    (subst InPageOrder (ap (λ (v : PagesView). v.listed.rows) c.self.view_is ∙ made) c.self.invariant.linked.order) in
+    (subst InPageOrder (ap (λ (v : PagesView). v.listed.rows) c.self.view_is ∙ made) c.self.invariant.kept.linked.order) in
     let found = seen_before c.args.guest c.args.stop let_go (λ r. refl) c.loop-row.last old.listed.rows now (Some row) made
     (sym c.in-Some.is ∙ c.first_of.ensures ∙ ap (λ (v : PagesView). find (left c.args.guest c.args.stop c.loop-row.last) v.listed.rows) c.self.view_is) in
     let rows : c.revise.new.self.listed.rows ≡ changed_to c.args.guest c.args.stop let_go (Some row.page) old.listed.rows =

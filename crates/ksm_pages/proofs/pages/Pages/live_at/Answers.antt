@@ -9,5 +9,5 @@ pub returns : goal.returns
 returns c =
     let rows = c.self.inside.rows.rows in
     let dups = c.self.inside.dups.dups in
-    c.live_at.ensures ∙ live_placed rows c.args.place dups (tied_counted rows dups c.self.invariant.linked.tied)
+    c.live_at.ensures ∙ live_placed rows c.args.place dups (tied_counted rows dups c.self.invariant.kept.linked.tied)
     ∙ ap (λ v. find (λ d. d.place == c.args.place && has_items v.listed.rows d) v.dups) c.self.view_is

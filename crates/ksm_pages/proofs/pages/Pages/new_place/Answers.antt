@@ -8,15 +8,15 @@ use Rattle.ksm_pages.proofs.pages.Pages.new_place.Goals as goal
 
 pub choose_place-requires : goal.choose_place-requires
 choose_place-requires c =
-    choice_is_there c.self.inside.shape c.self.inside.rows.rows c.self.inside.dups c.self.invariant.linked
+    choice_is_there c.self.inside.shape c.self.inside.rows.rows c.self.inside.dups c.self.invariant.kept.linked
     (subst (λ (v : PagesView). place_of_new (place_count v.shape) v.listed.rows v.dups < place_count v.shape) (sym c.self.view_is) c.requires.room)
 
 pub returns-in-Empty : goal.returns-in-Empty
 returns-in-Empty c =
-    choice_seen c.self.inside.shape c.self.inside.rows.rows c.self.inside.dups (Empty c.in-Empty.place) c.self.invariant.linked c.in-Empty.ensures
+    choice_seen c.self.inside.shape c.self.inside.rows.rows c.self.inside.dups (Empty c.in-Empty.place) c.self.invariant.kept.linked c.in-Empty.ensures
     ∙ ap (λ (v : PagesView). place_of_new (place_count v.shape) v.listed.rows v.dups) c.self.view_is
 
 pub returns-in-Stale : goal.returns-in-Stale
 returns-in-Stale c =
-    choice_seen c.self.inside.shape c.self.inside.rows.rows c.self.inside.dups (Stale c.in-Stale.place) c.self.invariant.linked c.in-Stale.ensures
+    choice_seen c.self.inside.shape c.self.inside.rows.rows c.self.inside.dups (Stale c.in-Stale.place) c.self.invariant.kept.linked c.in-Stale.ensures
     ∙ ap (λ (v : PagesView). place_of_new (place_count v.shape) v.listed.rows v.dups) c.self.view_is

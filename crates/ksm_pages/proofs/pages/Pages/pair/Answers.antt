@@ -1,5 +1,5 @@
-use Rattle.std.proofs.Common.{◌≡◌, ◌∙◌, ℕ, ◌+◌, true, List, [], ◌∷◌, ap, sym, subst, refl}
-use Rattle.std.specs.Prelude.{is_some}
+use Rattle.std.proofs.Common.{◌≡◌, ◌∙◌, ℕ, ◌+◌, true, List, [], ◌∷◌, ap, sym, subst, refl, None, length-set, ◌<◌}
+use Rattle.std.specs.Prelude.{is_some, slice_set}
 use Rattle.ksm_base.specs.declared.row.DupRow.{DupRow}
 use Rattle.ksm_base.specs.declared.row.Row.{Row}
 use Rattle.ksm_base.specs.declared.row.PageState.TheVariants.{Merged}
@@ -9,14 +9,18 @@ use Rattle.std.proofs.Common.{false}
 use Rattle.ksm_rmap.specs.Items.{with_item}
 use Rattle.ksm_tree.proofs.Changes.{rows_new}
 use Rattle.ksm_tree.specs.Dups.{DupsState, rows_of}
-use Rattle.ksm_pages.specs.Linked.{AreKept, AreLinked, IsVacant, PagesView, next_dup}
+use Rattle.ksm_pages.specs.Linked.{AreKept, AreLinked, IsVacant, PagesView, next_dup, ReplacedBoth, item_of_next}
 use Rattle.ksm_pages.proofs.Linking.{known_still, linked_made, none_live, own_not_merged}
 use Rattle.ksm_pages.proofs.Partners.{both_stopped}
+use Rattle.ksm_pages.proofs.Seen.{paired_put, seen_both}
+use Rattle.ksm_pages.specs.Listed.{rank}
+use Rattle.ksm_pages.specs.Lodged.{listed_seen}
+use Rattle.ksm_base.specs.Values.{frames_of}
 use Rattle.ksm_pages.proofs.pages.Pages.pair.Goals as goal
 
 pub new_dup-requires-clause-free : goal.new_dup-requires-clause-free
 new_dup-requires-clause-free c =
-    none_live c.args.place c.self.inside.rows.rows c.self.inside.dups.dups c.self.invariant.linked.tied
+    none_live c.args.place c.self.inside.rows.rows c.self.inside.dups.dups c.self.invariant.kept.linked.tied
     (subst (λ v. IsVacant c.args.place v.listed.rows v.dups) (sym c.self.view_is) c.requires.vacant)
 
 pub replace-requires-2 : goal.replace-requires-2
@@ -35,22 +39,34 @@ invariant_of-self-2 c =
     let rows =
     c.replace-2.ensures.changed
     ∙ ap (change_row second.page (λ _. record second { state = Merged c.in_ok-number.number })) c.replace.ensures.changed
-    ∙ ap (λ n. change_row second.page (λ _. record second { state = Merged n }) (change_row first.page (λ _. record first { state = Merged n }) old.rows.rows)) c.in_ok-number.ensures.number in
+    ∙ ap (λ n. change_row second.page (λ _. record second { state = Merged n })
+    (change_row first.page (λ _. record first { state = Merged n }) old.rows.rows)) c.in_ok-number.ensures.number in
     let found = ap (λ v. row_at first.page v.listed.rows) c.self.view_is ∙ c.requires.first_is in
     let also = ap (λ v. row_at second.page v.listed.rows) c.self.view_is ∙ c.requires.second_is in
-    subst (λ rs. AreKept old.shape old.knobs rs c.new_dup.new.self c.stop_waiting-2.new.waiting) (sym rows)
-    (record {
-      linked = subst (AreLinked old.shape (change_row second.page (λ _. item_of second) (change_row first.page (λ _. item_of first) old.rows.rows))) (sym c.in_ok-number.ensures.made)
-          (linked_made old.shape old.rows.rows old.dups c.self.invariant.linked first second row c.in_ok-number.ensures.lawful found also (own_not_merged first.state c.requires.first_alone) (own_not_merged second.state c.requires.second_alone)
-          (subst (λ v. All (λ r. merged_into v.next r.state ≡ false) v.listed.rows) (sym c.self.view_is) c.requires.fresh) refl);
-      waits = both_stopped old.knobs old.rows.rows old.waiting c.stop_waiting.new.waiting c.stop_waiting-2.new.waiting (item_of first) (item_of second) first second c.self.invariant.waits
-          found also c.requires.apart refl refl c.stop_waiting.ensures c.stop_waiting-2.ensures;
-    })
+    let item : Row → Row = λ r. record r { state = Merged c.in_ok-number.number } in
+    let between = paired_put old.rows c.replace.new.self (rank first.page old.rows.rows)
+    (item first) None c.self.invariant.paired c.replace.ensures.rows c.replace.ensures.frames in
+    record {
+      kept = subst (λ rs. AreKept old.shape old.knobs rs c.new_dup.new.self c.stop_waiting-2.new.waiting) (sym rows)
+          (record {
+            linked = subst (AreLinked old.shape (change_row second.page (λ _. item_of second) (change_row first.page (λ _. item_of first) old.rows.rows)))
+                (sym c.in_ok-number.ensures.made)
+                (linked_made old.shape old.rows.rows old.dups c.self.invariant.kept.linked first second row c.in_ok-number.ensures.lawful found also
+                (own_not_merged first.state c.requires.first_alone) (own_not_merged second.state c.requires.second_alone)
+                (subst (λ v. All (λ r. merged_into v.next r.state ≡ false) v.listed.rows) (sym c.self.view_is) c.requires.fresh) refl);
+            waits = both_stopped old.knobs old.rows.rows old.waiting c.stop_waiting.new.waiting c.stop_waiting-2.new.waiting (item_of first)
+                (item_of second) first second c.self.invariant.kept.waits
+                found also c.requires.apart refl refl c.stop_waiting.ensures c.stop_waiting-2.ensures;
+          });
+      paired = paired_put c.replace.new.self c.replace-2.new.self (rank second.page c.replace.new.self.rows)
+          (item second) None between c.replace-2.ensures.rows c.replace-2.ensures.frames;
+      room = length-set old.lodgings.items c.args.place _ ∙ c.self.invariant.room;
+    }
 
 pub returns-clause-made : goal.returns-clause-made
 returns-clause-made c =
     let old = c.self.inside in
-    let listed = c.replace-2.new.self in
+    let listed = listed_seen (rows_of c.new_dup.new.self.dups) (slice_set old.lodgings.items c.args.place c.args.frame) c.replace-2.new.self in
     let first = c.args.first in
     let dup : DupRow = record { number = old.dups.next; place = c.args.place; tree = c.tree_of-tree.result; bytes = first.bytes } in
     let seen : DupsState → PagesView = λ d. record { shape = old.shape; listed = listed; dups = rows_of d.dups; knobs = old.knobs; next = d.next } in
@@ -60,3 +76,42 @@ returns-clause-made c =
     ∙ ap with_rows (rows_new (record { row = dup; items = with_item c.args.second.page (first.page ∷ []) }) old.dups.dups)
     ∙ ap of_tree c.tree_of-tree.ensures
     ∙ ap (λ (v : PagesView). record v { listed = listed; dups = with_dup (next_dup v c.args.place first) v.dups; next = v.next + 1 }) c.self.view_is
+
+pub returns-clause-rows : goal.returns-clause-rows
+returns-clause-rows c =
+    let old = c.self.inside in
+    let first = c.args.first in
+    let second = c.args.second in
+    let frame = c.args.frame in
+    let number = c.in_ok-number.number in
+    let number_is = c.in_ok-number.ensures.number in
+    let item : ℕ → Row → Row = λ n r. record r { state = Merged n } in
+    let dup : DupRow = record { number = old.dups.next; place = c.args.place; tree = c.tree_of-tree.result; bytes = first.bytes } in
+    let k = rank first.page old.rows.rows in
+    let one = c.replace.new.self in
+    let l = rank second.page one.rows in
+    let seen = listed_seen (rows_of old.dups.dups) old.lodgings.items old.rows in
+    let now = ap (λ d. rows_of d.dups) c.in_ok-number.ensures.made ∙ rows_new (record { row = dup; items = with_item second.page (first.page ∷ []) })
+    old.dups.dups in
+    let vacant = subst (λ v. IsVacant c.args.place v.listed.rows v.dups) (sym c.self.view_is) c.requires.vacant in
+    let fresh = subst (λ v. All (λ r. merged_into v.next r.state ≡ false) v.listed.rows) (sym c.self.view_is) c.requires.fresh in
+    let inside = subst (λ n. c.args.place < n) (sym (c.self.invariant.room ∙ ap (λ v. frames_of v.shape) c.self.view_is)) c.requires.inside in
+    let frames = seen_both (rows_of old.dups.dups) old.lodgings.items dup frame c.in_ok-number.ensures.lawful.in_place_order
+    (rows_of c.new_dup.new.self.dups) old.rows one c.replace-2.new.self (item number first) (item number second) k l
+    now (ap Merged number_is) (ap Merged number_is) c.replace.ensures.rows c.replace.ensures.frames c.replace-2.ensures.rows c.replace-2.ensures.frames
+    vacant fresh c.in_ok-number.ensures.lawful.numbers_below inside in
+    subst (λ (v : PagesView). ReplacedBoth v.listed (listed_seen (rows_of c.new_dup.new.self.dups)
+    (slice_set old.lodgings.items c.args.place frame) c.replace-2.new.self) (item_of_next v first) (item_of_next v second) frame) c.self.view_is
+    (record {
+      between = record { rows = one.rows; frames = slice_set seen.frames k frame };
+      first = record {
+        rows = c.replace.ensures.rows ∙ ap (λ n. slice_set old.rows.rows k (item n first)) number_is;
+        frames = refl;
+        changed = c.replace.ensures.changed ∙ ap (λ n. change_row first.page (λ _. item n first) old.rows.rows) number_is;
+      };
+      second = record {
+        rows = c.replace-2.ensures.rows ∙ ap (λ n. slice_set one.rows l (item n second)) number_is;
+        frames = frames;
+        changed = c.replace-2.ensures.changed ∙ ap (λ n. change_row second.page (λ _. item n second) one.rows) number_is;
+      };
+    })

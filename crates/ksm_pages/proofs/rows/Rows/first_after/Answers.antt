@@ -15,7 +15,7 @@ use Rattle.ksm_pages.proofs.rows.Rows.first_after.Goals as goal
 
 pub returns : goal.returns
 returns c =
-    let es = c.self.inside.entries.entries in
-    let lent = c.range.ensures.between tt ∙ ap (λ b. entries_between page_order b Unbounded es) c.after_cursor.ensures in
+    let es = c.self.inside.entries in
+    let lent = c.range.ensures.between ∙ ap (λ b. entries_between page_order b Unbounded es) c.after_cursor.ensures in
     let walked = find_from_yields_List (λ (e : GuestPage × Entry). is_wanted c.args.wanted (row_of e)) _ _ c.find.result c.find.ensures.ran (YieldsList-from_rest (entries_between page_order (start_after c.args.cursor) Unbounded es) lent) (λ x b q k. search (rules, tests)) in
     c.row_found.ensures ∙ row_found (λ (r : Row). is_wanted c.args.wanted r && after_cursor c.args.cursor r.page) es c.args.self.now c.find.result c.self.view_is (walked ∙ find_after (is_wanted c.args.wanted) c.args.cursor es)

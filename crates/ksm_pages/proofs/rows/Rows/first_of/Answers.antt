@@ -15,11 +15,11 @@ use Rattle.ksm_pages.proofs.rows.Rows.first_of.Goals as goal
 
 pub returns : goal.returns
 returns c =
-    let es = c.self.inside.entries.entries in
+    let es = c.self.inside.entries in
     let guest = c.args.guest in
     let t = is_wanted c.args.wanted in
     let walked = find_from_yields_List (λ (e : GuestPage × Entry). nat_lt guest e.0.guest || t (row_of e)) _ _ c.find-found.result c.find-found.ensures.ran
-    (YieldsList-from_rest (entries_between page_order c.guest_after.result Unbounded es) (c.range.ensures.between tt)) (λ x b q k. search (rules, tests)) in
+    (YieldsList-from_rest (entries_between page_order c.guest_after.result Unbounded es) c.range.ensures.between) (λ x b q k. search (rules, tests)) in
     c.up_to_guest.ensures ∙ ap (up_to guest) (c.row_found.ensures ∙ row_found (stops guest t c.args.cursor) es c.args.self.now c.find-found.result c.self.view_is
     (walked ∙ find_from (λ r. nat_lt guest r.page.guest || t r) guest c.args.cursor c.guest_after.result c.guest_after.ensures es))
     ∙ ap (λ (l : Listed). up_to guest (find (stops guest t c.args.cursor) l.rows)) (sym c.self.view_is)

@@ -6,4 +6,4 @@ use Rattle.ksm_pages.proofs.RowLists.{known_by}
 use Rattle.ksm_pages.proofs.rows.Rows.has.Goals as goal
 
 pub returns : goal.returns
-returns c = c.contains_key.ensures ∙ sym (known_by c.args.page c.self.inside.entries.entries) ∙ ap (λ (l : Listed). is_some (row_at c.args.page l.rows)) c.self.view_is
+returns c = c.has.ensures ∙ sym (known_by c.args.page c.self.inside.entries) ∙ ap (λ (l : Listed). is_some (row_at c.args.page l.rows)) c.self.view_is

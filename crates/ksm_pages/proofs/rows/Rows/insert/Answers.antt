@@ -1,17 +1,18 @@
 use Rattle.std.proofs.Common.{refl, ◌∙◌, sym, ap, subst}
 use Rattle.std.specs.BTreeMap.{insert_entry}
+use Rattle.ksm_base.specs.Rows.{row_at}
 use Rattle.ksm_pages.specs.Listed.{Listed}
 use Rattle.ksm_pages.specs.Tallied.{IsTally}
 use Rattle.ksm_pages.specs.RowEntries.{entry_of, listed}
-use Rattle.ksm_pages.proofs.RowLists.{order, Came, came}
+use Rattle.ksm_pages.proofs.RowLists.{order, Came, came, no_entry_by}
 use Rattle.ksm_pages.proofs.Tallies.{tally_put}
 use Rattle.ksm_pages.proofs.rows.Rows.insert.Goals as goal
 
 pub returns-in_err-insert-clause-within : goal.returns-in_err-insert-clause-within
-returns-in_err-insert-clause-within c = (came c.self.inside.entries.entries (insert_entry order c.self.inside.entries.entries c.args.row.page (entry_of c.args.row c.args.frame)) c.args.self.now c.args.row c.args.frame c.self.view_is c.in_err-insert.ensures.was_ordered c.requires refl).within
+returns-in_err-insert-clause-within c = (came c.self.inside.entries (insert_entry order c.self.inside.entries c.args.row.page (entry_of c.args.row c.args.frame)) c.args.self.now c.args.row c.args.frame c.self.view_is c.in_err-insert.ensures.was_ordered c.requires refl).within
 
-came_in : (c : goal.After-self-1) → Came c.args.self.now (listed c.insert.new.self.entries) c.args.row c.args.frame
-came_in c = came c.self.inside.entries.entries c.insert.new.self.entries c.args.self.now c.args.row c.args.frame c.self.view_is c.in_ok-insert.ensures.was_ordered c.requires (c.in_ok-insert.ensures.entries ∙ ap (insert_entry order c.self.inside.entries.entries c.args.row.page) c.new.ensures)
+came_in : (c : goal.After-self-1) → Came c.args.self.now (listed c.insert.new.self) c.args.row c.args.frame
+came_in c = came c.self.inside.entries c.insert.new.self c.args.self.now c.args.row c.args.frame c.self.view_is c.in_ok-insert.ensures.was_ordered c.requires (c.in_ok-insert.ensures.entries ∙ ap (insert_entry order c.self.inside.entries c.args.row.page) c.new.ensures)
 
 pub returns-clause-rows : goal.returns-clause-rows
 returns-clause-rows c = (came_in c).rows
@@ -36,3 +37,7 @@ invariant_of-self-2 c =
     let came = came_in c in
     let are = subst (λ (l : Listed). IsTally l.rows c.self.inside.tally) c.self.view_is c.self.invariant in
     subst (λ l. IsTally l c.with-self-inside.result) (sym came.rows) (tally_put c.args.self.now.rows _ c.args.row c.self.inside.tally c.with-self-inside.result came.within are c.with-self-inside.ensures)
+
+-- a page without a row has no entry
+pub insert-requires : goal.insert-requires
+insert-requires c = no_entry_by c.args.row.page c.self.inside.entries (ap (λ (l : Listed). row_at c.args.row.page l.rows) c.self.view_is ∙ c.requires)

@@ -1,4 +1,4 @@
-use Rattle.std.proofs.Common.{◌≡◌, ◌∙◌, refl, sym, ap, subst, Some, None}
+use Rattle.std.proofs.Common.{◌∙◌, refl, sym, ap, subst, Some, None}
 use Rattle.std.specs.Prelude.{is_some}
 use Rattle.ksm_base.specs.Rows.{InPageOrder, change_row}
 use Rattle.ksm_pages.specs.Listed.{Listed}
@@ -7,7 +7,7 @@ use Rattle.ksm_pages.proofs.rows.Rows.make_mergeable.Goals as goal
 
 pub loop-row-init : goal.loop-row-init
 loop-row-init c = record {
-  order = subst (λ (l : Listed). InPageOrder l.rows) c.self.view_is (in_order c.self.inside.entries.entries c.len.ensures.ordered);
+  order = subst (λ (l : Listed). InPageOrder l.rows) c.self.view_is (in_order c.self.inside.entries c.len.ensures.ordered);
   rows = sym (begun c.args.guest None as_mergeable c.args.self.now.rows);
   frames = refl;
 }

@@ -12,9 +12,12 @@ use Rattle.ksm_pages.proofs.rows.Rows.remove.Goals.{In_default}
 -- the page has a row, so it has an entry
 never : (c : In_default) → ⊥
 never c =
-    let none : is_some (row_at c.args.page c.args.self.now.rows) ≡ false = ap (λ (l : Listed). is_some (row_at c.args.page l.rows)) (sym c.self.view_is) ∙ known_by c.args.page c.self.inside.entries.entries
+    let none : is_some (row_at c.args.page c.args.self.now.rows) ≡ false = ap (λ (l : Listed). is_some (row_at c.args.page l.rows)) (sym c.self.view_is) ∙ known_by c.args.page c.self.inside.entries
     ∙ ap is_some (sym c.remove.ensures.value ∙ c.in_default.is) in
     grind (arith, none, c.requires)
+
+pub invariant_of-self : goal.invariant_of-self
+invariant_of-self c = absurd (never c)
 
 pub returns-in_default-clause-stood : goal.returns-in_default-clause-stood
 returns-in_default-clause-stood c = never c
@@ -28,25 +31,25 @@ returns-in_default-clause-frames c = absurd (never c)
 pub returns-in_default-clause-gone : goal.returns-in_default-clause-gone
 returns-in_default-clause-gone c = absurd (never c)
 
-went_out : (c : goal.After-self-1) → Went c.args.self.now (listed c.remove.new.self.entries) c.args.page
-went_out c = went c.self.inside.entries.entries c.remove.new.self.entries c.args.self.now c.args.page c.self.view_is c.len.ensures.ordered c.requires c.remove.ensures.entries
+went_out : (c : goal.After-self-1) → Went c.args.self.now (listed c.remove.new.self) c.args.page
+went_out c = went c.self.inside.entries c.remove.new.self c.args.self.now c.args.page c.self.view_is c.remove.ensures.ordered c.requires c.remove.ensures.entries
 
 pub without-self-inside-requires : goal.without-self-inside-requires
 without-self-inside-requires c =
-    let found : lookup (asks c.args.page) c.self.inside.entries.entries ≡ Some c.in-Some.entry = sym c.remove.ensures.value ∙ c.in-Some.is in
-    page_counted c.self.inside.entries.entries c.args.self.now c.args.page c.in-Some.entry c.row-row.result c.self.inside.tally c.self.view_is c.len.ensures.ordered found c.row-row.ensures c.self.invariant
+    let found : lookup (asks c.args.page) c.self.inside.entries ≡ Some c.in-Some.entry = sym c.remove.ensures.value ∙ c.in-Some.is in
+    page_counted c.self.inside.entries c.args.self.now c.args.page c.in-Some.entry c.row-row.result c.self.inside.tally c.self.view_is c.remove.ensures.ordered found c.row-row.ensures c.self.invariant
 
 pub invariant_of-self-2 : goal.invariant_of-self-2
 invariant_of-self-2 c =
-    let found : lookup (asks c.args.page) c.self.inside.entries.entries ≡ Some c.in-Some.entry = sym c.remove.ensures.value ∙ c.in-Some.is in
-    page_gone c.self.inside.entries.entries c.args.self.now c.args.page c.in-Some.entry c.row-row.result c.self.inside.tally c.self.view_is c.len.ensures.ordered found c.row-row.ensures c.self.invariant
+    let found : lookup (asks c.args.page) c.self.inside.entries ≡ Some c.in-Some.entry = sym c.remove.ensures.value ∙ c.in-Some.is in
+    page_gone c.self.inside.entries c.args.self.now c.args.page c.in-Some.entry c.row-row.result c.self.inside.tally c.self.view_is c.remove.ensures.ordered found c.row-row.ensures c.self.invariant
     c.without-self-inside.result _ (went_out c).rows c.without-self-inside.ensures
 
 pub returns-clause-stood : goal.returns-clause-stood
 returns-clause-stood c =
-    let found : lookup (asks c.args.page) c.self.inside.entries.entries ≡ Some c.in-Some.entry = sym c.remove.ensures.value ∙ c.in-Some.is in
+    let found : lookup (asks c.args.page) c.self.inside.entries ≡ Some c.in-Some.entry = sym c.remove.ensures.value ∙ c.in-Some.is in
     subst (λ (l : Listed). StandsAt l c.args.page c.row-row.result c.in-Some.entry.frame) c.self.view_is
-    (subst (λ r. StandsAt (listed c.self.inside.entries.entries) c.args.page r c.in-Some.entry.frame) (sym c.row-row.ensures) (stands_at c.args.page c.in-Some.entry c.self.inside.entries.entries c.len.ensures.ordered found))
+    (subst (λ r. StandsAt (listed c.self.inside.entries) c.args.page r c.in-Some.entry.frame) (sym c.row-row.ensures) (stands_at c.args.page c.in-Some.entry c.self.inside.entries c.remove.ensures.ordered found))
 
 pub returns-clause-rows : goal.returns-clause-rows
 returns-clause-rows c = (went_out c).rows

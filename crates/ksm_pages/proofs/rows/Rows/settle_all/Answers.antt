@@ -1,50 +1,52 @@
-use Rattle.std.proofs.Common.{◌≡◌, ◌∙◌, refl, sym, ap, map, subst, rules}
-use Rattle.std.specs.Prelude.{count_by, if◌then◌else◌}
+use Rattle.std.proofs.Common.{◌≡◌, ◌∙◌, ◌∷◌, ◌++◌, [], append-nil, append_assoc, refl, sym, ap, map, subst}
 use Rattle.ksm_base.specs.declared.page.GuestPage.{GuestPage}
-use Rattle.ksm_base.specs.declared.row.PageState.{PageState}
-use Rattle.ksm_base.specs.declared.row.PageState.TheVariants.{Private, Waiting, Merged, Zero}
-use Rattle.ksm_base.specs.Rows.{waiting_state, settled_state, settled}
-use Rattle.ksm_pages.specs.declared.entry.Entry.{Entry}
-use Rattle.ksm_pages.specs.Listed.{Listed}
-use Rattle.ksm_pages.specs.RowEntries.{listed, row_of}
+use Rattle.ksm_base.specs.Rows.{change_row, settled}
+use Rattle.ksm_tree.specs.Waits.{WaitingPage}
+use Rattle.ksm_pages.specs.Listed.{AreNamed, Listed}
+use Rattle.ksm_pages.specs.RowEntries.{row_of}
 use Rattle.ksm_pages.specs.Tallied.{IsTally}
-use Rattle.ksm_pages.proofs.RowWalks.{map_pairs, all_changed}
-use Rattle.ksm_pages.proofs.Tallies.{none_settle, tally_settled, tally_within}
+use Rattle.ksm_pages.proofs.RowLists.{rows_of}
+use Rattle.ksm_pages.proofs.Settling.{all_calmed, calmed, none_calmed, one_more_calmed, settles_one}
+use Rattle.ksm_pages.proofs.Tallies.{tally_settled, tally_within}
 use Rattle.ksm_pages.proofs.rows.Rows.settle_all.Goals as goal
 
--- an entry that waits no more
-abbrev calmed : GuestPage → Entry → Entry
-calmed page e = record e { state = if waiting_state e.state then Private else e.state }
+pub loop-page-init : goal.loop-page-init
+loop-page-init c = ([], sym c.pages-page-items.ensures ∙ sym c.into_iter-page-iterator.ensures.into_iter_gives, none_calmed (rows_of c.self.inside.entries), refl, refl)
 
-calms : (s : PageState) → (if waiting_state s then Private else s) ≡ settled_state s
-calms Private = refl
-calms Waiting = refl
-calms (Merged number) = refl
-calms Zero = refl
+pub loop-page-preserved : goal.loop-page-preserved
+loop-page-preserved c =
+    let so_far = c.loop-page.invariant in
+    let page : GuestPage = c.in-Some.page.now in
+    let step = settles_one page c.loop-page.self-inside.entries c.settle.new.self c.settle.ensures.ordered c.settle.ensures.entries in (
+      so_far.0 ++ page ∷ [],
+      so_far.1 ∙ ap (λ l. so_far.0 ++ l) c.in-Some.ensures.steps ∙ sym (append_assoc so_far.0 (page ∷ []) c.next.new.self),
+      step.rows ∙ ap (change_row page settled) so_far.2 ∙ one_more_calmed so_far.0 page (rows_of c.self.inside.entries),
+      step.frames ∙ so_far.3,
+      so_far.4,
+    )
 
-written : (c : goal.After-self-1) → listed c.retain.new.self.entries ≡ record { rows = map settled c.args.self.now.rows; frames = c.args.self.now.frames }
-written c =
-    let es = c.self.inside.entries.entries in
-    all_changed settled (λ r. refl) es c.retain.new.self.entries c.args.self.now c.self.view_is
-    (map_pairs _ calmed _ (λ k v b w f' t. search rules) es c.retain.new.self.entries c.retain.ensures.filtered ∙ (λ t. map (λ e. (e.0, record e.1 { state = calms e.1.state t })) es))
-
--- no row waits
-pub returns-then-self-eq0-clause-rows : goal.returns-then-self-eq0-clause-rows
-returns-then-self-eq0-clause-rows c = sym (none_settle c.args.self.now.rows (ap (λ (l : Listed). count_by (λ r. waiting_state r.state) l.rows) (sym c.self.view_is) ∙ sym c.self.invariant.waiting ∙ c.if-self-eq0.true))
+-- all pages were met
+none_waits : (c : goal.After-self-1) → rows_of c.loop-page.self-inside.entries ≡ map settled c.args.self.now.rows
+none_waits c =
+    let so_far = c.loop-page.invariant in
+    let rows = rows_of c.self.inside.entries in
+    let done : so_far.0 ≡ map (λ (w : WaitingPage). w.page) c.args.waiting.now = sym (so_far.1 ∙ ap (λ l. so_far.0 ++ l) c.in-None.ensures.steps.0 ∙ append-nil so_far.0) in
+    let named = subst (λ (l : Listed). AreNamed c.args.waiting.now l.rows) (sym c.self.view_is) c.requires in
+    so_far.2 ∙ ap (λ pages. map (calmed pages) rows) done ∙ all_calmed c.args.waiting.now rows named ∙ ap (λ (l : Listed). map settled l.rows) c.self.view_is
 
 pub returns-clause-rows : goal.returns-clause-rows
-returns-clause-rows c = ap (λ (l : Listed). l.rows) (written c)
+returns-clause-rows c = none_waits c
 
 pub returns-clause-frames : goal.returns-clause-frames
-returns-clause-frames c = ap (λ (l : Listed). l.frames) (written c)
+returns-clause-frames c = c.loop-page.invariant.3 ∙ ap (λ (l : Listed). l.frames) c.self.view_is
 
 pub settled-self-inside-requires : goal.settled-self-inside-requires
 settled-self-inside-requires c =
-    let rows = map row_of c.self.inside.entries.entries in
-    rw (c.self.invariant.volatile, c.self.invariant.pending, c.self.invariant.mergeable) (tally_within rows)
+    let rows = map row_of c.self.inside.entries in
+    rw (c.loop-page.invariant.4, c.self.invariant.volatile, c.self.invariant.pending, c.self.invariant.mergeable) (tally_within rows)
 
 pub invariant_of-self : goal.invariant_of-self
 invariant_of-self c =
-    let rows = map row_of c.self.inside.entries.entries in
-    subst (λ l. IsTally l c.settled-self-inside.result) (sym (ap (λ (l : Listed). l.rows) (written c) ∙ ap (λ (l : Listed). map settled l.rows) (sym c.self.view_is)))
-    (rw c.settled-self-inside.ensures (tally_settled rows c.self.inside.tally c.self.invariant))
+    let rows = map row_of c.self.inside.entries in
+    subst (λ l. IsTally l c.settled-self-inside.result) (sym (none_waits c ∙ ap (λ (l : Listed). map settled l.rows) (sym c.self.view_is)))
+    (rw (c.settled-self-inside.ensures, c.loop-page.invariant.4) (tally_settled rows c.self.inside.tally c.self.invariant))

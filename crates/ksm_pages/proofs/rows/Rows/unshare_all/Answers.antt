@@ -1,15 +1,14 @@
-use Rattle.std.proofs.Common.{◌≡◌, ◌∙◌, refl, sym, ap, map, subst, rules}
+use Rattle.std.proofs.Common.{◌≡◌, ◌∙◌, refl, sym, ap, map, subst}
 use Rattle.ksm_base.specs.Apply.{unshared}
 use Rattle.ksm_pages.specs.Listed.{Listed}
 use Rattle.ksm_pages.specs.RowEntries.{listed, row_of}
 use Rattle.ksm_pages.specs.Tallied.{IsTally}
-use Rattle.ksm_pages.proofs.RowWalks.{changed, map_pairs, all_changed}
+use Rattle.ksm_pages.proofs.RowWalks.{all_changed}
 use Rattle.ksm_pages.proofs.Tallies.{tally_unshared}
 use Rattle.ksm_pages.proofs.rows.Rows.unshare_all.Goals as goal
 
-written : (c : goal.After-self-1) → listed c.retain.new.self.entries ≡ record { rows = map unshared c.args.self.now.rows; frames = c.args.self.now.frames }
-written c = all_changed unshared (λ r. refl) c.self.inside.entries.entries c.retain.new.self.entries c.args.self.now c.self.view_is
-    (map_pairs _ (changed unshared) _ (λ k v b w f' t. search rules) c.self.inside.entries.entries c.retain.new.self.entries c.retain.ensures.filtered)
+written : (c : goal.After-self-1) → listed c.unshare_all.new.self ≡ record { rows = map unshared c.args.self.now.rows; frames = c.args.self.now.frames }
+written c = all_changed unshared (λ r. refl) c.self.inside.entries c.unshare_all.new.self c.args.self.now c.self.view_is c.unshare_all.ensures
 
 pub returns-clause-rows : goal.returns-clause-rows
 returns-clause-rows c = ap (λ (l : Listed). l.rows) (written c)
@@ -19,6 +18,6 @@ returns-clause-frames c = ap (λ (l : Listed). l.frames) (written c)
 
 pub invariant_of-self : goal.invariant_of-self
 invariant_of-self c =
-    let rows = map row_of c.self.inside.entries.entries in
+    let rows = map row_of c.self.inside.entries in
     subst (λ l. IsTally l c.unshared-self-inside.result) (sym (ap (λ (l : Listed). l.rows) (written c) ∙ ap (λ (l : Listed). map unshared l.rows) (sym c.self.view_is)))
     (rw c.unshared-self-inside.ensures (tally_unshared rows c.self.inside.tally c.self.invariant))

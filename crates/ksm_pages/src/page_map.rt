@@ -1,0 +1,222 @@
+//! Pages in order, each found by a hash: the entries of the rows, under their pages.
+//!
+//! The entries stand in a map of hashes, each at an index. Beside it the pages stand in order, each with its index there.
+//! With n pages, `has`, `get`, `set`, `revise` and `settle` cost a hash and a comparison in the mean. `insert` also
+//! searches in the order once, and `remove`, which needs no hash, twice, in a number of steps in the order of log n. An
+//! `insert` that finds no room moves all entries to a larger place: in the mean that is a few steps for each. What is
+//! left of a page that went is kept for one that comes.
+//! A walk takes one step for each page, and no hash. `unshare_all` walks over all entries, in no order.
+//! The hash has a fixed seed, so pages can be picked that collide: then a search takes a step for each.
+
+ghost use Rattle.std.specs.Prelude.{◌≡◌, ◌^◌, ◌<◌, [], None, Some, length, slice_get, is_some, MatchOption, OnOk, OnErr, Err};
+ghost use Rattle.std.specs.Option.{option_copied};
+ghost use Rattle.std.specs.Iterator.{at_most};
+ghost use Rattle.std.specs.Map.{lookup, set_value, remove_entry};
+ghost use Rattle.std.specs.Map.Iter.{TakesFirst, deref_pair};
+ghost use Rattle.std.specs.BTreeMap.{insert_entry};
+ghost use Rattle.std.specs.BTreeMap.Range.{entries_between};
+ghost use Rattle.std.specs.declared.ops.Bound.TheVariants.{Unbounded};
+ghost use Rattle.ksm_base.specs.declared.fault.Fault.TheVariants.{Memory};
+ghost use Rattle.ksm_base.specs.Apply.{unshared as as_unshared};
+ghost use Rattle.ksm_base.specs.Rows.{settled_state};
+ghost use Rattle.ksm_pages.specs.Paged.{Sorted, asks, changed_all};
+ghost use Rattle.ksm_pages.specs.RowEntries.{entry_of, page_order};
+
+use crate::entry::Entry;
+use crate::row::{settled, unshared};
+use indexmap::IndexMap;
+use ksm_base::{Fault, GuestPage, Row};
+use std::alloc::Global;
+use std::collections::BTreeMap;
+use std::collections::btree_map::Range;
+use std::iter::Iterator;
+use std::marker::Model;
+use std::ops::Bound;
+
+/// Entries under their pages, in the order of these.
+#[derive(Drop)]
+pub struct PageMap {
+    found: IndexMap<GuestPage, Entry>,
+    order: BTreeMap<GuestPage, usize>,
+}
+
+impl Model for PageMap {
+    ghost use Rattle.ksm_pages.specs.Paged.{Entries, IsPaged, paged};
+
+    ghost Value = { Entries };
+
+    ghost view = { λ m. paged m.found.entries m.order.entries };
+
+    ghost invariant = { λ m. IsPaged m.found.entries m.order.entries };
+}
+
+/// What a walk has left: pages in order, each with its entry.
+#[derive(Drop)]
+pub struct Walk<'a> {
+    left: Range<'a, GuestPage, usize>,
+    found: &'a IndexMap<GuestPage, Entry>,
+}
+
+impl<'a> Model for Walk<'a> {
+    ghost use Rattle.ksm_pages.specs.Paged.{AreWithin, Entries, paged};
+
+    ghost Value = { Entries };
+
+    ghost view = { λ w. paged w.found.now.entries w.left };
+
+    ghost invariant = { λ w. AreWithin w.found.now.entries w.left };
+}
+
+impl<'a> Iterator for Walk<'a> {
+    type Item = (&'a GuestPage, &'a Entry);
+
+    ghost next_gives = { TakesFirst deref_pair };
+
+    ghost remaining = { λ s. at_most (length s) };
+
+    fn next(&mut self) -> Option<(&'a GuestPage, &'a Entry)> {
+        let (page, index) = self.left.next()?;
+        Some((page, &self.found[*index]))
+    }
+}
+
+// The page that moved to an index, if one did, has it in the order too.
+fn tell_index(
+    found: &IndexMap<GuestPage, Entry>,
+    order: &mut BTreeMap<GuestPage, usize>,
+    index: usize,
+)
+    ensures { MatchOption (slice_get found.now.entries index) (order.new.entries ≡ order.old.entries) (λ e. order.new.entries ≡ set_value (asks e.0) order.old.entries index) }
+{
+    let Some((page, _)) = found.get_index(index) else {
+        return;
+    };
+    if let Some(kept) = order.get_mut(page) {
+        *kept = index;
+    }
+}
+
+impl PageMap {
+    /// No pages.
+    pub fn new(alloc: Global) -> PageMap
+        ensures { result ≡ [] }
+    {
+        PageMap {
+            found: IndexMap::new(alloc),
+            order: BTreeMap::new(alloc),
+        }
+    }
+
+    /// How many pages there are.
+    pub fn len(&self) -> usize
+        ensures len { result ≡ length self.now }
+        ensures small { result < 2 ^ 63 }
+        ensures ordered { Sorted self.now }
+    {
+        self.order.len()
+    }
+
+    /// Whether the page has an entry.
+    pub fn has(&self, page: GuestPage) -> bool
+        ensures { result ≡ is_some (lookup (asks page) self.now) }
+    {
+        self.found.contains_key(&page)
+    }
+
+    /// The entry of a page.
+    pub fn get(&self, page: GuestPage) -> Option<&Entry>
+        ensures value { option_copied result ≡ lookup (asks page) self.now }
+        ensures ordered { Sorted self.now }
+    {
+        self.found.get(&page)
+    }
+
+    /// The pages from here on, with their entries.
+    pub fn range(&self, start: Bound<GuestPage>) -> Walk<'_>
+        ensures between { result ≡ entries_between page_order start Unbounded self.now }
+        ensures ordered { Sorted self.now }
+    {
+        Walk {
+            left: self.order.range((start, Bound::Unbounded)),
+            found: &self.found,
+        }
+    }
+
+    /// Adds a page that has no entry, with its entry. Refused for memory alone, it changes nothing.
+    pub fn insert(&mut self, page: GuestPage, entry: Entry) -> Result<(), Fault>
+        requires { lookup (asks page) self.old ≡ None }
+        ensures entries { OnOk result (self.new ≡ insert_entry page_order self.old page entry) }
+        ensures was_ordered { Sorted self.old }
+        ensures refused { OnErr result (self.new ≡ self.old) }
+        ensures fault { OnErr result (result ≡ Err Memory) }
+    {
+        self.found.reserve(1)?;
+        let index = self.found.len();
+        let _ = self.order.insert(page, index)?;
+        // There is room for it.
+        let _ = self.found.insert(page, entry);
+        Ok(())
+    }
+
+    /// Puts an entry in the stead of the page's, if it has one, and gives that one.
+    pub fn set(&mut self, page: GuestPage, entry: Entry) -> Option<Entry>
+        ensures value { result ≡ lookup (asks page) self.old }
+        ensures entries { self.new ≡ set_value (asks page) self.old entry }
+        ensures ordered { Sorted self.old }
+    {
+        let kept = self.found.get_mut(&page)?;
+        let old = *kept;
+        *kept = entry;
+        Some(old)
+    }
+
+    /// Puts a row in the stead of its page's, if it has one, on the frame where it is, and gives the entry as it was.
+    pub fn revise(&mut self, row: Row) -> Option<Entry>
+        ensures value { result ≡ lookup (asks row.page) self.old }
+        ensures entries { MatchOption result (self.new ≡ self.old) (λ e. self.new ≡ set_value (asks row.page) self.old (entry_of row e.frame)) }
+        ensures ordered { Sorted self.old }
+    {
+        let kept = self.found.get_mut(&row.page)?;
+        let old = *kept;
+        kept.set_row(row);
+        Some(old)
+    }
+
+    /// Takes a page and its entry away, if it has one.
+    pub fn remove(&mut self, page: GuestPage) -> Option<Entry>
+        ensures value { result ≡ lookup (asks page) self.old }
+        ensures entries { self.new ≡ remove_entry (asks page) self.old }
+        ensures ordered { Sorted self.old }
+    {
+        // The contract of `len` says that no page is found twice.
+        let _ = self.found.len();
+        let index = self.order.remove(&page)?;
+        let (_, entry) = self.found.swap_remove_index(index)?;
+        tell_index(&self.found, &mut self.order, index);
+        Some(entry)
+    }
+
+    /// The row of a page waits no more, if it has one that does.
+    pub fn settle(&mut self, page: GuestPage)
+        ensures entries { MatchOption (lookup (asks page) self.old) (self.new ≡ self.old) (λ e. self.new ≡ set_value (asks page) self.old (record e { state = settled_state e.state })) }
+        ensures ordered { Sorted self.old }
+    {
+        let Some(kept) = self.found.get_mut(&page) else {
+            return;
+        };
+        kept.state = settled(kept.state);
+    }
+
+    // This call writes every entry and drops none. It does so by `retain`, whose contract says what is written to each
+    // value; that of a loop over `values_mut` does not.
+
+    /// Every row becomes Private and not unchanged.
+    pub fn unshare_all(&mut self)
+        ensures { self.new ≡ changed_all as_unshared self.old }
+    {
+        self.found.retain(|page, entry| {
+            entry.set_row(unshared(entry.row(*page)));
+            true
+        });
+    }
+}
