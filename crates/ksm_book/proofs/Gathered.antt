@@ -19,7 +19,7 @@ use Rattle.ksm_pages.specs.declared.row.Run.{Run}
 use Rattle.ksm_pages.specs.Scanned.{AreAhead, AreKeptAfter, AreRuns, GoesOnAt, IsLeft as IsLeftOver, IsRun, IsUnderWay, RunsOver, mark, moved_to, page_of, cursor_after}
 use Rattle.ksm_book.specs.declared.scan.Ahead.{Ahead}
 use Rattle.ksm_book.specs.declared.scan.Remains.{Remains}
-use Rattle.ksm_book.specs.declared.scan.Remains.TheVariants.{All, Behind, Nothing}
+use Rattle.ksm_book.specs.declared.scan.Remains.TheVariants.{Same, All, Behind, Nothing}
 use Rattle.ksm_book.specs.Gathered.{GoesOnAtPage, IsAhead, IsKnown, IsLeft, Remain, behind}
 use Rattle.ksm_book.proofs.Passing.{begins_none}
 
@@ -188,24 +188,25 @@ module _ (old new : List Row) (same : map mark new ≡ map mark old) where
       by None are = tt
       by (Some page) are = kept_marked (Some page) ahead.found.items are
 
-change_marks : (page : GuestPage) (new : Row) (rows : List Row) → Each (λ r. same_page r.page page ≡ true → mark r ≡ mark new) rows
-    → map mark (change_row page (λ _. new) rows) ≡ map mark rows
-change_marks page new [] each = refl
-change_marks page new (r ∷ rows) each = λ t. by (same_page r.page page) (All-head P r rows each) t ∷ change_marks page new rows (All-tail P r rows each) t
-  where
-    P : Row → Type 0
-    P x = same_page x.page page ≡ true → mark x ≡ mark new
+-- the rows tell the same where the one of a page has another in its stead that does
+module _ {X : Type 0} (told : Row → X) where
+  change_told : (page : GuestPage) (new : Row) (rows : List Row) → Each (λ r. same_page r.page page ≡ true → told r ≡ told new) rows
+      → map told (change_row page (λ _. new) rows) ≡ map told rows
+  change_told page new [] each = refl
+  change_told page new (r ∷ rows) each = λ t. by (same_page r.page page) (All-head P r rows each) t ∷ change_told page new rows (All-tail P r rows each) t
+    where
+      P : Row → Type 0
+      P x = same_page x.page page ≡ true → told x ≡ told new
 
-    by : (b : Bool) → (b ≡ true → mark r ≡ mark new) → mark (cond b new r) ≡ mark r
-    by true is = sym (is refl)
-    by false is = refl
+      by : (b : Bool) → (b ≡ true → told r ≡ told new) → told (cond b new r) ≡ told r
+      by true is = sym (is refl)
+      by false is = refl
 
--- a row has another in its stead that is visited or not, and stays or not, as it did
-pub marks_row : (row new : Row) (rows : List Row) → InPageOrder rows → row_at row.page rows ≡ Some row → mark new ≡ mark row → map mark (change_row row.page (λ _. new) rows) ≡ map mark rows
-marks_row row new rows rise found same = change_marks row.page new rows (λ k d lt at. alike (get_or rows k d) (each_at_page rows rise k d lt) at)
-  where
-    alike : (r : Row) → row_at r.page rows ≡ Some r → same_page r.page row.page ≡ true → mark r ≡ mark new
-    alike r is at = ap mark (same_Some r row (sym (ap (λ p. row_at p rows) (sym (same_page_eq r.page row.page at)) ∙ is) ∙ found)) ∙ sym same
+  pub told_alike : (row new : Row) (rows : List Row) → InPageOrder rows → row_at row.page rows ≡ Some row → told new ≡ told row → map told (change_row row.page (λ _. new) rows) ≡ map told rows
+  told_alike row new rows rise found same = change_told row.page new rows (λ k d lt at. alike (get_or rows k d) (each_at_page rows rise k d lt) at)
+    where
+      alike : (r : Row) → row_at r.page rows ≡ Some r → same_page r.page row.page ≡ true → told r ≡ told new
+      alike r is at = ap told (same_Some r row (sym (ap (λ p. row_at p rows) (sym (same_page_eq r.page row.page at)) ∙ is) ∙ found)) ∙ sym same
 
 marks_settled : (rows : List Row) → map mark (map settled rows) ≡ map mark rows
 marks_settled [] = refl
@@ -216,6 +217,20 @@ marks_settled (r ∷ rows) = λ t. (r.page, (r.mergeable, same r.state t)) ∷ m
     same Waiting = refl
     same (Merged d) = refl
     same Zero = refl
+
+-- a row that waits is the same as one that does not, but for that
+pub settled_alone : (row : Row) → shared_state row.state ≡ false → settled (record row { state = Waiting }) ≡ settled row
+settled_alone row alone = λ t. record row { state = by row.state alone t }
+  where
+    by : (s : PageState) → shared_state s ≡ false → Private ≡ settled_state s
+    by Private is = refl
+    by Waiting is = refl
+    by (Merged d) is = absurd (grind (arith, is))
+    by Zero is = absurd (grind (arith, is))
+
+-- rows that are the same, but for which of them wait, are visited or not alike, and stay or not
+marks_same : (old new : List Row) → map settled new ≡ map settled old → map mark new ≡ map mark old
+marks_same old new same = sym (marks_settled new) ∙ ap (map mark) same ∙ marks_settled old
 
 marks_begun : (b : BookState) → map mark (visit_begun b).rows ≡ map mark b.rows
 marks_begun b =
@@ -295,6 +310,9 @@ behind_ahead b begun ahead row are none is next = by ahead.run are.0 none
 -- what is known once a page was visited
 pub left_known : (remains : Remains) (page : GuestPage) (old new : List Row) (before after : Ahead) → Remain remains page old new → IsLeft remains before after
     → AreRuns old (Some page) (behind before) → IsKnown old before → AreRuns new (Some page) (behind after) × IsKnown new after
+left_known Same page old new before after same left runs known =
+    let alike = marks_same old new same in
+    subst (λ (a : Ahead). AreRuns new (Some page) (behind a) × IsKnown new a) (sym left) (kept_marked old new alike (Some page) (behind before) runs, known_marked old new alike before known)
 left_known All page old new before after same left runs known =
     subst (λ (a : Ahead). AreRuns new (Some page) (behind a) × IsKnown new a) (sym left) (kept_marked old new same (Some page) (behind before) runs, known_marked old new same before known)
 left_known Behind page old new before after kept left runs known =

@@ -9,3 +9,4 @@ pub mod Journaled
 pub mod Resettling
 pub mod Passing
 pub mod Gathered
+pub mod Quiet

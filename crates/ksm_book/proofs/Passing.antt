@@ -108,7 +108,7 @@ visits_on n (suc k) b = (let e : suc k + n ≡ suc (k + n) = omega arith in ap (
 then_then : (x y z : Deed) → then_doing (then_doing x y) z ≡ then_doing x (then_doing y z)
 then_then x y z = λ t. record { steps = append_assoc x.steps y.steps z.steps t; frames = z.frames }
 
-scanning_on : (n k : ℕ) (b : BookState) (frames : List (Option ℕ)) → scanning (k + n) b frames ≡ then_doing (scanning n b frames) (scanning k (visits n b)
+pub scanning_on : (n k : ℕ) (b : BookState) (frames : List (Option ℕ)) → scanning (k + n) b frames ≡ then_doing (scanning n b frames) (scanning k (visits n b)
     (scanning n b frames).frames)
 scanning_on n zero b frames = (let e : 0 + n ≡ n = omega arith in ap (λ m. scanning m b frames) e)
     ∙ λ t. record { steps = sym (append-nil (scanning n b frames).steps) t; frames = (scanning n b frames).frames }

@@ -1,6 +1,6 @@
 //! The scan: visits of mergeable pages, in the order of their pages, pass after pass.
 
-ghost use Rattle.std.specs.Prelude.{◌≡◌, ◌≤◌, ◌⊎◌, if◌then◌else◌, [], ◌∷◌, None, Some, Err, OnOk, IfOk, OnErr, IfNone, IfSome, IsSome, MatchBool, MatchOption, is_some, length, true, false};
+ghost use Rattle.std.specs.Prelude.{◌≡◌, ◌≤◌, ◌-◌, ◌⊎◌, if◌then◌else◌, [], ◌∷◌, None, Some, Err, OnOk, IfOk, OnErr, IfNone, IfSome, IsSome, MatchBool, MatchOption, is_some, length, true, false};
 ghost use Rattle.ksm_base.specs.declared.fault.Fault.TheVariants.{Memory};
 ghost use Rattle.ksm_base.specs.Apply.{after};
 ghost use Rattle.ksm_base.specs.Rows.{InPageOrder, comes_before, row_at, shared_state};
@@ -9,6 +9,7 @@ ghost use Rattle.ksm_pages.specs.Scanned.{AreRuns, GoesOnAt, IsUnderWay, RunsOve
 ghost use Rattle.ksm_layout.specs.Steps.{Does};
 ghost use Rattle.ksm_book.specs.Carried.{CarriedOut};
 ghost use Rattle.ksm_book.specs.Gathered.{GoesOnAtPage, IsAhead, IsKnown, IsLeft, Remain, behind};
+ghost use Rattle.ksm_book.specs.Quiet.{ChangesNothing, IsQuiet, IsQuietPass, IsQuietSince, StaysAlone};
 ghost use Rattle.ksm_book.specs.Whole.{mapped};
 ghost use Rattle.ksm_layout.specs.Commands.{IsIdle, Performs, scanning, visiting, row_visiting, staying, pairing};
 
@@ -21,6 +22,8 @@ use std::alloc::Global;
 // What remains true of the runs that were found, once a page was visited.
 #[derive(Clone, Copy)]
 enum Remains {
+    // All of them, and the rows are as they were, but for which of them wait.
+    Same,
     // All of them: each page is still visited or not, and still stays or not.
     All,
     // Those behind the page.
@@ -37,6 +40,26 @@ fn remains_after(other: GuestPage, page: GuestPage) -> Remains
         return Remains::Behind;
     }
     Remains::Nothing
+}
+
+// Visits that were made, and whether they are known to be quiet: nothing changed but which rows wait.
+#[derive(Clone, Copy)]
+struct Made {
+    visits: u64,
+    quiet: bool,
+}
+
+// How many visits were left as the pass under way began, if that is known and all its visits were quiet.
+fn quiet_since(since: Option<u64>, stood: bool, quiet: bool, most: u64) -> Option<u64>
+    ensures { result ≡ (if quiet then (if stood then since else Some most) else None) }
+{
+    if !quiet {
+        return None;
+    }
+    if stood {
+        return since;
+    }
+    Some(most)
 }
 
 // The runs that come after the cursor, as far as they are known: the one in which the pass goes on, and those behind it. They are
@@ -100,7 +123,7 @@ impl Ahead {
         ensures { IsLeft remains self.old self.new }
     {
         match remains {
-            Remains::All => {}
+            Remains::Same | Remains::All => {}
             Remains::Behind => self.from = None,
             Remains::Nothing => {
                 self.found.clear();
@@ -127,9 +150,10 @@ impl State {
             });
         }
         let mut ahead = Ahead::new(self.alloc);
+        let mut since = None;
         let mut done = 0;
         while done < count {
-            match self.visit_some(table, &mut ahead, count - done) {
+            match self.go_on(table, &mut ahead, &mut since, count - done) {
                 Ok(visits) => done += visits,
                 Err(_) => {
                     return Ok(Reply::Scanned {
@@ -146,14 +170,71 @@ impl State {
     }
 
     // At least one visit, and `most` at most: a run of them where the rows stay as they are.
-    fn visit_some(&mut self, table: &FrameTable, ahead: &mut Ahead, most: u64) -> Result<u64, Fault>
+    fn visit_some(
+        &mut self,
+        table: &FrameTable,
+        ahead: &mut Ahead,
+        most: u64,
+    ) -> Result<Made, Fault>
         requires own { self.old.keeper.table ≡ table.now }
         requires ahead { IsAhead self.old.state ahead.old }
+        requires most { 1 ≤ most }
+        ensures own { self.new.keeper.table ≡ self.old.keeper.table }
+        ensures some { IfOk result (λ made. 1 ≤ made.visits) }
+        ensures most { IfOk result (λ made. made.visits ≤ most) }
+        ensures ok { IfOk result (λ made. self.new.state ≡ visits made.visits self.old.state) }
+        ensures quiet { IfOk result (λ made. made.quiet ≡ true → ChangesNothing made.visits self.old.state self.new.state self.old.frames) }
+        ensures ahead { OnOk result (IsAhead self.new.state ahead.new) }
+        ensures err { OnErr result (self.new.state ≡ visit_begun self.old.state) }
+        ensures fault { OnErr result (result ≡ Err Memory) }
+        ensures does { Does self.old.keeper self.new.keeper [] }
+        ensures performs { IfOk result (λ made. Performs (mapped self.old) (mapped self.new) (scanning made.visits self.old.state self.old.frames)) }
+        ensures idle { OnErr result (IsIdle (mapped self.old) (mapped self.new)) }
+    {
+        if let Some(run) = self.run_within(ahead, most)
+            && run.visits > 0
+        {
+            ahead.run = self.pass_over(run);
+            return Ok(Made {
+                visits: run.visits,
+                quiet: true,
+            });
+        }
+        let quiet = self.visit(table, ahead, most)?;
+        Ok(Made { visits: 1, quiet })
+    }
+
+    // Where a quiet pass has ended, of visits that were made, those behind it do the same, so they are counted and not made: as many as end within `most` visits. Says how many visits these are.
+    fn repeat(&mut self, made: u64, most: u64) -> u64
+        requires quiet { IsQuietPass made self.old }
+        requires some { 1 ≤ made }
+        ensures most { result ≤ most }
+        ensures state { self.new.state ≡ visits result self.old.state }
+        ensures rest { self.new.state ≡ record self.old.state { passes = self.new.state.passes } }
+        ensures performs { Performs (mapped self.old) (mapped self.new) (scanning result self.old.state self.old.frames) }
+        ensures idle { IsIdle (mapped self.old) (mapped self.new) }
+    {
+        self.passes = self.passes.saturating_add(most / made);
+        most - most % made
+    }
+
+    // Visits, `most` at most: at least one is made, and where a quiet pass ends with them, those of the passes that do the same are counted.
+    fn go_on(
+        &mut self,
+        table: &FrameTable,
+        ahead: &mut Ahead,
+        since: &mut Option<u64>,
+        most: u64,
+    ) -> Result<u64, Fault>
+        requires own { self.old.keeper.table ≡ table.now }
+        requires ahead { IsAhead self.old.state ahead.old }
+        requires since { IsQuietSince since.old most self.old }
         requires most { 1 ≤ most }
         ensures own { self.new.keeper.table ≡ self.old.keeper.table }
         ensures some { IfOk result (λ v. 1 ≤ v) }
         ensures most { IfOk result (λ v. v ≤ most) }
         ensures ok { IfOk result (λ v. self.new.state ≡ visits v self.old.state) }
+        ensures since { IfOk result (λ v. IsQuietSince since.new (most - v) self.new) }
         ensures ahead { OnOk result (IsAhead self.new.state ahead.new) }
         ensures err { OnErr result (self.new.state ≡ visit_begun self.old.state) }
         ensures fault { OnErr result (result ≡ Err Memory) }
@@ -161,14 +242,17 @@ impl State {
         ensures performs { IfOk result (λ v. Performs (mapped self.old) (mapped self.new) (scanning v self.old.state self.old.frames)) }
         ensures idle { OnErr result (IsIdle (mapped self.old) (mapped self.new)) }
     {
-        if let Some(run) = self.run_within(ahead, most)
-            && run.visits > 0
-        {
-            ahead.run = self.pass_over(run);
-            return Ok(run.visits);
+        let stood = self.cursor.is_some();
+        let made = self.visit_some(table, ahead, most)?;
+        *since = quiet_since(*since, stood, made.quiet, most);
+        if self.cursor.is_some() {
+            return Ok(made.visits);
         }
-        self.visit(table, ahead, most)?;
-        Ok(1)
+        let left = most - made.visits;
+        match since.take() {
+            Some(start) => Ok(made.visits + self.repeat(start - left, left)),
+            None => Ok(made.visits),
+        }
     }
 
     // The run in which the pass goes on, found anew where it has more visits than are wanted.
@@ -203,14 +287,15 @@ impl State {
         goes_on.then_some(Run { visits: 0, ..run })
     }
 
-    // One visit, of the page at which the pass goes on, if that is known. Where memory is refused, the visit has only begun.
-    fn visit(&mut self, table: &FrameTable, ahead: &mut Ahead, most: u64) -> Result<(), Fault>
+    // One visit, of the page at which the pass goes on, if that is known. Says whether it is known to be quiet. Where memory is refused, the visit has only begun.
+    fn visit(&mut self, table: &FrameTable, ahead: &mut Ahead, most: u64) -> Result<bool, Fault>
         requires own { self.old.keeper.table ≡ table.now }
         requires ahead { IsAhead self.old.state ahead.old }
         requires at_row { IfSome ahead.old.run (λ run. run.visits ≡ 0) }
         requires most { 1 ≤ most }
         ensures own { self.new.keeper.table ≡ self.old.keeper.table }
         ensures ok { OnOk result (self.new.state ≡ visit self.old.state) }
+        ensures quiet { IfOk result (λ quiet. quiet ≡ true → ChangesNothing 1 self.old.state self.new.state self.old.frames) }
         ensures ahead { OnOk result (IsAhead self.new.state ahead.new) }
         ensures err { OnErr result (self.new.state ≡ visit_begun self.old.state) }
         ensures fault { OnErr result (result ≡ Err Memory) }
@@ -218,14 +303,17 @@ impl State {
         ensures performs { OnOk result (Performs (mapped self.old) (mapped self.new) (visiting self.old.state self.old.frames)) }
         ensures idle { OnErr result (IsIdle (mapped self.old) (mapped self.new)) }
     {
+        let stood = self.cursor.is_some();
         let known = ahead.run.take().and_then(|run| run.next);
         let Some(row) = self.begin_visit(known) else {
-            return Ok(());
+            return Ok(false);
         };
+        // Else a pass ended before the visit.
+        let is_one_pass = self.cursor.is_some() == stood;
         let remains = self.visit_row(table, row)?;
         ahead.keep(remains);
         self.end_visit(row.page, ahead, most - 1);
-        Ok(())
+        Ok(is_one_pass && matches!(remains, Remains::Same))
     }
 
     // The pass ends where it has gone through all pages. Says where it goes on, if it does.
@@ -336,6 +424,7 @@ impl State {
         ensures own { self.new.keeper.table ≡ self.old.keeper.table }
         ensures ok { OnOk result (self.new.state ≡ row_visited self.old.state row) }
         ensures remains { IfOk result (λ remains. Remain remains row.page self.old.state.rows self.new.state.rows) }
+        ensures same { IfOk result (λ remains. remains ≡ Remains.Same → IsQuiet self.old.state row) }
         ensures err { OnErr result (self.new.state ≡ self.old.state) }
         ensures fault { OnErr result (result ≡ Err Memory) }
         ensures does { Does self.old.keeper self.new.keeper [] }
@@ -343,7 +432,7 @@ impl State {
         ensures idle { OnErr result (IsIdle (mapped self.old) (mapped self.new)) }
     {
         if is_shared(row.state) {
-            return Ok(Remains::All);
+            return Ok(Remains::Same);
         }
         if let Some(dup) = self.layout.best(&row) {
             if let Some(item) = self.layout.item(dup.number) {
@@ -370,6 +459,7 @@ impl State {
         ensures own { self.new.keeper.table ≡ self.old.keeper.table }
         ensures ok { OnOk result (self.new.state ≡ stayed self.old.state row) }
         ensures remains { IfOk result (λ remains. Remain remains row.page self.old.state.rows self.new.state.rows) }
+        ensures same { IfOk result (λ remains. remains ≡ Remains.Same → StaysAlone self.old.state row) }
         ensures err { OnErr result (self.new.state ≡ self.old.state) }
         ensures fault { OnErr result (result ≡ Err Memory) }
         ensures does { Does self.old.keeper self.new.keeper [] }
@@ -391,6 +481,7 @@ impl State {
         ensures own { self.new.keeper.table ≡ self.old.keeper.table }
         ensures ok { OnOk result (self.new.state ≡ paired (partner self.old.state.knobs self.old.state.rows row) self.old.state row) }
         ensures remains { IfOk result (λ remains. Remain remains row.page self.old.state.rows self.new.state.rows) }
+        ensures same { IfOk result (λ remains. remains ≡ Remains.Same → partner self.old.state.knobs self.old.state.rows row ≡ None) }
         ensures err { OnErr result (self.new.state ≡ self.old.state) }
         ensures fault { OnErr result (result ≡ Err Memory) }
         ensures does { Does self.old.keeper self.new.keeper [] }
@@ -399,7 +490,7 @@ impl State {
     {
         let Some(other) = self.layout.partner(&row) else {
             self.layout.wait(row)?;
-            return Ok(Remains::All);
+            return Ok(Remains::Same);
         };
         self.layout.lies_lawfully();
         let place = self.layout.new_place();

@@ -3,12 +3,11 @@ use Rattle.std.specs.Prelude.{filter, map}
 use Rattle.std.proofs.lemmas.Bool.{cond_both}
 use Rattle.ksm_base.specs.declared.row.Row.{Row}
 use Rattle.ksm_base.specs.declared.row.PageState.TheVariants.{Waiting, Merged}
-use Rattle.ksm_base.specs.Rows.{comes_before, with_dup}
+use Rattle.ksm_base.specs.Rows.{comes_before, settled, with_dup}
 use Rattle.ksm_base.specs.Sound.{IsSound}
 use Rattle.ksm_base.specs.Visit.{next_row, partner, paired, made_dup}
 use Rattle.ksm_base.proofs.SoundScan.{next_row_visited, sound_paired}
 use Rattle.ksm_base.proofs.Pages.{not_both}
-use Rattle.ksm_pages.specs.Scanned.{mark}
 use Rattle.ksm_layout.specs.Laid.{Lay, founded, state_of}
 use Rattle.ksm_layout.specs.Commands.{Performs, founding, listed_in, pairing}
 use Rattle.ksm_book.specs.Whole.{BookView, mapped}
@@ -16,7 +15,7 @@ use Rattle.ksm_layout.proofs.Found.{change_known}
 use Rattle.ksm_book.specs.declared.scan.Remains.{Remains}
 use Rattle.ksm_book.specs.declared.scan.Remains.TheVariants.{Behind, Nothing}
 use Rattle.ksm_book.specs.Gathered.{Remain}
-use Rattle.ksm_book.proofs.Gathered.{kept_row, kept_other, marks_row}
+use Rattle.ksm_book.proofs.Gathered.{kept_row, kept_other, settled_alone, told_alike}
 use Rattle.ksm_book.proofs.Standing.{partner_finds_place}
 use Rattle.ksm_book.proofs.Visiting.{visited_at, partner_founds, joins_new, both_joined, same_dup, apart}
 use Rattle.ksm_book.proofs.state.State.pair.Goals as goal
@@ -145,6 +144,6 @@ returns-in_default-clause-remains c =
     let row = c.args.row in
     let new : Row = record row { state = Waiting } in
     let found = visited_at (state_of lay s.cursor s.passes) row c.self.invariant (ap (λ (x : BookView). next_row x.state.cursor x.state.rows) c.self.view_is ∙ c.requires.next) in
-    subst (λ (rows : List Row). map mark c.wait.new.self.rows ≡ map mark rows) (ap (λ (x : BookView). x.state.rows) c.self.view_is)
-    (ap (λ (x : Lay). map mark x.rows) c.in_ok-wait.ensures.state
-    ∙ marks_row row new lay.rows c.self.invariant.rows_rise found (ap (λ b. (row.page, (row.mergeable, b))) (sym c.requires.alone)))
+    subst (λ (rows : List Row). map settled c.wait.new.self.rows ≡ map settled rows) (ap (λ (x : BookView). x.state.rows) c.self.view_is)
+    (ap (λ (x : Lay). map settled x.rows) c.in_ok-wait.ensures.state
+    ∙ told_alike settled row new lay.rows c.self.invariant.rows_rise found (settled_alone row c.requires.alone))

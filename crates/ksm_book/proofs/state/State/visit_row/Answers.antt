@@ -4,7 +4,7 @@ use Rattle.ksm_base.specs.declared.row.Row.{Row}
 use Rattle.std.specs.Prelude.{filter, map}
 use Rattle.ksm_base.specs.Rows.{change_row, comes_before, merged_into}
 use Rattle.ksm_pages.specs.Scanned.{AreKeptAfter, mark}
-use Rattle.ksm_book.proofs.Gathered.{kept_row, marks_row}
+use Rattle.ksm_book.proofs.Gathered.{kept_row, told_alike}
 use Rattle.ksm_base.specs.Sound.{IsSound}
 use Rattle.ksm_base.specs.State.{BookState}
 use Rattle.ksm_base.specs.Visit.{is_best, next_row, row_visited}
@@ -121,4 +121,4 @@ returns-then-not-row-clause-remains c =
     let found = visited_at (state_of lay s.cursor s.passes) row c.self.invariant (ap (λ (x : BookView). next_row x.state.cursor x.state.rows) c.self.view_is ∙ c.requires.next) in
     subst (λ (rows : List Row). map mark c.amend.new.self.rows ≡ map mark rows) (ap (λ (x : BookView). x.state.rows) c.self.view_is)
     (ap (λ (x : Lay). map mark x.rows) c.amend.ensures
-    ∙ marks_row row new lay.rows c.self.invariant.rows_rise found (ap (λ b. (row.page, (row.mergeable, b))) c.if-is_shared.ensures))
+    ∙ told_alike mark row new lay.rows c.self.invariant.rows_rise found (ap (λ b. (row.page, (row.mergeable, b))) c.if-is_shared.ensures))
