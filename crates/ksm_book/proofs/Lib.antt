@@ -7,6 +7,6 @@ pub mod Onward
 pub mod Entering
 pub mod Journaled
 pub mod Resettling
+pub mod Quiet
 pub mod Passing
 pub mod Gathered
-pub mod Quiet
