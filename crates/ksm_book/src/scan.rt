@@ -19,6 +19,9 @@ use ksm_base::{Command, Fault, GuestPage, PageState, Reply, Row};
 use ksm_pages::row::{Run, is_for_zero, is_shared};
 use std::alloc::Global;
 
+// How many runs the scan takes room for when it looks for the first ones.
+const RUNS_AT_ONCE: usize = 16;
+
 // What remains true of the runs that were found, once a page was visited.
 #[derive(Clone, Copy)]
 enum Remains {
@@ -407,6 +410,8 @@ impl State {
         ensures most { result.visits ≤ most }
     {
         ahead.found.clear();
+        // Room for some runs at once: refused, they take it one by one.
+        let _ = ahead.found.reserve(RUNS_AT_ONCE);
         let run = self
             .layout
             .rows()
