@@ -23,6 +23,15 @@ use Rattle.ksm_pages.specs.Lodged.{ItemsLieOn, frame_seen, frames_seen, listed_s
 
 -- ---------------------------------------------------------------- one place
 
+-- the frame kept for a dup is that at the place told of it
+pub lodged_at : (lodgings : List (Option ℕ)) (o : Option DupRow) (p : ℕ) → option_map (λ d. d.place) o ≡ Some p → frame_in lodgings p ≡ lodging_of lodgings o
+lodged_at lodgings None p is = cc
+lodged_at lodgings (Some d) p is = ap (frame_in lodgings) (sym (same_Some d.place p is))
+
+pub lodged_nowhere : (lodgings : List (Option ℕ)) (o : Option DupRow) → option_map (λ d. d.place) o ≡ None → None ≡ lodging_of lodgings o
+lodged_nowhere lodgings None is = refl
+lodged_nowhere lodgings (Some d) is = cc
+
 -- a row that is seen at a place, and what its entry has
 pub seen_at : (of : ℕ → Option ℕ) (rows : List Row) (frames : List (Option ℕ)) (i : ℕ) → length frames ≡ length rows → i < length rows
     → frame_in (frames_seen of rows frames) i ≡ frame_seen of (row_in rows i).state (frame_in frames i)

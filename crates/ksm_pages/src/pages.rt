@@ -79,8 +79,8 @@ fn leave(dups: &mut Dups, state: PageState, page: GuestPage)
 fn lodging_of(dups: &Dups, lodgings: &[Option<u32>], number: u64) -> Option<u32>
     ensures { result ≡ lodging (rows_of dups.now.dups) lodgings.now number }
 {
-    let dup = dups.row(number)?;
-    match lodgings.get(dup.place as usize) {
+    let place = dups.place(number)?;
+    match lodgings.get(place as usize) {
         Some(frame) => *frame,
         None => None,
     }
@@ -180,14 +180,13 @@ impl Pages {
         Some(seen(&self.dups, &self.lodgings, held))
     }
 
-    /// The dup that a row joins.
-    pub fn best(&self, row: &Row) -> Option<DupRow>
-        ensures { result ≡ best_dup self.now.knobs self.now.listed.rows self.now.dups row.now }
+    /// The number of the dup that a row joins.
+    pub fn best(&self, row: &Row) -> Option<u64>
+        ensures { result ≡ option_map (λ d. d.number) (best_dup self.now.knobs self.now.listed.rows self.now.dups row.now) }
     {
         let tree = tree_of(&self.knobs, row);
         let limit = self.knobs.max_page_sharing;
-        let number = self.dups.best(tree, &row.bytes, limit)?;
-        self.dups.row(number)
+        self.dups.best(tree, &row.bytes, limit)
     }
 
     /// The row that waits for another.
@@ -247,18 +246,6 @@ impl Pages {
         ensures { ItemsLieOn self.now.listed number result }
     {
         lodging_of(&self.dups, &self.lodgings, number)
-    }
-
-    /// The first item of the dup with this number.
-    pub fn item(&self, number: u64) -> Option<Row>
-        requires { is_some (dup_numbered number self.now.dups) ≡ true }
-        ensures { result ≡ find (λ r. merged_into number r.state) self.now.listed.rows }
-    {
-        if self.dups.items(number) == 0 {
-            return None;
-        }
-        let held = self.rows.find(self.dups.item(number, 0))?;
-        Some(held.row)
     }
 
     /// The pages merged into a dup, ascending. Refused for memory alone.
@@ -530,11 +517,9 @@ impl Pages {
         ensures frames { self.new.listed.frames ≡ lodged (λ r. merged_into number r.state) frame self.old.listed.rows self.old.listed.frames }
         ensures rest { self.new ≡ record self.old { listed = self.new.listed } }
     {
-        let Some(dup) = self.dups.row(number) else {
+        let Some(place) = self.dups.place(number) else {
             return;
         };
-        // The contract of `at` says that each place has one dup, and there is room for each place.
-        let _ = self.dups.at(dup.place);
-        self.lodgings[dup.place as usize] = Some(frame);
+        self.lodgings[place as usize] = Some(frame);
     }
 }
