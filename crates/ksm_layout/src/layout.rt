@@ -365,11 +365,9 @@ impl Layout {
         ensures fault { OnErr result (result ≡ Err Memory) }
     {
         let frame = known_frame(self.pages.dup_frame(number));
-        let Some(lone) = self.pages.join(row, number)? else {
-            return Ok(());
-        };
+        let lone = self.pages.join(row, number)?;
         share(&mut self.keeper, table, frame);
-        release_if(&mut self.keeper, table, lone.frame);
+        release_if(&mut self.keeper, table, lone);
         Ok(())
     }
 
@@ -393,19 +391,13 @@ impl Layout {
         ensures refused { OnErr result (self.new ≡ self.old) }
         ensures fault { OnErr result (result ≡ Err Memory) }
     {
-        let Some(held) = self.pages.find(first.page) else {
-            return Ok(());
-        };
-        let Some(lone) = self.pages.find(second.page) else {
-            return Ok(());
-        };
-        let frame = known_frame(held.frame);
         let taken = self.pages.has_dup(place);
-        self.pages.pair(place, first, second, held.frame)?;
+        let (shared, lone) = self.pages.pair(place, first, second)?;
+        let frame = known_frame(shared);
         clear(&mut self.keeper, table, place, taken);
         self.keeper.publish(table, place, frame);
         share(&mut self.keeper, table, frame);
-        release_if(&mut self.keeper, table, lone.frame);
+        release_if(&mut self.keeper, table, lone);
         Ok(())
     }
 
