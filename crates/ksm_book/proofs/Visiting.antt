@@ -1,6 +1,6 @@
 -- What a visit finds, and what becomes of the rows.
 use Rattle.std.proofs.Common.{inl, inr, ◌≡◌, ℕ, ◌+◌, ◌<◌, ◌≤◌, true, false, List, [], ◌∷◌, get_or, Option, Some, None, refl, sym, ap, ◌∙◌, subst, arith, eq-eqb}
-use Rattle.std.specs.Prelude.{All, Contains, find, ◌&&◌, ◌||◌, nat_le, nat_lt}
+use Rattle.std.specs.Prelude.{All, Contains, MatchOption, find, option_map, ◌&&◌, ◌||◌, nat_le, nat_lt}
 use Rattle.std.proofs.lemmas.Bool.{cases_Bool, and_parts, eqb-true, leb-true}
 use Rattle.std.proofs.lemmas.Bool.Decides.{nat_tests}
 use Rattle.std.proofs.lemmas.List.{get_or_default}
@@ -26,7 +26,7 @@ use Rattle.ksm_base.proofs.SoundPair.{IsFree, new_place_free, next_is_new, IsPai
 use Rattle.ksm_base.proofs.SoundCounts.{joined_count}
 use Rattle.ksm_base.proofs.Pages.{same_page_eq}
 use Rattle.ksm_layout.specs.Commands.{idle, handling, row_visiting, pairing, emptying, staying, listed_in}
-use Rattle.ksm_layout.specs.Laid.{Lay, Joins, Founds, new_dup, state_of}
+use Rattle.ksm_layout.specs.Laid.{Lay, Joins, JoinsDup, Founds, new_dup, state_of}
 use Rattle.ksm_layout.proofs.Found.{change_known}
 use Rattle.ksm_pages.proofs.Linking.{own_not_merged}
 
@@ -36,7 +36,7 @@ state_of_item n Waiting e = absurd (grind (arith, e))
 state_of_item n Zero e = absurd (grind (arith, e))
 state_of_item n (Merged d) e = ap Merged (eqb-true d n e)
 
-pub item_is_merged : (n : ℕ) (s : PageState) → merged_into n s ≡ true → merged_state s ≡ true
+item_is_merged : (n : ℕ) (s : PageState) → merged_into n s ≡ true → merged_state s ≡ true
 item_is_merged n Private e = absurd (grind (arith, e))
 item_is_merged n Waiting e = absurd (grind (arith, e))
 item_is_merged n (Merged d) e = refl
@@ -55,14 +55,14 @@ all_contained xs k d lt = (k, lt, get_or_default xs k (get_or xs k d) d lt)
 pub visited_at : (b : BookState) (row : Row) → IsSound b → next_row b.cursor b.rows ≡ Some row → row_at row.page b.rows ≡ Some row
 visited_at b row s found = find_all (λ r. r.mergeable && after_cursor b.cursor r.page) (λ r. row_at r.page b.rows ≡ Some r) b.rows row found (each_at_page b.rows s.rows_rise)
 
-pub item_at : (b : BookState) (n : ℕ) (item : Row) → IsSound b → find (λ r. merged_into n r.state) b.rows ≡ Some item → row_at item.page b.rows ≡ Some item
+item_at : (b : BookState) (n : ℕ) (item : Row) → IsSound b → find (λ r. merged_into n r.state) b.rows ≡ Some item → row_at item.page b.rows ≡ Some item
 item_at b n item s found = find_all (λ r. merged_into n r.state) (λ r. row_at r.page b.rows ≡ Some r) b.rows item found (each_at_page b.rows s.rows_rise)
 
 pub partner_at : (b : BookState) (row w : Row) → IsSound b → partner b.knobs b.rows row ≡ Some w → row_at w.page b.rows ≡ Some w
 partner_at b row w s found = find_all (waits_for b.knobs row) (λ r. row_at r.page b.rows ≡ Some r) b.rows w found (each_at_page b.rows s.rows_rise)
 
 -- the dup that a row joins has an item
-pub best_has_item : (b : BookState) (row : Row) (dup : DupRow) → best_dup b.knobs b.rows b.dups row ≡ Some dup → find (λ r. merged_into dup.number r.state) b.rows ≡ None → ⊥
+best_has_item : (b : BookState) (row : Row) (dup : DupRow) → best_dup b.knobs b.rows b.dups row ≡ Some dup → find (λ r. merged_into dup.number r.state) b.rows ≡ None → ⊥
 best_has_item b row dup found none =
     let best = find_passes (is_best b.knobs b.rows b.dups row) b.dups dup found in
     let may = (and_parts (may_join b.knobs b.rows row dup) _ best).0 in
@@ -71,10 +71,19 @@ best_has_item b row dup found none =
     let zero_items : item_count b.rows dup ≡ 0 = count_none (λ r. merged_into dup.number r.state) b.rows (find_none (λ r. merged_into dup.number r.state) b.rows none) in
     omega (arith, some, zero_items)
 
+-- the best dup is known by its number
+pub best_told : (o : Option DupRow) (number : ℕ) → Some number ≡ option_map (λ d. d.number) o → (d : DupRow) × (o ≡ Some d) × (d.number ≡ number)
+best_told None number told = cc
+best_told (Some d) number told = (d, refl, same_Some d.number number (sym told))
+
+pub none_told : (o : Option DupRow) → None ≡ option_map (λ d. d.number) o → o ≡ None
+none_told None told = refl
+none_told (Some d) told = cc
+
 -- the visited row may join the best dup, by its first item
-pub best_joins : (lay : Lay) (cursor : Option GuestPage) (passes : ℕ) (row item : Row) (dup : DupRow) → IsSound (state_of lay cursor passes) → next_row cursor lay.rows ≡ Some row → shared_state row.state ≡ false
+joins_by : (lay : Lay) (cursor : Option GuestPage) (passes : ℕ) (row item : Row) (dup : DupRow) → IsSound (state_of lay cursor passes) → next_row cursor lay.rows ≡ Some row → shared_state row.state ≡ false
     → best_dup lay.knobs lay.rows lay.dups row ≡ Some dup → find (λ r. merged_into dup.number r.state) lay.rows ≡ Some item → Joins lay row item
-best_joins lay cursor passes row item dup s next alone best found =
+joins_by lay cursor passes row item dup s next alone best found =
     let b = state_of lay cursor passes in
     let j : IsJoined b row dup = best_dup_has_room b row dup s best in
     let is_item : merged_into dup.number item.state ≡ true = find_passes (λ r. merged_into dup.number r.state) lay.rows item found in
@@ -88,6 +97,14 @@ best_joins lay cursor passes row item dup s next alone best found =
       bytes = sym j.bytes ∙ ap (λ (d : DupRow). d.bytes) (sym same) ∙ its.1.bytes;
       room = (dup, find_all (is_best lay.knobs lay.rows lay.dups row) (Contains lay.dups) lay.dups dup best (all_contained lay.dups), is_item, (let r = j.room in let m = s.knobs.max_page_sharing.1 in omega (arith, r, m)));
     }
+
+pub best_joins : (lay : Lay) (cursor : Option GuestPage) (passes : ℕ) (row : Row) (dup : DupRow) → IsSound (state_of lay cursor passes) → next_row cursor lay.rows ≡ Some row → shared_state row.state ≡ false
+    → best_dup lay.knobs lay.rows lay.dups row ≡ Some dup → JoinsDup lay row dup.number
+best_joins lay cursor passes row dup s next alone best = by (find (λ r. merged_into dup.number r.state) lay.rows) refl
+  where
+    by : (o : Option Row) → find (λ r. merged_into dup.number r.state) lay.rows ≡ o → MatchOption o ⊥ (Joins lay row)
+    by None none = best_has_item (state_of lay cursor passes) row dup best none
+    by (Some item) found = joins_by lay cursor passes row item dup s next alone best found
 
 -- the waiting row may become the first item of a new dup
 pub partner_founds : (lay : Lay) (cursor : Option GuestPage) (passes : ℕ) (row w : Row) (place : ℕ) → IsSound (state_of lay cursor passes) → partner lay.knobs lay.rows row ≡ Some w → place ≡ new_place (place_count lay.shape) lay.rows lay.dups → new_place (place_count lay.shape) lay.rows lay.dups < place_count lay.shape → Founds lay place w

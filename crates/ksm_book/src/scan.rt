@@ -439,10 +439,8 @@ impl State {
         if is_shared(row.state) {
             return Ok(Remains::Same);
         }
-        if let Some(dup) = self.layout.best(&row) {
-            if let Some(item) = self.layout.item(dup.number) {
-                self.layout.join(table, row, item)?;
-            }
+        if let Some(number) = self.layout.best(&row) {
+            self.layout.join(table, row, number)?;
             return Ok(Remains::Behind);
         }
         if !row.unchanged {

@@ -8,6 +8,7 @@ pub mod Lists
 pub mod Ranks
 pub mod Laying
 pub mod Found
+pub mod Joining
 pub mod Withdrawn
 pub mod Sharing
 pub mod Pruning

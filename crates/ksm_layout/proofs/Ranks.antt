@@ -1,11 +1,10 @@
 -- Where a page's row stands.
 use Rattle.std.proofs.Common.{◌≡◌, ℕ, zero, suc, ◌≤◌, List, [], ◌∷◌, length, set, Option, Some, refl, sym, ap, ◌∙◌, subst, arith}
-use Rattle.std.specs.Prelude.{MatchOption, insert, remove}
+use Rattle.std.specs.Prelude.{insert, remove}
 use Rattle.std.proofs.lemmas.Option.{same_Some}
 use Rattle.ksm_base.specs.declared.page.GuestPage.{GuestPage}
 use Rattle.ksm_base.specs.declared.row.Row.{Row}
 use Rattle.ksm_base.specs.Rows.{row_at}
-use Rattle.ksm_pages.specs.declared.rows.Held.{Held}
 use Rattle.ksm_pages.specs.Listed.{Listed, rank, StandsAt}
 
 pub rank_within : (page : GuestPage) (rows : List Row) → rank page rows ≤ length rows
@@ -28,7 +27,3 @@ remove_inserted (z ∷ zs) (suc i) x le = ap (λ l. z ∷ l) (remove_inserted zs
 -- the row that stands at a page is the one found
 pub stands_as : (v : Listed) (rows : List Row) (page : GuestPage) (r r' : Row) (f : Option ℕ) → StandsAt v page r f → v.rows ≡ rows → row_at page rows ≡ Some r' → StandsAt v page r' f
 stands_as v rows page r r' f at e found = subst (λ x. StandsAt v page x f) (same_Some r r' (sym at.found ∙ ap (row_at page) e ∙ found)) at
-
--- the same, of what a change gave back
-pub stood_as : (v : Listed) (rows : List Row) (page : GuestPage) (o : Option Held) (held : Held) (r' : Row) → MatchOption o ⊥ (λ h. StandsAt v page h.row h.frame) → o ≡ Some held → v.rows ≡ rows → row_at page rows ≡ Some r' → StandsAt v page r' held.frame
-stood_as v rows page o held r' stood is e found = stands_as v rows page held.row r' held.frame (subst (λ x. MatchOption x ⊥ (λ h. StandsAt v page h.row h.frame)) is stood) e found

@@ -1,5 +1,5 @@
 -- Rows, dups and knobs, as they lie in the keeper's frames (own).
-use Rattle.std.specs.Prelude.{◌≡◌, ℕ, ◌+◌, ◌<◌, ◌≤◌, Bool, true, false, List, [], ◌∷◌, All, Contains, Option, None, Some, Result, Ok, Err, MatchBool, MatchOption, ◌⊎◌}
+use Rattle.std.specs.Prelude.{◌≡◌, ℕ, ◌+◌, ◌<◌, ◌≤◌, Bool, true, false, List, [], ◌∷◌, All, Contains, find, Option, None, Some, Result, Ok, Err, MatchBool, MatchOption, ◌⊎◌}
 use Rattle.ksm_base.specs.declared.shape.Shape.{Shape}
 use Rattle.ksm_base.specs.declared.knobs.Knobs.{Knobs}
 use Rattle.ksm_base.specs.declared.fault.Fault.{Fault}
@@ -82,6 +82,10 @@ pub record Joins (lay : Lay) (row item : Row) : Type 0 where
   pub merged : merged_state item.state ≡ true
   pub bytes : row.bytes ≡ item.bytes
   pub room : (d : DupRow) × Contains lay.dups d × (merged_into d.number item.state ≡ true) × (item_count lay.rows d ≤ 1023)
+
+-- a row with a frame of its own may join the dup with this number, by the first item of it
+abbrev pub JoinsDup : Lay → Row → ℕ → Type 0
+JoinsDup lay row number = MatchOption (find (λ r. merged_into number r.state) lay.rows) ⊥ (Joins lay row)
 
 -- the dup that is made of a row at a place
 abbrev pub new_dup : Lay → ℕ → Row → DupRow

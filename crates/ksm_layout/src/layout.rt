@@ -3,7 +3,7 @@
 ghost use Rattle.std.specs.Prelude.{◌≡◌, ◌<◌, ◌≤◌, ◌+◌, ◌^◌, ◌⊎◌, [], true, false, None, Some, Err, All, count_by, filter, find, map, is_some, ◌==◌, ◌&&◌, option_map, MatchOption, OnOk, OnErr, IfOk, IfErr, IsSome};
 ghost use Rattle.ksm_base.specs.declared.fault.Fault.TheVariants.{Memory};
 ghost use Rattle.ksm_base.specs.declared.row.PageState.TheVariants.{Private, Waiting, Merged, Zero};
-ghost use Rattle.ksm_base.specs.Rows.{row_at, with_row, without_page, change_row, change_rows, shared_state, merged_into, waiting_state, same_page, settled, has_items, is_stale, dup_numbered, InPlaceOrder};
+ghost use Rattle.ksm_base.specs.Rows.{row_at, with_row, without_page, change_row, change_rows, shared_state, waiting_state, same_page, settled, has_items, is_stale, dup_numbered, InPlaceOrder};
 ghost use Rattle.ksm_base.specs.Counting.{counters_from, shared_count};
 ghost use Rattle.ksm_base.specs.Reading.{items_of};
 ghost use Rattle.ksm_base.specs.State.{default_knobs, place_count};
@@ -12,8 +12,8 @@ ghost use Rattle.ksm_base.specs.Apply.{is_before, let_go, unshared};
 ghost use Rattle.ksm_base.specs.Refusals.{is_of};
 ghost use Rattle.ksm_base.specs.Values.{IsShape, frames_of};
 ghost use Rattle.frame_core.specs.Ledger.{first_ledger};
-ghost use Rattle.ksm_layout.specs.Laid.{IsHoused, IsAdmitted, IsResettled, Knows, IsOnItsOwn, LodgesAs, Joins, Founds, founded, LoadsIf, mapped_lay, state_of};
-ghost use Rattle.ksm_layout.specs.Commands.{frame_of, frame_on, Performs, rewriting, dismissing, emptying, joining, founding, withdrawing, pruning};
+ghost use Rattle.ksm_layout.specs.Laid.{IsHoused, IsAdmitted, IsResettled, Knows, IsOnItsOwn, LodgesAs, Joins, JoinsDup, Founds, founded, LoadsIf, mapped_lay, state_of};
+ghost use Rattle.ksm_layout.specs.Commands.{dup_frame, frame_of, Performs, rewriting, dismissing, emptying, joining, founding, withdrawing, pruning};
 ghost use Rattle.ksm_pages.specs.Linked.{IsVacant, elsewhere};
 ghost use Rattle.ksm_pages.specs.Listed.{StandsAt};
 ghost use Rattle.ksm_layout.specs.Keeping.{spent};
@@ -25,7 +25,7 @@ mod moving;
 use crate::frame_keeper::FrameKeeper;
 use crate::frames::{clear, known_frame, load, release_if, share, take_frame, write};
 use frame_table::{FrameTable, Keeper};
-use ksm_base::{Counters, DupRow, Fault, GuestPage, Knobs, PageBytes, PageState, Row, Shape};
+use ksm_base::{Counters, DupRow, Fault, GuestPage, Knobs, PageBytes, Row, Shape};
 use ksm_pages::{Held, Pages, Rows};
 use std::alloc::Global;
 use std::marker::Model;
@@ -102,9 +102,9 @@ impl Layout {
         self.pages.knobs()
     }
 
-    /// The dup that a row joins.
-    pub fn best(&self, row: &Row) -> Option<DupRow>
-        ensures { result ≡ best_dup self.now.knobs self.now.rows self.now.dups row.now }
+    /// The number of the dup that a row joins.
+    pub fn best(&self, row: &Row) -> Option<u64>
+        ensures { result ≡ option_map (λ d. d.number) (best_dup self.now.knobs self.now.rows self.now.dups row.now) }
     {
         self.pages.best(row)
     }
@@ -141,14 +141,6 @@ impl Layout {
             return Ok(None);
         };
         Ok(Some(self.pages.items(alloc, dup.number)?))
-    }
-
-    /// The first item of the dup with this number.
-    pub fn item(&self, number: u64) -> Option<Row>
-        requires { is_some (dup_numbered number self.now.dups) ≡ true }
-        ensures { result ≡ find (λ r. merged_into number r.state) self.now.rows }
-    {
-        self.pages.item(number)
     }
 
     /// The dup with a number.
@@ -361,26 +353,21 @@ impl Layout {
         self.pages.set_knobs(knobs);
     }
 
-    /// The page of a row with a frame of its own joins the dup of an item, and leaves its frame. Refused for memory alone.
-    pub fn join(&mut self, table: &FrameTable, row: Row, item: Row) -> Result<(), Fault>
+    /// The page of a row with a frame of its own joins the dup with a number, and leaves its frame. Refused for memory alone.
+    pub fn join(&mut self, table: &FrameTable, row: Row, number: u64) -> Result<(), Fault>
         requires own { self.old.keeper.table ≡ table.now }
-        requires joins { Joins self.old row item }
+        requires joins { JoinsDup self.old row number }
         ensures own { self.new.keeper.table ≡ self.old.keeper.table }
-        ensures state { OnOk result (self.new ≡ record self.old { rows = change_row row.page (λ _. record row { state = item.state }) self.old.rows; frames = self.new.frames; keeper = self.new.keeper }) }
+        ensures state { OnOk result (self.new ≡ record self.old { rows = change_row row.page (λ _. record row { state = Merged number }) self.old.rows; frames = self.new.frames; keeper = self.new.keeper }) }
         ensures does { Does self.old.keeper self.new.keeper [] }
-        ensures performs { OnOk result (Performs (mapped_lay self.old) (mapped_lay self.new) (joining (mapped_lay self.old).listed row (frame_on (mapped_lay self.old).listed item.page))) }
+        ensures performs { OnOk result (Performs (mapped_lay self.old) (mapped_lay self.new) (joining (mapped_lay self.old).listed row (dup_frame (mapped_lay self.old).listed number))) }
         ensures refused { OnErr result (self.new ≡ self.old) }
         ensures fault { OnErr result (result ≡ Err Memory) }
     {
-        let PageState::Merged(number) = item.state else {
-            return Ok(());
-        };
         let frame = known_frame(self.pages.dup_frame(number));
-        let Some(lone) = self.pages.join(row, number)? else {
-            return Ok(());
-        };
+        let lone = self.pages.join(row, number)?;
         share(&mut self.keeper, table, frame);
-        release_if(&mut self.keeper, table, lone.frame);
+        release_if(&mut self.keeper, table, lone);
         Ok(())
     }
 
@@ -404,19 +391,13 @@ impl Layout {
         ensures refused { OnErr result (self.new ≡ self.old) }
         ensures fault { OnErr result (result ≡ Err Memory) }
     {
-        let Some(held) = self.pages.find(first.page) else {
-            return Ok(());
-        };
-        let Some(lone) = self.pages.find(second.page) else {
-            return Ok(());
-        };
-        let frame = known_frame(held.frame);
         let taken = self.pages.has_dup(place);
-        self.pages.pair(place, first, second, held.frame)?;
+        let (shared, lone) = self.pages.pair(place, first, second)?;
+        let frame = known_frame(shared);
         clear(&mut self.keeper, table, place, taken);
         self.keeper.publish(table, place, frame);
         share(&mut self.keeper, table, frame);
-        release_if(&mut self.keeper, table, lone.frame);
+        release_if(&mut self.keeper, table, lone);
         Ok(())
     }
 

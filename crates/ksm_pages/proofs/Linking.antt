@@ -18,10 +18,9 @@ use Rattle.ksm_base.specs.Apply.{unshared}
 use Rattle.ksm_base.specs.Reading.{items_of}
 use Rattle.ksm_base.specs.Rows.{shared_state, InPageOrder, InPlaceOrder, same_page, row_at, with_row, without_page, change_row, change_rows, merged_state, merged_into, settled, settled_state, item_count, is_stale as is_stale_row, dup_numbered}
 use Rattle.ksm_base.specs.State.{place_count, tree_of}
-use Rattle.ksm_base.specs.Visit.{best_dup, is_best, new_place}
+use Rattle.ksm_base.specs.Visit.{best_dup, new_place}
 use Rattle.ksm_base.proofs.Edits.{find_all, find_none, find_nothing, find_passes}
-use Rattle.ksm_base.proofs.Orders.{ordered_map, ordered_with, ordered_without, each_has_number, one_of_each_place}
-use Rattle.ksm_base.proofs.RowCounts.{each_at_page}
+use Rattle.ksm_base.proofs.Orders.{ordered_map, ordered_with, ordered_without, one_of_each_place}
 use Rattle.ksm_rmap.specs.Items.{with_item}
 use Rattle.ksm_tree.specs.declared.dup.Dup.{Dup}
 use Rattle.ksm_tree.specs.declared.choice.Choice.{Choice}
@@ -185,6 +184,22 @@ module _ (shape : Shape) (rows : List Row) (dups : DupsState) (linked : AreLinke
 pub row_numbered : (number : ℕ) (dups : List Dup) → option_map (λ d. d.row) (dup_of number dups) ≡ dup_numbered number (rows_of dups)
 row_numbered number dups = row_found (has_number number) (λ r. r.number == number) (λ d. refl) dups
 
+place_of_row : (o : Option Dup) → option_map (λ d. d.row.place) o ≡ option_map (λ (r : DupRow). r.place) (option_map (λ d. d.row) o)
+place_of_row None = refl
+place_of_row (Some d) = refl
+
+pub place_numbered : (number : ℕ) (dups : List Dup) → option_map (λ d. d.row.place) (dup_of number dups) ≡ option_map (λ d. d.place) (dup_numbered number (rows_of dups))
+place_numbered number dups = place_of_row (dup_of number dups) ∙ ap (option_map (λ (r : DupRow). r.place)) (row_numbered number dups)
+
+-- a place that is told is that of a dup
+pub dup_placed : (o : Option DupRow) (p : ℕ) → option_map (λ d. d.place) o ≡ Some p → (d : DupRow) × (o ≡ Some d) × (d.place ≡ p)
+dup_placed None p is = cc
+dup_placed (Some d) p is = (d, refl, same_Some d.place p is)
+
+pub no_place : (o : Option DupRow) → option_map (λ d. d.place) o ≡ None → o ≡ None
+no_place None is = refl
+no_place (Some d) is = cc
+
 same_known : (o : Option Dup) → is_some (option_map (λ d. d.row) o) ≡ is_some o
 same_known None = refl
 same_known (Some d) = refl
@@ -192,33 +207,14 @@ same_known (Some d) = refl
 pub known_by_row : (number : ℕ) (dups : List Dup) → is_some (dup_numbered number (rows_of dups)) ≡ true → is_some (dup_of number dups) ≡ true
 known_by_row number dups there = sym (same_known (dup_of number dups)) ∙ ap is_some (row_numbered number dups) ∙ there
 
--- the dup with the number of one found is that one
-found_numbered : (test : DupRow → Bool) (ds : List DupRow) (number : ℕ) (o : Option DupRow) → InPlaceOrder ds → find test ds ≡ o → option_map (λ d. d.number) o ≡ Some number → dup_numbered number ds ≡ o
-found_numbered test ds number None rise found is = cc
-found_numbered test ds number (Some e) rise found is =
-    ap (λ n. dup_numbered n ds) (sym (same_Some e.number number is)) ∙ find_all test (λ d. dup_numbered d.number ds ≡ Some d) ds e found (each_has_number ds rise)
-
 number_of_row : (o : Option Dup) → option_map (λ d. d.row.number) o ≡ option_map (λ (r : DupRow). r.number) (option_map (λ d. d.row) o)
 number_of_row None = refl
 number_of_row (Some d) = refl
 
-no_number : (o : Option DupRow) → option_map (λ d. d.number) o ≡ None → o ≡ None
-no_number None none = refl
-no_number (Some d) none = cc
-
--- the dup that a row joins
+-- the number of the dup that a row joins
 module _ (knobs : Knobs) (rows : List Row) (s : DupsState) (row : Row) (tied : AreTied rows s.dups) where
-  best_number : option_map (λ d. d.row.number) (best_of (tree_of knobs row) row.bytes knobs.max_page_sharing s.dups) ≡ option_map (λ d. d.number) (best_dup knobs rows (rows_of s.dups) row)
+  pub best_number : option_map (λ d. d.row.number) (best_of (tree_of knobs row) row.bytes knobs.max_page_sharing s.dups) ≡ option_map (λ d. d.number) (best_dup knobs rows (rows_of s.dups) row)
   best_number = number_of_row (best_of (tree_of knobs row) row.bytes knobs.max_page_sharing s.dups) ∙ ap (option_map (λ (d : DupRow). d.number)) (best_found rows knobs row s.dups (tied_counted rows s.dups tied))
-
-  pub none_best : option_map (λ d. d.row.number) (best_of (tree_of knobs row) row.bytes knobs.max_page_sharing s.dups) ≡ None → None ≡ best_dup knobs rows (rows_of s.dups) row
-  none_best none = sym (no_number (best_dup knobs rows (rows_of s.dups) row) (sym best_number ∙ none))
-
-  pub best_numbered : (number : ℕ) → AreDups s → option_map (λ d. d.row.number) (best_of (tree_of knobs row) row.bytes knobs.max_page_sharing s.dups) ≡ Some number
-      → option_map (λ d. d.row) (dup_of number s.dups) ≡ best_dup knobs rows (rows_of s.dups) row
-  best_numbered number lawful is =
-      row_numbered number s.dups
-      ∙ found_numbered (is_best knobs rows (rows_of s.dups) row) (rows_of s.dups) number (best_dup knobs rows (rows_of s.dups) row) lawful.in_place_order refl (sym best_number ∙ is)
 
 pub any_at : (place : ℕ) (dups : List Dup) → is_some (option_map (λ d. d.row.number) (dup_at place dups)) ≡ list_any (λ d. d.place == place) (rows_of dups)
 any_at place [] = refl
@@ -228,10 +224,6 @@ any_at place (d ∷ dups) =
       | inl here ↦ grind (arith, here, rest)
       | inr away ↦ grind (arith, away, rest)
     ]
-
-place_of_row : (o : Option Dup) → option_map (λ d. d.row.place) o ≡ option_map (λ (r : DupRow). r.place) (option_map (λ d. d.row) o)
-place_of_row None = refl
-place_of_row (Some d) = refl
 
 pub stale_at : (rows : List Row) (dups : List Dup) → AreTied rows dups → option_map (λ d. d.row.place) (find is_stale dups) ≡ option_map (λ (r : DupRow). r.place) (find (is_stale_row rows) (rows_of dups))
 stale_at rows dups tied = place_of_row (find is_stale dups) ∙ ap (option_map (λ (r : DupRow). r.place)) (stale_alike rows dups (tied_counted rows dups tied))
@@ -338,45 +330,6 @@ items_tied rows dups number (Some d) tied is there =
 -- the items of a dup are the pages merged into it
 pub items_numbered_are : (rows : List Row) (dups : List Dup) (number : ℕ) → AreTied rows dups → is_some (dup_numbered number (rows_of dups)) ≡ true → items_numbered number dups ≡ map (λ r. r.page) (filter (λ r. merged_into number r.state) rows)
 items_numbered_are rows dups number tied there = items_tied rows dups number (dup_of number dups) tied refl (known_by_row number dups there)
-
--- the first of the pages of rows that pass
-first_page : (test : Row → Bool) (rows : List Row) → slice_get (map (λ r. r.page) (filter test rows)) 0 ≡ option_map (λ r. r.page) (find test rows)
-first_page test [] = refl
-first_page test (r ∷ rows) =
-    let rest = first_page test rows in
-    elim (cases_Bool (test r)) [
-      | inl passes ↦ grind (arith, passes, rest)
-      | inr fails ↦ grind (arith, fails, rest)
-    ]
-
-at_first : (test : Row → Bool) (rows : List Row) (page : GuestPage) (o : Option Row) → InPageOrder rows → find test rows ≡ o → option_map (λ r. r.page) o ≡ Some page → o ≡ row_at page rows
-at_first test rows page None rise found is = cc
-at_first test rows page (Some r) rise found is =
-    let at : r.page ≡ page = same_Some r.page page is in
-    sym (find_all test (λ s. row_at s.page rows ≡ Some s) rows r found (each_at_page rows rise)) ∙ ap (λ p. row_at p rows) at
-
-first_item : (test : Row → Bool) (rows : List Row) (page : GuestPage) → InPageOrder rows → slice_get (map (λ r. r.page) (filter test rows)) 0 ≡ Some page → find test rows ≡ row_at page rows
-first_item test rows page rise first = at_first test rows page (find test rows) rise refl (sym (first_page test rows) ∙ first)
-
-no_first : (o : Option Row) → option_map (λ r. r.page) o ≡ None → o ≡ None
-no_first None is = refl
-no_first (Some r) is = cc
-
-no_page : (pages : List GuestPage) → length pages ≡ 0 → slice_get pages 0 ≡ None
-no_page [] none = refl
-no_page (p ∷ pages) none = absurd (omega (arith, none))
-
-no_item : (test : Row → Bool) (rows : List Row) → length (map (λ r. r.page) (filter test rows)) ≡ 0 → find test rows ≡ None
-no_item test rows none = no_first (find test rows) (sym (first_page test rows) ∙ no_page (map (λ r. r.page) (filter test rows)) none)
-
-module _ (rows : List Row) (dups : List Dup) (number : ℕ) (rise : InPageOrder rows) (tied : AreTied rows dups) (there : is_some (dup_numbered number (rows_of dups)) ≡ true) where
-  -- the first item of a dup is the first row merged into it
-  pub item_first : (page : GuestPage) → slice_get (items_numbered number dups) 0 ≡ Some page → find (λ r. merged_into number r.state) rows ≡ row_at page rows
-  item_first page first =
-      first_item (λ r. merged_into number r.state) rows page rise (ap (λ (pages : List GuestPage). slice_get pages 0) (sym (items_numbered_are rows dups number tied there)) ∙ first)
-
-  pub item_none : length (items_numbered number dups) ≡ 0 → find (λ r. merged_into number r.state) rows ≡ None
-  item_none none = no_item (λ r. merged_into number r.state) rows (ap length (sym (items_numbered_are rows dups number tied there)) ∙ none)
 
 -- one item more is listed
 pub take_next : {X : Type 0} (xs : List X) (i : ℕ) (x : X) → slice_get xs i ≡ Some x → take (i + 1) xs ≡ take i xs ++ x ∷ []

@@ -23,6 +23,15 @@ use Rattle.ksm_pages.specs.Lodged.{ItemsLieOn, frame_seen, frames_seen, listed_s
 
 -- ---------------------------------------------------------------- one place
 
+-- the frame kept for a dup is that at the place told of it
+pub lodged_at : (lodgings : List (Option ℕ)) (o : Option DupRow) (p : ℕ) → option_map (λ d. d.place) o ≡ Some p → frame_in lodgings p ≡ lodging_of lodgings o
+lodged_at lodgings None p is = cc
+lodged_at lodgings (Some d) p is = ap (frame_in lodgings) (sym (same_Some d.place p is))
+
+pub lodged_nowhere : (lodgings : List (Option ℕ)) (o : Option DupRow) → option_map (λ d. d.place) o ≡ None → None ≡ lodging_of lodgings o
+lodged_nowhere lodgings None is = refl
+lodged_nowhere lodgings (Some d) is = cc
+
 -- a row that is seen at a place, and what its entry has
 pub seen_at : (of : ℕ → Option ℕ) (rows : List Row) (frames : List (Option ℕ)) (i : ℕ) → length frames ≡ length rows → i < length rows
     → frame_in (frames_seen of rows frames) i ≡ frame_seen of (row_in rows i).state (frame_in frames i)
@@ -55,6 +64,15 @@ seen_revised of (r ∷ rows) [] zero row same = refl
 seen_revised of (r ∷ rows) [] (suc i) row same = refl
 seen_revised of (r ∷ rows) (h ∷ frames) zero row same = ap (λ f. f ∷ frames_seen of rows frames) (same h)
 seen_revised of (r ∷ rows) (h ∷ frames) (suc i) row same = ap (λ l. frame_seen of r.state h ∷ l) (seen_revised of rows frames i row same)
+
+-- another row in the stead of that at a place, where the entry keeps its frame
+seen_restated : (of : ℕ → Option ℕ) (rows : List Row) (frames : List (Option ℕ)) (i : ℕ) (row : Row)
+    → frames_seen of (set rows i row) frames ≡ set (frames_seen of rows frames) i (frame_seen of row.state (frame_in frames i))
+seen_restated of [] frames i row = refl
+seen_restated of (r ∷ rows) [] zero row = refl
+seen_restated of (r ∷ rows) [] (suc i) row = refl
+seen_restated of (r ∷ rows) (h ∷ frames) zero row = refl
+seen_restated of (r ∷ rows) (h ∷ frames) (suc i) row = ap (λ l. frame_seen of r.state h ∷ l) (seen_restated of rows frames i row)
 
 -- what is set where it was changes nothing
 set_back : (xs : List (Option ℕ)) (i : ℕ) → i < length xs → set xs i (frame_in xs i) ≡ xs
@@ -194,6 +212,19 @@ pub paired_put : (v w : Listed) (i : ℕ) (row : Row) (own : Option ℕ) → len
     → w.frames ≡ set v.frames i own → length w.frames ≡ length w.rows
 paired_put v w i row own paired rows frames = ap length frames ∙ length-set v.frames i own ∙ paired ∙ sym (ap length rows ∙ length-set v.rows i row)
 
+-- a row in the stead of that of its page, where the entry keeps its frame
+pub seen_put_there : (dups now : List DupRow) (lodgings : List (Option ℕ)) (v w : Listed) (row : Row) (frame : Option ℕ) → now ≡ dups
+    → w.rows ≡ set v.rows (rank row.page v.rows) row → w.frames ≡ v.frames
+    → frame_seen (lodging dups lodgings) row.state (frame_in v.frames (rank row.page v.rows)) ≡ frame
+    → frames_seen (lodging now lodgings) w.rows w.frames ≡ set (listed_seen dups lodgings v).frames (rank row.page v.rows) frame
+seen_put_there dups now lodgings v w row frame same rows frames is =
+    (λ t. frames_seen (lodging (same t) lodgings) (rows t) (frames t)) ∙ seen_restated (lodging dups lodgings) v.rows v.frames (rank row.page v.rows) row
+    ∙ ap (set (listed_seen dups lodgings v).frames (rank row.page v.rows)) is
+
+pub paired_there : (v w : Listed) (i : ℕ) (row : Row) → length v.frames ≡ length v.rows → w.rows ≡ set v.rows i row → w.frames ≡ v.frames
+    → length w.frames ≡ length w.rows
+paired_there v w i row paired rows frames = ap length frames ∙ paired ∙ sym (ap length rows ∙ length-set v.rows i row)
+
 -- rows that change, each in its place
 pub paired_mapped : (f : Row → Row) (v w : Listed) → length v.frames ≡ length v.rows → w.rows ≡ map f v.rows → w.frames ≡ v.frames
     → length w.frames ≡ length w.rows
@@ -246,6 +277,20 @@ stood_own dups lodgings v page (Some held) row paired at found alone =
     let same : held.row ≡ row = same_Some held.row row (sym at.found ∙ found) in
     stands_seen dups lodgings v page held held paired at refl (sym (own_seen (lodging dups lodgings) held.row.state held.frame
     (ap (λ (r : Row). merged_state r.state) same ∙ alone)))
+
+pub own_lies : (dups : List DupRow) (lodgings : List (Option ℕ)) (v : Listed) (row : Row) (frame : Option ℕ) → length v.frames ≡ length v.rows
+    → StandsAt v row.page row frame → merged_state row.state ≡ false → StandsAt (listed_seen dups lodgings v) row.page row frame
+own_lies dups lodgings v row frame paired at alone =
+    let held : Held = record { row = row; frame = frame } in
+    stands_seen dups lodgings v row.page held held paired at refl (sym (own_seen (lodging dups lodgings) row.state frame alone))
+
+-- what stands at a page stood there before another page's row was changed
+pub stood_before : (v one : Listed) (item row : Row) (frame : Option ℕ) → InPageOrder v.rows → row_at row.page v.rows ≡ Some row
+    → one.rows ≡ change_row item.page (λ _. item) v.rows → one.frames ≡ v.frames → StandsAt one row.page row frame → StandsAt v row.page row frame
+stood_before v one item row frame rise found rows frames there =
+    let ranks : rank row.page one.rows ≡ rank row.page v.rows =
+    ap (rank row.page) rows ∙ rank_mapped row.page (λ r. if same_page r.page item.page then item else r) v.rows (keeps_page item) in
+    subst (StandsAt v row.page row) ((λ t. frame_in (sym frames t) (sym ranks t)) ∙ there.frame_is) (stands_where v row.page row rise found)
 
 pub mergeable_seen : (of : ℕ → Option ℕ) (test : Row → Bool) (r : Row) (own : Option ℕ)
     → frame_seen of (if test r then record r { mergeable = true } else r).state own ≡ frame_seen of r.state own
@@ -403,14 +448,15 @@ module _ (dups : List DupRow) (lodgings : List (Option ℕ)) (new : DupRow) (fra
 
   pub seen_both : (now : List DupRow) (v one two : Listed) (r s : Row) (k l : ℕ) → now ≡ with_dup new dups → r.state ≡ Merged new.number
       → s.state ≡ Merged new.number
-      → one.rows ≡ set v.rows k r → one.frames ≡ set v.frames k None → two.rows ≡ set one.rows l s → two.frames ≡ set one.frames l None
+      → one.rows ≡ set v.rows k r → one.frames ≡ v.frames → two.rows ≡ set one.rows l s → two.frames ≡ one.frames
       → IsVacant new.place v.rows dups → All (λ x. merged_into new.number x.state ≡ false) v.rows → All (λ d. d.number < new.number) dups
       → new.place < length lodgings
       → frames_seen (lodging now (set lodgings new.place frame)) two.rows two.frames ≡ set (set (listed_seen dups lodgings v).frames k frame) l frame
   seen_both now v one two r s k l is first second rows frames rows₂ frames₂ vacant fresh below lt =
-      let on : frame_seen made (Merged new.number) None ≡ frame = made_new below lt in
+      let on : (own : Option ℕ) → frame_seen made (Merged new.number) own ≡ frame = λ own. made_new below lt in
       (λ t. frames_seen (lodging (is t) (set lodgings new.place frame)) (rows₂ t) (frames₂ t))
-      ∙ seen_set made one.rows one.frames l s None ∙ ap (set (frames_seen made one.rows one.frames) l) (ap (λ x. frame_seen made x None) second ∙ on)
+      ∙ seen_restated made one.rows one.frames l s
+      ∙ ap (set (frames_seen made one.rows one.frames) l) (ap (λ x. frame_seen made x (frame_in one.frames l)) second ∙ on (frame_in one.frames l))
       ∙ ap (λ fs. set fs l frame)
-      ((λ t. frames_seen made (rows t) (frames t)) ∙ seen_set made v.rows v.frames k r None
-      ∙ (λ t. set (seen_made v vacant fresh t) k ((ap (λ x. frame_seen made x None) first ∙ on) t)))
+      ((λ t. frames_seen made (rows t) (frames t)) ∙ seen_restated made v.rows v.frames k r
+      ∙ (λ t. set (seen_made v vacant fresh t) k ((ap (λ x. frame_seen made x (frame_in v.frames k)) first ∙ on (frame_in v.frames k)) t)))

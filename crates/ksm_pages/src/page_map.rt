@@ -1,8 +1,8 @@
 //! Pages in order, each found by a hash: the entries of the rows, under their pages.
 //!
 //! The entries stand in a map of hashes, each at an index. Beside it the pages stand in order, each with its index there.
-//! With n pages, `has`, `get`, `set`, `revise` and `settle` cost a hash and a comparison in the mean. `insert` also
-//! searches in the order once, and `remove`, which needs no hash, twice, in a number of steps in the order of log n. An
+//! With n pages, `has`, `get`, `set`, `revise`, `restate` and `settle` cost a hash and a comparison in the mean. `insert`
+//! also searches in the order once, and `remove`, which needs no hash, twice, in a number of steps in the order of log n. An
 //! `insert` that finds no room moves all entries to a larger place: in the mean that is a few steps for each. What is
 //! left of a page that went is kept for one that comes.
 //! A walk takes one step for each page, and no hash. `unshare_all` walks over all entries, in no order.
@@ -25,7 +25,7 @@ ghost use Rattle.ksm_pages.specs.RowEntries.{entry_of, page_order};
 use crate::entry::Entry;
 use crate::row::{settled, unshared};
 use indexmap::IndexMap;
-use ksm_base::{Fault, GuestPage, Row};
+use ksm_base::{Fault, GuestPage, PageState, Row};
 use std::alloc::Global;
 use std::collections::BTreeMap;
 use std::collections::btree_map::Range;
@@ -180,6 +180,19 @@ impl PageMap {
         let old = *kept;
         kept.set_row(row);
         Some(old)
+    }
+
+    /// The row of a page gets another state, if it has one, on the frame where it is. Gives that frame's number.
+    pub fn restate(&mut self, page: GuestPage, state: PageState) -> Option<u32>
+        ensures frame { MatchOption (lookup (asks page) self.old) (result ≡ None) (λ e. result ≡ e.frame) }
+        ensures entries { MatchOption (lookup (asks page) self.old) (self.new ≡ self.old) (λ e. self.new ≡ set_value (asks page) self.old (record e { state = state })) }
+        ensures ordered { Sorted self.old }
+    {
+        let Some(kept) = self.found.get_mut(&page) else {
+            return None;
+        };
+        kept.state = state;
+        kept.frame
     }
 
     /// Takes a page and its entry away, if it has one.

@@ -27,8 +27,8 @@ use std::marker::Model;
 
 /// The rows with their frames, the dups with their items, the pages that wait, and the knobs, which say what tree a row is in.
 ///
-/// The frame of a dup is kept once, at the dup's place, and the entries of the rows merged into it have none: to move a dup
-/// writes one number, however many pages are merged into it, and to say where a merged page lies costs a hash more.
+/// The frame of a dup is kept once, at the dup's place, and no entry of a row merged into it is asked for a frame: to move a
+/// dup writes one number, however many pages are merged into it, and to say where a merged page lies costs a hash more.
 #[derive(Drop)]
 pub struct Pages {
     shape: Shape,
@@ -79,8 +79,8 @@ fn leave(dups: &mut Dups, state: PageState, page: GuestPage)
 fn lodging_of(dups: &Dups, lodgings: &[Option<u32>], number: u64) -> Option<u32>
     ensures { result ≡ lodging (rows_of dups.now.dups) lodgings.now number }
 {
-    let dup = dups.row(number)?;
-    match lodgings.get(dup.place as usize) {
+    let place = dups.place(number)?;
+    match lodgings.get(place as usize) {
         Some(frame) => *frame,
         None => None,
     }
@@ -180,14 +180,13 @@ impl Pages {
         Some(seen(&self.dups, &self.lodgings, held))
     }
 
-    /// The dup that a row joins.
-    pub fn best(&self, row: &Row) -> Option<DupRow>
-        ensures { result ≡ best_dup self.now.knobs self.now.listed.rows self.now.dups row.now }
+    /// The number of the dup that a row joins.
+    pub fn best(&self, row: &Row) -> Option<u64>
+        ensures { result ≡ option_map (λ d. d.number) (best_dup self.now.knobs self.now.listed.rows self.now.dups row.now) }
     {
         let tree = tree_of(&self.knobs, row);
         let limit = self.knobs.max_page_sharing;
-        let number = self.dups.best(tree, &row.bytes, limit)?;
-        self.dups.row(number)
+        self.dups.best(tree, &row.bytes, limit)
     }
 
     /// The row that waits for another.
@@ -247,18 +246,6 @@ impl Pages {
         ensures { ItemsLieOn self.now.listed number result }
     {
         lodging_of(&self.dups, &self.lodgings, number)
-    }
-
-    /// The first item of the dup with this number.
-    pub fn item(&self, number: u64) -> Option<Row>
-        requires { is_some (dup_numbered number self.now.dups) ≡ true }
-        ensures { result ≡ find (λ r. merged_into number r.state) self.now.listed.rows }
-    {
-        if self.dups.items(number) == 0 {
-            return None;
-        }
-        let held = self.rows.find(self.dups.item(number, 0))?;
-        Some(held.row)
     }
 
     /// The pages merged into a dup, ascending. Refused for memory alone.
@@ -393,11 +380,7 @@ impl Pages {
             let tree = tree_of(&self.knobs, &row);
             self.waiting.add(tree, &row.bytes, row.page)?;
         }
-        let waiting = Row {
-            state: PageState::Waiting,
-            ..row
-        };
-        self.rows.revise(waiting);
+        self.rows.restate(&row, PageState::Waiting);
         Ok(())
     }
 
@@ -419,12 +402,12 @@ impl Pages {
         self.rows.replace(zero, None)
     }
 
-    /// A row with a frame of its own becomes an item of a dup, on the dup's frame. Gives what stood there. Refused for memory alone, it changes nothing.
-    pub fn join(&mut self, row: Row, number: u64) -> Result<Option<Held>, Fault>
+    /// A row with a frame of its own becomes an item of a dup, on the dup's frame. Gives the frame that it leaves. Refused for memory alone, it changes nothing.
+    pub fn join(&mut self, row: Row, number: u64) -> Result<Option<u32>, Fault>
         requires row_is { row_at row.page self.old.listed.rows ≡ Some row }
         requires alone { shared_state row.state ≡ false }
         requires room { HasRoom self.old.listed.rows self.old.dups number }
-        ensures stood { IfOk result (λ stood. MatchOption stood ⊥ (λ held. StandsAt self.old.listed row.page held.row held.frame)) }
+        ensures stood { IfOk result (λ lone. StandsAt self.old.listed row.page row lone) }
         ensures rows { OnOk result (self.new.listed.rows ≡ slice_set self.old.listed.rows (rank row.page self.old.listed.rows) (record row { state = Merged number })) }
         ensures frames { OnOk result (LiesWith self.old.listed number row.page self.new.listed.frames) }
         ensures changed { OnOk result (self.new.listed.rows ≡ change_row row.page (λ _. record row { state = Merged number }) self.old.listed.rows) }
@@ -434,23 +417,20 @@ impl Pages {
     {
         self.dups.join(number, row.page)?;
         stop_waiting(&mut self.waiting, &self.knobs, &row);
-        let item = Row {
-            state: PageState::Merged(number),
-            ..row
-        };
-        Ok(self.rows.replace(item, None))
+        Ok(self.rows.restate(&row, PageState::Merged(number)))
     }
 
-    /// Two rows with frames of their own become the items of a new dup at a place, on one frame. A stale dup at the place goes. Refused for memory alone, it changes nothing.
+    /// Two rows with frames of their own become the items of a new dup at a place, on the frame of the first. A stale dup at the place goes. Gives the frames on which they were. Refused for memory alone, it changes nothing.
     pub fn pair(
         &mut self,
         place: u32,
         first: Row,
         second: Row,
-        frame: Option<u32>,
-    ) -> Result<(), Fault>
+    ) -> Result<(Option<u32>, Option<u32>), Fault>
         requires { MayPair self.old place first second }
-        ensures rows { OnOk result (ReplacedBoth self.old.listed self.new.listed (item_of_next self.old first) (item_of_next self.old second) frame) }
+        ensures first { IfOk result (λ frames. StandsAt self.old.listed first.page first frames.0) }
+        ensures second { IfOk result (λ frames. StandsAt self.old.listed second.page second frames.1) }
+        ensures rows { IfOk result (λ frames. ReplacedBoth self.old.listed self.new.listed (item_of_next self.old first) (item_of_next self.old second) frames.0) }
         ensures changed { OnOk result (self.new.listed.rows ≡ change_row second.page (λ _. item_of_next self.old second) (change_row first.page (λ _. item_of_next self.old first) self.old.listed.rows)) }
         ensures made { OnOk result (self.new ≡ record self.old { listed = self.new.listed; dups = with_dup (next_dup self.old place first) self.old.dups; next = self.old.next + 1 }) }
         ensures refused { OnErr result (self.new ≡ self.old) }
@@ -462,11 +442,11 @@ impl Pages {
             .new_dup(place, tree, &first.bytes, first.page, second.page)?;
         stop_waiting(&mut self.waiting, &self.knobs, &first);
         stop_waiting(&mut self.waiting, &self.knobs, &second);
-        self.lodgings[place as usize] = frame;
         let state = PageState::Merged(number);
-        self.rows.replace(Row { state, ..first }, None);
-        self.rows.replace(Row { state, ..second }, None);
-        Ok(())
+        let frame = self.rows.restate(&first, state);
+        let lone = self.rows.restate(&second, state);
+        self.lodgings[place as usize] = frame;
+        Ok((frame, lone))
     }
 
     /// The stale dup at a place goes, if there is one.
@@ -530,11 +510,9 @@ impl Pages {
         ensures frames { self.new.listed.frames ≡ lodged (λ r. merged_into number r.state) frame self.old.listed.rows self.old.listed.frames }
         ensures rest { self.new ≡ record self.old { listed = self.new.listed } }
     {
-        let Some(dup) = self.dups.row(number) else {
+        let Some(place) = self.dups.place(number) else {
             return;
         };
-        // The contract of `at` says that each place has one dup, and there is room for each place.
-        let _ = self.dups.at(dup.place);
-        self.lodgings[dup.place as usize] = Some(frame);
+        self.lodgings[place as usize] = Some(frame);
     }
 }

@@ -1,8 +1,8 @@
 //! The rows in the order of their pages, each found by a hash: each page with what the book knows of it, and the frame
 //! that serves it, if one does.
 //!
-//! With n rows, `has`, `find`, `replace` and `revise` cost a hash and a comparison in the mean. `insert` and `remove` also
-//! search in the order, in a number of steps in the order of log n, and an `insert` that finds no room moves all rows. The
+//! With n rows, `has`, `find`, `replace`, `revise` and `restate` cost a hash and a comparison in the mean. `insert` and
+//! `remove` also search in the order, in a number of steps in the order of log n, and an `insert` that finds no room moves all rows. The
 //! hash has a fixed seed, so pages can be picked that collide: then a search takes a step for each.
 //! `has_guest` searches once in the order. `next` and `next_shared` do so too, and take one step for each row that they
 //! pass over, which are rows of the guest alone where one is given; `ahead` so too, and one for each of its visits.
@@ -27,7 +27,7 @@ use crate::entry::Entry;
 use crate::page_map::PageMap;
 use crate::row::{Run, Wanted, is_shared};
 use crate::tally::Tally;
-use ksm_base::{Fault, GuestPage, Row};
+use ksm_base::{Fault, GuestPage, PageState, Row};
 use ksm_tree::Waiting;
 use std::alloc::Global;
 use std::marker::Model;
@@ -232,6 +232,21 @@ impl Rows {
         };
         self.tally = self.tally.without(&held.row).with(&row);
         Some(held)
+    }
+
+    /// Gives a row another state, on the frame where it is, and gives the number of that.
+    pub(crate) fn restate(&mut self, row: &Row, state: PageState) -> Option<u32>
+        requires { row_at row.now.page self.old.rows ≡ Some row.now }
+        ensures stood { StandsAt self.old row.now.page row.now result }
+        ensures rows { self.new.rows ≡ slice_set self.old.rows (rank row.now.page self.old.rows) (record row.now { state = state }) }
+        ensures frames { self.new.frames ≡ self.old.frames }
+        ensures changed { self.new.rows ≡ change_row row.now.page (λ _. record row.now { state = state }) self.old.rows }
+    {
+        // The contract of `len` says that the number fits.
+        let _ = self.entries.len();
+        let frame = self.entries.restate(row.page, state);
+        self.tally = self.tally.without(row).with(&Row { state, ..*row });
+        frame
     }
 
     /// Takes the row of a page away, which has one, and gives what stood there.

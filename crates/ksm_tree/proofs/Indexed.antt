@@ -31,6 +31,10 @@ dup_some : (d : Option Dup) → is_some (option_map (λ e. e.row) d) ≡ true �
 dup_some None is = is
 dup_some (Some e) is = refl
 
+place_of_row : (d : Option Dup) → option_map (λ r. r.place) (option_map (λ e. e.row) d) ≡ option_map (λ e. e.row.place) d
+place_of_row None = refl
+place_of_row (Some e) = refl
+
 module _ (s : SlotsState) (next : ℕ) (index : Index) (h : AreIndexed s next index) where
   -- a number that the index has is that of the dup at its place
   pub indexed_found : (q p : ℕ) → Some p ≡ place_of q index → dup_of q s.dups ≡ dup_at p s.dups
@@ -44,6 +48,13 @@ module _ (s : SlotsState) (next : ℕ) (index : Index) (h : AreIndexed s next in
 
   pub unindexed_changed : (q : ℕ) (f : List GuestPage → List GuestPage) → None ≡ place_of q index → s.dups ≡ change_items q f s.dups
   unindexed_changed q f is = unknown_changed q f s.dups (sym (h.numbered q) ∙ sym is)
+
+  -- and its place is that of the dup with the number
+  pub indexed_place : (q : ℕ) → place_of q index ≡ option_map (λ d. d.row.place) (dup_of q s.dups)
+  indexed_place q =
+      h.numbered q
+      ∙ ap (option_map (λ r. r.place)) (sym (row_found (has_number q) (λ r. r.number == q) (λ d. refl) s.dups))
+      ∙ place_of_row (dup_of q s.dups)
 
   pub indexed_there : (q p : ℕ) → Some p ≡ place_of q index → is_some (dup_at p s.dups) ≡ true
   indexed_there q p is =

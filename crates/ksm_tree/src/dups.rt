@@ -180,6 +180,14 @@ impl Dups {
         self.find(dup).map(|dup| dup.row)
     }
 
+    /// The place of a dup.
+    pub fn place(&self, dup: u64) -> Option<u32>
+        ensures place { result ≡ option_map (λ d. d.row.place) (dup_of dup self.now.dups) }
+        ensures lawful { AreDups self.now }
+    {
+        self.index.place(dup)
+    }
+
     /// How many items a dup has: none where there is no such dup.
     pub fn items(&self, dup: u64) -> u32
         ensures { result ≡ length (items_of dup self.now.dups) }

@@ -1,14 +1,15 @@
-use Rattle.std.proofs.Common.{◌≡◌, ◌<◌, ◌≤◌, ◌^◌, ℕ, Bool, false, [], ◌∷◌, ◌++◌, Option, Some, refl, sym, ap, ◌∙◌, subst, arith}
+use Rattle.std.proofs.Common.{◌≡◌, ◌<◌, ◌≤◌, ◌^◌, ℕ, Bool, false, List, [], ◌∷◌, ◌++◌, Option, Some, refl, sym, ap, ◌∙◌, subst, arith}
 use Rattle.std.specs.Prelude.{All, if◌then◌else◌}
-use Rattle.ksm_base.specs.Rows.{merged_into, row_at}
+use Rattle.ksm_base.specs.declared.row.PageState.TheVariants.{Merged}
+use Rattle.ksm_base.specs.declared.row.Row.{Row}
+use Rattle.ksm_base.specs.Rows.{change_row, merged_into, row_at}
 use Rattle.ksm_base.specs.Values.{frames_of}
 use Rattle.frame_core.specs.declared.event.KeeperStep.TheVariants.{Publish, Withdraw, Add}
 use Rattle.ksm_layout.specs.Commands.{Performs, founding, frame_number, frame_on, leaving, withdrawing}
-use Rattle.ksm_layout.specs.Laid.{Lay, Founds, IsLaid, lay_of, mapped_lay}
+use Rattle.ksm_layout.specs.Laid.{Lay, Founds, IsLaid, founded, lay_of, mapped_lay}
 use Rattle.ksm_pages.specs.Linked.{PagesView, IsVacant, item_of_next}
 use Rattle.ksm_layout.specs.Steps.{Does, Made}
 use Rattle.ksm_layout.proofs.Laying.{has_frame, own_framed}
-use Rattle.ksm_layout.proofs.Ranks.{stands_as}
 use Rattle.ksm_layout.proofs.Logs.{chained, one_step}
 use Rattle.ksm_layout.proofs.Made.{made_one, made_then}
 use Rattle.ksm_layout.proofs.Paired.{both_frames, few_there, first_lawful, second_lawful, laid_paired}
@@ -16,7 +17,7 @@ use Rattle.ksm_layout.proofs.Sharing.{not_taken, vacant_loose, spent_most}
 use Rattle.ksm_layout.proofs.layout.Layout.pair.Goals as goal
 
 pub invariant_of-self : goal.invariant_of-self
-invariant_of-self c = subst (λ (z : PagesView). IsLaid z.shape z.listed z.dups z.knobs z.next c.self.inside.keeper) (sym c.in_err-pair.ensures.refused) c.self.invariant
+invariant_of-self c = subst (λ (z : PagesView). IsLaid z.shape z.listed z.dups z.knobs z.next c.self.inside.keeper) (sym c.in_err-shared.ensures.refused) c.self.invariant
 
 pub pair-requires : goal.pair-requires
 pair-requires c =
@@ -50,33 +51,32 @@ clear-requires-clause-empty c none =
 pub known_frame-frame-requires : goal.known_frame-frame-requires
 known_frame-frame-requires c =
     let b = c.self.inside in
-    let at = stands_as b.pages.listed c.args.self.now.rows c.args.first.page c.in-Some.held.row c.args.first c.in-Some.held.frame c.in-Some.ensures.at (ap (λ (x : Lay). x.rows) c.self.view_is) c.requires.founds.row_is in
-    has_frame b.pages.shape b.pages.listed b.pages.dups b.pages.knobs b.pages.next b.keeper c.self.invariant c.args.first.page c.args.first c.in-Some.held.frame at
-    (own_framed c.args.first.state c.requires.founds.alone)
+    has_frame b.pages.shape b.pages.listed b.pages.dups b.pages.knobs b.pages.next b.keeper c.self.invariant c.args.first.page c.args.first c.in_ok-shared.shared
+    c.in_ok-shared.ensures.first (own_framed c.args.first.state c.requires.founds.alone)
 
 pub share-requires-clause-lawful : goal.share-requires-clause-lawful
 share-requires-clause-lawful c =
     first_lawful c.self.inside.pages c.self.inside.keeper c.self.invariant c.args.self.now c.self.view_is c.args.place c.args.first c.args.second c.requires.founds c.requires.joins c.requires.second c.requires.apart
-    c.in-Some.held.row c.in-Some-find.lone.row c.in-Some.held.frame c.known_frame-frame.result c.known_frame-frame.ensures c.in-Some-find.lone.frame c.in-Some.ensures.at c.in-Some-find.ensures.at
-    c.pair.new.self c.in_ok-pair.ensures.rows c.in_ok-pair.ensures.made c.clear.new.keeper c.publish.new.self c.clear.ensures.own c.clear.ensures.ledger c.publish.ensures
+    c.args.first c.args.second c.in_ok-shared.shared c.known_frame-frame.result c.known_frame-frame.ensures c.in_ok-shared.lone c.in_ok-shared.ensures.first c.in_ok-shared.ensures.second
+    c.pair.new.self c.in_ok-shared.ensures.rows c.in_ok-shared.ensures.made c.clear.new.keeper c.publish.new.self c.clear.ensures.own c.clear.ensures.ledger c.publish.ensures
 
 pub share-requires-clause-few : goal.share-requires-clause-few
 share-requires-clause-few c =
     few_there c.self.inside.pages c.self.inside.keeper c.self.invariant c.args.self.now c.self.view_is c.args.place c.args.first c.args.second c.requires.founds c.requires.joins c.requires.second c.requires.apart
-    c.in-Some.held.row c.in-Some-find.lone.row c.in-Some.held.frame c.known_frame-frame.result c.known_frame-frame.ensures c.in-Some-find.lone.frame c.in-Some.ensures.at c.in-Some-find.ensures.at
-    c.pair.new.self c.in_ok-pair.ensures.rows c.in_ok-pair.ensures.made c.clear.new.keeper c.publish.new.self c.clear.ensures.own c.clear.ensures.ledger c.publish.ensures
+    c.args.first c.args.second c.in_ok-shared.shared c.known_frame-frame.result c.known_frame-frame.ensures c.in_ok-shared.lone c.in_ok-shared.ensures.first c.in_ok-shared.ensures.second
+    c.pair.new.self c.in_ok-shared.ensures.rows c.in_ok-shared.ensures.made c.clear.new.keeper c.publish.new.self c.clear.ensures.own c.clear.ensures.ledger c.publish.ensures
 
 pub release_if-requires-clause-lawful : goal.release_if-requires-clause-lawful
 release_if-requires-clause-lawful c =
     second_lawful c.self.inside.pages c.self.inside.keeper c.self.invariant c.args.self.now c.self.view_is c.args.place c.args.first c.args.second c.requires.founds c.requires.joins c.requires.second c.requires.apart
-    c.in-Some.held.row c.in-Some-find.lone.row c.in-Some.held.frame c.known_frame-frame.result c.known_frame-frame.ensures c.in-Some-find.lone.frame c.in-Some.ensures.at c.in-Some-find.ensures.at
-    c.pair.new.self c.in_ok-pair.ensures.rows c.in_ok-pair.ensures.made c.clear.new.keeper c.publish.new.self c.clear.ensures.own c.clear.ensures.ledger c.publish.ensures c.share.new.keeper c.share.ensures.own c.share.ensures.keeps
+    c.args.first c.args.second c.in_ok-shared.shared c.known_frame-frame.result c.known_frame-frame.ensures c.in_ok-shared.lone c.in_ok-shared.ensures.first c.in_ok-shared.ensures.second
+    c.pair.new.self c.in_ok-shared.ensures.rows c.in_ok-shared.ensures.made c.clear.new.keeper c.publish.new.self c.clear.ensures.own c.clear.ensures.ledger c.publish.ensures c.share.new.keeper c.share.ensures.own c.share.ensures.keeps
 
 pub invariant_of-self-2 : goal.invariant_of-self-2
 invariant_of-self-2 c =
     laid_paired c.self.inside.pages c.self.inside.keeper c.self.invariant c.args.self.now c.self.view_is c.args.place c.args.first c.args.second c.requires.founds c.requires.joins c.requires.second c.requires.apart
-    c.in-Some.held.row c.in-Some-find.lone.row c.in-Some.held.frame c.known_frame-frame.result c.known_frame-frame.ensures c.in-Some-find.lone.frame c.in-Some.ensures.at c.in-Some-find.ensures.at
-    c.pair.new.self c.in_ok-pair.ensures.rows c.in_ok-pair.ensures.made c.clear.new.keeper c.publish.new.self c.clear.ensures.own c.clear.ensures.ledger c.publish.ensures c.share.new.keeper c.share.ensures.own c.share.ensures.keeps c.release_if.new.keeper c.release_if.ensures.own c.release_if.ensures.keeps c.share.ensures.spent c.release_if.ensures.spent
+    c.args.first c.args.second c.in_ok-shared.shared c.known_frame-frame.result c.known_frame-frame.ensures c.in_ok-shared.lone c.in_ok-shared.ensures.first c.in_ok-shared.ensures.second
+    c.pair.new.self c.in_ok-shared.ensures.rows c.in_ok-shared.ensures.made c.clear.new.keeper c.publish.new.self c.clear.ensures.own c.clear.ensures.ledger c.publish.ensures c.share.new.keeper c.share.ensures.own c.share.ensures.keeps c.release_if.new.keeper c.release_if.ensures.own c.release_if.ensures.keeps c.share.ensures.spent c.release_if.ensures.spent
 
 pub returns-clause-does : goal.returns-clause-does
 returns-clause-does c =
@@ -103,9 +103,9 @@ returns-clause-performs c =
     let k3 = c.share.new.keeper in
     let k4 = c.release_if.new.keeper in
     let f : ℕ = c.known_frame-frame.result in
-    let g : Option ℕ = c.in-Some-find.lone.frame in
+    let g : Option ℕ = c.in_ok-shared.lone in
     let place : ℕ = c.args.place in
-    let on : frame_on p.listed c.args.first.page ≡ f = ap frame_number (c.in-Some.ensures.at.frame_is ∙ c.known_frame-frame.ensures) in
+    let on : frame_on p.listed c.args.first.page ≡ f = ap frame_number (c.in_ok-shared.ensures.first.frame_is ∙ c.known_frame-frame.ensures) in
     let cleared : Made k0 k1 (withdrawing p.dups place) =
     subst (λ (t : Bool). Made k0 k1 (if t then Withdraw place ∷ [] else [])) c.has_dup-taken.ensures c.clear.ensures.made in
     let whole : Made k0 k4 (withdrawing p.dups place ++ (Publish place f ∷ Add f ∷ leaving g)) =
@@ -116,7 +116,22 @@ returns-clause-performs c =
     (founding x.dups (mapped_lay x).listed place c.args.first c.args.second)) c.self.view_is
     (record {
       made = subst (λ (z : ℕ × Option ℕ). Made k0 k4 (withdrawing p.dups place ++ (Publish place z.0 ∷ Add z.0 ∷ leaving z.1)))
-          (λ t. (sym on t, sym c.in-Some-find.ensures.at.frame_is t)) whole;
-      frames = both_frames p.listed c.pair.new.self.listed c.in-Some.held.row (item_of_next p c.args.first)
-          (item_of_next p c.args.second) c.in-Some.held.frame c.in-Some.ensures.at c.in_ok-pair.ensures.rows;
+          (λ t. (sym on t, sym c.in_ok-shared.ensures.second.frame_is t)) whole;
+      frames = both_frames p.listed c.pair.new.self.listed c.args.first (item_of_next p c.args.first)
+          (item_of_next p c.args.second) c.in_ok-shared.shared c.in_ok-shared.ensures.first c.in_ok-shared.ensures.rows;
     })
+
+pub returns-clause-state : goal.returns-clause-state
+returns-clause-state c =
+    let p : PagesView = c.self.inside.pages in
+    let new : PagesView = c.pair.new.self in
+    let k = c.release_if.new.keeper in
+    let first = c.args.first in
+    let second = c.args.second in
+    ap (λ (x : PagesView). lay_of x k) c.in_ok-shared.ensures.made
+    ∙ ap (λ (rows : List Row). record (founded (lay_of p c.self.inside.keeper) c.args.place first) { rows = rows; frames = new.listed.frames; keeper = k }) c.in_ok-shared.ensures.changed
+    ∙ ap (λ (x : Lay). record (founded x c.args.place first) {
+      rows = change_row second.page (λ _. record second { state = Merged x.next }) (founded x c.args.place first).rows;
+      frames = new.listed.frames;
+      keeper = k;
+    }) c.self.view_is

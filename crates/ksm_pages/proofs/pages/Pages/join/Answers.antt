@@ -8,7 +8,7 @@ use Rattle.ksm_tree.proofs.Waiters.{row_stopped}
 use Rattle.ksm_tree.specs.Dups.{rows_of}
 use Rattle.ksm_pages.specs.Linked.{AreKept, AreLinked, HasRoom}
 use Rattle.ksm_pages.proofs.Linking.{own_not_merged, linked_joined, known_room, fewer_room, only_rows}
-use Rattle.ksm_pages.proofs.Seen.{item_lies, paired_put, seen_put, stood_own}
+use Rattle.ksm_pages.proofs.Seen.{item_lies, own_lies, paired_there, seen_put_there}
 use Rattle.std.specs.Prelude.{MatchOption}
 use Rattle.ksm_pages.specs.Listed.{StandsAt, rank}
 use Rattle.ksm_pages.specs.Lodged.{LiesWith, listed_seen}
@@ -37,7 +37,7 @@ invariant_of-self-2 c =
     let item = record row { state = Merged c.args.number } in
     let found = ap (λ v. row_at row.page v.listed.rows) c.self.view_is ∙ c.requires.row_is in
     record {
-      kept = subst (λ rows. AreKept old.shape old.knobs rows c.join.new.self c.stop_waiting.new.waiting) (sym c.replace.ensures.changed)
+      kept = subst (λ rows. AreKept old.shape old.knobs rows c.join.new.self c.stop_waiting.new.waiting) (sym c.restate.ensures.changed)
           (record {
             linked = subst (AreLinked old.shape (change_row row.page (λ _. item) old.rows.rows)) (sym c.in_ok-join.ensures.joined)
                 (linked_joined old.shape old.rows.rows old.dups c.self.invariant.kept.linked row item c.args.number found
@@ -45,26 +45,29 @@ invariant_of-self-2 c =
             waits = row_stopped old.knobs old.rows.rows old.waiting c.self.invariant.kept.waits c.stop_waiting.new.waiting item row found refl
                 c.stop_waiting.ensures;
           });
-      paired = paired_put old.rows c.replace.new.self (rank row.page old.rows.rows) item None c.self.invariant.paired c.replace.ensures.rows
-          c.replace.ensures.frames;
+      paired = paired_there old.rows c.restate.new.self (rank row.page old.rows.rows) item c.self.invariant.paired c.restate.ensures.rows
+          c.restate.ensures.frames;
       room = c.self.invariant.room;
     }
 
 pub returns-clause-rest : goal.returns-clause-rest
 returns-clause-rest c =
     let old = c.self.inside in
-    only_rows old.shape old.dups c.join.new.self old.knobs (listed_seen (rows_of c.join.new.self.dups) old.lodgings.items c.replace.new.self)
+    only_rows old.shape old.dups c.join.new.self old.knobs (listed_seen (rows_of c.join.new.self.dups) old.lodgings.items c.restate.new.self)
     (listed_seen (rows_of old.dups.dups) old.lodgings.items old.rows) c.args.self.now
     (ap (λ d. rows_of d.dups) c.in_ok-join.ensures.joined ∙ rows_items c.args.number (with_item c.args.row.page) old.dups.dups)
     (ap (λ d. d.next) c.in_ok-join.ensures.joined) c.self.view_is
+
+pub restate-requires : goal.restate-requires
+restate-requires c = ap (λ v. row_at c.args.row.page v.listed.rows) c.self.view_is ∙ c.requires.row_is
 
 pub returns-clause-stood : goal.returns-clause-stood
 returns-clause-stood c =
     let old = c.self.inside in
     let row = c.args.row in
-    subst (λ v. MatchOption c.replace.result ⊥ (λ held. StandsAt v.listed row.page held.row held.frame)) c.self.view_is
-    (stood_own (rows_of old.dups.dups) old.lodgings.items old.rows row.page c.replace.result row c.self.invariant.paired c.replace.ensures.stood
-    (ap (λ v. row_at row.page v.listed.rows) c.self.view_is ∙ c.requires.row_is) (own_not_merged row.state c.requires.alone))
+    subst (λ v. StandsAt v.listed row.page row c.restate.result) c.self.view_is
+    (own_lies (rows_of old.dups.dups) old.lodgings.items old.rows row c.restate.result c.self.invariant.paired c.restate.ensures.stood
+    (own_not_merged row.state c.requires.alone))
 
 pub returns-clause-frames : goal.returns-clause-frames
 returns-clause-frames c =
@@ -72,9 +75,9 @@ returns-clause-frames c =
     let item = record c.args.row { state = Merged c.args.number } in
     let dups = rows_of old.dups.dups in
     let same = ap (λ d. rows_of d.dups) c.in_ok-join.ensures.joined ∙ rows_items c.args.number (with_item c.args.row.page) old.dups.dups in
-    subst (λ v. LiesWith v.listed c.args.number item.page (listed_seen (rows_of c.join.new.self.dups) old.lodgings.items c.replace.new.self).frames)
+    subst (λ v. LiesWith v.listed c.args.number item.page (listed_seen (rows_of c.join.new.self.dups) old.lodgings.items c.restate.new.self).frames)
     c.self.view_is
     (λ page r frame at merged.
-    seen_put dups (rows_of c.join.new.self.dups) old.lodgings.items old.rows c.replace.new.self item None frame same c.replace.ensures.rows
-    c.replace.ensures.frames
+    seen_put_there dups (rows_of c.join.new.self.dups) old.lodgings.items old.rows c.restate.new.self item frame same c.restate.ensures.rows
+    c.restate.ensures.frames
     (sym (item_lies dups old.lodgings.items old.rows page r frame c.args.number c.self.invariant.paired at merged)))

@@ -1,5 +1,5 @@
-use Rattle.std.proofs.Common.{◌≡◌, ◌∙◌, ℕ, ◌+◌, true, List, [], ◌∷◌, ap, sym, subst, refl, None, length-set, ◌<◌}
-use Rattle.std.specs.Prelude.{is_some, slice_set}
+use Rattle.std.proofs.Common.{◌≡◌, ◌∙◌, ℕ, ◌+◌, List, [], ◌∷◌, ap, sym, subst, refl, length-set, ◌<◌}
+use Rattle.std.specs.Prelude.{slice_set}
 use Rattle.ksm_base.specs.declared.row.DupRow.{DupRow}
 use Rattle.ksm_base.specs.declared.row.Row.{Row}
 use Rattle.ksm_base.specs.declared.row.PageState.TheVariants.{Merged}
@@ -10,10 +10,11 @@ use Rattle.ksm_rmap.specs.Items.{with_item}
 use Rattle.ksm_tree.proofs.Changes.{rows_new}
 use Rattle.ksm_tree.specs.Dups.{DupsState, rows_of}
 use Rattle.ksm_pages.specs.Linked.{AreKept, AreLinked, IsVacant, PagesView, next_dup, ReplacedBoth, item_of_next}
-use Rattle.ksm_pages.proofs.Linking.{known_still, linked_made, none_live, own_not_merged}
+use Rattle.ksm_pages.proofs.Linking.{linked_made, none_live, own_not_merged}
 use Rattle.ksm_pages.proofs.Partners.{both_stopped}
-use Rattle.ksm_pages.proofs.Seen.{paired_put, seen_both}
-use Rattle.ksm_pages.specs.Listed.{rank}
+use Rattle.ksm_pages.proofs.Seen.{own_lies, paired_there, seen_both, stood_before}
+use Rattle.ksm_tree.proofs.Waiters.{at_others}
+use Rattle.ksm_pages.specs.Listed.{rank, StandsAt}
 use Rattle.ksm_pages.specs.Lodged.{listed_seen}
 use Rattle.ksm_base.specs.Values.{frames_of}
 use Rattle.ksm_pages.proofs.pages.Pages.pair.Goals as goal
@@ -23,11 +24,29 @@ new_dup-requires-clause-free c =
     none_live c.args.place c.self.inside.rows.rows c.self.inside.dups.dups c.self.invariant.kept.linked.tied
     (subst (λ v. IsVacant c.args.place v.listed.rows v.dups) (sym c.self.view_is) c.requires.vacant)
 
-pub replace-requires-2 : goal.replace-requires-2
-replace-requires-2 c =
-    subst (λ rows. is_some (row_at c.args.second.page rows) ≡ true) (sym c.replace.ensures.changed)
-    (known_still c.args.second.page (record c.args.first { state = Merged c.in_ok-number.number }) c.self.inside.rows.rows
-    (ap (λ v. is_some (row_at c.args.second.page v.listed.rows)) c.self.view_is ∙ ap is_some c.requires.second_is))
+pub restate-lone-requires : goal.restate-lone-requires
+restate-lone-requires c =
+    ap (row_at c.args.second.page) c.restate-frame.ensures.changed
+    ∙ at_others (record c.args.first { state = Merged c.in_ok-number.number }) c.args.second.page c.self.inside.rows.rows c.requires.apart
+    ∙ ap (λ v. row_at c.args.second.page v.listed.rows) c.self.view_is ∙ c.requires.second_is
+
+pub returns-clause-first : goal.returns-clause-first
+returns-clause-first c =
+    let old = c.self.inside in
+    subst (λ v. StandsAt v.listed c.args.first.page c.args.first c.restate-frame.result) c.self.view_is
+    (own_lies (rows_of old.dups.dups) old.lodgings.items old.rows c.args.first c.restate-frame.result c.self.invariant.paired c.restate-frame.ensures.stood
+    (own_not_merged c.args.first.state c.requires.first_alone))
+
+pub returns-clause-second : goal.returns-clause-second
+returns-clause-second c =
+    let old = c.self.inside in
+    let second = c.args.second in
+    let stood = stood_before old.rows c.restate-frame.new.self (record c.args.first { state = Merged c.in_ok-number.number }) second c.restate-lone.result
+    c.self.invariant.kept.linked.order
+    (ap (λ v. row_at second.page v.listed.rows) c.self.view_is ∙ c.requires.second_is) c.restate-frame.ensures.changed c.restate-frame.ensures.frames c.restate-lone.ensures.stood in
+    subst (λ v. StandsAt v.listed second.page second c.restate-lone.result) c.self.view_is
+    (own_lies (rows_of old.dups.dups) old.lodgings.items old.rows second c.restate-lone.result c.self.invariant.paired stood
+    (own_not_merged second.state c.requires.second_alone))
 
 pub invariant_of-self-2 : goal.invariant_of-self-2
 invariant_of-self-2 c =
@@ -37,15 +56,15 @@ invariant_of-self-2 c =
     let item_of : Row → Row = λ r. record r { state = Merged old.dups.next } in
     let row : DupRow = record { number = old.dups.next; place = c.args.place; tree = c.tree_of-tree.result; bytes = first.bytes } in
     let rows =
-    c.replace-2.ensures.changed
-    ∙ ap (change_row second.page (λ _. record second { state = Merged c.in_ok-number.number })) c.replace.ensures.changed
+    c.restate-lone.ensures.changed
+    ∙ ap (change_row second.page (λ _. record second { state = Merged c.in_ok-number.number })) c.restate-frame.ensures.changed
     ∙ ap (λ n. change_row second.page (λ _. record second { state = Merged n })
     (change_row first.page (λ _. record first { state = Merged n }) old.rows.rows)) c.in_ok-number.ensures.number in
     let found = ap (λ v. row_at first.page v.listed.rows) c.self.view_is ∙ c.requires.first_is in
     let also = ap (λ v. row_at second.page v.listed.rows) c.self.view_is ∙ c.requires.second_is in
     let item : Row → Row = λ r. record r { state = Merged c.in_ok-number.number } in
-    let between = paired_put old.rows c.replace.new.self (rank first.page old.rows.rows)
-    (item first) None c.self.invariant.paired c.replace.ensures.rows c.replace.ensures.frames in
+    let between = paired_there old.rows c.restate-frame.new.self (rank first.page old.rows.rows)
+    (item first) c.self.invariant.paired c.restate-frame.ensures.rows c.restate-frame.ensures.frames in
     record {
       kept = subst (λ rs. AreKept old.shape old.knobs rs c.new_dup.new.self c.stop_waiting-2.new.waiting) (sym rows)
           (record {
@@ -58,15 +77,15 @@ invariant_of-self-2 c =
                 (item_of second) first second c.self.invariant.kept.waits
                 found also c.requires.apart refl refl c.stop_waiting.ensures c.stop_waiting-2.ensures;
           });
-      paired = paired_put c.replace.new.self c.replace-2.new.self (rank second.page c.replace.new.self.rows)
-          (item second) None between c.replace-2.ensures.rows c.replace-2.ensures.frames;
+      paired = paired_there c.restate-frame.new.self c.restate-lone.new.self (rank second.page c.restate-frame.new.self.rows)
+          (item second) between c.restate-lone.ensures.rows c.restate-lone.ensures.frames;
       room = length-set old.lodgings.items c.args.place _ ∙ c.self.invariant.room;
     }
 
 pub returns-clause-made : goal.returns-clause-made
 returns-clause-made c =
     let old = c.self.inside in
-    let listed = listed_seen (rows_of c.new_dup.new.self.dups) (slice_set old.lodgings.items c.args.place c.args.frame) c.replace-2.new.self in
+    let listed = listed_seen (rows_of c.new_dup.new.self.dups) (slice_set old.lodgings.items c.args.place c.restate-frame.result) c.restate-lone.new.self in
     let first = c.args.first in
     let dup : DupRow = record { number = old.dups.next; place = c.args.place; tree = c.tree_of-tree.result; bytes = first.bytes } in
     let seen : DupsState → PagesView = λ d. record { shape = old.shape; listed = listed; dups = rows_of d.dups; knobs = old.knobs; next = d.next } in
@@ -82,13 +101,13 @@ returns-clause-rows c =
     let old = c.self.inside in
     let first = c.args.first in
     let second = c.args.second in
-    let frame = c.args.frame in
+    let frame = c.restate-frame.result in
     let number = c.in_ok-number.number in
     let number_is = c.in_ok-number.ensures.number in
     let item : ℕ → Row → Row = λ n r. record r { state = Merged n } in
     let dup : DupRow = record { number = old.dups.next; place = c.args.place; tree = c.tree_of-tree.result; bytes = first.bytes } in
     let k = rank first.page old.rows.rows in
-    let one = c.replace.new.self in
+    let one = c.restate-frame.new.self in
     let l = rank second.page one.rows in
     let seen = listed_seen (rows_of old.dups.dups) old.lodgings.items old.rows in
     let now = ap (λ d. rows_of d.dups) c.in_ok-number.ensures.made ∙ rows_new (record { row = dup; items = with_item second.page (first.page ∷ []) })
@@ -97,21 +116,21 @@ returns-clause-rows c =
     let fresh = subst (λ v. All (λ r. merged_into v.next r.state ≡ false) v.listed.rows) (sym c.self.view_is) c.requires.fresh in
     let inside = subst (λ n. c.args.place < n) (sym (c.self.invariant.room ∙ ap (λ v. frames_of v.shape) c.self.view_is)) c.requires.inside in
     let frames = seen_both (rows_of old.dups.dups) old.lodgings.items dup frame c.in_ok-number.ensures.lawful.in_place_order
-    (rows_of c.new_dup.new.self.dups) old.rows one c.replace-2.new.self (item number first) (item number second) k l
-    now (ap Merged number_is) (ap Merged number_is) c.replace.ensures.rows c.replace.ensures.frames c.replace-2.ensures.rows c.replace-2.ensures.frames
+    (rows_of c.new_dup.new.self.dups) old.rows one c.restate-lone.new.self (item number first) (item number second) k l
+    now (ap Merged number_is) (ap Merged number_is) c.restate-frame.ensures.rows c.restate-frame.ensures.frames c.restate-lone.ensures.rows c.restate-lone.ensures.frames
     vacant fresh c.in_ok-number.ensures.lawful.numbers_below inside in
     subst (λ (v : PagesView). ReplacedBoth v.listed (listed_seen (rows_of c.new_dup.new.self.dups)
-    (slice_set old.lodgings.items c.args.place frame) c.replace-2.new.self) (item_of_next v first) (item_of_next v second) frame) c.self.view_is
+    (slice_set old.lodgings.items c.args.place frame) c.restate-lone.new.self) (item_of_next v first) (item_of_next v second) frame) c.self.view_is
     (record {
       between = record { rows = one.rows; frames = slice_set seen.frames k frame };
       first = record {
-        rows = c.replace.ensures.rows ∙ ap (λ n. slice_set old.rows.rows k (item n first)) number_is;
+        rows = c.restate-frame.ensures.rows ∙ ap (λ n. slice_set old.rows.rows k (item n first)) number_is;
         frames = refl;
-        changed = c.replace.ensures.changed ∙ ap (λ n. change_row first.page (λ _. item n first) old.rows.rows) number_is;
+        changed = c.restate-frame.ensures.changed ∙ ap (λ n. change_row first.page (λ _. item n first) old.rows.rows) number_is;
       };
       second = record {
-        rows = c.replace-2.ensures.rows ∙ ap (λ n. slice_set one.rows l (item n second)) number_is;
+        rows = c.restate-lone.ensures.rows ∙ ap (λ n. slice_set one.rows l (item n second)) number_is;
         frames = frames;
-        changed = c.replace-2.ensures.changed ∙ ap (λ n. change_row second.page (λ _. item n second) one.rows) number_is;
+        changed = c.restate-lone.ensures.changed ∙ ap (λ n. change_row second.page (λ _. item n second) one.rows) number_is;
       };
     })

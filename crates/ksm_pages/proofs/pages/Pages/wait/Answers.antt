@@ -28,6 +28,14 @@ add-requires c =
     (sym c.is_waiting.ensures ∙ c.if-not-is_waiting.true)
     (ap (λ v. partner v.knobs v.listed.rows row) c.self.view_is ∙ c.requires.first)
 
+pub restate-requires : goal.restate-requires
+restate-requires c =
+    let found = ap (λ v. row_at c.args.row.page v.listed.rows) c.self.view_is ∙ c.requires.row_is in
+    elim c.if-not-is_waiting.branch [
+      | then-not-is_waiting+in_ok-add w ↦ rw w.self-inside-is found
+      | else-not-is_waiting w ↦ rw w.self-inside-is found
+    ]
+
 pub returns-clause-stood : goal.returns-clause-stood
 returns-clause-stood c =
     let row = c.args.row in
@@ -51,7 +59,7 @@ returns-clause-frames c =
     let k = rank row.page old.rows.rows in
     let alone : merged_state (row_in old.rows.rows k).state ≡ false = ap (λ (r : Row). merged_state r.state) at.row_is
     ∙ own_not_merged row.state c.requires.alone in
-    (λ t. frames_seen (lodging (rows_of now.dups.dups) now.lodgings.items) (c.revise.ensures.rows t) (c.revise.ensures.frames t))
+    (λ t. frames_seen (lodging (rows_of now.dups.dups) now.lodgings.items) (c.restate.ensures.rows t) (c.restate.ensures.frames t))
     ∙ ap (λ (s : Inside). frames_seen (lodging (rows_of s.dups.dups) s.lodgings.items)
     (slice_set s.rows.rows (rank row.page s.rows.rows) waiting) s.rows.frames) same
     ∙ seen_revised of_old old.rows.rows old.rows.frames k waiting (λ own. sym (own_seen of_old (row_in old.rows.rows k).state own alone))
@@ -66,9 +74,9 @@ invariant_of-self-2 c =
     let linked = linked_alone old.shape old.rows.rows old.dups c.self.invariant.kept.linked row waiting found
     (own_not_merged row.state c.requires.alone) refl in
     let now = c.if-not-is_waiting.self-inside in
-    let kept : AreKept now.shape now.knobs c.revise.new.self.rows now.dups now.waiting =
+    let kept : AreKept now.shape now.knobs c.restate.new.self.rows now.dups now.waiting =
     subst (λ rows. AreKept c.if-not-is_waiting.self-inside.shape c.if-not-is_waiting.self-inside.knobs rows c.if-not-is_waiting.self-inside.dups
-    c.if-not-is_waiting.self-inside.waiting) (sym c.revise.ensures.changed)
+    c.if-not-is_waiting.self-inside.waiting) (sym c.restate.ensures.changed)
     (elim c.if-not-is_waiting.branch [
       | then-not-is_waiting+in_ok-add w ↦
           let still : waiting_state row.state ≡ false = sym c.is_waiting.ensures ∙ w.if-not-is_waiting.true in
@@ -94,10 +102,10 @@ invariant_of-self-2 c =
     ]) in
     record {
       kept = kept;
-      paired = ap length c.revise.ensures.frames ∙ elim c.if-not-is_waiting.branch [
+      paired = ap length c.restate.ensures.frames ∙ elim c.if-not-is_waiting.branch [
         | then-not-is_waiting+in_ok-add w ↦ rw w.self-inside-is c.self.invariant.paired
         | else-not-is_waiting w ↦ rw w.self-inside-is c.self.invariant.paired
-      ] ∙ sym (ap length c.revise.ensures.rows ∙ length-set now.rows.rows (rank row.page now.rows.rows) waiting);
+      ] ∙ sym (ap length c.restate.ensures.rows ∙ length-set now.rows.rows (rank row.page now.rows.rows) waiting);
       room = elim c.if-not-is_waiting.branch [
         | then-not-is_waiting+in_ok-add w ↦ rw w.self-inside-is c.self.invariant.room
         | else-not-is_waiting w ↦ rw w.self-inside-is c.self.invariant.room

@@ -1,0 +1,66 @@
+use Rattle.std.proofs.Common.{◌≡◌, sym, ◌∙◌, ap, subst, ℕ, Option, None, Some, arith}
+use Rattle.std.specs.Prelude.{MatchOption}
+use Rattle.std.specs.Map.{lookup, set_value}
+use Rattle.ksm_base.specs.declared.row.Row.{Row}
+use Rattle.ksm_pages.specs.declared.entry.Entry.{Entry}
+use Rattle.ksm_pages.specs.Listed.{Listed, StandsAt}
+use Rattle.ksm_pages.specs.RowEntries.{entry_of, listed, row_of}
+use Rattle.ksm_pages.proofs.RowLists.{asks, entry_found, stands_at, Revised, revised}
+use Rattle.ksm_pages.proofs.Tallies.{page_counted, page_replaced, page_room}
+use Rattle.ksm_pages.proofs.rows.Rows.restate.Goals as goal
+
+-- the entry of the row
+entry : (c : goal.After-self-1) → (v : Entry) × (lookup (asks c.args.row.now.page) c.self.inside.entries ≡ Some v) × (c.args.row.now ≡ row_of (c.args.row.now.page, v))
+entry c = entry_found c.self.inside.entries c.args.self.now c.args.row.now c.self.view_is c.restate-frame.ensures.ordered c.requires
+
+written : (c : goal.After-self-1) → Revised c.args.self.now (listed c.restate-frame.new.self) (record c.args.row.now { state = c.args.state })
+written c =
+    let e = entry c in
+    let es = c.self.inside.entries in
+    let fs = c.restate-frame.new.self in
+    let row = c.args.row.now in
+    let made : fs ≡ set_value (asks row.page) es (record e.0 { state = c.args.state }) =
+    subst (λ (o : Option Entry). MatchOption o (fs ≡ es) (λ (v : Entry). fs ≡ set_value (asks row.page) es (record v { state = c.args.state }))) e.1
+    c.restate-frame.ensures.entries in
+    revised es fs c.args.self.now (record row { state = c.args.state }) e.0 c.self.view_is c.restate-frame.ensures.ordered e.1
+    (made ∙ ap (λ (r : Row). set_value (asks row.page) es (entry_of (record r { state = c.args.state }) e.0.frame)) (sym e.2))
+
+pub returns-clause-stood : goal.returns-clause-stood
+returns-clause-stood c =
+    let e = entry c in
+    let es = c.self.inside.entries in
+    let row = c.args.row.now in
+    let frame : c.restate-frame.result ≡ e.0.frame =
+    subst (λ (o : Option Entry). MatchOption o (c.restate-frame.result ≡ None) (λ (v : Entry). c.restate-frame.result ≡ v.frame)) e.1 c.restate-frame.ensures.frame in
+    subst (λ (l : Listed). StandsAt l row.page row c.restate-frame.result) c.self.view_is
+    (subst (λ (z : Row × Option ℕ). StandsAt (listed es) row.page z.0 z.1) (λ t. (sym e.2 t, sym frame t))
+    (stands_at row.page e.0 es c.restate-frame.ensures.ordered e.1))
+
+pub returns-clause-rows : goal.returns-clause-rows
+returns-clause-rows c = (written c).rows
+
+pub returns-clause-frames : goal.returns-clause-frames
+returns-clause-frames c = (written c).frames
+
+pub returns-clause-changed : goal.returns-clause-changed
+returns-clause-changed c = (written c).changed
+
+pub without-requires : goal.without-requires
+without-requires c =
+    let e = entry_found c.self.inside.entries c.args.self.now c.args.row.now c.self.view_is c.restate-frame.ensures.ordered c.requires in
+    page_counted c.self.inside.entries c.args.self.now c.args.row.now.page e.0 c.args.row.now c.self.inside.tally c.self.view_is
+    c.restate-frame.ensures.ordered e.1 e.2 c.self.invariant
+
+pub with-self-inside-requires : goal.with-self-inside-requires
+with-self-inside-requires c =
+    let e = entry_found c.self.inside.entries c.args.self.now c.args.row.now c.self.view_is c.restate-frame.ensures.ordered c.requires in
+    page_room c.self.inside.entries c.args.self.now c.args.row.now.page e.0 c.args.row.now c.self.inside.tally c.self.view_is
+    c.restate-frame.ensures.ordered e.1 e.2 c.self.invariant
+    c.without.result (omega (arith, c.len.ensures.small, c.len.ensures.len)) c.without.ensures
+
+pub invariant_of-self : goal.invariant_of-self
+invariant_of-self c =
+    let e = entry c in
+    page_replaced c.self.inside.entries c.args.self.now c.args.row.now.page e.0 c.args.row.now c.self.inside.tally c.self.view_is
+    c.restate-frame.ensures.ordered e.1 e.2 c.self.invariant
+    (record c.args.row.now { state = c.args.state }) c.without.result c.with-self-inside.result _ (written c).rows c.without.ensures c.with-self-inside.ensures
