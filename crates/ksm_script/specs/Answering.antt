@@ -1,5 +1,5 @@
 -- What a line is answered, and the state after it (own).
-use Rattle.std.specs.Prelude.{◌≡◌, ℕ, Bool, true, false, List, [], Option, Some, None, IsSome, Ok, Err}
+use Rattle.std.specs.Prelude.{◌≡◌, ⊤, ℕ, Bool, true, false, List, [], Option, Some, None, IsSome, Ok, Err}
 use Rattle.std.specs.List.{AllZip}
 use Rattle.ksm_base.specs.declared.command.Command.{Command}
 use Rattle.ksm_base.specs.declared.command.Command.TheVariants as commands
@@ -102,6 +102,21 @@ Answers (Equal number place bytes) = OnPasses (AtPass number (Equals place bytes
 Answers (Look number) = OnPasses (AtPass number LooksAt)
 Answers (Leave number) = OnPasses (AtPass number GivesUp)
 Answers Audit = OnPasses Audits
+
+-- the lines that are no commands of their own: they tell something, scan as the knob says, or are for a pass
+abbrev pub IsTold : Line → Type 0
+IsTold Empty = ⊥
+IsTold (Register page node bytes) = ⊥
+IsTold (Drop page) = ⊥
+IsTold (Store page bytes) = ⊥
+IsTold (Scan visits) = ⊥
+IsTold Prune = ⊥
+IsTold (Unmerge guest) = ⊥
+IsTold (Mergeable guest) = ⊥
+IsTold (MovePage page node) = ⊥
+IsTold (MoveDup place node) = ⊥
+IsTold (Set knob value) = ⊥
+IsTold _ = ⊤
 
 -- all holds are given back
 abbrev pub AllGivenBack : ScriptState → ScriptState → Type 0

@@ -11,7 +11,7 @@ ghost use Rattle.ksm_script.specs.declared.reply.LineReply.TheVariants.{Counters
 ghost use Rattle.frame_table.specs.Seats.{new_pass};
 ghost use Rattle.ksm_shared.specs.Locked.{EndsLawfully};
 ghost use Rattle.ksm_script.specs.declared.pass_state.PassState.TheVariants.{Idle as idle_state};
-ghost use Rattle.ksm_script.specs.Answering.{Answers, AllGivenBack, OnPasses, Commands, IsMappers, reply_to, content_reply, ticket_reply};
+ghost use Rattle.ksm_script.specs.Answering.{Answers, IsTold, AllGivenBack, OnPasses, Commands, IsMappers, reply_to, content_reply, ticket_reply};
 ghost use Rattle.ksm_script.specs.Input.{EndsAs, IsPlain};
 ghost use Rattle.ksm_script.specs.Lookups.{Acts, AtPass, Audits};
 
@@ -140,10 +140,6 @@ impl<N: Naming> Session<N> {
             Line::Register { page, node, bytes } => Command::Register { page, node, bytes },
             Line::Drop { page } => Command::Drop { page },
             Line::Store { page, bytes } => Command::Store { page, bytes },
-            Line::Get { page } => return Some(self.content(rt, page)),
-            Line::Ticket { page } => return Some(self.ticket(rt, page)),
-            Line::Mappers { place } => return Some(self.mappers(rt, place)),
-            Line::ScanPages => return Some(self.scan_pages(rt)),
             Line::Scan { visits } => scan_of(visits),
             Line::Prune => Command::Prune,
             Line::Unmerge { guest } => Command::Unmerge { guest },
@@ -151,17 +147,31 @@ impl<N: Naming> Session<N> {
             Line::MovePage { page, node } => Command::MovePage { page, node },
             Line::MoveDup { place, node } => Command::MoveDup { place, node },
             Line::Set { knob, value } => knob.setting(value),
-            Line::Show { shown } => return Some(self.value(rt, shown)),
-            Line::Stat => return Some(self.counters(rt)),
-            Line::Find { pass, place } => return Some(self.act(pass, Act::Find { place })),
-            Line::Equal { pass, place, bytes } => {
-                return Some(self.act(pass, Act::Equal { place, bytes }));
-            }
-            Line::Look { pass } => return Some(self.act(pass, Act::Look)),
-            Line::Leave { pass } => return Some(self.act(pass, Act::Leave)),
-            Line::Audit => return Some(self.audit(rt)),
+            _ => return Some(self.told(rt, line)),
         };
         Some(self.apply(rt, command))
+    }
+
+    // The reply to a line that is no command of its own. Here no reply has a place but the caller's: one for each arm would have to be
+    // cleared before each line.
+    fn told<R: Threads + Wait + Sync>(&mut self, rt: &R, line: Line) -> LineReply
+        requires told { IsTold line }
+        ensures answers { Answers line self.old.state (Some result) self.new.state }
+    {
+        match line {
+            Line::Get { page } => self.content(rt, page),
+            Line::Ticket { page } => self.ticket(rt, page),
+            Line::Mappers { place } => self.mappers(rt, place),
+            Line::ScanPages => self.scan_pages(rt),
+            Line::Show { shown } => self.value(rt, shown),
+            Line::Stat => self.counters(rt),
+            Line::Find { pass, place } => self.act(pass, Act::Find { place }),
+            Line::Equal { pass, place, bytes } => self.act(pass, Act::Equal { place, bytes }),
+            Line::Look { pass } => self.act(pass, Act::Look),
+            Line::Leave { pass } => self.act(pass, Act::Leave),
+            Line::Audit => self.audit(rt),
+            _ => unreachable!(),
+        }
     }
 
     /// Gives all holds back.

@@ -5,6 +5,7 @@ ghost use Rattle.ksm_shared.specs.Published.{IsRowOf, ShownRow};
 
 use crate::beginning::Beginning;
 use crate::naming::Naming;
+use core::mem::replace_with;
 use crossbeam_utils::rule::{Outcome, Protocol};
 use ksm_base::Counters;
 use left_right::Absorb;
@@ -12,7 +13,6 @@ use left_right::reader::Reader;
 use left_right::writer::Writer;
 use std::alloc::{AllocError, Global};
 use std::marker::{Model, PhantomData};
-use std::mem::replace;
 use std::sync::Wait;
 
 /// Counters, and the beginning of the journal after which they stand.
@@ -120,23 +120,22 @@ pub type RowReader<N> = Reader<CountedRow, Beginning, RowsGoOn<N>>;
 /// Writes both copies.
 pub type RowWriter<N> = Writer<CountedRow, CountedRow, Beginning, RowsGoOn<N>>;
 
-/// The writer of the rows, with nothing pending, beside the row that readers take. Contracts see it as that row.
+/// The writer of the rows, with nothing pending. Contracts see it as the row that readers take.
 ///
 /// It must be closed.
 pub struct Rows<N: Naming> {
-    writer: Option<RowWriter<N>>,
-    newest: CountedRow,
+    writer: RowWriter<N>,
 }
 
 impl<N: Naming> Model for Rows<N> {
-    ghost use Rattle.std.specs.Prelude.{◌≡◌, [], drop, MatchOption};
+    ghost use Rattle.std.specs.Prelude.{◌≡◌, [], drop};
     ghost use Rattle.ksm_shared.specs.Published.{IsRowOf, ShownRow};
 
     ghost Value = { ShownRow };
 
-    ghost view = { λ r. r.newest };
+    ghost view = { λ r. r.writer.desk.shown.value };
 
-    ghost invariant = { λ r. IsRowOf N.parts r.newest × MatchOption r.writer ⊥ (λ w. (w.desk.shown.value ≡ r.newest) × (drop w.behind w.log.items ≡ [])) };
+    ghost invariant = { λ r. IsRowOf N.parts r.writer.desk.shown.value × (drop r.writer.behind r.writer.log.items ≡ []) };
 }
 
 impl<N: Naming> Rows<N> {
@@ -146,26 +145,20 @@ impl<N: Naming> Rows<N> {
         requires row { IsRowOf N.parts row }
         ensures { IfOk result (λ rows. rows ≡ row) }
     {
-        let writer = RowWriter::new(alloc, row.again(), row.again(), readers)?;
-        Ok(Rows {
-            writer: Some(writer),
-            newest: row,
-        })
+        let writer = RowWriter::new(alloc, row.again(), row, readers)?;
+        Ok(Rows { writer })
     }
 
     /// A new reader; none where each place for one is taken.
     pub fn reader(&self) -> Option<RowReader<N>> {
-        match &self.writer {
-            Some(writer) => new_reader(writer),
-            None => unreachable!(),
-        }
+        new_reader(&self.writer)
     }
 
     /// The row that readers take.
     pub fn newest(&self) -> &CountedRow
         ensures { (result.now ≡ self.now) × IsRowOf N.parts self.now }
     {
-        &self.newest
+        self.writer.published()
     }
 
     /// Shows the row, or nothing new where memory is refused.
@@ -174,54 +167,20 @@ impl<N: Naming> Rows<N> {
         requires row { IsRowOf N.parts row }
         ensures { (self.new ≡ row) ⊎ (self.new ≡ self.old) }
     {
-        let writer = match replace(&mut self.writer, None) {
-            Some(writer) => writer,
-            None => unreachable!(),
-        };
-        let (writer, newest) = write(writer, rt, &self.newest, row);
-        self.newest = newest;
-        match replace(&mut self.writer, Some(writer)) {
-            None => {}
-            Some(_) => unreachable!(),
+        if self.writer.append(row).is_ok() {
+            let _ = replace_with(&mut self.writer, rt, publish);
         }
     }
 
     /// Ends the copies, once no reader is in them.
     pub fn close<R: Wait>(self, rt: &R) {
-        let Rows { writer, newest: _ } = self;
-        match writer {
-            Some(writer) => {
-                let _ = writer.take(rt);
-            }
-            None => {}
-        }
+        let Rows { writer } = self;
+        let _ = writer.take(rt);
     }
 }
 
 fn new_reader<N: Naming>(writer: &RowWriter<N>) -> Option<RowReader<N>> {
     writer.factory().reader().ok()
-}
-
-// Writes the row to both copies, or nothing where memory is refused. Answers the row that readers then take.
-fn write<N: Naming, R: Wait>(
-    writer: RowWriter<N>,
-    rt: &R,
-    newest: &CountedRow,
-    row: CountedRow,
-) -> (RowWriter<N>, CountedRow)
-    requires written { (writer.desk.shown.value ≡ newest.now) × (drop writer.behind writer.log.items ≡ []) }
-    requires begins { IsPrefix newest.now.reached.journal row.reached.journal }
-    requires row { IsRowOf N.parts row }
-    ensures written { (result.0.desk.shown.value ≡ result.1) × (drop result.0.behind result.0.log.items ≡ []) }
-    ensures one { (result.1 ≡ row) ⊎ (result.1 ≡ newest.now) }
-{
-    let mut writer = writer;
-    let copy = row.again();
-    if writer.append(row).is_err() {
-        return (writer, newest.again());
-    }
-    let (writer, _) = publish(writer, rt);
-    (writer, copy)
 }
 
 // Publishes the one row that is pending.

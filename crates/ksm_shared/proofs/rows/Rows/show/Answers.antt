@@ -1,6 +1,13 @@
-use Rattle.std.proofs.Common.{rules}
-use Rattle.ksm_shared.proofs.Showing.{either_row}
+use Rattle.std.proofs.Common.{rules, ◌≡◌, subst, sym}
+use Rattle.ksm_shared.specs.Published.{IsRowOf, ShownRow}
 use Rattle.ksm_shared.proofs.rows.Rows.show.Goals as goal
 
 pub invariant_of-self : goal.invariant_of-self
-invariant_of-self g c = (either_row g.N.Naming.parts _ _ _ c.write-writer.ensures.one c.requires.row c.self.invariant.0, search rules)
+invariant_of-self g c =
+    let shown : c.replace_with.new.dest.desk.shown.value ≡ c.args.row = search rules in
+    (subst (λ (r : ShownRow). IsRowOf g.N.Naming.parts r) (sym shown) c.requires.row, search rules)
+
+pub invariant_of-self-else-is_ok : goal.invariant_of-self-else-is_ok
+invariant_of-self-else-is_ok g c =
+    let kept : c.append.new.self.desk.shown.value ≡ c.self.inside.writer.desk.shown.value = search rules in
+    (subst (λ (r : ShownRow). IsRowOf g.N.Naming.parts r) (sym kept) c.self.invariant.0, search rules)
