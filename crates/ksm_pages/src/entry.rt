@@ -10,12 +10,12 @@ use ksm_base::{GuestPage, PageBytes, PageState, Row};
 /// What a row says beside its page, and the frame that serves the page, if one does.
 #[derive(Clone, Copy)]
 pub struct Entry {
-    pub home: u32,
     pub bytes: PageBytes,
-    pub mergeable: bool,
-    pub unchanged: bool,
     pub state: PageState,
     pub frame: Option<u32>,
+    pub home: u32,
+    pub mergeable: bool,
+    pub unchanged: bool,
 }
 
 impl Entry {
@@ -24,12 +24,12 @@ impl Entry {
     {
         let bytes = row.bytes;
         Entry {
-            home: row.home,
             bytes,
-            mergeable: row.mergeable,
-            unchanged: row.unchanged,
             state: row.state,
             frame,
+            home: row.home,
+            mergeable: row.mergeable,
+            unchanged: row.unchanged,
         }
     }
 

@@ -37,7 +37,7 @@ use std::ops::Bound;
 #[derive(Drop)]
 pub struct PageMap {
     found: IndexMap<GuestPage, Entry>,
-    order: BTreeMap<GuestPage, usize>,
+    order: BTreeMap<GuestPage, u32>,
 }
 
 impl Model for PageMap {
@@ -53,7 +53,7 @@ impl Model for PageMap {
 /// What a walk has left: pages in order, each with its entry.
 #[derive(Drop)]
 pub struct Walk<'a> {
-    left: Range<'a, GuestPage, usize>,
+    left: Range<'a, GuestPage, u32>,
     found: &'a IndexMap<GuestPage, Entry>,
 }
 
@@ -76,19 +76,15 @@ impl<'a> Iterator for Walk<'a> {
 
     fn next(&mut self) -> Option<(&'a GuestPage, &'a Entry)> {
         let (page, index) = self.left.next()?;
-        Some((page, &self.found[*index]))
+        Some((page, &self.found[*index as usize]))
     }
 }
 
 // The page that moved to an index, if one did, has it in the order too.
-fn tell_index(
-    found: &IndexMap<GuestPage, Entry>,
-    order: &mut BTreeMap<GuestPage, usize>,
-    index: usize,
-)
+fn tell_index(found: &IndexMap<GuestPage, Entry>, order: &mut BTreeMap<GuestPage, u32>, index: u32)
     ensures { MatchOption (slice_get found.now.entries index) (order.new.entries ≡ order.old.entries) (λ e. order.new.entries ≡ set_value (asks e.0) order.old.entries index) }
 {
-    let Some((page, _)) = found.get_index(index) else {
+    let Some((page, _)) = found.get_index(index as usize) else {
         return;
     };
     if let Some(kept) = order.get_mut(page) {
@@ -151,7 +147,10 @@ impl PageMap {
         ensures fault { OnErr result (result ≡ Err Memory) }
     {
         self.found.reserve(1)?;
-        let index = self.found.len();
+        // An index has 32 bits, which saves memory. The map refuses an entry before its index has more.
+        let Ok(index) = u32::try_from(self.found.len()) else {
+            return Err(Fault::Memory);
+        };
         let _ = self.order.insert(page, index)?;
         // There is room for it.
         let _ = self.found.insert(page, entry);
@@ -191,7 +190,7 @@ impl PageMap {
         // The contract of `len` says that no page is found twice.
         let _ = self.found.len();
         let index = self.order.remove(&page)?;
-        let (_, entry) = self.found.swap_remove_index(index)?;
+        let (_, entry) = self.found.swap_remove_index(index as usize)?;
         tell_index(&self.found, &mut self.order, index);
         Some(entry)
     }
