@@ -23,7 +23,7 @@ ghost use Rattle.ksm_pages.specs.Paged.{Sorted, asks, changed_all};
 ghost use Rattle.ksm_pages.specs.RowEntries.{entry_of, page_order};
 
 use crate::entry::Entry;
-use crate::row::{settled, unshared};
+use crate::row::unshared;
 use indexmap::IndexMap;
 use ksm_base::{Fault, GuestPage, Row};
 use std::alloc::Global;
@@ -31,6 +31,7 @@ use std::collections::BTreeMap;
 use std::collections::btree_map::Range;
 use std::iter::Iterator;
 use std::marker::Model;
+use std::mem::replace;
 use std::ops::Bound;
 
 /// Entries under their pages, in the order of these.
@@ -164,9 +165,7 @@ impl PageMap {
         ensures ordered { Sorted self.old }
     {
         let kept = self.found.get_mut(&page)?;
-        let old = *kept;
-        *kept = entry;
-        Some(old)
+        Some(replace(kept, entry))
     }
 
     /// Puts a row in the stead of its page's, if it has one, on the frame where it is, and gives the entry as it was.
@@ -176,9 +175,8 @@ impl PageMap {
         ensures ordered { Sorted self.old }
     {
         let kept = self.found.get_mut(&row.page)?;
-        let old = *kept;
-        kept.set_row(row);
-        Some(old)
+        let revised = Entry::new(row, kept.frame());
+        Some(replace(kept, revised))
     }
 
     /// Takes a page and its entry away, if it has one.
@@ -203,7 +201,7 @@ impl PageMap {
         let Some(kept) = self.found.get_mut(&page) else {
             return;
         };
-        kept.state = settled(kept.state);
+        kept.settle();
     }
 
     // This call writes every entry and drops none. It does so by `retain`, whose contract says what is written to each
