@@ -21,7 +21,7 @@ use Rattle.std.specs.declared.cmp.Ordering.TheVariants.{Less, Equal, Greater}
 use Rattle.indexmap.proofs.MapLemmas.{Found-position, index-first}
 use Rattle.indexmap.proofs.RemoveLemmas.{own_first}
 use Rattle.ksm_base.specs.declared.page.GuestPage.{GuestPage}
-use Rattle.ksm_pages.specs.declared.entry.Entry.{Entry}
+use Rattle.ksm_pages.specs.Kept.{Entry}
 use Rattle.ksm_pages.specs.Paged.{Entries, Indices, Sorted, asks, entry_at, paged, AreWithin, IsPaged}
 use Rattle.ksm_pages.specs.RowEntries.{page_order}
 use Rattle.ksm_pages.proofs.Paging.{Rising, AreApart, Updates, page_of, value_of, of_none, laws}

@@ -25,7 +25,7 @@ use Rattle.ksm_base.specs.contracts.page.GuestPagePartialEq.TheImpl as page_eq
 use Rattle.ksm_base.specs.contracts.page.GuestPageOrd.TheImpl.Laws.{total-law}
 use Rattle.ksm_base.specs.declared.row.Row.{Row}
 use Rattle.ksm_base.proofs.Pages.{same_page_eq}
-use Rattle.ksm_pages.specs.declared.entry.Entry.{Entry}
+use Rattle.ksm_pages.specs.Kept.{Entry}
 use Rattle.ksm_pages.specs.Listed.{no_row}
 use Rattle.ksm_pages.specs.Paged.{Entries, Indices, Sorted, asks, changed, changed_all, entry_at, paged, AreWithin, IsPaged}
 use Rattle.ksm_pages.specs.RowEntries.{entry_of, page_order}

@@ -15,7 +15,7 @@ use Rattle.ksm_base.specs.declared.page.GuestPage.{GuestPage}
 use Rattle.ksm_base.specs.declared.row.Row.{Row}
 use Rattle.ksm_base.specs.Rows.{comes_before, same_page, row_at, with_row, without_page, change_row}
 use Rattle.ksm_base.specs.contracts.page.GuestPageOrd.TheImpl as page_ord
-use Rattle.ksm_pages.specs.declared.entry.Entry.{Entry}
+use Rattle.ksm_pages.specs.Kept.{Entry}
 use Rattle.ksm_pages.specs.declared.rows.Held.{Held}
 use Rattle.ksm_pages.specs.Listed.{frame_in, row_in, Listed, rank, StandsAt}
 pub use Rattle.ksm_pages.specs.Paged.{Entries, Sorted, asks}

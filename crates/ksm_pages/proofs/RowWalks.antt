@@ -11,7 +11,7 @@ use denote.Ref.{Bor}
 use Rattle.ksm_base.specs.declared.page.GuestPage.{GuestPage}
 use Rattle.ksm_base.specs.declared.row.Row.{Row}
 use Rattle.ksm_base.specs.Visit.{after_cursor}
-use Rattle.ksm_pages.specs.declared.entry.Entry.{Entry}
+use Rattle.ksm_pages.specs.Kept.{Entry}
 use Rattle.ksm_pages.specs.Listed.{Listed}
 pub use Rattle.ksm_pages.specs.Paged.{changed}
 use Rattle.ksm_pages.specs.RowEntries.{row_of, frame_of, listed, start_after, page_order, BeginsAt}

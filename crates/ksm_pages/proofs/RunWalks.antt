@@ -13,7 +13,7 @@ use Rattle.ksm_base.specs.Visit.{after_cursor, next_row}
 use Rattle.ksm_base.proofs.Pages.{before_irrefl, before_trans, not_both}
 use Rattle.ksm_pages.specs.declared.row.Run.{Run}
 use Rattle.ksm_pages.specs.Scanned.{stays, moved_to, cursor_after, page_of, IsLeft, IsRun, AreAhead}
-use Rattle.ksm_pages.specs.declared.entry.Entry.{Entry}
+use Rattle.ksm_pages.specs.Kept.{Entry}
 use Rattle.ksm_pages.specs.RowEntries.{row_of, page_order, start_after}
 use Rattle.ksm_pages.proofs.RowLists.{Entries, Sorted, After, order, rows_of, before_is}
 use Rattle.ksm_pages.proofs.RowWalks.{in_range, find_after, find_row}

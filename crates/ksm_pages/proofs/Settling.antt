@@ -17,7 +17,7 @@ use Rattle.ksm_base.proofs.RowCounts.{each_at_page}
 use Rattle.ksm_tree.specs.Waits.{AreWaiting, WaitingPage, names, waits_for, waits_there}
 use Rattle.ksm_base.specs.declared.knobs.Knobs.{Knobs}
 use Rattle.ksm_base.specs.State.{tree_of}
-use Rattle.ksm_pages.specs.declared.entry.Entry.{Entry}
+use Rattle.ksm_pages.specs.Kept.{Entry}
 use Rattle.ksm_pages.specs.Listed.{AreNamed}
 use Rattle.ksm_pages.specs.Paged.{Entries, Sorted, asks}
 use Rattle.ksm_pages.specs.RowEntries.{row_of, frame_of, page_order}

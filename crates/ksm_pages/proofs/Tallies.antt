@@ -15,7 +15,7 @@ use Rattle.std.specs.BTreeMap.{is_at}
 use Rattle.std.specs.List.Sorted.{IsStrictlySortedBy}
 use Rattle.std.specs.Map.{keys_of, lookup}
 use Rattle.ksm_base.specs.declared.page.GuestPage.{GuestPage}
-use Rattle.ksm_pages.specs.declared.entry.Entry.{Entry}
+use Rattle.ksm_pages.specs.Kept.{Entry}
 use Rattle.ksm_pages.specs.declared.tally.Tally.{Tally}
 use Rattle.ksm_pages.specs.Listed.{Listed, StandsAt, rank, no_row}
 use Rattle.ksm_pages.specs.RowEntries.{listed, page_order, row_of}

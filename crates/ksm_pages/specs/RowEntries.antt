@@ -8,7 +8,7 @@ use Rattle.ksm_base.specs.declared.row.Row.{Row}
 use Rattle.ksm_base.specs.Visit.{after_cursor}
 use Rattle.std.specs.declared.cmp.Ordering.{Ordering}
 use Rattle.ksm_base.specs.contracts.page.GuestPageOrd.TheImpl as page_ord
-use Rattle.ksm_pages.specs.declared.entry.Entry.{Entry}
+use Rattle.ksm_pages.specs.Kept.{Entry}
 use Rattle.ksm_pages.specs.Listed.{Listed}
 
 -- the row of an entry

@@ -1,21 +1,69 @@
 //! What the rows' map keeps of a row, under its page.
 
 ghost use Rattle.std.specs.Prelude.{◌≡◌};
+ghost use Rattle.ksm_base.specs.Rows.{settled_state, shared_state};
+ghost use Rattle.ksm_pages.specs.Kept.{state_of};
 ghost use Rattle.ksm_pages.specs.RowEntries.{row_of, entry_of};
 ghost use Rattle.ksm_pages.specs.Wanted.{is_wanted as is_a_wanted};
 
-use crate::row::{Wanted, is_shared};
+use crate::row::Wanted;
 use ksm_base::{GuestPage, PageBytes, PageState, Row};
+use std::marker::Model;
+
+/// The name of a row's state.
+#[derive(Clone, Copy)]
+enum Kind {
+    Private,
+    Waiting,
+    Merged,
+    Zero,
+}
 
 /// What a row says beside its page, and the frame that serves the page, if one does.
-#[derive(Clone, Copy)]
+///
+/// Contracts see the state as the row has it. It is kept as a name and a number, which takes eight bytes less. The fields stand in an
+/// order that leaves no gaps.
+#[derive(Drop)]
 pub struct Entry {
-    pub home: u32,
-    pub bytes: PageBytes,
-    pub mergeable: bool,
-    pub unchanged: bool,
-    pub state: PageState,
-    pub frame: Option<u32>,
+    bytes: PageBytes,
+    number: u64,
+    frame: Option<u32>,
+    home: u32,
+    kind: Kind,
+    mergeable: bool,
+    unchanged: bool,
+}
+
+impl Model for Entry {
+    ghost use Rattle.ksm_pages.specs.Kept.{Entry, state_of};
+
+    ghost Value = { Entry };
+
+    ghost view = { λ e. record { home = e.home; bytes = e.bytes; mergeable = e.mergeable; unchanged = e.unchanged; state = state_of e.kind e.number; frame = e.frame } };
+}
+
+// The name of a state, and the number of the dup in which a row of the state is, if it is in one.
+fn named(state: PageState) -> (Kind, u64)
+    ensures { state_of result.0 result.1 ≡ state }
+{
+    match state {
+        PageState::Private => (Kind::Private, 0),
+        PageState::Waiting => (Kind::Waiting, 0),
+        PageState::Merged(number) => (Kind::Merged, number),
+        PageState::Zero => (Kind::Zero, 0),
+    }
+}
+
+// The state of a name.
+fn state_named(kind: Kind, number: u64) -> PageState
+    ensures { result ≡ state_of kind number }
+{
+    match kind {
+        Kind::Private => PageState::Private,
+        Kind::Waiting => PageState::Waiting,
+        Kind::Merged => PageState::Merged(number),
+        Kind::Zero => PageState::Zero,
+    }
 }
 
 impl Entry {
@@ -23,13 +71,15 @@ impl Entry {
         ensures { result ≡ entry_of row frame }
     {
         let bytes = row.bytes;
+        let (kind, number) = named(row.state);
         Entry {
-            home: row.home,
             bytes,
+            number,
+            frame,
+            home: row.home,
+            kind,
             mergeable: row.mergeable,
             unchanged: row.unchanged,
-            state: row.state,
-            frame,
         }
     }
 
@@ -44,8 +94,29 @@ impl Entry {
             bytes,
             mergeable: self.mergeable,
             unchanged: self.unchanged,
-            state: self.state,
+            state: state_named(self.kind, self.number),
         }
+    }
+
+    /// The frame that serves the page, if one does.
+    pub fn frame(&self) -> Option<u32>
+        ensures { result ≡ self.now.frame }
+    {
+        self.frame
+    }
+
+    /// Whether the scan visits the row.
+    pub fn is_mergeable(&self) -> bool
+        ensures { result ≡ self.now.mergeable }
+    {
+        self.mergeable
+    }
+
+    /// Whether the row is merged, or on the zero page.
+    pub fn is_shared(&self) -> bool
+        ensures { result ≡ shared_state self.now.state }
+    {
+        matches!(self.kind, Kind::Merged | Kind::Zero)
     }
 
     /// Whether a search is for that row. The row itself is not made, so that a walk copies no row that it passes over.
@@ -54,7 +125,7 @@ impl Entry {
     {
         match wanted {
             Wanted::Mergeable => self.mergeable,
-            Wanted::Shared => is_shared(self.state),
+            Wanted::Shared => self.is_shared(),
             Wanted::Before(None) => true,
             Wanted::Before(Some(stop)) => page < stop.page,
         }
@@ -65,5 +136,14 @@ impl Entry {
         ensures { self.new ≡ entry_of row self.old.frame }
     {
         *self = Entry::new(row, self.frame);
+    }
+
+    /// Waits no more.
+    pub fn settle(&mut self)
+        ensures { self.new ≡ record self.old { state = settled_state self.old.state } }
+    {
+        if let Kind::Waiting = self.kind {
+            self.kind = Kind::Private;
+        }
     }
 }

@@ -23,7 +23,7 @@ ghost use Rattle.ksm_pages.specs.Paged.{Sorted, asks, changed_all};
 ghost use Rattle.ksm_pages.specs.RowEntries.{entry_of, page_order};
 
 use crate::entry::Entry;
-use crate::row::{settled, unshared};
+use crate::row::unshared;
 use indexmap::IndexMap;
 use ksm_base::{Fault, GuestPage, PageState, Row};
 use std::alloc::Global;
@@ -31,13 +31,14 @@ use std::collections::BTreeMap;
 use std::collections::btree_map::Range;
 use std::iter::Iterator;
 use std::marker::Model;
+use std::mem::replace;
 use std::ops::Bound;
 
 /// Entries under their pages, in the order of these.
 #[derive(Drop)]
 pub struct PageMap {
     found: IndexMap<GuestPage, Entry>,
-    order: BTreeMap<GuestPage, usize>,
+    order: BTreeMap<GuestPage, u32>,
 }
 
 impl Model for PageMap {
@@ -53,7 +54,7 @@ impl Model for PageMap {
 /// What a walk has left: pages in order, each with its entry.
 #[derive(Drop)]
 pub struct Walk<'a> {
-    left: Range<'a, GuestPage, usize>,
+    left: Range<'a, GuestPage, u32>,
     found: &'a IndexMap<GuestPage, Entry>,
 }
 
@@ -76,19 +77,15 @@ impl<'a> Iterator for Walk<'a> {
 
     fn next(&mut self) -> Option<(&'a GuestPage, &'a Entry)> {
         let (page, index) = self.left.next()?;
-        Some((page, &self.found[*index]))
+        Some((page, &self.found[*index as usize]))
     }
 }
 
 // The page that moved to an index, if one did, has it in the order too.
-fn tell_index(
-    found: &IndexMap<GuestPage, Entry>,
-    order: &mut BTreeMap<GuestPage, usize>,
-    index: usize,
-)
+fn tell_index(found: &IndexMap<GuestPage, Entry>, order: &mut BTreeMap<GuestPage, u32>, index: u32)
     ensures { MatchOption (slice_get found.now.entries index) (order.new.entries ≡ order.old.entries) (λ e. order.new.entries ≡ set_value (asks e.0) order.old.entries index) }
 {
-    let Some((page, _)) = found.get_index(index) else {
+    let Some((page, _)) = found.get_index(index as usize) else {
         return;
     };
     if let Some(kept) = order.get_mut(page) {
@@ -151,7 +148,10 @@ impl PageMap {
         ensures fault { OnErr result (result ≡ Err Memory) }
     {
         self.found.reserve(1)?;
-        let index = self.found.len();
+        // An index has 32 bits, which saves memory. The map refuses an entry before its index has more.
+        let Ok(index) = u32::try_from(self.found.len()) else {
+            return Err(Fault::Memory);
+        };
         let _ = self.order.insert(page, index)?;
         // There is room for it.
         let _ = self.found.insert(page, entry);
@@ -165,9 +165,7 @@ impl PageMap {
         ensures ordered { Sorted self.old }
     {
         let kept = self.found.get_mut(&page)?;
-        let old = *kept;
-        *kept = entry;
-        Some(old)
+        Some(replace(kept, entry))
     }
 
     /// Puts a row in the stead of its page's, if it has one, on the frame where it is, and gives the entry as it was.
@@ -177,9 +175,8 @@ impl PageMap {
         ensures ordered { Sorted self.old }
     {
         let kept = self.found.get_mut(&row.page)?;
-        let old = *kept;
-        kept.set_row(row);
-        Some(old)
+        let revised = Entry::new(row, kept.frame());
+        Some(replace(kept, revised))
     }
 
     /// The row of a page gets another state, if it has one, on the frame where it is. Gives that frame's number.
@@ -204,7 +201,7 @@ impl PageMap {
         // The contract of `len` says that no page is found twice.
         let _ = self.found.len();
         let index = self.order.remove(&page)?;
-        let (_, entry) = self.found.swap_remove_index(index)?;
+        let (_, entry) = self.found.swap_remove_index(index as usize)?;
         tell_index(&self.found, &mut self.order, index);
         Some(entry)
     }
@@ -217,7 +214,7 @@ impl PageMap {
         let Some(kept) = self.found.get_mut(&page) else {
             return;
         };
-        kept.state = settled(kept.state);
+        kept.settle();
     }
 
     // This call writes every entry and drops none. It does so by `retain`, whose contract says what is written to each

@@ -25,7 +25,7 @@ ghost use Rattle.ksm_pages.specs.Wanted.{is_shared_of as is_shared_of_guest, is_
 
 use crate::entry::Entry;
 use crate::page_map::PageMap;
-use crate::row::{Run, Wanted, is_shared};
+use crate::row::{Run, Wanted};
 use crate::tally::Tally;
 use ksm_base::{Fault, GuestPage, PageState, Row};
 use ksm_tree::Waiting;
@@ -120,10 +120,10 @@ fn runs_along(entries: &PageMap, cursor: Option<GuestPage>, most: u64, found: &m
     let mut run = Run::from(cursor);
     let mut left = most;
     for (page, entry) in entries.range(after_cursor(cursor)) {
-        if !entry.mergeable {
+        if !entry.is_mergeable() {
             continue;
         }
-        if left > 0 && is_shared(entry.state) {
+        if left > 0 && entry.is_shared() {
             run.visits += 1;
             run.last = Some(*page);
             left -= 1;
@@ -167,7 +167,7 @@ impl Rows {
             None => None,
             Some(entry) => Some(Held {
                 row: entry.row(page),
-                frame: entry.frame,
+                frame: entry.frame(),
             }),
         }
     }
@@ -209,7 +209,7 @@ impl Rows {
         self.tally = self.tally.without(&old).with(&row);
         Some(Held {
             row: old,
-            frame: left.frame,
+            frame: left.frame(),
         })
     }
 
@@ -228,7 +228,7 @@ impl Rows {
         };
         let held = Held {
             row: left.row(row.page),
-            frame: left.frame,
+            frame: left.frame(),
         };
         self.tally = self.tally.without(&held.row).with(&row);
         Some(held)
@@ -264,7 +264,7 @@ impl Rows {
         self.tally = self.tally.without(&row);
         Some(Held {
             row,
-            frame: entry.frame,
+            frame: entry.frame(),
         })
     }
 

@@ -3,7 +3,7 @@ use Rattle.std.specs.Prelude.{is_ok, slice_get, unwrap_or}
 use Rattle.std.specs.BTreeMap.Range.{entries_between}
 use Rattle.std.specs.declared.ops.Bound.TheVariants.{Unbounded}
 use Rattle.ksm_base.specs.declared.page.GuestPage.{GuestPage}
-use Rattle.ksm_pages.specs.declared.entry.Entry.{Entry}
+use Rattle.ksm_pages.specs.Kept.{Entry}
 use Rattle.ksm_pages.specs.declared.row.Run.{Run}
 use Rattle.ksm_pages.specs.RowEntries.{page_order, row_of}
 use Rattle.ksm_pages.specs.Scanned.{stays, AreAhead, IsRun}
@@ -30,8 +30,8 @@ loop-page-init c =
     }
 
 -- the runs so far, at the entry that is met
-pub loop-page-preserved-then-not-entry : goal.loop-page-preserved-then-not-entry
-loop-page-preserved-then-not-entry c =
+pub loop-page-preserved-then-not-is_mergeable : goal.loop-page-preserved-then-not-is_mergeable
+loop-page-preserved-then-not-is_mergeable c =
     let es = c.args.entries.now in
     let so_far = c.loop-page.invariant.runs in
     record {

@@ -1,4 +1,4 @@
-use Rattle.std.proofs.Common.{◌≡◌, ◌++◌, ◌∷◌, [], None, Some, cond, sym, ap, ◌∙◌, subst}
+use Rattle.std.proofs.Common.{◌≡◌, ◌++◌, ◌∷◌, [], length, None, Some, cond, sym, ap, ◌∙◌, subst}
 use Rattle.std.specs.List.{IsDistinct}
 use Rattle.std.specs.Map.{keys_of, lookup}
 use Rattle.indexmap.proofs.CallerLemmas.{insert_entry-new}
@@ -18,8 +18,15 @@ pub returns-in_err-insert-clause-was_ordered : goal.returns-in_err-insert-clause
 returns-in_err-insert-clause-was_ordered c = seen_in_order c.self.inside.found.entries c.self.inside.order.entries c.args.self.now c.self.view_is
     c.self.invariant
 
+pub returns-in_default-clause-was_ordered : goal.returns-in_default-clause-was_ordered
+returns-in_default-clause-was_ordered c = seen_in_order c.self.inside.found.entries c.self.inside.order.entries c.args.self.now c.self.view_is
+    c.self.invariant
+
 pub returns-clause-was_ordered : goal.returns-clause-was_ordered
 returns-clause-was_ordered c = seen_in_order c.self.inside.found.entries c.self.inside.order.entries c.args.self.now c.self.view_is c.self.invariant
+
+index_is : (c : goal.After-insert-2) → c.in-Ok.index ≡ length c.reserve.new.self.entries
+index_is c = c.in-Ok.ensures.1 ∙ c.len.ensures.len
 
 put_in : (c : goal.After-insert-2) → Becomes c.insert-2.new.self.entries c.insert.new.self.entries (insert_entry page_order (paged
     c.self.inside.found.entries c.self.inside.order.entries) c.args.page c.args.entry)
@@ -39,8 +46,8 @@ put_in c =
     (no_index c.self.inside.found.entries order c.args.page (ap (lookup (asks c.args.page)) c.self.view_is ∙ c.requires)) made
     (subst (λ eq. IsDistinct eq (keys_of found.entries)) equal_is c.reserve.ensures.unique) (subst (λ eq. IsDistinct eq (keys_of
     c.insert-2.new.self.entries)) equal_is c.insert-2.ensures.unique)
-    (c.in_ok-insert.ensures.entries ∙ ap (insert_entry page_order order c.args.page) c.len-index.ensures.len) c.in_ok-insert.ensures.ordered
-    (λ q. c.in_ok-insert.ensures.updates.0 q ∙ ap (λ n. cond (asks c.args.page q) (Some n) (lookup (asks q) order)) c.len-index.ensures.len))
+    (c.in_ok-insert.ensures.entries ∙ ap (insert_entry page_order order c.args.page) (index_is c)) c.in_ok-insert.ensures.ordered
+    (λ q. c.in_ok-insert.ensures.updates.0 q ∙ ap (λ n. cond (asks c.args.page q) (Some n) (lookup (asks q) order)) (index_is c)))
 
 pub returns-clause-entries : goal.returns-clause-entries
 returns-clause-entries c = (put_in c).seen ∙ ap (λ es. insert_entry page_order es c.args.page c.args.entry) c.self.view_is

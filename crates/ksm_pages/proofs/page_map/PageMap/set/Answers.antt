@@ -1,5 +1,5 @@
-use Rattle.std.proofs.Common.{◌≡◌, ◌∙◌, None, ap, sym}
-use Rattle.std.specs.Map.{lookup}
+use Rattle.std.proofs.Common.{◌≡◌, ◌∙◌, None, Some, ap, sym}
+use Rattle.std.specs.Map.{lookup, set_value}
 use Rattle.std.specs.Option.{option_copied_mut}
 use Rattle.ksm_pages.specs.Paged.{asks, paged}
 use Rattle.ksm_pages.proofs.Paging.{got, seen_in_order, set_absent, set_through}
@@ -23,14 +23,15 @@ returns-in_err-kept-clause-ordered c = seen_in_order c.self.inside.found.entries
 
 pub returns-clause-value : goal.returns-clause-value
 returns-clause-value c =
-    sym (ap option_copied_mut c.in_ok-kept.was) ∙ got c.self.inside.found.entries c.self.inside.order.entries c.args.self.now c.args.page _
+    ap Some c.replace.ensures.value ∙ sym (ap option_copied_mut c.in_ok-kept.was) ∙ got c.self.inside.found.entries c.self.inside.order.entries c.args.self.now c.args.page _
     c.self.view_is c.self.invariant c.get_mut.ensures.value
 
 pub returns-clause-entries : goal.returns-clause-entries
 returns-clause-entries c =
-    set_through c.self.inside.found.entries (c.get_mut.follows.lender c.args.entry).entries c.self.inside.order.entries c.args.self.now c.args.page
-    c.args.entry _ _ c.self.view_is c.self.invariant c.get_mut.ensures.value
-    (ap option_copied_mut c.in_ok-kept.was) (c.get_mut.follows.holds c.args.entry).0
+    set_through c.self.inside.found.entries (c.get_mut.follows.lender c.replace.new.dest).entries c.self.inside.order.entries c.args.self.now c.args.page
+    c.replace.new.dest _ _ c.self.view_is c.self.invariant c.get_mut.ensures.value
+    (ap option_copied_mut c.in_ok-kept.was) (c.get_mut.follows.holds c.replace.new.dest).0
+    ∙ ap (set_value (asks c.args.page) c.args.self.now) c.replace.ensures.after
 
 pub returns-clause-ordered : goal.returns-clause-ordered
 returns-clause-ordered c = seen_in_order c.self.inside.found.entries c.self.inside.order.entries c.args.self.now c.self.view_is c.self.invariant

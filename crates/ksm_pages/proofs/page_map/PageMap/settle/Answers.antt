@@ -3,7 +3,7 @@ use Rattle.std.specs.Prelude.{MatchOption}
 use Rattle.std.specs.Map.{set_value}
 use Rattle.std.specs.Option.{option_copied_mut}
 use Rattle.ksm_base.specs.Rows.{settled_state}
-use Rattle.ksm_pages.specs.declared.entry.Entry.{Entry}
+use Rattle.ksm_pages.specs.Kept.{Entry}
 use Rattle.ksm_pages.specs.Paged.{asks, paged}
 use Rattle.ksm_pages.proofs.Paging.{got, seen_in_order, set_through}
 use Rattle.ksm_pages.proofs.page_map.PageMap.settle.Goals as goal
@@ -21,13 +21,13 @@ returns-in_default-clause-ordered c = seen_in_order c.self.inside.found.entries 
 
 pub returns-clause-entries : goal.returns-clause-entries
 returns-clause-entries c =
-    let w : Entry = record c.in-Some.kept.now { state = c.settled-kept.result } in
+    let w = c.settle.new.self in
     let some = sym (ap option_copied_mut c.in-Some.is) ∙ got c.self.inside.found.entries c.self.inside.order.entries c.args.self.now c.args.page _ c.self.view_is c.self.invariant c.get_mut.ensures.value in
     let new = paged (c.get_mut.follows.lender w).entries c.self.inside.order.entries in
     subst (λ o. MatchOption o (new ≡ c.args.self.now) (λ (e : Entry). new ≡ set_value (asks c.args.page) c.args.self.now (record e { state = settled_state e.state }))) some
     (set_through c.self.inside.found.entries (c.get_mut.follows.lender w).entries c.self.inside.order.entries c.args.self.now c.args.page w _ _ c.self.view_is c.self.invariant c.get_mut.ensures.value
     (ap option_copied_mut c.in-Some.is) (c.get_mut.follows.holds w).0
-    ∙ ap (λ s. set_value (asks c.args.page) c.args.self.now (record c.in-Some.kept.now { state = s })) c.settled-kept.ensures)
+    ∙ ap (set_value (asks c.args.page) c.args.self.now) c.settle.ensures)
 
 pub returns-clause-ordered : goal.returns-clause-ordered
 returns-clause-ordered c = seen_in_order c.self.inside.found.entries c.self.inside.order.entries c.args.self.now c.self.view_is c.self.invariant

@@ -25,5 +25,6 @@ returns-in-Some-clause-known c =
 pub returns-in-Some-clause-at : goal.returns-in-Some-clause-at
 returns-in-Some-clause-at c =
     let found : lookup (asks c.args.page) c.self.inside.entries ≡ Some c.in-Some.entry.now = sym c.get.ensures.value ∙ ap option_copied c.in-Some.is in
-    subst (λ (l : Listed). StandsAt l c.args.page c.row.result c.in-Some.entry.now.frame) c.self.view_is
-    (subst (λ r. StandsAt (listed c.self.inside.entries) c.args.page r c.in-Some.entry.now.frame) (sym c.row.ensures) (stands_at c.args.page c.in-Some.entry.now c.self.inside.entries c.get.ensures.ordered found))
+    subst (λ (l : Listed). StandsAt l c.args.page c.row.result c.frame.result) c.self.view_is
+    (subst (StandsAt (listed c.self.inside.entries) c.args.page c.row.result) (sym c.frame.ensures)
+    (subst (λ r. StandsAt (listed c.self.inside.entries) c.args.page r c.in-Some.entry.now.frame) (sym c.row.ensures) (stands_at c.args.page c.in-Some.entry.now c.self.inside.entries c.get.ensures.ordered found)))

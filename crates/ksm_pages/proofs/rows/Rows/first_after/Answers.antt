@@ -7,7 +7,7 @@ use Rattle.std.proofs.lemmas.Iterator.Search.{find_from_yields_List}
 use Rattle.ksm_base.specs.Visit.{after_cursor}
 use Rattle.ksm_base.specs.declared.page.GuestPage.{GuestPage}
 use Rattle.ksm_base.specs.declared.row.Row.{Row}
-use Rattle.ksm_pages.specs.declared.entry.Entry.{Entry}
+use Rattle.ksm_pages.specs.Kept.{Entry}
 use Rattle.ksm_pages.specs.RowEntries.{row_of, page_order, start_after}
 use Rattle.ksm_pages.specs.Wanted.{is_wanted}
 use Rattle.ksm_pages.proofs.RowWalks.{row_found, find_after}

@@ -31,7 +31,7 @@ returns-in_default-clause-frames c = absurd (never c)
 pub returns-in_default-clause-gone : goal.returns-in_default-clause-gone
 returns-in_default-clause-gone c = absurd (never c)
 
-went_out : (c : goal.After-self-1) → Went c.args.self.now (listed c.remove.new.self) c.args.page
+went_out : (c : goal.After-frame) → Went c.args.self.now (listed c.remove.new.self) c.args.page
 went_out c = went c.self.inside.entries c.remove.new.self c.args.self.now c.args.page c.self.view_is c.remove.ensures.ordered c.requires c.remove.ensures.entries
 
 pub without-self-inside-requires : goal.without-self-inside-requires
@@ -48,8 +48,9 @@ invariant_of-self-2 c =
 pub returns-clause-stood : goal.returns-clause-stood
 returns-clause-stood c =
     let found : lookup (asks c.args.page) c.self.inside.entries ≡ Some c.in-Some.entry = sym c.remove.ensures.value ∙ c.in-Some.is in
-    subst (λ (l : Listed). StandsAt l c.args.page c.row-row.result c.in-Some.entry.frame) c.self.view_is
-    (subst (λ r. StandsAt (listed c.self.inside.entries) c.args.page r c.in-Some.entry.frame) (sym c.row-row.ensures) (stands_at c.args.page c.in-Some.entry c.self.inside.entries c.remove.ensures.ordered found))
+    subst (λ (l : Listed). StandsAt l c.args.page c.row-row.result c.frame.result) c.self.view_is
+    (subst (StandsAt (listed c.self.inside.entries) c.args.page c.row-row.result) (sym c.frame.ensures)
+    (subst (λ r. StandsAt (listed c.self.inside.entries) c.args.page r c.in-Some.entry.frame) (sym c.row-row.ensures) (stands_at c.args.page c.in-Some.entry c.self.inside.entries c.remove.ensures.ordered found)))
 
 pub returns-clause-rows : goal.returns-clause-rows
 returns-clause-rows c = (went_out c).rows

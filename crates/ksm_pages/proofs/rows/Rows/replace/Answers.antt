@@ -31,15 +31,16 @@ returns-in_default-clause-frames c = absurd (never c)
 pub returns-in_default-clause-changed : goal.returns-in_default-clause-changed
 returns-in_default-clause-changed c = absurd (never c)
 
-written : (c : goal.After-self-1) → Replaced c.args.self.now (listed c.set.new.self) c.args.row c.args.frame
+written : (c : goal.After-frame) → Replaced c.args.self.now (listed c.set.new.self) c.args.row c.args.frame
 written c = replaced c.self.inside.entries c.set.new.self c.args.self.now c.args.row c.args.frame c.self.view_is c.set.ensures.ordered c.requires
     (c.set.ensures.entries ∙ ap (set_value (asks c.args.row.page) c.self.inside.entries) c.new.ensures)
 
 pub returns-clause-stood : goal.returns-clause-stood
 returns-clause-stood c =
     let found : lookup (asks c.args.row.page) c.self.inside.entries ≡ Some c.in-Some.left = sym c.set.ensures.value ∙ c.in-Some.is in
-    subst (λ (l : Listed). StandsAt l c.args.row.page c.row-old.result c.in-Some.left.frame) c.self.view_is
-    (subst (λ r. StandsAt (listed c.self.inside.entries) c.args.row.page r c.in-Some.left.frame) (sym c.row-old.ensures) (stands_at c.args.row.page c.in-Some.left c.self.inside.entries c.set.ensures.ordered found))
+    subst (λ (l : Listed). StandsAt l c.args.row.page c.row-old.result c.frame.result) c.self.view_is
+    (subst (StandsAt (listed c.self.inside.entries) c.args.row.page c.row-old.result) (sym c.frame.ensures)
+    (subst (λ r. StandsAt (listed c.self.inside.entries) c.args.row.page r c.in-Some.left.frame) (sym c.row-old.ensures) (stands_at c.args.row.page c.in-Some.left c.self.inside.entries c.set.ensures.ordered found)))
 
 pub returns-clause-rows : goal.returns-clause-rows
 returns-clause-rows c = (written c).rows

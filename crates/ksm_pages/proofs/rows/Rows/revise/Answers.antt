@@ -37,8 +37,9 @@ written c = revised c.self.inside.entries c.revise.new.self c.args.self.now c.ar
 
 pub returns-clause-stood : goal.returns-clause-stood
 returns-clause-stood c =
-    subst (λ (l : Listed). StandsAt l c.args.row.page c.row.result c.in-Some.left.frame) c.self.view_is
-    (subst (λ r. StandsAt (listed c.self.inside.entries) c.args.row.page r c.in-Some.left.frame) (sym c.row.ensures) (stands_at c.args.row.page c.in-Some.left c.self.inside.entries c.revise.ensures.ordered (found c)))
+    subst (λ (l : Listed). StandsAt l c.args.row.page c.row.result c.frame.result) c.self.view_is
+    (subst (StandsAt (listed c.self.inside.entries) c.args.row.page c.row.result) (sym c.frame.ensures)
+    (subst (λ r. StandsAt (listed c.self.inside.entries) c.args.row.page r c.in-Some.left.frame) (sym c.row.ensures) (stands_at c.args.row.page c.in-Some.left c.self.inside.entries c.revise.ensures.ordered (found c))))
 
 pub returns-clause-rows : goal.returns-clause-rows
 returns-clause-rows c = (written c).rows
