@@ -138,6 +138,15 @@ impl Entry {
         *self = Entry::new(row, self.frame);
     }
 
+    /// Has another state from now on.
+    pub fn restate(&mut self, state: PageState)
+        ensures { self.new ≡ record self.old { state = state } }
+    {
+        let (kind, number) = named(state);
+        self.kind = kind;
+        self.number = number;
+    }
+
     /// Waits no more.
     pub fn settle(&mut self)
         ensures { self.new ≡ record self.old { state = settled_state self.old.state } }

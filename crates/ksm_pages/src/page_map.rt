@@ -188,8 +188,8 @@ impl PageMap {
         let Some(kept) = self.found.get_mut(&page) else {
             return None;
         };
-        kept.state = state;
-        kept.frame
+        kept.restate(state);
+        kept.frame()
     }
 
     /// Takes a page and its entry away, if it has one.

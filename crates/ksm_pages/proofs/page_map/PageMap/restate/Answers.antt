@@ -2,7 +2,7 @@ use Rattle.std.proofs.Common.{◌≡◌, ◌∙◌, ℕ, Option, None, ap, refl,
 use Rattle.std.specs.Prelude.{MatchOption}
 use Rattle.std.specs.Map.{set_value}
 use Rattle.std.specs.Option.{option_copied_mut}
-use Rattle.ksm_pages.specs.declared.entry.Entry.{Entry}
+use Rattle.ksm_pages.specs.Kept.{Entry}
 use Rattle.ksm_pages.specs.Paged.{asks, paged}
 use Rattle.ksm_pages.proofs.Paging.{got, seen_in_order, set_through}
 use Rattle.ksm_pages.proofs.page_map.PageMap.restate.Goals as goal
@@ -29,17 +29,19 @@ pub returns-clause-frame : goal.returns-clause-frame
 returns-clause-frame c =
     let some = sym (ap option_copied_mut c.in-Some.is) ∙ got c.self.inside.found.entries c.self.inside.order.entries c.args.self.now c.args.page _
     c.self.view_is c.self.invariant c.get_mut.ensures.value in
-    subst (λ (o : Option Entry). MatchOption o (c.in-Some.kept.now.frame ≡ None) (λ (e : Entry). c.in-Some.kept.now.frame ≡ e.frame)) some refl
+    subst (λ (o : Option Entry). MatchOption o (c.frame.result ≡ None) (λ (e : Entry). c.frame.result ≡ e.frame)) some
+    (c.frame.ensures ∙ ap (λ (e : Entry). e.frame) c.restate.ensures)
 
 pub returns-clause-entries : goal.returns-clause-entries
 returns-clause-entries c =
-    let w : Entry = record c.in-Some.kept.now { state = c.args.state } in
+    let w = c.restate.new.self in
     let some = sym (ap option_copied_mut c.in-Some.is) ∙ got c.self.inside.found.entries c.self.inside.order.entries c.args.self.now c.args.page _
     c.self.view_is c.self.invariant c.get_mut.ensures.value in
     let new = paged (c.get_mut.follows.lender w).entries c.self.inside.order.entries in
     subst (λ o. MatchOption o (new ≡ c.args.self.now) (λ (e : Entry). new ≡ set_value (asks c.args.page) c.args.self.now (record e { state = c.args.state }))) some
     (set_through c.self.inside.found.entries (c.get_mut.follows.lender w).entries c.self.inside.order.entries c.args.self.now c.args.page w _ _
-    c.self.view_is c.self.invariant c.get_mut.ensures.value (ap option_copied_mut c.in-Some.is) (c.get_mut.follows.holds w).0)
+    c.self.view_is c.self.invariant c.get_mut.ensures.value (ap option_copied_mut c.in-Some.is) (c.get_mut.follows.holds w).0
+    ∙ ap (set_value (asks c.args.page) c.args.self.now) c.restate.ensures)
 
 pub returns-clause-ordered : goal.returns-clause-ordered
 returns-clause-ordered c = seen_in_order c.self.inside.found.entries c.self.inside.order.entries c.args.self.now c.self.view_is c.self.invariant
