@@ -1,4 +1,4 @@
-use Rattle.std.proofs.Common.{◌∙◌, refl, ap, sym, subst, None}
+use Rattle.std.proofs.Common.{◌∙◌, refl, ap, sym, subst}
 use Rattle.ksm_base.specs.declared.row.PageState.TheVariants.{Merged}
 use Rattle.ksm_base.specs.Rows.{change_row, row_at}
 use Rattle.ksm_rmap.specs.Items.{with_item}
@@ -9,7 +9,6 @@ use Rattle.ksm_tree.specs.Dups.{rows_of}
 use Rattle.ksm_pages.specs.Linked.{AreKept, AreLinked, HasRoom}
 use Rattle.ksm_pages.proofs.Linking.{own_not_merged, linked_joined, known_room, fewer_room, only_rows}
 use Rattle.ksm_pages.proofs.Seen.{item_lies, own_lies, paired_there, seen_put_there}
-use Rattle.std.specs.Prelude.{MatchOption}
 use Rattle.ksm_pages.specs.Listed.{StandsAt, rank}
 use Rattle.ksm_pages.specs.Lodged.{LiesWith, listed_seen}
 use Rattle.ksm_pages.proofs.pages.Pages.join.Goals as goal
