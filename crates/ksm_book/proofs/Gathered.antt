@@ -1,222 +1,216 @@
--- What was found of the rows after the cursor stays true while none of them changes.
-use Rattle.std.proofs.Common.{inl, inr, ◌⊎◌, ◌≡◌, ℕ, zero, suc, ◌-◌, Bool, true, false, cond, List, [], ◌∷◌, get_or, Option, Some, None, refl, sym, ap, ◌∙◌, subst, arith}
-use Rattle.std.specs.Prelude.{◌&&◌, ◌||◌, ⊤, All as Each, IfSome, MatchOption, filter, find, map, option_map, slice_get, is_some, is_none, nat_lt}
+-- What was found of the rows after the cursor stays true while the scan goes on.
+use Rattle.std.proofs.Common.{◌≡◌, ◌≤◌, ◌<◌, ◌+◌, ℕ, zero, suc, ◌-◌, ◌++◌, Bool, true, false, cond, List, [], ◌∷◌, get_or, Option, Some, None, refl, sym, ap, ◌∙◌, subst, arith}
+use Rattle.std.specs.Prelude.{◌&&◌, ◌||◌, All as Each, IfSome, MatchOption, find, map, option_map, slice_get, is_some, is_none, nat_lt, length}
+use Rattle.std.specs.Option.{option_to_list}
 use Rattle.std.proofs.lemmas.Bool.{and_parts, cond_both}
 use Rattle.std.proofs.lemmas.Bool.Decides.{nat_tests}
-use Rattle.std.proofs.lemmas.List.Elements.{All-head, All-tail}
+use Rattle.std.proofs.lemmas.List.{append_assoc, append-nil}
+use Rattle.std.proofs.lemmas.List.Elements.{All-head, All-tail, All-map}
 use Rattle.std.proofs.lemmas.Option.{same_Some}
 use Rattle.ksm_base.specs.declared.page.GuestPage.{GuestPage}
+use Rattle.ksm_base.specs.declared.row.DupRow.{DupRow}
 use Rattle.ksm_base.specs.declared.row.PageState.{PageState}
 use Rattle.ksm_base.specs.declared.row.PageState.TheVariants.{Private, Waiting, Merged, Zero}
 use Rattle.ksm_base.specs.declared.row.Row.{Row}
-use Rattle.ksm_base.specs.Rows.{InPageOrder, comes_before, same_page, row_at, change_row, settled, settled_state, shared_state}
-use Rattle.ksm_base.specs.State.{BookState, pass_ended, with_none_waiting}
-use Rattle.ksm_base.specs.Visit.{after_cursor, next_row, pass_begun, pass_ended_at_last, visit_begun}
+use Rattle.ksm_base.specs.Rows.{InPageOrder, same_page, row_at, change_row, change_rows, settled, settled_state, shared_state}
+use Rattle.ksm_base.specs.Sound.{IsSound}
+use Rattle.ksm_base.specs.State.{BookState, pass_ended, place_count, with_none_waiting}
+use Rattle.ksm_base.specs.Visit.{after_cursor, best_dup, handled, is_for_zero, made_dup, new_place, next_row, paired, partner, pass_begun, pass_ended_at_last, row_visited, stayed, visit_begun}
 use Rattle.ksm_base.proofs.Edits.{find_all, find_passes}
-use Rattle.ksm_base.proofs.Pages.{before_irrefl, same_page_eq}
+use Rattle.ksm_base.proofs.Pages.{same_page_eq, same_page_refl}
 use Rattle.ksm_base.proofs.RowCounts.{each_at_page}
 use Rattle.ksm_pages.specs.declared.row.Run.{Run}
-use Rattle.ksm_pages.specs.Scanned.{AreAhead, AreKeptAfter, AreRuns, GoesOnAt, IsLeft as IsLeftOver, IsRun, IsUnderWay, RunsOver, mark, moved_to, page_of, cursor_after}
+use Rattle.ksm_pages.specs.Scanned.{AreAhead, AreRuns, GoesOnAt, IsLeft, IsRun, IsUnderWay, RunsOver, moved_to, page_of, cursor_after, stays}
 use Rattle.ksm_book.specs.declared.scan.Ahead.{Ahead}
-use Rattle.ksm_book.specs.declared.scan.Remains.{Remains}
-use Rattle.ksm_book.specs.declared.scan.Remains.TheVariants.{Same, All, Behind, Nothing}
-use Rattle.ksm_book.specs.Gathered.{GoesOnAtPage, IsAhead, IsKnown, IsLeft, Remain, behind}
+use Rattle.ksm_book.specs.Gathered.{AreOfPass, GoesOnAtPage, IsAhead, IsKnown, StaysNow, behind, passed_by}
 use Rattle.ksm_book.proofs.Passing.{begins_none}
+use Rattle.ksm_book.proofs.Visiting.{visited_at}
 
--- ---------------------------------------------------------------- a change of one row
+-- ---------------------------------------------------------------- rows along which the scan goes the same way
 
--- a row of a page that does not come after p
-pub kept_other : (p q : GuestPage) (new : Row) (rows : List Row) → comes_before p q ≡ false → new.page ≡ q → AreKeptAfter p rows (change_row q (λ _. new) rows)
-kept_other p q new [] apart at = refl
-kept_other p q new (r ∷ rows) apart at = by (same_page r.page q) refl (kept_other p q new rows apart at)
-  where
-    later : Row → Bool
-    later x = comes_before p x.page
+-- a row that is found in the stead of another, or none in the stead of none: it is of the same page, and stays if that one did
+abbrev Onto : Option Row → Option Row → Type 0
+Onto old new = (page_of new ≡ page_of old) × (IsLeft old → IsLeft new)
 
-    behind : List Row
-    behind = filter later (change_row q (λ _. new) rows)
-
-    -- neither the row nor what it becomes is looked at
-    by : (b : Bool) → same_page r.page q ≡ b → behind ≡ filter later rows
-        → cond (later (cond b new r)) (cond b new r ∷ behind) behind ≡ cond (later r) (r ∷ filter later rows) (filter later rows)
-    by true same rest =
-        let was : later r ≡ false = ap (comes_before p) (same_page_eq r.page q same) ∙ apart in
-        let is : later new ≡ false = ap (comes_before p) at ∙ apart in
-        ap (λ (b : Bool). cond b (new ∷ behind) behind) is ∙ rest ∙ sym (ap (λ (b : Bool). cond b (r ∷ filter later rows) (filter later rows)) was)
-    by false other rest = λ t. cond (later r) (r ∷ rest t) (rest t)
-
-pub kept_row : (row new : Row) (rows : List Row) → new.page ≡ row.page → AreKeptAfter row.page rows (change_row row.page (λ _. new) rows)
-kept_row row new rows at = kept_other row.page row.page new rows (before_irrefl row.page) at
-
--- ---------------------------------------------------------------- two lists of rows along which the scan goes one way
-
--- rows of one page that stay or not alike, or none
-abbrev Alike : Option Row → Option Row → Type 0
-Alike a b = option_map mark a ≡ option_map mark b
-
-page_marked : (a : Option Row) → option_map (λ (m : GuestPage × (Bool × Bool)). m.0) (option_map mark a) ≡ page_of a
-page_marked None = refl
-page_marked (Some r) = refl
-
-page_alike : (a b : Option Row) → Alike a b → page_of a ≡ page_of b
-page_alike a b alike = sym (page_marked a) ∙ ap (option_map (λ (m : GuestPage × (Bool × Bool)). m.0)) alike ∙ page_marked b
+-- the scan finds the same pages in the new rows, and a row that stayed stays
+abbrev pub GoOn : List Row → List Row → Type 0
+GoOn old new = (cursor : Option GuestPage) → Onto (next_row cursor old) (next_row cursor new)
 
 moved_page : (at : Option GuestPage) (a : Option Row) (page : GuestPage) → page_of a ≡ Some page → moved_to at a ≡ Some page
 moved_page at None page is = absurd (grind (arith, ap is_some is))
 moved_page at (Some r) page is = is
 
-moved_alike : (at : Option GuestPage) (a b : Option Row) → Alike a b → moved_to at a ≡ moved_to at b
-moved_alike at a None alike = by a (page_alike a None alike)
+moved_alike : (at : Option GuestPage) (a b : Option Row) → page_of b ≡ page_of a → moved_to at b ≡ moved_to at a
+moved_alike at None b same = by b same
   where
-    by : (a : Option Row) → page_of a ≡ None → moved_to at a ≡ at
+    by : (b : Option Row) → page_of b ≡ None → moved_to at b ≡ at
     by None is = refl
     by (Some r) is = absurd (grind (arith, ap is_some is))
-moved_alike at a (Some s) alike = moved_page at a s.page (page_alike a (Some s) alike)
+moved_alike at (Some r) b same = moved_page at b r.page same
 
-left_alike : (a b : Option Row) → Alike a b → IsLeftOver b → IsLeftOver a
-left_alike a None alike left = absurd left
-left_alike None (Some s) alike left = absurd (grind (arith, ap is_some alike))
-left_alike (Some r) (Some s) alike left = ap (λ (m : GuestPage × (Bool × Bool)). m.1.1) (same_Some (mark r) (mark s) alike) ∙ left
-
-module _ (old new : List Row) (From : Option GuestPage → Type 0) (alike : (cursor : Option GuestPage) → From cursor → Alike (next_row cursor new) (next_row cursor old))
-    (onward : (cursor : Option GuestPage) → From cursor → From (moved_to cursor (next_row cursor old))) where
-  kept_cursor : (k : ℕ) (cursor : Option GuestPage) → From cursor → (cursor_after k cursor new ≡ cursor_after k cursor old) × From (cursor_after k cursor old)
-  kept_cursor zero cursor from = (refl, from)
-  kept_cursor (suc k) cursor from =
-      let before = kept_cursor k cursor from in
+module _ (old new : List Row) (on : GoOn old new) where
+  kept_cursor : (k : ℕ) (cursor : Option GuestPage) → cursor_after k cursor new ≡ cursor_after k cursor old
+  kept_cursor zero cursor = refl
+  kept_cursor (suc k) cursor =
       let at = cursor_after k cursor old in
-      (ap (λ (c : Option GuestPage). moved_to c (next_row c new)) before.0 ∙ moved_alike at (next_row at new) (next_row at old) (alike at before.1), onward at before.1)
+      ap (λ (c : Option GuestPage). moved_to c (next_row c new)) (kept_cursor k cursor) ∙ moved_alike at (next_row at old) (next_row at new) (on at).0
 
-  kept_over : (cursor : Option GuestPage) (run : Run) → From cursor → RunsOver old cursor run → RunsOver new cursor run
-  kept_over cursor run from over =
-      let at = kept_cursor run.visits cursor from in
-      record {
-        left = λ k lt. let before = kept_cursor k cursor from in
-            left_alike _ _ (ap (λ (c : Option GuestPage). option_map mark (next_row c new)) before.0 ∙ alike (cursor_after k cursor old) before.1) (over.left k lt);
-        last = over.last ∙ sym at.0;
-        next = over.next ∙ sym (page_alike _ _ (alike run.last (subst From (sym over.last) at.1)));
-      }
+  kept_over : (cursor : Option GuestPage) (run : Run) → RunsOver old cursor run → RunsOver new cursor run
+  kept_over cursor run over = record {
+    left = λ k lt. subst (λ (c : Option GuestPage). IsLeft (next_row c new)) (sym (kept_cursor k cursor)) ((on (cursor_after k cursor old)).1 (over.left k lt));
+    last = over.last ∙ sym (kept_cursor run.visits cursor);
+    next = over.next ∙ sym (on run.last).0;
+  }
 
-  kept_runs : (cursor : Option GuestPage) (runs : List Run) → From cursor → AreRuns old cursor runs → AreRuns new cursor runs
-  kept_runs cursor [] from are = tt
-  kept_runs cursor (run ∷ runs) from (over, on) =
-      (kept_over cursor run from over, by run.next refl on (λ page. kept_runs (Some page) runs))
+  pub kept_runs : (cursor : Option GuestPage) (runs : List Run) → AreRuns old cursor runs → AreRuns new cursor runs
+  kept_runs cursor [] are = tt
+  kept_runs cursor (run ∷ runs) (over, on_them) = (kept_over cursor run over, by run.next on_them (λ page. kept_runs (Some page) runs))
     where
-      from_page : (page : GuestPage) → run.next ≡ Some page → From (Some page)
-      from_page page next =
-          let last = subst From (sym over.last) (kept_cursor run.visits cursor from).1 in
-          subst From (moved_page run.last (next_row run.last old) page (sym over.next ∙ next)) (onward run.last last)
-
-      by : (o : Option GuestPage) → run.next ≡ o → MatchOption o (runs ≡ []) (λ page. AreRuns old (Some page) runs)
-          → ((page : GuestPage) → From (Some page) → AreRuns old (Some page) runs → AreRuns new (Some page) runs)
+      by : (o : Option GuestPage) → MatchOption o (runs ≡ []) (λ page. AreRuns old (Some page) runs)
+          → ((page : GuestPage) → AreRuns old (Some page) runs → AreRuns new (Some page) runs)
           → MatchOption o (runs ≡ []) (λ page. AreRuns new (Some page) runs)
-      by None is none rest = none
-      by (Some page) is are rest = rest page (from_page page is) are
+      by None none rest = none
+      by (Some page) are rest = rest page are
 
--- ---------------------------------------------------------------- the rows after a page are the same
-
--- a cursor that does not stand before p
-abbrev pub IsFrom : GuestPage → Option GuestPage → Type 0
-IsFrom p cursor = MatchOption cursor ⊥ (λ q. comes_before q p ≡ false)
-
-from_itself : (p : GuestPage) → IsFrom p (Some p)
-from_itself p = before_irrefl p
-
--- a search for what all passes a test finds the same among those that pass it
-find_within : (t s : Row → Bool) (rows : List Row) → ((r : Row) → t r ≡ true → s r ≡ true) → find t (filter s rows) ≡ find t rows
-find_within t s [] within = refl
-find_within t s (r ∷ rows) within = by (s r) refl (t r) refl (find_within t s rows within)
-  where
-    by : (b : Bool) → s r ≡ b → (d : Bool) → t r ≡ d → find t (filter s rows) ≡ find t rows
-        → find t (cond b (r ∷ filter s rows) (filter s rows)) ≡ cond (t r) (Some r) (find t rows)
-    by true is d test rest = ap (λ (o : Option Row). cond (t r) (Some r) o) rest
-    by false is true test rest = absurd (grind (arith, is, within r test))
-    by false is false test rest = rest ∙ sym (ap (λ (b : Bool). cond b (Some r) (find t rows)) test)
-
-module _ (p : GuestPage) (old new : List Row) (kept : AreKeptAfter p old new) where
-  kept_next : (cursor : Option GuestPage) → IsFrom p cursor → next_row cursor new ≡ next_row cursor old
-  kept_next None from = absurd from
-  kept_next (Some q) from =
-      let within : (r : Row) → (r.mergeable && comes_before q r.page) ≡ true → comes_before p r.page ≡ true =
-      λ r passes. later q r.page from (and_parts r.mergeable (comes_before q r.page) passes).1 in
-      sym (find_within (λ r. r.mergeable && comes_before q r.page) (λ r. comes_before p r.page) new within)
-      ∙ ap (find (λ r. r.mergeable && comes_before q r.page)) kept
-      ∙ find_within (λ r. r.mergeable && comes_before q r.page) (λ r. comes_before p r.page) old within
+  pub kept_known : (ahead : Ahead) → IsKnown old ahead → IsKnown new ahead
+  kept_known ahead known = (known.0, by ahead.from known.1)
     where
-      later : (q x : GuestPage) → comes_before q p ≡ false → comes_before q x ≡ true → comes_before p x ≡ true
-      later q x from before = grind (arith, nat_tests)
+      runs : List Run
+      runs = passed_by ahead (behind ahead)
 
-  -- the row that is found comes after p too
-  from_next : (cursor : Option GuestPage) (row : Row) → IsFrom p cursor → next_row cursor old ≡ Some row → comes_before row.page p ≡ false
-  from_next None row from found = absurd from
-  from_next (Some q) row from found =
-      onward q row.page from (and_parts row.mergeable (comes_before q row.page) (find_passes (λ r. r.mergeable && comes_before q r.page) old row found)).1
-    where
-      onward : (q x : GuestPage) → comes_before q p ≡ false → comes_before q x ≡ true → comes_before x p ≡ false
-      onward q x from before = grind (arith, nat_tests)
-
-  from_moved : (cursor : Option GuestPage) (o : Option Row) → next_row cursor old ≡ o → IsFrom p cursor → IsFrom p (moved_to cursor o)
-  from_moved cursor None found from = from
-  from_moved cursor (Some row) found from = from_next cursor row from found
-
-  pub kept_behind : (runs : List Run) → AreRuns old (Some p) runs → AreRuns new (Some p) runs
-  kept_behind runs are = kept_runs old new (IsFrom p) (λ cursor from. ap (option_map mark) (kept_next cursor from)) (λ cursor from. from_moved cursor (next_row cursor old) refl from)
-      (Some p) runs (from_itself p) are
-
--- ---------------------------------------------------------------- each row is visited or not as before, and stays or not
-
-next_marked : (cursor : Option GuestPage) (rows : List Row)
-    → option_map mark (next_row cursor rows) ≡ find (λ (m : GuestPage × (Bool × Bool)). m.1.0 && after_cursor cursor m.0) (map mark rows)
-next_marked cursor [] = refl
-next_marked cursor (r ∷ rows) = by (r.mergeable && after_cursor cursor r.page) (next_marked cursor rows)
-  where
-    by : {o : Option (GuestPage × (Bool × Bool))} (b : Bool) → option_map mark (next_row cursor rows) ≡ o → option_map mark (cond b (Some r) (next_row cursor rows)) ≡ cond b (Some (mark r)) o
-    by true rest = refl
-    by false rest = rest
-
-module _ (old new : List Row) (same : map mark new ≡ map mark old) where
-  kept_marked : (cursor : Option GuestPage) (runs : List Run) → AreRuns old cursor runs → AreRuns new cursor runs
-  kept_marked cursor runs are =
-      kept_runs old new (λ c. ⊤)
-      (λ c from. next_marked c new ∙ ap (find (λ (m : GuestPage × (Bool × Bool)). m.1.0 && after_cursor c m.0)) same ∙ sym (next_marked c old)) (λ c from. tt)
-      cursor runs tt are
-
-  known_marked : (ahead : Ahead) → IsKnown old ahead → IsKnown new ahead
-  known_marked ahead known = (known.0, by ahead.from known.1)
-    where
-      by : (o : Option GuestPage) → IfSome o (λ page. AreRuns old (Some page) ahead.found.items) → IfSome o (λ page. AreRuns new (Some page) ahead.found.items)
+      by : (o : Option GuestPage) → IfSome o (λ page. AreRuns old (Some page) runs) → IfSome o (λ page. AreRuns new (Some page) runs)
       by None are = tt
-      by (Some page) are = kept_marked (Some page) ahead.found.items are
+      by (Some page) are = kept_runs (Some page) runs are
+
+-- ---------------------------------------------------------------- a change of rows
+
+-- a row that keeps its page and whether the scan visits it, and stays if it did
+abbrev GoesOn : Row → Row → Type 0
+GoesOn old new = (new.page ≡ old.page) × ((new.mergeable ≡ old.mergeable) × (stays old ≡ true → stays new ≡ true))
+
+goes_as_was : (r : Row) → GoesOn r r
+goes_as_was r = (refl, (refl, λ s. s))
+
+rows_go_on : (change : Row → Row) (rows : List Row) → Each (λ r. GoesOn r (change r)) rows → GoOn rows (map change rows)
+rows_go_on change [] each cursor = (refl, λ left. left)
+rows_go_on change (r ∷ rows) each cursor =
+    by (r.mergeable && after_cursor cursor r.page) ((change r).mergeable && after_cursor cursor (change r).page)
+    (λ t. goes.1.0 t && after_cursor cursor (goes.0 t)) (rows_go_on change rows (All-tail P r rows each) cursor)
+  where
+    P : Row → Type 0
+    P x = GoesOn x (change x)
+
+    goes : GoesOn r (change r)
+    goes = All-head P r rows each
+
+    by : (a b : Bool) → b ≡ a → Onto (next_row cursor rows) (next_row cursor (map change rows))
+        → Onto (cond a (Some r) (next_row cursor rows)) (cond b (Some (change r)) (next_row cursor (map change rows)))
+    by true true same rest = (ap Some goes.0, goes.1.1)
+    by false false same rest = rest
+    by true false same rest = absurd (grind (arith, same))
+    by false true same rest = absurd (grind (arith, same))
+
+-- where the rows that pass a test change
+change_goes_on : (test : Row → Bool) (change : Row → Row) (rows : List Row) → Each (λ r. test r ≡ true → GoesOn r (change r)) rows → GoOn rows (change_rows test change rows)
+change_goes_on test change rows each = rows_go_on (λ r. cond (test r) (change r) r) rows (λ k d lt. by (get_or rows k d) (test (get_or rows k d)) (each k d lt))
+  where
+    by : (r : Row) (b : Bool) → (b ≡ true → GoesOn r (change r)) → GoesOn r (cond b (change r) r)
+    by r true goes = goes refl
+    by r false goes = goes_as_was r
+
+-- a change to a state that stays
+merge_goes_on : (test : Row → Bool) (state : PageState) (rows : List Row) → shared_state state ≡ true → GoOn rows (change_rows test (λ r. record r { state = state }) rows)
+merge_goes_on test state rows shared = change_goes_on test (λ r. record r { state = state }) rows (λ k d lt is. (refl, (refl, λ s. shared)))
+
+-- the one row of a page
+the_row : (row : Row) (rows : List Row) → InPageOrder rows → row_at row.page rows ≡ Some row → Each (λ r. same_page r.page row.page ≡ true → r ≡ row) rows
+the_row row rows rise found k d lt = at (get_or rows k d) (each_at_page rows rise k d lt)
+  where
+    at : (r : Row) → row_at r.page rows ≡ Some r → same_page r.page row.page ≡ true → r ≡ row
+    at r is same = same_Some r row (sym (ap (λ p. row_at p rows) (sym (same_page_eq r.page row.page same)) ∙ is) ∙ found)
+
+-- a change of a row that does not stay
+alone_goes_on : (row : Row) (change : Row → Row) (rows : List Row) → InPageOrder rows → row_at row.page rows ≡ Some row → stays row ≡ false
+    → ((r : Row) → ((change r).page ≡ r.page) × ((change r).mergeable ≡ r.mergeable)) → GoOn rows (change_row row.page change rows)
+alone_goes_on row change rows rise found alone keeps =
+    change_goes_on (λ r. same_page r.page row.page) change rows
+    (λ k d lt is. let r = get_or rows k d in ((keeps r).0, ((keeps r).1, λ s. absurd (grind (arith, s, ap stays (the_row row rows rise found k d lt is), alone)))))
+
+-- a visit of a row
+pub visit_goes_on : (b : BookState) (row : Row) → IsSound b → next_row b.cursor b.rows ≡ Some row → GoOn b.rows (row_visited b row).rows
+visit_goes_on b row sound next =
+    cond_both (shared_state row.state) b (handled best b row) Keeps (λ _ cursor. (refl, λ left. left)) (λ alone. by best alone)
+  where
+    Keeps : BookState → Type 0
+    Keeps x = GoOn b.rows x.rows
+
+    best : Option DupRow
+    best = best_dup b.knobs b.rows b.dups row
+
+    there : row_at row.page b.rows ≡ Some row
+    there = visited_at b row sound next
+
+    pairs : (o : Option Row) → shared_state row.state ≡ false → Keeps (paired o b row)
+    pairs (Some w) alone = merge_goes_on (λ r. same_page r.page w.page || same_page r.page row.page) (Merged b.next) b.rows refl
+    pairs None alone = alone_goes_on row (λ r. record r { state = Waiting }) b.rows sound.rows_rise there alone (λ r. (refl, refl))
+
+    by : (o : Option DupRow) → shared_state row.state ≡ false → Keeps (handled o b row)
+    by (Some d) alone = merge_goes_on (λ r. same_page r.page row.page) (Merged d.number) b.rows refl
+    by None alone =
+        cond_both row.unchanged (stayed b row) (record b { rows = change_row row.page (λ r. record r { unchanged = true; state = Private }) b.rows }) Keeps
+        (λ _. cond_both (is_for_zero b.knobs row) (record b { rows = change_row row.page (λ r. record r { state = Zero }) b.rows }) (paired (partner b.knobs b.rows row) b row) Keeps
+        (λ _. merge_goes_on (λ r. same_page r.page row.page) Zero b.rows refl) (λ _. pairs (partner b.knobs b.rows row) alone))
+        (λ _. alone_goes_on row (λ r. record r { unchanged = true; state = Private }) b.rows sound.rows_rise there alone (λ r. (refl, refl)))
+
+-- what comes before a visit
+begun_goes_on : (b : BookState) → GoOn b.rows (visit_begun b).rows
+begun_goes_on b = begins (pass_ended_at_last b) (cond_both (is_some b.cursor && is_none (next_row b.cursor b.rows)) (pass_ended b) b (λ (x : BookState). x.rows ≡ b.rows) (λ _. refl) (λ _. refl))
+  where
+    settles : (rows : List Row) → GoOn rows (map settled rows)
+    settles rows = rows_go_on settled rows (λ k d lt. let r = get_or rows k d in (refl, (refl, λ s. sym (same r.state) ∙ s)))
+      where
+        same : (s : PageState) → shared_state s ≡ shared_state (settled_state s)
+        same Private = refl
+        same Waiting = refl
+        same (Merged d) = refl
+        same Zero = refl
+
+    begins : (x : BookState) → x.rows ≡ b.rows → GoOn b.rows (pass_begun x).rows
+    begins x same = cond_both (is_none x.cursor) (with_none_waiting x) x (λ (y : BookState). GoOn b.rows y.rows)
+        (λ _. subst (λ rows. GoOn rows (map settled x.rows)) same (settles x.rows)) (λ _. subst (λ rows. GoOn rows x.rows) same (λ cursor. (refl, λ left. left)))
+
+pub known_begun : (b begun : BookState) (ahead : Ahead) → IsKnown b.rows ahead → begun ≡ visit_begun b → IsKnown begun.rows ahead
+known_begun b begun ahead known is = subst (λ (x : BookState). IsKnown x.rows ahead) (sym is) (kept_known b.rows (visit_begun b).rows (begun_goes_on b) ahead known)
+
+-- the row of a page that was merged
+pub stays_merged : (page : GuestPage) (change : Row → Row) (rows : List Row) → ((r : Row) → stays (change r) ≡ true) → StaysNow page (change_row page change rows)
+stays_merged page change rows merged =
+    All-map P (λ r. cond (same_page r.page page) (change r) r) rows (λ k d lt. by (get_or rows k d) (same_page (get_or rows k d).page page) refl)
+  where
+    P : Row → Type 0
+    P r = same_page r.page page ≡ true → stays r ≡ true
+
+    by : (r : Row) (b : Bool) → same_page r.page page ≡ b → P (cond b (change r) r)
+    by r true is at = merged r
+    by r false is at = absurd (grind (arith, is, at))
+
+-- ---------------------------------------------------------------- which rows wait
 
 -- the rows tell the same where the one of a page has another in its stead that does
-module _ {X : Type 0} (told : Row → X) where
-  change_told : (page : GuestPage) (new : Row) (rows : List Row) → Each (λ r. same_page r.page page ≡ true → told r ≡ told new) rows
-      → map told (change_row page (λ _. new) rows) ≡ map told rows
-  change_told page new [] each = refl
-  change_told page new (r ∷ rows) each = λ t. by (same_page r.page page) (All-head P r rows each) t ∷ change_told page new rows (All-tail P r rows each) t
-    where
-      P : Row → Type 0
-      P x = same_page x.page page ≡ true → told x ≡ told new
-
-      by : (b : Bool) → (b ≡ true → told r ≡ told new) → told (cond b new r) ≡ told r
-      by true is = sym (is refl)
-      by false is = refl
-
-  pub told_alike : (row new : Row) (rows : List Row) → InPageOrder rows → row_at row.page rows ≡ Some row → told new ≡ told row → map told (change_row row.page (λ _. new) rows) ≡ map told rows
-  told_alike row new rows rise found same = change_told row.page new rows (λ k d lt at. alike (get_or rows k d) (each_at_page rows rise k d lt) at)
-    where
-      alike : (r : Row) → row_at r.page rows ≡ Some r → same_page r.page row.page ≡ true → told r ≡ told new
-      alike r is at = ap told (same_Some r row (sym (ap (λ p. row_at p rows) (sym (same_page_eq r.page row.page at)) ∙ is) ∙ found)) ∙ sym same
-
-marks_settled : (rows : List Row) → map mark (map settled rows) ≡ map mark rows
-marks_settled [] = refl
-marks_settled (r ∷ rows) = λ t. (r.page, (r.mergeable, same r.state t)) ∷ marks_settled rows t
+pub told_alike : {X : Type 0} (told : Row → X) (row new : Row) (rows : List Row) → InPageOrder rows → row_at row.page rows ≡ Some row → told new ≡ told row
+    → map told (change_row row.page (λ _. new) rows) ≡ map told rows
+told_alike {X} told row new rows rise found same = change_told rows (the_row row rows rise found)
   where
-    same : (s : PageState) → shared_state (settled_state s) ≡ shared_state s
-    same Private = refl
-    same Waiting = refl
-    same (Merged d) = refl
-    same Zero = refl
+    P : Row → Type 0
+    P r = same_page r.page row.page ≡ true → r ≡ row
+
+    change_told : (rows : List Row) → Each P rows → map told (change_row row.page (λ _. new) rows) ≡ map told rows
+    change_told [] each = refl
+    change_told (r ∷ rows) each = λ t. by (same_page r.page row.page) (All-head P r rows each) t ∷ change_told rows (All-tail P r rows each) t
+      where
+        by : (b : Bool) → (b ≡ true → r ≡ row) → told (cond b new r) ≡ told r
+        by true is = same ∙ sym (ap told (is refl))
+        by false is = refl
 
 -- a row that waits is the same as one that does not, but for that
 pub settled_alone : (row : Row) → shared_state row.state ≡ false → settled (record row { state = Waiting }) ≡ settled row
@@ -228,21 +222,6 @@ settled_alone row alone = λ t. record row { state = by row.state alone t }
     by (Merged d) is = absurd (grind (arith, is))
     by Zero is = absurd (grind (arith, is))
 
--- rows that are the same, but for which of them wait, are visited or not alike, and stay or not
-marks_same : (old new : List Row) → map settled new ≡ map settled old → map mark new ≡ map mark old
-marks_same old new same = sym (marks_settled new) ∙ ap (map mark) same ∙ marks_settled old
-
-marks_begun : (b : BookState) → map mark (visit_begun b).rows ≡ map mark b.rows
-marks_begun b =
-    begins (pass_ended_at_last b)
-    ∙ cond_both (is_some b.cursor && is_none (next_row b.cursor b.rows)) (pass_ended b) b (λ (x : BookState). map mark x.rows ≡ map mark b.rows) (λ _. refl) (λ _. refl)
-  where
-    begins : (x : BookState) → map mark (pass_begun x).rows ≡ map mark x.rows
-    begins x = cond_both (is_none x.cursor) (with_none_waiting x) x (λ (y : BookState). map mark y.rows ≡ map mark x.rows) (λ _. marks_settled x.rows) (λ _. refl)
-
-pub known_begun : (b begun : BookState) (ahead : Ahead) → IsKnown b.rows ahead → begun ≡ visit_begun b → IsKnown begun.rows ahead
-known_begun b begun ahead known is = known_marked b.rows begun.rows (ap (λ (x : BookState). map mark x.rows) is ∙ marks_begun b) ahead known
-
 -- ---------------------------------------------------------------- runs that were found
 
 some_page : (o : Option Row) → is_some (page_of o) ≡ is_some o
@@ -253,7 +232,7 @@ some_page (Some r) = refl
 pub run_goes_on : (rows : List Row) (cursor : Option GuestPage) (run : Run) → RunsOver rows cursor run → is_some (next_row cursor rows) ≡ (nat_lt 0 run.visits || is_some run.next)
 run_goes_on rows cursor run over = by run.visits refl
   where
-    left_some : (o : Option Row) → IsLeftOver o → is_some o ≡ true
+    left_some : (o : Option Row) → IsLeft o → is_some o ≡ true
     left_some None left = absurd left
     left_some (Some r) left = refl
 
@@ -307,18 +286,84 @@ behind_ahead b begun ahead row are none is next = by ahead.run are.0 none
         subst (λ (o : Option GuestPage). MatchOption o (behind ahead ≡ []) (λ page. AreRuns b.rows (Some page) (behind ahead))) at on in
         subst (λ (x : BookState). AreRuns x.rows (Some row.page) (behind ahead)) (sym same) behind_it
 
--- what is known once a page was visited
-pub left_known : (remains : Remains) (page : GuestPage) (old new : List Row) (before after : Ahead) → Remain remains page old new → IsLeft remains before after
-    → AreRuns old (Some page) (behind before) → IsKnown old before → AreRuns new (Some page) (behind after) × IsKnown new after
-left_known Same page old new before after same left runs known =
-    let alike = marks_same old new same in
-    subst (λ (a : Ahead). AreRuns new (Some page) (behind a) × IsKnown new a) (sym left) (kept_marked old new alike (Some page) (behind before) runs, known_marked old new alike before known)
-left_known All page old new before after same left runs known =
-    subst (λ (a : Ahead). AreRuns new (Some page) (behind a) × IsKnown new a) (sym left) (kept_marked old new same (Some page) (behind before) runs, known_marked old new same before known)
-left_known Behind page old new before after kept left runs known =
-    (subst (AreRuns new (Some page)) (sym left.0) (kept_behind page old new kept (behind before) runs), (left.1, subst (λ o. IfSome o (λ p. AreRuns new (Some p) after.found.items)) (sym left.2) tt))
-left_known Nothing page old new before after kept left runs known =
-    (subst (AreRuns new (Some page)) (sym left.0) tt, (left.1, subst (λ o. IfSome o (λ p. AreRuns new (Some p) after.found.items)) (sym left.2) tt))
+-- ---------------------------------------------------------------- the runs of the next pass
+
+after_more : (k n : ℕ) (cursor : Option GuestPage) (rows : List Row) → cursor_after (k + n) cursor rows ≡ cursor_after k (cursor_after n cursor rows) rows
+after_more zero n cursor rows = let sum : 0 + n ≡ n = omega arith in ap (λ m. cursor_after m cursor rows) sum
+after_more (suc k) n cursor rows =
+    let sum : suc k + n ≡ suc (k + n) = omega arith in
+    ap (λ m. cursor_after m cursor rows) sum ∙ ap (λ (c : Option GuestPage). moved_to c (next_row c rows)) (after_more k n cursor rows)
+
+-- two runs, where the page between them stays
+run_together : (rows : List Row) (cursor : Option GuestPage) (first second : Run) (page : GuestPage) → RunsOver rows cursor first → first.next ≡ Some page → StaysNow page rows
+    → RunsOver rows (Some page) second → RunsOver rows cursor (record second { visits = second.visits + 1 + first.visits })
+run_together rows cursor first second page one next left two = record {
+  left = λ k lt. by k lt (nat_lt k first.visits) (nat_lt first.visits k) refl refl;
+  last = two.last ∙ sym (behind_it second.visits);
+  next = two.next;
+}
+  where
+    found : page_of (next_row first.last rows) ≡ Some page
+    found = sym one.next ∙ next
+
+    -- the cursor behind the page
+    behind_it : (k : ℕ) → cursor_after (k + 1 + first.visits) cursor rows ≡ cursor_after k (Some page) rows
+    behind_it k =
+        let sum : k + 1 + first.visits ≡ k + suc first.visits = omega arith in
+        ap (λ n. cursor_after n cursor rows) sum ∙ after_more k (suc first.visits) cursor rows
+        ∙ ap (λ (c : Option GuestPage). cursor_after k c rows)
+        (ap (λ (c : Option GuestPage). moved_to c (next_row c rows)) (sym one.last) ∙ moved_page first.last (next_row first.last rows) page found)
+
+    left_at : (o : Option Row) → next_row first.last rows ≡ o → page_of o ≡ Some page → IsLeft o
+    left_at None is at = absurd (grind (arith, ap is_some at))
+    left_at (Some r) is at =
+        find_all (λ x. x.mergeable && after_cursor first.last x.page) (λ x. same_page x.page page ≡ true → stays x ≡ true) rows r is left
+        (subst (λ x. same_page r.page x ≡ true) (same_Some r.page page at) (same_page_refl r.page))
+
+    Left : Option GuestPage → Type 0
+    Left at = IsLeft (next_row at rows)
+
+    by : (k : ℕ) → k < second.visits + 1 + first.visits → (before after : Bool) → nat_lt k first.visits ≡ before → nat_lt first.visits k ≡ after → Left (cursor_after k cursor rows)
+    by k lt true after is later = one.left k (grind (arith, nat_tests, is))
+    by k lt false false is later =
+        let at : first.visits ≡ k = grind (arith, nat_tests, is, later) in
+        subst Left (one.last ∙ ap (λ n. cursor_after n cursor rows) at) (left_at (next_row first.last rows) refl found)
+    by k lt false true is later =
+        let behind : first.visits < k = grind (arith, nat_tests, later) in
+        let rest : k - first.visits - 1 + 1 + first.visits ≡ k = omega (arith, behind) in
+        subst Left (sym (behind_it (k - first.visits - 1)) ∙ ap (λ n. cursor_after n cursor rows) rest) (two.left (k - first.visits - 1) (omega (arith, lt, behind)))
+
+-- among others
+pub put_together : (rows : List Row) (cursor : Option GuestPage) (before : List Run) (first second both : Run) (rest : List Run) (page : GuestPage) → first.next ≡ Some page
+    → StaysNow page rows → both ≡ record second { visits = second.visits + 1 + first.visits }
+    → AreRuns rows cursor (before ++ (first ∷ (second ∷ rest))) → AreRuns rows cursor (before ++ (both ∷ rest))
+put_together rows cursor [] first second both rest page next left is (over, on) =
+    let behind_it : AreRuns rows (Some page) (second ∷ rest) = subst (λ (o : Option GuestPage). MatchOption o (second ∷ rest ≡ []) (λ p. AreRuns rows (Some p) (second ∷ rest))) next on in
+    subst (λ (r : Run). AreRuns rows cursor (r ∷ rest)) (sym is) (run_together rows cursor first second page over next left behind_it.0, behind_it.1)
+put_together rows cursor (run ∷ before) first second both rest page next left is (over, on) =
+    (over, by run.next on (λ p. put_together rows (Some p) before first second both rest page next left is))
+  where
+    old : List Run
+    old = before ++ (first ∷ (second ∷ rest))
+
+    new : List Run
+    new = before ++ (both ∷ rest)
+
+    by : (o : Option GuestPage) → MatchOption o (old ≡ []) (λ p. AreRuns rows (Some p) old) → ((p : GuestPage) → AreRuns rows (Some p) old → AreRuns rows (Some p) new)
+        → MatchOption o (new ≡ []) (λ p. AreRuns rows (Some p) new)
+    by None none rest_so = absurd (some_left before none)
+      where
+        some_left : (before : List Run) → before ++ (first ∷ (second ∷ rest)) ≡ [] → ⊥
+        some_left [] is = grind (arith, ap length is)
+        some_left (r ∷ before) is = grind (arith, ap length is)
+    by (Some p) are rest_so = rest_so p are
+
+-- the same where they begin behind a page, if they are kept
+pub pass_together : (rows : List Row) (from : Option GuestPage) (before : List Run) (first second both : Run) (rest : List Run) (page : GuestPage) → first.next ≡ Some page
+    → StaysNow page rows → both ≡ record second { visits = second.visits + 1 + first.visits }
+    → IfSome from (λ p. AreRuns rows (Some p) (before ++ (first ∷ (second ∷ rest)))) → IfSome from (λ p. AreRuns rows (Some p) (before ++ (both ∷ rest)))
+pass_together rows None before first second both rest page next left is are = tt
+pass_together rows (Some p) before first second both rest page next left is are = put_together rows (Some p) before first second both rest page next left is are
 
 -- runs that are found for some visits are runs
 pub ahead_runs : (n : ℕ) (rows : List Row) (cursor : Option GuestPage) (runs : List Run) → AreAhead n rows cursor runs → AreRuns rows cursor runs
@@ -358,11 +403,8 @@ none_ahead b begun ahead are is none = by ahead.run are.0
         let same : begun ≡ b = is ∙ begins_none b found.0 (under_way.0, found.1) in
         absurd (grind (arith, ap is_some (sym found.1 ∙ ap (λ (x : BookState). next_row x.cursor x.rows) (sym same) ∙ none)))
 
--- the first run of those that are begun again, or the next one
-pub begun_again : (rows : List Row) (page : GuestPage) (before after : Ahead) → AreRuns rows (Some page) (behind before) → IsKnown rows before
-    → (after ≡ before) ⊎ ((before.from ≡ Some page) × (after ≡ record before { at = 0 })) → AreRuns rows (Some page) (behind after) × IsKnown rows after
-begun_again rows page before after runs known how = elim how [
-  | inl same ↦ subst (λ (a : Ahead). AreRuns rows (Some page) (behind a) × IsKnown rows a) (sym same) (runs, known)
-  | inr again ↦ subst (λ (a : Ahead). AreRuns rows (Some page) (behind a) × IsKnown rows a) (sym again.1)
-      (subst (λ (o : Option GuestPage). IfSome o (λ p. AreRuns rows (Some p) before.found.items)) again.0 known.1, (omega arith, known.1))
-]
+-- those that were found are those of the pass, the first of them being the last that it has come to
+pub first_put : (found later passed : List Run) (taken : Option Run) → MatchOption taken ((found ≡ []) × (later ≡ [])) (λ r. found ≡ r ∷ later) → passed ≡ []
+    → passed ++ (option_to_list taken ++ later) ≡ found
+first_put found later passed None (none, alone) empty = ap (λ l. l ++ later) empty ∙ alone ∙ sym none
+first_put found later passed (Some r) split empty = ap (λ l. l ++ (r ∷ later)) empty ∙ sym split

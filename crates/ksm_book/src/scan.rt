@@ -1,14 +1,16 @@
 //! The scan: visits of mergeable pages, in the order of their pages, pass after pass.
 
-ghost use Rattle.std.specs.Prelude.{◌≡◌, ◌≤◌, ◌-◌, ◌⊎◌, if◌then◌else◌, [], ◌∷◌, None, Some, Err, OnOk, IfOk, OnErr, IfNone, IfSome, IsSome, MatchBool, MatchOption, is_some, length, true, false};
+ghost use Rattle.std.specs.Prelude.{◌≡◌, ◌≤◌, ◌-◌, ◌+◌, if◌then◌else◌, [], ◌∷◌, List, None, Some, Err, OnOk, IfOk, OnErr, IfNone, IfSome, IsSome, MatchBool, MatchOption, is_some, length, map, true, false};
 ghost use Rattle.ksm_base.specs.declared.fault.Fault.TheVariants.{Memory};
 ghost use Rattle.ksm_base.specs.Apply.{after};
-ghost use Rattle.ksm_base.specs.Rows.{InPageOrder, comes_before, row_at, shared_state};
+ghost use Rattle.ksm_base.specs.declared.row.Row.{Row};
+ghost use Rattle.ksm_base.specs.Rows.{InPageOrder, row_at, settled, shared_state};
 ghost use Rattle.ksm_base.specs.Visit.{visit, visits, visit_begun, visit_ended, pass_ended_at_last, row_visited, paired, partner, stayed, next_row};
 ghost use Rattle.ksm_pages.specs.Scanned.{AreRuns, GoesOnAt, IsUnderWay, RunsOver};
 ghost use Rattle.ksm_layout.specs.Steps.{Does};
 ghost use Rattle.ksm_book.specs.Carried.{CarriedOut};
-ghost use Rattle.ksm_book.specs.Gathered.{GoesOnAtPage, IsAhead, IsKnown, IsLeft, Remain, behind};
+ghost use Rattle.ksm_book.specs.Gathered.{AreOfPass, GoesOnAtPage, IsAhead, IsKnown, StaysNow, behind, passed_by};
+ghost use Rattle.ksm_pages.specs.declared.row.Run.{Run};
 ghost use Rattle.ksm_book.specs.Quiet.{ChangesNothing, IsQuiet, IsQuietPass, IsQuietSince, StaysAlone};
 ghost use Rattle.ksm_book.specs.Whole.{mapped};
 ghost use Rattle.ksm_layout.specs.Commands.{IsIdle, Performs, scanning, visiting, row_visiting, staying, pairing};
@@ -18,31 +20,20 @@ use frame_table::FrameTable;
 use ksm_base::{Command, Fault, GuestPage, PageState, Reply, Row};
 use ksm_pages::row::{Run, is_for_zero, is_shared};
 use std::alloc::Global;
+use std::mem::swap;
 
 // How many runs the scan takes room for when it looks for the first ones.
 const RUNS_AT_ONCE: usize = 16;
 
-// What remains true of the runs that were found, once a page was visited.
+// What became of a page that was visited.
 #[derive(Clone, Copy)]
-enum Remains {
-    // All of them, and the rows are as they were, but for which of them wait.
+enum Visited {
+    // All rows are as they were, but for which of them wait.
     Same,
-    // All of them: each page is still visited or not, and still stays or not.
-    All,
-    // Those behind the page.
-    Behind,
-    // Nothing that is known.
-    Nothing,
-}
-
-// What remains true once a page was merged with another one.
-fn remains_after(other: GuestPage, page: GuestPage) -> Remains
-    ensures { result ≡ (if comes_before other page then Remains.Behind else Remains.Nothing) }
-{
-    if other < page {
-        return Remains::Behind;
-    }
-    Remains::Nothing
+    // The row may be another one. The next pass visits it too.
+    Changed,
+    // A visit leaves the row as it is from now on.
+    Joined,
 }
 
 // Visits that were made, and whether they are known to be quiet: nothing changed but which rows wait.
@@ -65,14 +56,25 @@ fn quiet_since(since: Option<u64>, stood: bool, quiet: bool, most: u64) -> Optio
     Some(most)
 }
 
-// The runs that come after the cursor, as far as they are known: the one in which the pass goes on, and those behind it. They are
-// found from a page on, and are true of the next pass too, as long as no page starts or ends to stay as it is.
+// Two runs as one, where a visit leaves the page between them as it is from now on.
+fn together(first: Run, second: Run) -> Option<Run>
+    ensures { IfSome result (λ both. both ≡ record second { visits = second.visits + 1 + first.visits }) }
+{
+    let visits = second.visits.checked_add(1)?.checked_add(first.visits)?;
+    Some(Run { visits, ..second })
+}
+
+// The runs that come after the cursor, as far as they are known: the one in which the pass goes on, and those behind it. No visit makes
+// a run untrue, so the runs from a page on are kept for the next pass: those that the pass has gone through, and the last of
+// them, which is put together with the one behind it where the page between them joins.
 #[derive(Drop)]
 struct Ahead {
     run: Option<Run>,
     found: Vec<Run>,
     at: usize,
     from: Option<GuestPage>,
+    passed: Vec<Run>,
+    last: Option<Run>,
 }
 
 impl Ahead {
@@ -88,6 +90,8 @@ impl Ahead {
             found: Vec::new(alloc),
             at: 0,
             from: None,
+            passed: Vec::new(alloc),
+            last: None,
         }
     }
 
@@ -95,8 +99,7 @@ impl Ahead {
     fn take(&mut self) -> Option<Run>
         requires { self.old.at ≤ length self.old.found.items }
         ensures taken { MatchOption result ((behind self.old ≡ []) × (behind self.new ≡ [])) (λ run. behind self.old ≡ run ∷ behind self.new) }
-        ensures found { self.new.found ≡ self.old.found }
-        ensures from { self.new.from ≡ self.old.from }
+        ensures rest { self.new ≡ record self.old { at = self.new.at } }
         ensures within { self.new.at ≤ length self.new.found.items }
     {
         let run = *self.found.get(self.at)?;
@@ -107,32 +110,54 @@ impl Ahead {
     // Where the last run is through, the pass goes on with the first one, if that begins behind this page.
     fn begin_again(&mut self, page: GuestPage)
         requires { self.old.at ≤ length self.old.found.items }
-        ensures { (self.new ≡ self.old) ⊎ ((self.old.from ≡ Some page) × (self.new ≡ record self.old { at = 0 })) }
+        ensures within { self.new.at ≤ length self.new.found.items }
+        ensures behind { (rows : List Row) → IsKnown rows self.old → AreRuns rows (Some page) (behind self.old) → AreRuns rows (Some page) (behind self.new) }
+        ensures known { (rows : List Row) → IsKnown rows self.old → IsKnown rows self.new }
     {
-        if self.at < self.found.len() {
-            return;
-        }
         let Some(from) = self.from else {
             return;
         };
-        if from == page {
-            self.at = 0;
+        if self.at < self.found.len() || from != page || !self.put_last() {
+            return;
         }
+        swap(&mut self.found, &mut self.passed);
+        self.passed.clear();
+        self.at = 0;
     }
 
-    // Forgets what is not true any more.
-    fn keep(&mut self, remains: Remains)
-        requires { self.old.at ≤ length self.old.found.items }
-        ensures { IsLeft remains self.old self.new }
+    // The last run is one of those that the pass has gone through. Says whether there was room for it, else the runs are not kept.
+    fn put_last(&mut self) -> bool
+        ensures rest { (self.new.run ≡ self.old.run) × ((self.new.found ≡ self.old.found) × (self.new.at ≡ self.old.at)) }
+        ensures from { self.new.from ≡ (if result then self.old.from else None) }
+        ensures last { self.new.last ≡ None }
+        ensures runs { (rest : List Run) → result ≡ true → passed_by self.new rest ≡ passed_by self.old rest }
     {
-        match remains {
-            Remains::Same | Remains::All => {}
-            Remains::Behind => self.from = None,
-            Remains::Nothing => {
-                self.found.clear();
-                self.at = 0;
-                self.from = None;
-            }
+        let Some(last) = self.last.take() else {
+            return true;
+        };
+        let has_room = self.passed.push(last).is_ok();
+        if !has_room {
+            self.from = None;
+        }
+        has_room
+    }
+
+    // The run that the pass goes on with, behind this page, is kept for the next pass.
+    fn put(&mut self, page: GuestPage, joined: bool, run: Run)
+        ensures rest { (self.new.found ≡ self.old.found) × (self.new.at ≡ self.old.at) }
+        ensures known { (rows : List Row) (rest : List Run) → (joined ≡ true → StaysNow page rows) → AreOfPass rows self.old (run ∷ rest) → AreOfPass rows self.new rest }
+    {
+        if joined
+            && let Some(last) = self.last
+            && let Some(next) = last.next
+            && next == page
+            && let Some(both) = together(last, run)
+        {
+            self.last = Some(both);
+            return;
+        }
+        if self.put_last() {
+            self.last = Some(run);
         }
     }
 }
@@ -313,10 +338,10 @@ impl State {
         };
         // Else a pass ended before the visit.
         let is_one_pass = self.cursor.is_some() == stood;
-        let remains = self.visit_row(table, row)?;
-        ahead.keep(remains);
-        self.end_visit(row.page, ahead, most - 1);
-        Ok(is_one_pass && matches!(remains, Remains::Same))
+        let visited = self.visit_row(table, row)?;
+        let joined = matches!(visited, Visited::Joined);
+        self.end_visit(row.page, joined, ahead, most - 1);
+        Ok(is_one_pass && matches!(visited, Visited::Same))
     }
 
     // The pass ends where it has gone through all pages. Says where it goes on, if it does.
@@ -374,33 +399,36 @@ impl State {
     }
 
     // What is done after a page was visited. The runs behind it were found before, as far as they are known.
-    fn end_visit(&mut self, page: GuestPage, ahead: &mut Ahead, most: u64)
+    fn end_visit(&mut self, page: GuestPage, joined: bool, ahead: &mut Ahead, most: u64)
         requires behind { AreRuns self.old.state.rows (Some page) (behind ahead.old) }
         requires again { IsKnown self.old.state.rows ahead.old }
+        requires joined { joined ≡ true → StaysNow page self.old.state.rows }
         ensures state { self.new.state ≡ visit_ended self.old.state page }
         ensures ahead { IsAhead self.new.state ahead.new }
         ensures idle { IsIdle (mapped self.old) (mapped self.new) }
     {
         self.cursor = Some(page);
-        let run = self.next_run(page, ahead, most);
+        let run = self.next_run(page, joined, ahead, most);
         let goes_on = run.visits > 0 || run.next.is_some();
         self.close_pass(goes_on);
         ahead.run = goes_on.then_some(run);
     }
 
     // The run in which the pass goes on: the first one behind the page visited last, that of an earlier pass if it is known, else found anew.
-    fn next_run(&self, page: GuestPage, ahead: &mut Ahead, most: u64) -> Run
+    fn next_run(&self, page: GuestPage, joined: bool, ahead: &mut Ahead, most: u64) -> Run
         requires page { self.now.state.cursor ≡ Some page }
         requires behind { AreRuns self.now.state.rows (Some page) (behind ahead.old) }
         requires again { IsKnown self.now.state.rows ahead.old }
+        requires joined { joined ≡ true → StaysNow page self.now.state.rows }
         ensures behind { AreRuns self.now.state.rows (Some page) (result ∷ behind ahead.new) }
         ensures again { IsKnown self.now.state.rows ahead.new }
     {
         ahead.begin_again(page);
-        match ahead.take() {
-            Some(run) => run,
-            None => self.gather(ahead, most),
-        }
+        let Some(run) = ahead.take() else {
+            return self.gather(ahead, most);
+        };
+        ahead.put(page, joined, run);
+        run
     }
 
     // The runs behind the page visited last, found anew, for `most` visits at most. Gives the first.
@@ -418,18 +446,21 @@ impl State {
             .ahead(self.cursor, most, &mut ahead.found);
         ahead.at = 0;
         ahead.from = self.cursor;
-        let _ = ahead.take();
+        ahead.passed.clear();
+        let first = ahead.take();
+        ahead.last = first;
         run
     }
 
-    // What becomes of the page that is visited. Says what remains true of the runs. Where memory is refused, nothing becomes of it.
-    fn visit_row(&mut self, table: &FrameTable, row: Row) -> Result<Remains, Fault>
+    // What becomes of the page that is visited. Where memory is refused, nothing becomes of it.
+    fn visit_row(&mut self, table: &FrameTable, row: Row) -> Result<Visited, Fault>
         requires own { self.old.keeper.table ≡ table.now }
         requires next { next_row self.old.state.cursor self.old.state.rows ≡ Some row }
         ensures own { self.new.keeper.table ≡ self.old.keeper.table }
         ensures ok { OnOk result (self.new.state ≡ row_visited self.old.state row) }
-        ensures remains { IfOk result (λ remains. Remain remains row.page self.old.state.rows self.new.state.rows) }
-        ensures same { IfOk result (λ remains. remains ≡ Remains.Same → IsQuiet self.old.state row) }
+        ensures joined { IfOk result (λ visited. visited ≡ Visited.Joined → StaysNow row.page self.new.state.rows) }
+        ensures settled { IfOk result (λ visited. visited ≡ Visited.Same → map settled self.new.state.rows ≡ map settled self.old.state.rows) }
+        ensures same { IfOk result (λ visited. visited ≡ Visited.Same → IsQuiet self.old.state row) }
         ensures err { OnErr result (self.new.state ≡ self.old.state) }
         ensures fault { OnErr result (result ≡ Err Memory) }
         ensures does { Does self.old.keeper self.new.keeper [] }
@@ -437,11 +468,11 @@ impl State {
         ensures idle { OnErr result (IsIdle (mapped self.old) (mapped self.new)) }
     {
         if is_shared(row.state) {
-            return Ok(Remains::Same);
+            return Ok(Visited::Same);
         }
         if let Some(number) = self.layout.best(&row) {
             self.layout.join(table, row, number)?;
-            return Ok(Remains::Behind);
+            return Ok(Visited::Joined);
         }
         if !row.unchanged {
             self.layout.amend(Row {
@@ -449,20 +480,21 @@ impl State {
                 state: PageState::Private,
                 ..row
             });
-            return Ok(Remains::All);
+            return Ok(Visited::Changed);
         }
         self.stay(table, row)
     }
 
-    // A page whose bytes stayed becomes Zero, or is merged with the one that waits for it, or waits. Says what remains true of the runs.
-    fn stay(&mut self, table: &FrameTable, row: Row) -> Result<Remains, Fault>
+    // A page whose bytes stayed becomes Zero, or is merged with the one that waits for it, or waits.
+    fn stay(&mut self, table: &FrameTable, row: Row) -> Result<Visited, Fault>
         requires own { self.old.keeper.table ≡ table.now }
         requires next { next_row self.old.state.cursor self.old.state.rows ≡ Some row }
         requires alone { shared_state row.state ≡ false }
         ensures own { self.new.keeper.table ≡ self.old.keeper.table }
         ensures ok { OnOk result (self.new.state ≡ stayed self.old.state row) }
-        ensures remains { IfOk result (λ remains. Remain remains row.page self.old.state.rows self.new.state.rows) }
-        ensures same { IfOk result (λ remains. remains ≡ Remains.Same → StaysAlone self.old.state row) }
+        ensures joined { IfOk result (λ visited. visited ≡ Visited.Joined → StaysNow row.page self.new.state.rows) }
+        ensures settled { IfOk result (λ visited. visited ≡ Visited.Same → map settled self.new.state.rows ≡ map settled self.old.state.rows) }
+        ensures same { IfOk result (λ visited. visited ≡ Visited.Same → StaysAlone self.old.state row) }
         ensures err { OnErr result (self.new.state ≡ self.old.state) }
         ensures fault { OnErr result (result ≡ Err Memory) }
         ensures does { Does self.old.keeper self.new.keeper [] }
@@ -471,20 +503,21 @@ impl State {
     {
         if is_for_zero(&self.layout.knobs(), &row) {
             self.layout.become_zero(table, row);
-            return Ok(Remains::Behind);
+            return Ok(Visited::Joined);
         }
         self.pair(table, row)
     }
 
-    // A page whose bytes stayed is merged with the one that waits for it, or waits. Says what remains true of the runs.
-    fn pair(&mut self, table: &FrameTable, row: Row) -> Result<Remains, Fault>
+    // A page whose bytes stayed is merged with the one that waits for it, or waits.
+    fn pair(&mut self, table: &FrameTable, row: Row) -> Result<Visited, Fault>
         requires own { self.old.keeper.table ≡ table.now }
         requires next { next_row self.old.state.cursor self.old.state.rows ≡ Some row }
         requires alone { shared_state row.state ≡ false }
         ensures own { self.new.keeper.table ≡ self.old.keeper.table }
         ensures ok { OnOk result (self.new.state ≡ paired (partner self.old.state.knobs self.old.state.rows row) self.old.state row) }
-        ensures remains { IfOk result (λ remains. Remain remains row.page self.old.state.rows self.new.state.rows) }
-        ensures same { IfOk result (λ remains. remains ≡ Remains.Same → partner self.old.state.knobs self.old.state.rows row ≡ None) }
+        ensures joined { IfOk result (λ visited. visited ≡ Visited.Joined → StaysNow row.page self.new.state.rows) }
+        ensures settled { IfOk result (λ visited. visited ≡ Visited.Same → map settled self.new.state.rows ≡ map settled self.old.state.rows) }
+        ensures same { IfOk result (λ visited. visited ≡ Visited.Same → partner self.old.state.knobs self.old.state.rows row ≡ None) }
         ensures err { OnErr result (self.new.state ≡ self.old.state) }
         ensures fault { OnErr result (result ≡ Err Memory) }
         ensures does { Does self.old.keeper self.new.keeper [] }
@@ -493,11 +526,11 @@ impl State {
     {
         let Some(other) = self.layout.partner(&row) else {
             self.layout.wait(row)?;
-            return Ok(Remains::Same);
+            return Ok(Visited::Same);
         };
         self.layout.lies_lawfully();
         let place = self.layout.new_place();
         self.layout.pair(table, place, other, row)?;
-        Ok(remains_after(other.page, row.page))
+        Ok(Visited::Joined)
     }
 }

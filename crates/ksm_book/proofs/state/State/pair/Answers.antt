@@ -12,14 +12,12 @@ use Rattle.ksm_layout.specs.Laid.{Lay, founded, state_of}
 use Rattle.ksm_layout.specs.Commands.{Performs, founding, listed_in, pairing}
 use Rattle.ksm_book.specs.Whole.{BookView, mapped}
 use Rattle.ksm_layout.proofs.Found.{change_known}
-use Rattle.ksm_book.specs.declared.scan.Remains.{Remains}
-use Rattle.ksm_book.specs.declared.scan.Remains.TheVariants.{Behind, Nothing}
-use Rattle.ksm_book.specs.Gathered.{Remain}
-use Rattle.ksm_book.proofs.Gathered.{kept_row, kept_other, settled_alone, told_alike}
+use Rattle.ksm_book.specs.Gathered.{StaysNow}
+use Rattle.ksm_book.proofs.Gathered.{settled_alone, stays_merged, told_alike}
 use Rattle.ksm_book.proofs.Standing.{partner_finds_place}
 use Rattle.ksm_book.proofs.Visiting.{visited_at, partner_founds, joins_new, both_joined, same_dup, apart}
 use Rattle.ksm_book.proofs.state.State.pair.Goals as goal
-use Rattle.ksm_book.proofs.state.State.pair.Goals.{In_ok-wait}
+use Rattle.ksm_book.proofs.state.State.pair.Goals.{In_ok-pair, In_ok-wait}
 
 pub wait-requires-clause-row_is : goal.wait-requires-clause-row_is
 wait-requires-clause-row_is c =
@@ -77,7 +75,7 @@ pair-requires-clause-apart c =
     (ap (λ (x : BookView). next_row x.state.cursor x.state.rows) c.self.view_is ∙ c.requires.next) c.requires.alone (sym c.in-Some.ensures)
 
 -- both rows are the items of a new dup
-merged : (c : goal.After-remains_after) → state_of c.pair.new.self c.self.inside.cursor c.self.inside.passes ≡ paired (partner c.self.inside.layout.knobs c.self.inside.layout.rows c.args.row) (state_of c.self.inside.layout c.self.inside.cursor c.self.inside.passes) c.args.row
+merged : (c : In_ok-pair) → state_of c.pair.new.self c.self.inside.cursor c.self.inside.passes ≡ paired (partner c.self.inside.layout.knobs c.self.inside.layout.rows c.args.row) (state_of c.self.inside.layout c.self.inside.cursor c.self.inside.passes) c.args.row
 merged c =
     let s = c.self.inside in
     let b = state_of s.layout s.cursor s.passes in
@@ -123,22 +121,15 @@ returns-clause-performs c =
     let paired_so = subst (λ (o : Option Row). Performs old new (pairing o b s.layout.frames row)) c.in-Some.ensures placed in
     subst (λ (x : BookView). Performs (mapped x) new (pairing (partner x.state.knobs x.state.rows row) x.state x.frames row)) c.self.view_is paired_so
 
-pub returns-clause-remains : goal.returns-clause-remains
-returns-clause-remains c =
-    let lay = c.self.inside.layout in
+pub returns-clause-joined : goal.returns-clause-joined
+returns-clause-joined c is =
     let row = c.args.row in
-    let other = c.in-Some.other in
-    let first = founded lay c.new_place-place.result other in
-    subst (λ (x : Remains × List Row). Remain x.0 row.page x.1 c.pair.new.self.rows) (λ t. (sym c.remains_after.ensures t, ap (λ (x : BookView). x.state.rows) c.self.view_is t))
-    (cond_both (comes_before other.page row.page) Behind Nothing (λ (x : Remains). Remain x row.page lay.rows c.pair.new.self.rows)
-    (λ earlier.
-    ap (λ (x : Lay). filter (λ r. comes_before row.page r.page) x.rows) c.in_ok-pair.ensures.state
-    ∙ kept_row row (record row { state = Merged lay.next }) first.rows refl
-    ∙ kept_other row.page other.page (record other { state = Merged lay.next }) lay.rows (not_both other.page row.page earlier) refl)
-    (λ later. tt))
+    let first = founded c.self.inside.layout c.new_place-place.result c.in-Some.other in
+    subst (λ (x : Lay). StaysNow row.page x.rows) (sym c.in_ok-pair.ensures.state)
+    (stays_merged row.page (λ _. record row { state = Merged c.self.inside.layout.next }) first.rows (λ r. refl))
 
-pub returns-in_default-clause-remains : goal.returns-in_default-clause-remains
-returns-in_default-clause-remains c =
+pub returns-in_default-clause-settled : goal.returns-in_default-clause-settled
+returns-in_default-clause-settled c is =
     let s = c.self.inside in
     let lay = s.layout in
     let row = c.args.row in

@@ -2,8 +2,8 @@ use Rattle.std.proofs.Common.{◌≡◌, ◌∙◌, List, refl, sym, ap, subst}
 use Rattle.std.specs.Prelude.{filter}
 use Rattle.ksm_base.specs.declared.row.Row.{Row}
 use Rattle.ksm_base.specs.Rows.{comes_before}
-use Rattle.ksm_pages.specs.Scanned.{AreKeptAfter}
-use Rattle.ksm_book.proofs.Gathered.{kept_row}
+use Rattle.ksm_book.specs.Gathered.{StaysNow}
+use Rattle.ksm_book.proofs.Gathered.{stays_merged}
 use Rattle.ksm_base.specs.declared.row.PageState.TheVariants.{Zero}
 use Rattle.ksm_base.specs.Sound.{IsSound}
 use Rattle.ksm_base.specs.State.{BookState}
@@ -53,9 +53,7 @@ returns-then-is_for_zero-clause-performs c =
     subst (λ (x : BookView). Performs (mapped x) (mapped new) (staying x.state x.frames row)) c.self.view_is
     (subst (Performs (mapped_lay s.layout) (mapped new)) (sym (emptying_by b s.layout.frames row is)) c.become_zero.ensures.performs)
 
-pub returns-then-is_for_zero-clause-remains : goal.returns-then-is_for_zero-clause-remains
-returns-then-is_for_zero-clause-remains c =
-    let lay = c.self.inside.layout in
+pub returns-then-is_for_zero-clause-joined : goal.returns-then-is_for_zero-clause-joined
+returns-then-is_for_zero-clause-joined c is =
     let row = c.args.row in
-    subst (λ (rows : List Row). AreKeptAfter row.page rows c.become_zero.new.self.rows) (ap (λ (x : BookView). x.state.rows) c.self.view_is)
-    (ap (λ (x : Lay). filter (λ r. comes_before row.page r.page) x.rows) c.become_zero.ensures.state ∙ kept_row row (record row { state = Zero }) lay.rows refl)
+    subst (λ (x : Lay). StaysNow row.page x.rows) (sym c.become_zero.ensures.state) (stays_merged row.page (λ _. record row { state = Zero }) c.self.inside.layout.rows (λ r. refl))

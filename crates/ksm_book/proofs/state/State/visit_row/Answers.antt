@@ -3,8 +3,8 @@ use Rattle.ksm_base.specs.declared.row.PageState.TheVariants.{Private, Merged}
 use Rattle.ksm_base.specs.declared.row.Row.{Row}
 use Rattle.std.specs.Prelude.{filter, map}
 use Rattle.ksm_base.specs.Rows.{change_row, comes_before}
-use Rattle.ksm_pages.specs.Scanned.{AreKeptAfter, mark}
-use Rattle.ksm_book.proofs.Gathered.{kept_row, told_alike}
+use Rattle.ksm_book.specs.Gathered.{StaysNow}
+use Rattle.ksm_book.proofs.Gathered.{stays_merged}
 use Rattle.ksm_base.specs.Sound.{IsSound}
 use Rattle.ksm_base.specs.State.{BookState}
 use Rattle.ksm_base.specs.Visit.{best_dup, next_row, row_visited}
@@ -93,21 +93,8 @@ returns-in-Some-clause-performs c =
     subst (λ (x : BookView). Performs (mapped x) (mapped new) (row_visiting x.state x.frames row)) c.self.view_is
     (subst (Performs (mapped_lay lay) (mapped new)) (sym deed) c.in_ok-join.ensures.performs)
 
-pub returns-in-Some-clause-remains : goal.returns-in-Some-clause-remains
-returns-in-Some-clause-remains c =
-    let lay = c.self.inside.layout in
+pub returns-in-Some-clause-joined : goal.returns-in-Some-clause-joined
+returns-in-Some-clause-joined c is =
     let row = c.args.row in
-    subst (λ (rows : List Row). AreKeptAfter row.page rows c.join.new.self.rows) (ap (λ (x : BookView). x.state.rows) c.self.view_is)
-    (ap (λ (x : Lay). filter (λ r. comes_before row.page r.page) x.rows) c.in_ok-join.ensures.state
-    ∙ kept_row row (record row { state = Merged c.in-Some.number }) lay.rows refl)
-
-pub returns-then-not-row-clause-remains : goal.returns-then-not-row-clause-remains
-returns-then-not-row-clause-remains c =
-    let s = c.self.inside in
-    let lay = s.layout in
-    let row = c.args.row in
-    let new : Row = record row { unchanged = true; state = Private } in
-    let found = visited_at (state_of lay s.cursor s.passes) row c.self.invariant (ap (λ (x : BookView). next_row x.state.cursor x.state.rows) c.self.view_is ∙ c.requires.next) in
-    subst (λ (rows : List Row). map mark c.amend.new.self.rows ≡ map mark rows) (ap (λ (x : BookView). x.state.rows) c.self.view_is)
-    (ap (λ (x : Lay). map mark x.rows) c.amend.ensures
-    ∙ told_alike mark row new lay.rows c.self.invariant.rows_rise found (ap (λ b. (row.page, (row.mergeable, b))) c.if-is_shared.ensures))
+    subst (λ (x : Lay). StaysNow row.page x.rows) (sym c.in_ok-join.ensures.state)
+    (stays_merged row.page (λ _. record row { state = Merged c.in-Some.number }) c.self.inside.layout.rows (λ r. refl))
