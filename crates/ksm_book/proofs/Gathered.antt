@@ -1,10 +1,9 @@
 -- What was found of the rows after the cursor stays true while the scan goes on.
-use Rattle.std.proofs.Common.{◌≡◌, ◌≤◌, ◌<◌, ◌+◌, ℕ, zero, suc, ◌-◌, ◌++◌, Bool, true, false, cond, List, [], ◌∷◌, get_or, Option, Some, None, refl, sym, ap, ◌∙◌, subst, arith}
-use Rattle.std.specs.Prelude.{◌&&◌, ◌||◌, All as Each, IfSome, MatchOption, find, map, option_map, slice_get, is_some, is_none, nat_lt, length}
+use Rattle.std.proofs.Common.{◌≡◌, ◌<◌, ◌+◌, ℕ, zero, suc, ◌-◌, ◌++◌, Bool, true, false, cond, List, [], ◌∷◌, get_or, Option, Some, None, refl, sym, ap, ◌∙◌, subst, arith}
+use Rattle.std.specs.Prelude.{◌&&◌, ◌||◌, All as Each, IfSome, MatchOption, map, slice_get, is_some, is_none, nat_lt, length}
 use Rattle.std.specs.Option.{option_to_list}
-use Rattle.std.proofs.lemmas.Bool.{and_parts, cond_both}
+use Rattle.std.proofs.lemmas.Bool.{cond_both}
 use Rattle.std.proofs.lemmas.Bool.Decides.{nat_tests}
-use Rattle.std.proofs.lemmas.List.{append_assoc, append-nil}
 use Rattle.std.proofs.lemmas.List.Elements.{All-head, All-tail, All-map}
 use Rattle.std.proofs.lemmas.Option.{same_Some}
 use Rattle.ksm_base.specs.declared.page.GuestPage.{GuestPage}
@@ -14,15 +13,15 @@ use Rattle.ksm_base.specs.declared.row.PageState.TheVariants.{Private, Waiting, 
 use Rattle.ksm_base.specs.declared.row.Row.{Row}
 use Rattle.ksm_base.specs.Rows.{InPageOrder, same_page, row_at, change_row, change_rows, settled, settled_state, shared_state}
 use Rattle.ksm_base.specs.Sound.{IsSound}
-use Rattle.ksm_base.specs.State.{BookState, pass_ended, place_count, with_none_waiting}
-use Rattle.ksm_base.specs.Visit.{after_cursor, best_dup, handled, is_for_zero, made_dup, new_place, next_row, paired, partner, pass_begun, pass_ended_at_last, row_visited, stayed, visit_begun}
-use Rattle.ksm_base.proofs.Edits.{find_all, find_passes}
+use Rattle.ksm_base.specs.State.{BookState, pass_ended, with_none_waiting}
+use Rattle.ksm_base.specs.Visit.{after_cursor, best_dup, handled, is_for_zero, next_row, paired, partner, pass_begun, pass_ended_at_last, row_visited, stayed, visit_begun}
+use Rattle.ksm_base.proofs.Edits.{find_all}
 use Rattle.ksm_base.proofs.Pages.{same_page_eq, same_page_refl}
 use Rattle.ksm_base.proofs.RowCounts.{each_at_page}
 use Rattle.ksm_pages.specs.declared.row.Run.{Run}
 use Rattle.ksm_pages.specs.Scanned.{AreAhead, AreRuns, GoesOnAt, IsLeft, IsRun, IsUnderWay, RunsOver, moved_to, page_of, cursor_after, stays}
 use Rattle.ksm_book.specs.declared.scan.Ahead.{Ahead}
-use Rattle.ksm_book.specs.Gathered.{AreOfPass, GoesOnAtPage, IsAhead, IsKnown, StaysNow, behind, passed_by}
+use Rattle.ksm_book.specs.Gathered.{GoesOnAtPage, IsAhead, IsKnown, StaysNow, behind, passed_by}
 use Rattle.ksm_book.proofs.Passing.{begins_none}
 use Rattle.ksm_book.proofs.Visiting.{visited_at}
 

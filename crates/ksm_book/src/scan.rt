@@ -447,6 +447,7 @@ impl State {
         ahead.at = 0;
         ahead.from = self.cursor;
         ahead.passed.clear();
+        let _ = ahead.passed.reserve(RUNS_AT_ONCE);
         let first = ahead.take();
         ahead.last = first;
         run

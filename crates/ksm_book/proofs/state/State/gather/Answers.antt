@@ -1,4 +1,4 @@
-use Rattle.std.proofs.Common.{◌≡◌, ◌∷◌, List, Option, Some, sym, ap, ◌∙◌, subst}
+use Rattle.std.proofs.Common.{◌∷◌, List, Option, Some, sym, ap, ◌∙◌, subst}
 use Rattle.std.specs.Prelude.{IfSome}
 use Rattle.ksm_base.specs.declared.page.GuestPage.{GuestPage}
 use Rattle.ksm_base.specs.declared.row.Row.{Row}
@@ -21,7 +21,7 @@ pub returns-clause-again : goal.returns-clause-again
 returns-clause-again c =
     let after = c.take-first.new.self in
     let found = c.ahead-run.new.found.items in
-    let all = first_put found (behind after) after.passed.items c.take-first.result c.take-first.ensures.taken (ap (λ (x : Ahead). x.passed.items) c.take-first.ensures.rest ∙ c.clear-2.ensures.items) in (
+    let all = first_put found (behind after) after.passed.items c.take-first.result c.take-first.ensures.taken (ap (λ (x : Ahead). x.passed.items) c.take-first.ensures.rest ∙ c.reserve-2.ensures.items ∙ c.clear-2.ensures.items) in (
       c.take-first.ensures.within,
       subst (λ (x : List Row × Option GuestPage × List Run). IfSome x.1 (λ page. AreRuns x.0 (Some page) x.2))
           (λ t. ((c.rows.ensures ∙ ap (λ (x : BookView). x.state.rows) c.self.view_is) t, sym (ap (λ (x : Ahead). x.from) c.take-first.ensures.rest) t, sym all t))

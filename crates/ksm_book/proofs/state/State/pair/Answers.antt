@@ -1,13 +1,11 @@
 use Rattle.std.proofs.Common.{◌≡◌, ◌∙◌, ℕ, List, Option, refl, sym, ap, subst}
-use Rattle.std.specs.Prelude.{filter, map}
-use Rattle.std.proofs.lemmas.Bool.{cond_both}
+use Rattle.std.specs.Prelude.{map}
 use Rattle.ksm_base.specs.declared.row.Row.{Row}
 use Rattle.ksm_base.specs.declared.row.PageState.TheVariants.{Waiting, Merged}
-use Rattle.ksm_base.specs.Rows.{comes_before, settled, with_dup}
+use Rattle.ksm_base.specs.Rows.{settled, with_dup}
 use Rattle.ksm_base.specs.Sound.{IsSound}
 use Rattle.ksm_base.specs.Visit.{next_row, partner, paired, made_dup}
 use Rattle.ksm_base.proofs.SoundScan.{next_row_visited, sound_paired}
-use Rattle.ksm_base.proofs.Pages.{not_both}
 use Rattle.ksm_layout.specs.Laid.{Lay, founded, state_of}
 use Rattle.ksm_layout.specs.Commands.{Performs, founding, listed_in, pairing}
 use Rattle.ksm_book.specs.Whole.{BookView, mapped}

@@ -1,7 +1,4 @@
-use Rattle.std.proofs.Common.{◌≡◌, ◌∙◌, List, refl, sym, ap, subst}
-use Rattle.std.specs.Prelude.{filter}
-use Rattle.ksm_base.specs.declared.row.Row.{Row}
-use Rattle.ksm_base.specs.Rows.{comes_before}
+use Rattle.std.proofs.Common.{◌≡◌, ◌∙◌, refl, sym, ap, subst}
 use Rattle.ksm_book.specs.Gathered.{StaysNow}
 use Rattle.ksm_book.proofs.Gathered.{stays_merged}
 use Rattle.ksm_base.specs.declared.row.PageState.TheVariants.{Zero}

@@ -4,7 +4,6 @@ use Rattle.std.specs.Prelude.{MatchOption, is_some}
 use Rattle.ksm_book.specs.Whole.{BookView}
 use Rattle.ksm_pages.specs.Scanned.{AreRuns, IsUnderWay}
 use Rattle.ksm_book.specs.Gathered.{behind}
-use Rattle.ksm_book.specs.declared.scan.Ahead.{Ahead}
 use Rattle.ksm_base.specs.State.{BookState}
 use Rattle.ksm_base.specs.Visit.{next_row, row_visited}
 use Rattle.ksm_layout.specs.Laid.{state_of}

@@ -1,8 +1,6 @@
-use Rattle.std.proofs.Common.{inr, ◌≡◌, ◌∙◌, true, List, Some, None, refl, sym, ap, subst}
+use Rattle.std.proofs.Common.{inr, ◌≡◌, ◌∙◌, true, Some, None, refl, sym, ap, subst}
 use Rattle.ksm_base.specs.declared.row.PageState.TheVariants.{Private, Merged}
-use Rattle.ksm_base.specs.declared.row.Row.{Row}
-use Rattle.std.specs.Prelude.{filter, map}
-use Rattle.ksm_base.specs.Rows.{change_row, comes_before}
+use Rattle.ksm_base.specs.Rows.{change_row}
 use Rattle.ksm_book.specs.Gathered.{StaysNow}
 use Rattle.ksm_book.proofs.Gathered.{stays_merged}
 use Rattle.ksm_base.specs.Sound.{IsSound}
