@@ -394,8 +394,7 @@ impl State {
         ensures row { result ≡ row_at page self.now.state.rows }
         ensures order { InPageOrder self.now.state.rows }
     {
-        let held = self.layout.find(page)?;
-        Some(held.row)
+        self.layout.rows().row(page)
     }
 
     // What is done after a page was visited. The runs behind it were found before, as far as they are known.

@@ -1,8 +1,8 @@
 -- What one visit of the scan leaves to the next, and a run of visits that change no row (own).
-use Rattle.std.specs.Prelude.{◌≡◌, ℕ, zero, suc, ◌<◌, ◌≤◌, ◌-◌, ⊤, Bool, true, false, List, [], ◌∷◌, filter, Option, Some, None, is_some, option_map, MatchOption}
+use Rattle.std.specs.Prelude.{◌≡◌, ℕ, zero, suc, ◌<◌, ◌≤◌, ◌-◌, ⊤, Bool, true, false, List, [], ◌∷◌, Option, Some, None, is_some, option_map, MatchOption}
 use Rattle.ksm_base.specs.declared.page.GuestPage.{GuestPage}
 use Rattle.ksm_base.specs.declared.row.Row.{Row}
-use Rattle.ksm_base.specs.Rows.{comes_before, shared_state}
+use Rattle.ksm_base.specs.Rows.{shared_state}
 use Rattle.ksm_base.specs.State.{BookState}
 use Rattle.ksm_base.specs.Visit.{next_row}
 use Rattle.ksm_pages.specs.declared.row.Run.{Run}
@@ -59,11 +59,3 @@ AreAhead n rows cursor (run ∷ runs) =
 abbrev pub AreRuns : List Row → Option GuestPage → List Run → Type 0
 AreRuns rows cursor [] = ⊤
 AreRuns rows cursor (run ∷ runs) = RunsOver rows cursor run × MatchOption run.next (runs ≡ []) (λ page. AreRuns rows (Some page) runs)
-
--- what the way of the scan depends on: each row's page, whether the scan visits it, and whether a visit leaves it as it is
-abbrev pub mark : Row → GuestPage × (Bool × Bool)
-mark r = (r.page, (r.mergeable, stays r))
-
--- the rows that come after a page are the same
-abbrev pub AreKeptAfter : GuestPage → List Row → List Row → Type 0
-AreKeptAfter page old new = filter (λ r. comes_before page r.page) new ≡ filter (λ r. comes_before page r.page) old
