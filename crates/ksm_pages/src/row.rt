@@ -3,7 +3,7 @@
 ghost use Rattle.std.specs.Prelude.{◌≡◌, ◌&&◌, bytes_eq, true, None, if◌then◌else◌};
 ghost use Rattle.ksm_base.specs.Answers.{every_row};
 ghost use Rattle.ksm_base.specs.Apply.{fresh_row as a_fresh_row, stored as with_bytes, moved as at_node, let_go as as_let_go, unshared as as_unshared};
-ghost use Rattle.ksm_base.specs.Rows.{same_page as is_same_page, private_state, waiting_state, merged_state, zero_state, shared_state, all_zero as has_only_zeroes};
+ghost use Rattle.ksm_base.specs.Rows.{same_page as is_same_page, waiting_state, merged_state, shared_state, all_zero as has_only_zeroes};
 ghost use Rattle.ksm_base.specs.State.{tree_of as row_tree};
 ghost use Rattle.ksm_base.specs.Visit.{is_for_zero as goes_to_zero};
 
@@ -53,12 +53,6 @@ pub(crate) fn same_bytes(a: PageBytes, b: PageBytes) -> bool
     a == b
 }
 
-pub(crate) fn is_private(state: PageState) -> bool
-    ensures { result ≡ private_state state }
-{
-    matches!(state, PageState::Private)
-}
-
 pub(crate) fn is_waiting(state: PageState) -> bool
     ensures { result ≡ waiting_state state }
 {
@@ -69,12 +63,6 @@ pub(crate) fn is_merged(state: PageState) -> bool
     ensures { result ≡ merged_state state }
 {
     matches!(state, PageState::Merged(_))
-}
-
-pub(crate) fn is_zero(state: PageState) -> bool
-    ensures { result ≡ zero_state state }
-{
-    matches!(state, PageState::Zero)
 }
 
 /// Whether a page in this state is mapped from a page that others may read too.

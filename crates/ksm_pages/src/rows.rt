@@ -1,7 +1,7 @@
 //! The rows in the order of their pages, each found by a hash: each page with what the book knows of it, and the frame
 //! that serves it, if one does.
 //!
-//! With n rows, `has`, `find`, `replace`, `revise` and `restate` cost a hash and a comparison in the mean. `insert` and
+//! With n rows, `has`, `row`, `find`, `replace`, `revise` and `restate` cost a hash and a comparison in the mean. `insert` and
 //! `remove` also search in the order, in a number of steps in the order of log n, and an `insert` that finds no room moves all rows. The
 //! hash has a fixed seed, so pages can be picked that collide: then a search takes a step for each.
 //! `has_guest` searches once in the order. `next` and `next_shared` do so too, and take one step for each row that they
@@ -15,7 +15,7 @@ ghost use Rattle.std.specs.Map.Iter.{deref_pair};
 ghost use Rattle.ksm_base.specs.declared.fault.Fault.TheVariants.{Memory};
 ghost use Rattle.ksm_base.specs.Refusals.{is_of as is_of_guest};
 ghost use Rattle.ksm_base.specs.Apply.{unshared as as_unshared};
-ghost use Rattle.ksm_base.specs.Rows.{row_at, with_row, without_page, change_row, change_rows, same_page, private_state, waiting_state, merged_state, zero_state, settled as as_settled};
+ghost use Rattle.ksm_base.specs.Rows.{InPageOrder, row_at, with_row, without_page, change_row, change_rows, same_page, private_state, waiting_state, merged_state, zero_state, settled as as_settled};
 ghost use Rattle.ksm_base.specs.Visit.{after_cursor as comes_after, next_row as row_to_visit};
 ghost use Rattle.ksm_pages.specs.Listed.{AreNamed, rank, StandsAt};
 ghost use Rattle.ksm_pages.specs.RowEntries.{row_of, start_after, BeginsAt};
@@ -156,6 +156,17 @@ impl Rows {
         ensures { result ≡ is_some (row_at page self.now.rows) }
     {
         self.entries.has(page)
+    }
+
+    /// The row of a page.
+    pub fn row(&self, page: GuestPage) -> Option<Row>
+        ensures row { result ≡ row_at page self.now.rows }
+        ensures order { InPageOrder self.now.rows }
+    {
+        match self.entries.get(page) {
+            None => None,
+            Some(entry) => Some(entry.row(page)),
+        }
     }
 
     /// The row of a page, with its frame.

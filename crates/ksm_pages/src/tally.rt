@@ -4,8 +4,7 @@ ghost use Rattle.std.specs.Prelude.{◌≡◌, ◌+◌, ◌≤◌};
 ghost use Rattle.ksm_base.specs.declared.row.Row.{Row};
 ghost use Rattle.ksm_pages.specs.Tallied.{Counts, IsMore, IsSmall};
 
-use crate::row::{is_merged, is_private, is_waiting, is_zero};
-use ksm_base::Row;
+use ksm_base::{PageState, Row};
 
 /// How many rows are mergeable, merged and waiting, how many mergeable ones are Private, how many of them
 /// wait, and how many rows are Zero.
@@ -35,15 +34,19 @@ impl Tally {
         requires { IsSmall self }
         ensures { IsMore row.now self result }
     {
-        let waits = is_waiting(row.state);
-        Tally {
-            mergeable: self.mergeable + usize::from(row.mergeable),
-            merged: self.merged + usize::from(is_merged(row.state)),
-            waiting: self.waiting + usize::from(waits),
-            volatile: self.volatile + usize::from(row.mergeable && is_private(row.state)),
-            pending: self.pending + usize::from(row.mergeable && waits),
-            zero: self.zero + usize::from(is_zero(row.state)),
+        let mergeable = usize::from(row.mergeable);
+        let mut more = self;
+        more.mergeable += mergeable;
+        match row.state {
+            PageState::Private => more.volatile += mergeable,
+            PageState::Waiting => {
+                more.waiting += 1;
+                more.pending += mergeable;
+            }
+            PageState::Merged(_) => more.merged += 1,
+            PageState::Zero => more.zero += 1,
         }
+        more
     }
 
     /// Without a row that it counts.
@@ -51,15 +54,19 @@ impl Tally {
         requires { Counts row.now self }
         ensures { IsMore row.now result self }
     {
-        let waits = is_waiting(row.state);
-        Tally {
-            mergeable: self.mergeable - usize::from(row.mergeable),
-            merged: self.merged - usize::from(is_merged(row.state)),
-            waiting: self.waiting - usize::from(waits),
-            volatile: self.volatile - usize::from(row.mergeable && is_private(row.state)),
-            pending: self.pending - usize::from(row.mergeable && waits),
-            zero: self.zero - usize::from(is_zero(row.state)),
+        let mergeable = usize::from(row.mergeable);
+        let mut less = self;
+        less.mergeable -= mergeable;
+        match row.state {
+            PageState::Private => less.volatile -= mergeable,
+            PageState::Waiting => {
+                less.waiting -= 1;
+                less.pending -= mergeable;
+            }
+            PageState::Merged(_) => less.merged -= 1,
+            PageState::Zero => less.zero -= 1,
         }
+        less
     }
 
     /// Once no row waits: those that did are Private.

@@ -1,0 +1,24 @@
+use Rattle.std.proofs.Common.{◌≡◌, sym, ◌∙◌, ap, subst, Some, None}
+use Rattle.std.specs.Prelude.{option_copied}
+use Rattle.std.specs.Map.{lookup}
+use Rattle.ksm_base.specs.Rows.{InPageOrder, row_at}
+use Rattle.ksm_pages.specs.Listed.{Listed}
+use Rattle.ksm_pages.proofs.GuestWalks.{in_order}
+use Rattle.ksm_pages.proofs.RowLists.{asks, none_by, stands_at}
+use Rattle.ksm_pages.proofs.rows.Rows.row.Goals as goal
+
+pub returns-in-None-clause-row : goal.returns-in-None-clause-row
+returns-in-None-clause-row c =
+    let none : lookup (asks c.args.page) c.self.inside.entries ≡ None = sym c.get.ensures.value ∙ ap option_copied c.in-None.is in
+    sym (ap (λ (l : Listed). row_at c.args.page l.rows) (sym c.self.view_is) ∙ none_by c.args.page c.self.inside.entries none)
+
+pub returns-in-None-clause-order : goal.returns-in-None-clause-order
+returns-in-None-clause-order c = subst (λ (l : Listed). InPageOrder l.rows) c.self.view_is (in_order c.self.inside.entries c.get.ensures.ordered)
+
+pub returns-in-Some-clause-row : goal.returns-in-Some-clause-row
+returns-in-Some-clause-row c =
+    let found : lookup (asks c.args.page) c.self.inside.entries ≡ Some c.in-Some.entry.now = sym c.get.ensures.value ∙ ap option_copied c.in-Some.is in
+    ap Some c.row.ensures ∙ sym (ap (λ (l : Listed). row_at c.args.page l.rows) (sym c.self.view_is) ∙ (stands_at c.args.page c.in-Some.entry.now c.self.inside.entries c.get.ensures.ordered found).found)
+
+pub returns-in-Some-clause-order : goal.returns-in-Some-clause-order
+returns-in-Some-clause-order c = subst (λ (l : Listed). InPageOrder l.rows) c.self.view_is (in_order c.self.inside.entries c.get.ensures.ordered)
