@@ -1,7 +1,9 @@
-ghost use Rattle.std.specs.Prelude.{◌≡◌, ℕ, ◌<◌};
+ghost use Rattle.std.specs.Prelude.{◌≡◌, ℕ, ◌+◌, ◌<◌};
+ghost use Rattle.ksm_base.specs.declared.page.TheConstants.{PAGE_WORDS as words_of_page};
 ghost use Rattle.ksm_base.specs.Values.{frames_of};
 ghost use Rattle.frame_core.specs.declared.seat.Aim.{Aim};
 ghost use Rattle.frame_core.specs.declared.seat.Phase.TheVariants.{Placed};
+ghost use Rattle.frame_core.specs.Words.{frame_word_at};
 ghost use Rattle.frame_table.specs.Views.{IsIn};
 ghost use Rattle.frame_table.specs.Rounds.{GoesRound};
 ghost use Rattle.frame_table.specs.Lookup.{LooksUp};
@@ -75,22 +77,28 @@ enum Round {
     Won(u64),
 }
 
-fn try_round(table: &FrameTable, seat: &mut Seat<(), View>, life: Life) -> Round
+fn try_round(
+    table: &FrameTable,
+    seat: &mut Seat<(), View>,
+    life: Life,
+    word: usize,
+) -> Round
     requires own { seat.old.table_id ≡ table.now.id }
-    requires inside { life.frame < frames_of table.now.shape }
+    requires inside { word + words_of_page < table.now.id.words }
+    requires at { word ≡ frame_word_at (frames_of table.now.shape) life.frame }
     requires phase { (aim : Aim) × (failures : ℕ) × (aim.life ≡ life) × IsIn table.now.shape (Placed aim failures) seat.old.me }
     ensures seat { (seat.new.table_id ≡ seat.old.table_id) × (seat.new.id ≡ seat.old.id) }
     ensures round { GoesRound seat.old.me.0 result seat.new.me }
 {
-    let loaded = table.load_frame(seat, life.frame);
-    let word = FrameWord::unpack(loaded);
-    if word.count == 0 {
+    let loaded = table.load_frame(seat, word);
+    let said = FrameWord::unpack(loaded);
+    if said.count == 0 {
         return Round::Zero(loaded);
     }
-    if word.generation != life.generation {
+    if said.generation != life.generation {
         return Round::Old(loaded);
     }
-    let found = table.exchange(seat, life.frame, loaded);
+    let found = table.exchange(seat, word, loaded);
     if found == loaded {
         Round::Won(loaded)
     } else {
@@ -106,12 +114,13 @@ impl Pass {
         ensures { LooksUp self place result }
     {
         let Pass { mut seat } = self;
-        let word = table.load_place(&mut seat, place);
-        let Some(life) = Life::of_word(word) else {
+        let named = table.load_place(&mut seat, place);
+        let Some(life) = Life::of_word(named) else {
             return Found::Gone(Pass { seat }, Why::Vacant);
         };
+        let word = table.frame_word(life.frame);
         'rounds: for i in 0..table.tries() {
-            match try_round(table, &mut seat, life) {
+            match try_round(table, &mut seat, life, word) {
                 Round::Zero(_) => return Found::Gone(Pass { seat }, Why::Zero),
                 Round::Old(_) => return Found::Gone(Pass { seat }, Why::Generation),
                 Round::Lost(_, _) => {}
@@ -120,6 +129,7 @@ impl Pass {
                         seat,
                         place,
                         frame: life.frame,
+                        word,
                         generation: life.generation,
                     });
                 }

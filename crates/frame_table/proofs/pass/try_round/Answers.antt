@@ -1,5 +1,7 @@
 use Rattle.std.proofs.Common.{ap, sym, ◌∙◌}
+use Rattle.ksm_base.specs.Values.{frames_of}
 use Rattle.frame_core.specs.State.{count_in}
+use Rattle.frame_core.specs.Words.{frame_word_at}
 use Rattle.frame_table.proofs.Looks.{counted}
 use Rattle.frame_table.proofs.pass.try_round.Goals as goal
 
@@ -8,8 +10,8 @@ exchange-found-requires-clause-phase c =
     let at = c.requires.phase in
     let n = c.load_frame-loaded.result in
     let r = counted c.args.table.now.shape at.0 at.1 n c.args.seat.now.me c.load_frame-loaded.new.seat.me at.3 c.load_frame-loaded.ensures.step.0 (
-      (λ e. c.if-word-eq0.false (c.unpack-word.ensures.count ∙ e)),
-      sym c.unpack-word.ensures.life
-          ∙ (c.if-word-life.false ∙ sym (ap (λ l. l.generation) at.2)),
+      (λ e. c.if-said-eq0.false (c.unpack-said.ensures.count ∙ e)),
+      sym c.unpack-said.ensures.life
+          ∙ (c.if-said-life.false ∙ sym (ap (λ l. l.generation) at.2)),
     ) in
-    (at.0, at.1, count_in n, ap (λ l. l.frame) at.2, r.0, r.1)
+    (at.0, at.1, count_in n, ap (λ l. frame_word_at (frames_of c.args.table.now.shape) l.frame) at.2 ∙ sym c.requires.at, r.0, r.1)
