@@ -129,15 +129,15 @@ impl State {
         requires own { self.old.keeper.table ≡ table.now }
         ensures { CarriedOut self.old self.new (Command.Store page bytes) result }
     {
-        let Some(held) = self.layout.find(page) else {
+        let Some(row) = self.layout.rows().row(page) else {
             return Err(Fault::UnknownPage);
         };
-        if !is_shared(held.row.state) {
-            self.layout.rewrite(table, held, stored(held.row, bytes));
+        if !is_shared(row.state) {
+            self.layout.rewrite(table, stored(row, bytes));
             return Ok(Reply::Done);
         }
-        if !self.layout.resettle(table, stored(held.row, bytes)) {
-            return Err(Fault::NoFrame(held.row.home));
+        if !self.layout.resettle(table, stored(row, bytes)) {
+            return Err(Fault::NoFrame(row.home));
         }
         Ok(Reply::Done)
     }

@@ -194,7 +194,7 @@ module _ (sh : Shape) (v : Listed) (dups : List DupRow) (knobs : Knobs) (next : 
     }
 
     -- the row is written in place
-    pub laid_written : (v' : Listed) (w : KeeperView) (g : ℕ) → f ≡ Some g → w.table ≡ k.table → Wrote k w g r.bytes → length r.bytes ≡ PAGE_WORDS → IsOnItsOwn r page_row → r.state ≡ OwnPage → v'.rows ≡ set v.rows i r → v'.frames ≡ set v.frames i f → IsLaid sh v' dups knobs next w
+    pub laid_written : (v' : Listed) (w : KeeperView) (g : ℕ) → f ≡ Some g → w.table ≡ k.table → Wrote k w g r.bytes → length r.bytes ≡ PAGE_WORDS → IsOnItsOwn r page_row → r.state ≡ OwnPage → v'.rows ≡ set v.rows i r → v'.frames ≡ v.frames → IsLaid sh v' dups knobs next w
     laid_written v' w g some e wrote wide own is rows frames =
         let fits : Serves sh k.ledger dups page_row g = subst (IsServed sh k.ledger dups page_row) some found_fits in
         let kind : (frame_at k.ledger g).kind ≡ Private = fits.0.kind ∙ own_kind page_row.state own.0 in
@@ -207,7 +207,7 @@ module _ (sh : Shape) (v : Listed) (dups : List DupRow) (knobs : Knobs) (next : 
         record {
           small = h.small;
           same = shape_same sh k w h.same e;
-          placed = subst (λ (z : Ledger × List Row × List (Option ℕ)). Placed sh across z.0 z.1 z.2 dups None) (λ t. (sym wrote.ledger t, sym rows t, sym (frames ∙ ap (set v.frames i) (sym at.frame_is) ∙ set-get_or v.frames i None) t)) p;
+          placed = subst (λ (z : Ledger × List Row × List (Option ℕ)). Placed sh across z.0 z.1 z.2 dups None) (λ t. (sym wrote.ledger t, sym rows t, sym frames t)) p;
           spent = (let s = h.spent in omega (arith, s, more, end));
         }
 

@@ -245,18 +245,19 @@ impl Layout {
         true
     }
 
-    /// Stores the bytes of a row to the frame that its page has of its own, which was found.
-    pub fn rewrite(&mut self, table: &FrameTable, held: Held, row: Row)
+    /// Stores the bytes of a row to the frame that its page has of its own.
+    pub fn rewrite(&mut self, table: &FrameTable, row: Row)
         requires own { self.old.keeper.table ≡ table.now }
-        requires found { StandsAt (mapped_lay self.old).listed row.page held.row held.frame }
-        requires lone { IsOnItsOwn row held.row }
+        requires known { Knows self.old.rows row (IsOnItsOwn row) }
         requires alone { row.state ≡ Private }
         ensures own { self.new.keeper.table ≡ self.old.keeper.table }
         ensures state { self.new ≡ record self.old { rows = change_row row.page (λ _. row) self.old.rows; keeper = self.new.keeper } }
         ensures does { Does self.old.keeper self.new.keeper [] }
         ensures performs { Performs (mapped_lay self.old) (mapped_lay self.new) (rewriting (mapped_lay self.old).listed row) }
     {
-        self.pages.replace(row, held.frame);
+        let Some(held) = self.pages.revise(row) else {
+            return;
+        };
         let frame = known_frame(held.frame);
         write(&mut self.keeper, table, frame, row.bytes);
     }
