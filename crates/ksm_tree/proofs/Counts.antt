@@ -66,7 +66,7 @@ module _ (slots : List (Option Dup)) (empty stale : SmallVec ℕ) (h : AreSlots 
   pub stale_counted : length stale.items ≡ count_by is_stale (present slots)
   stale_counted = ap length h.stales ∙ where_count is_stale_slot 0 slots ∙ stale_slots slots
 
-  -- an order of the slots does not change how many are empty
+  -- counted from the highest place down, as many are empty
   empty_counted : length empty.items ≡ count_by is_empty_slot slots
   empty_counted =
       ap length h.empties
