@@ -1,9 +1,10 @@
 -- Counts over the slots: empty ones, stale dups and dups with items.
-use Rattle.std.proofs.Common.{◌≡◌, ◌∙◌, ℕ, suc, ◌+◌, Bool, List, [], ◌∷◌, length, Option, None, Some, refl, ap, inl, inr, arith}
+use Rattle.std.proofs.Common.{◌≡◌, ◌∙◌, ℕ, suc, ◌+◌, Bool, cond, List, [], ◌∷◌, reverse, length, Option, None, Some, refl, ap, inl, inr, arith}
 use Rattle.std.specs.Prelude.{All, count_by}
 use Rattle.std.proofs.lemmas.Bool.{cases_Bool}
 use Rattle.std.proofs.lemmas.Bool.Decides.{nat_tests}
 use Rattle.std.proofs.lemmas.List.Elements.{All-head, All-tail}
+use Rattle.std.proofs.lemmas.List.Sorted.{IsPermutation-reverse, sum_by-IsPermutation}
 use Rattle.ksm_base.proofs.Edits.{count_more}
 use Rattle.smallvec.specs.SmallVec.{SmallVec}
 use Rattle.ksm_tree.specs.declared.dup.Dup.{Dup}
@@ -65,9 +66,16 @@ module _ (slots : List (Option Dup)) (empty stale : SmallVec ℕ) (h : AreSlots 
   pub stale_counted : length stale.items ≡ count_by is_stale (present slots)
   stale_counted = ap length h.stales ∙ where_count is_stale_slot 0 slots ∙ stale_slots slots
 
+  -- counted from the highest place down, as many are empty
+  empty_counted : length empty.items ≡ count_by is_empty_slot slots
+  empty_counted =
+      ap length h.empties
+      ∙ where_count is_empty_slot 0 (reverse slots)
+      ∙ sum_by-IsPermutation (λ s. cond (is_empty_slot s) 1 0) slots (reverse slots) (IsPermutation-reverse slots)
+
   pub live_counted : length empty.items + length stale.items + count_by is_live (present slots) ≡ length slots
   live_counted =
       let kinds = three_kinds slots in
-      let empties = ap length h.empties ∙ where_count is_empty_slot 0 slots in
+      let empties = empty_counted in
       let stales = ap length h.stales ∙ where_count is_stale_slot 0 slots in
       omega (arith, kinds, empties, stales)

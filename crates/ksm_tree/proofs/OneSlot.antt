@@ -1,10 +1,11 @@
 -- What a change of one slot does to the dups and to the places whose slots pass a test.
-use Rattle.std.proofs.Common.{◌≡◌, ◌∙◌, ℕ, zero, suc, ◌+◌, ◌<◌, ◌≤◌, Bool, true, false, List, [], ◌∷◌, length, length-set, length-append, get_or, set, Option, None, Some, refl, sym, ap, arith}
+use Rattle.std.proofs.Common.{◌≡◌, ◌∙◌, ℕ, zero, suc, ◌+◌, ◌-◌, ◌<◌, ◌≤◌, Bool, true, false, List, [], ◌∷◌, ◌++◌, reverse, length, length-set, length-append, get_or, set, Option, None, Some, refl, sym, ap, inl, inr, arith}
 use Rattle.std.specs.Prelude.{◌==◌, not, nat_lt, All, filter, find, option_map, is_some, slice_get, if◌then◌else◌}
 use Rattle.std.proofs.lemmas.Bool.Decides.{nat_tests}
-use Rattle.std.proofs.lemmas.Bool.{false≢true}
-use Rattle.std.proofs.lemmas.List.{get_or_default}
-use Rattle.std.proofs.lemmas.Option.{none-some, same_Some}
+use Rattle.std.proofs.lemmas.Bool.{cases_Bool, false≢true}
+use Rattle.std.proofs.lemmas.List.{append-nil, get_or-reverse, get_or_default, get_or_push, length-reverse, set-append_left, set-append_right}
+use Rattle.std.proofs.lemmas.Option.{none-some, same_Some, slice_get-get_or}
+use mathlib.Core.List.{reverse-cons}
 use Rattle.std.proofs.lemmas.List.Elements.{All-cons, All-weaker}
 use Rattle.ksm_base.specs.declared.page.GuestPage.{GuestPage}
 use Rattle.ksm_base.specs.Rows.{comes_before, same_page}
@@ -199,6 +200,120 @@ module _ (test : Option Dup → Bool) where
   where_room k zero (s ∷ slots) within fails = let short = where_short (suc k) slots in grind (arith, fails, short)
   where_room k (suc i) (s ∷ slots) within fails = let so_far = where_room (suc k) i slots (omega arith) fails in grind (arith, so_far)
 
+-- the last number of a list
+abbrev last_of : List ℕ → Option ℕ
+last_of xs = slice_get xs (length xs - 1)
+
+last_pushed : (xs : List ℕ) (x : ℕ) → last_of (xs ++ x ∷ []) ≡ Some x
+last_pushed xs x =
+    let n = length-append xs (x ∷ []) in
+    let at : length (xs ++ x ∷ []) - 1 ≡ length xs = omega (arith, n) in
+    ap (slice_get (xs ++ x ∷ [])) at
+    ∙ slice_get-get_or (xs ++ x ∷ []) (length xs) x (omega (arith, n))
+    ∙ ap Some (get_or_push xs x x (length xs) refl)
+
+-- in the mirrored list the element i stands at distance m from the highest
+reverse_set : {X : Type 0} (xs : List X) (i m : ℕ) (x : X) → m + i + 1 ≡ length xs → reverse (set xs i x) ≡ set (reverse xs) m x
+reverse_set [] i m x is = absurd (omega (arith, is))
+reverse_set (y ∷ xs) zero m x is =
+    let n = length-reverse xs in
+    let at : m - length xs ≡ 0 = omega (arith, is) in
+    reverse-cons x xs
+    ∙ ap (λ j. reverse xs ++ set (y ∷ []) j x) (sym at)
+    ∙ sym (set-append_right (reverse xs) (y ∷ []) (length xs) m x n (omega (arith, is)))
+    ∙ ap (λ ys. set ys m x) (sym (reverse-cons y xs))
+reverse_set (y ∷ xs) (suc i) m x is =
+    let n = length-reverse xs in
+    reverse-cons y (set xs i x)
+    ∙ ap (λ ys. ys ++ y ∷ []) (reverse_set xs i m x (omega (arith, is)))
+    ∙ sym (set-append_left (reverse xs) (y ∷ []) m x (omega (arith, is, n)))
+    ∙ ap (λ ys. set ys m x) (sym (reverse-cons y xs))
+
+get_mirrored : {X : Type 0} (xs : List X) (i m : ℕ) (d : X) → m + i + 1 ≡ length xs → get_or (reverse xs) m d ≡ get_or xs i d
+get_mirrored xs i m d is =
+    let at : length xs - 1 - m ≡ i = omega (arith, is) in
+    get_or-reverse xs m d (omega (arith, is)) ∙ ap (λ j. get_or xs j d) at
+
+module _ (test : Option Dup → Bool) where
+  where_append : (k : ℕ) (xs ys : List (Option Dup)) → places_where test k (xs ++ ys) ≡ places_where test k xs ++ places_where test (k + length xs) ys
+  where_append k [] ys = ap (λ j. places_where test j ys) (omega arith)
+  where_append k (x ∷ xs) ys =
+      let rest = where_append (suc k) xs ys in
+      let at : suc k + length xs ≡ k + length (x ∷ xs) = omega arith in
+      let tail : places_where test (suc k) (xs ++ ys) ≡ places_where test (suc k) xs ++ places_where test (k + length (x ∷ xs)) ys = rw (← at) rest in
+      elim (test x) as (λ b. (if b then k ∷ places_where test (suc k) (xs ++ ys) else places_where test (suc k) (xs ++ ys)) ≡ (if b then k ∷ places_where test (suc k) xs else places_where test (suc k) xs) ++ places_where test (k + length (x ∷ xs)) ys) [
+        | true ↦ ap (λ ps. k ∷ ps) tail
+        | false ↦ tail
+      ]
+
+  -- the places that pass, each by its distance from the highest one
+  abbrev pub mirrored_where : List (Option Dup) → List ℕ
+  mirrored_where slots = places_where test 0 (reverse slots)
+
+  -- a slot in front of the others is the farthest from the highest
+  mirrored_more : (s : Option Dup) (slots : List (Option Dup)) → mirrored_where (s ∷ slots) ≡ mirrored_where slots ++ (if test s then length slots ∷ [] else [])
+  mirrored_more s slots =
+      let at : 0 + length (reverse slots) ≡ length slots = omega (arith, length-reverse slots) in
+      ap (places_where test 0) (reverse-cons s slots)
+      ∙ where_append 0 (reverse slots) (s ∷ [])
+      ∙ ap (λ n. mirrored_where slots ++ (if test s then n ∷ [] else [])) at
+
+  mirrored_passes : (s : Option Dup) (slots : List (Option Dup)) → test s ≡ true → last_of (mirrored_where (s ∷ slots)) ≡ Some (length slots)
+  mirrored_passes s slots passes =
+      ap last_of (mirrored_more s slots ∙ ap (λ b. mirrored_where slots ++ (if b then length slots ∷ [] else [])) passes)
+      ∙ last_pushed (mirrored_where slots) (length slots)
+
+  mirrored_fails : (s : Option Dup) (slots : List (Option Dup)) → test s ≡ false → last_of (mirrored_where (s ∷ slots)) ≡ last_of (mirrored_where slots)
+  mirrored_fails s slots fails =
+      ap last_of (mirrored_more s slots ∙ ap (λ b. mirrored_where slots ++ (if b then length slots ∷ [] else [])) fails ∙ append-nil (mirrored_where slots))
+
+  pub mirrored_within : (m : ℕ) (slots : List (Option Dup)) → last_of (mirrored_where slots) ≡ Some m → m < length slots
+  mirrored_within m [] is = absurd (none-some m is)
+  mirrored_within m (s ∷ slots) is = elim (cases_Bool (test s)) [
+    | inl passes ↦ let same = same_Some (length slots) m (sym (mirrored_passes s slots passes) ∙ is) in omega (arith, same)
+    | inr fails ↦ let rest = mirrored_within m slots (sym (mirrored_fails s slots fails) ∙ is) in omega (arith, rest)
+  ]
+
+  -- the last of the distances is that of the first place
+  pub mirrored_first : (k p m : ℕ) (slots : List (Option Dup)) → p + m + 1 ≡ k + length slots → last_of (mirrored_where slots) ≡ Some m → slice_get (places_where test k slots) 0 ≡ Some p
+  mirrored_first k p m [] at is = absurd (none-some m is)
+  mirrored_first k p m (s ∷ slots) at is = elim (cases_Bool (test s)) [
+    | inl passes ↦
+        let same = same_Some (length slots) m (sym (mirrored_passes s slots passes) ∙ is) in
+        let here : k ≡ p = omega (arith, at, same) in
+        rw passes (ap Some here)
+    | inr fails ↦ rw fails (mirrored_first (suc k) p m slots (omega (arith, at)) (sym (mirrored_fails s slots fails) ∙ is))
+  ]
+
+  pub mirrored_none : (k : ℕ) (slots : List (Option Dup)) → last_of (mirrored_where slots) ≡ None → slice_get (places_where test k slots) 0 ≡ None
+  mirrored_none k [] none = refl
+  mirrored_none k (s ∷ slots) none = elim (cases_Bool (test s)) [
+    | inl passes ↦ absurd (none-some (length slots) (sym none ∙ mirrored_passes s slots passes))
+    | inr fails ↦ rw fails (mirrored_none (suc k) slots (sym (mirrored_fails s slots fails) ∙ none))
+  ]
+
+  -- what a change of the slot i does at its distance m from the highest
+  pub mirrored_with : (i m : ℕ) (slots : List (Option Dup)) (s : Option Dup) → m + i + 1 ≡ length slots → test s ≡ true → mirrored_where (set slots i s) ≡ with_place m (mirrored_where slots)
+  mirrored_with i m slots s is passes =
+      ap (places_where test 0) (reverse_set slots i m s is)
+      ∙ where_with test 0 m m (reverse slots) s (omega arith) (omega (arith, is, length-reverse slots)) passes
+
+  pub mirrored_without : (i m : ℕ) (slots : List (Option Dup)) (s : Option Dup) → m + i + 1 ≡ length slots → test s ≡ false → mirrored_where (set slots i s) ≡ without m (mirrored_where slots)
+  mirrored_without i m slots s is fails =
+      ap (places_where test 0) (reverse_set slots i m s is)
+      ∙ where_without test 0 m m (reverse slots) s (omega arith) (omega (arith, is, length-reverse slots)) fails
+
+  mirrored_same : (i m : ℕ) (slots : List (Option Dup)) (s : Option Dup) → m + i + 1 ≡ length slots → test s ≡ test (get_or slots i None) → mirrored_where (set slots i s) ≡ mirrored_where slots
+  mirrored_same i m slots s is same =
+      ap (places_where test 0) (reverse_set slots i m s is)
+      ∙ where_same test 0 m (reverse slots) s (same ∙ ap test (sym (get_mirrored slots i m None is)))
+
+  pub mirrored_room : (i m : ℕ) (slots : List (Option Dup)) → m + i + 1 ≡ length slots → test (get_or slots i None) ≡ false → length (mirrored_where slots) + 1 ≤ length slots
+  mirrored_room i m slots is fails =
+      let n = length-reverse slots in
+      let room = where_room test 0 m (reverse slots) (omega (arith, is, n)) (ap test (get_mirrored slots i m None is) ∙ fails) in
+      omega (arith, room, n)
+
 -- the first stale place is that of the first stale dup
 pub stale_first : (k : ℕ) (slots : List (Option Dup)) → ArePlaced k slots → slice_get (places_where is_stale_slot k slots) 0 ≡ option_map (λ d. d.row.place) (find is_stale (present slots))
 stale_first k [] placed = refl
@@ -227,23 +342,36 @@ empty_first_from k (Some d ∷ slots) placed =
     let rest = empty_first_from (suc k) slots placed.1 in
     grind (arith, nat_tests, h, rest)
 
-pub empty_first : (slots : List (Option Dup)) → ArePlaced 0 slots → slice_get (places_where is_empty_slot 0 slots) 0 ≡ empty_place (length slots) (rows_of (present slots))
+empty_first : (slots : List (Option Dup)) → ArePlaced 0 slots → slice_get (places_where is_empty_slot 0 slots) 0 ≡ empty_place (length slots) (rows_of (present slots))
 empty_first slots placed =
     let first = empty_from 0 (rows_of (present slots)) in
     let all : 0 + length slots ≡ length slots = omega arith in
     empty_first_from 0 slots placed ∙ ap (λ n. if nat_lt first n then Some first else None) all
 
+-- the last of the distances is that of the least place that no dup has
+module _ (slots : List (Option Dup)) (empty stale : SmallVec ℕ) (h : AreSlots slots empty stale) where
+  pub empty_within : (m : ℕ) → last_of empty.items ≡ Some m → m < length slots
+  empty_within m is = mirrored_within is_empty_slot m slots (ap last_of (sym h.empties) ∙ is)
+
+  pub empty_found : (p m : ℕ) → p + m + 1 ≡ length slots → last_of empty.items ≡ Some m → Some p ≡ empty_place (length slots) (rows_of (present slots))
+  empty_found p m at is =
+      sym (mirrored_first is_empty_slot 0 p m slots (omega (arith, at)) (ap last_of (sym h.empties) ∙ is)) ∙ empty_first slots h.placed
+
+  pub empty_none : last_of empty.items ≡ None → None ≡ empty_place (length slots) (rows_of (present slots))
+  empty_none none = sym (mirrored_none is_empty_slot 0 slots (ap last_of (sym h.empties) ∙ none)) ∙ empty_first slots h.placed
+
 not_stale : (d : Dup) → is_live d ≡ true → is_stale d ≡ false
 not_stale d live = grind (arith, nat_tests, live)
 
 -- a dup with items put into its slot
-pub slots_put : (slots : List (Option Dup)) (empty stale empty' stale' : SmallVec ℕ) (dup : Dup) → dup.row.place < length slots → is_live dup ≡ true → AreSlots slots empty stale → empty'.items ≡ without dup.row.place empty.items → empty'.capacity ≡ empty.capacity → stale'.items ≡ without dup.row.place stale.items → stale'.capacity ≡ stale.capacity → AreSlots (set slots dup.row.place (Some dup)) empty' stale'
-slots_put slots empty stale empty' stale' dup within live h left room left_stale room_stale =
+pub slots_put : (slots : List (Option Dup)) (empty stale empty' stale' : SmallVec ℕ) (dup : Dup) (m : ℕ) → m + dup.row.place + 1 ≡ length slots → is_live dup ≡ true → AreSlots slots empty stale → empty'.items ≡ without m empty.items → empty'.capacity ≡ empty.capacity → stale'.items ≡ without dup.row.place stale.items → stale'.capacity ≡ stale.capacity → AreSlots (set slots dup.row.place (Some dup)) empty' stale'
+slots_put slots empty stale empty' stale' dup m at live h left room left_stale room_stale =
     let p = dup.row.place in
+    let within : p < length slots = omega (arith, at) in
     record {
       few = rw length-set h.few;
       placed = placed_put 0 p p slots dup (omega arith) refl h.placed;
-      empties = left ∙ ap (without p) h.empties ∙ sym (where_without is_empty_slot 0 p p slots (Some dup) (omega arith) within refl);
+      empties = left ∙ ap (without m) h.empties ∙ sym (mirrored_without is_empty_slot p m slots (Some dup) at refl);
       stales = left_stale ∙ ap (without p) h.stales ∙ sym (where_without is_stale_slot 0 p p slots (Some dup) (omega arith) within (not_stale dup live));
       empty_room = rw (length-set, room) h.empty_room;
       stale_room = rw (length-set, room_stale) h.stale_room;
@@ -265,12 +393,13 @@ read_dup p slots r placed within read =
     slot_found 0 p p slots (omega arith) placed ∙ get_or_default slots p None r within ∙ sym read
 
 -- the dup of a slot goes
-pub slots_cleared : (p : ℕ) (slots : List (Option Dup)) (empty stale empty' stale' : SmallVec ℕ) → p < length slots → AreSlots slots empty stale → empty'.items ≡ with_place p empty.items → empty'.capacity ≡ empty.capacity → stale'.items ≡ without p stale.items → stale'.capacity ≡ stale.capacity → AreSlots (set slots p None) empty' stale'
-slots_cleared p slots empty stale empty' stale' within h more room left room_stale =
+pub slots_cleared : (p m : ℕ) (slots : List (Option Dup)) (empty stale empty' stale' : SmallVec ℕ) → m + p + 1 ≡ length slots → AreSlots slots empty stale → empty'.items ≡ with_place m empty.items → empty'.capacity ≡ empty.capacity → stale'.items ≡ without p stale.items → stale'.capacity ≡ stale.capacity → AreSlots (set slots p None) empty' stale'
+slots_cleared p m slots empty stale empty' stale' at h more room left room_stale =
+    let within : p < length slots = omega (arith, at) in
     record {
       few = rw length-set h.few;
       placed = placed_emptied 0 p slots h.placed;
-      empties = more ∙ ap (with_place p) h.empties ∙ sym (where_with is_empty_slot 0 p p slots None (omega arith) within refl);
+      empties = more ∙ ap (with_place m) h.empties ∙ sym (mirrored_with is_empty_slot p m slots None at refl);
       stales = left ∙ ap (without p) h.stales ∙ sym (where_without is_stale_slot 0 p p slots None (omega arith) within refl);
       empty_room = rw (length-set, room) h.empty_room;
       stale_room = rw (length-set, room_stale) h.stale_room;
@@ -287,10 +416,12 @@ filled_place k p (suc i) (Some e ∷ slots) d is filled placed = filled_place (s
 pub slots_changed : (p : ℕ) (slots : List (Option Dup)) (empty stale stale' : SmallVec ℕ) (d e : Dup) → p < length slots → AreSlots slots empty stale → get_or slots p None ≡ Some d → e.row ≡ d.row → stale'.items ≡ places_where is_stale_slot 0 (set slots p (Some e)) → stale'.capacity ≡ stale.capacity → AreSlots (set slots p (Some e)) empty stale'
 slots_changed p slots empty stale stale' d e within h filled same_row stales room_stale =
     let at : e.row.place ≡ p = ap (λ r. r.place) same_row ∙ filled_place 0 p p slots d (omega arith) filled h.placed in
+    let m = length slots - 1 - p in
+    let far : m + p + 1 ≡ length slots = omega (arith, within) in
     record {
       few = rw length-set h.few;
       placed = placed_put 0 p p slots e (omega arith) at h.placed;
-      empties = h.empties ∙ sym (where_same is_empty_slot 0 p slots (Some e) (sym (ap is_empty_slot filled)));
+      empties = h.empties ∙ sym (mirrored_same is_empty_slot p m slots (Some e) far (sym (ap is_empty_slot filled)));
       stales = stales;
       empty_room = rw length-set h.empty_room;
       stale_room = rw (length-set, room_stale) h.stale_room;
@@ -334,12 +465,18 @@ holds_dup p slots s r d view placed known read is =
       items = ap (λ t. items_in (dup_at p t.dups)) (sym view) ∙ ap items_in (slot_found 0 p p slots (omega arith) placed ∙ filled);
     }
 
--- with an item more in the dup of a slot, which is not stale then
+-- with an item more in the dup of a slot, which is not stale then: it was stale, or had items before
 pub slots_grown : (p : ℕ) (slots : List (Option Dup)) (empty stale stale' : SmallVec ℕ) (d : Dup) (page : GuestPage) → p < length slots → AreSlots slots empty stale → get_or slots p None ≡ Some d → stale'.items ≡ without p stale.items → stale'.capacity ≡ stale.capacity → AreSlots (set slots p (Some (record d { items = with_item page d.items }))) empty stale'
 slots_grown p slots empty stale stale' d page within h filled left room =
     let e : Dup = record d { items = with_item page d.items } in
     slots_changed p slots empty stale stale' d e within h filled refl
     (left ∙ ap (without p) h.stales ∙ sym (where_without is_stale_slot 0 p p slots (Some e) (omega arith) within (grown_not_stale page d.items))) room
+
+pub slots_joined : (p : ℕ) (slots : List (Option Dup)) (empty stale : SmallVec ℕ) (d : Dup) (page : GuestPage) → p < length slots → AreSlots slots empty stale → get_or slots p None ≡ Some d → is_stale d ≡ false → AreSlots (set slots p (Some (record d { items = with_item page d.items }))) empty stale
+slots_joined p slots empty stale d page within h filled live =
+    let e : Dup = record d { items = with_item page d.items } in
+    slots_changed p slots empty stale stale d e within h filled refl
+    (h.stales ∙ sym (where_same is_stale_slot 0 p slots (Some e) (grown_not_stale page d.items ∙ sym (ap is_stale_slot filled ∙ live)))) refl
 
 -- the view after a change of the items at a place
 pub view_changed : (p : ℕ) (slots : List (Option Dup)) (s : SlotsState) (d : Dup) (f : List GuestPage → List GuestPage) → slots_seen slots ≡ s → ArePlaced 0 slots → get_or slots p None ≡ Some d → slots_seen (set slots p (Some (record d { items = f d.items }))) ≡ record { places = s.places; dups = change_at p f s.dups }

@@ -1,6 +1,8 @@
 -- Slots that are all empty.
-use Rattle.std.proofs.Common.{◌≡◌, ◌∙◌, ℕ, zero, suc, ◌+◌, ◌<◌, ◌≤◌, List, [], ◌∷◌, length, replicate, None, Option, refl, ap, add-one, arith}
+use Rattle.std.proofs.Common.{◌≡◌, ◌∙◌, ℕ, zero, suc, ◌+◌, ◌<◌, ◌≤◌, List, [], ◌∷◌, ◌++◌, reverse, length, replicate, None, Option, refl, sym, ap, add-one, arith}
 use Rattle.std.specs.List.{range_with_len}
+use mathlib.Core.List.{reverse-cons}
+use Rattle.std.proofs.lemmas.List.{replicate-append-replicate}
 use Rattle.std.proofs.lemmas.Bool.Decides.{nat_tests}
 use Rattle.smallvec.specs.SmallVec.{SmallVec}
 use Rattle.ksm_tree.specs.declared.dup.Dup.{Dup}
@@ -33,6 +35,11 @@ none_stale : (k n : ℕ) → [] ≡ places_where is_stale_slot k (none_of n)
 none_stale k zero = refl
 none_stale k (suc n) = none_stale (suc k) n
 
+none_reversed : (n : ℕ) → none_of n ≡ reverse (none_of n)
+none_reversed zero = refl
+none_reversed (suc n) =
+    sym (reverse-cons None (none_of n) ∙ ap (λ slots. slots ++ None ∷ []) (sym (none_reversed n)) ∙ replicate-append-replicate n 1 None ∙ ap none_of (add-one n))
+
 none_empty : (k n : ℕ) → range_with_len k n ≡ places_where is_empty_slot k (none_of n)
 none_empty k zero = refl
 none_empty k (suc n) = let rest = none_empty (suc k) n in rw add-one (ap (λ ps. k ∷ ps) rest)
@@ -49,7 +56,7 @@ none_slots n empty stale few empties stales empty_room stale_room =
     record {
       few = rw length_none few;
       placed = none_placed 0 n;
-      empties = empties ∙ none_empty 0 n;
+      empties = empties ∙ none_empty 0 n ∙ ap (places_where is_empty_slot 0) (none_reversed n);
       stales = stales ∙ none_stale 0 n;
       empty_room = rw length_none empty_room;
       stale_room = rw length_none stale_room;

@@ -1,5 +1,5 @@
 -- The dups by place: a slot for each place, and the places whose slots pass a test. (own)
-use Rattle.std.specs.Prelude.{◌≡◌, ℕ, suc, ◌≤◌, Bool, true, false, List, [], ◌∷◌, length, map, Option, Some, None, if◌then◌else◌}
+use Rattle.std.specs.Prelude.{◌≡◌, ℕ, suc, ◌≤◌, Bool, true, false, List, [], ◌∷◌, length, map, reverse, Option, Some, None, if◌then◌else◌}
 use Rattle.smallvec.specs.SmallVec.{SmallVec}
 use Rattle.ksm_base.specs.declared.page.GuestPage.{GuestPage}
 use Rattle.ksm_tree.specs.declared.dup.Dup.{Dup}
@@ -42,11 +42,11 @@ ArePlaced k (Some d ∷ slots) = (d.row.place ≡ k) × ArePlaced (suc k) slots
 abbrev pub change_at : ℕ → (List GuestPage → List GuestPage) → List Dup → List Dup
 change_at place change dups = map (λ d. if stands_at place d then record d { items = change d.items } else d) dups
 
--- the places of the empty slots and of the stale dups are known, and have room for all
+-- the places of the empty slots, each by its distance from the highest one, and those of the stale dups are known, and have room for all
 pub record AreSlots (slots : List (Option Dup)) (empty stale : SmallVec ℕ) : Type 0 where
   pub few : length slots ≤ 1024
   pub placed : ArePlaced 0 slots
-  pub empties : empty.items ≡ places_where is_empty_slot 0 slots
+  pub empties : empty.items ≡ places_where is_empty_slot 0 (reverse slots)
   pub stales : stale.items ≡ places_where is_stale_slot 0 slots
   pub empty_room : length slots ≤ empty.capacity
   pub stale_room : length slots ≤ stale.capacity

@@ -1,4 +1,4 @@
-ghost use Rattle.std.specs.Prelude.{◌≡◌, ℕ, ◌+◌, ◌<◌, ◌≤◌, List, [], true, ◌==◌, not, length, filter, IfErr, IfOk, IsTrue, OnOk, OnErr, AllPairs, nat_lt, slice_get, slice_index_or};
+ghost use Rattle.std.specs.Prelude.{◌≡◌, ℕ, ◌+◌, ◌-◌, ◌<◌, ◌≤◌, List, [], true, ◌==◌, not, length, filter, IfErr, IfOk, IsTrue, OnOk, OnErr, AllPairs, nat_lt, slice_get, slice_index_or};
 ghost use Rattle.std.specs.List.{list_any};
 ghost use Rattle.smallvec.specs.SmallVec.{HasRoomFor};
 ghost use Rattle.ksm_tree.specs.Places.{with_place, without};
@@ -54,6 +54,13 @@ impl Places {
         ensures { result ≡ slice_get self.now.list.items 0 }
     {
         self.list.as_slice().first().copied()
+    }
+
+    /// The greatest place.
+    pub fn last(&self) -> Option<u32>
+        ensures { result ≡ slice_get self.now.list.items (length self.now.list.items - 1) }
+    {
+        self.list.as_slice().last().copied()
     }
 
     /// Takes room for one more place. The one fault is `Memory`, and then nothing changes.

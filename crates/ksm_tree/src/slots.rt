@@ -1,4 +1,4 @@
-ghost use Rattle.std.specs.Prelude.{◌≡◌, ◌<◌, ◌≤◌, [], true, false, None, Some, count_by, find, length, option_copied, option_map, is_some, IfErr, IfOk, OnErr, OnOk};
+ghost use Rattle.std.specs.Prelude.{◌≡◌, ◌-◌, ◌<◌, ◌≤◌, [], true, false, None, Some, count_by, find, length, option_copied, option_map, is_some, IfErr, IfOk, OnErr, OnOk};
 ghost use Rattle.ksm_tree.specs.Choosing.{empty_place};
 ghost use Rattle.ksm_rmap.specs.Items.{has_item, with_item, without_item};
 ghost use Rattle.ksm_tree.specs.Dups.{dup_at, items_in, is_live, is_stale, rows_of, with_new, without_place};
@@ -11,6 +11,7 @@ use std::alloc::Global;
 use std::marker::Model;
 
 /// The dups by place, with the places that no dup has and those of the stale dups.
+/// An empty place is kept by its distance from the highest one: the least, which is taken first, then stands last.
 #[derive(Drop)]
 pub struct Slots {
     dups: Vec<Option<Dup>>,
@@ -60,7 +61,8 @@ impl Slots {
     pub fn first_empty(&self) -> Option<u32>
         ensures { result ≡ empty_place self.now.places (rows_of self.now.dups) }
     {
-        self.empty.first()
+        let distance = self.empty.last()?;
+        Some(mirrored(self.dups.len(), distance))
     }
 
     /// The least place of a stale dup.
@@ -91,8 +93,9 @@ impl Slots {
         ensures { self.new ≡ record { places = self.old.places; dups = with_new dup self.old.dups } }
     {
         let place = dup.row.place;
+        let distance = mirrored(self.dups.len(), place);
         self.dups[place as usize] = Some(dup);
-        self.empty.remove(place);
+        self.empty.remove(distance);
         self.stale.remove(place);
     }
 
@@ -101,9 +104,10 @@ impl Slots {
         requires { is_some (dup_at place self.old.dups) ≡ true }
         ensures { self.new ≡ record { places = self.old.places; dups = without_place place self.old.dups } }
     {
+        let distance = mirrored(self.dups.len(), place);
         self.dups[place as usize] = None;
         self.stale.remove(place);
-        self.empty.insert(place);
+        self.empty.insert(distance);
     }
 
     /// A page becomes an item of the dup at a place. The one fault is `Memory`, and then nothing changes.
@@ -117,8 +121,11 @@ impl Slots {
     {
         match &mut self.dups[place as usize] {
             Some(dup) => {
+                let was_stale = dup.items.len() == 0;
                 dup.items.add(page)?;
-                self.stale.remove(place);
+                if was_stale {
+                    self.stale.remove(place);
+                }
                 Ok(())
             }
             None => unreachable!(),
@@ -142,4 +149,13 @@ impl Slots {
             None => unreachable!(),
         }
     }
+}
+
+/// How far a place is from the highest of so many, and the place that is so far from it.
+fn mirrored(places: usize, place: u32) -> u32
+    requires few { places ≤ 1024 }
+    requires place { place < places }
+    ensures { result ≡ places - 1 - place }
+{
+    places as u32 - 1 - place
 }

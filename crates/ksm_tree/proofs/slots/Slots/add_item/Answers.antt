@@ -1,9 +1,10 @@
-use Rattle.std.proofs.Common.{◌≡◌, true, ap, arith}
-use Rattle.std.specs.Prelude.{is_some}
+use Rattle.std.proofs.Common.{◌≡◌, ◌∙◌, true, false, length, ap, arith}
+use Rattle.std.specs.Prelude.{is_some, ◌==◌}
+use Rattle.std.proofs.lemmas.Bool.{ne_eqb}
 use Rattle.ksm_rmap.specs.Items.{with_item}
 use Rattle.ksm_tree.specs.Dups.{dup_at}
 use Rattle.ksm_tree.specs.Slots.{present}
-use Rattle.ksm_tree.proofs.OneSlot.{known_within, slot_not_none, holds_dup, slots_grown, view_changed}
+use Rattle.ksm_tree.proofs.OneSlot.{known_within, slot_not_none, holds_dup, slots_grown, slots_joined, view_changed}
 use Rattle.ksm_tree.proofs.slots.Slots.add_item.Goals as goal
 
 pub index_mut-requires : goal.index_mut-requires
@@ -26,16 +27,32 @@ add-requires-clause-absent c =
     let here = holds_dup c.args.place c.self.inside.dups.items c.args.self.now c.index_mut.result.now c.in-Some.dup c.self.view_is c.self.invariant.placed c.requires.known c.index_mut.ensures.value c.in-Some.is in
     rw (← here.items) c.requires.absent
 
-pub invariant_of-self-in-Some : goal.invariant_of-self-in-Some
-invariant_of-self-in-Some c =
+pub invariant_of-self-then-was_stale : goal.invariant_of-self-then-was_stale
+invariant_of-self-then-was_stale c =
     let place = c.args.place in
     let slots = c.self.inside.dups.items in
     let here = holds_dup place slots c.args.self.now c.index_mut.result.now c.in-Some.dup c.self.view_is c.self.invariant.placed c.requires.known c.index_mut.ensures.value c.in-Some.is in
     let grown = slots_grown place slots c.self.inside.empty.list c.self.inside.stale.list c.remove.new.self.list c.in-Some.dup c.args.page here.within c.self.invariant here.filled c.remove.ensures.without c.remove.ensures.capacity in
     rw c.in_ok-add-in-Some.ensures.added grown
 
-pub returns-clause-added : goal.returns-clause-added
-returns-clause-added c =
+pub invariant_of-self-else-was_stale : goal.invariant_of-self-else-was_stale
+invariant_of-self-else-was_stale c =
+    let place = c.args.place in
+    let slots = c.self.inside.dups.items in
+    let here = holds_dup place slots c.args.self.now c.index_mut.result.now c.in-Some.dup c.self.view_is c.self.invariant.placed c.requires.known c.index_mut.ensures.value c.in-Some.is in
+    let live : (length c.in-Some.dup.items == 0) ≡ false = ne_eqb _ 0 (λ e. c.if-was_stale.false (c.len-was_stale.ensures.count ∙ e)) in
+    let joined = slots_joined place slots c.self.inside.empty.list c.self.inside.stale.list c.in-Some.dup c.args.page here.within c.self.invariant here.filled live in
+    rw c.in_ok-add-in-Some.ensures.added joined
+
+pub returns-then-was_stale-clause-added : goal.returns-then-was_stale-clause-added
+returns-then-was_stale-clause-added c =
+    let place = c.args.place in
+    let slots = c.self.inside.dups.items in
+    let here = holds_dup place slots c.args.self.now c.index_mut.result.now c.in-Some.dup c.self.view_is c.self.invariant.placed c.requires.known c.index_mut.ensures.value c.in-Some.is in
+    rw c.in_ok-add-in-Some.ensures.added (view_changed place slots c.args.self.now c.in-Some.dup (with_item c.args.page) c.self.view_is c.self.invariant.placed here.filled)
+
+pub returns-else-was_stale-clause-added : goal.returns-else-was_stale-clause-added
+returns-else-was_stale-clause-added c =
     let place = c.args.place in
     let slots = c.self.inside.dups.items in
     let here = holds_dup place slots c.args.self.now c.index_mut.result.now c.in-Some.dup c.self.view_is c.self.invariant.placed c.requires.known c.index_mut.ensures.value c.in-Some.is in

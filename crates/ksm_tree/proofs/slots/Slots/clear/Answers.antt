@@ -1,9 +1,14 @@
-use Rattle.std.proofs.Common.{◌≡◌, ◌∙◌, None, true, length, length-set, ap, arith}
+use Rattle.std.proofs.Common.{◌≡◌, ◌∙◌, ◌+◌, None, true, length, length-set, ap, arith}
 use Rattle.std.specs.Prelude.{is_some}
 use Rattle.ksm_tree.specs.Dups.{dup_at, without_place}
 use Rattle.ksm_tree.specs.Slots.{present, is_empty_slot}
-use Rattle.ksm_tree.proofs.OneSlot.{known_within, slots_cleared, slot_emptied, where_room, full_slot}
+use Rattle.ksm_tree.proofs.OneSlot.{known_within, slots_cleared, slot_emptied, mirrored_room, full_slot}
 use Rattle.ksm_tree.proofs.slots.Slots.clear.Goals as goal
+
+pub mirrored-distance-requires-clause-place : goal.mirrored-distance-requires-clause-place
+mirrored-distance-requires-clause-place c =
+    let within = known_within c.args.place c.self.inside.dups.items c.self.invariant.placed (rw (ap (λ s. s.dups) c.self.view_is) c.requires) in
+    omega (arith, within, c.len.ensures)
 
 pub index_mut-requires : goal.index_mut-requires
 index_mut-requires c =
@@ -16,13 +21,14 @@ insert-requires c =
     let known : is_some (dup_at c.args.place (present slots)) ≡ true = rw (ap (λ s. s.dups) c.self.view_is) c.requires in
     let within = known_within c.args.place slots c.self.invariant.placed known in
     let full = full_slot c.args.place slots c.self.invariant.placed known in
-    let room = where_room is_empty_slot 0 c.args.place slots within full in
+    let room = mirrored_room is_empty_slot c.args.place c.mirrored-distance.result slots (omega (arith, within, c.mirrored-distance.ensures, c.len.ensures)) full in
     omega (arith, room, ap length c.self.invariant.empties, c.self.invariant.empty_room)
 
 pub invariant_of-self : goal.invariant_of-self
 invariant_of-self c =
     let within = known_within c.args.place c.self.inside.dups.items c.self.invariant.placed (rw (ap (λ s. s.dups) c.self.view_is) c.requires) in
-    slots_cleared c.args.place c.self.inside.dups.items c.self.inside.empty.list c.self.inside.stale.list c.insert.new.self.list c.remove.new.self.list within c.self.invariant c.insert.ensures.with c.insert.ensures.capacity c.remove.ensures.without c.remove.ensures.capacity
+    let at : c.mirrored-distance.result + c.args.place + 1 ≡ length c.self.inside.dups.items = omega (arith, within, c.mirrored-distance.ensures, c.len.ensures) in
+    slots_cleared c.args.place c.mirrored-distance.result c.self.inside.dups.items c.self.inside.empty.list c.self.inside.stale.list c.insert.new.self.list c.remove.new.self.list at c.self.invariant c.insert.ensures.with c.insert.ensures.capacity c.remove.ensures.without c.remove.ensures.capacity
 
 pub returns : goal.returns
 returns c =
