@@ -1,6 +1,6 @@
 //! The pages: the rows with their frames, the dups into which rows are merged, and the pages that wait, each told of the others' changes.
 
-ghost use Rattle.std.specs.Prelude.{◌≡◌, ◌<◌, ◌⊎◌, ◌+◌, ◌≤◌, [], true, false, None, Some, Err, All, count_by, filter, find, length, map, insert, remove, slice_set, is_some, ◌==◌, ◌&&◌, option_map, IfOk, IfErr, IfSome, OnOk, OnErr, MatchOption};
+ghost use Rattle.std.specs.Prelude.{◌≡◌, ◌<◌, ◌⊎◌, ◌+◌, ◌≤◌, [], true, false, None, Some, Err, All, count_by, filter, find, length, map, insert, remove, slice_set, is_some, ◌==◌, ◌&&◌, option_map, IfOk, IfErr, IfSome, OnOk, OnErr, MatchOption, Option};
 ghost use Rattle.std.specs.List.{list_any};
 ghost use Rattle.ksm_base.specs.declared.fault.Fault.TheVariants.{Memory};
 ghost use Rattle.ksm_base.specs.declared.row.PageState.TheVariants.{Private, Merged, Zero};
@@ -15,7 +15,8 @@ ghost use Rattle.ksm_tree.specs.Bridge.{let_out};
 ghost use Rattle.ksm_tree.specs.Waits.{IsStopped};
 ghost use Rattle.ksm_pages.specs.Linked.{HasRoom, IsVacant, MayPair, ReplacedBoth, item_of_next, next_dup, elsewhere};
 ghost use Rattle.ksm_pages.specs.Listed.{frame_in, rank, StandsAt, lodged};
-ghost use Rattle.ksm_pages.specs.Lodged.{frame_seen, frames_seen, lodging, listed_seen, ItemsLieOn, LiesWith};
+ghost use Rattle.ksm_base.specs.declared.row.DupRow.{DupRow as DupSeen};
+ghost use Rattle.ksm_pages.specs.Lodged.{frame_seen, frames_seen, lodging, lodging_of as lodging_kept, listed_seen, ItemsLieOn, LiesWith};
 ghost use Rattle.ksm_tree.specs.Dups.{rows_of};
 
 use crate::row::{Wanted, is_merged, is_waiting, let_go, same_page, tree_of};
@@ -75,14 +76,37 @@ fn leave(dups: &mut Dups, state: PageState, page: GuestPage)
     }
 }
 
+// The frame kept at the place of a dup, if there is one.
+fn lodging_at(lodgings: &[Option<u32>], place: Option<u32>) -> Option<u32>
+    ensures { (d : Option DupSeen) → option_map (λ d. d.place) d ≡ place → result ≡ lodging_kept lodgings.now d }
+{
+    let place = place?;
+    match lodgings.get(place as usize) {
+        Some(frame) => *frame,
+        None => None,
+    }
+}
+
 // The frame kept for a dup.
 fn lodging_of(dups: &Dups, lodgings: &[Option<u32>], number: u64) -> Option<u32>
     ensures { result ≡ lodging (rows_of dups.now.dups) lodgings.now number }
 {
-    let place = dups.place(number)?;
-    match lodgings.get(place as usize) {
-        Some(frame) => *frame,
-        None => None,
+    lodging_at(lodgings, dups.place(number))
+}
+
+// What an entry has that goes, with the frame where the row lay. The page leaves the dup of which it was an item, if it was.
+fn left(dups: &mut Dups, lodgings: &[Option<u32>], page: GuestPage, held: Held) -> Held
+    ensures dups { dups.new ≡ record dups.old { dups = let_out held.row.state page dups.old.dups } }
+    ensures row { result.row ≡ held.row }
+    ensures frame { result.frame ≡ frame_seen (lodging (rows_of dups.old.dups) lodgings.now) held.row.state held.frame }
+{
+    let PageState::Merged(number) = held.row.state else {
+        return held;
+    };
+    let place = dups.leave(number, page);
+    Held {
+        frame: lodging_at(lodgings, place),
+        ..held
     }
 }
 
@@ -320,10 +344,8 @@ impl Pages {
         let Some(held) = self.rows.replace(row, frame) else {
             return None;
         };
-        let stood = seen(&self.dups, &self.lodgings, held);
         stop_waiting(&mut self.waiting, &self.knobs, &held.row);
-        leave(&mut self.dups, held.row.state, row.page);
-        Some(stood)
+        Some(left(&mut self.dups, &self.lodgings, row.page, held))
     }
 
     /// Puts a row of its own in the stead of its page's, which leaves its dup, on the frame where it is, and gives what stood there.
@@ -357,10 +379,8 @@ impl Pages {
         let Some(held) = self.rows.remove(page) else {
             return None;
         };
-        let stood = seen(&self.dups, &self.lodgings, held);
         stop_waiting(&mut self.waiting, &self.knobs, &held.row);
-        leave(&mut self.dups, held.row.state, page);
-        Some(stood)
+        Some(left(&mut self.dups, &self.lodgings, page, held))
     }
 
     /// A row with a frame of its own waits from now on, on that frame. Refused for memory alone, it changes nothing.

@@ -145,14 +145,14 @@ impl Dups {
         }
     }
 
-    /// A page is no item of a dup any more. Where there is no such dup or item, nothing changes.
-    pub fn leave(&mut self, dup: u64, page: GuestPage)
-        ensures { self.new ≡ record { places = self.old.places; dups = change_items dup (without_item page) self.old.dups; next = self.old.next } }
+    /// A page is no item of a dup any more. Where there is no such dup or item, nothing changes. Gives the place of the dup.
+    pub fn leave(&mut self, dup: u64, page: GuestPage) -> Option<u32>
+        ensures place { result ≡ option_map (λ d. d.row.place) (dup_of dup self.old.dups) }
+        ensures left { self.new ≡ record { places = self.old.places; dups = change_items dup (without_item page) self.old.dups; next = self.old.next } }
     {
-        match self.index.place(dup) {
-            Some(place) => self.slots.remove_item(place, page),
-            None => {}
-        }
+        let place = self.index.place(dup)?;
+        self.slots.remove_item(place, page);
+        Some(place)
     }
 
     /// The number of the dup at a place.
