@@ -163,7 +163,10 @@ impl Ahead {
 }
 
 impl State {
+    // A hint alone: the other commands would save and clear what only a scan needs.
+
     /// Makes visits.
+    #[inline(never)]
     pub fn scan(&mut self, table: &FrameTable, count: u64) -> Result<Reply, Fault>
         requires own { self.old.keeper.table ≡ table.now }
         ensures { CarriedOut self.old self.new (Command.Scan count) result }
