@@ -77,12 +77,7 @@ enum Round {
     Won(u64),
 }
 
-fn try_round(
-    table: &FrameTable,
-    seat: &mut Seat<(), View>,
-    life: Life,
-    word: usize,
-) -> Round
+fn try_round(table: &FrameTable, seat: &mut Seat<(), View>, life: Life, word: usize) -> Round
     requires own { seat.old.table_id ≡ table.now.id }
     requires inside { word + words_of_page < table.now.id.words }
     requires at { word ≡ frame_word_at (frames_of table.now.shape) life.frame }

@@ -15,7 +15,6 @@ use Rattle.frame_core.specs.declared.frame.Kind.TheVariants.{Private}
 use Rattle.frame_core.specs.declared.ledger.Ledger.{Ledger}
 use Rattle.frame_core.specs.declared.ledger.Note.{Note}
 use Rattle.frame_core.specs.Ledger.{frame_at, with_frame, IsReadable}
-use Rattle.std.proofs.lemmas.List.{set-get_or}
 use Rattle.ksm_base.specs.declared.page.GuestPage.{GuestPage}
 use Rattle.ksm_base.specs.declared.page.TheConstants.{PAGE_WORDS}
 use Rattle.frame_table.specs.Named.{KeeperView}
