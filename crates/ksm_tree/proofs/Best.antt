@@ -1,6 +1,6 @@
 -- The best dup to join: a walk over a group, keeping the better of two, ends at the one that the definition chooses of all.
 use Rattle.std.proofs.Common.{◌≡◌, ◌∙◌, ℕ, ◌<◌, Bool, true, false, List, [], ◌∷◌, ◌++◌, append_assoc, append-nil, Option, None, Some, refl, sym, ap, inl, inr, arith}
-use Rattle.std.specs.Prelude.{◌==◌, ◌&&◌, ◌||◌, not, All, find, if◌then◌else◌}
+use Rattle.std.specs.Prelude.{◌==◌, ◌&&◌, ◌||◌, not, nat_le, nat_lt, length, All, find, if◌then◌else◌}
 use Rattle.std.specs.List.{list_all}
 use Rattle.std.proofs.lemmas.Bool.{and_parts, cases_Bool, false≢true}
 use Rattle.std.proofs.lemmas.Bool.Decides.{nat_tests}
@@ -193,16 +193,25 @@ found_self (d ∷ dups) rise =
     All-cons (λ e. dup_at e.row.place (d ∷ dups) ≡ Some e) d dups (grind (arith, nat_tests))
     (λ k e lt. let behind = (all_rows (λ r. d.row.place < r.place) dups (All-weaker (λ r. (d.row.place < r.place) × ((d.row.number == r.number) ≡ false)) (λ r. d.row.place < r.place) (λ r h. h.0) (rows_of dups) first)) k e lt in let found = rest k e lt in grind (arith, nat_tests, behind, found))
 
+-- with an item, and below the limit
+abbrev has_room : ℕ → Dup → Bool
+has_room limit d = nat_le 1 (length d.items) && nat_lt (length d.items) limit
+
 -- what a walk over places keeps
 abbrev pub joined : ℕ → Option Dup → Option Dup → Option Dup
 joined limit acc None = acc
-joined limit acc (Some d) = better limit acc d
+joined limit acc (Some d) = if has_room limit d then Some (better acc d) else acc
 
 abbrev pub folded : ℕ → List Dup → Option Dup → List ℕ → Option Dup
 folded limit dups acc [] = acc
 folded limit dups acc (p ∷ places) = folded limit dups (joined limit acc (dup_at p dups)) places
 
-better_kept : (t : ℕ) (b : List ℕ) (limit : ℕ) (acc : Option Dup) (d : Dup) → in_group t b d.row ≡ true → better limit acc d ≡ kept (may_join t b limit) acc d
+-- how many items a dup must have to be joined where another was found
+abbrev pub least_of : Option Dup → ℕ
+least_of None = 1
+least_of (Some d) = length d.items
+
+better_kept : (t : ℕ) (b : List ℕ) (limit : ℕ) (acc : Option Dup) (d : Dup) → in_group t b d.row ≡ true → joined limit acc (Some d) ≡ kept (may_join t b limit) acc d
 better_kept t b limit None d inside = grind (arith, inside)
 better_kept t b limit (Some best) d inside = grind (arith, inside)
 

@@ -62,7 +62,7 @@ three_kinds (Some d ∷ slots) =
       | inr live ↦ grind (arith, nat_tests, live, first, second, third, rest)
     ]
 
-module _ (slots : List (Option Dup)) (empty stale : SmallVec ℕ) (h : AreSlots slots empty stale) where
+module _ (slots : List (Option Dup)) (counts : List ℕ) (empty stale : SmallVec ℕ) (h : AreSlots slots counts empty stale) where
   pub stale_counted : length stale.items ≡ count_by is_stale (present slots)
   stale_counted = ap length h.stales ∙ where_count is_stale_slot 0 slots ∙ stale_slots slots
 

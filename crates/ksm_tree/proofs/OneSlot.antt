@@ -1,10 +1,12 @@
 -- What a change of one slot does to the dups and to the places whose slots pass a test.
-use Rattle.std.proofs.Common.{◌≡◌, ◌∙◌, ℕ, zero, suc, ◌+◌, ◌-◌, ◌<◌, ◌≤◌, Bool, true, false, List, [], ◌∷◌, ◌++◌, reverse, length, length-set, length-append, get_or, set, Option, None, Some, refl, sym, ap, inl, inr, arith}
+use Rattle.std.proofs.Common.{◌≡◌, ◌∙◌, ℕ, zero, suc, ◌+◌, ◌-◌, ◌<◌, ◌≤◌, Bool, true, false, List, [], ◌∷◌, ◌++◌, reverse, length, length-set, length-append, get_or, map, set, Option, None, Some, refl, sym, ap, inl, inr, arith}
 use Rattle.std.specs.Prelude.{◌==◌, not, nat_lt, All, filter, find, option_map, is_some, slice_get, if◌then◌else◌}
 use Rattle.std.proofs.lemmas.Bool.Decides.{nat_tests}
 use Rattle.std.proofs.lemmas.Bool.{cases_Bool, false≢true}
-use Rattle.std.proofs.lemmas.List.{append-nil, get_or-reverse, get_or_default, get_or_push, length-reverse, set-append_left, set-append_right}
+use Rattle.std.proofs.lemmas.List.{append-nil, get_or-reverse, get_or_default, get_or_push, length-map, length-reverse, map-set, set-append_left, set-append_right}
 use Rattle.std.proofs.lemmas.Option.{none-some, same_Some, slice_get-get_or}
+use Rattle.std.proofs.Math.ListN.{get_or-map}
+use Rattle.std.proofs.Math.Seq.{map-set_same}
 use mathlib.Core.List.{reverse-cons}
 use Rattle.std.proofs.lemmas.List.Elements.{All-cons, All-weaker}
 use Rattle.ksm_base.specs.declared.page.GuestPage.{GuestPage}
@@ -18,7 +20,7 @@ use Rattle.ksm_rmap.proofs.Pages.{pages_ordered}
 use Rattle.ksm_tree.specs.declared.dup.Dup.{Dup}
 use Rattle.ksm_tree.specs.Dups.{stands_at, dup_at, items_in, is_stale, is_live, rows_of, with_new, without_place}
 use Rattle.ksm_tree.specs.Places.{with_place, without}
-use Rattle.ksm_tree.specs.Slots.{SlotsState, slots_seen, present, is_empty_slot, is_stale_slot, places_where, ArePlaced, AreSlots, change_at}
+use Rattle.ksm_tree.specs.Slots.{SlotsState, slots_seen, present, count_in, is_empty_slot, is_stale_slot, places_where, ArePlaced, AreSlots, change_at}
 
 -- the dups of slots from k on stand at k or behind it
 pub placed_above : (k : ℕ) (slots : List (Option Dup)) → ArePlaced k slots → All (λ d. k ≤ d.row.place) (present slots)
@@ -349,7 +351,7 @@ empty_first slots placed =
     empty_first_from 0 slots placed ∙ ap (λ n. if nat_lt first n then Some first else None) all
 
 -- the last of the distances is that of the least place that no dup has
-module _ (slots : List (Option Dup)) (empty stale : SmallVec ℕ) (h : AreSlots slots empty stale) where
+module _ (slots : List (Option Dup)) (counts : List ℕ) (empty stale : SmallVec ℕ) (h : AreSlots slots counts empty stale) where
   pub empty_within : (m : ℕ) → last_of empty.items ≡ Some m → m < length slots
   empty_within m is = mirrored_within is_empty_slot m slots (ap last_of (sym h.empties) ∙ is)
 
@@ -363,14 +365,20 @@ module _ (slots : List (Option Dup)) (empty stale : SmallVec ℕ) (h : AreSlots 
 not_stale : (d : Dup) → is_live d ≡ true → is_stale d ≡ false
 not_stale d live = grind (arith, nat_tests, live)
 
+-- the counts once a slot changes and its count with it
+counted_set : (p n : ℕ) (slots : List (Option Dup)) (counts : List ℕ) (s : Option Dup) → counts ≡ map count_in slots → n ≡ count_in s → set counts p n ≡ map count_in (set slots p s)
+counted_set p n slots counts s counted is =
+    (λ i. set (counted i) p (is i)) ∙ sym (map-set count_in slots p s)
+
 -- a dup with items put into its slot
-pub slots_put : (slots : List (Option Dup)) (empty stale empty' stale' : SmallVec ℕ) (dup : Dup) (m : ℕ) → m + dup.row.place + 1 ≡ length slots → is_live dup ≡ true → AreSlots slots empty stale → empty'.items ≡ without m empty.items → empty'.capacity ≡ empty.capacity → stale'.items ≡ without dup.row.place stale.items → stale'.capacity ≡ stale.capacity → AreSlots (set slots dup.row.place (Some dup)) empty' stale'
-slots_put slots empty stale empty' stale' dup m at live h left room left_stale room_stale =
+pub slots_put : (slots : List (Option Dup)) (counts : List ℕ) (empty stale empty' stale' : SmallVec ℕ) (dup : Dup) (m n : ℕ) → m + dup.row.place + 1 ≡ length slots → n ≡ length dup.items → is_live dup ≡ true → AreSlots slots counts empty stale → empty'.items ≡ without m empty.items → empty'.capacity ≡ empty.capacity → stale'.items ≡ without dup.row.place stale.items → stale'.capacity ≡ stale.capacity → AreSlots (set slots dup.row.place (Some dup)) (set counts dup.row.place n) empty' stale'
+slots_put slots counts empty stale empty' stale' dup m n at is live h left room left_stale room_stale =
     let p = dup.row.place in
     let within : p < length slots = omega (arith, at) in
     record {
       few = rw length-set h.few;
       placed = placed_put 0 p p slots dup (omega arith) refl h.placed;
+      counted = counted_set p n slots counts (Some dup) h.counted is;
       empties = left ∙ ap (without m) h.empties ∙ sym (mirrored_without is_empty_slot p m slots (Some dup) at refl);
       stales = left_stale ∙ ap (without p) h.stales ∙ sym (where_without is_stale_slot 0 p p slots (Some dup) (omega arith) within (not_stale dup live));
       empty_room = rw (length-set, room) h.empty_room;
@@ -381,6 +389,19 @@ filled_within : (p : ℕ) (slots : List (Option Dup)) → is_some (get_or slots 
 filled_within p [] filled = absurd (false≢true filled)
 filled_within zero (s ∷ slots) filled = omega arith
 filled_within (suc p) (s ∷ slots) filled = let rest = filled_within p slots filled in omega (arith, rest)
+
+-- each slot has its count
+pub count_within : (p : ℕ) (slots : List (Option Dup)) (counts : List ℕ) → counts ≡ map count_in slots → p < length slots → p < length counts
+count_within p slots counts counted within =
+    let many = ap length counted ∙ length-map slots count_in in
+    omega (arith, many, within)
+
+pub count_read : (p n : ℕ) (slots : List (Option Dup)) (counts : List ℕ) → ArePlaced 0 slots → counts ≡ map count_in slots → n ≡ get_or counts p 0 → n ≡ count_in (dup_at p (present slots))
+count_read p n slots counts placed counted read =
+    read
+    ∙ ap (λ l. get_or l p 0) counted
+    ∙ get_or-map count_in slots p None
+    ∙ ap count_in (sym (slot_found 0 p p slots (omega arith) placed))
 
 -- a place where a dup stands has a slot, and what a search read there is that dup
 pub known_within : (p : ℕ) (slots : List (Option Dup)) → ArePlaced 0 slots → is_some (dup_at p (present slots)) ≡ true → p < length slots
@@ -393,12 +414,13 @@ read_dup p slots r placed within read =
     slot_found 0 p p slots (omega arith) placed ∙ get_or_default slots p None r within ∙ sym read
 
 -- the dup of a slot goes
-pub slots_cleared : (p m : ℕ) (slots : List (Option Dup)) (empty stale empty' stale' : SmallVec ℕ) → m + p + 1 ≡ length slots → AreSlots slots empty stale → empty'.items ≡ with_place m empty.items → empty'.capacity ≡ empty.capacity → stale'.items ≡ without p stale.items → stale'.capacity ≡ stale.capacity → AreSlots (set slots p None) empty' stale'
-slots_cleared p m slots empty stale empty' stale' at h more room left room_stale =
+pub slots_cleared : (p m : ℕ) (slots : List (Option Dup)) (counts : List ℕ) (empty stale empty' stale' : SmallVec ℕ) → m + p + 1 ≡ length slots → AreSlots slots counts empty stale → empty'.items ≡ with_place m empty.items → empty'.capacity ≡ empty.capacity → stale'.items ≡ without p stale.items → stale'.capacity ≡ stale.capacity → AreSlots (set slots p None) (set counts p 0) empty' stale'
+slots_cleared p m slots counts empty stale empty' stale' at h more room left room_stale =
     let within : p < length slots = omega (arith, at) in
     record {
       few = rw length-set h.few;
       placed = placed_emptied 0 p slots h.placed;
+      counted = counted_set p 0 slots counts None h.counted refl;
       empties = more ∙ ap (with_place m) h.empties ∙ sym (mirrored_with is_empty_slot p m slots None at refl);
       stales = left ∙ ap (without p) h.stales ∙ sym (where_without is_stale_slot 0 p p slots None (omega arith) within refl);
       empty_room = rw (length-set, room) h.empty_room;
@@ -412,15 +434,16 @@ filled_place k p (suc i) (None ∷ slots) d is filled placed = filled_place (suc
 filled_place k p zero (Some e ∷ slots) d is filled placed = ap (λ x. x.row.place) (sym (same_Some e d filled)) ∙ placed.0 ∙ omega arith
 filled_place k p (suc i) (Some e ∷ slots) d is filled placed = filled_place (suc k) p i slots d (omega arith) filled placed.1
 
--- the items of a slot's dup change: the stale places are those given
-pub slots_changed : (p : ℕ) (slots : List (Option Dup)) (empty stale stale' : SmallVec ℕ) (d e : Dup) → p < length slots → AreSlots slots empty stale → get_or slots p None ≡ Some d → e.row ≡ d.row → stale'.items ≡ places_where is_stale_slot 0 (set slots p (Some e)) → stale'.capacity ≡ stale.capacity → AreSlots (set slots p (Some e)) empty stale'
-slots_changed p slots empty stale stale' d e within h filled same_row stales room_stale =
+-- the items of a slot's dup change: the counts and the stale places are those given
+pub slots_changed : (p : ℕ) (slots : List (Option Dup)) (counts counts' : List ℕ) (empty stale stale' : SmallVec ℕ) (d e : Dup) → p < length slots → AreSlots slots counts empty stale → get_or slots p None ≡ Some d → e.row ≡ d.row → counts' ≡ map count_in (set slots p (Some e)) → stale'.items ≡ places_where is_stale_slot 0 (set slots p (Some e)) → stale'.capacity ≡ stale.capacity → AreSlots (set slots p (Some e)) counts' empty stale'
+slots_changed p slots counts counts' empty stale stale' d e within h filled same_row counted stales room_stale =
     let at : e.row.place ≡ p = ap (λ r. r.place) same_row ∙ filled_place 0 p p slots d (omega arith) filled h.placed in
     let m = length slots - 1 - p in
     let far : m + p + 1 ≡ length slots = omega (arith, within) in
     record {
       few = rw length-set h.few;
       placed = placed_put 0 p p slots e (omega arith) at h.placed;
+      counted = counted;
       empties = h.empties ∙ sym (mirrored_same is_empty_slot p m slots (Some e) far (sym (ap is_empty_slot filled)));
       stales = stales;
       empty_room = rw length-set h.empty_room;
@@ -449,6 +472,11 @@ grown_not_stale page pages =
     let n = length-append (filter (λ p. comes_before p page) pages) (page ∷ filter (λ p. comes_before page p) pages) in
     grind (arith, nat_tests, n)
 
+-- a dup that has not one item with an item more was not stale
+pub was_live : (page : GuestPage) (pages : List GuestPage) → (length (with_item page pages) ≡ 1 → ⊥) → (length pages == 0) ≡ false
+was_live page [] more = absurd (more refl)
+was_live page (p ∷ pages) more = grind (arith, nat_tests)
+
 -- what is known of the dup at a place once its slot was read
 pub record HoldsDup (p : ℕ) (slots : List (Option Dup)) (s : SlotsState) (d : Dup) : Type 0 where
   pub within : p < length slots
@@ -466,16 +494,18 @@ holds_dup p slots s r d view placed known read is =
     }
 
 -- with an item more in the dup of a slot, which is not stale then: it was stale, or had items before
-pub slots_grown : (p : ℕ) (slots : List (Option Dup)) (empty stale stale' : SmallVec ℕ) (d : Dup) (page : GuestPage) → p < length slots → AreSlots slots empty stale → get_or slots p None ≡ Some d → stale'.items ≡ without p stale.items → stale'.capacity ≡ stale.capacity → AreSlots (set slots p (Some (record d { items = with_item page d.items }))) empty stale'
-slots_grown p slots empty stale stale' d page within h filled left room =
+pub slots_grown : (p n : ℕ) (slots : List (Option Dup)) (counts : List ℕ) (empty stale stale' : SmallVec ℕ) (d : Dup) (page : GuestPage) → p < length slots → AreSlots slots counts empty stale → get_or slots p None ≡ Some d → n ≡ length (with_item page d.items) → stale'.items ≡ without p stale.items → stale'.capacity ≡ stale.capacity → AreSlots (set slots p (Some (record d { items = with_item page d.items }))) (set counts p n) empty stale'
+slots_grown p n slots counts empty stale stale' d page within h filled is left room =
     let e : Dup = record d { items = with_item page d.items } in
-    slots_changed p slots empty stale stale' d e within h filled refl
+    slots_changed p slots counts (set counts p n) empty stale stale' d e within h filled refl
+    (counted_set p n slots counts (Some e) h.counted is)
     (left ∙ ap (without p) h.stales ∙ sym (where_without is_stale_slot 0 p p slots (Some e) (omega arith) within (grown_not_stale page d.items))) room
 
-pub slots_joined : (p : ℕ) (slots : List (Option Dup)) (empty stale : SmallVec ℕ) (d : Dup) (page : GuestPage) → p < length slots → AreSlots slots empty stale → get_or slots p None ≡ Some d → is_stale d ≡ false → AreSlots (set slots p (Some (record d { items = with_item page d.items }))) empty stale
-slots_joined p slots empty stale d page within h filled live =
+pub slots_joined : (p n : ℕ) (slots : List (Option Dup)) (counts : List ℕ) (empty stale : SmallVec ℕ) (d : Dup) (page : GuestPage) → p < length slots → AreSlots slots counts empty stale → get_or slots p None ≡ Some d → n ≡ length (with_item page d.items) → is_stale d ≡ false → AreSlots (set slots p (Some (record d { items = with_item page d.items }))) (set counts p n) empty stale
+slots_joined p n slots counts empty stale d page within h filled is live =
     let e : Dup = record d { items = with_item page d.items } in
-    slots_changed p slots empty stale stale d e within h filled refl
+    slots_changed p slots counts (set counts p n) empty stale stale d e within h filled refl
+    (counted_set p n slots counts (Some e) h.counted is)
     (h.stales ∙ sym (where_same is_stale_slot 0 p slots (Some e) (grown_not_stale page d.items ∙ sym (ap is_stale_slot filled ∙ live)))) refl
 
 -- the view after a change of the items at a place
@@ -493,26 +523,30 @@ pub had_item : (page : GuestPage) (d : Dup) → true ≡ has_item page d.items �
 had_item page d found = items_not_none page d.items found
 
 -- with an item less in the dup of a slot: one that was no item, the last one, and another
-pub slots_unlike : (p : ℕ) (slots : List (Option Dup)) (empty stale : SmallVec ℕ) (d : Dup) (page : GuestPage) → p < length slots → AreSlots slots empty stale → get_or slots p None ≡ Some d → false ≡ has_item page d.items → AreSlots (set slots p (Some (record d { items = without_item page d.items }))) empty stale
-slots_unlike p slots empty stale d page within h filled absent =
+pub slots_unlike : (p : ℕ) (slots : List (Option Dup)) (counts : List ℕ) (empty stale : SmallVec ℕ) (d : Dup) (page : GuestPage) → p < length slots → AreSlots slots counts empty stale → get_or slots p None ≡ Some d → false ≡ has_item page d.items → AreSlots (set slots p (Some (record d { items = without_item page d.items }))) counts empty stale
+slots_unlike p slots counts empty stale d page within h filled absent =
     let e : Dup = record d { items = without_item page d.items } in
-    let same : is_stale e ≡ is_stale d = ap (λ ps. length ps == 0) (sym (absent_kept comes_before same_page pages_ordered page d.items (sym absent))) in
-    slots_changed p slots empty stale stale d e within h filled refl
+    let kept = sym (absent_kept comes_before same_page pages_ordered page d.items (sym absent)) in
+    let same : is_stale e ≡ is_stale d = ap (λ ps. length ps == 0) kept in
+    slots_changed p slots counts counts empty stale stale d e within h filled refl
+    (h.counted ∙ sym (map-set_same count_in slots p (Some e) None (ap length kept ∙ sym (ap count_in filled))))
     (h.stales ∙ sym (where_same is_stale_slot 0 p slots (Some e) (same ∙ sym (ap is_stale_slot filled)))) refl
 
-pub slots_shrunk : (p : ℕ) (slots : List (Option Dup)) (empty stale : SmallVec ℕ) (d : Dup) (page : GuestPage) → p < length slots → AreSlots slots empty stale → get_or slots p None ≡ Some d → true ≡ has_item page d.items → (length (without_item page d.items) == 0) ≡ false → AreSlots (set slots p (Some (record d { items = without_item page d.items }))) empty stale
-slots_shrunk p slots empty stale d page within h filled found left =
+pub slots_shrunk : (p n : ℕ) (slots : List (Option Dup)) (counts : List ℕ) (empty stale : SmallVec ℕ) (d : Dup) (page : GuestPage) → p < length slots → AreSlots slots counts empty stale → get_or slots p None ≡ Some d → n ≡ length (without_item page d.items) → true ≡ has_item page d.items → (length (without_item page d.items) == 0) ≡ false → AreSlots (set slots p (Some (record d { items = without_item page d.items }))) (set counts p n) empty stale
+slots_shrunk p n slots counts empty stale d page within h filled is found left =
     let e : Dup = record d { items = without_item page d.items } in
-    slots_changed p slots empty stale stale d e within h filled refl
+    slots_changed p slots counts (set counts p n) empty stale stale d e within h filled refl
+    (counted_set p n slots counts (Some e) h.counted is)
     (h.stales ∙ sym (where_same is_stale_slot 0 p slots (Some e) (left ∙ sym (ap is_stale_slot filled ∙ had_item page d found)))) refl
 
-pub slots_staled : (p : ℕ) (slots : List (Option Dup)) (empty stale stale' : SmallVec ℕ) (d : Dup) (page : GuestPage) → p < length slots → AreSlots slots empty stale → get_or slots p None ≡ Some d → (length (without_item page d.items) == 0) ≡ true → stale'.items ≡ with_place p stale.items → stale'.capacity ≡ stale.capacity → AreSlots (set slots p (Some (record d { items = without_item page d.items }))) empty stale'
-slots_staled p slots empty stale stale' d page within h filled none more room =
+pub slots_staled : (p n : ℕ) (slots : List (Option Dup)) (counts : List ℕ) (empty stale stale' : SmallVec ℕ) (d : Dup) (page : GuestPage) → p < length slots → AreSlots slots counts empty stale → get_or slots p None ≡ Some d → n ≡ length (without_item page d.items) → (length (without_item page d.items) == 0) ≡ true → stale'.items ≡ with_place p stale.items → stale'.capacity ≡ stale.capacity → AreSlots (set slots p (Some (record d { items = without_item page d.items }))) (set counts p n) empty stale'
+slots_staled p n slots counts empty stale stale' d page within h filled is none more room =
     let e : Dup = record d { items = without_item page d.items } in
-    slots_changed p slots empty stale stale' d e within h filled refl
+    slots_changed p slots counts (set counts p n) empty stale stale' d e within h filled refl
+    (counted_set p n slots counts (Some e) h.counted is)
     (more ∙ ap (with_place p) h.stales ∙ sym (where_with is_stale_slot 0 p p slots (Some e) (omega arith) within none)) room
 
-pub stale_has_room : (p : ℕ) (slots : List (Option Dup)) (empty stale : SmallVec ℕ) (d : Dup) (page : GuestPage) → p < length slots → AreSlots slots empty stale → get_or slots p None ≡ Some d → true ≡ has_item page d.items → length stale.items + 1 ≤ stale.capacity
-stale_has_room p slots empty stale d page within h filled found =
+pub stale_has_room : (p : ℕ) (slots : List (Option Dup)) (counts : List ℕ) (empty stale : SmallVec ℕ) (d : Dup) (page : GuestPage) → p < length slots → AreSlots slots counts empty stale → get_or slots p None ≡ Some d → true ≡ has_item page d.items → length stale.items + 1 ≤ stale.capacity
+stale_has_room p slots counts empty stale d page within h filled found =
     let room = where_room is_stale_slot 0 p slots within (ap is_stale_slot filled ∙ had_item page d found) in
     omega (arith, room, ap length h.stales, h.stale_room)

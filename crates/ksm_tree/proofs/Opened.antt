@@ -1,5 +1,5 @@
 -- Slots that are all empty.
-use Rattle.std.proofs.Common.{◌≡◌, ◌∙◌, ℕ, zero, suc, ◌+◌, ◌<◌, ◌≤◌, List, [], ◌∷◌, ◌++◌, reverse, length, replicate, None, Option, refl, sym, ap, add-one, arith}
+use Rattle.std.proofs.Common.{◌≡◌, ◌∙◌, ℕ, zero, suc, ◌+◌, ◌<◌, ◌≤◌, List, [], ◌∷◌, ◌++◌, reverse, length, map, replicate, None, Option, refl, sym, ap, add-one, arith}
 use Rattle.std.specs.List.{range_with_len}
 use mathlib.Core.List.{reverse-cons}
 use Rattle.std.proofs.lemmas.List.{replicate-append-replicate}
@@ -7,7 +7,7 @@ use Rattle.std.proofs.lemmas.Bool.Decides.{nat_tests}
 use Rattle.smallvec.specs.SmallVec.{SmallVec}
 use Rattle.ksm_tree.specs.declared.dup.Dup.{Dup}
 use Rattle.ksm_tree.specs.Places.{with_place}
-use Rattle.ksm_tree.specs.Slots.{slots_seen, present, is_empty_slot, is_stale_slot, places_where, ArePlaced, AreSlots}
+use Rattle.ksm_tree.specs.Slots.{slots_seen, present, count_in, is_empty_slot, is_stale_slot, places_where, ArePlaced, AreSlots}
 
 abbrev pub none_of : ℕ → List (Option Dup)
 none_of n = replicate n None
@@ -51,11 +51,16 @@ length_none (suc n) = ap suc (length_none n)
 pub none_seen : (n : ℕ) → slots_seen (none_of n) ≡ record { places = n; dups = [] }
 none_seen n i = record { places = length_none n i; dups = none_present n i }
 
-pub none_slots : (n : ℕ) (empty stale : SmallVec ℕ) → n ≤ 1024 → empty.items ≡ range_with_len 0 n → stale.items ≡ [] → n ≤ empty.capacity → n ≤ stale.capacity → AreSlots (none_of n) empty stale
-none_slots n empty stale few empties stales empty_room stale_room =
+none_counted : (n : ℕ) → replicate n 0 ≡ map count_in (none_of n)
+none_counted zero = refl
+none_counted (suc n) = ap (λ counts. 0 ∷ counts) (none_counted n)
+
+pub none_slots : (n : ℕ) (counts : List ℕ) (empty stale : SmallVec ℕ) → n ≤ 1024 → counts ≡ replicate n 0 → empty.items ≡ range_with_len 0 n → stale.items ≡ [] → n ≤ empty.capacity → n ≤ stale.capacity → AreSlots (none_of n) counts empty stale
+none_slots n counts empty stale few counted empties stales empty_room stale_room =
     record {
       few = rw length_none few;
       placed = none_placed 0 n;
+      counted = counted ∙ none_counted n;
       empties = empties ∙ none_empty 0 n ∙ ap (places_where is_empty_slot 0) (none_reversed n);
       stales = stales ∙ none_stale 0 n;
       empty_room = rw length_none empty_room;

@@ -45,11 +45,7 @@ chosen None None = None
 abbrev pub choice_of : DupsState → Option Choice
 choice_of s = chosen (empty_place s.places (rows_of s.dups)) (find is_stale s.dups)
 
--- with an item, and below the limit
-abbrev pub has_room : ℕ → Dup → Bool
-has_room limit d = nat_le 1 (length d.items) && nat_lt (length d.items) limit
-
--- the better of two dups to join, of which the second comes later
-abbrev pub better : ℕ → Option Dup → Dup → Option Dup
-better limit None d = if has_room limit d then Some d else None
-better limit (Some best) d = if has_room limit d && not (is_no_worse best d) then Some d else Some best
+-- the better of two dups with room, of which the second comes later
+abbrev pub better : Option Dup → Dup → Dup
+better None d = d
+better (Some best) d = if is_no_worse best d then best else d

@@ -3,7 +3,7 @@ use Rattle.std.specs.Prelude.{◌≡◌, ℕ, suc, ◌≤◌, Bool, true, false,
 use Rattle.smallvec.specs.SmallVec.{SmallVec}
 use Rattle.ksm_base.specs.declared.page.GuestPage.{GuestPage}
 use Rattle.ksm_tree.specs.declared.dup.Dup.{Dup}
-use Rattle.ksm_tree.specs.Dups.{stands_at, is_stale}
+use Rattle.ksm_tree.specs.Dups.{stands_at, items_in, is_stale}
 
 -- how many places there are, and the dups in the order of their places
 pub record SlotsState : Type 0 where
@@ -27,6 +27,10 @@ abbrev pub is_stale_slot : Option Dup → Bool
 is_stale_slot None = false
 is_stale_slot (Some d) = is_stale d
 
+-- how many items the dup of a slot has
+abbrev pub count_in : Option Dup → ℕ
+count_in slot = length (items_in slot)
+
 -- the places from k on whose slots pass a test
 abbrev pub places_where : (Option Dup → Bool) → ℕ → List (Option Dup) → List ℕ
 places_where test k [] = []
@@ -42,10 +46,11 @@ ArePlaced k (Some d ∷ slots) = (d.row.place ≡ k) × ArePlaced (suc k) slots
 abbrev pub change_at : ℕ → (List GuestPage → List GuestPage) → List Dup → List Dup
 change_at place change dups = map (λ d. if stands_at place d then record d { items = change d.items } else d) dups
 
--- the places of the empty slots, each by its distance from the highest one, and those of the stale dups are known, and have room for all
-pub record AreSlots (slots : List (Option Dup)) (empty stale : SmallVec ℕ) : Type 0 where
+-- each count is of the items at its place; the places of the empty slots, each by its distance from the highest one, and those of the stale dups are known, and have room for all
+pub record AreSlots (slots : List (Option Dup)) (counts : List ℕ) (empty stale : SmallVec ℕ) : Type 0 where
   pub few : length slots ≤ 1024
   pub placed : ArePlaced 0 slots
+  pub counted : counts ≡ map count_in slots
   pub empties : empty.items ≡ places_where is_empty_slot 0 (reverse slots)
   pub stales : stale.items ≡ places_where is_stale_slot 0 slots
   pub empty_room : length slots ≤ empty.capacity

@@ -59,10 +59,16 @@ impl Dups {
         ensures lawful { AreDups self.now }
     {
         let mut best: Option<&Dup> = None;
+        let mut least = 1;
         let chain = self.index.places(tree, bytes);
         for place in chain {
+            let items = self.slots.count(*place);
+            if items < least || limit <= items {
+                continue;
+            }
             if let Some(dup) = self.slots.at(*place) {
-                best = better(best, dup, limit);
+                best = Some(better(best, dup));
+                least = items;
             }
         }
         match best {
@@ -276,23 +282,13 @@ fn pair(alloc: Global, first: GuestPage, second: GuestPage) -> Result<Items, Fau
     Ok(items)
 }
 
-/// The better of two dups to join, of which the second comes later.
-fn better<'a>(best: Option<&'a Dup>, dup: &'a Dup, limit: u32) -> Option<&'a Dup>
-    ensures { option_copied result ≡ better_dup limit (option_copied best.entry) dup.entry.now }
+/// The better of two dups with room, of which the second comes later.
+fn better<'a>(best: Option<&'a Dup>, dup: &'a Dup) -> &'a Dup
+    ensures { result.now ≡ better_dup (option_copied best.entry) dup.entry.now }
 {
-    let items = dup.items.len();
-    if items < 1 || limit as usize <= items {
-        return best;
-    }
     match best {
-        Some(best) => {
-            if is_no_worse(best, dup) {
-                Some(best)
-            } else {
-                Some(dup)
-            }
-        }
-        None => Some(dup),
+        Some(best) => { if is_no_worse(best, dup) { best } else { dup } }
+        None => dup,
     }
 }
 

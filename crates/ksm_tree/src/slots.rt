@@ -10,11 +10,12 @@ use ksm_base::{Fault, GuestPage};
 use std::alloc::Global;
 use std::marker::Model;
 
-/// The dups by place, with the places that no dup has and those of the stale dups.
+/// The dups by place, with how many items each has, the places that no dup has and those of the stale dups.
 /// An empty place is kept by its distance from the highest one: the least, which is taken first, then stands last.
 #[derive(Drop)]
 pub struct Slots {
     dups: Vec<Option<Dup>>,
+    counts: Vec<u32>,
     empty: Places,
     stale: Places,
 }
@@ -26,7 +27,7 @@ impl Model for Slots {
 
     ghost view = { λ s. slots_seen s.dups.items };
 
-    ghost invariant = { λ s. AreSlots s.dups.items s.empty.list s.stale.list };
+    ghost invariant = { λ s. AreSlots s.dups.items s.counts.items s.empty.list s.stale.list };
 }
 
 impl Slots {
@@ -38,13 +39,20 @@ impl Slots {
     {
         let room = places as usize;
         let mut dups = Vec::with_capacity(alloc, room)?;
+        let mut counts = Vec::with_capacity(alloc, room)?;
         let mut empty = Places::with_room(alloc, room)?;
         for place in 0..places {
             dups.push(None)?;
+            counts.push(0)?;
             empty.insert(place);
         }
         let stale = Places::with_room(alloc, room)?;
-        Ok(Slots { dups, empty, stale })
+        Ok(Slots {
+            dups,
+            counts,
+            empty,
+            stale,
+        })
     }
 
     /// The dup at a place.
@@ -54,6 +62,16 @@ impl Slots {
         match self.dups.get(place as usize) {
             Some(slot) => slot.as_ref(),
             None => None,
+        }
+    }
+
+    /// How many items the dup at a place has: none where no dup stands.
+    pub fn count(&self, place: u32) -> u32
+        ensures { result ≡ length (items_in (dup_at place self.now.dups)) }
+    {
+        match self.counts.get(place as usize) {
+            Some(count) => *count,
+            None => 0,
         }
     }
 
@@ -94,6 +112,7 @@ impl Slots {
     {
         let place = dup.row.place;
         let distance = mirrored(self.dups.len(), place);
+        self.counts[place as usize] = dup.items.len() as u32;
         self.dups[place as usize] = Some(dup);
         self.empty.remove(distance);
         self.stale.remove(place);
@@ -105,6 +124,7 @@ impl Slots {
         ensures { self.new ≡ record { places = self.old.places; dups = without_place place self.old.dups } }
     {
         let distance = mirrored(self.dups.len(), place);
+        self.counts[place as usize] = 0;
         self.dups[place as usize] = None;
         self.stale.remove(place);
         self.empty.insert(distance);
@@ -121,9 +141,10 @@ impl Slots {
     {
         match &mut self.dups[place as usize] {
             Some(dup) => {
-                let was_stale = dup.items.len() == 0;
                 dup.items.add(page)?;
-                if was_stale {
+                let count = dup.items.len() as u32;
+                self.counts[place as usize] = count;
+                if count == 1 {
                     self.stale.remove(place);
                 }
                 Ok(())
@@ -142,7 +163,9 @@ impl Slots {
                 if !dup.items.remove(page) {
                     return;
                 }
-                if dup.items.len() == 0 {
+                let left = dup.items.len() as u32;
+                self.counts[place as usize] = left;
+                if left == 0 {
                     self.stale.insert(place);
                 }
             }

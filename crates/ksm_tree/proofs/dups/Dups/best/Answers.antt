@@ -13,7 +13,7 @@ returns-in-Some-best-clause-best c =
     let is = c.places-chain.ensures ∙ c.self.invariant.grouped c.args.tree c.args.bytes.now in
     let ended =
     ap (folded limit dups (option_copied c.loop-place.best)) (sym over)
-    ∙ c.loop-place.invariant
+    ∙ c.loop-place.invariant.2
     ∙ ap (folded limit dups None) is
     ∙ folded_best c.args.tree c.args.bytes.now limit dups c.self.invariant.lawful.in_place_order in
     ap (λ b. option_map (λ d. d.row.number) (option_copied b)) (sym c.in-Some-best.is)
@@ -28,7 +28,7 @@ returns-in-None-clause-best c =
     let is = c.places-chain.ensures ∙ c.self.invariant.grouped c.args.tree c.args.bytes.now in
     let ended =
     ap (folded limit dups (option_copied c.loop-place.best)) (sym over)
-    ∙ c.loop-place.invariant
+    ∙ c.loop-place.invariant.2
     ∙ ap (folded limit dups None) is
     ∙ folded_best c.args.tree c.args.bytes.now limit dups c.self.invariant.lawful.in_place_order in
     ap (λ b. option_map (λ d. d.row.number) (option_copied b)) (sym c.in-None.is)

@@ -2,7 +2,7 @@ use Rattle.std.proofs.Common.{◌≡◌, ◌∙◌, ◌+◌, None, true, length,
 use Rattle.std.specs.Prelude.{is_some}
 use Rattle.ksm_tree.specs.Dups.{dup_at, without_place}
 use Rattle.ksm_tree.specs.Slots.{present, is_empty_slot}
-use Rattle.ksm_tree.proofs.OneSlot.{known_within, slots_cleared, slot_emptied, mirrored_room, full_slot}
+use Rattle.ksm_tree.proofs.OneSlot.{known_within, count_within, slots_cleared, slot_emptied, mirrored_room, full_slot}
 use Rattle.ksm_tree.proofs.slots.Slots.clear.Goals as goal
 
 pub mirrored-distance-requires-clause-place : goal.mirrored-distance-requires-clause-place
@@ -12,6 +12,11 @@ mirrored-distance-requires-clause-place c =
 
 pub index_mut-requires : goal.index_mut-requires
 index_mut-requires c =
+    let within = known_within c.args.place c.self.inside.dups.items c.self.invariant.placed (rw (ap (λ s. s.dups) c.self.view_is) c.requires) in
+    omega (arith, count_within c.args.place c.self.inside.dups.items c.self.inside.counts.items c.self.invariant.counted within, c.self.inside.counts.ok.0)
+
+pub index_mut-requires-2 : goal.index_mut-requires-2
+index_mut-requires-2 c =
     let within = known_within c.args.place c.self.inside.dups.items c.self.invariant.placed (rw (ap (λ s. s.dups) c.self.view_is) c.requires) in
     omega (arith, within, c.self.inside.dups.ok.0)
 
@@ -28,7 +33,7 @@ pub invariant_of-self : goal.invariant_of-self
 invariant_of-self c =
     let within = known_within c.args.place c.self.inside.dups.items c.self.invariant.placed (rw (ap (λ s. s.dups) c.self.view_is) c.requires) in
     let at : c.mirrored-distance.result + c.args.place + 1 ≡ length c.self.inside.dups.items = omega (arith, within, c.mirrored-distance.ensures, c.len.ensures) in
-    slots_cleared c.args.place c.mirrored-distance.result c.self.inside.dups.items c.self.inside.empty.list c.self.inside.stale.list c.insert.new.self.list c.remove.new.self.list at c.self.invariant c.insert.ensures.with c.insert.ensures.capacity c.remove.ensures.without c.remove.ensures.capacity
+    slots_cleared c.args.place c.mirrored-distance.result c.self.inside.dups.items c.self.inside.counts.items c.self.inside.empty.list c.self.inside.stale.list c.insert.new.self.list c.remove.new.self.list at c.self.invariant c.insert.ensures.with c.insert.ensures.capacity c.remove.ensures.without c.remove.ensures.capacity
 
 pub returns : goal.returns
 returns c =

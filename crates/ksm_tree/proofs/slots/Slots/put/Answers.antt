@@ -9,7 +9,7 @@ pub invariant_of-self : goal.invariant_of-self
 invariant_of-self c =
     let within : c.args.dup.row.place < length c.self.inside.dups.items = omega (arith, ap (λ s. s.places) c.self.view_is, c.requires.place) in
     let at : c.mirrored-distance.result + c.args.dup.row.place + 1 ≡ length c.self.inside.dups.items = omega (arith, within, c.mirrored-distance.ensures, c.len.ensures) in
-    slots_put c.self.inside.dups.items c.self.inside.empty.list c.self.inside.stale.list c.remove.new.self.list c.remove-2.new.self.list c.args.dup c.mirrored-distance.result at c.requires.live c.self.invariant c.remove.ensures.without c.remove.ensures.capacity c.remove-2.ensures.without c.remove-2.ensures.capacity
+    slots_put c.self.inside.dups.items c.self.inside.counts.items c.self.inside.empty.list c.self.inside.stale.list c.remove.new.self.list c.remove-2.new.self.list c.args.dup c.mirrored-distance.result c.len-2.result at c.len-2.ensures.count c.requires.live c.self.invariant c.remove.ensures.without c.remove.ensures.capacity c.remove-2.ensures.without c.remove-2.ensures.capacity
 
 pub returns : goal.returns
 returns c =
