@@ -527,8 +527,7 @@ impl State {
         ensures performs { OnOk result (Performs (mapped self.old) (mapped self.new) (pairing (partner self.old.state.knobs self.old.state.rows row) self.old.state self.old.frames row)) }
         ensures idle { OnErr result (IsIdle (mapped self.old) (mapped self.new)) }
     {
-        let Some(other) = self.layout.partner(&row) else {
-            self.layout.wait(row)?;
+        let Some(other) = self.layout.meet(&row)? else {
             return Ok(Visited::Same);
         };
         self.layout.lies_lawfully();

@@ -1,6 +1,6 @@
 //! Rows and dups as they lie in the keeper's frames: each call is one lawful change of both.
 
-ghost use Rattle.std.specs.Prelude.{◌≡◌, ◌<◌, ◌≤◌, ◌+◌, ◌^◌, ◌⊎◌, [], true, false, None, Some, Err, All, count_by, filter, find, map, is_some, ◌==◌, ◌&&◌, option_map, MatchOption, OnOk, OnErr, IfOk, IfErr, IsSome};
+ghost use Rattle.std.specs.Prelude.{◌≡◌, ◌<◌, ◌≤◌, ◌+◌, ◌^◌, ◌⊎◌, [], true, false, None, Some, Err, All, count_by, filter, find, map, is_some, ◌==◌, ◌&&◌, option_map, MatchOption, OnOk, OnErr, OnSome, IfOk, IfErr, IfNone, IsSome};
 ghost use Rattle.ksm_base.specs.declared.fault.Fault.TheVariants.{Memory};
 ghost use Rattle.ksm_base.specs.declared.row.PageState.TheVariants.{Private, Waiting, Merged, Zero};
 ghost use Rattle.ksm_base.specs.Rows.{row_at, with_row, without_page, change_row, change_rows, shared_state, waiting_state, same_page, settled, has_items, is_stale, dup_numbered, InPlaceOrder};
@@ -107,13 +107,6 @@ impl Layout {
         ensures { result ≡ option_map (λ d. d.number) (best_dup self.now.knobs self.now.rows self.now.dups row.now) }
     {
         self.pages.best(row)
-    }
-
-    /// The row that waits for another.
-    pub fn partner(&self, row: &Row) -> Option<Row>
-        ensures { result ≡ partner self.now.knobs self.now.rows row.now }
-    {
-        self.pages.partner(row)
     }
 
     /// Where a new dup goes.
@@ -271,17 +264,20 @@ impl Layout {
         self.pages.revise(row);
     }
 
-    /// A row with a frame of its own waits from now on. Refused for memory alone.
-    pub fn wait(&mut self, row: Row) -> Result<(), Fault>
-        requires row_is { row_at row.page self.old.rows ≡ Some row }
-        requires alone { shared_state row.state ≡ false }
-        requires first { partner self.old.knobs self.old.rows row ≡ None }
-        ensures state { OnOk result (self.new ≡ record self.old { rows = change_row row.page (λ _. record row { state = Waiting }) self.old.rows }) }
+    /// The row that waits for another; where there is none, the row waits from now on. Refused for memory alone, where there is none, it
+    /// changes nothing.
+    pub fn meet(&mut self, row: &Row) -> Result<Option<Row>, Fault>
+        requires row_is { row_at row.now.page self.old.rows ≡ Some row.now }
+        requires alone { shared_state row.now.state ≡ false }
+        ensures partner { IfOk result (λ other. other ≡ partner self.old.knobs self.old.rows row.now) }
+        ensures kept { IfOk result (λ other. OnSome other (self.new ≡ self.old)) }
+        ensures state { IfOk result (λ other. IfNone other (self.new ≡ record self.old { rows = change_row row.now.page (λ _. record row.now { state = Waiting }) self.old.rows })) }
         ensures keeper { self.new.keeper ≡ self.old.keeper }
+        ensures lone { OnErr result (partner self.old.knobs self.old.rows row.now ≡ None) }
         ensures refused { OnErr result (self.new ≡ self.old) }
         ensures fault { OnErr result (result ≡ Err Memory) }
     {
-        self.pages.wait(row)
+        self.pages.meet(row)
     }
 
     /// The page of a row with a frame of its own becomes Zero, and leaves its frame.

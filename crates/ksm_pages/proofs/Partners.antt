@@ -1,8 +1,8 @@
 -- The waiting pages stay those of the rows that wait, and tell the row that waits for another.
-use Rattle.std.proofs.Common.{◌≡◌, ◌∙◌, ℕ, Bool, true, false, cond, List, [], get_or, map, Option, None, Some, refl, sym, ap, inl, inr}
+use Rattle.std.proofs.Common.{◌≡◌, ◌∙◌, ℕ, Bool, true, false, cond, List, [], get_or, map, Option, None, Some, refl, sym, ap, subst}
 use Rattle.std.specs.Prelude.{◌&&◌, ◌==◌, All, bytes_eq, if◌then◌else◌}
-use Rattle.std.specs.Option.{option_and_then}
-use Rattle.std.proofs.lemmas.Bool.{cases_Bool, false≢true}
+use Rattle.std.specs.Option.{is_some, option_and_then, unwrap_or}
+use Rattle.std.proofs.lemmas.Bool.{false≢true}
 use Rattle.std.proofs.lemmas.List.Elements.{All-map}
 use Rattle.ksm_base.specs.declared.knobs.Knobs.{Knobs}
 use Rattle.ksm_base.specs.declared.page.GuestPage.{GuestPage}
@@ -14,8 +14,9 @@ use Rattle.ksm_base.specs.Rows.{InPageOrder, change_row, change_rows, row_at, sa
 use Rattle.ksm_base.specs.State.{tree_of}
 use Rattle.ksm_base.specs.Visit.{partner}
 use Rattle.ksm_base.proofs.Edits.{find_all}
-use Rattle.ksm_tree.specs.Waits.{AreWaiting, IsStopped, names, waiting_page, waits_there, WaitingPage}
-use Rattle.ksm_tree.proofs.Waiters.{at_others, look_up_found, none_waiting, own_found, partner_found, row_stopped, rows_changed}
+use Rattle.ksm_base.proofs.Pages.{same_page_refl}
+use Rattle.ksm_tree.specs.Waits.{AreWaiting, IsAdded, IsStopped, names, waiting_page, waits_there, WaitingPage}
+use Rattle.ksm_tree.proofs.Waiters.{at_others, look_up_found, none_waiting, own_found, partner_found, row_begun, row_kept, row_stopped, rows_changed}
 
 module _ (knobs : Knobs) (rows : List Row) (w : List WaitingPage) (row : Row) (rise : InPageOrder rows) (are : AreWaiting knobs rows w) where
   abbrev partner_at : Option GuestPage → Option Row
@@ -36,19 +37,54 @@ module _ (knobs : Knobs) (rows : List Row) (w : List WaitingPage) (row : Row) (r
   pub partner_other : (page : GuestPage) → waiting_page (tree_of knobs row) row.bytes w ≡ Some page → same_page page row.page ≡ false → partner knobs rows row ≡ row_at page rows
   partner_other page is other = looked_up (Some page) is ∙ ap (λ b. cond b None (row_at page rows)) other
 
-  -- where a row has no partner and does not wait itself, no page waits in its tree with its bytes
-  pub nothing_waits : row_at row.page rows ≡ Some row → waiting_state row.state ≡ false → partner knobs rows row ≡ None → waiting_page (tree_of knobs row) row.bytes w ≡ None
-  nothing_waits found still none = go (waiting_page (tree_of knobs row) row.bytes w) refl
-    where
-      go : (o : Option GuestPage) → waiting_page (tree_of knobs row) row.bytes w ≡ o → o ≡ None
-      go None is = refl
-      go (Some page) is =
-          elim (cases_Bool (same_page page row.page)) [
-            | inl same ↦ absurd (false≢true (sym still ∙ sym (own_found knobs rows w row found are) ∙ ap (names row.page) is ∙ same))
-            | inr other ↦
-                let gone : row_at page rows ≡ None = sym (partner_other page is other) ∙ none in
-                absurd (false≢true (sym (ap (waits_there knobs (tree_of knobs row) row.bytes) gone) ∙ look_up_found knobs rows w (tree_of knobs row) row.bytes page are is))
-          ]
+  -- the page that waits from now on: the one that did, or else the row's own
+  module _ (met : GuestPage) (is : met ≡ unwrap_or (waiting_page (tree_of knobs row) row.bytes w) row.page) where
+    met_so : (o : Option GuestPage) → waiting_page (tree_of knobs row) row.bytes w ≡ o → met ≡ unwrap_or o row.page
+    met_so o at = is ∙ ap (λ o. unwrap_or o row.page) at
+
+    -- where it is the row's own, no other row waits
+    pub met_own : same_page met row.page ≡ true → partner knobs rows row ≡ None
+    met_own own = go (waiting_page (tree_of knobs row) row.bytes w) refl
+      where
+        go : (o : Option GuestPage) → waiting_page (tree_of knobs row) row.bytes w ≡ o → partner knobs rows row ≡ None
+        go None at = partner_nothing at
+        go (Some page) at = partner_own page at (ap (λ (p : GuestPage). same_page p row.page) (sym (met_so (Some page) at)) ∙ own)
+
+    -- where it is another, its row is the one that waits
+    pub met_other : same_page met row.page ≡ false → waiting_page (tree_of knobs row) row.bytes w ≡ Some met
+    met_other other = go (waiting_page (tree_of knobs row) row.bytes w) refl
+      where
+        go : (o : Option GuestPage) → waiting_page (tree_of knobs row) row.bytes w ≡ o → waiting_page (tree_of knobs row) row.bytes w ≡ Some met
+        go None at =
+            absurd (false≢true (sym other ∙ ap (λ (p : GuestPage). same_page p row.page) (met_so None at) ∙ same_page_refl row.page))
+        go (Some page) at = at ∙ ap Some (sym (met_so (Some page) at))
+
+    pub met_row : same_page met row.page ≡ false → partner knobs rows row ≡ row_at met rows
+    met_row other = partner_other met (met_other other) other
+
+    -- which is there
+    pub met_stands : same_page met row.page ≡ false → row_at met rows ≡ None → ⊥
+    met_stands other gone =
+        false≢true (sym (ap (waits_there knobs (tree_of knobs row) row.bytes) gone)
+        ∙ look_up_found knobs rows w (tree_of knobs row) row.bytes met are (met_other other))
+
+    -- the row's own page waits from now on
+    pub met_waits : row_at row.page rows ≡ Some row → same_page met row.page ≡ true → (new : List WaitingPage)
+        → IsAdded (tree_of knobs row) row.bytes met w new → (is_some (waiting_page (tree_of knobs row) row.bytes w) ≡ true → new ≡ w)
+        → AreWaiting knobs (change_row row.page (λ _. record row { state = Waiting }) rows) new
+    met_waits found own new added kept = go (waiting_page (tree_of knobs row) row.bytes w) refl
+      where
+        go : (o : Option GuestPage) → waiting_page (tree_of knobs row) row.bytes w ≡ o
+            → AreWaiting knobs (change_row row.page (λ _. record row { state = Waiting }) rows) new
+        go None at =
+            row_begun knobs rows w are new (record row { state = Waiting }) row found
+            (sym (own_found knobs rows w row found are) ∙ ap (names row.page) at) refl at
+            (subst (λ (p : GuestPage). IsAdded (tree_of knobs row) row.bytes p w new) (met_so None at) added)
+        go (Some page) at =
+            let waits : waiting_state row.state ≡ true = sym (own_found knobs rows w row found are) ∙ ap (names row.page) at
+            ∙ ap (λ (p : GuestPage). same_page p row.page) (sym (met_so (Some page) at)) ∙ own in
+            subst (AreWaiting knobs (change_row row.page (λ _. record row { state = Waiting }) rows)) (sym (kept (ap is_some at)))
+            (row_kept knobs rows w are (record row { state = Waiting }) row found (refl, refl, refl, sym waits))
 
 -- ---------------------------------------------------------------- changes
 

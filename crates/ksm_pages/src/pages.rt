@@ -1,6 +1,6 @@
 //! The pages: the rows with their frames, the dups into which rows are merged, and the pages that wait, each told of the others' changes.
 
-ghost use Rattle.std.specs.Prelude.{◌≡◌, ◌<◌, ◌⊎◌, ◌+◌, ◌≤◌, [], true, false, None, Some, Err, All, count_by, filter, find, length, map, insert, remove, slice_set, is_some, ◌==◌, ◌&&◌, option_map, IfOk, IfErr, IfSome, OnOk, OnErr, MatchOption, Option};
+ghost use Rattle.std.specs.Prelude.{◌≡◌, ◌<◌, ◌⊎◌, ◌+◌, ◌≤◌, [], true, false, None, Some, Err, All, count_by, filter, find, length, map, insert, remove, slice_set, is_some, ◌==◌, ◌&&◌, option_map, IfOk, IfErr, IfNone, IfSome, OnOk, OnErr, OnSome, MatchOption, Option};
 ghost use Rattle.std.specs.List.{list_any};
 ghost use Rattle.ksm_base.specs.declared.fault.Fault.TheVariants.{Memory};
 ghost use Rattle.ksm_base.specs.declared.row.PageState.TheVariants.{Private, Merged, Zero};
@@ -213,18 +213,6 @@ impl Pages {
         self.dups.best(tree, &row.bytes, limit)
     }
 
-    /// The row that waits for another.
-    pub fn partner(&self, row: &Row) -> Option<Row>
-        ensures { result ≡ row_waiting self.now.knobs self.now.listed.rows row.now }
-    {
-        let page = self.waiting.find(tree_of(&self.knobs, row), &row.bytes)?;
-        if same_page(page, row.page) {
-            return None;
-        }
-        let held = self.rows.find(page)?;
-        Some(held.row)
-    }
-
     /// Where a new dup goes.
     pub fn new_place(&self) -> u32
         requires room { a_new_place (place_count self.now.shape) self.now.listed.rows self.now.dups < place_count self.now.shape }
@@ -383,25 +371,32 @@ impl Pages {
         Some(left(&mut self.dups, &self.lodgings, page, held))
     }
 
-    /// A row with a frame of its own waits from now on, on that frame. Refused for memory alone, it changes nothing.
-    pub fn wait(&mut self, row: Row) -> Result<(), Fault>
-        requires row_is { row_at row.page self.old.listed.rows ≡ Some row }
-        requires alone { shared_state row.state ≡ false }
-        requires first { row_waiting self.old.knobs self.old.listed.rows row ≡ None }
-        ensures stood { OnOk result (StandsAt self.old.listed row.page row (frame_in self.old.listed.frames (rank row.page self.old.listed.rows))) }
-        ensures rows { OnOk result (self.new.listed.rows ≡ slice_set self.old.listed.rows (rank row.page self.old.listed.rows) (record row { state = PageState.Waiting })) }
-        ensures frames { OnOk result (self.new.listed.frames ≡ self.old.listed.frames) }
-        ensures changed { OnOk result (self.new.listed.rows ≡ change_row row.page (λ _. record row { state = PageState.Waiting }) self.old.listed.rows) }
+    /// The row that waits for another; where there is none, the row waits from now on, on the frame of its own that it has. Refused for
+    /// memory alone, where there is none, it changes nothing.
+    pub fn meet(&mut self, row: &Row) -> Result<Option<Row>, Fault>
+        requires row_is { row_at row.now.page self.old.listed.rows ≡ Some row.now }
+        requires alone { shared_state row.now.state ≡ false }
+        ensures partner { IfOk result (λ other. other ≡ row_waiting self.old.knobs self.old.listed.rows row.now) }
+        ensures kept { IfOk result (λ other. OnSome other (self.new ≡ self.old)) }
+        ensures stood { IfOk result (λ other. IfNone other (StandsAt self.old.listed row.now.page row.now (frame_in self.old.listed.frames (rank row.now.page self.old.listed.rows)))) }
+        ensures rows { IfOk result (λ other. IfNone other (self.new.listed.rows ≡ slice_set self.old.listed.rows (rank row.now.page self.old.listed.rows) (record row.now { state = PageState.Waiting }))) }
+        ensures frames { self.new.listed.frames ≡ self.old.listed.frames }
+        ensures changed { IfOk result (λ other. IfNone other (self.new.listed.rows ≡ change_row row.now.page (λ _. record row.now { state = PageState.Waiting }) self.old.listed.rows)) }
         ensures rest { self.new ≡ record self.old { listed = self.new.listed } }
+        ensures lone { OnErr result (row_waiting self.old.knobs self.old.listed.rows row.now ≡ None) }
         ensures refused { OnErr result (self.new ≡ self.old) }
         ensures fault { OnErr result (result ≡ Err Memory) }
     {
-        if !is_waiting(row.state) {
-            let tree = tree_of(&self.knobs, &row);
-            self.waiting.add(tree, &row.bytes, row.page)?;
+        let tree = tree_of(&self.knobs, row);
+        let page = self.waiting.find_or_add(tree, &row.bytes, row.page)?;
+        if same_page(page, row.page) {
+            self.rows.restate(row, PageState::Waiting);
+            return Ok(None);
         }
-        self.rows.restate(&row, PageState::Waiting);
-        Ok(())
+        match self.rows.row(page) {
+            Some(other) => Ok(Some(other)),
+            None => unreachable!(),
+        }
     }
 
     /// A row becomes Zero, and has no frame any more. Gives what stood there.

@@ -1,4 +1,5 @@
-ghost use Rattle.std.specs.Prelude.{◌≡◌, [], None, IfErr, OnOk, OnErr, map};
+ghost use Rattle.std.specs.Prelude.{◌≡◌, [], None, IfOk, IfErr, OnErr, is_some, map, true};
+ghost use Rattle.std.specs.Option.{unwrap_or};
 ghost use Rattle.ksm_tree.specs.Waits.{IsAdded, IsRemoved, waiting_page};
 
 use crate::content::Content;
@@ -10,8 +11,8 @@ use std::marker::Model;
 
 /// The pages that wait for an equal one: at most one of each tree and bytes (mm/ksm, the unstable tree).
 ///
-/// `find`, `add` and `remove` cost a hash and a comparison, in the mean; an `add` that finds no room left moves all of them. `clear` costs
-/// the number of the most that waited at once. The hash has a fixed seed: where contents were picked that collide, a look-up costs a
+/// `find_or_add` and `remove` cost a hash and a comparison, in the mean; where a page is added and no room is left, all of them are moved.
+/// `clear` costs the number of the most that waited at once. The hash has a fixed seed: where contents were picked that collide, a look-up costs a
 /// comparison for each.
 #[derive(Drop)]
 pub struct Waiting {
@@ -37,22 +38,23 @@ impl Waiting {
         }
     }
 
-    /// The page that waits in a tree with these bytes.
-    pub fn find(&self, tree: u32, bytes: &PageBytes) -> Option<GuestPage>
-        ensures { result ≡ waiting_page tree bytes.now self.now }
-    {
-        self.pages.get(&Content::of(tree, bytes)).copied()
-    }
-
-    /// A page waits from now on. The one fault is `Memory`, and then nothing changes.
-    pub fn add(&mut self, tree: u32, bytes: &PageBytes, page: GuestPage) -> Result<(), Fault>
-        requires { waiting_page tree bytes.now self.old ≡ None }
-        ensures added { OnOk result (IsAdded tree bytes.now page self.old self.new) }
-        ensures kept { OnErr result (self.new ≡ self.old) }
+    /// The page that waits in a tree with these bytes from now on: the one that did, or else this one. The one fault is `Memory`, where
+    /// none did, and then nothing changes.
+    pub fn find_or_add(
+        &mut self,
+        tree: u32,
+        bytes: &PageBytes,
+        page: GuestPage,
+    ) -> Result<GuestPage, Fault>
+        ensures found { IfOk result (λ found. found ≡ unwrap_or (waiting_page tree bytes.now self.old) page) }
+        ensures added { IfOk result (λ found. IsAdded tree bytes.now found self.old self.new) }
+        ensures kept { is_some (waiting_page tree bytes.now self.old) ≡ true → self.new ≡ self.old }
+        ensures absent { OnErr result (waiting_page tree bytes.now self.old ≡ None) }
+        ensures refused { OnErr result (self.new ≡ self.old) }
         ensures memory { IfErr result (λ fault. fault ≡ Fault.Memory) }
     {
-        self.pages.insert(Content::of(tree, bytes), page)?;
-        Ok(())
+        let entry = self.pages.entry(Content::of(tree, bytes))?;
+        Ok(*entry.or_insert(page))
     }
 
     /// The page that waits in a tree with these bytes waits no more, if there is one.

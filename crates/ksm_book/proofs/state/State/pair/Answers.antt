@@ -1,8 +1,9 @@
 use Rattle.std.proofs.Common.{◌≡◌, ◌∙◌, ℕ, List, Option, refl, sym, ap, subst}
-use Rattle.std.specs.Prelude.{map}
+use Rattle.std.specs.Prelude.{IfNone, OnSome, Some, map}
+use Rattle.ksm_base.specs.declared.page.GuestPage.{GuestPage}
 use Rattle.ksm_base.specs.declared.row.Row.{Row}
 use Rattle.ksm_base.specs.declared.row.PageState.TheVariants.{Waiting, Merged}
-use Rattle.ksm_base.specs.Rows.{settled, with_dup}
+use Rattle.ksm_base.specs.Rows.{change_row, settled, with_dup}
 use Rattle.ksm_base.specs.Sound.{IsSound}
 use Rattle.ksm_base.specs.Visit.{next_row, partner, paired, made_dup}
 use Rattle.ksm_base.proofs.SoundScan.{next_row_visited, sound_paired}
@@ -15,23 +16,46 @@ use Rattle.ksm_book.proofs.Gathered.{settled_alone, stays_merged, told_alike}
 use Rattle.ksm_book.proofs.Standing.{partner_finds_place}
 use Rattle.ksm_book.proofs.Visiting.{visited_at, partner_founds, joins_new, both_joined, same_dup, apart}
 use Rattle.ksm_book.proofs.state.State.pair.Goals as goal
-use Rattle.ksm_book.proofs.state.State.pair.Goals.{In_ok-pair, In_ok-wait}
+use Rattle.ksm_book.proofs.state.State.pair.Goals.{In_default, In_ok-pair}
 
-pub wait-requires-clause-row_is : goal.wait-requires-clause-row_is
-wait-requires-clause-row_is c =
+-- what is known once another row is found, at the layout as it is then
+record Met (lay : Lay) (cursor : Option GuestPage) (passes : ℕ) (row other : Row) : Type 0 where
+  sound : IsSound (state_of lay cursor passes)
+  next : next_row cursor lay.rows ≡ Some row
+  waits : partner lay.knobs lay.rows row ≡ Some other
+
+-- which is the layout as it was
+kept : (old new : Lay) (other : Row) (o : Option Row) → o ≡ Some other → OnSome o (new ≡ old) → new ≡ old
+kept old new other o is same = subst (λ (p : Option Row). OnSome p (new ≡ old)) is same
+
+met : (old new : Lay) (cursor : Option GuestPage) (passes : ℕ) (row other : Row) (o : Option Row) → o ≡ Some other → OnSome o (new ≡ old)
+    → o ≡ partner old.knobs old.rows row → IsSound (state_of old cursor passes) → next_row cursor old.rows ≡ Some row → Met new cursor passes row other
+met old new cursor passes row other o is same told sound next =
+    subst (λ (lay : Lay). Met lay cursor passes row other) (sym (kept old new other o is same))
+    (record { sound = sound; next = next; waits = sym told ∙ is })
+
+pub meet-requires-clause-row_is : goal.meet-requires-clause-row_is
+meet-requires-clause-row_is c =
     let s = c.self.inside in
     visited_at (state_of s.layout s.cursor s.passes) c.args.row c.self.invariant (ap (λ (x : BookView). next_row x.state.cursor x.state.rows) c.self.view_is ∙ c.requires.next)
 
 -- the row waits
-waits : (c : In_ok-wait) → state_of c.wait.new.self c.self.inside.cursor c.self.inside.passes ≡ paired (partner c.self.inside.layout.knobs c.self.inside.layout.rows c.args.row) (state_of c.self.inside.layout c.self.inside.cursor c.self.inside.passes) c.args.row
+waits_now : (c : In_default) → c.meet.new.self ≡ record c.self.inside.layout { rows = change_row c.args.row.page (λ _. record c.args.row { state = Waiting }) c.self.inside.layout.rows }
+waits_now c =
+    let lay = c.self.inside.layout in
+    let row = c.args.row in
+    subst (λ (o : Option Row). IfNone o (c.meet.new.self ≡ record lay { rows = change_row row.page (λ _. record row { state = Waiting }) lay.rows }))
+    c.in_default.is c.in_ok-other.ensures.state
+
+waits : (c : In_default) → state_of c.meet.new.self c.self.inside.cursor c.self.inside.passes ≡ paired (partner c.self.inside.layout.knobs c.self.inside.layout.rows c.args.row) (state_of c.self.inside.layout c.self.inside.cursor c.self.inside.passes) c.args.row
 waits c =
     let s = c.self.inside in
     let b = state_of s.layout s.cursor s.passes in
     let row = c.args.row in
     let found = visited_at b row c.self.invariant (ap (λ (x : BookView). next_row x.state.cursor x.state.rows) c.self.view_is ∙ c.requires.next) in
-    ap (λ (x : Lay). state_of x s.cursor s.passes) c.in_ok-wait.ensures.state
+    ap (λ (x : Lay). state_of x s.cursor s.passes) (waits_now c)
     ∙ ap (λ rows. record b { rows = rows }) (change_known row.page (λ r. record r { state = Waiting }) s.layout.rows row c.self.invariant.rows_rise found)
-    ∙ ap (λ o. paired o b row) c.in_default.ensures
+    ∙ ap (λ o. paired o b row) (sym c.in_default.is ∙ c.in_ok-other.ensures.partner)
 
 pub returns-in_default-clause-ok : goal.returns-in_default-clause-ok
 returns-in_default-clause-ok c = waits c ∙ ap (λ (x : BookView). paired (partner x.state.knobs x.state.rows c.args.row) x.state c.args.row) c.self.view_is
@@ -46,56 +70,75 @@ invariant_of-self-in_default c =
 pub new_place-place-requires : goal.new_place-place-requires
 new_place-place-requires c =
     let s = c.self.inside in
-    record { room = partner_finds_place s.layout s.cursor s.passes c.args.row c.in-Some.other c.self.invariant (sym c.in-Some.ensures) c.lies_lawfully.ensures.placed }
+    let next = ap (λ (x : BookView). next_row x.state.cursor x.state.rows) c.self.view_is ∙ c.requires.next in
+    let m = met s.layout c.meet.new.self s.cursor s.passes c.args.row c.in-Some.other c.in_ok-other.field-0 c.in-Some.is c.in_ok-other.ensures.kept
+    c.in_ok-other.ensures.partner c.self.invariant next in
+    record { room = partner_finds_place c.meet.new.self s.cursor s.passes c.args.row c.in-Some.other m.sound m.waits c.lies_lawfully.ensures.placed }
 
 pub pair-requires-clause-founds : goal.pair-requires-clause-founds
 pair-requires-clause-founds c =
     let s = c.self.inside in
-    partner_founds s.layout s.cursor s.passes c.args.row c.in-Some.other c.new_place-place.result c.self.invariant (sym c.in-Some.ensures) c.new_place-place.ensures
-    (partner_finds_place s.layout s.cursor s.passes c.args.row c.in-Some.other c.self.invariant (sym c.in-Some.ensures) c.lies_lawfully.ensures.placed)
+    let lay = c.meet.new.self in
+    let next = ap (λ (x : BookView). next_row x.state.cursor x.state.rows) c.self.view_is ∙ c.requires.next in
+    let m = met s.layout c.meet.new.self s.cursor s.passes c.args.row c.in-Some.other c.in_ok-other.field-0 c.in-Some.is c.in_ok-other.ensures.kept
+    c.in_ok-other.ensures.partner c.self.invariant next in
+    partner_founds lay s.cursor s.passes c.args.row c.in-Some.other c.new_place-place.result m.sound m.waits c.new_place-place.ensures
+    (partner_finds_place lay s.cursor s.passes c.args.row c.in-Some.other m.sound m.waits c.lies_lawfully.ensures.placed)
 
 pub pair-requires-clause-joins : goal.pair-requires-clause-joins
 pair-requires-clause-joins c =
     let s = c.self.inside in
-    joins_new s.layout s.cursor s.passes c.args.row c.in-Some.other c.new_place-place.result c.self.invariant
-    (ap (λ (x : BookView). next_row x.state.cursor x.state.rows) c.self.view_is ∙ c.requires.next) c.requires.alone (sym c.in-Some.ensures)
-    (founded s.layout c.new_place-place.result c.in-Some.other) refl refl
+    let lay = c.meet.new.self in
+    let next = ap (λ (x : BookView). next_row x.state.cursor x.state.rows) c.self.view_is ∙ c.requires.next in
+    let m = met s.layout c.meet.new.self s.cursor s.passes c.args.row c.in-Some.other c.in_ok-other.field-0 c.in-Some.is c.in_ok-other.ensures.kept
+    c.in_ok-other.ensures.partner c.self.invariant next in
+    joins_new lay s.cursor s.passes c.args.row c.in-Some.other c.new_place-place.result m.sound m.next c.requires.alone m.waits
+    (founded lay c.new_place-place.result c.in-Some.other) refl refl
 
 pub pair-requires-clause-second : goal.pair-requires-clause-second
 pair-requires-clause-second c =
     let s = c.self.inside in
-    visited_at (state_of s.layout s.cursor s.passes) c.args.row c.self.invariant (ap (λ (x : BookView). next_row x.state.cursor x.state.rows) c.self.view_is ∙ c.requires.next)
+    let next = ap (λ (x : BookView). next_row x.state.cursor x.state.rows) c.self.view_is ∙ c.requires.next in
+    let m = met s.layout c.meet.new.self s.cursor s.passes c.args.row c.in-Some.other c.in_ok-other.field-0 c.in-Some.is c.in_ok-other.ensures.kept
+    c.in_ok-other.ensures.partner c.self.invariant next in
+    visited_at (state_of c.meet.new.self s.cursor s.passes) c.args.row m.sound m.next
 
 pub pair-requires-clause-apart : goal.pair-requires-clause-apart
 pair-requires-clause-apart c =
     let s = c.self.inside in
-    apart s.layout s.cursor s.passes c.args.row c.in-Some.other c.new_place-place.result c.self.invariant
-    (ap (λ (x : BookView). next_row x.state.cursor x.state.rows) c.self.view_is ∙ c.requires.next) c.requires.alone (sym c.in-Some.ensures)
+    let next = ap (λ (x : BookView). next_row x.state.cursor x.state.rows) c.self.view_is ∙ c.requires.next in
+    let m = met s.layout c.meet.new.self s.cursor s.passes c.args.row c.in-Some.other c.in_ok-other.field-0 c.in-Some.is c.in_ok-other.ensures.kept
+    c.in_ok-other.ensures.partner c.self.invariant next in
+    apart c.meet.new.self s.cursor s.passes c.args.row c.in-Some.other c.new_place-place.result m.sound m.next c.requires.alone m.waits
 
 -- both rows are the items of a new dup
 merged : (c : In_ok-pair) → state_of c.pair.new.self c.self.inside.cursor c.self.inside.passes ≡ paired (partner c.self.inside.layout.knobs c.self.inside.layout.rows c.args.row) (state_of c.self.inside.layout c.self.inside.cursor c.self.inside.passes) c.args.row
 merged c =
     let s = c.self.inside in
-    let b = state_of s.layout s.cursor s.passes in
+    let lay = c.meet.new.self in
+    let b = state_of lay s.cursor s.passes in
     let other = c.in-Some.other in
     let place = c.new_place-place.result in
     let row = c.args.row in
     let next = ap (λ (x : BookView). next_row x.state.cursor x.state.rows) c.self.view_is ∙ c.requires.next in
-    let waits = sym c.in-Some.ensures in
-    let after = founded s.layout place other in
+    let m = met s.layout c.meet.new.self s.cursor s.passes c.args.row c.in-Some.other c.in_ok-other.field-0 c.in-Some.is c.in_ok-other.ensures.kept
+    c.in_ok-other.ensures.partner c.self.invariant next in
+    let after = founded lay place other in
     let step = c.in_ok-pair.ensures.state in
-    let rows = both_joined s.layout s.cursor s.passes row other place c.self.invariant next c.requires.alone waits after.rows c.pair.new.self.rows refl (ap (λ (x : Lay). x.rows) step) in
-    let dup = same_dup s.layout s.cursor s.passes row other place c.self.invariant next c.requires.alone waits in
+    let rows = both_joined lay s.cursor s.passes row other place m.sound m.next c.requires.alone m.waits after.rows c.pair.new.self.rows refl (ap (λ (x : Lay). x.rows) step) in
+    let dup = same_dup lay s.cursor s.passes row other place m.sound m.next c.requires.alone m.waits in
     let there : state_of c.pair.new.self s.cursor s.passes ≡ made_dup place b other row = λ t. record {
       shape = ap (λ (x : Lay). x.shape) step t;
       rows = rows t;
-      dups = (ap (λ (x : Lay). x.dups) step ∙ ap (λ d. with_dup d s.layout.dups) dup) t;
+      dups = (ap (λ (x : Lay). x.dups) step ∙ ap (λ d. with_dup d lay.dups) dup) t;
       knobs = ap (λ (x : Lay). x.knobs) step t;
       cursor = s.cursor;
       passes = s.passes;
       next = ap (λ (x : Lay). x.next) step t;
     } in
-    there ∙ ap (λ p. made_dup p b other row) c.new_place-place.ensures ∙ ap (λ o. paired o b row) c.in-Some.ensures
+    there ∙ ap (λ p. made_dup p b other row) c.new_place-place.ensures ∙ ap (λ o. paired o b row) (sym m.waits)
+    ∙ ap (λ (x : Lay). paired (partner x.knobs x.rows row) (state_of x s.cursor s.passes) row)
+    (kept s.layout lay other c.in_ok-other.field-0 c.in-Some.is c.in_ok-other.ensures.kept)
 
 pub returns-clause-ok : goal.returns-clause-ok
 returns-clause-ok c = merged c ∙ ap (λ (x : BookView). paired (partner x.state.knobs x.state.rows c.args.row) x.state c.args.row) c.self.view_is
@@ -111,20 +154,28 @@ invariant_of-self-2 c =
 pub returns-clause-performs : goal.returns-clause-performs
 returns-clause-performs c =
     let s = c.self.inside in
-    let b = state_of s.layout s.cursor s.passes in
+    let lay = c.meet.new.self in
+    let b = state_of lay s.cursor s.passes in
     let row = c.args.row in
-    let old = mapped (record { state = b; frames = s.layout.frames; keeper = s.layout.keeper }) in
+    let next = ap (λ (x : BookView). next_row x.state.cursor x.state.rows) c.self.view_is ∙ c.requires.next in
+    let m = met s.layout c.meet.new.self s.cursor s.passes c.args.row c.in-Some.other c.in_ok-other.field-0 c.in-Some.is c.in_ok-other.ensures.kept
+    c.in_ok-other.ensures.partner c.self.invariant next in
+    let old = mapped (record { state = b; frames = lay.frames; keeper = lay.keeper }) in
     let new = mapped (record { state = state_of c.pair.new.self s.cursor s.passes; frames = c.pair.new.self.frames; keeper = c.pair.new.self.keeper }) in
-    let placed = subst (λ (p : ℕ). Performs old new (founding b.dups (listed_in b s.layout.frames) p c.in-Some.other row)) c.new_place-place.ensures c.in_ok-pair.ensures.performs in
-    let paired_so = subst (λ (o : Option Row). Performs old new (pairing o b s.layout.frames row)) c.in-Some.ensures placed in
-    subst (λ (x : BookView). Performs (mapped x) new (pairing (partner x.state.knobs x.state.rows row) x.state x.frames row)) c.self.view_is paired_so
+    let placed = subst (λ (p : ℕ). Performs old new (founding b.dups (listed_in b lay.frames) p c.in-Some.other row)) c.new_place-place.ensures c.in_ok-pair.ensures.performs in
+    let paired_so = subst (λ (o : Option Row). Performs old new (pairing o b lay.frames row)) (sym m.waits) placed in
+    let view : record { state = b; frames = lay.frames; keeper = lay.keeper } ≡ c.args.self.now =
+    ap (λ (x : Lay). record { state = state_of x s.cursor s.passes; frames = x.frames; keeper = x.keeper })
+    (kept s.layout lay c.in-Some.other c.in_ok-other.field-0 c.in-Some.is c.in_ok-other.ensures.kept) ∙ c.self.view_is in
+    subst (λ (x : BookView). Performs (mapped x) new (pairing (partner x.state.knobs x.state.rows row) x.state x.frames row)) view paired_so
 
 pub returns-clause-joined : goal.returns-clause-joined
 returns-clause-joined c is =
     let row = c.args.row in
-    let first = founded c.self.inside.layout c.new_place-place.result c.in-Some.other in
+    let lay = c.meet.new.self in
+    let first = founded lay c.new_place-place.result c.in-Some.other in
     subst (λ (x : Lay). StaysNow row.page x.rows) (sym c.in_ok-pair.ensures.state)
-    (stays_merged row.page (λ _. record row { state = Merged c.self.inside.layout.next }) first.rows (λ r. refl))
+    (stays_merged row.page (λ _. record row { state = Merged lay.next }) first.rows (λ r. refl))
 
 pub returns-in_default-clause-settled : goal.returns-in_default-clause-settled
 returns-in_default-clause-settled c is =
@@ -133,6 +184,6 @@ returns-in_default-clause-settled c is =
     let row = c.args.row in
     let new : Row = record row { state = Waiting } in
     let found = visited_at (state_of lay s.cursor s.passes) row c.self.invariant (ap (λ (x : BookView). next_row x.state.cursor x.state.rows) c.self.view_is ∙ c.requires.next) in
-    subst (λ (rows : List Row). map settled c.wait.new.self.rows ≡ map settled rows) (ap (λ (x : BookView). x.state.rows) c.self.view_is)
-    (ap (λ (x : Lay). map settled x.rows) c.in_ok-wait.ensures.state
+    subst (λ (rows : List Row). map settled c.meet.new.self.rows ≡ map settled rows) (ap (λ (x : BookView). x.state.rows) c.self.view_is)
+    (ap (λ (x : Lay). map settled x.rows) (waits_now c)
     ∙ told_alike settled row new lay.rows c.self.invariant.rows_rise found (settled_alone row c.requires.alone))
