@@ -126,8 +126,11 @@ pub fn read_line(bytes: &[u8]) -> Result<Line, LineFault>
 fn named(name: &[u8], left: Option<&[u8]>) -> Result<Line, LineFault>
     ensures { Gives result (named_line forms name.now (words_left left.entry)) }
 {
-    if is(name, "") {
-        return alone(Line::Empty, left);
+    if is(name, "put") {
+        return store(left);
+    }
+    if is(name, "get") {
+        return page_alone(left).map(|page| Line::Get { page });
     }
     if is(name, "reg") {
         return register(left);
@@ -135,11 +138,8 @@ fn named(name: &[u8], left: Option<&[u8]>) -> Result<Line, LineFault>
     if is(name, "drop") {
         return page_alone(left).map(|page| Line::Drop { page });
     }
-    if is(name, "put") {
-        return store(left);
-    }
-    if is(name, "get") {
-        return page_alone(left).map(|page| Line::Get { page });
+    if is(name, "") {
+        return alone(Line::Empty, left);
     }
     if is(name, "ticket") {
         return page_alone(left).map(|page| Line::Ticket { page });
