@@ -361,8 +361,8 @@ impl Layout {
         ensures refused { OnErr result (self.new ≡ self.old) }
         ensures fault { OnErr result (result ≡ Err Memory) }
     {
-        let frame = known_frame(self.pages.dup_frame(number));
-        let lone = self.pages.join(row, number)?;
+        let (joined, lone) = self.pages.join(row, number)?;
+        let frame = known_frame(joined);
         share(&mut self.keeper, table, frame);
         release_if(&mut self.keeper, table, lone);
         Ok(())

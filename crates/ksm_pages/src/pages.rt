@@ -417,12 +417,13 @@ impl Pages {
         self.rows.replace(zero, None)
     }
 
-    /// A row with a frame of its own becomes an item of a dup, on the dup's frame. Gives the frame that it leaves. Refused for memory alone, it changes nothing.
-    pub fn join(&mut self, row: Row, number: u64) -> Result<Option<u32>, Fault>
+    /// A row with a frame of its own becomes an item of a dup, on the dup's frame. Gives that frame, and the one that the row leaves. Refused for memory alone, it changes nothing.
+    pub fn join(&mut self, row: Row, number: u64) -> Result<(Option<u32>, Option<u32>), Fault>
         requires row_is { row_at row.page self.old.listed.rows ≡ Some row }
         requires alone { shared_state row.state ≡ false }
         requires room { HasRoom self.old.listed.rows self.old.dups number }
-        ensures stood { IfOk result (λ lone. StandsAt self.old.listed row.page row lone) }
+        ensures shared { IfOk result (λ frames. ItemsLieOn self.old.listed number frames.0) }
+        ensures stood { IfOk result (λ frames. StandsAt self.old.listed row.page row frames.1) }
         ensures rows { OnOk result (self.new.listed.rows ≡ slice_set self.old.listed.rows (rank row.page self.old.listed.rows) (record row { state = Merged number })) }
         ensures frames { OnOk result (LiesWith self.old.listed number row.page self.new.listed.frames) }
         ensures changed { OnOk result (self.new.listed.rows ≡ change_row row.page (λ _. record row { state = Merged number }) self.old.listed.rows) }
@@ -430,9 +431,10 @@ impl Pages {
         ensures refused { OnErr result (self.new ≡ self.old) }
         ensures fault { OnErr result (result ≡ Err Memory) }
     {
-        self.dups.join(number, row.page)?;
+        let place = self.dups.join(number, row.page)?;
         stop_waiting(&mut self.waiting, &self.knobs, &row);
-        Ok(self.rows.restate(&row, PageState::Merged(number)))
+        let lone = self.rows.restate(&row, PageState::Merged(number));
+        Ok((lodging_at(&self.lodgings, Some(place)), lone))
     }
 
     /// Two rows with frames of their own become the items of a new dup at a place, on the frame of the first. A stale dup at the place goes. Gives the frames on which they were. Refused for memory alone, it changes nothing.

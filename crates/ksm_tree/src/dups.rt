@@ -133,11 +133,12 @@ impl Dups {
         Ok(number)
     }
 
-    /// A page becomes an item of a dup. The one fault is `Memory`, and then nothing changes.
-    pub fn join(&mut self, dup: u64, page: GuestPage) -> Result<(), Fault>
+    /// A page becomes an item of a dup. Gives the place of the dup. The one fault is `Memory`, and then nothing changes.
+    pub fn join(&mut self, dup: u64, page: GuestPage) -> Result<u32, Fault>
         requires known { is_some (dup_of dup self.old.dups) ≡ true }
         requires fewer { length (items_of dup self.old.dups) < 1024 }
         requires absent { has_item page (items_of dup self.old.dups) ≡ false }
+        ensures place { IfOk result (λ place. Some place ≡ option_map (λ d. d.row.place) (dup_of dup self.old.dups)) }
         ensures joined { OnOk result (self.new ≡ record { places = self.old.places; dups = change_items dup (with_item page) self.old.dups; next = self.old.next }) }
         ensures kept { OnErr result (self.new ≡ self.old) }
         ensures memory { IfErr result (λ fault. fault ≡ Fault.Memory) }
@@ -145,7 +146,7 @@ impl Dups {
         match self.index.place(dup) {
             Some(place) => {
                 self.slots.add_item(place, page)?;
-                Ok(())
+                Ok(place)
             }
             None => unreachable!(),
         }

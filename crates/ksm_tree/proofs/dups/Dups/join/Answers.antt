@@ -1,10 +1,10 @@
 use Rattle.std.proofs.Common.{◌∙◌, sym, ap}
-use Rattle.std.specs.Prelude.{is_some}
+use Rattle.std.specs.Prelude.{is_some, option_map}
 use Rattle.std.proofs.lemmas.Bool.{false≢true}
 use Rattle.ksm_rmap.specs.Items.{with_item}
 use Rattle.ksm_tree.specs.Dups.{change_items, dup_of}
 use Rattle.ksm_tree.specs.Index.{dups_seen}
-use Rattle.ksm_tree.proofs.Indexed.{indexed_found, indexed_changed, indexed_there, stays_indexed, unindexed_found}
+use Rattle.ksm_tree.proofs.Indexed.{indexed_found, indexed_changed, indexed_place, indexed_there, stays_indexed, unindexed_found}
 use Rattle.ksm_tree.proofs.dups.Dups.join.Goals as goal
 
 pub add_item-requires-clause-known : goal.add_item-requires-clause-known
@@ -34,3 +34,9 @@ returns-clause-joined c =
     ap (λ s. dups_seen s c.self.inside.next) c.in_ok-add_item-in-Some.ensures.added
     ∙ (λ i. record { places = c.self.inside.slots.places; dups = sym changed i; next = c.self.inside.next })
     ∙ ap (λ s. record { places = s.places; dups = change_items c.args.dup (with_item c.args.page) s.dups; next = s.next }) c.self.view_is
+
+pub returns-clause-place : goal.returns-clause-place
+returns-clause-place c =
+    c.in-Some.ensures
+    ∙ indexed_place c.self.inside.slots c.self.inside.next c.self.inside.index c.self.invariant c.args.dup
+    ∙ ap (λ s. option_map (λ d. d.row.place) (dup_of c.args.dup s.dups)) c.self.view_is
