@@ -1,3 +1,5 @@
+use std::hash::{Hash, Hasher};
+
 /// How many 64-bit words a page has: 8, so a page is 64 bytes (own; a page of the machine has 4,096).
 pub const PAGE_WORDS: usize = 8;
 
@@ -6,10 +8,26 @@ pub type PageBytes = [u64; PAGE_WORDS];
 
 /// A page of a guest, in the order of guests, then of pages (own; in admin-guide/mm/ksm a page of an area that a program
 /// marked mergeable).
-#[derive(Clone, Copy, Debug, PartialEq, Eq, PartialOrd, Ord, Hash, Default)]
+#[derive(Clone, Copy, Debug, PartialEq, Eq, PartialOrd, Ord, Default)]
 pub struct GuestPage {
     /// The guest, 0 to 65,535.
     pub guest: u16,
     /// The number of the page in its guest, 0 to 4,294,967,295.
     pub page: u32,
+}
+
+// A derived hash would hand the hasher guest and page one after the other, which multiplies by each.
+impl Hash for GuestPage {
+    ghost use Rattle.std.specs.Prelude.{◌+◌, ◌*◌, ◌^◌};
+    ghost use Rattle.std.specs.Hash as fed;
+    ghost use Rattle.std.specs.Cmp.Rules.{hashing};
+    ghost use Rattle.std.proofs.Common.{rules};
+
+    ghost hash_input = { λ p. fed.u64 (p.guest * 2 ^ 32 + p.page) };
+
+    ghost respects_eq = { Prim.search (hashing, rules) };
+
+    fn hash<H: Hasher>(&self, state: &mut H) {
+        state.write_u64((u64::from(self.guest) << 32) + u64::from(self.page));
+    }
 }

@@ -1,5 +1,6 @@
 pub mod Bridge
 pub mod Choosing
+pub mod Digest
 pub mod Dups
 pub mod Groups
 pub mod Index
