@@ -1,6 +1,6 @@
 -- The best dup to join: a walk over a group, keeping the better of two, ends at the one that the definition chooses of all.
-use Rattle.std.proofs.Common.{◌≡◌, ◌∙◌, ℕ, ◌<◌, Bool, true, false, List, [], ◌∷◌, ◌++◌, append_assoc, append-nil, Option, None, Some, refl, sym, ap, inl, inr, arith}
-use Rattle.std.specs.Prelude.{◌==◌, ◌&&◌, ◌||◌, not, nat_le, nat_lt, length, All, find, if◌then◌else◌}
+use Rattle.std.proofs.Common.{◌≡◌, ◌∙◌, ℕ, ◌<◌, ◌≤◌, ◌+◌, ◌-◌, Bool, true, false, List, [], ◌∷◌, ◌++◌, append_assoc, append-nil, drop, drop-cons, get_or, add-one, Option, None, Some, refl, sym, ap, inl, inr, arith}
+use Rattle.std.specs.Prelude.{◌==◌, ◌&&◌, ◌||◌, not, nat_le, nat_lt, length, All, find, if◌then◌else◌, ◌^◌, ◌%◌}
 use Rattle.std.specs.List.{list_all}
 use Rattle.std.proofs.lemmas.Bool.{and_parts, cases_Bool, false≢true}
 use Rattle.std.proofs.lemmas.Bool.Decides.{nat_tests}
@@ -8,9 +8,10 @@ use Rattle.std.proofs.lemmas.Option.{none-some, same_Some}
 use Rattle.std.proofs.lemmas.List.Elements.{All-head, All-tail, All-append, All-weaker, All-cons}
 use Rattle.ksm_base.specs.Rows.{InPlaceOrder}
 use Rattle.ksm_rmap.proofs.Ordered.{pairs_head, pairs_tail}
+use Rattle.ksm_base.specs.declared.row.DupRow.{DupRow}
 use Rattle.ksm_tree.specs.declared.dup.Dup.{Dup}
 use Rattle.ksm_tree.specs.Choosing.{may_join, is_no_worse, best_of, better}
-use Rattle.ksm_tree.specs.Dups.{rows_of, dup_at}
+use Rattle.ksm_tree.specs.Dups.{rows_of, dup_at, items_in}
 use Rattle.ksm_tree.specs.Index.{in_group, group_places}
 use Rattle.ksm_tree.proofs.Changes.{all_rows}
 use Rattle.ksm_tree.proofs.Rows.{found_passes}
@@ -210,6 +211,42 @@ folded limit dups acc (p ∷ places) = folded limit dups (joined limit acc (dup_
 abbrev pub least_of : Option Dup → ℕ
 least_of None = 1
 least_of (Some d) = length d.items
+
+-- how many items more than the least, counted round the numbers of 32 bits, against the room for them
+pub above_least : (items least limit above : ℕ) → items < 2 ^ 32 → least < 2 ^ 32 → limit < 2 ^ 32 → above ≡ (items + (2 ^ 32 - least)) % 2 ^ 32 → above < limit - least → least + above ≡ items
+above_least items least limit above fits least_fits limit_fits is within = omega arith
+
+pub out_of_room : (items least limit above : ℕ) → items < 2 ^ 32 → least < 2 ^ 32 → limit < 2 ^ 32 → above ≡ (items + (2 ^ 32 - least)) % 2 ^ 32 → limit - least ≤ above → (nat_lt items least || nat_le limit items) ≡ true
+out_of_room items least limit above fits least_fits limit_fits is outside = grind (arith, nat_tests)
+
+-- one step of the walk: over a dup with too few items or too many, and to one with room
+pub stepped_over : (limit : ℕ) (acc slot : Option Dup) → (nat_lt (length (items_in slot)) (least_of acc) || nat_le limit (length (items_in slot))) ≡ true → joined limit acc slot ≡ acc
+stepped_over limit acc None outside = refl
+stepped_over limit None (Some d) outside = grind (arith, nat_tests, outside)
+stepped_over limit (Some best) (Some d) outside = grind (arith, nat_tests, outside)
+
+pub stepped_to : (limit : ℕ) (acc : Option Dup) (d : Dup) → 1 ≤ length d.items → length d.items < limit → joined limit acc (Some d) ≡ Some (better acc d)
+stepped_to limit acc d least below = grind (arith, nat_tests, least, below)
+
+pub least_better : (acc : Option Dup) (d : Dup) → least_of acc ≤ length d.items → length (better acc d).items ≡ length d.items
+least_better None d least = refl
+least_better (Some best) d least = grind (arith, nat_tests, least)
+
+pub stepped : (limit : ℕ) (dups : List Dup) (acc next : Option Dup) (places : List ℕ) (i : ℕ) → i < length places → joined limit acc (dup_at (get_or places i 0) dups) ≡ next → folded limit dups next (drop (i + 1) places) ≡ folded limit dups acc (drop i places)
+stepped limit dups acc next places i within is =
+    let rest : drop i places ≡ get_or places i 0 ∷ drop (i + 1) places = rw (add-one, drop-cons places i 0) in
+    ap (λ best. folded limit dups best (drop (i + 1) places)) (sym is) ∙ ap (folded limit dups acc) (sym rest)
+
+-- the places of a group lie below how many there are
+pub places_within : (t : ℕ) (b : List ℕ) (places : ℕ) (rows : List DupRow) → All (λ r. r.place < places) rows → All (λ p. p < places) (group_places t b rows)
+places_within t b places [] below = λ k d lt. absurd (omega arith)
+places_within t b places (r ∷ rows) below =
+    let here = All-head (λ e. e.place < places) r rows below in
+    let rest = places_within t b places rows (All-tail (λ e. e.place < places) r rows below) in
+    elim (cases_Bool (in_group t b r)) [
+      | inl inside ↦ rw inside (All-cons (λ p. p < places) r.place (group_places t b rows) here rest)
+      | inr outside ↦ rw outside rest
+    ]
 
 better_kept : (t : ℕ) (b : List ℕ) (limit : ℕ) (acc : Option Dup) (d : Dup) → in_group t b d.row ≡ true → joined limit acc (Some d) ≡ kept (may_join t b limit) acc d
 better_kept t b limit None d inside = grind (arith, inside)

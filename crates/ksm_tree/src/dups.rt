@@ -59,16 +59,20 @@ impl Dups {
         ensures lawful { AreDups self.now }
     {
         let mut best: Option<&Dup> = None;
+        // The fewest items of a dup that may be better, and how many more than these it may have.
         let mut least = 1;
+        let mut room = limit.saturating_sub(least);
+        let counts = self.slots.counts();
         let chain = self.index.places(tree, bytes);
         for place in chain {
-            let items = self.slots.count(*place);
-            if items < least || limit <= items {
-                continue;
-            }
-            if let Some(dup) = self.slots.at(*place) {
-                best = Some(better(best, dup));
-                least = items;
+            let items = counts[*place as usize];
+            // Fewer than the least wrap to more than there is room for, so one comparison is enough.
+            if items.wrapping_sub(least) < room {
+                if let Some(dup) = self.slots.at(*place) {
+                    best = Some(better(best, dup));
+                    least = items;
+                    room = limit - items;
+                }
             }
         }
         match best {

@@ -1,4 +1,4 @@
-ghost use Rattle.std.specs.Prelude.{◌≡◌, ◌-◌, ◌<◌, ◌≤◌, [], true, false, None, Some, count_by, find, length, option_copied, option_map, is_some, IfErr, IfOk, OnErr, OnOk};
+ghost use Rattle.std.specs.Prelude.{◌≡◌, ℕ, ◌-◌, ◌<◌, ◌≤◌, [], true, false, None, Some, count_by, find, length, option_copied, option_map, is_some, slice_index_or, IfErr, IfOk, OnErr, OnOk};
 ghost use Rattle.ksm_tree.specs.Choosing.{empty_place};
 ghost use Rattle.ksm_rmap.specs.Items.{has_item, with_item, without_item};
 ghost use Rattle.ksm_tree.specs.Dups.{dup_at, items_in, is_live, is_stale, rows_of, with_new, without_place};
@@ -65,14 +65,12 @@ impl Slots {
         }
     }
 
-    /// How many items the dup at a place has: none where no dup stands.
-    pub fn count(&self, place: u32) -> u32
-        ensures { result ≡ length (items_in (dup_at place self.now.dups)) }
+    /// How many items the dup at each place has: none where no dup stands.
+    pub fn counts(&self) -> &[u32]
+        ensures places { length result.now ≡ self.now.places }
+        ensures each { (place : ℕ) → slice_index_or result.now place 0 ≡ length (items_in (dup_at place self.now.dups)) }
     {
-        match self.counts.get(place as usize) {
-            Some(count) => *count,
-            None => 0,
-        }
+        self.counts.as_slice()
     }
 
     /// The least place that no dup has.

@@ -1,0 +1,19 @@
+use Rattle.std.proofs.Common.{◌∙◌, length, get_or, ap}
+use Rattle.std.proofs.lemmas.List.{length-map}
+use Rattle.ksm_tree.specs.Dups.{dup_at, items_in}
+use Rattle.ksm_tree.specs.Slots.{count_in}
+use Rattle.ksm_tree.proofs.OneSlot.{count_read}
+use Rattle.ksm_tree.proofs.slots.Slots.counts.Goals as goal
+
+pub returns-clause-places : goal.returns-clause-places
+returns-clause-places c =
+    ap length c.as_slice.ensures.value
+    ∙ ap length c.self.invariant.counted
+    ∙ length-map c.self.inside.dups.items count_in
+    ∙ ap (λ s. s.places) c.self.view_is
+
+pub returns-clause-each : goal.returns-clause-each
+returns-clause-each c place =
+    count_read place _ c.self.inside.dups.items c.self.inside.counts.items c.self.invariant.placed c.self.invariant.counted
+    (ap (λ counts. get_or counts place 0) c.as_slice.ensures.value)
+    ∙ ap (λ s. length (items_in (dup_at place s.dups))) c.self.view_is
