@@ -118,9 +118,7 @@ impl Keeper {
         ensures { self.new ≡ did self.old (Put frame i word) 0 }
     {
         table.put_at(&mut self.seat, frame, i, word);
-        let mut note = self.frames[frame as usize];
-        note.content[i] = word;
-        self.frames[frame as usize] = note;
+        self.frames[frame as usize].content[i] = word;
     }
 
     /// Opens a frame that was filled: it is Private, with one reference of the keeper.
