@@ -1,6 +1,6 @@
 -- Rows that are changed one after another, in order.
 use Rattle.std.proofs.Common.{◌≡◌, ℕ, zero, suc, ◌+◌, ◌<◌, ◌≤◌, Bool, true, false, cond, List, [], ◌∷◌, ◌++◌, length, map, take, get_or, Option, Some, None, Ok, append-nil, refl, sym, ap, ◌∙◌, subst, arith}
-use Rattle.std.specs.Prelude.{All, filter, find, slice_get, is_some, not, option_map, MatchOption, ◌&&◌, if◌then◌else◌}
+use Rattle.std.specs.Prelude.{All, filter, find, slice_get, not, option_map, MatchOption, ◌&&◌, if◌then◌else◌}
 use Rattle.std.proofs.lemmas.List.Sums.{length-filter, count_by-le-length}
 use Rattle.std.proofs.lemmas.List.Elements.{All-head, All-tail, All-map}
 use Rattle.std.proofs.lemmas.Option.{same_Some, slice_get_past}
@@ -25,7 +25,8 @@ use Rattle.ksm_base.proofs.Orders.{ordered_change}
 use Rattle.ksm_layout.proofs.Logs.{chained}
 use Rattle.ksm_base.proofs.Pages.{same_page_refl, before_irrefl, not_both, before_differs, after_differs}
 use Rattle.ksm_base.proofs.Orders.{pairs_head, pairs_tail}
-use Rattle.ksm_base.proofs.RowCounts.{change_none}
+use Rattle.ksm_base.proofs.Edits.{find_all}
+use Rattle.ksm_base.proofs.RowCounts.{change_none, each_at_page}
 
 and_false : (b : Bool) → (b && false) ≡ false
 and_false true = refl
@@ -210,20 +211,9 @@ homes_suc (r ∷ rows) (suc n) row some = ap (λ l. r.home ∷ l) (homes_suc row
 pub homes_more : (rows : List Row) (n : ℕ) (row : Row) → slice_get rows n ≡ Some row → map (λ r. r.home) (take (n + 1) rows) ≡ map (λ r. r.home) (take n rows) ++ row.home ∷ []
 homes_more rows n row some = (let e : n + 1 ≡ suc n = omega arith in ap (λ k. map (λ (r : Row). r.home) (take k rows)) e) ∙ homes_suc rows n row some
 
--- a row found by a test is known by its page
-pub find_known : (t : Row → Bool) (rows : List Row) (row : Row) → find t rows ≡ Some row → is_some (row_at row.page rows) ≡ true
-find_known t [] row found = absurd (grind (arith, found))
-find_known t (r ∷ rows) row found = by (t r) refl (find_known t rows row)
-  where
-    either : (b : Bool) → is_some (row_at row.page rows) ≡ true → is_some (cond b (Some r) (row_at row.page rows)) ≡ true
-    either true h = refl
-    either false h = h
-
-    by : (b : Bool) → t r ≡ b → (find t rows ≡ Some row → is_some (row_at row.page rows) ≡ true) → is_some (row_at row.page (r ∷ rows)) ≡ true
-    by true is rest =
-        let e : r ≡ row = same_Some r row (sym (ap (λ (b : Bool). cond b (Some r) (find t rows)) is) ∙ found) in
-        subst (λ (x : Row). is_some (row_at x.page (r ∷ rows)) ≡ true) e (ap (λ (b : Bool). is_some (cond b (Some r) (row_at r.page rows))) (same_page_refl r.page))
-    by false is rest = either (same_page r.page row.page) (rest (sym (ap (λ (b : Bool). cond b (Some r) (find t rows)) is) ∙ found))
+-- a row found by a test is found by its page
+pub find_known : (t : Row → Bool) (rows : List Row) (row : Row) → InPageOrder rows → find t rows ≡ Some row → row_at row.page rows ≡ Some row
+find_known t rows row rise found = find_all t (λ s. row_at s.page rows ≡ Some s) rows row found (each_at_page rows rise)
 
 pub filter_fits : (t : Row → Bool) (rows : List Row) → length (filter t rows) ≤ length rows
 filter_fits t rows = omega (arith, length-filter t rows, count_by-le-length t rows)

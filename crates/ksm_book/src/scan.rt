@@ -478,11 +478,12 @@ impl State {
             return Ok(Visited::Joined);
         }
         if !row.unchanged {
-            self.layout.amend(Row {
+            let kept = Row {
                 unchanged: true,
                 state: PageState::Private,
                 ..row
-            });
+            };
+            self.layout.amend(&row, &kept);
             return Ok(Visited::Changed);
         }
         self.stay(table, row)

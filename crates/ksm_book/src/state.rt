@@ -133,10 +133,10 @@ impl State {
             return Err(Fault::UnknownPage);
         };
         if !is_shared(row.state) {
-            self.layout.rewrite(table, stored(row, bytes));
+            self.layout.rewrite(table, &row, &stored(row, bytes));
             return Ok(Reply::Done);
         }
-        if !self.layout.resettle(table, stored(row, bytes)) {
+        if !self.layout.resettle(table, &row, &stored(row, bytes)) {
             return Err(Fault::NoFrame(row.home));
         }
         Ok(Reply::Done)
@@ -231,7 +231,10 @@ impl State {
         if held.row.home == node {
             return Ok(Reply::Done);
         }
-        if !self.layout.resettle(table, moved(held.row, node)) {
+        if !self
+            .layout
+            .resettle(table, &held.row, &moved(held.row, node))
+        {
             return Err(Fault::NoFrame(node));
         }
         Ok(Reply::Done)

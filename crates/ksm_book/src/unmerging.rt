@@ -37,7 +37,7 @@ pub fn unshare_pages(
         let Some(row) = layout.rows().next_shared(last, guest) else {
             return (done, None);
         };
-        if !layout.resettle(table, unshared(row)) {
+        if !layout.resettle(table, &row, &unshared(row)) {
             return (done, Some(row));
         }
         last = Some(row.page);

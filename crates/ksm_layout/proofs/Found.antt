@@ -1,6 +1,6 @@
 -- The row that a search by page finds.
 use Rattle.std.proofs.Common.{inl, inr, ◌≡◌, ℕ, Bool, true, List, [], ◌∷◌, get_or, set, Option, Some, None, refl, sym, ap, ◌∙◌, subst, arith}
-use Rattle.std.specs.Prelude.{All, position, is_some, MatchOption}
+use Rattle.std.specs.Prelude.{All, position, is_some}
 use Rattle.std.proofs.lemmas.Option.{same_Some}
 use Rattle.std.proofs.lemmas.List.{set-get_or}
 use Rattle.std.proofs.lemmas.Bool.{cases_Bool, cond_both, eq-eqb, false≢true}
@@ -10,9 +10,10 @@ use Rattle.ksm_base.specs.Apply.{moved}
 use Rattle.ksm_base.specs.declared.page.GuestPage.{GuestPage}
 use Rattle.ksm_base.specs.declared.row.Row.{Row}
 use Rattle.ksm_base.specs.declared.row.DupRow.{DupRow}
-use Rattle.ksm_base.specs.Rows.{same_page, row_at, InPageOrder, change_row, dup_numbered}
-use Rattle.ksm_base.proofs.Pages.{same_page_eq}
-use Rattle.ksm_layout.specs.Laid.{Knows}
+use Rattle.ksm_base.specs.Rows.{same_page, row_at, InPageOrder, change_row, with_row, dup_numbered}
+use Rattle.ksm_base.proofs.Pages.{same_page_refl}
+use Rattle.ksm_tree.proofs.Waiters.{at_inserted}
+pub use Rattle.ksm_pages.proofs.Ranks.{found_page}
 use Rattle.ksm_layout.specs.Plain.{IsAt}
 use Rattle.ksm_layout.proofs.Lists.{index_facts, change_found}
 
@@ -23,10 +24,6 @@ found_at page rows row found = by (position (λ s. same_page s.page page) rows) 
     by : (o : Option ℕ) → o ≡ position (λ s. same_page s.page page) rows → (i : ℕ) × IsAt rows page i × (get_or rows i row ≡ row)
     by None e = absurd (let none : row_at page rows ≡ None = index_facts page rows None e in grind (arith, none, found))
     by (Some i) e = let at : IsAt rows page i = index_facts page rows (Some i) e in (i, at, same_Some _ _ (sym (at.found row) ∙ found))
-
--- it is of the page
-pub found_page : (page : GuestPage) (rows : List Row) (row : Row) → row_at page rows ≡ Some row → row.page ≡ page
-found_page page rows row found = let at = found_at page rows row found in same_page_eq row.page page (subst (λ (x : Row). same_page x.page page ≡ true) at.2 (at.1.has_page row))
 
 -- what all rows pass it passes
 pub found_all : (P : Row → Type 0) (page : GuestPage) (rows : List Row) (row : Row) → All P rows → row_at page rows ≡ Some row → P row
@@ -42,12 +39,13 @@ change_known page f rows row rise found =
 pub change_own : (page : GuestPage) (f : Row → Row) (rows : List Row) (row : Row) → InPageOrder rows → row_at page rows ≡ Some row → (f row).page ≡ row.page → change_row (f row).page (λ _. f row) rows ≡ change_row page f rows
 change_own page f rows row rise found same = ap (λ p. change_row p (λ _. f row) rows) (same ∙ found_page page rows row found) ∙ change_known page f rows row rise found
 
--- a row with the page is known where it is
-pub found_known : (page : GuestPage) (rows : List Row) (row new : Row) → row_at page rows ≡ Some row → new.page ≡ row.page → is_some (row_at new.page rows) ≡ true
-found_known page rows row new found same = ap (λ p. is_some (row_at p rows)) (same ∙ found_page page rows row found) ∙ ap is_some found
+-- a row with the page finds it
+pub found_by : (page : GuestPage) (rows : List Row) (row new : Row) → row_at page rows ≡ Some row → new.page ≡ row.page → row_at new.page rows ≡ Some row
+found_by page rows row new found same = ap (λ p. row_at p rows) (same ∙ found_page page rows row found) ∙ found
 
-pub found_as : (fact : Row → Type 0) (page : GuestPage) (rows : List Row) (row new : Row) → row_at page rows ≡ Some row → new.page ≡ row.page → fact row → Knows rows new fact
-found_as fact page rows row new found same h = subst (λ (o : Option Row). MatchOption o ⊥ fact) (sym (ap (λ p. row_at p rows) (same ∙ found_page page rows row found) ∙ found)) h
+-- a row that came is found
+pub found_come : (row : Row) (rows : List Row) → row_at row.page (with_row row rows) ≡ Some row
+found_come row rows = at_inserted row rows row.page ∙ ap (λ (b : Bool). if b then Some row else row_at row.page rows) (same_page_refl row.page)
 
 -- a change that leaves the row found as it is changes nothing
 pub change_nothing : (page : GuestPage) (f : Row → Row) (rows : List Row) (row : Row) → InPageOrder rows → row_at page rows ≡ Some row → f row ≡ row → change_row page f rows ≡ rows

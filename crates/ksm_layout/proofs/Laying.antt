@@ -1,28 +1,30 @@
 -- What becomes of rows and dups that lie lawfully, where the keeper makes its steps.
-use Rattle.std.proofs.Common.{inl, inr, ◌≡◌, ◌/◌, ℕ, ◌<◌, ◌≤◌, false, List, [], length, set, Option, Some, None, refl, sym, ap, ◌∙◌, subst, arith}
-use Rattle.std.specs.Prelude.{Bool, ◌⊎◌, All, MatchOption, if◌then◌else◌, insert, remove, is_some, true}
+use Rattle.std.proofs.Common.{zero, suc, replicate, slice_index_or, inl, inr, ◌≡◌, ◌/◌, ℕ, ◌<◌, ◌≤◌, false, List, [], length, set, Option, Some, None, refl, sym, ap, ◌∙◌, subst, arith}
+use Rattle.std.specs.Prelude.{Bool, ◌⊎◌, All, if◌then◌else◌, insert, remove, is_some, true}
 use Rattle.ksm_base.specs.declared.shape.Shape.{Shape}
 use Rattle.ksm_base.specs.declared.knobs.Knobs.{Knobs}
 use Rattle.ksm_base.specs.declared.row.PageState.{PageState}
 use Rattle.ksm_base.specs.declared.row.PageState.TheVariants.{Private as OwnPage, Waiting, Merged, Zero}
 use Rattle.ksm_base.specs.declared.row.Row.{Row}
 use Rattle.ksm_base.specs.declared.row.DupRow.{DupRow}
-use Rattle.ksm_base.specs.Rows.{shared_state, zero_state, merged_into, row_at}
-use Rattle.ksm_base.specs.Values.{frames_of}
+use Rattle.ksm_base.specs.Rows.{shared_state, zero_state, merged_into}
+use Rattle.std.proofs.lemmas.List.{length-replicate}
+use Rattle.ksm_base.specs.Values.{IsShape, frames_of}
 use Rattle.ksm_base.specs.Apply.{let_go}
 use Rattle.frame_core.specs.declared.frame.Kind.{Kind}
 use Rattle.frame_core.specs.declared.frame.Kind.TheVariants.{Private}
 use Rattle.frame_core.specs.declared.ledger.Ledger.{Ledger}
 use Rattle.frame_core.specs.declared.ledger.Note.{Note}
-use Rattle.frame_core.specs.Ledger.{frame_at, with_frame, IsReadable}
+use Rattle.frame_core.specs.Ledger.{blank, first_ledger, frame_at, with_frame, IsReadable}
+use Rattle.frame_core.specs.Rule.{GenerationFits}
 use Rattle.ksm_base.specs.declared.page.GuestPage.{GuestPage}
 use Rattle.ksm_base.specs.declared.page.TheConstants.{PAGE_WORDS}
 use Rattle.frame_table.specs.Named.{KeeperView}
-use Rattle.ksm_layout.specs.Placement.{kind_for, DupFits, IsServed, Placed}
+use Rattle.ksm_layout.specs.Placement.{kind_for, DupFits, FitsBase, IsServed, Placed}
 use Rattle.ksm_pages.specs.Listed.{frame_in, Listed, rank, StandsAt}
 use Rattle.ksm_layout.specs.Keeping.{Keeps, IsLawful, Took, Wrote, holding, spent}
 use Rattle.ksm_pages.specs.Linked.{PagesView}
-use Rattle.ksm_layout.specs.Laid.{Lay, lay_of, IsLaid, Knows, IsOnItsOwn, LodgesAs}
+use Rattle.ksm_layout.specs.Laid.{Lay, lay_of, IsLaid, IsOnItsOwn, LodgesAs}
 use Rattle.ksm_layout.proofs.Moves.{Serves, framed, own_agrees, swapped, inserted, removed, rewritten, written_in}
 use Rattle.ksm_layout.proofs.Keeping.{spent_kept}
 
@@ -223,15 +225,6 @@ module _ (sh : Shape) (v : Listed) (dups : List DupRow) (knobs : Knobs) (next : 
     spent = (let s = h.spent in omega (arith, s, more));
   }
 
--- what is known of the row of a row's page
-pub known_as : (fact : Row → Type 0) (rows : List Row) (row page_row : Row) → row_at row.page rows ≡ Some page_row → Knows rows row fact → fact page_row
-known_as fact rows row page_row at known = subst (λ (x : Option Row). MatchOption x ⊥ fact) at known
-
--- a page that has such a row has a row
-pub known_some : (fact : Row → Type 0) (o : Option Row) → MatchOption o ⊥ fact → is_some o ≡ true
-known_some fact None never = absurd never
-known_some fact (Some row) known = refl
-
 -- the frame of a row may be read
 pub readable : (x : Kind) (s : PageState) → zero_state s ≡ false → x ≡ kind_for s → IsReadable x
 readable x OwnPage framed e = subst IsReadable (sym e) tt
@@ -288,3 +281,37 @@ retuned sh v dups knobs tuned next k (inr none) h = record {
 pub gone_lodges : (b : Bool) (r : Row) → (b ≡ true → shared_state r.state ≡ false) → LodgesAs (if b then let_go r else r) r
 gone_lodges true r alone = (refl, refl, inr (alone refl, refl))
 gone_lodges false r alone = (refl, refl, inl refl)
+
+-- ---------------------------------------------------------------- no rows
+
+same_in : {A : Type 0} (n i : ℕ) (a : A) → slice_index_or (replicate n a) i a ≡ a
+same_in zero i a = refl
+same_in (suc n) zero a = refl
+same_in (suc n) (suc i) a = same_in n i a
+
+first_note : (sh : Shape) (f : ℕ) → frame_at (first_ledger sh) f ≡ blank
+first_note sh f = same_in (frames_of sh) f blank
+
+first_placed : (sh : Shape) (knob : ℕ) → IsShape sh → Placed sh knob (first_ledger sh) [] [] [] None
+first_placed sh knob is = record {
+  paired = refl;
+  frames_long = length-replicate (frames_of sh) blank;
+  places_long = length-replicate (frames_of sh) None;
+  widths = λ f. ap (λ (n : Note). length n.content) (first_note sh f) ∙ length-replicate {A = ℕ} PAGE_WORDS 0;
+  lives = λ f. subst (λ (n : Note). GenerationFits sh.last_generation n.kind n.generation) (sym (first_note sh f)) (let low = is.generation_low in omega (arith, low));
+  each_row = λ i lt. absurd (omega (arith, lt));
+  each_dup = λ i d lt. absurd (omega (arith, lt));
+  bases = λ f. ap (λ (n : Note). n.base) (first_note sh f);
+  kinds = λ f. subst (λ (n : Note). FitsBase n.kind n.base) (sym (first_note sh f)) refl;
+  empty = λ p none. same_in (frames_of sh) p None;
+}
+
+-- no rows lie in the frames of a keeper that has made no step
+pub laid_first : (sh : Shape) (knobs : Knobs) (k : KeeperView) → IsShape sh → k.table.shape ≡ sh → k.ledger ≡ first_ledger sh
+    → IsLaid sh (record { rows = []; frames = [] }) [] knobs 0 k
+laid_first sh knobs k is same first = record {
+  small = is;
+  same = same;
+  placed = subst (λ (l : Ledger). Placed sh knobs.merge_across_nodes l [] [] [] None) (sym first) (first_placed sh knobs.merge_across_nodes is);
+  spent = omega arith;
+}

@@ -62,11 +62,7 @@ pub record Unhoused (old new : Lay) (row : Row) : Type 0 where
 abbrev pub IsHoused : Lay → Lay → Row → List Row → Bool → Type 0
 IsHoused old new row after got = MatchBool got (Housed old new row after) (Unhoused old new row)
 
--- the page of a row has a row
-abbrev pub Knows : List Row → Row → (Row → Type 0) → Type 0
-Knows rows row fact = MatchOption (row_at row.page rows) ⊥ fact
-
--- the page of a row has a frame of its own, on the row's home
+-- a row is on the home of another, which has a frame of its own
 abbrev pub IsOnItsOwn : Row → Row → Type 0
 IsOnItsOwn row r = (shared_state r.state ≡ false) × (row.home ≡ r.home)
 

@@ -12,7 +12,7 @@ ghost use Rattle.ksm_base.specs.Apply.{is_before, let_go, unshared};
 ghost use Rattle.ksm_base.specs.Refusals.{is_of};
 ghost use Rattle.ksm_base.specs.Values.{IsShape, frames_of};
 ghost use Rattle.frame_core.specs.Ledger.{first_ledger};
-ghost use Rattle.ksm_layout.specs.Laid.{IsHoused, IsAdmitted, IsResettled, Knows, IsOnItsOwn, LodgesAs, Joins, JoinsDup, Founds, founded, LoadsIf, mapped_lay, state_of};
+ghost use Rattle.ksm_layout.specs.Laid.{IsHoused, IsAdmitted, IsResettled, IsOnItsOwn, LodgesAs, Joins, JoinsDup, Founds, founded, LoadsIf, mapped_lay, state_of};
 ghost use Rattle.ksm_layout.specs.Commands.{dup_frame, frame_of, Performs, rewriting, dismissing, emptying, joining, founding, withdrawing, pruning};
 ghost use Rattle.ksm_pages.specs.Linked.{IsVacant, elsewhere};
 ghost use Rattle.ksm_pages.specs.Listed.{StandsAt};
@@ -212,56 +212,53 @@ impl Layout {
             self.pages.remove(row.page);
             return Ok(false);
         };
-        self.pages.replace(row, Some(frame));
+        self.pages.replace(&row, &row, Some(frame));
         Ok(true)
     }
 
-    /// The page of a row gets a frame of the row's home with its bytes, and leaves the frame that it had, if it had one. Says whether there was one.
-    pub fn resettle(&mut self, table: &FrameTable, row: Row) -> bool
+    /// A page gets another row, on a frame of this row's home with its bytes, and leaves the frame that it had, if it had one. Says whether there was one.
+    pub fn resettle(&mut self, table: &FrameTable, old: &Row, row: &Row) -> bool
         requires own { self.old.keeper.table ≡ table.now }
-        requires known { is_some (row_at row.page self.old.rows) ≡ true }
-        requires home { row.home < self.old.shape.nodes }
-        requires alone { row.state ≡ Private }
+        requires known { row_at row.now.page self.old.rows ≡ Some old.now }
+        requires home { row.now.home < self.old.shape.nodes }
+        requires alone { row.now.state ≡ Private }
         ensures own { self.new.keeper.table ≡ self.old.keeper.table }
-        ensures housed { IsHoused self.old self.new row (change_row row.page (λ _. row) self.old.rows) result }
-        ensures resettled { IsResettled self.old self.new row result }
+        ensures housed { IsHoused self.old self.new row.now (change_row row.now.page (λ _. row.now) self.old.rows) result }
+        ensures resettled { IsResettled self.old self.new row.now result }
     {
         let shape = self.pages.shape();
         let home = row.home;
         let Some(frame) = take_frame(&mut self.keeper, table, shape, home, row.bytes) else {
             return false;
         };
-        let Some(held) = self.pages.replace(row, Some(frame)) else {
-            return false;
-        };
-        release_if(&mut self.keeper, table, held.frame);
+        let left = self.pages.replace(old, row, Some(frame));
+        release_if(&mut self.keeper, table, left);
         true
     }
 
-    /// Stores the bytes of a row to the frame that its page has of its own.
-    pub fn rewrite(&mut self, table: &FrameTable, row: Row)
+    /// A page with a frame of its own gets another row, whose bytes are stored to that frame.
+    pub fn rewrite(&mut self, table: &FrameTable, old: &Row, row: &Row)
         requires own { self.old.keeper.table ≡ table.now }
-        requires known { Knows self.old.rows row (IsOnItsOwn row) }
-        requires alone { row.state ≡ Private }
+        requires known { row_at row.now.page self.old.rows ≡ Some old.now }
+        requires lone { IsOnItsOwn row.now old.now }
+        requires alone { row.now.state ≡ Private }
         ensures own { self.new.keeper.table ≡ self.old.keeper.table }
-        ensures state { self.new ≡ record self.old { rows = change_row row.page (λ _. row) self.old.rows; keeper = self.new.keeper } }
+        ensures state { self.new ≡ record self.old { rows = change_row row.now.page (λ _. row.now) self.old.rows; keeper = self.new.keeper } }
         ensures does { Does self.old.keeper self.new.keeper [] }
-        ensures performs { Performs (mapped_lay self.old) (mapped_lay self.new) (rewriting (mapped_lay self.old).listed row) }
+        ensures performs { Performs (mapped_lay self.old) (mapped_lay self.new) (rewriting (mapped_lay self.old).listed row.now) }
     {
-        let Some(held) = self.pages.revise(row) else {
-            return;
-        };
-        let frame = known_frame(held.frame);
+        let frame = known_frame(self.pages.revise(old, row));
         write(&mut self.keeper, table, frame, row.bytes);
     }
 
-    /// Puts a row of its own in the stead of its page's, on the same frame.
-    pub fn amend(&mut self, row: Row)
-        requires known { Knows self.old.rows row (LodgesAs row) }
-        requires alone { row.state ≡ Private }
-        ensures { self.new ≡ record self.old { rows = change_row row.page (λ _. row) self.old.rows } }
+    /// Puts a row of its own in the stead of the row that its page has, on the same frame.
+    pub fn amend(&mut self, old: &Row, row: &Row)
+        requires known { row_at row.now.page self.old.rows ≡ Some old.now }
+        requires lodges { LodgesAs row.now old.now }
+        requires alone { row.now.state ≡ Private }
+        ensures { self.new ≡ record self.old { rows = change_row row.now.page (λ _. row.now) self.old.rows } }
     {
-        self.pages.revise(row);
+        self.pages.revise(old, row);
     }
 
     /// The row that waits for another; where there is none, the row waits from now on. Refused for memory alone, where there is none, it
@@ -290,10 +287,8 @@ impl Layout {
         ensures does { Does self.old.keeper self.new.keeper [] }
         ensures performs { Performs (mapped_lay self.old) (mapped_lay self.new) (emptying (mapped_lay self.old).listed row) }
     {
-        let Some(held) = self.pages.become_zero(row) else {
-            return;
-        };
-        release_if(&mut self.keeper, table, held.frame);
+        let left = self.pages.become_zero(row);
+        release_if(&mut self.keeper, table, left);
     }
 
     /// The row of a page goes, and so does its reference on its frame, if it has one.

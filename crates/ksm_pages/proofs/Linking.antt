@@ -31,7 +31,7 @@ use Rattle.ksm_tree.proofs.Bridge.{best_found, choice_alike, choice_exists, stal
 use Rattle.ksm_tree.proofs.Changes.{row_found, all_rows}
 use Rattle.ksm_tree.proofs.Rows.{found_in}
 use Rattle.ksm_tree.proofs.Tied.{tied_counted}
-use Rattle.ksm_tree.proofs.Ties.{tied_dropped, tied_left, tied_joined, tied_made, tied_inserted, tied_mapped, tied_pruned, number_found, tied_count, row_stays}
+use Rattle.ksm_tree.proofs.Ties.{tied_dropped, tied_left, tied_joined, tied_made, tied_inserted, tied_mapped, tied_pruned, number_found, tied_count}
 use Rattle.ksm_pages.specs.Linked.{AreLinked, HasRoom, IsVacant, PagesView, elsewhere}
 use Rattle.ksm_pages.specs.Listed.{Listed}
 use Rattle.ksm_base.proofs.Pages.{same_page_eq}
@@ -116,6 +116,12 @@ own_not_merged Waiting e = refl
 own_not_merged (Merged d) e = absurd (true≢false e)
 own_not_merged Zero e = refl
 
+pub none_merged : (s : PageState) → ((number : ℕ) → s ≡ Merged number → ⊥) → merged_state s ≡ false
+none_merged Private other = refl
+none_merged Waiting other = refl
+none_merged (Merged n) other = absurd (other n refl)
+none_merged Zero other = refl
+
 let_out_alone : (state : PageState) (page : GuestPage) (dups : List Dup) → merged_state state ≡ false → let_out state page dups ≡ dups
 let_out_alone Private page dups alone = refl
 let_out_alone Waiting page dups alone = refl
@@ -126,10 +132,6 @@ let_out_alone (Merged n) page dups alone = absurd (true≢false alone)
 pub linked_alone : (shape : Shape) (rows : List Row) (dups : DupsState) → AreLinked shape rows dups → (old row : Row) → row_at row.page rows ≡ Some old → merged_state old.state ≡ false → merged_state row.state ≡ false → AreLinked shape (change_row row.page (λ _. row) rows) dups
 linked_alone shape rows dups linked old row found was alone =
     subst (λ ds. AreLinked shape (change_row row.page (λ _. row) rows) (record dups { dups = ds })) (let_out_alone old.state row.page dups.dups was) (linked_left shape rows dups linked old row found alone)
-
--- a page's row has another in its stead, or another page's has
-pub known_still : (page : GuestPage) (row : Row) (rows : List Row) → is_some (row_at page rows) ≡ true → is_some (row_at page (change_row row.page (λ _. row) rows)) ≡ true
-known_still page row rows there = row_stays page (λ r. if same_page r.page row.page then row else r) rows (keeps_page row) ∙ there
 
 -- what is seen, where the rows of the dups and the next number stay
 pub only_rows : (shape : Shape) (old now : DupsState) (knobs : Knobs) (listed mid : Listed) (v : PagesView) → rows_of now.dups ≡ rows_of old.dups → now.next ≡ old.next

@@ -1,16 +1,15 @@
 -- Where a page's row stands among the rows.
-use Rattle.std.proofs.Common.{◌≡◌, ◌∙◌, ℕ, zero, suc, ◌<◌, true, false, List, [], ◌∷◌, length, get_or, set, map, Some, refl, sym, ap, subst, inl, inr, arith}
-use Rattle.std.specs.Prelude.{All, if◌then◌else◌}
+use Rattle.std.proofs.Common.{◌≡◌, ◌∙◌, ℕ, zero, suc, ◌<◌, true, false, List, [], ◌∷◌, length, get_or, map, Some, refl, sym, ap, subst, inl, inr, arith}
+use Rattle.std.specs.Prelude.{All}
 use Rattle.std.proofs.lemmas.Bool.{cases_Bool}
 use Rattle.std.proofs.lemmas.List.{get_or_default}
 use Rattle.ksm_base.specs.declared.page.GuestPage.{GuestPage}
 use Rattle.ksm_base.specs.declared.row.Row.{Row}
-use Rattle.ksm_base.specs.Rows.{InPageOrder, comes_before, same_page, row_at, change_row}
+use Rattle.ksm_base.specs.Rows.{InPageOrder, comes_before, same_page, row_at}
 use Rattle.ksm_base.proofs.Edits.{find_all, find_passes}
 use Rattle.ksm_base.proofs.Orders.{pairs_tail, filter_none}
 use Rattle.ksm_base.proofs.Pages.{before_irrefl, not_both, same_page_eq}
 use Rattle.ksm_pages.specs.Listed.{Listed, StandsAt, frame_in, no_row, rank, row_in}
-use Rattle.ksm_pages.proofs.Linking.{keeps_page}
 
 same_before : (p q x : GuestPage) → comes_before p q ≡ true → same_page q x ≡ true → comes_before p x ≡ true
 same_before p q x before same = subst (λ y. comes_before p y ≡ true) (same_page_eq q x same) before
@@ -31,6 +30,10 @@ rank_is page (r ∷ rs) (suc i) d rise lt same =
     let first : comes_before r.page page ≡ true = same_before r.page (get_or rs i d).page page (rise 0 (suc i) d (omega arith) lt) same in
     let rest : rank page rs ≡ i = rank_is page rs i d (pairs_tail (λ a b. comes_before a.page b.page ≡ true) r rs rise) (omega arith) same in
     grind (arith, first, rest)
+
+-- a row that a search by page finds is of the page
+pub found_page : (page : GuestPage) (rows : List Row) (row : Row) → row_at page rows ≡ Some row → row.page ≡ page
+found_page page rows row found = same_page_eq row.page page (find_passes (λ r. same_page r.page page) rows row found)
 
 -- the row of a page stands at its rank
 pub stands_where : (v : Listed) (page : GuestPage) (r : Row) → InPageOrder v.rows → row_at page v.rows ≡ Some r
@@ -58,16 +61,3 @@ rank_mapped page f (r ∷ rows) pages =
       | inl before ↦ grind (arith, here, before, rest)
       | inr other ↦ grind (arith, here, other, rest)
     ]
-
-set_again : {X : Type 0} (xs : List X) (i : ℕ) (x : X) → set (set xs i x) i x ≡ set xs i x
-set_again [] i x = refl
-set_again (y ∷ xs) zero x = refl
-set_again (y ∷ xs) (suc i) x = ap (λ l. y ∷ l) (set_again xs i x)
-
--- a row that is put in the stead of its page's once more changes nothing
-pub same_again : (row : Row) (rows one two : List Row) → one ≡ set rows (rank row.page rows) row → one ≡ change_row row.page (λ _. row) rows
-    → two ≡ set one (rank row.page one) row → two ≡ one
-same_again row rows one two put changed again =
-    again ∙ ap (λ n. set one n row) (ap (rank row.page) changed ∙ rank_mapped row.page (λ r. if same_page r.page row.page then row else r) rows
-    (keeps_page row))
-    ∙ ap (λ l. set l (rank row.page rows) row) put ∙ set_again rows (rank row.page rows) row ∙ sym put

@@ -174,16 +174,16 @@ pub stands_at : (k : GuestPage) (v : Entry) (es : Entries) → Sorted es → loo
 stands_at k v es sorted found = let s = stands k v es sorted found in record { inside = s.0; row_is = s.1; frame_is = s.2; found = s.3 }
 
 -- the entry of a row that a search by page finds
-pub entry_found : (es : Entries) (l : Listed) (row : Row) → listed es ≡ l → Sorted es → row_at row.page l.rows ≡ Some row
-    → (v : Entry) × (lookup (asks row.page) es ≡ Some v) × (row ≡ row_of (row.page, v))
-entry_found es l row is sorted known = by (lookup (asks row.page) es) refl
+pub entry_found : (es : Entries) (l : Listed) (k : GuestPage) (row : Row) → listed es ≡ l → Sorted es → row_at k l.rows ≡ Some row
+    → (v : Entry) × (lookup (asks k) es ≡ Some v) × (row ≡ row_of (k, v))
+entry_found es l k row is sorted known = by (lookup (asks k) es) refl
   where
-    there : row_at row.page (rows_of es) ≡ Some row
-    there = ap (λ (x : Listed). row_at row.page x.rows) is ∙ known
+    there : row_at k (rows_of es) ≡ Some row
+    there = ap (λ (x : Listed). row_at k x.rows) is ∙ known
 
-    by : (o : Option Entry) → lookup (asks row.page) es ≡ o → (v : Entry) × (lookup (asks row.page) es ≡ Some v) × (row ≡ row_of (row.page, v))
-    by None found = absurd (let none : row_at row.page (rows_of es) ≡ None = none_by row.page es found in grind (arith, none, there))
-    by (Some v) found = (v, found, same_Some row (row_of (row.page, v)) (sym there ∙ (stands_at row.page v es sorted found).found))
+    by : (o : Option Entry) → lookup (asks k) es ≡ o → (v : Entry) × (lookup (asks k) es ≡ Some v) × (row ≡ row_of (k, v))
+    by None found = absurd (let none : row_at k (rows_of es) ≡ None = none_by k es found in grind (arith, none, there))
+    by (Some v) found = (v, found, same_Some row (row_of (k, v)) (sym there ∙ (stands_at k v es sorted found).found))
 
 -- what stood at a page is its row, on the frame that is listed there
 pub stood_there : (v : Listed) (k : GuestPage) (row : Row) (o : Option Held) → MatchOption o ⊥ (λ held. StandsAt v k held.row held.frame) → row_at k v.rows ≡ Some row → StandsAt v k row (frame_in v.frames (rank k v.rows))

@@ -1,6 +1,6 @@
 -- Where rows are seen to lie, through the changes of rows and dups.
 use Rattle.std.proofs.Common.{◌≡◌, ◌∙◌, ℕ, zero, suc, ◌<◌, Bool, true, false, true≢false, cond, List, [], ◌∷◌, length, get_or, set, map, Option, None, Some, refl, sym, ap, subst, inl, inr, arith, length-set, get_or-set_same, get_or-set_other}
-use Rattle.std.specs.Prelude.{◌==◌, All, filter, find, insert, remove, not, option_map, MatchOption, if◌then◌else◌}
+use Rattle.std.specs.Prelude.{◌==◌, All, filter, find, insert, remove, not, option_map, if◌then◌else◌}
 use Rattle.std.proofs.lemmas.Bool.{cases_Bool, cond_both, eq-eqb, eqb-true}
 use Rattle.std.proofs.lemmas.List.{length-map}
 use Rattle.std.proofs.lemmas.Option.{same_Some}
@@ -73,12 +73,6 @@ seen_restated of (r ∷ rows) [] zero row = refl
 seen_restated of (r ∷ rows) [] (suc i) row = refl
 seen_restated of (r ∷ rows) (h ∷ frames) zero row = refl
 seen_restated of (r ∷ rows) (h ∷ frames) (suc i) row = ap (λ l. frame_seen of r.state h ∷ l) (seen_restated of rows frames i row)
-
--- what is set where it was changes nothing
-set_back : (xs : List (Option ℕ)) (i : ℕ) → i < length xs → set xs i (frame_in xs i) ≡ xs
-set_back [] i lt = absurd (omega arith)
-set_back (x ∷ xs) zero lt = refl
-set_back (x ∷ xs) (suc i) lt = ap (λ l. x ∷ l) (set_back xs i (omega arith))
 
 -- a row and its frame that come
 pub seen_inserted : (of : ℕ → Option ℕ) (rows : List Row) (frames : List (Option ℕ)) (i : ℕ) (row : Row) (own : Option ℕ) → length frames ≡ length rows
@@ -180,23 +174,6 @@ stands_seen dups lodgings v page held seen paired at same is = record {
   found = at.found ∙ ap Some (sym same);
 }
 
--- ---------------------------------------------------------------- a row of its own
-
--- a row of its own in the stead of a merged one, on the frame where that lay
-pub seen_stays : (of : ℕ → Option ℕ) (v w : Listed) (row : Row) (frame : Option ℕ) (i : ℕ) → length v.frames ≡ length v.rows → i < length v.rows
-    → w.rows ≡ set v.rows i row → w.frames ≡ set v.frames i frame → frame_seen of row.state frame ≡ frame_in (frames_seen of v.rows v.frames) i
-    → frames_seen of w.rows w.frames ≡ frames_seen of v.rows v.frames
-seen_stays of v w row frame i paired lt rows frames is =
-    (λ t. frames_seen of (rows t) (frames t)) ∙ seen_set of v.rows v.frames i row frame ∙ ap (set (frames_seen of v.rows v.frames) i) is
-    ∙ set_back (frames_seen of v.rows v.frames) i (subst (λ n. i < n) (sym (seen_paired of v.rows v.frames paired)) lt)
-
--- the frame of a row that was put in the stead of its page's before
-pub replaced_at : (row : Row) (v between w : Listed) (frame : Option ℕ) → between.rows ≡ change_row row.page (λ _. row) v.rows → between.frames ≡ v.frames
-    → w.frames ≡ set between.frames (rank row.page between.rows) frame → w.frames ≡ set v.frames (rank row.page v.rows) frame
-replaced_at row v between w frame changed frames set_there =
-    set_there ∙ (λ t. set (frames t) (rank row.page (changed t)) frame)
-    ∙ ap (λ n. set v.frames n frame) (rank_mapped row.page (λ r. if same_page r.page row.page then row else r) v.rows (keeps_page row))
-
 -- ---------------------------------------------------------------- changes
 
 -- a row and its frame in the stead of those of its page
@@ -268,16 +245,6 @@ seen_gone dups now lodgings v w i paired same rows frames =
     (λ t. frames_seen (lodging (same t) lodgings) (rows t) (frames t)) ∙ seen_removed (lodging dups lodgings) v.rows v.frames i paired
 
 -- a row with a frame of its own lies on it
-pub stood_own : (dups : List DupRow) (lodgings : List (Option ℕ)) (v : Listed) (page : GuestPage) (o : Option Held) (row : Row)
-    → length v.frames ≡ length v.rows
-    → MatchOption o ⊥ (λ held. StandsAt v page held.row held.frame) → row_at page v.rows ≡ Some row → merged_state row.state ≡ false
-    → MatchOption o ⊥ (λ held. StandsAt (listed_seen dups lodgings v) page held.row held.frame)
-stood_own dups lodgings v page None row paired never found alone = never
-stood_own dups lodgings v page (Some held) row paired at found alone =
-    let same : held.row ≡ row = same_Some held.row row (sym at.found ∙ found) in
-    stands_seen dups lodgings v page held held paired at refl (sym (own_seen (lodging dups lodgings) held.row.state held.frame
-    (ap (λ (r : Row). merged_state r.state) same ∙ alone)))
-
 pub own_lies : (dups : List DupRow) (lodgings : List (Option ℕ)) (v : Listed) (row : Row) (frame : Option ℕ) → length v.frames ≡ length v.rows
     → StandsAt v row.page row frame → merged_state row.state ≡ false → StandsAt (listed_seen dups lodgings v) row.page row frame
 own_lies dups lodgings v row frame paired at alone =

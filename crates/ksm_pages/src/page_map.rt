@@ -1,7 +1,7 @@
 //! Pages in order, each found by a hash: the entries of the rows, under their pages.
 //!
 //! The entries stand in a map of hashes, each at an index. Beside it the pages stand in order, each with its index there.
-//! With n pages, `has`, `get`, `set`, `revise`, `restate` and `settle` cost a hash and a comparison in the mean. `insert`
+//! With n pages, `has`, `get`, `replace`, `revise`, `restate` and `settle` cost a hash and a comparison in the mean. `insert`
 //! also searches in the order once, and `remove`, which needs no hash, twice, in a number of steps in the order of log n. An
 //! `insert` that finds no room moves all entries to a larger place: in the mean that is a few steps for each. What is
 //! left of a page that went is kept for one that comes.
@@ -31,7 +31,6 @@ use std::collections::BTreeMap;
 use std::collections::btree_map::Range;
 use std::iter::Iterator;
 use std::marker::Model;
-use std::mem::replace;
 use std::ops::Bound;
 
 /// Entries under their pages, in the order of these.
@@ -158,25 +157,31 @@ impl PageMap {
         Ok(())
     }
 
-    /// Puts an entry in the stead of the page's, if it has one, and gives that one.
-    pub fn set(&mut self, page: GuestPage, entry: Entry) -> Option<Entry>
-        ensures value { result ≡ lookup (asks page) self.old }
-        ensures entries { self.new ≡ set_value (asks page) self.old entry }
+    /// Puts a row and its frame in the stead of those of its page, if it has an entry. Gives the frame's number that it had.
+    pub fn replace(&mut self, row: &Row, frame: Option<u32>) -> Option<u32>
+        ensures frame { MatchOption (lookup (asks row.now.page) self.old) (result ≡ None) (λ e. result ≡ e.frame) }
+        ensures entries { MatchOption (lookup (asks row.now.page) self.old) (self.new ≡ self.old) (λ _. self.new ≡ set_value (asks row.now.page) self.old (entry_of row.now frame)) }
         ensures ordered { Sorted self.old }
     {
-        let kept = self.found.get_mut(&page)?;
-        Some(replace(kept, entry))
+        let Some(kept) = self.found.get_mut(&row.page) else {
+            return None;
+        };
+        let left = kept.frame();
+        *kept = Entry::new(*row, frame);
+        left
     }
 
-    /// Puts a row in the stead of its page's, if it has one, on the frame where it is, and gives the entry as it was.
-    pub fn revise(&mut self, row: Row) -> Option<Entry>
-        ensures value { result ≡ lookup (asks row.page) self.old }
-        ensures entries { MatchOption result (self.new ≡ self.old) (λ e. self.new ≡ set_value (asks row.page) self.old (entry_of row e.frame)) }
+    /// Puts a row in the stead of its page's, if it has one, on the frame where it is. Gives that frame's number.
+    pub fn revise(&mut self, row: &Row) -> Option<u32>
+        ensures frame { MatchOption (lookup (asks row.now.page) self.old) (result ≡ None) (λ e. result ≡ e.frame) }
+        ensures entries { MatchOption (lookup (asks row.now.page) self.old) (self.new ≡ self.old) (λ e. self.new ≡ set_value (asks row.now.page) self.old (entry_of row.now e.frame)) }
         ensures ordered { Sorted self.old }
     {
-        let kept = self.found.get_mut(&row.page)?;
-        let revised = Entry::new(row, kept.frame());
-        Some(replace(kept, revised))
+        let Some(kept) = self.found.get_mut(&row.page) else {
+            return None;
+        };
+        kept.set_row(*row);
+        kept.frame()
     }
 
     /// The row of a page gets another state, if it has one, on the frame where it is. Gives that frame's number.

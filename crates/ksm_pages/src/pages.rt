@@ -19,7 +19,7 @@ ghost use Rattle.ksm_base.specs.declared.row.DupRow.{DupRow as DupSeen};
 ghost use Rattle.ksm_pages.specs.Lodged.{frame_seen, frames_seen, lodging, lodging_of as lodging_kept, listed_seen, ItemsLieOn, LiesWith};
 ghost use Rattle.ksm_tree.specs.Dups.{rows_of};
 
-use crate::row::{Wanted, is_merged, is_waiting, let_go, same_page, tree_of};
+use crate::row::{Wanted, is_waiting, let_go, same_page, tree_of};
 use crate::rows::{Held, Rows};
 use ksm_base::{DupRow, Fault, GuestPage, Knobs, PageState, Row, Shape};
 use ksm_tree::{Choice, Dups, Waiting};
@@ -67,15 +67,6 @@ fn stop_waiting(waiting: &mut Waiting, knobs: &Knobs, row: &Row)
     }
 }
 
-// A page leaves the dup of which its row's state says that it is an item.
-fn leave(dups: &mut Dups, state: PageState, page: GuestPage)
-    ensures { dups.new ≡ record dups.old { dups = let_out state page dups.old.dups } }
-{
-    if let PageState::Merged(number) = state {
-        dups.leave(number, page);
-    }
-}
-
 // The frame kept at the place of a dup, if there is one.
 fn lodging_at(lodgings: &[Option<u32>], place: Option<u32>) -> Option<u32>
     ensures { (d : Option DupSeen) → option_map (λ d. d.place) d ≡ place → result ≡ lodging_kept lodgings.now d }
@@ -94,20 +85,16 @@ fn lodging_of(dups: &Dups, lodgings: &[Option<u32>], number: u64) -> Option<u32>
     lodging_at(lodgings, dups.place(number))
 }
 
-// What an entry has that goes, with the frame where the row lay. The page leaves the dup of which it was an item, if it was.
-fn left(dups: &mut Dups, lodgings: &[Option<u32>], page: GuestPage, held: Held) -> Held
-    ensures dups { dups.new ≡ record dups.old { dups = let_out held.row.state page dups.old.dups } }
-    ensures row { result.row ≡ held.row }
-    ensures frame { result.frame ≡ frame_seen (lodging (rows_of dups.old.dups) lodgings.now) held.row.state held.frame }
+// The frame where a row lay that goes or becomes another, whose entry had this one. Its page leaves the dup of which it was an item, if it was.
+fn left_by(dups: &mut Dups, lodgings: &[Option<u32>], row: &Row, frame: Option<u32>) -> Option<u32>
+    ensures dups { dups.new ≡ record dups.old { dups = let_out row.now.state row.now.page dups.old.dups } }
+    ensures frame { result ≡ frame_seen (lodging (rows_of dups.old.dups) lodgings.now) row.now.state frame }
 {
-    let PageState::Merged(number) = held.row.state else {
-        return held;
+    let PageState::Merged(number) = row.state else {
+        return frame;
     };
-    let place = dups.leave(number, page);
-    Held {
-        frame: lodging_at(lodgings, place),
-        ..held
-    }
+    let place = dups.leave(number, row.page);
+    lodging_at(lodgings, place)
 }
 
 // What an entry has, with the frame where the row lies: where its dup does, if it is merged.
@@ -122,32 +109,6 @@ fn seen(dups: &Dups, lodgings: &[Option<u32>], held: Held) -> Held
         frame: lodging_of(dups, lodgings, number),
         ..held
     }
-}
-
-// Puts a row of its own in the stead of its page's, on the frame where that lay, which its entry has from now on; gives what stood there.
-fn revise_where_it_lies(
-    rows: &mut Rows,
-    dups: &Dups,
-    lodgings: &[Option<u32>],
-    row: Row,
-) -> Option<Held>
-    requires known { is_some (row_at row.page rows.old.rows) ≡ true }
-    requires alone { row.state ≡ Private }
-    requires paired { length rows.old.frames ≡ length rows.old.rows }
-    ensures stood { MatchOption result ⊥ (λ held. StandsAt (listed_seen (rows_of dups.now.dups) lodgings.now rows.old) row.page held.row held.frame) }
-    ensures rows { rows.new.rows ≡ slice_set rows.old.rows (rank row.page rows.old.rows) row }
-    ensures changed { rows.new.rows ≡ change_row row.page (λ _. row) rows.old.rows }
-    ensures frames { frames_seen (lodging (rows_of dups.now.dups) lodgings.now) rows.new.rows rows.new.frames ≡ frames_seen (lodging (rows_of dups.now.dups) lodgings.now) rows.old.rows rows.old.frames }
-    ensures paired { length rows.new.frames ≡ length rows.new.rows }
-{
-    let Some(held) = rows.revise(row) else {
-        return None;
-    };
-    let held = seen(dups, lodgings, held);
-    if is_merged(held.row.state) {
-        rows.replace(row, held.frame);
-    }
-    Some(held)
 }
 
 impl Pages {
@@ -319,40 +280,38 @@ impl Pages {
         self.rows.insert(row, frame)
     }
 
-    /// Puts a row of its own and its frame in the stead of those of its page, which leaves its dup, and gives what stood there.
-    pub fn replace(&mut self, row: Row, frame: Option<u32>) -> Option<Held>
-        requires known { is_some (row_at row.page self.old.listed.rows) ≡ true }
-        requires alone { row.state ≡ Private }
-        ensures stood { MatchOption result ⊥ (λ held. StandsAt self.old.listed row.page held.row held.frame) }
-        ensures rows { self.new.listed.rows ≡ slice_set self.old.listed.rows (rank row.page self.old.listed.rows) row }
-        ensures frames { self.new.listed.frames ≡ slice_set self.old.listed.frames (rank row.page self.old.listed.rows) frame }
-        ensures changed { self.new.listed.rows ≡ change_row row.page (λ _. row) self.old.listed.rows }
+    /// Puts a row of its own and its frame in the stead of the row that its page has, which leaves its dup. Gives the frame where this lay.
+    pub fn replace(&mut self, old: &Row, row: &Row, frame: Option<u32>) -> Option<u32>
+        requires known { row_at row.now.page self.old.listed.rows ≡ Some old.now }
+        requires alone { row.now.state ≡ Private }
+        ensures stood { StandsAt self.old.listed row.now.page old.now result }
+        ensures rows { self.new.listed.rows ≡ slice_set self.old.listed.rows (rank row.now.page self.old.listed.rows) row.now }
+        ensures frames { self.new.listed.frames ≡ slice_set self.old.listed.frames (rank row.now.page self.old.listed.rows) frame }
+        ensures changed { self.new.listed.rows ≡ change_row row.now.page (λ _. row.now) self.old.listed.rows }
         ensures rest { self.new ≡ record self.old { listed = self.new.listed } }
     {
-        let Some(held) = self.rows.replace(row, frame) else {
-            return None;
-        };
-        stop_waiting(&mut self.waiting, &self.knobs, &held.row);
-        Some(left(&mut self.dups, &self.lodgings, row.page, held))
+        let kept = self.rows.replace(old, row, frame);
+        stop_waiting(&mut self.waiting, &self.knobs, old);
+        left_by(&mut self.dups, &self.lodgings, old, kept)
     }
 
-    /// Puts a row of its own in the stead of its page's, which leaves its dup, on the frame where it is, and gives what stood there.
-    pub fn revise(&mut self, row: Row) -> Option<Held>
-        requires known { is_some (row_at row.page self.old.listed.rows) ≡ true }
-        requires alone { row.state ≡ Private }
-        ensures stood { MatchOption result ⊥ (λ held. StandsAt self.old.listed row.page held.row held.frame) }
-        ensures rows { self.new.listed.rows ≡ slice_set self.old.listed.rows (rank row.page self.old.listed.rows) row }
+    /// Puts a row of its own in the stead of the row that its page has, which leaves its dup, on the frame where this is. Gives that frame.
+    pub fn revise(&mut self, old: &Row, row: &Row) -> Option<u32>
+        requires known { row_at row.now.page self.old.listed.rows ≡ Some old.now }
+        requires alone { row.now.state ≡ Private }
+        ensures stood { StandsAt self.old.listed row.now.page old.now result }
+        ensures rows { self.new.listed.rows ≡ slice_set self.old.listed.rows (rank row.now.page self.old.listed.rows) row.now }
         ensures frames { self.new.listed.frames ≡ self.old.listed.frames }
-        ensures changed { self.new.listed.rows ≡ change_row row.page (λ _. row) self.old.listed.rows }
+        ensures changed { self.new.listed.rows ≡ change_row row.now.page (λ _. row.now) self.old.listed.rows }
         ensures rest { self.new ≡ record self.old { listed = self.new.listed } }
     {
-        let Some(held) = revise_where_it_lies(&mut self.rows, &self.dups, &self.lodgings, row)
-        else {
-            return None;
-        };
-        stop_waiting(&mut self.waiting, &self.knobs, &held.row);
-        leave(&mut self.dups, held.row.state, row.page);
-        Some(held)
+        if let PageState::Merged(number) = old.state {
+            let frame = lodging_of(&self.dups, &self.lodgings, number);
+            return self.replace(old, row, frame);
+        }
+        let frame = self.rows.revise(old, row);
+        stop_waiting(&mut self.waiting, &self.knobs, old);
+        frame
     }
 
     /// Takes the row of a page away, which has one, leaves its dup, and gives what stood there.
@@ -368,7 +327,8 @@ impl Pages {
             return None;
         };
         stop_waiting(&mut self.waiting, &self.knobs, &held.row);
-        Some(left(&mut self.dups, &self.lodgings, page, held))
+        let frame = left_by(&mut self.dups, &self.lodgings, &held.row, held.frame);
+        Some(Held { frame, ..held })
     }
 
     /// The row that waits for another; where there is none, the row waits from now on, on the frame of its own that it has. Refused for
@@ -399,11 +359,11 @@ impl Pages {
         }
     }
 
-    /// A row becomes Zero, and has no frame any more. Gives what stood there.
-    pub fn become_zero(&mut self, row: Row) -> Option<Held>
+    /// A row becomes Zero, and has no frame any more. Gives the frame where it lay.
+    pub fn become_zero(&mut self, row: Row) -> Option<u32>
         requires row_is { row_at row.page self.old.listed.rows ≡ Some row }
         requires alone { shared_state row.state ≡ false }
-        ensures stood { MatchOption result ⊥ (λ held. StandsAt self.old.listed row.page held.row held.frame) }
+        ensures stood { StandsAt self.old.listed row.page row result }
         ensures rows { self.new.listed.rows ≡ slice_set self.old.listed.rows (rank row.page self.old.listed.rows) (record row { state = Zero }) }
         ensures frames { self.new.listed.frames ≡ slice_set self.old.listed.frames (rank row.page self.old.listed.rows) None }
         ensures changed { self.new.listed.rows ≡ change_row row.page (λ _. record row { state = Zero }) self.old.listed.rows }
@@ -414,7 +374,7 @@ impl Pages {
             state: PageState::Zero,
             ..row
         };
-        self.rows.replace(zero, None)
+        self.rows.replace(&row, &zero, None)
     }
 
     /// A row with a frame of its own becomes an item of a dup, on the dup's frame. Gives that frame, and the one that the row leaves. Refused for memory alone, it changes nothing.
@@ -515,7 +475,7 @@ impl Pages {
     {
         let mut last = None;
         while let Some(row) = self.rows.first_of(last, guest, Wanted::Before(stop)) {
-            self.revise(let_go(row));
+            self.revise(&row, &let_go(row));
             last = Some(row.page);
         }
     }

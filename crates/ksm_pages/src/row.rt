@@ -59,12 +59,6 @@ pub(crate) fn is_waiting(state: PageState) -> bool
     matches!(state, PageState::Waiting)
 }
 
-pub(crate) fn is_merged(state: PageState) -> bool
-    ensures { result ≡ merged_state state }
-{
-    matches!(state, PageState::Merged(_))
-}
-
 /// Whether a page in this state is mapped from a page that others may read too.
 pub fn is_shared(state: PageState) -> bool
     ensures { result ≡ shared_state state }

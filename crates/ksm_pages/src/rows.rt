@@ -203,46 +203,34 @@ impl Rows {
         Ok(())
     }
 
-    /// Puts a row and its frame in the stead of those of its page, which has a row, and gives what stood there.
-    pub(crate) fn replace(&mut self, row: Row, frame: Option<u32>) -> Option<Held>
-        requires { is_some (row_at row.page self.old.rows) ≡ true }
-        ensures stood { MatchOption result ⊥ (λ held. StandsAt self.old row.page held.row held.frame) }
-        ensures rows { self.new.rows ≡ slice_set self.old.rows (rank row.page self.old.rows) row }
-        ensures frames { self.new.frames ≡ slice_set self.old.frames (rank row.page self.old.rows) frame }
-        ensures changed { self.new.rows ≡ change_row row.page (λ _. row) self.old.rows }
+    /// Puts a row and its frame in the stead of the row that its page has. Gives the number of the frame that this had.
+    pub(crate) fn replace(&mut self, old: &Row, row: &Row, frame: Option<u32>) -> Option<u32>
+        requires { row_at row.now.page self.old.rows ≡ Some old.now }
+        ensures stood { StandsAt self.old row.now.page old.now result }
+        ensures rows { self.new.rows ≡ slice_set self.old.rows (rank row.now.page self.old.rows) row.now }
+        ensures frames { self.new.frames ≡ slice_set self.old.frames (rank row.now.page self.old.rows) frame }
+        ensures changed { self.new.rows ≡ change_row row.now.page (λ _. row.now) self.old.rows }
     {
         // The contract of `len` says that the number fits.
         let _ = self.entries.len();
-        let Some(left) = self.entries.set(row.page, Entry::new(row, frame)) else {
-            return None;
-        };
-        let old = left.row(row.page);
-        self.tally = self.tally.without(&old).with(&row);
-        Some(Held {
-            row: old,
-            frame: left.frame(),
-        })
+        let left = self.entries.replace(row, frame);
+        self.tally = self.tally.without(old).with(row);
+        left
     }
 
-    /// Puts a row in the stead of its page's, which has one, on the frame where it is, and gives what stood there.
-    pub(crate) fn revise(&mut self, row: Row) -> Option<Held>
-        requires { is_some (row_at row.page self.old.rows) ≡ true }
-        ensures stood { MatchOption result ⊥ (λ held. StandsAt self.old row.page held.row held.frame) }
-        ensures rows { self.new.rows ≡ slice_set self.old.rows (rank row.page self.old.rows) row }
+    /// Puts a row in the stead of the row that its page has, on the frame where this is, and gives the number of that.
+    pub(crate) fn revise(&mut self, old: &Row, row: &Row) -> Option<u32>
+        requires { row_at row.now.page self.old.rows ≡ Some old.now }
+        ensures stood { StandsAt self.old row.now.page old.now result }
+        ensures rows { self.new.rows ≡ slice_set self.old.rows (rank row.now.page self.old.rows) row.now }
         ensures frames { self.new.frames ≡ self.old.frames }
-        ensures changed { self.new.rows ≡ change_row row.page (λ _. row) self.old.rows }
+        ensures changed { self.new.rows ≡ change_row row.now.page (λ _. row.now) self.old.rows }
     {
         // The contract of `len` says that the number fits.
         let _ = self.entries.len();
-        let Some(left) = self.entries.revise(row) else {
-            return None;
-        };
-        let held = Held {
-            row: left.row(row.page),
-            frame: left.frame(),
-        };
-        self.tally = self.tally.without(&held.row).with(&row);
-        Some(held)
+        let frame = self.entries.revise(row);
+        self.tally = self.tally.without(old).with(row);
+        frame
     }
 
     /// Gives a row another state, on the frame where it is, and gives the number of that.
@@ -391,10 +379,13 @@ impl Rows {
         let _ = self.entries.len();
         let mut last = None;
         while let Some(row) = self.first_of(last, guest, Wanted::Before(None)) {
-            self.revise(Row {
-                mergeable: true,
-                ..row
-            });
+            self.revise(
+                &row,
+                &Row {
+                    mergeable: true,
+                    ..row
+                },
+            );
             last = Some(row.page);
         }
     }

@@ -84,7 +84,7 @@ or_nothing : (o : Option Row) → option_or o None ≡ o
 or_nothing None = refl
 or_nothing (Some r) = refl
 
-at_inserted : (row : Row) (rows : List Row) (q : GuestPage) → row_at q (with_row row rows) ≡ (if same_page row.page q then Some row else row_at q rows)
+pub at_inserted : (row : Row) (rows : List Row) (q : GuestPage) → row_at q (with_row row rows) ≡ (if same_page row.page q then Some row else row_at q rows)
 at_inserted row rows q =
     let ahead = at_chosen (λ p. comes_before p row.page) q rows in
     let behind = at_chosen (λ p. comes_before row.page p) q rows in

@@ -1,5 +1,5 @@
 use Rattle.std.proofs.Common.{◌≡◌, ◌<◌, ◌∷◌, [], ◌++◌, map, take, length, None, Some, refl, sym, ap, ◌∙◌, subst, arith}
-use Rattle.std.specs.Prelude.{filter, find, slice_get, is_some}
+use Rattle.std.specs.Prelude.{filter, find, slice_get}
 use Rattle.std.proofs.lemmas.List.Elements.{All-filter}
 use Rattle.ksm_base.specs.declared.row.Row.{Row}
 use Rattle.ksm_base.specs.Rows.{row_at, change_row}
@@ -22,19 +22,24 @@ returns-in_default-clause-stop c =
     let within = c.loop-done.invariant.within in
     omega arith
 
-found : (c : goal.After-unshared) → slice_get (filter (is_shared_of c.args.guest) c.args.layout.now.rows) c.loop-done.done ≡ Some c.in-Some.row
-found c = next_is c.args.guest c.loop-done.done c.args.layout.now.rows c.loop-done.layout.rows c.loop-done.layout.rows (Some c.in-Some.row) (ap (λ (x : Lay). x.rows) c.loop-done.invariant.state) refl (sym c.in-Some.is ∙ found_onward (is_shared_of c.args.guest) c.loop-done.last c.loop-done.layout.rows c.rows-in-loop-done.result.now.rows c.next_shared.result c.loop-done.invariant.behind c.rows-in-loop-done.ensures c.next_shared.ensures)
-
 pub resettle-requires-clause-known : goal.resettle-requires-clause-known
 resettle-requires-clause-known c =
-    ap (λ (x : Row). is_some (row_at x.page c.loop-done.layout.rows)) c.unshared.ensures
-    ∙ find_known (is_shared_of c.args.guest) c.loop-done.layout.rows c.in-Some.row (sym (sym c.in-Some.is ∙ found_onward (is_shared_of c.args.guest) c.loop-done.last c.loop-done.layout.rows c.rows-in-loop-done.result.now.rows c.next_shared.result c.loop-done.invariant.behind c.rows-in-loop-done.ensures c.next_shared.ensures))
+    let now = c.loop-done.layout.rows in
+    let made = ap (λ (x : Lay). x.rows) c.loop-done.invariant.state in
+    ap (λ (x : Row). row_at x.page now) c.unshared.ensures
+    ∙ find_known (is_shared_of c.args.guest) now c.in-Some.row (order_kept c.args.guest c.loop-done.done c.args.layout.now.rows now c.requires.rise made)
+    (sym (found_onward (is_shared_of c.args.guest) c.loop-done.last now c.rows-in-loop-done.result.now.rows c.next_shared.result
+    c.loop-done.invariant.behind c.rows-in-loop-done.ensures c.next_shared.ensures) ∙ c.in-Some.is)
 
 pub resettle-requires-clause-home : goal.resettle-requires-clause-home
 resettle-requires-clause-home c =
     let rows = c.args.layout.now.rows in
     let P = λ (r : Row). r.home < c.args.layout.now.shape.nodes in
-    let home : c.in-Some.row.home < c.args.layout.now.shape.nodes = all_some P (filter (is_shared_of c.args.guest) rows) c.loop-done.done c.in-Some.row (All-filter (is_shared_of c.args.guest) P rows c.requires.homes) (found c) in
+    let there : slice_get (filter (is_shared_of c.args.guest) rows) c.loop-done.done ≡ Some c.in-Some.row =
+    next_is c.args.guest c.loop-done.done c.args.layout.now.rows c.loop-done.layout.rows c.loop-done.layout.rows (Some c.in-Some.row) (ap (λ (x : Lay). x.rows) c.loop-done.invariant.state) refl
+    (sym c.in-Some.is ∙ found_onward (is_shared_of c.args.guest) c.loop-done.last c.loop-done.layout.rows
+    c.rows-in-loop-done.result.now.rows c.next_shared.result c.loop-done.invariant.behind c.rows-in-loop-done.ensures c.next_shared.ensures) in
+    let home : c.in-Some.row.home < c.args.layout.now.shape.nodes = all_some P (filter (is_shared_of c.args.guest) rows) c.loop-done.done c.in-Some.row (All-filter (is_shared_of c.args.guest) P rows c.requires.homes) there in
     let same = ap (λ (x : Lay). x.shape.nodes) c.loop-done.invariant.state in
     let kept = ap (λ (x : Row). x.home) c.unshared.ensures in
     omega arith

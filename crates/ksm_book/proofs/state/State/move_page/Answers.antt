@@ -9,7 +9,7 @@ use Rattle.ksm_base.specs.State.{BookState}
 use Rattle.ksm_base.proofs.SoundSteps.{sound_after}
 use Rattle.ksm_layout.specs.Laid.{Lay, state_of}
 use Rattle.ksm_book.specs.Whole.{BookView}
-use Rattle.ksm_layout.proofs.Found.{change_nothing, change_own, found_known, moved_page, moved_home}
+use Rattle.ksm_layout.proofs.Found.{change_nothing, change_own, found_by, moved_page, moved_home}
 use Rattle.ksm_book.proofs.state.State.move_page.Goals as goal
 
 pub returns-then-held-node : goal.returns-then-held-node
@@ -28,7 +28,7 @@ returns-then-held-node c = record {
 }
 
 pub resettle-requires-clause-known : goal.resettle-requires-clause-known
-resettle-requires-clause-known c = found_known c.args.page c.self.inside.layout.rows c.in-Some.held.row c.moved.result c.in-Some.ensures.found (ap (λ (x : Row). x.page) c.moved.ensures ∙ moved_page c.args.node c.in-Some.held.row)
+resettle-requires-clause-known c = found_by c.args.page c.self.inside.layout.rows c.in-Some.held.row c.moved.result c.in-Some.ensures.found (ap (λ (x : Row). x.page) c.moved.ensures ∙ moved_page c.args.node c.in-Some.held.row)
 
 there : (c : goal.Else-not-resettle) → state_of c.resettle.new.self c.self.inside.cursor c.self.inside.passes ≡ record (state_of c.self.inside.layout c.self.inside.cursor c.self.inside.passes) { rows = change_row c.args.page (moved c.args.node) c.self.inside.layout.rows }
 there c =

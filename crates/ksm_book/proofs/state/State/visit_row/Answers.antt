@@ -8,9 +8,9 @@ use Rattle.ksm_base.specs.State.{BookState}
 use Rattle.ksm_base.specs.Visit.{best_dup, next_row, row_visited}
 use Rattle.ksm_base.proofs.SoundScan.{next_row_visited, sound_row_visited}
 use Rattle.ksm_layout.specs.Commands.{Performs, dup_frame, joining, listed_in, row_visiting}
-use Rattle.ksm_layout.specs.Laid.{JoinsDup, Lay, LodgesAs, state_of, mapped_lay}
+use Rattle.ksm_layout.specs.Laid.{JoinsDup, Lay, state_of, mapped_lay}
 use Rattle.ksm_book.specs.Whole.{BookView, mapped}
-use Rattle.ksm_layout.proofs.Found.{change_known, found_as}
+use Rattle.ksm_layout.proofs.Found.{change_known}
 use Rattle.ksm_book.proofs.Visiting.{visited_at, best_joins, best_told, none_told, visited_by, visiting_by, marked_by}
 use Rattle.ksm_book.proofs.state.State.visit_row.Goals as goal
 use Rattle.ksm_book.proofs.state.State.visit_row.Goals.{In_ok-join}
@@ -51,9 +51,11 @@ invariant_of-self-in-Some c =
 pub amend-requires-clause-known : goal.amend-requires-clause-known
 amend-requires-clause-known c =
     let s = c.self.inside in
-    let row = c.args.row in
-    let found = visited_at (state_of s.layout s.cursor s.passes) row c.self.invariant (ap (λ (x : BookView). next_row x.state.cursor x.state.rows) c.self.view_is ∙ c.requires.next) in
-    found_as (LodgesAs (record row { unchanged = true; state = Private })) row.page s.layout.rows row (record row { unchanged = true; state = Private }) found refl (refl, refl, inr (sym c.if-is_shared.ensures, refl))
+    visited_at (state_of s.layout s.cursor s.passes) c.args.row c.self.invariant
+    (ap (λ (x : BookView). next_row x.state.cursor x.state.rows) c.self.view_is ∙ c.requires.next)
+
+pub amend-requires-clause-lodges : goal.amend-requires-clause-lodges
+amend-requires-clause-lodges c = (refl, refl, inr (sym c.if-is_shared.ensures, refl))
 
 marked : (c : goal.After-amend) → state_of c.amend.new.self c.self.inside.cursor c.self.inside.passes ≡ row_visited (state_of c.self.inside.layout c.self.inside.cursor c.self.inside.passes) c.args.row
 marked c =

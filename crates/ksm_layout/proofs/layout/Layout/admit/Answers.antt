@@ -1,12 +1,13 @@
 use Rattle.std.proofs.Common.{None, Some, ◌≡◌, ◌∙◌, ◌∷◌, [], refl, ap, sym, subst, arith}
 use Rattle.std.specs.Prelude.{insert, remove, slice_set}
-use Rattle.ksm_base.specs.Rows.{with_row}
+use Rattle.ksm_base.specs.Rows.{row_at, with_row}
 use Rattle.ksm_layout.specs.Commands.{FindsNone, Provides}
 use Rattle.ksm_layout.specs.Laid.{Lay}
 use Rattle.ksm_pages.specs.Listed.{Listed, rank}
 use Rattle.ksm_layout.specs.Steps.{Does}
 use Rattle.ksm_layout.specs.Keeping.{NoneLeft}
 use Rattle.ksm_layout.proofs.Laying.{laid_with, laid_kept, laid_same, relaid, relaid_there, relisted, rest_again}
+use Rattle.ksm_layout.proofs.Found.{found_come}
 use Rattle.ksm_layout.proofs.Ranks.{set_inserted, remove_inserted}
 use Rattle.ksm_layout.proofs.layout.Layout.admit.Goals as goal
 
@@ -51,6 +52,10 @@ module _ (c : goal.After-replace) where
 
   frames_there : c.replace.new.self.listed.frames ≡ insert c.self.inside.pages.listed.frames (rank c.args.row.page c.self.inside.pages.listed.rows) (Some c.in-Some.frame)
   frames_there = c.replace.ensures.frames ∙ (λ t. slice_set (c.in_ok-insert.ensures.frames t) (c.in_ok-insert.ensures.place t) (Some c.in-Some.frame)) ∙ set_inserted c.self.inside.pages.listed.frames (rank c.args.row.page c.self.inside.pages.listed.rows) None (Some c.in-Some.frame) (let p = c.in_ok-insert.ensures.paired in let w = c.in_ok-insert.ensures.within in omega (arith, p, w))
+
+pub replace-requires-clause-known : goal.replace-requires-clause-known
+replace-requires-clause-known c =
+    ap (row_at c.args.row.page) c.in_ok-insert.ensures.added ∙ found_come c.args.row c.self.inside.pages.listed.rows
 
 pub invariant_of-self-2 : goal.invariant_of-self-2
 invariant_of-self-2 c =

@@ -1,32 +1,48 @@
-use Rattle.std.proofs.Common.{◌∙◌, Some, ap, sym}
+use Rattle.std.proofs.Common.{◌≡◌, ◌∙◌, ℕ, Option, None, ap, refl, sym, subst}
+use Rattle.std.specs.Prelude.{MatchOption}
 use Rattle.std.specs.Map.{set_value}
 use Rattle.std.specs.Option.{option_copied_mut}
 use Rattle.ksm_pages.specs.Kept.{Entry}
-use Rattle.ksm_pages.specs.Paged.{asks}
+use Rattle.ksm_pages.specs.Paged.{asks, paged}
 use Rattle.ksm_pages.specs.RowEntries.{entry_of}
 use Rattle.ksm_pages.proofs.Paging.{got, seen_in_order, set_through}
 use Rattle.ksm_pages.proofs.page_map.PageMap.revise.Goals as goal
 
-pub returns-in_err-kept-clause-value : goal.returns-in_err-kept-clause-value
-returns-in_err-kept-clause-value c =
-    c.from_residual.ensures ∙ sym (ap option_copied_mut c.in_err-kept.was) ∙ got c.self.inside.found.entries c.self.inside.order.entries
-    c.args.self.now c.args.row.page _ c.self.view_is c.self.invariant c.get_mut.ensures.value
+pub returns-in_default-clause-frame : goal.returns-in_default-clause-frame
+returns-in_default-clause-frame c =
+    let none = sym (ap option_copied_mut c.in_default.is) ∙ got c.self.inside.found.entries c.self.inside.order.entries c.args.self.now c.args.row.now.page _
+    c.self.view_is c.self.invariant c.get_mut.ensures.value in
+    let nothing : Option ℕ = None in
+    subst (λ (o : Option Entry). MatchOption o (nothing ≡ None) (λ (e : Entry). nothing ≡ e.frame)) none refl
 
-pub returns-in_err-kept-clause-ordered : goal.returns-in_err-kept-clause-ordered
-returns-in_err-kept-clause-ordered c = seen_in_order c.self.inside.found.entries c.self.inside.order.entries c.args.self.now c.self.view_is c.self.invariant
+pub returns-in_default-clause-entries : goal.returns-in_default-clause-entries
+returns-in_default-clause-entries c =
+    let none = sym (ap option_copied_mut c.in_default.is) ∙ got c.self.inside.found.entries c.self.inside.order.entries c.args.self.now c.args.row.now.page _
+    c.self.view_is c.self.invariant c.get_mut.ensures.value in
+    let new = paged c.get_mut.follows.lender-at-none.entries c.self.inside.order.entries in
+    subst (λ o. MatchOption o (new ≡ c.args.self.now) (λ (e : Entry). new ≡ set_value (asks c.args.row.now.page) c.args.self.now (entry_of c.args.row.now e.frame))) none
+    (ap (λ m. paged m.entries c.self.inside.order.entries) c.get_mut.follows.holds-at-none ∙ c.self.view_is)
 
-pub returns-clause-value : goal.returns-clause-value
-returns-clause-value c =
-    ap Some c.replace.ensures.value ∙ sym (ap option_copied_mut c.in_ok-kept.was) ∙ got c.self.inside.found.entries c.self.inside.order.entries c.args.self.now c.args.row.page _
-    c.self.view_is c.self.invariant c.get_mut.ensures.value
+pub returns-in_default-clause-ordered : goal.returns-in_default-clause-ordered
+returns-in_default-clause-ordered c = seen_in_order c.self.inside.found.entries c.self.inside.order.entries c.args.self.now c.self.view_is c.self.invariant
+
+pub returns-clause-frame : goal.returns-clause-frame
+returns-clause-frame c =
+    let some = sym (ap option_copied_mut c.in-Some.is) ∙ got c.self.inside.found.entries c.self.inside.order.entries c.args.self.now c.args.row.now.page _
+    c.self.view_is c.self.invariant c.get_mut.ensures.value in
+    subst (λ (o : Option Entry). MatchOption o (c.frame.result ≡ None) (λ (e : Entry). c.frame.result ≡ e.frame)) some
+    (c.frame.ensures ∙ ap (λ (e : Entry). e.frame) c.set_row.ensures)
 
 pub returns-clause-entries : goal.returns-clause-entries
 returns-clause-entries c =
-    set_through c.self.inside.found.entries (c.get_mut.follows.lender c.replace.new.dest).entries c.self.inside.order.entries c.args.self.now
-    c.args.row.page c.replace.new.dest _ _ c.self.view_is c.self.invariant c.get_mut.ensures.value
-    (ap option_copied_mut c.in_ok-kept.was) (c.get_mut.follows.holds c.replace.new.dest).0
-    ∙ ap (set_value (asks c.args.row.page) c.args.self.now) (c.replace.ensures.after ∙ c.new-revised.ensures
-    ∙ ap (entry_of c.args.row) (c.frame.ensures ∙ ap (λ (e : Entry). e.frame) (sym c.replace.ensures.value)))
+    let w = c.set_row.new.self in
+    let some = sym (ap option_copied_mut c.in-Some.is) ∙ got c.self.inside.found.entries c.self.inside.order.entries c.args.self.now c.args.row.now.page _
+    c.self.view_is c.self.invariant c.get_mut.ensures.value in
+    let new = paged (c.get_mut.follows.lender w).entries c.self.inside.order.entries in
+    subst (λ o. MatchOption o (new ≡ c.args.self.now) (λ (e : Entry). new ≡ set_value (asks c.args.row.now.page) c.args.self.now (entry_of c.args.row.now e.frame))) some
+    (set_through c.self.inside.found.entries (c.get_mut.follows.lender w).entries c.self.inside.order.entries c.args.self.now c.args.row.now.page w _ _
+    c.self.view_is c.self.invariant c.get_mut.ensures.value (ap option_copied_mut c.in-Some.is) (c.get_mut.follows.holds w).0
+    ∙ ap (set_value (asks c.args.row.now.page) c.args.self.now) c.set_row.ensures)
 
 pub returns-clause-ordered : goal.returns-clause-ordered
 returns-clause-ordered c = seen_in_order c.self.inside.found.entries c.self.inside.order.entries c.args.self.now c.self.view_is c.self.invariant

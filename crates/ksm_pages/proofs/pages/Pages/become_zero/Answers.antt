@@ -4,8 +4,8 @@ use Rattle.ksm_base.specs.Rows.{row_at}
 use Rattle.ksm_tree.proofs.Waiters.{row_stopped}
 use Rattle.ksm_pages.specs.Linked.{AreKept}
 use Rattle.ksm_pages.proofs.Linking.{linked_alone, own_not_merged}
-use Rattle.ksm_pages.proofs.Seen.{paired_put, seen_put, stood_own}
-use Rattle.std.specs.Prelude.{slice_set, MatchOption}
+use Rattle.ksm_pages.proofs.Seen.{own_lies, paired_put, seen_put}
+use Rattle.std.specs.Prelude.{slice_set}
 use Rattle.ksm_pages.specs.Listed.{rank, StandsAt}
 use Rattle.ksm_tree.specs.Dups.{rows_of}
 use Rattle.ksm_pages.proofs.pages.Pages.become_zero.Goals as goal
@@ -29,13 +29,16 @@ invariant_of-self c =
       room = c.self.invariant.room;
     }
 
+pub replace-requires : goal.replace-requires
+replace-requires c = ap (λ v. row_at c.args.row.page v.listed.rows) c.self.view_is ∙ c.requires.row_is
+
 pub returns-clause-stood : goal.returns-clause-stood
 returns-clause-stood c =
     let old = c.self.inside in
     let row = c.args.row in
-    subst (λ v. MatchOption c.replace.result ⊥ (λ held. StandsAt v.listed row.page held.row held.frame)) c.self.view_is
-    (stood_own (rows_of old.dups.dups) old.lodgings.items old.rows row.page c.replace.result row c.self.invariant.paired c.replace.ensures.stood
-    (ap (λ v. row_at row.page v.listed.rows) c.self.view_is ∙ c.requires.row_is) (own_not_merged row.state c.requires.alone))
+    subst (λ v. StandsAt v.listed row.page row c.replace.result) c.self.view_is
+    (own_lies (rows_of old.dups.dups) old.lodgings.items old.rows row c.replace.result c.self.invariant.paired c.replace.ensures.stood
+    (own_not_merged row.state c.requires.alone))
 
 pub returns-clause-frames : goal.returns-clause-frames
 returns-clause-frames c =

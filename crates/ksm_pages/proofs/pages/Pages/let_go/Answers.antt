@@ -1,5 +1,5 @@
 use Rattle.std.proofs.Common.{◌≡◌, ◌∙◌, refl, sym, ap, subst, Some, None}
-use Rattle.std.specs.Prelude.{find, is_some}
+use Rattle.std.specs.Prelude.{find}
 use Rattle.ksm_base.specs.declared.row.Row.{Row}
 use Rattle.ksm_base.specs.Apply.{let_go}
 use Rattle.ksm_base.specs.Rows.{InPageOrder, change_row, row_at}
@@ -19,8 +19,8 @@ revise-requires-clause-known c =
     let order = order_before c.args.guest c.args.stop let_go (λ r. refl) c.loop-row.last c.args.self.now.listed.rows
     (subst InPageOrder (ap (λ (v : PagesView). v.listed.rows) c.self.view_is ∙ made) c.self.invariant.kept.linked.order) in
     let found = ap (λ (v : PagesView). find (left c.args.guest c.args.stop c.loop-row.last) v.listed.rows) (sym c.self.view_is) ∙ sym c.first_of.ensures ∙ c.in-Some.is in
-    ap (λ (r : Row). is_some (row_at r.page now)) c.let_go.ensures
-    ∙ ap is_some (known_now c.args.guest c.args.stop let_go (λ r. refl) c.loop-row.last c.args.self.now.listed.rows now c.in-Some.row order made found)
+    ap (λ (r : Row). row_at r.page now) c.let_go.ensures
+    ∙ known_now c.args.guest c.args.stop let_go (λ r. refl) c.loop-row.last c.args.self.now.listed.rows now c.in-Some.row order made found
 
 pub revise-requires-clause-alone : goal.revise-requires-clause-alone
 revise-requires-clause-alone c = ap (λ (r : Row). r.state) c.let_go.ensures

@@ -1,45 +1,74 @@
-use Rattle.std.proofs.Common.{◌∙◌, ap, sym, subst, List, ◌≡◌, ℕ, Option}
-use Rattle.ksm_base.specs.Rows.{change_row, merged_state, waiting_state}
-use Rattle.ksm_tree.proofs.Changes.{rows_out}
+use Rattle.std.proofs.Common.{◌≡◌, ◌∙◌, ap, refl, sym, subst, ℕ, List, Option, None}
+use Rattle.std.specs.Prelude.{slice_set, false}
+use Rattle.std.proofs.lemmas.Bool.{eq-eqb}
+use Rattle.std.proofs.lemmas.List.{set-get_or}
+use Rattle.ksm_base.specs.Rows.{merged_into, merged_state, row_at, waiting_state}
 use Rattle.ksm_tree.proofs.Waiters.{row_stopped}
 use Rattle.ksm_tree.specs.Dups.{rows_of}
-use Rattle.ksm_pages.specs.Linked.{AreKept, AreLinked}
-use Rattle.ksm_pages.proofs.Linking.{linked_left, only_rows}
-use Rattle.ksm_pages.specs.Lodged.{frames_seen, listed_seen, lodging}
-use Rattle.ksm_base.specs.declared.row.DupRow.{DupRow}
+use Rattle.ksm_pages.specs.Linked.{AreKept, PagesView}
+use Rattle.ksm_pages.proofs.Linking.{linked_alone, none_merged}
+use Rattle.ksm_pages.proofs.Seen.{item_lies, own_seen, paired_there, seen_revised, stands_seen}
+use Rattle.ksm_pages.specs.Listed.{StandsAt, rank, row_in}
+use Rattle.ksm_pages.specs.Lodged.{frames_seen, lodging}
 use Rattle.ksm_pages.proofs.pages.Pages.revise.Goals as goal
 
-pub invariant_of-self-2 : goal.invariant_of-self-2
-invariant_of-self-2 c =
+-- the old row, if it is merged, lies where its dup does, and the new one stays there
+pub returns-in-Merged-clause-frames : goal.returns-in-Merged-clause-frames
+returns-in-Merged-clause-frames c =
     let old = c.self.inside in
-    let row = c.args.row in
-    let found = c.in-Some.ensures.stood.found in
+    let dups = rows_of old.dups.dups in
+    let page = c.args.row.now.page in
+    let at = c.replace.ensures.stood in
+    let number = c.in-Merged.number in
+    let merged = ap (merged_into number) c.in-Merged.is ∙ eq-eqb number number refl in
+    let lies : c.replace.result ≡ lodging dups old.lodgings.items number =
+    item_lies dups old.lodgings.items old.rows page c.args.old.now c.replace.result number c.self.invariant.paired
+    (subst (λ (v : PagesView). StandsAt v.listed page c.args.old.now c.replace.result) (sym c.self.view_is) at) merged in
+    let frame = c.lodging_of-frame.ensures ∙ ap (λ (lodgings : List (Option ℕ)). lodging dups lodgings number) c.deref.ensures.value
+    ∙ sym lies ∙ sym at.frame_is in
+    let listed = c.args.self.now.listed in
+    c.replace.ensures.frames ∙ ap (slice_set listed.frames (rank page listed.rows)) frame ∙ set-get_or listed.frames (rank page listed.rows) None
+
+alone : (c : goal.After-stop_waiting) → merged_state c.args.old.now.state ≡ false
+alone c = none_merged c.args.old.now.state c.in_default.not-Merged
+
+pub invariant_of-self : goal.invariant_of-self
+invariant_of-self c =
+    let old = c.self-2.inside in
+    let row = c.args.row.now in
+    let was = c.args.old.now in
+    let found = ap (λ v. row_at row.page v.listed.rows) c.self-2.view_is ∙ c.requires.known in
     record {
-      kept = subst (λ rows. AreKept old.shape old.knobs rows c.leave.new.dups c.stop_waiting.new.waiting) (sym c.revise_where_it_lies.ensures.changed)
+      kept = subst (λ rows. AreKept old.shape old.knobs rows old.dups c.stop_waiting.new.waiting) (sym c.revise-frame.ensures.changed)
           (record {
-            linked = subst (AreLinked old.shape (change_row row.page (λ _. row) old.rows.rows)) (sym c.leave.ensures)
-                (linked_left old.shape old.rows.rows old.dups c.self.invariant.kept.linked c.in-Some.held.row row found (ap merged_state c.requires.alone));
-            waits = row_stopped old.knobs old.rows.rows old.waiting c.self.invariant.kept.waits c.stop_waiting.new.waiting row c.in-Some.held.row found
+            linked = linked_alone old.shape old.rows.rows old.dups c.self-2.invariant.kept.linked was row found (alone c) (ap merged_state c.requires.alone);
+            waits = row_stopped old.knobs old.rows.rows old.waiting c.self-2.invariant.kept.waits c.stop_waiting.new.waiting row was found
                 (ap waiting_state c.requires.alone) c.stop_waiting.ensures;
           });
-      paired = c.revise_where_it_lies.ensures.paired;
-      room = c.self.invariant.room;
+      paired = paired_there old.rows c.revise-frame.new.self (rank row.page old.rows.rows) row c.self-2.invariant.paired c.revise-frame.ensures.rows
+          c.revise-frame.ensures.frames;
+      room = c.self-2.invariant.room;
     }
 
-pub returns-clause-rest : goal.returns-clause-rest
-returns-clause-rest c =
-    let old = c.self.inside in
-    only_rows old.shape old.dups c.leave.new.dups old.knobs (listed_seen (rows_of c.leave.new.dups.dups) old.lodgings.items c.revise_where_it_lies.new.rows)
-    (listed_seen (rows_of old.dups.dups) old.lodgings.items old.rows) c.args.self.now
-    (ap (λ d. rows_of d.dups) c.leave.ensures ∙ rows_out c.in-Some.held.row.state c.args.row.page old.dups.dups)
-    (ap (λ d. d.next) c.leave.ensures) c.self.view_is
+pub returns-clause-stood : goal.returns-clause-stood
+returns-clause-stood c =
+    let old = c.self-2.inside in
+    let was = c.args.old.now in
+    let page = c.args.row.now.page in
+    let of = lodging (rows_of old.dups.dups) old.lodgings.items in
+    subst (λ (v : PagesView). StandsAt v.listed page was c.revise-frame.result) c.self-2.view_is
+    (stands_seen (rows_of old.dups.dups) old.lodgings.items old.rows page (record { row = was; frame = c.revise-frame.result })
+    (record { row = was; frame = c.revise-frame.result }) c.self-2.invariant.paired c.revise-frame.ensures.stood refl
+    (sym (own_seen of was.state c.revise-frame.result (alone c))))
 
 pub returns-clause-frames : goal.returns-clause-frames
 returns-clause-frames c =
-    let old = c.self.inside in
-    let new = c.revise_where_it_lies.new.rows in
-    ap (λ (dups : List DupRow). frames_seen (lodging dups old.lodgings.items) new.rows new.frames)
-    (ap (λ d. rows_of d.dups) c.leave.ensures ∙ rows_out c.in-Some.held.row.state c.args.row.page old.dups.dups)
-    ∙ subst (λ (lodgings : List (Option ℕ)). frames_seen (lodging (rows_of old.dups.dups) lodgings) new.rows new.frames ≡ frames_seen
-    (lodging (rows_of old.dups.dups) lodgings) old.rows.rows old.rows.frames) c.deref.ensures.value c.revise_where_it_lies.ensures.frames
-    ∙ ap (λ v. v.listed.frames) c.self.view_is
+    let old = c.self-2.inside in
+    let of = lodging (rows_of old.dups.dups) old.lodgings.items in
+    let row = c.args.row.now in
+    let k = rank row.page old.rows.rows in
+    let was = ap (λ r. merged_state r.state) c.revise-frame.ensures.stood.row_is ∙ alone c in
+    (λ t. frames_seen of (c.revise-frame.ensures.rows t) (c.revise-frame.ensures.frames t))
+    ∙ seen_revised of old.rows.rows old.rows.frames k row (λ own. own_seen of row.state own (ap merged_state c.requires.alone)
+    ∙ sym (own_seen of (row_in old.rows.rows k).state own was))
+    ∙ ap (λ (v : PagesView). v.listed.frames) c.self-2.view_is

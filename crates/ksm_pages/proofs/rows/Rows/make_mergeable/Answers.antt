@@ -1,5 +1,4 @@
 use Rattle.std.proofs.Common.{◌∙◌, refl, sym, ap, subst, Some, None}
-use Rattle.std.specs.Prelude.{is_some}
 use Rattle.ksm_base.specs.Rows.{InPageOrder, change_row}
 use Rattle.ksm_pages.specs.Listed.{Listed}
 use Rattle.ksm_pages.proofs.GuestWalks.{as_mergeable, begun, every_row, fewer_left, finished, in_order, known_now, one_more, seen_before}
@@ -14,8 +13,8 @@ loop-row-init c = record {
 
 pub revise-requires : goal.revise-requires
 revise-requires c =
-    ap is_some (known_now c.args.guest None as_mergeable (λ r. refl) c.loop-row.last c.args.self.now.rows c.loop-row.self.rows c.in-Some.row c.loop-row.invariant.order
-    c.loop-row.invariant.rows (sym c.first_of.ensures ∙ c.in-Some.is))
+    known_now c.args.guest None as_mergeable (λ r. refl) c.loop-row.last c.args.self.now.rows c.loop-row.self.rows c.in-Some.row c.loop-row.invariant.order
+    c.loop-row.invariant.rows (sym c.first_of.ensures ∙ c.in-Some.is)
 
 pub loop-row-preserved : goal.loop-row-preserved
 loop-row-preserved c =

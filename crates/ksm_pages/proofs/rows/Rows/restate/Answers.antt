@@ -11,7 +11,7 @@ use Rattle.ksm_pages.proofs.rows.Rows.restate.Goals as goal
 
 -- the entry of the row
 entry : (c : goal.After-self-1) → (v : Entry) × (lookup (asks c.args.row.now.page) c.self.inside.entries ≡ Some v) × (c.args.row.now ≡ row_of (c.args.row.now.page, v))
-entry c = entry_found c.self.inside.entries c.args.self.now c.args.row.now c.self.view_is c.restate-frame.ensures.ordered c.requires
+entry c = entry_found c.self.inside.entries c.args.self.now c.args.row.now.page c.args.row.now c.self.view_is c.restate-frame.ensures.ordered c.requires
 
 written : (c : goal.After-self-1) → Revised c.args.self.now (listed c.restate-frame.new.self) (record c.args.row.now { state = c.args.state })
 written c =
@@ -47,13 +47,13 @@ returns-clause-changed c = (written c).changed
 
 pub without-requires : goal.without-requires
 without-requires c =
-    let e = entry_found c.self.inside.entries c.args.self.now c.args.row.now c.self.view_is c.restate-frame.ensures.ordered c.requires in
+    let e = entry_found c.self.inside.entries c.args.self.now c.args.row.now.page c.args.row.now c.self.view_is c.restate-frame.ensures.ordered c.requires in
     page_counted c.self.inside.entries c.args.self.now c.args.row.now.page e.0 c.args.row.now c.self.inside.tally c.self.view_is
     c.restate-frame.ensures.ordered e.1 e.2 c.self.invariant
 
 pub with-self-inside-requires : goal.with-self-inside-requires
 with-self-inside-requires c =
-    let e = entry_found c.self.inside.entries c.args.self.now c.args.row.now c.self.view_is c.restate-frame.ensures.ordered c.requires in
+    let e = entry_found c.self.inside.entries c.args.self.now c.args.row.now.page c.args.row.now c.self.view_is c.restate-frame.ensures.ordered c.requires in
     page_room c.self.inside.entries c.args.self.now c.args.row.now.page e.0 c.args.row.now c.self.inside.tally c.self.view_is
     c.restate-frame.ensures.ordered e.1 e.2 c.self.invariant
     c.without.result (omega (arith, c.len.ensures.small, c.len.ensures.len)) c.without.ensures
