@@ -8,5 +8,6 @@ pub mod Entering
 pub mod Journaled
 pub mod Resettling
 pub mod Quiet
+pub mod PassedOver
 pub mod Passing
 pub mod Gathered

@@ -1,5 +1,5 @@
 -- What a scan knows of the rows that come after its cursor (own).
-use Rattle.std.specs.Prelude.{◌≡◌, ◌≤◌, ◌++◌, All as Each, List, [], drop, length, Some, is_some, true, IfSome, MatchOption, ◌∷◌}
+use Rattle.std.specs.Prelude.{◌≡◌, ℕ, ◌≤◌, ◌++◌, All as Each, List, [], drop, length, Option, Some, None, is_some, true, IfSome, MatchOption, ◌∷◌}
 use Rattle.std.specs.Option.{option_to_list}
 use Rattle.ksm_base.specs.declared.page.GuestPage.{GuestPage}
 use Rattle.ksm_base.specs.declared.row.Row.{Row}
@@ -37,3 +37,12 @@ IsKnown rows ahead = (ahead.at ≤ length ahead.found.items) × AreOfPass rows a
 -- the runs are those after the cursor; where nothing is known of the one under way, nothing is of those behind it
 abbrev pub IsAhead : BookState → Ahead → Type 0
 IsAhead b ahead = MatchOption ahead.run (behind ahead ≡ []) (λ run. IsUnderWay b × AreRuns b.rows b.cursor (run ∷ behind ahead)) × IsKnown b.rows ahead
+
+-- how many visits a run has, if it is known
+abbrev pub visits_in : Option Run → ℕ
+visits_in None = 0
+visits_in (Some run) = run.visits
+
+-- how many visits the run under way has, if it is known
+abbrev pub visits_ahead : Ahead → ℕ
+visits_ahead ahead = visits_in ahead.run

@@ -6,10 +6,11 @@ ghost use Rattle.ksm_base.specs.Apply.{after};
 ghost use Rattle.ksm_base.specs.declared.row.Row.{Row};
 ghost use Rattle.ksm_base.specs.Rows.{InPageOrder, row_at, settled, shared_state};
 ghost use Rattle.ksm_base.specs.Visit.{visit, visits, visit_begun, visit_ended, pass_ended_at_last, row_visited, paired, partner, stayed, next_row};
+ghost use Rattle.std.specs.Option.{option_and_then};
 ghost use Rattle.ksm_pages.specs.Scanned.{AreRuns, GoesOnAt, IsUnderWay, RunsOver};
 ghost use Rattle.ksm_layout.specs.Steps.{Does};
 ghost use Rattle.ksm_book.specs.Carried.{CarriedOut};
-ghost use Rattle.ksm_book.specs.Gathered.{AreOfPass, GoesOnAtPage, IsAhead, IsKnown, StaysNow, behind, passed_by};
+ghost use Rattle.ksm_book.specs.Gathered.{AreOfPass, GoesOnAtPage, IsAhead, IsKnown, StaysNow, behind, passed_by, visits_ahead};
 ghost use Rattle.ksm_pages.specs.declared.row.Run.{Run};
 ghost use Rattle.ksm_book.specs.Quiet.{ChangesNothing, IsQuiet, IsQuietPass, IsQuietSince, StaysAlone};
 ghost use Rattle.ksm_book.specs.Whole.{mapped};
@@ -54,6 +55,16 @@ fn quiet_since(since: Option<u64>, stood: bool, quiet: bool, most: u64) -> Optio
         return since;
     }
     Some(most)
+}
+
+// The page that is visited once the run is through, if both are known.
+fn page_ahead(run: &Option<Run>) -> Option<GuestPage>
+    ensures { result ≡ option_and_then (λ run. run.next) run.now }
+{
+    match run {
+        Some(run) => run.next,
+        None => None,
+    }
 }
 
 // Two runs as one, where a visit leaves the page between them as it is from now on.
@@ -222,12 +233,11 @@ impl State {
         ensures performs { IfOk result (λ made. Performs (mapped self.old) (mapped self.new) (scanning made.visits self.old.state self.old.frames)) }
         ensures idle { OnErr result (IsIdle (mapped self.old) (mapped self.new)) }
     {
-        if let Some(run) = self.run_within(ahead, most)
-            && run.visits > 0
-        {
-            ahead.run = self.pass_over(run);
+        let visits = self.visits_within(ahead, most);
+        if visits > 0 {
+            self.pass_over(ahead);
             return Ok(Made {
-                visits: run.visits,
+                visits,
                 quiet: true,
             });
         }
@@ -286,36 +296,45 @@ impl State {
         }
     }
 
-    // The run in which the pass goes on, found anew where it has more visits than are wanted.
-    fn run_within(&self, ahead: &mut Ahead, most: u64) -> Option<Run>
+    // How many visits the run has in which the pass goes on, found anew where these are more than are wanted. Where no run is known, none.
+    fn visits_within(&self, ahead: &mut Ahead, most: u64) -> u64
         requires { IsAhead self.now.state ahead.old }
         ensures ahead { IsAhead self.now.state ahead.new }
-        ensures run { result ≡ ahead.new.run }
-        ensures most { IfSome result (λ run. run.visits ≤ most) }
+        ensures visits { result ≡ visits_ahead ahead.new }
+        ensures most { result ≤ most }
     {
-        let run = ahead.run?;
+        let Some(run) = &ahead.run else {
+            return 0;
+        };
         if run.visits > most {
             ahead.run = Some(self.gather(ahead, most));
         }
-        ahead.run
+        match &ahead.run {
+            Some(run) => run.visits,
+            None => 0,
+        }
     }
 
-    // The visits of a run, which leave the rows as they are. Gives what is left of it, if the pass goes on.
-    fn pass_over(&mut self, run: Run) -> Option<Run>
-        requires under_way { is_some self.old.state.cursor ≡ true }
-        requires over { RunsOver self.old.state.rows self.old.state.cursor run }
-        requires some { 1 ≤ run.visits }
-        ensures state { self.new.state ≡ visits run.visits self.old.state }
-        ensures rest { MatchOption result (run.next ≡ None) (λ rest. (rest ≡ record run { visits = 0 }) × IsUnderWay self.new.state) }
-        ensures rows { self.new.state.rows ≡ self.old.state.rows }
-        ensures cursor { IsSome result → self.new.state.cursor ≡ run.last }
+    // The visits of the run in which the pass goes on, which leave the rows as they are. Nothing is left of the run, but where the pass goes on.
+    fn pass_over(&mut self, ahead: &mut Ahead)
+        requires ahead { IsAhead self.old.state ahead.old }
+        requires some { 1 ≤ visits_ahead ahead.old }
+        ensures ahead { IsAhead self.new.state ahead.new }
+        ensures state { self.new.state ≡ visits (visits_ahead ahead.old) self.old.state }
+        ensures quiet { ChangesNothing (visits_ahead ahead.old) self.old.state self.new.state self.old.frames }
         ensures idle { IsIdle (mapped self.old) (mapped self.new) }
-        ensures performs { Performs (mapped self.old) (mapped self.new) (scanning run.visits self.old.state self.old.frames) }
+        ensures performs { Performs (mapped self.old) (mapped self.new) (scanning (visits_ahead ahead.old) self.old.state self.old.frames) }
     {
+        let Some(run) = &mut ahead.run else {
+            return;
+        };
+        run.visits = 0;
         self.cursor = run.last;
         let goes_on = run.next.is_some();
         self.close_pass(goes_on);
-        goes_on.then_some(Run { visits: 0, ..run })
+        if !goes_on {
+            ahead.run = None;
+        }
     }
 
     // One visit, of the page at which the pass goes on, if that is known. Says whether it is known to be quiet. Where memory is refused, the visit has only begun.
@@ -335,8 +354,9 @@ impl State {
         ensures idle { OnErr result (IsIdle (mapped self.old) (mapped self.new)) }
     {
         let stood = self.cursor.is_some();
-        let known = ahead.run.take().and_then(|run| run.next);
+        let known = page_ahead(&ahead.run);
         let Some(row) = self.begin_visit(known) else {
+            ahead.run = None;
             return Ok(false);
         };
         // Else a pass ended before the visit.

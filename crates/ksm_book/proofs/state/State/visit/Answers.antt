@@ -1,8 +1,7 @@
 use mathlib.Core.Bool.{beq}
-use Rattle.std.proofs.Common.{◌≡◌, ◌∙◌, Bool, true, false, [], ◌∷◌, Some, refl, sym, ap, subst, arith}
-use Rattle.std.specs.Prelude.{MatchOption, is_some}
+use Rattle.std.proofs.Common.{◌≡◌, ◌∙◌, Bool, true, false, Some, refl, sym, ap, subst, arith}
+use Rattle.std.specs.Prelude.{is_some}
 use Rattle.ksm_book.specs.Whole.{BookView}
-use Rattle.ksm_pages.specs.Scanned.{AreRuns, IsUnderWay}
 use Rattle.ksm_book.specs.Gathered.{behind}
 use Rattle.ksm_base.specs.State.{BookState}
 use Rattle.ksm_base.specs.Visit.{next_row, row_visited}
@@ -26,7 +25,7 @@ end_visit-requires c =
     (visit_goes_on (state_of c.self-2.inside.layout c.self-2.inside.cursor c.self-2.inside.passes) row c.self-2.invariant) (sym c.in-Some.ensures.next)) in
     record {
       behind = kept_runs begun.rows visited.rows on (Some row.page) (behind ahead) runs;
-      again = kept_known begun.rows visited.rows on (record ahead { run = c.take.new.self }) known;
+      again = kept_known begun.rows visited.rows on ahead known;
       joined = λ is. elim c.match-matches.branch [ in-Joined w ↦ c.in_ok-visited.ensures.joined w.in-Joined.is | in_default-matches w ↦ absurd (grind (arith, sym is ∙ w.matches-is)) ];
     }
 
@@ -34,9 +33,7 @@ pub returns-in_default-clause-ahead : goal.returns-in_default-clause-ahead
 returns-in_default-clause-ahead c =
     let b = c.args.self.now.state in
     let begun = c.begin_visit.new.self.state in (
-      subst (λ o. MatchOption o (behind c.args.ahead.now ≡ []) (λ run. IsUnderWay begun × AreRuns begun.rows begun.cursor (run ∷ behind c.args.ahead.now)))
-          (sym c.take.ensures.after)
-          (none_ahead b begun c.args.ahead.now c.requires.ahead c.begin_visit.ensures.state (sym c.begin_visit.ensures.next ∙ c.in_default.is)),
+      none_ahead b begun c.args.ahead.now c.requires.ahead c.begin_visit.ensures.state (sym c.begin_visit.ensures.next ∙ c.in_default.is),
       known_begun b begun c.args.ahead.now c.requires.ahead.1 c.begin_visit.ensures.state,
     )
 
