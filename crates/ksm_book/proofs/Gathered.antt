@@ -1,9 +1,11 @@
 -- What was found of the rows after the cursor stays true while the scan goes on.
 use Rattle.std.proofs.Common.{◌≡◌, ◌<◌, ◌+◌, ℕ, zero, suc, ◌-◌, ◌++◌, Bool, true, false, cond, List, [], ◌∷◌, get_or, Option, Some, None, refl, sym, ap, ◌∙◌, subst, arith}
-use Rattle.std.specs.Prelude.{◌&&◌, ◌||◌, All as Each, IfSome, MatchOption, map, slice_get, is_some, is_none, nat_lt, length}
-use Rattle.std.specs.Option.{option_to_list}
+use Rattle.std.specs.Prelude.{◌≤◌, ◌&&◌, ◌||◌, All as Each, IfSome, MatchOption, drop, map, slice_get, slice_set, take, is_some, is_none, nat_lt, length}
+use Rattle.std.proofs.Math.ListN.{drop_of_length-le}
+use Rattle.std.proofs.Math.Seq.{split_at}
 use Rattle.std.proofs.lemmas.Bool.{cond_both}
 use Rattle.std.proofs.lemmas.Bool.Decides.{nat_tests}
+use Rattle.std.proofs.lemmas.List.{append_assoc, set_split}
 use Rattle.std.proofs.lemmas.List.Elements.{All-head, All-tail, All-map}
 use Rattle.std.proofs.lemmas.Option.{same_Some}
 use Rattle.ksm_base.specs.declared.page.GuestPage.{GuestPage}
@@ -223,7 +225,7 @@ settled_alone row alone = λ t. record row { state = by row.state alone t }
 
 -- ---------------------------------------------------------------- runs that were found
 
-some_page : (o : Option Row) → is_some (page_of o) ≡ is_some o
+pub some_page : (o : Option Row) → is_some (page_of o) ≡ is_some o
 some_page None = refl
 some_page (Some r) = refl
 
@@ -251,22 +253,23 @@ pub run_at_page : (b : BookState) (run : Run) (page : GuestPage) → is_some b.c
 run_at_page b run page some over none next =
     (some, ap (λ (c : Option GuestPage). page_of (next_row c b.rows)) (sym (over.last ∙ ap (λ m. cursor_after m b.cursor b.rows) none)) ∙ sym over.next ∙ next)
 
+pub none_found : (o : Option Row) → page_of o ≡ None → o ≡ None
+none_found None is = refl
+none_found (Some r) is = absurd (grind (arith, ap is_some is))
+
 some_row : (o : Option Row) → is_some o ≡ true → (r : Row) × (o ≡ Some r)
 some_row None is = absurd (grind (arith, is))
 some_row (Some r) is = (r, refl)
 
--- the row of the page at which the pass goes on
-pub row_there : (b : BookState) (page : GuestPage) → InPageOrder b.rows → GoesOnAtPage b page → row_at page b.rows ≡ next_row b.cursor b.rows
-row_there b page rise (some, is) = by (next_row b.cursor b.rows) refl is
+-- the row of the page that is visited next
+pub row_there : (b : BookState) (page : GuestPage) → InPageOrder b.rows → page_of (next_row b.cursor b.rows) ≡ Some page → row_at page b.rows ≡ next_row b.cursor b.rows
+row_there b page rise is = by (next_row b.cursor b.rows) refl is
   where
     by : (o : Option Row) → next_row b.cursor b.rows ≡ o → page_of o ≡ Some page → row_at page b.rows ≡ o
     by None found is = absurd (grind (arith, ap is_some is))
     by (Some r) found is =
         ap (λ p. row_at p b.rows) (sym (same_Some r.page page is))
         ∙ find_all (λ x. x.mergeable && after_cursor b.cursor x.page) (λ x. row_at x.page b.rows ≡ Some x) b.rows r found (each_at_page b.rows rise)
-
-pub goes_on_at : (b : BookState) (page : GuestPage) → GoesOnAtPage b page → (row : Row) × GoesOnAt b row
-goes_on_at b page (some, is) = let found = some_row (next_row b.cursor b.rows) (sym (some_page (next_row b.cursor b.rows)) ∙ ap is_some is) in (found.0, (some, found.1))
 
 -- the runs behind the row that is visited
 pub behind_ahead : (b begun : BookState) (ahead : Ahead) (row : Row) → IsAhead b ahead → IfSome ahead.run (λ run. run.visits ≡ 0) → begun ≡ visit_begun b
@@ -333,7 +336,7 @@ run_together rows cursor first second page one next left two = record {
         subst Left (sym (behind_it (k - first.visits - 1)) ∙ ap (λ n. cursor_after n cursor rows) rest) (two.left (k - first.visits - 1) (omega (arith, lt, behind)))
 
 -- among others
-pub put_together : (rows : List Row) (cursor : Option GuestPage) (before : List Run) (first second both : Run) (rest : List Run) (page : GuestPage) → first.next ≡ Some page
+put_together : (rows : List Row) (cursor : Option GuestPage) (before : List Run) (first second both : Run) (rest : List Run) (page : GuestPage) → first.next ≡ Some page
     → StaysNow page rows → both ≡ record second { visits = second.visits + 1 + first.visits }
     → AreRuns rows cursor (before ++ (first ∷ (second ∷ rest))) → AreRuns rows cursor (before ++ (both ∷ rest))
 put_together rows cursor [] first second both rest page next left is (over, on) =
@@ -358,14 +361,28 @@ put_together rows cursor (run ∷ before) first second both rest page next left 
     by (Some p) are rest_so = rest_so p are
 
 -- the same where they begin behind a page, if they are kept
-pub pass_together : (rows : List Row) (from : Option GuestPage) (before : List Run) (first second both : Run) (rest : List Run) (page : GuestPage) → first.next ≡ Some page
+pass_together : (rows : List Row) (from : Option GuestPage) (before : List Run) (first second both : Run) (rest : List Run) (page : GuestPage) → first.next ≡ Some page
     → StaysNow page rows → both ≡ record second { visits = second.visits + 1 + first.visits }
     → IfSome from (λ p. AreRuns rows (Some p) (before ++ (first ∷ (second ∷ rest)))) → IfSome from (λ p. AreRuns rows (Some p) (before ++ (both ∷ rest)))
 pass_together rows None before first second both rest page next left is are = tt
 pass_together rows (Some p) before first second both rest page next left is are = put_together rows (Some p) before first second both rest page next left is are
 
+-- the last of those that were gone through, and the one behind it
+pub last_together : (rows : List Row) (from : Option GuestPage) (items : List Run) (k : ℕ) (last run both : Run) (rest : List Run) (page : GuestPage) → k < length items
+    → length items ≤ suc k → get_or items k last ≡ last → last.next ≡ Some page → StaysNow page rows → both ≡ record run { visits = run.visits + 1 + last.visits }
+    → IfSome from (λ p. AreRuns rows (Some p) (items ++ (run ∷ rest))) → IfSome from (λ p. AreRuns rows (Some p) (slice_set items k both ++ rest))
+last_together rows from items k last run both rest page within over at next left is are =
+    let before : List Run = take k items in
+    let end : drop (suc k) items ≡ [] = drop_of_length-le items over in
+    let was : items ≡ before ++ (last ∷ []) = split_at items k last within ∙ (λ t. before ++ (at t ∷ end t)) in
+    let now : slice_set items k both ≡ before ++ (both ∷ []) = set_split items k both within ∙ ap (λ l. before ++ (both ∷ l)) end in
+    let Kept : List Run → Type 0 = λ l. IfSome from (λ p. AreRuns rows (Some p) l) in
+    subst Kept (sym (ap (λ l. l ++ rest) now ∙ append_assoc before (both ∷ []) rest))
+    (pass_together rows from before last run both rest page next left is
+    (subst Kept (ap (λ l. l ++ (run ∷ rest)) was ∙ append_assoc before (last ∷ []) (run ∷ rest)) are))
+
 -- runs that are found for some visits are runs
-pub ahead_runs : (n : ℕ) (rows : List Row) (cursor : Option GuestPage) (runs : List Run) → AreAhead n rows cursor runs → AreRuns rows cursor runs
+ahead_runs : (n : ℕ) (rows : List Row) (cursor : Option GuestPage) (runs : List Run) → AreAhead n rows cursor runs → AreRuns rows cursor runs
 ahead_runs n rows cursor [] are = tt
 ahead_runs n rows cursor (run ∷ runs) (is, on) = (is.over, by run.next on (λ page. ahead_runs (n - run.visits - 1) rows (Some page) runs))
   where
@@ -401,9 +418,3 @@ none_ahead b begun ahead are is none = by ahead.run are.0
         let found = some_row (next_row b.cursor b.rows) under_way.1 in
         let same : begun ≡ b = is ∙ begins_none b found.0 (under_way.0, found.1) in
         absurd (grind (arith, ap is_some (sym found.1 ∙ ap (λ (x : BookState). next_row x.cursor x.rows) (sym same) ∙ none)))
-
--- those that were found are those of the pass, the first of them being the last that it has come to
-pub first_put : (found later passed : List Run) (taken : Option Run) → MatchOption taken ((found ≡ []) × (later ≡ [])) (λ r. found ≡ r ∷ later) → passed ≡ []
-    → passed ++ (option_to_list taken ++ later) ≡ found
-first_put found later passed None (none, alone) empty = ap (λ l. l ++ later) empty ∙ alone ∙ sym none
-first_put found later passed (Some r) split empty = ap (λ l. l ++ (r ∷ later)) empty ∙ sym split

@@ -1,6 +1,5 @@
 -- What a scan knows of the rows that come after its cursor (own).
 use Rattle.std.specs.Prelude.{◌≡◌, ℕ, ◌≤◌, ◌++◌, All as Each, List, [], drop, length, Option, Some, None, is_some, true, IfSome, MatchOption, ◌∷◌}
-use Rattle.std.specs.Option.{option_to_list}
 use Rattle.ksm_base.specs.declared.page.GuestPage.{GuestPage}
 use Rattle.ksm_base.specs.declared.row.Row.{Row}
 use Rattle.ksm_base.specs.Rows.{same_page}
@@ -24,7 +23,7 @@ behind ahead = drop ahead.at ahead.found.items
 
 -- the runs of the next pass: those that this one has gone through, and the rest
 abbrev pub passed_by : Ahead → List Run → List Run
-passed_by ahead rest = ahead.passed.items ++ (option_to_list ahead.last ++ rest)
+passed_by ahead rest = ahead.passed.items ++ rest
 
 -- with this rest they are true of the next pass from the page on behind which they begin, if they are kept
 abbrev pub AreOfPass : List Row → Ahead → List Run → Type 0

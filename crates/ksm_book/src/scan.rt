@@ -7,7 +7,7 @@ ghost use Rattle.ksm_base.specs.declared.row.Row.{Row};
 ghost use Rattle.ksm_base.specs.Rows.{InPageOrder, row_at, settled, shared_state};
 ghost use Rattle.ksm_base.specs.Visit.{visit, visits, visit_begun, visit_ended, pass_ended_at_last, row_visited, paired, partner, stayed, next_row};
 ghost use Rattle.std.specs.Option.{option_and_then};
-ghost use Rattle.ksm_pages.specs.Scanned.{AreRuns, GoesOnAt, IsUnderWay, RunsOver};
+ghost use Rattle.ksm_pages.specs.Scanned.{AreRuns, GoesOnAt, IsUnderWay, RunsOver, page_of};
 ghost use Rattle.ksm_layout.specs.Steps.{Does};
 ghost use Rattle.ksm_book.specs.Carried.{CarriedOut};
 ghost use Rattle.ksm_book.specs.Gathered.{AreOfPass, GoesOnAtPage, IsAhead, IsKnown, StaysNow, behind, passed_by, visits_ahead};
@@ -76,8 +76,8 @@ fn together(first: Run, second: Run) -> Option<Run>
 }
 
 // The runs that come after the cursor, as far as they are known: the one in which the pass goes on, and those behind it. No visit makes
-// a run untrue, so the runs from a page on are kept for the next pass: those that the pass has gone through, and the last of
-// them, which is put together with the one behind it where the page between them joins.
+// a run untrue, so the runs from a page on are kept for the next pass: those that the pass has gone through. The last of
+// them is put together with the one behind it where the page between them joins.
 #[derive(Drop)]
 struct Ahead {
     run: Option<Run>,
@@ -85,7 +85,6 @@ struct Ahead {
     at: usize,
     from: Option<GuestPage>,
     passed: Vec<Run>,
-    last: Option<Run>,
 }
 
 impl Ahead {
@@ -102,7 +101,6 @@ impl Ahead {
             at: 0,
             from: None,
             passed: Vec::new(alloc),
-            last: None,
         }
     }
 
@@ -128,7 +126,7 @@ impl Ahead {
         let Some(from) = self.from else {
             return;
         };
-        if self.at < self.found.len() || from != page || !self.put_last() {
+        if self.at < self.found.len() || from != page {
             return;
         }
         swap(&mut self.found, &mut self.passed);
@@ -136,21 +134,14 @@ impl Ahead {
         self.at = 0;
     }
 
-    // The last run is one of those that the pass has gone through. Says whether there was room for it, else the runs are not kept.
-    fn put_last(&mut self) -> bool
-        ensures rest { (self.new.run ≡ self.old.run) × ((self.new.found ≡ self.old.found) × (self.new.at ≡ self.old.at)) }
-        ensures from { self.new.from ≡ (if result then self.old.from else None) }
-        ensures last { self.new.last ≡ None }
-        ensures runs { (rest : List Run) → result ≡ true → passed_by self.new rest ≡ passed_by self.old rest }
+    // The run is one of those that the pass has gone through. Where there is no room for it, the runs are not kept.
+    fn keep(&mut self, run: Run)
+        ensures rest { self.new ≡ record self.old { passed = self.new.passed; from = self.new.from } }
+        ensures known { (rows : List Row) (rest : List Run) → AreOfPass rows self.old (run ∷ rest) → AreOfPass rows self.new rest }
     {
-        let Some(last) = self.last.take() else {
-            return true;
-        };
-        let has_room = self.passed.push(last).is_ok();
-        if !has_room {
+        if self.passed.push(run).is_err() {
             self.from = None;
         }
-        has_room
     }
 
     // The run that the pass goes on with, behind this page, is kept for the next pass.
@@ -159,17 +150,15 @@ impl Ahead {
         ensures known { (rows : List Row) (rest : List Run) → (joined ≡ true → StaysNow page rows) → AreOfPass rows self.old (run ∷ rest) → AreOfPass rows self.new rest }
     {
         if joined
-            && let Some(last) = self.last
+            && let Some(last) = self.passed.last_mut()
             && let Some(next) = last.next
             && next == page
-            && let Some(both) = together(last, run)
+            && let Some(both) = together(*last, run)
         {
-            self.last = Some(both);
+            *last = both;
             return;
         }
-        if self.put_last() {
-            self.last = Some(run);
-        }
+        self.keep(run);
     }
 }
 
@@ -355,13 +344,14 @@ impl State {
     {
         let stood = self.cursor.is_some();
         let known = page_ahead(&ahead.run);
-        let Some(row) = self.begin_visit(known) else {
+        let Some(page) = self.begin_visit(known) else {
             ahead.run = None;
             return Ok(false);
         };
+        let row = self.row(page);
         // Else a pass ended before the visit.
         let is_one_pass = self.cursor.is_some() == stood;
-        let visited = self.visit_row(table, row)?;
+        let visited = self.visit_row(table, &row)?;
         let joined = matches!(visited, Visited::Joined);
         self.end_visit(row.page, joined, ahead, most - 1);
         Ok(is_one_pass && matches!(visited, Visited::Same))
@@ -393,31 +383,33 @@ impl State {
         }
     }
 
-    // What is done before a page is visited, where the page at which the pass goes on may be known. Gives the row to visit.
-    fn begin_visit(&mut self, known: Option<GuestPage>) -> Option<Row>
+    // What is done before a page is visited, where the page at which the pass goes on may be known. Gives the page to visit.
+    fn begin_visit(&mut self, known: Option<GuestPage>) -> Option<GuestPage>
         requires known { IfSome known (GoesOnAtPage self.old.state) }
         ensures state { self.new.state ≡ visit_begun self.old.state }
-        ensures next { result ≡ next_row self.new.state.cursor self.new.state.rows }
+        ensures next { result ≡ page_of (next_row self.new.state.cursor self.new.state.rows) }
         ensures none { IfNone result (self.new.state.cursor ≡ None) }
         ensures idle { IsIdle (mapped self.old) (mapped self.new) }
     {
-        if let Some(page) = known {
-            return self.row(page);
+        if known.is_some() {
+            return known;
         }
-        let next = self.end_pass();
-        if next.is_some() {
-            return next;
+        if let Some(next) = self.end_pass() {
+            return Some(next.page);
         }
         self.layout.settle_all();
-        self.layout.rows().next(None)
+        match self.layout.rows().next(None) {
+            Some(next) => Some(next.page),
+            None => None,
+        }
     }
 
-    // The row of a page.
-    fn row(&self, page: GuestPage) -> Option<Row>
-        ensures row { result ≡ row_at page self.now.state.rows }
-        ensures order { InPageOrder self.now.state.rows }
+    // The row that is visited, which is of this page.
+    fn row(&self, page: GuestPage) -> Row
+        requires next { page_of (next_row self.now.state.cursor self.now.state.rows) ≡ Some page }
+        ensures next { next_row self.now.state.cursor self.now.state.rows ≡ Some result }
     {
-        self.layout.rows().row(page)
+        self.layout.rows().known(page)
     }
 
     // What is done after a page was visited. The runs behind it were found before, as far as they are known.
@@ -470,30 +462,30 @@ impl State {
         ahead.from = self.cursor;
         ahead.passed.clear();
         let _ = ahead.passed.reserve(RUNS_AT_ONCE);
-        let first = ahead.take();
-        ahead.last = first;
+        let _ = ahead.take();
+        ahead.keep(run);
         run
     }
 
     // What becomes of the page that is visited. Where memory is refused, nothing becomes of it.
-    fn visit_row(&mut self, table: &FrameTable, row: Row) -> Result<Visited, Fault>
+    fn visit_row(&mut self, table: &FrameTable, row: &Row) -> Result<Visited, Fault>
         requires own { self.old.keeper.table ≡ table.now }
-        requires next { next_row self.old.state.cursor self.old.state.rows ≡ Some row }
+        requires next { next_row self.old.state.cursor self.old.state.rows ≡ Some row.now }
         ensures own { self.new.keeper.table ≡ self.old.keeper.table }
-        ensures ok { OnOk result (self.new.state ≡ row_visited self.old.state row) }
-        ensures joined { IfOk result (λ visited. visited ≡ Visited.Joined → StaysNow row.page self.new.state.rows) }
+        ensures ok { OnOk result (self.new.state ≡ row_visited self.old.state row.now) }
+        ensures joined { IfOk result (λ visited. visited ≡ Visited.Joined → StaysNow row.now.page self.new.state.rows) }
         ensures settled { IfOk result (λ visited. visited ≡ Visited.Same → map settled self.new.state.rows ≡ map settled self.old.state.rows) }
-        ensures same { IfOk result (λ visited. visited ≡ Visited.Same → IsQuiet self.old.state row) }
+        ensures same { IfOk result (λ visited. visited ≡ Visited.Same → IsQuiet self.old.state row.now) }
         ensures err { OnErr result (self.new.state ≡ self.old.state) }
         ensures fault { OnErr result (result ≡ Err Memory) }
         ensures does { Does self.old.keeper self.new.keeper [] }
-        ensures performs { OnOk result (Performs (mapped self.old) (mapped self.new) (row_visiting self.old.state self.old.frames row)) }
+        ensures performs { OnOk result (Performs (mapped self.old) (mapped self.new) (row_visiting self.old.state self.old.frames row.now)) }
         ensures idle { OnErr result (IsIdle (mapped self.old) (mapped self.new)) }
     {
         if is_shared(row.state) {
             return Ok(Visited::Same);
         }
-        if let Some(number) = self.layout.best(&row) {
+        if let Some(number) = self.layout.best(row) {
             self.layout.join(table, row, number)?;
             return Ok(Visited::Joined);
         }
@@ -501,31 +493,31 @@ impl State {
             let kept = Row {
                 unchanged: true,
                 state: PageState::Private,
-                ..row
+                ..*row
             };
-            self.layout.amend(&row, &kept);
+            self.layout.amend(row, &kept);
             return Ok(Visited::Changed);
         }
         self.stay(table, row)
     }
 
     // A page whose bytes stayed becomes Zero, or is merged with the one that waits for it, or waits.
-    fn stay(&mut self, table: &FrameTable, row: Row) -> Result<Visited, Fault>
+    fn stay(&mut self, table: &FrameTable, row: &Row) -> Result<Visited, Fault>
         requires own { self.old.keeper.table ≡ table.now }
-        requires next { next_row self.old.state.cursor self.old.state.rows ≡ Some row }
-        requires alone { shared_state row.state ≡ false }
+        requires next { next_row self.old.state.cursor self.old.state.rows ≡ Some row.now }
+        requires alone { shared_state row.now.state ≡ false }
         ensures own { self.new.keeper.table ≡ self.old.keeper.table }
-        ensures ok { OnOk result (self.new.state ≡ stayed self.old.state row) }
-        ensures joined { IfOk result (λ visited. visited ≡ Visited.Joined → StaysNow row.page self.new.state.rows) }
+        ensures ok { OnOk result (self.new.state ≡ stayed self.old.state row.now) }
+        ensures joined { IfOk result (λ visited. visited ≡ Visited.Joined → StaysNow row.now.page self.new.state.rows) }
         ensures settled { IfOk result (λ visited. visited ≡ Visited.Same → map settled self.new.state.rows ≡ map settled self.old.state.rows) }
-        ensures same { IfOk result (λ visited. visited ≡ Visited.Same → StaysAlone self.old.state row) }
+        ensures same { IfOk result (λ visited. visited ≡ Visited.Same → StaysAlone self.old.state row.now) }
         ensures err { OnErr result (self.new.state ≡ self.old.state) }
         ensures fault { OnErr result (result ≡ Err Memory) }
         ensures does { Does self.old.keeper self.new.keeper [] }
-        ensures performs { OnOk result (Performs (mapped self.old) (mapped self.new) (staying self.old.state self.old.frames row)) }
+        ensures performs { OnOk result (Performs (mapped self.old) (mapped self.new) (staying self.old.state self.old.frames row.now)) }
         ensures idle { OnErr result (IsIdle (mapped self.old) (mapped self.new)) }
     {
-        if is_for_zero(&self.layout.knobs(), &row) {
+        if is_for_zero(&self.layout.knobs(), row) {
             self.layout.become_zero(table, row);
             return Ok(Visited::Joined);
         }
@@ -533,27 +525,28 @@ impl State {
     }
 
     // A page whose bytes stayed is merged with the one that waits for it, or waits.
-    fn pair(&mut self, table: &FrameTable, row: Row) -> Result<Visited, Fault>
+    fn pair(&mut self, table: &FrameTable, row: &Row) -> Result<Visited, Fault>
         requires own { self.old.keeper.table ≡ table.now }
-        requires next { next_row self.old.state.cursor self.old.state.rows ≡ Some row }
-        requires alone { shared_state row.state ≡ false }
+        requires next { next_row self.old.state.cursor self.old.state.rows ≡ Some row.now }
+        requires alone { shared_state row.now.state ≡ false }
         ensures own { self.new.keeper.table ≡ self.old.keeper.table }
-        ensures ok { OnOk result (self.new.state ≡ paired (partner self.old.state.knobs self.old.state.rows row) self.old.state row) }
-        ensures joined { IfOk result (λ visited. visited ≡ Visited.Joined → StaysNow row.page self.new.state.rows) }
+        ensures ok { OnOk result (self.new.state ≡ paired (partner self.old.state.knobs self.old.state.rows row.now) self.old.state row.now) }
+        ensures joined { IfOk result (λ visited. visited ≡ Visited.Joined → StaysNow row.now.page self.new.state.rows) }
         ensures settled { IfOk result (λ visited. visited ≡ Visited.Same → map settled self.new.state.rows ≡ map settled self.old.state.rows) }
-        ensures same { IfOk result (λ visited. visited ≡ Visited.Same → partner self.old.state.knobs self.old.state.rows row ≡ None) }
+        ensures same { IfOk result (λ visited. visited ≡ Visited.Same → partner self.old.state.knobs self.old.state.rows row.now ≡ None) }
         ensures err { OnErr result (self.new.state ≡ self.old.state) }
         ensures fault { OnErr result (result ≡ Err Memory) }
         ensures does { Does self.old.keeper self.new.keeper [] }
-        ensures performs { OnOk result (Performs (mapped self.old) (mapped self.new) (pairing (partner self.old.state.knobs self.old.state.rows row) self.old.state self.old.frames row)) }
+        ensures performs { OnOk result (Performs (mapped self.old) (mapped self.new) (pairing (partner self.old.state.knobs self.old.state.rows row.now) self.old.state self.old.frames row.now)) }
         ensures idle { OnErr result (IsIdle (mapped self.old) (mapped self.new)) }
     {
-        let Some(other) = self.layout.meet(&row)? else {
+        let Some(page) = self.layout.meet(row)? else {
             return Ok(Visited::Same);
         };
+        let other = self.layout.rows().known(page);
         self.layout.lies_lawfully();
         let place = self.layout.new_place();
-        self.layout.pair(table, place, other, row)?;
+        self.layout.pair(table, place, &other, row)?;
         Ok(Visited::Joined)
     }
 }

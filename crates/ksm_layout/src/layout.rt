@@ -261,12 +261,12 @@ impl Layout {
         self.pages.revise(old, row);
     }
 
-    /// The row that waits for another; where there is none, the row waits from now on. Refused for memory alone, where there is none, it
+    /// The page that waits for another; where there is none, the row waits from now on. Refused for memory alone, where there is none, it
     /// changes nothing.
-    pub fn meet(&mut self, row: &Row) -> Result<Option<Row>, Fault>
+    pub fn meet(&mut self, row: &Row) -> Result<Option<GuestPage>, Fault>
         requires row_is { row_at row.now.page self.old.rows ≡ Some row.now }
         requires alone { shared_state row.now.state ≡ false }
-        ensures partner { IfOk result (λ other. other ≡ partner self.old.knobs self.old.rows row.now) }
+        ensures partner { IfOk result (λ other. other ≡ option_map (λ r. r.page) (partner self.old.knobs self.old.rows row.now)) }
         ensures kept { IfOk result (λ other. OnSome other (self.new ≡ self.old)) }
         ensures state { IfOk result (λ other. IfNone other (self.new ≡ record self.old { rows = change_row row.now.page (λ _. record row.now { state = Waiting }) self.old.rows })) }
         ensures keeper { self.new.keeper ≡ self.old.keeper }
@@ -278,14 +278,14 @@ impl Layout {
     }
 
     /// The page of a row with a frame of its own becomes Zero, and leaves its frame.
-    pub fn become_zero(&mut self, table: &FrameTable, row: Row)
+    pub fn become_zero(&mut self, table: &FrameTable, row: &Row)
         requires own { self.old.keeper.table ≡ table.now }
-        requires row_is { row_at row.page self.old.rows ≡ Some row }
-        requires alone { shared_state row.state ≡ false }
+        requires row_is { row_at row.now.page self.old.rows ≡ Some row.now }
+        requires alone { shared_state row.now.state ≡ false }
         ensures own { self.new.keeper.table ≡ self.old.keeper.table }
-        ensures state { self.new ≡ record self.old { rows = change_row row.page (λ _. record row { state = Zero }) self.old.rows; frames = self.new.frames; keeper = self.new.keeper } }
+        ensures state { self.new ≡ record self.old { rows = change_row row.now.page (λ _. record row.now { state = Zero }) self.old.rows; frames = self.new.frames; keeper = self.new.keeper } }
         ensures does { Does self.old.keeper self.new.keeper [] }
-        ensures performs { Performs (mapped_lay self.old) (mapped_lay self.new) (emptying (mapped_lay self.old).listed row) }
+        ensures performs { Performs (mapped_lay self.old) (mapped_lay self.new) (emptying (mapped_lay self.old).listed row.now) }
     {
         let left = self.pages.become_zero(row);
         release_if(&mut self.keeper, table, left);
@@ -346,13 +346,13 @@ impl Layout {
     }
 
     /// The page of a row with a frame of its own joins the dup with a number, and leaves its frame. Refused for memory alone.
-    pub fn join(&mut self, table: &FrameTable, row: Row, number: u64) -> Result<(), Fault>
+    pub fn join(&mut self, table: &FrameTable, row: &Row, number: u64) -> Result<(), Fault>
         requires own { self.old.keeper.table ≡ table.now }
-        requires joins { JoinsDup self.old row number }
+        requires joins { JoinsDup self.old row.now number }
         ensures own { self.new.keeper.table ≡ self.old.keeper.table }
-        ensures state { OnOk result (self.new ≡ record self.old { rows = change_row row.page (λ _. record row { state = Merged number }) self.old.rows; frames = self.new.frames; keeper = self.new.keeper }) }
+        ensures state { OnOk result (self.new ≡ record self.old { rows = change_row row.now.page (λ _. record row.now { state = Merged number }) self.old.rows; frames = self.new.frames; keeper = self.new.keeper }) }
         ensures does { Does self.old.keeper self.new.keeper [] }
-        ensures performs { OnOk result (Performs (mapped_lay self.old) (mapped_lay self.new) (joining (mapped_lay self.old).listed row (dup_frame (mapped_lay self.old).listed number))) }
+        ensures performs { OnOk result (Performs (mapped_lay self.old) (mapped_lay self.new) (joining (mapped_lay self.old).listed row.now (dup_frame (mapped_lay self.old).listed number))) }
         ensures refused { OnErr result (self.new ≡ self.old) }
         ensures fault { OnErr result (result ≡ Err Memory) }
     {
@@ -368,18 +368,18 @@ impl Layout {
         &mut self,
         table: &FrameTable,
         place: u32,
-        first: Row,
-        second: Row,
+        first: &Row,
+        second: &Row,
     ) -> Result<(), Fault>
         requires own { self.old.keeper.table ≡ table.now }
-        requires founds { Founds self.old place first }
-        requires joins { Joins (founded self.old place first) second (record first { state = Merged self.old.next }) }
-        requires second { row_at second.page self.old.rows ≡ Some second }
-        requires apart { same_page first.page second.page ≡ false }
+        requires founds { Founds self.old place first.now }
+        requires joins { Joins (founded self.old place first.now) second.now (record first.now { state = Merged self.old.next }) }
+        requires second { row_at second.now.page self.old.rows ≡ Some second.now }
+        requires apart { same_page first.now.page second.now.page ≡ false }
         ensures own { self.new.keeper.table ≡ self.old.keeper.table }
-        ensures state { OnOk result (self.new ≡ record (founded self.old place first) { rows = change_row second.page (λ _. record second { state = Merged self.old.next }) (founded self.old place first).rows; frames = self.new.frames; keeper = self.new.keeper }) }
+        ensures state { OnOk result (self.new ≡ record (founded self.old place first.now) { rows = change_row second.now.page (λ _. record second.now { state = Merged self.old.next }) (founded self.old place first.now).rows; frames = self.new.frames; keeper = self.new.keeper }) }
         ensures does { Does self.old.keeper self.new.keeper [] }
-        ensures performs { OnOk result (Performs (mapped_lay self.old) (mapped_lay self.new) (founding self.old.dups (mapped_lay self.old).listed place first second)) }
+        ensures performs { OnOk result (Performs (mapped_lay self.old) (mapped_lay self.new) (founding self.old.dups (mapped_lay self.old).listed place first.now second.now)) }
         ensures refused { OnErr result (self.new ≡ self.old) }
         ensures fault { OnErr result (result ≡ Err Memory) }
     {

@@ -1,7 +1,7 @@
 -- The waiting pages stay those of the rows that wait, and tell the row that waits for another.
 use Rattle.std.proofs.Common.{◌≡◌, ◌∙◌, ℕ, Bool, true, false, cond, List, [], get_or, map, Option, None, Some, refl, sym, ap, subst}
 use Rattle.std.specs.Prelude.{◌&&◌, ◌==◌, All, bytes_eq, if◌then◌else◌}
-use Rattle.std.specs.Option.{is_some, option_and_then, unwrap_or}
+use Rattle.std.specs.Option.{is_some, option_and_then, option_map, unwrap_or}
 use Rattle.std.proofs.lemmas.Bool.{false≢true}
 use Rattle.std.proofs.lemmas.List.Elements.{All-map}
 use Rattle.ksm_base.specs.declared.knobs.Knobs.{Knobs}
@@ -15,6 +15,7 @@ use Rattle.ksm_base.specs.State.{tree_of}
 use Rattle.ksm_base.specs.Visit.{partner}
 use Rattle.ksm_base.proofs.Edits.{find_all}
 use Rattle.ksm_base.proofs.Pages.{same_page_refl}
+use Rattle.ksm_pages.proofs.Ranks.{found_page}
 use Rattle.ksm_tree.specs.Waits.{AreWaiting, IsAdded, IsStopped, names, waiting_page, waits_there, WaitingPage}
 use Rattle.ksm_tree.proofs.Waiters.{at_others, look_up_found, none_waiting, own_found, partner_found, row_begun, row_kept, row_stopped, rows_changed}
 
@@ -59,14 +60,18 @@ module _ (knobs : Knobs) (rows : List Row) (w : List WaitingPage) (row : Row) (r
             absurd (false≢true (sym other ∙ ap (λ (p : GuestPage). same_page p row.page) (met_so None at) ∙ same_page_refl row.page))
         go (Some page) at = at ∙ ap Some (sym (met_so (Some page) at))
 
-    pub met_row : same_page met row.page ≡ false → partner knobs rows row ≡ row_at met rows
+    met_row : same_page met row.page ≡ false → partner knobs rows row ≡ row_at met rows
     met_row other = partner_other met (met_other other) other
 
     -- which is there
-    pub met_stands : same_page met row.page ≡ false → row_at met rows ≡ None → ⊥
-    met_stands other gone =
-        false≢true (sym (ap (waits_there knobs (tree_of knobs row) row.bytes) gone)
-        ∙ look_up_found knobs rows w (tree_of knobs row) row.bytes met are (met_other other))
+    pub met_page : same_page met row.page ≡ false → option_map (λ r. r.page) (partner knobs rows row) ≡ Some met
+    met_page other = ap (option_map (λ r. r.page)) (met_row other) ∙ go (row_at met rows) refl
+      where
+        go : (o : Option Row) → row_at met rows ≡ o → option_map (λ r. r.page) o ≡ Some met
+        go None gone =
+            absurd (false≢true (sym (ap (waits_there knobs (tree_of knobs row) row.bytes) gone)
+            ∙ look_up_found knobs rows w (tree_of knobs row) row.bytes met are (met_other other)))
+        go (Some r) found = ap Some (found_page met rows r found)
 
     -- the row's own page waits from now on
     pub met_waits : row_at row.page rows ≡ Some row → same_page met row.page ≡ true → (new : List WaitingPage)

@@ -331,12 +331,12 @@ impl Pages {
         Some(Held { frame, ..held })
     }
 
-    /// The row that waits for another; where there is none, the row waits from now on, on the frame of its own that it has. Refused for
+    /// The page that waits for another; where there is none, the row waits from now on, on the frame of its own that it has. Refused for
     /// memory alone, where there is none, it changes nothing.
-    pub fn meet(&mut self, row: &Row) -> Result<Option<Row>, Fault>
+    pub fn meet(&mut self, row: &Row) -> Result<Option<GuestPage>, Fault>
         requires row_is { row_at row.now.page self.old.listed.rows ≡ Some row.now }
         requires alone { shared_state row.now.state ≡ false }
-        ensures partner { IfOk result (λ other. other ≡ row_waiting self.old.knobs self.old.listed.rows row.now) }
+        ensures partner { IfOk result (λ other. other ≡ option_map (λ r. r.page) (row_waiting self.old.knobs self.old.listed.rows row.now)) }
         ensures kept { IfOk result (λ other. OnSome other (self.new ≡ self.old)) }
         ensures stood { IfOk result (λ other. IfNone other (StandsAt self.old.listed row.now.page row.now (frame_in self.old.listed.frames (rank row.now.page self.old.listed.rows)))) }
         ensures rows { IfOk result (λ other. IfNone other (self.new.listed.rows ≡ slice_set self.old.listed.rows (rank row.now.page self.old.listed.rows) (record row.now { state = PageState.Waiting }))) }
@@ -353,47 +353,44 @@ impl Pages {
             self.rows.restate(row, PageState::Waiting);
             return Ok(None);
         }
-        match self.rows.row(page) {
-            Some(other) => Ok(Some(other)),
-            None => unreachable!(),
-        }
+        Ok(Some(page))
     }
 
     /// A row becomes Zero, and has no frame any more. Gives the frame where it lay.
-    pub fn become_zero(&mut self, row: Row) -> Option<u32>
-        requires row_is { row_at row.page self.old.listed.rows ≡ Some row }
-        requires alone { shared_state row.state ≡ false }
-        ensures stood { StandsAt self.old.listed row.page row result }
-        ensures rows { self.new.listed.rows ≡ slice_set self.old.listed.rows (rank row.page self.old.listed.rows) (record row { state = Zero }) }
-        ensures frames { self.new.listed.frames ≡ slice_set self.old.listed.frames (rank row.page self.old.listed.rows) None }
-        ensures changed { self.new.listed.rows ≡ change_row row.page (λ _. record row { state = Zero }) self.old.listed.rows }
+    pub fn become_zero(&mut self, row: &Row) -> Option<u32>
+        requires row_is { row_at row.now.page self.old.listed.rows ≡ Some row.now }
+        requires alone { shared_state row.now.state ≡ false }
+        ensures stood { StandsAt self.old.listed row.now.page row.now result }
+        ensures rows { self.new.listed.rows ≡ slice_set self.old.listed.rows (rank row.now.page self.old.listed.rows) (record row.now { state = Zero }) }
+        ensures frames { self.new.listed.frames ≡ slice_set self.old.listed.frames (rank row.now.page self.old.listed.rows) None }
+        ensures changed { self.new.listed.rows ≡ change_row row.now.page (λ _. record row.now { state = Zero }) self.old.listed.rows }
         ensures rest { self.new ≡ record self.old { listed = self.new.listed } }
     {
-        stop_waiting(&mut self.waiting, &self.knobs, &row);
+        stop_waiting(&mut self.waiting, &self.knobs, row);
         let zero = Row {
             state: PageState::Zero,
-            ..row
+            ..*row
         };
-        self.rows.replace(&row, &zero, None)
+        self.rows.replace(row, &zero, None)
     }
 
     /// A row with a frame of its own becomes an item of a dup, on the dup's frame. Gives that frame, and the one that the row leaves. Refused for memory alone, it changes nothing.
-    pub fn join(&mut self, row: Row, number: u64) -> Result<(Option<u32>, Option<u32>), Fault>
-        requires row_is { row_at row.page self.old.listed.rows ≡ Some row }
-        requires alone { shared_state row.state ≡ false }
+    pub fn join(&mut self, row: &Row, number: u64) -> Result<(Option<u32>, Option<u32>), Fault>
+        requires row_is { row_at row.now.page self.old.listed.rows ≡ Some row.now }
+        requires alone { shared_state row.now.state ≡ false }
         requires room { HasRoom self.old.listed.rows self.old.dups number }
         ensures shared { IfOk result (λ frames. ItemsLieOn self.old.listed number frames.0) }
-        ensures stood { IfOk result (λ frames. StandsAt self.old.listed row.page row frames.1) }
-        ensures rows { OnOk result (self.new.listed.rows ≡ slice_set self.old.listed.rows (rank row.page self.old.listed.rows) (record row { state = Merged number })) }
-        ensures frames { OnOk result (LiesWith self.old.listed number row.page self.new.listed.frames) }
-        ensures changed { OnOk result (self.new.listed.rows ≡ change_row row.page (λ _. record row { state = Merged number }) self.old.listed.rows) }
+        ensures stood { IfOk result (λ frames. StandsAt self.old.listed row.now.page row.now frames.1) }
+        ensures rows { OnOk result (self.new.listed.rows ≡ slice_set self.old.listed.rows (rank row.now.page self.old.listed.rows) (record row.now { state = Merged number })) }
+        ensures frames { OnOk result (LiesWith self.old.listed number row.now.page self.new.listed.frames) }
+        ensures changed { OnOk result (self.new.listed.rows ≡ change_row row.now.page (λ _. record row.now { state = Merged number }) self.old.listed.rows) }
         ensures rest { self.new ≡ record self.old { listed = self.new.listed } }
         ensures refused { OnErr result (self.new ≡ self.old) }
         ensures fault { OnErr result (result ≡ Err Memory) }
     {
         let place = self.dups.join(number, row.page)?;
-        stop_waiting(&mut self.waiting, &self.knobs, &row);
-        let lone = self.rows.restate(&row, PageState::Merged(number));
+        stop_waiting(&mut self.waiting, &self.knobs, row);
+        let lone = self.rows.restate(row, PageState::Merged(number));
         Ok((lodging_at(&self.lodgings, Some(place)), lone))
     }
 
@@ -401,27 +398,27 @@ impl Pages {
     pub fn pair(
         &mut self,
         place: u32,
-        first: Row,
-        second: Row,
+        first: &Row,
+        second: &Row,
     ) -> Result<(Option<u32>, Option<u32>), Fault>
-        requires { MayPair self.old place first second }
-        ensures first { IfOk result (λ frames. StandsAt self.old.listed first.page first frames.0) }
-        ensures second { IfOk result (λ frames. StandsAt self.old.listed second.page second frames.1) }
-        ensures rows { IfOk result (λ frames. ReplacedBoth self.old.listed self.new.listed (item_of_next self.old first) (item_of_next self.old second) frames.0) }
-        ensures changed { OnOk result (self.new.listed.rows ≡ change_row second.page (λ _. item_of_next self.old second) (change_row first.page (λ _. item_of_next self.old first) self.old.listed.rows)) }
-        ensures made { OnOk result (self.new ≡ record self.old { listed = self.new.listed; dups = with_dup (next_dup self.old place first) self.old.dups; next = self.old.next + 1 }) }
+        requires { MayPair self.old place first.now second.now }
+        ensures first { IfOk result (λ frames. StandsAt self.old.listed first.now.page first.now frames.0) }
+        ensures second { IfOk result (λ frames. StandsAt self.old.listed second.now.page second.now frames.1) }
+        ensures rows { IfOk result (λ frames. ReplacedBoth self.old.listed self.new.listed (item_of_next self.old first.now) (item_of_next self.old second.now) frames.0) }
+        ensures changed { OnOk result (self.new.listed.rows ≡ change_row second.now.page (λ _. item_of_next self.old second.now) (change_row first.now.page (λ _. item_of_next self.old first.now) self.old.listed.rows)) }
+        ensures made { OnOk result (self.new ≡ record self.old { listed = self.new.listed; dups = with_dup (next_dup self.old place first.now) self.old.dups; next = self.old.next + 1 }) }
         ensures refused { OnErr result (self.new ≡ self.old) }
         ensures fault { OnErr result (result ≡ Err Memory) }
     {
-        let tree = tree_of(&self.knobs, &first);
+        let tree = tree_of(&self.knobs, first);
         let number = self
             .dups
             .new_dup(place, tree, &first.bytes, first.page, second.page)?;
-        stop_waiting(&mut self.waiting, &self.knobs, &first);
-        stop_waiting(&mut self.waiting, &self.knobs, &second);
+        stop_waiting(&mut self.waiting, &self.knobs, first);
+        stop_waiting(&mut self.waiting, &self.knobs, second);
         let state = PageState::Merged(number);
-        let frame = self.rows.restate(&first, state);
-        let lone = self.rows.restate(&second, state);
+        let frame = self.rows.restate(first, state);
+        let lone = self.rows.restate(second, state);
         self.lodgings[place as usize] = frame;
         Ok((frame, lone))
     }

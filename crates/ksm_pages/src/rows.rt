@@ -1,7 +1,7 @@
 //! The rows in the order of their pages, each found by a hash: each page with what the book knows of it, and the frame
 //! that serves it, if one does.
 //!
-//! With n rows, `has`, `row`, `find`, `replace`, `revise` and `restate` cost a hash and a comparison in the mean. `insert` and
+//! With n rows, `has`, `row`, `known`, `find`, `replace`, `revise` and `restate` cost a hash and a comparison in the mean. `insert` and
 //! `remove` also search in the order, in a number of steps in the order of log n, and an `insert` that finds no room moves all rows. The
 //! hash has a fixed seed, so pages can be picked that collide: then a search takes a step for each.
 //! `has_guest` searches once in the order. `next` and `next_shared` do so too, and take one step for each row that they
@@ -166,6 +166,18 @@ impl Rows {
         match self.entries.get(page) {
             None => None,
             Some(entry) => Some(entry.row(page)),
+        }
+    }
+
+    /// The row of a page that has one.
+    pub fn known(&self, page: GuestPage) -> Row
+        requires known { is_some (row_at page self.now.rows) ≡ true }
+        ensures row { row_at page self.now.rows ≡ Some result }
+        ensures order { InPageOrder self.now.rows }
+    {
+        match self.entries.get(page) {
+            None => unreachable!(),
+            Some(entry) => entry.row(page),
         }
     }
 

@@ -1,17 +1,13 @@
-use Rattle.std.proofs.Common.{◌∷◌, ◌++◌, Option, Some, sym, ap, ◌∙◌, subst}
-use Rattle.std.specs.Prelude.{IfSome}
-use Rattle.std.specs.Option.{option_to_list}
+use Rattle.std.proofs.Common.{◌≡◌, ◌-◌, Option, Some, refl, sym, ap, ◌∙◌, arith, vec_len}
 use Rattle.ksm_base.proofs.Pages.{same_page_eq}
-use Rattle.ksm_pages.specs.declared.row.Run.{Run}
-use Rattle.ksm_pages.specs.Scanned.{AreRuns}
-use Rattle.ksm_book.proofs.Gathered.{pass_together}
+use Rattle.ksm_book.proofs.Gathered.{last_together}
 use Rattle.ksm_book.proofs.scan.Ahead.put.Goals as goal
 
 pub returns-clause-known : goal.returns-clause-known
 returns-clause-known c rows rest left are =
-    let ahead = c.args.self.now in
-    let before = ahead.passed.items in
-    pass_together rows ahead.from before c.in-Some.last c.args.run c.in-Some-together.both rest c.args.page
+    let passed = c.args.self.now.passed in
+    let some = c.in-Some.ensures.variant.0 refl in
+    last_together rows c.args.self.now.from passed.items (vec_len passed - 1) c.in-Some.last.now c.args.run c.in-Some-together.both rest c.args.page
+    (omega (arith, some, passed.ok.0)) (omega (arith, some, passed.ok.0)) (sym c.in-Some.ensures.value)
     (c.in-Some-next.is ∙ ap Some (same_page_eq c.in-Some-next.next c.args.page (sym c.eq.ensures ∙ c.if-eq.true)))
-    (left c.if-joined.true) c.in-Some-together.ensures
-    (subst (λ (o : Option Run). IfSome ahead.from (λ p. AreRuns rows (Some p) (before ++ (option_to_list o ++ (c.args.run ∷ rest))))) c.in-Some.is are)
+    (left c.if-joined.true) c.in-Some-together.ensures are

@@ -16,14 +16,14 @@ use Rattle.ksm_book.proofs.state.State.stay.Goals as goal
 pub become_zero-requires-clause-row_is : goal.become_zero-requires-clause-row_is
 become_zero-requires-clause-row_is c =
     let s = c.self.inside in
-    visited_at (state_of s.layout s.cursor s.passes) c.args.row c.self.invariant (ap (λ (x : BookView). next_row x.state.cursor x.state.rows) c.self.view_is ∙ c.requires.next)
+    visited_at (state_of s.layout s.cursor s.passes) c.args.row.now c.self.invariant (ap (λ (x : BookView). next_row x.state.cursor x.state.rows) c.self.view_is ∙ c.requires.next)
 
 -- the row is Zero
-zeroed : (c : goal.After-become_zero) → state_of c.become_zero.new.self c.self.inside.cursor c.self.inside.passes ≡ stayed (state_of c.self.inside.layout c.self.inside.cursor c.self.inside.passes) c.args.row
+zeroed : (c : goal.After-become_zero) → state_of c.become_zero.new.self c.self.inside.cursor c.self.inside.passes ≡ stayed (state_of c.self.inside.layout c.self.inside.cursor c.self.inside.passes) c.args.row.now
 zeroed c =
     let s = c.self.inside in
     let b : BookState = state_of s.layout s.cursor s.passes in
-    let row = c.args.row in
+    let row = c.args.row.now in
     let found = visited_at b row c.self.invariant (ap (λ (x : BookView). next_row x.state.cursor x.state.rows) c.self.view_is ∙ c.requires.next) in
     let is = ap (λ k. is_for_zero k row) (sym c.knobs.ensures) ∙ sym c.is_for_zero.ensures ∙ c.if-is_for_zero.true in
     ap (λ (x : Lay). state_of x s.cursor s.passes) c.become_zero.ensures.state
@@ -31,20 +31,20 @@ zeroed c =
     ∙ sym (emptied_by b row is)
 
 pub returns-then-is_for_zero-clause-ok : goal.returns-then-is_for_zero-clause-ok
-returns-then-is_for_zero-clause-ok c = zeroed c ∙ ap (λ (x : BookView). stayed x.state c.args.row) c.self.view_is
+returns-then-is_for_zero-clause-ok c = zeroed c ∙ ap (λ (x : BookView). stayed x.state c.args.row.now) c.self.view_is
 
 pub invariant_of-self : goal.invariant_of-self
 invariant_of-self c =
     let s = c.self.inside in
     let b = state_of s.layout s.cursor s.passes in
     let next = ap (λ (x : BookView). next_row x.state.cursor x.state.rows) c.self.view_is ∙ c.requires.next in
-    subst IsSound (sym (zeroed c)) (sound_stayed b c.args.row (next_row_visited b c.args.row c.self.invariant next) c.self.invariant)
+    subst IsSound (sym (zeroed c)) (sound_stayed b c.args.row.now (next_row_visited b c.args.row.now c.self.invariant next) c.self.invariant)
 
 pub returns-then-is_for_zero-clause-performs : goal.returns-then-is_for_zero-clause-performs
 returns-then-is_for_zero-clause-performs c =
     let s = c.self.inside in
     let b : BookState = state_of s.layout s.cursor s.passes in
-    let row = c.args.row in
+    let row = c.args.row.now in
     let new : BookView = record { state = state_of c.become_zero.new.self s.cursor s.passes; frames = c.become_zero.new.self.frames; keeper = c.become_zero.new.self.keeper } in
     let is = ap (λ k. is_for_zero k row) (sym c.knobs.ensures) ∙ sym c.is_for_zero.ensures ∙ c.if-is_for_zero.true in
     subst (λ (x : BookView). Performs (mapped x) (mapped new) (staying x.state x.frames row)) c.self.view_is
@@ -52,5 +52,5 @@ returns-then-is_for_zero-clause-performs c =
 
 pub returns-then-is_for_zero-clause-joined : goal.returns-then-is_for_zero-clause-joined
 returns-then-is_for_zero-clause-joined c is =
-    let row = c.args.row in
+    let row = c.args.row.now in
     subst (λ (x : Lay). StaysNow row.page x.rows) (sym c.become_zero.ensures.state) (stays_merged row.page (λ _. record row { state = Zero }) c.self.inside.layout.rows (λ r. refl))

@@ -19,18 +19,18 @@ pub join-requires-clause-joins : goal.join-requires-clause-joins
 join-requires-clause-joins c =
     let s = c.self.inside in
     let lay = s.layout in
-    let dup = best_told (best_dup lay.knobs lay.rows lay.dups c.args.row) c.in-Some.number c.in-Some.ensures in
-    subst (JoinsDup lay c.args.row) dup.2
-    (best_joins lay s.cursor s.passes c.args.row dup.0 c.self.invariant (ap (λ (x : BookView). next_row x.state.cursor x.state.rows) c.self.view_is ∙ c.requires.next)
+    let dup = best_told (best_dup lay.knobs lay.rows lay.dups c.args.row.now) c.in-Some.number c.in-Some.ensures in
+    subst (JoinsDup lay c.args.row.now) dup.2
+    (best_joins lay s.cursor s.passes c.args.row.now dup.0 c.self.invariant (ap (λ (x : BookView). next_row x.state.cursor x.state.rows) c.self.view_is ∙ c.requires.next)
     (sym c.if-is_shared.ensures) dup.1)
 
 -- the page is an item of the dup
-there : (c : In_ok-join) → state_of c.join.new.self c.self.inside.cursor c.self.inside.passes ≡ row_visited (state_of c.self.inside.layout c.self.inside.cursor c.self.inside.passes) c.args.row
+there : (c : In_ok-join) → state_of c.join.new.self c.self.inside.cursor c.self.inside.passes ≡ row_visited (state_of c.self.inside.layout c.self.inside.cursor c.self.inside.passes) c.args.row.now
 there c =
     let s = c.self.inside in
     let lay = s.layout in
     let b : BookState = state_of lay s.cursor s.passes in
-    let row = c.args.row in
+    let row = c.args.row.now in
     let dup = best_told (best_dup lay.knobs lay.rows lay.dups row) c.in-Some.number c.in-Some.ensures in
     let found = visited_at b row c.self.invariant (ap (λ (x : BookView). next_row x.state.cursor x.state.rows) c.self.view_is ∙ c.requires.next) in
     ap (λ (x : Lay). state_of x s.cursor s.passes) c.in_ok-join.ensures.state
@@ -39,29 +39,29 @@ there c =
     ∙ sym (visited_by b row (Some dup.0) (sym c.if-is_shared.ensures) dup.1)
 
 pub returns-in-Some-clause-ok : goal.returns-in-Some-clause-ok
-returns-in-Some-clause-ok c = there c ∙ ap (λ (x : BookView). row_visited x.state c.args.row) c.self.view_is
+returns-in-Some-clause-ok c = there c ∙ ap (λ (x : BookView). row_visited x.state c.args.row.now) c.self.view_is
 
 pub invariant_of-self-in-Some : goal.invariant_of-self-in-Some
 invariant_of-self-in-Some c =
     let s = c.self.inside in
     let b = state_of s.layout s.cursor s.passes in
     let next = ap (λ (x : BookView). next_row x.state.cursor x.state.rows) c.self.view_is ∙ c.requires.next in
-    subst IsSound (sym (there c)) (sound_row_visited b c.args.row (next_row_visited b c.args.row c.self.invariant next) c.self.invariant)
+    subst IsSound (sym (there c)) (sound_row_visited b c.args.row.now (next_row_visited b c.args.row.now c.self.invariant next) c.self.invariant)
 
 pub amend-requires-clause-known : goal.amend-requires-clause-known
 amend-requires-clause-known c =
     let s = c.self.inside in
-    visited_at (state_of s.layout s.cursor s.passes) c.args.row c.self.invariant
+    visited_at (state_of s.layout s.cursor s.passes) c.args.row.now c.self.invariant
     (ap (λ (x : BookView). next_row x.state.cursor x.state.rows) c.self.view_is ∙ c.requires.next)
 
 pub amend-requires-clause-lodges : goal.amend-requires-clause-lodges
 amend-requires-clause-lodges c = (refl, refl, inr (sym c.if-is_shared.ensures, refl))
 
-marked : (c : goal.After-amend) → state_of c.amend.new.self c.self.inside.cursor c.self.inside.passes ≡ row_visited (state_of c.self.inside.layout c.self.inside.cursor c.self.inside.passes) c.args.row
+marked : (c : goal.After-amend) → state_of c.amend.new.self c.self.inside.cursor c.self.inside.passes ≡ row_visited (state_of c.self.inside.layout c.self.inside.cursor c.self.inside.passes) c.args.row.now
 marked c =
     let s = c.self.inside in
     let b : BookState = state_of s.layout s.cursor s.passes in
-    let row = c.args.row in
+    let row = c.args.row.now in
     let found = visited_at b row c.self.invariant (ap (λ (x : BookView). next_row x.state.cursor x.state.rows) c.self.view_is ∙ c.requires.next) in
     ap (λ (x : Lay). state_of x s.cursor s.passes) c.amend.ensures
     ∙ ap (λ rows. record b { rows = rows }) (change_known row.page (λ r. record r { unchanged = true; state = Private }) s.layout.rows row c.self.invariant.rows_rise found)
@@ -69,14 +69,14 @@ marked c =
     ∙ marked_by b row c.if-not-row.true)
 
 pub returns-then-not-row-clause-ok : goal.returns-then-not-row-clause-ok
-returns-then-not-row-clause-ok c = marked c ∙ ap (λ (x : BookView). row_visited x.state c.args.row) c.self.view_is
+returns-then-not-row-clause-ok c = marked c ∙ ap (λ (x : BookView). row_visited x.state c.args.row.now) c.self.view_is
 
 pub invariant_of-self-then-not-row : goal.invariant_of-self-then-not-row
 invariant_of-self-then-not-row c =
     let s = c.self.inside in
     let b = state_of s.layout s.cursor s.passes in
     let next = ap (λ (x : BookView). next_row x.state.cursor x.state.rows) c.self.view_is ∙ c.requires.next in
-    subst IsSound (sym (marked c)) (sound_row_visited b c.args.row (next_row_visited b c.args.row c.self.invariant next) c.self.invariant)
+    subst IsSound (sym (marked c)) (sound_row_visited b c.args.row.now (next_row_visited b c.args.row.now c.self.invariant next) c.self.invariant)
 
 pub returns-in-Some-clause-performs : goal.returns-in-Some-clause-performs
 returns-in-Some-clause-performs c =
@@ -84,7 +84,7 @@ returns-in-Some-clause-performs c =
     let lay = s.layout in
     let b : BookState = state_of lay s.cursor s.passes in
     let frames = lay.frames in
-    let row = c.args.row in
+    let row = c.args.row.now in
     let dup = best_told (best_dup lay.knobs lay.rows lay.dups row) c.in-Some.number c.in-Some.ensures in
     let new : BookView = record { state = state_of c.join.new.self s.cursor s.passes; frames = c.join.new.self.frames; keeper = c.join.new.self.keeper } in
     let deed : row_visiting b frames row ≡ joining (listed_in b frames) row (dup_frame (listed_in b frames) c.in-Some.number) =
@@ -95,6 +95,6 @@ returns-in-Some-clause-performs c =
 
 pub returns-in-Some-clause-joined : goal.returns-in-Some-clause-joined
 returns-in-Some-clause-joined c is =
-    let row = c.args.row in
+    let row = c.args.row.now in
     subst (λ (x : Lay). StaysNow row.page x.rows) (sym c.in_ok-join.ensures.state)
     (stays_merged row.page (λ _. record row { state = Merged c.in-Some.number }) c.self.inside.layout.rows (λ r. refl))

@@ -1,6 +1,7 @@
 use Rattle.std.proofs.Common.{◌≡◌, refl, inr, sym, subst}
 use Rattle.std.specs.Prelude.{IfNone, IfOk, OnErr, OnSome, Option, None, Some, Result, Ok, Err, slice_set}
 use Rattle.ksm_base.specs.declared.row.PageState.TheVariants.{Waiting}
+use Rattle.ksm_base.specs.declared.page.GuestPage.{GuestPage}
 use Rattle.ksm_base.specs.declared.row.Row.{Row}
 use Rattle.ksm_layout.specs.Laid.{IsLaid}
 use Rattle.ksm_pages.specs.Linked.{PagesView}
@@ -28,7 +29,7 @@ module _ (c : After-meet) where
   same_laid : new ≡ old → kept
   same_laid same = subst (λ (z : PagesView). IsLaid z.shape z.listed z.dups z.knobs z.next c.self.inside.keeper) (sym same) c.self.invariant
 
-  by : {E : Type 0} (r : Result (Option Row) E)
+  by : {E : Type 0} (r : Result (Option GuestPage) E)
       → IfOk r (λ other. OnSome other (new ≡ old))
       → IfOk r (λ other. IfNone other (StandsAt old.listed row.page row (frame_in old.listed.frames (rank row.page old.listed.rows))))
       → IfOk r (λ other. IfNone other (new.listed.rows ≡ slice_set old.listed.rows (rank row.page old.listed.rows) waiting))

@@ -23,12 +23,12 @@ pub pair-requires : goal.pair-requires
 pair-requires c =
     let b = c.self.inside in
     let p = b.pages in
-    let founds : Founds c.args.self.now c.args.place c.args.first = c.requires.founds in
+    let founds : Founds c.args.self.now c.args.place c.args.first.now = c.requires.founds in
     let most : p.next ≤ 2 ^ 50 = spent_most p.shape p.listed p.dups p.knobs p.next b.keeper c.self.invariant in
     let back = sym c.self.view_is in
     record {
-      first_is = subst (λ (x : Lay). row_at c.args.first.page x.rows ≡ Some c.args.first) back founds.row_is;
-      second_is = subst (λ (x : Lay). row_at c.args.second.page x.rows ≡ Some c.args.second) back c.requires.second;
+      first_is = subst (λ (x : Lay). row_at c.args.first.now.page x.rows ≡ Some c.args.first.now) back founds.row_is;
+      second_is = subst (λ (x : Lay). row_at c.args.second.now.page x.rows ≡ Some c.args.second.now) back c.requires.second;
       first_alone = founds.alone;
       second_alone = c.requires.joins.alone;
       apart = c.requires.apart;
@@ -51,31 +51,31 @@ clear-requires-clause-empty c none =
 pub known_frame-frame-requires : goal.known_frame-frame-requires
 known_frame-frame-requires c =
     let b = c.self.inside in
-    has_frame b.pages.shape b.pages.listed b.pages.dups b.pages.knobs b.pages.next b.keeper c.self.invariant c.args.first.page c.args.first c.in_ok-shared.shared
-    c.in_ok-shared.ensures.first (own_framed c.args.first.state c.requires.founds.alone)
+    has_frame b.pages.shape b.pages.listed b.pages.dups b.pages.knobs b.pages.next b.keeper c.self.invariant c.args.first.now.page c.args.first.now c.in_ok-shared.shared
+    c.in_ok-shared.ensures.first (own_framed c.args.first.now.state c.requires.founds.alone)
 
 pub share-requires-clause-lawful : goal.share-requires-clause-lawful
 share-requires-clause-lawful c =
-    first_lawful c.self.inside.pages c.self.inside.keeper c.self.invariant c.args.self.now c.self.view_is c.args.place c.args.first c.args.second c.requires.founds c.requires.joins c.requires.second c.requires.apart
-    c.args.first c.args.second c.in_ok-shared.shared c.known_frame-frame.result c.known_frame-frame.ensures c.in_ok-shared.lone c.in_ok-shared.ensures.first c.in_ok-shared.ensures.second
+    first_lawful c.self.inside.pages c.self.inside.keeper c.self.invariant c.args.self.now c.self.view_is c.args.place c.args.first.now c.args.second.now c.requires.founds c.requires.joins c.requires.second c.requires.apart
+    c.args.first.now c.args.second.now c.in_ok-shared.shared c.known_frame-frame.result c.known_frame-frame.ensures c.in_ok-shared.lone c.in_ok-shared.ensures.first c.in_ok-shared.ensures.second
     c.pair.new.self c.in_ok-shared.ensures.rows c.in_ok-shared.ensures.made c.clear.new.keeper c.publish.new.self c.clear.ensures.own c.clear.ensures.ledger c.publish.ensures
 
 pub share-requires-clause-few : goal.share-requires-clause-few
 share-requires-clause-few c =
-    few_there c.self.inside.pages c.self.inside.keeper c.self.invariant c.args.self.now c.self.view_is c.args.place c.args.first c.args.second c.requires.founds c.requires.joins c.requires.second c.requires.apart
-    c.args.first c.args.second c.in_ok-shared.shared c.known_frame-frame.result c.known_frame-frame.ensures c.in_ok-shared.lone c.in_ok-shared.ensures.first c.in_ok-shared.ensures.second
+    few_there c.self.inside.pages c.self.inside.keeper c.self.invariant c.args.self.now c.self.view_is c.args.place c.args.first.now c.args.second.now c.requires.founds c.requires.joins c.requires.second c.requires.apart
+    c.args.first.now c.args.second.now c.in_ok-shared.shared c.known_frame-frame.result c.known_frame-frame.ensures c.in_ok-shared.lone c.in_ok-shared.ensures.first c.in_ok-shared.ensures.second
     c.pair.new.self c.in_ok-shared.ensures.rows c.in_ok-shared.ensures.made c.clear.new.keeper c.publish.new.self c.clear.ensures.own c.clear.ensures.ledger c.publish.ensures
 
 pub release_if-requires-clause-lawful : goal.release_if-requires-clause-lawful
 release_if-requires-clause-lawful c =
-    second_lawful c.self.inside.pages c.self.inside.keeper c.self.invariant c.args.self.now c.self.view_is c.args.place c.args.first c.args.second c.requires.founds c.requires.joins c.requires.second c.requires.apart
-    c.args.first c.args.second c.in_ok-shared.shared c.known_frame-frame.result c.known_frame-frame.ensures c.in_ok-shared.lone c.in_ok-shared.ensures.first c.in_ok-shared.ensures.second
+    second_lawful c.self.inside.pages c.self.inside.keeper c.self.invariant c.args.self.now c.self.view_is c.args.place c.args.first.now c.args.second.now c.requires.founds c.requires.joins c.requires.second c.requires.apart
+    c.args.first.now c.args.second.now c.in_ok-shared.shared c.known_frame-frame.result c.known_frame-frame.ensures c.in_ok-shared.lone c.in_ok-shared.ensures.first c.in_ok-shared.ensures.second
     c.pair.new.self c.in_ok-shared.ensures.rows c.in_ok-shared.ensures.made c.clear.new.keeper c.publish.new.self c.clear.ensures.own c.clear.ensures.ledger c.publish.ensures c.share.new.keeper c.share.ensures.own c.share.ensures.keeps
 
 pub invariant_of-self-2 : goal.invariant_of-self-2
 invariant_of-self-2 c =
-    laid_paired c.self.inside.pages c.self.inside.keeper c.self.invariant c.args.self.now c.self.view_is c.args.place c.args.first c.args.second c.requires.founds c.requires.joins c.requires.second c.requires.apart
-    c.args.first c.args.second c.in_ok-shared.shared c.known_frame-frame.result c.known_frame-frame.ensures c.in_ok-shared.lone c.in_ok-shared.ensures.first c.in_ok-shared.ensures.second
+    laid_paired c.self.inside.pages c.self.inside.keeper c.self.invariant c.args.self.now c.self.view_is c.args.place c.args.first.now c.args.second.now c.requires.founds c.requires.joins c.requires.second c.requires.apart
+    c.args.first.now c.args.second.now c.in_ok-shared.shared c.known_frame-frame.result c.known_frame-frame.ensures c.in_ok-shared.lone c.in_ok-shared.ensures.first c.in_ok-shared.ensures.second
     c.pair.new.self c.in_ok-shared.ensures.rows c.in_ok-shared.ensures.made c.clear.new.keeper c.publish.new.self c.clear.ensures.own c.clear.ensures.ledger c.publish.ensures c.share.new.keeper c.share.ensures.own c.share.ensures.keeps c.release_if.new.keeper c.release_if.ensures.own c.release_if.ensures.keeps c.share.ensures.spent c.release_if.ensures.spent
 
 pub returns-clause-does : goal.returns-clause-does
@@ -105,7 +105,7 @@ returns-clause-performs c =
     let f : ℕ = c.known_frame-frame.result in
     let g : Option ℕ = c.in_ok-shared.lone in
     let place : ℕ = c.args.place in
-    let on : frame_on p.listed c.args.first.page ≡ f = ap frame_number (c.in_ok-shared.ensures.first.frame_is ∙ c.known_frame-frame.ensures) in
+    let on : frame_on p.listed c.args.first.now.page ≡ f = ap frame_number (c.in_ok-shared.ensures.first.frame_is ∙ c.known_frame-frame.ensures) in
     let cleared : Made k0 k1 (withdrawing p.dups place) =
     subst (λ (t : Bool). Made k0 k1 (if t then Withdraw place ∷ [] else [])) c.has_dup-taken.ensures c.clear.ensures.made in
     let whole : Made k0 k4 (withdrawing p.dups place ++ (Publish place f ∷ Add f ∷ leaving g)) =
@@ -113,12 +113,12 @@ returns-clause-performs c =
     (made_then k1 k2 k4 (Publish place f ∷ []) (Add f ∷ leaving g) (made_one k1 k2 (Publish place f) 0 c.publish.ensures)
     (made_then k2 k3 k4 (Add f ∷ []) (leaving g) c.share.ensures.made c.release_if.ensures.made)) in
     subst (λ (x : Lay). Performs (mapped_lay x) (mapped_lay (lay_of c.pair.new.self k4))
-    (founding x.dups (mapped_lay x).listed place c.args.first c.args.second)) c.self.view_is
+    (founding x.dups (mapped_lay x).listed place c.args.first.now c.args.second.now)) c.self.view_is
     (record {
       made = subst (λ (z : ℕ × Option ℕ). Made k0 k4 (withdrawing p.dups place ++ (Publish place z.0 ∷ Add z.0 ∷ leaving z.1)))
           (λ t. (sym on t, sym c.in_ok-shared.ensures.second.frame_is t)) whole;
-      frames = both_frames p.listed c.pair.new.self.listed c.args.first (item_of_next p c.args.first)
-          (item_of_next p c.args.second) c.in_ok-shared.shared c.in_ok-shared.ensures.first c.in_ok-shared.ensures.rows;
+      frames = both_frames p.listed c.pair.new.self.listed c.args.first.now (item_of_next p c.args.first.now)
+          (item_of_next p c.args.second.now) c.in_ok-shared.shared c.in_ok-shared.ensures.first c.in_ok-shared.ensures.rows;
     })
 
 pub returns-clause-state : goal.returns-clause-state
@@ -126,8 +126,8 @@ returns-clause-state c =
     let p : PagesView = c.self.inside.pages in
     let new : PagesView = c.pair.new.self in
     let k = c.release_if.new.keeper in
-    let first = c.args.first in
-    let second = c.args.second in
+    let first = c.args.first.now in
+    let second = c.args.second.now in
     ap (λ (x : PagesView). lay_of x k) c.in_ok-shared.ensures.made
     ∙ ap (λ (rows : List Row). record (founded (lay_of p c.self.inside.keeper) c.args.place first) { rows = rows; frames = new.listed.frames; keeper = k }) c.in_ok-shared.ensures.changed
     ∙ ap (λ (x : Lay). record (founded x c.args.place first) {

@@ -13,7 +13,7 @@ use Rattle.ksm_pages.proofs.pages.Pages.become_zero.Goals as goal
 pub invariant_of-self : goal.invariant_of-self
 invariant_of-self c =
     let old = c.self.inside in
-    let row = c.args.row in
+    let row = c.args.row.now in
     let zero = record row { state = Zero } in
     let found = ap (λ v. row_at row.page v.listed.rows) c.self.view_is ∙ c.requires.row_is in
     record {
@@ -30,12 +30,12 @@ invariant_of-self c =
     }
 
 pub replace-requires : goal.replace-requires
-replace-requires c = ap (λ v. row_at c.args.row.page v.listed.rows) c.self.view_is ∙ c.requires.row_is
+replace-requires c = ap (λ v. row_at c.args.row.now.page v.listed.rows) c.self.view_is ∙ c.requires.row_is
 
 pub returns-clause-stood : goal.returns-clause-stood
 returns-clause-stood c =
     let old = c.self.inside in
-    let row = c.args.row in
+    let row = c.args.row.now in
     subst (λ v. StandsAt v.listed row.page row c.replace.result) c.self.view_is
     (own_lies (rows_of old.dups.dups) old.lodgings.items old.rows row c.replace.result c.self.invariant.paired c.replace.ensures.stood
     (own_not_merged row.state c.requires.alone))
@@ -43,7 +43,7 @@ returns-clause-stood c =
 pub returns-clause-frames : goal.returns-clause-frames
 returns-clause-frames c =
     let old = c.self.inside in
-    let zero = record c.args.row { state = Zero } in
+    let zero = record c.args.row.now { state = Zero } in
     seen_put (rows_of old.dups.dups) (rows_of old.dups.dups) old.lodgings.items old.rows c.replace.new.self zero None None refl c.replace.ensures.rows
     c.replace.ensures.frames refl
     ∙ ap (λ v. slice_set v.listed.frames (rank zero.page v.listed.rows) None) c.self.view_is

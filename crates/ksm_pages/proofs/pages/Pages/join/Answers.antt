@@ -25,14 +25,14 @@ join-requires-clause-fewer c =
 
 pub join-requires-clause-absent : goal.join-requires-clause-absent
 join-requires-clause-absent c =
-    tied_absent c.self.inside.rows.rows c.args.row.page c.args.row c.self.invariant.kept.linked.order
-    (ap (λ v. row_at c.args.row.page v.listed.rows) c.self.view_is ∙ c.requires.row_is) c.args.number c.self.inside.dups.dups
-    (own_not_merged c.args.row.state c.requires.alone) c.self.invariant.kept.linked.tied
+    tied_absent c.self.inside.rows.rows c.args.row.now.page c.args.row.now c.self.invariant.kept.linked.order
+    (ap (λ v. row_at c.args.row.now.page v.listed.rows) c.self.view_is ∙ c.requires.row_is) c.args.number c.self.inside.dups.dups
+    (own_not_merged c.args.row.now.state c.requires.alone) c.self.invariant.kept.linked.tied
 
 pub invariant_of-self-2 : goal.invariant_of-self-2
 invariant_of-self-2 c =
     let old = c.self.inside in
-    let row = c.args.row in
+    let row = c.args.row.now in
     let item = record row { state = Merged c.args.number } in
     let found = ap (λ v. row_at row.page v.listed.rows) c.self.view_is ∙ c.requires.row_is in
     record {
@@ -54,16 +54,16 @@ returns-clause-rest c =
     let old = c.self.inside in
     only_rows old.shape old.dups c.join.new.self old.knobs (listed_seen (rows_of c.join.new.self.dups) old.lodgings.items c.restate-lone.new.self)
     (listed_seen (rows_of old.dups.dups) old.lodgings.items old.rows) c.args.self.now
-    (ap (λ d. rows_of d.dups) c.in_ok-place.ensures.joined ∙ rows_items c.args.number (with_item c.args.row.page) old.dups.dups)
+    (ap (λ d. rows_of d.dups) c.in_ok-place.ensures.joined ∙ rows_items c.args.number (with_item c.args.row.now.page) old.dups.dups)
     (ap (λ d. d.next) c.in_ok-place.ensures.joined) c.self.view_is
 
 pub restate-lone-requires : goal.restate-lone-requires
-restate-lone-requires c = ap (λ v. row_at c.args.row.page v.listed.rows) c.self.view_is ∙ c.requires.row_is
+restate-lone-requires c = ap (λ v. row_at c.args.row.now.page v.listed.rows) c.self.view_is ∙ c.requires.row_is
 
 pub returns-clause-stood : goal.returns-clause-stood
 returns-clause-stood c =
     let old = c.self.inside in
-    let row = c.args.row in
+    let row = c.args.row.now in
     subst (λ v. StandsAt v.listed row.page row c.restate-lone.result) c.self.view_is
     (own_lies (rows_of old.dups.dups) old.lodgings.items old.rows row c.restate-lone.result c.self.invariant.paired c.restate-lone.ensures.stood
     (own_not_merged row.state c.requires.alone))
@@ -71,9 +71,9 @@ returns-clause-stood c =
 pub returns-clause-frames : goal.returns-clause-frames
 returns-clause-frames c =
     let old = c.self.inside in
-    let item = record c.args.row { state = Merged c.args.number } in
+    let item = record c.args.row.now { state = Merged c.args.number } in
     let dups = rows_of old.dups.dups in
-    let same = ap (λ d. rows_of d.dups) c.in_ok-place.ensures.joined ∙ rows_items c.args.number (with_item c.args.row.page) old.dups.dups in
+    let same = ap (λ d. rows_of d.dups) c.in_ok-place.ensures.joined ∙ rows_items c.args.number (with_item c.args.row.now.page) old.dups.dups in
     subst (λ v. LiesWith v.listed c.args.number item.page (listed_seen (rows_of c.join.new.self.dups) old.lodgings.items c.restate-lone.new.self).frames)
     c.self.view_is
     (λ page r frame at merged.

@@ -1,5 +1,5 @@
 use Rattle.std.proofs.Common.{◌≡◌, ◌∙◌, ℕ, List, false, ap, refl, sym, subst, length, length-set, rules}
-use Rattle.std.specs.Option.{is_some, unwrap_or}
+use Rattle.std.specs.Option.{is_some, option_map, unwrap_or}
 use Rattle.ksm_base.specs.declared.knobs.Knobs.{Knobs}
 use Rattle.ksm_base.specs.declared.page.GuestPage.{GuestPage}
 use Rattle.ksm_base.specs.declared.row.PageState.TheVariants.{Waiting}
@@ -13,7 +13,7 @@ use Rattle.ksm_pages.specs.Linked.{AreKept}
 use Rattle.ksm_pages.specs.Listed.{rank, row_in}
 use Rattle.ksm_pages.specs.Lodged.{frames_seen, lodging}
 use Rattle.ksm_pages.proofs.Linking.{linked_alone, own_not_merged}
-use Rattle.ksm_pages.proofs.Partners.{met_own, met_row, met_stands, met_waits, partner_nothing}
+use Rattle.ksm_pages.proofs.Partners.{met_own, met_page, met_waits, partner_nothing}
 use Rattle.ksm_pages.proofs.Ranks.{stands_where}
 use Rattle.ksm_pages.proofs.Seen.{own_seen, seen_revised}
 use Rattle.ksm_pages.proofs.pages.Pages.meet.Goals as goal
@@ -36,9 +36,9 @@ pub returns-then-same_page-clause-partner : goal.returns-then-same_page-clause-p
 returns-then-same_page-clause-partner c =
     let old = c.self.inside in
     let row = c.args.row.now in
-    sym (met_own old.knobs old.rows.rows old.waiting row c.self.invariant.kept.linked.order c.self.invariant.kept.waits c.in_ok-page.page
-    (met_in old.knobs c.args.row.now old.waiting c.in_ok-page.page c.tree_of-tree.result c.tree_of-tree.ensures c.in_ok-page.ensures.found) (sym c.if-same_page.ensures))
-    ∙ ap (λ v. partner v.knobs v.listed.rows row) c.self.view_is
+    sym (ap (option_map (λ r. r.page)) (met_own old.knobs old.rows.rows old.waiting row c.self.invariant.kept.linked.order c.self.invariant.kept.waits c.in_ok-page.page
+    (met_in old.knobs c.args.row.now old.waiting c.in_ok-page.page c.tree_of-tree.result c.tree_of-tree.ensures c.in_ok-page.ensures.found) (sym c.if-same_page.ensures)))
+    ∙ ap (λ v. option_map (λ r. r.page) (partner v.knobs v.listed.rows row)) c.self.view_is
 
 pub returns-then-same_page-clause-frames : goal.returns-then-same_page-clause-frames
 returns-then-same_page-clause-frames c =
@@ -77,17 +77,10 @@ invariant_of-self-then-same_page c =
       room = c.self.invariant.room;
     }
 
-pub unreachable-requires : goal.unreachable-requires
-unreachable-requires c =
-    let old = c.self.inside in
-    met_stands old.knobs old.rows.rows old.waiting c.args.row.now c.self.invariant.kept.linked.order c.self.invariant.kept.waits
-    c.in_ok-page.page (met_in old.knobs c.args.row.now old.waiting c.in_ok-page.page c.tree_of-tree.result c.tree_of-tree.ensures c.in_ok-page.ensures.found) (sym c.if-same_page.ensures) (sym c.in-None.ensures.row)
-
 pub returns-clause-partner : goal.returns-clause-partner
 returns-clause-partner c =
     let old = c.self.inside in
     let row = c.args.row.now in
-    c.in-Some.ensures.row
-    ∙ sym (met_row old.knobs old.rows.rows old.waiting row c.self.invariant.kept.linked.order c.self.invariant.kept.waits c.in_ok-page.page
+    sym (met_page old.knobs old.rows.rows old.waiting row c.self.invariant.kept.linked.order c.self.invariant.kept.waits c.in_ok-page.page
     (met_in old.knobs c.args.row.now old.waiting c.in_ok-page.page c.tree_of-tree.result c.tree_of-tree.ensures c.in_ok-page.ensures.found) (sym c.if-same_page.ensures))
-    ∙ ap (λ v. partner v.knobs v.listed.rows row) c.self.view_is
+    ∙ ap (λ v. option_map (λ r. r.page) (partner v.knobs v.listed.rows row)) c.self.view_is

@@ -26,22 +26,22 @@ new_dup-requires-clause-free c =
 
 pub restate-lone-requires : goal.restate-lone-requires
 restate-lone-requires c =
-    ap (row_at c.args.second.page) c.restate-frame.ensures.changed
-    ∙ at_others (record c.args.first { state = Merged c.in_ok-number.number }) c.args.second.page c.self.inside.rows.rows c.requires.apart
-    ∙ ap (λ v. row_at c.args.second.page v.listed.rows) c.self.view_is ∙ c.requires.second_is
+    ap (row_at c.args.second.now.page) c.restate-frame.ensures.changed
+    ∙ at_others (record c.args.first.now { state = Merged c.in_ok-number.number }) c.args.second.now.page c.self.inside.rows.rows c.requires.apart
+    ∙ ap (λ v. row_at c.args.second.now.page v.listed.rows) c.self.view_is ∙ c.requires.second_is
 
 pub returns-clause-first : goal.returns-clause-first
 returns-clause-first c =
     let old = c.self.inside in
-    subst (λ v. StandsAt v.listed c.args.first.page c.args.first c.restate-frame.result) c.self.view_is
-    (own_lies (rows_of old.dups.dups) old.lodgings.items old.rows c.args.first c.restate-frame.result c.self.invariant.paired c.restate-frame.ensures.stood
-    (own_not_merged c.args.first.state c.requires.first_alone))
+    subst (λ v. StandsAt v.listed c.args.first.now.page c.args.first.now c.restate-frame.result) c.self.view_is
+    (own_lies (rows_of old.dups.dups) old.lodgings.items old.rows c.args.first.now c.restate-frame.result c.self.invariant.paired c.restate-frame.ensures.stood
+    (own_not_merged c.args.first.now.state c.requires.first_alone))
 
 pub returns-clause-second : goal.returns-clause-second
 returns-clause-second c =
     let old = c.self.inside in
-    let second = c.args.second in
-    let stood = stood_before old.rows c.restate-frame.new.self (record c.args.first { state = Merged c.in_ok-number.number }) second c.restate-lone.result
+    let second = c.args.second.now in
+    let stood = stood_before old.rows c.restate-frame.new.self (record c.args.first.now { state = Merged c.in_ok-number.number }) second c.restate-lone.result
     c.self.invariant.kept.linked.order
     (ap (λ v. row_at second.page v.listed.rows) c.self.view_is ∙ c.requires.second_is) c.restate-frame.ensures.changed c.restate-frame.ensures.frames c.restate-lone.ensures.stood in
     subst (λ v. StandsAt v.listed second.page second c.restate-lone.result) c.self.view_is
@@ -51,8 +51,8 @@ returns-clause-second c =
 pub invariant_of-self-2 : goal.invariant_of-self-2
 invariant_of-self-2 c =
     let old = c.self.inside in
-    let first = c.args.first in
-    let second = c.args.second in
+    let first = c.args.first.now in
+    let second = c.args.second.now in
     let item_of : Row → Row = λ r. record r { state = Merged old.dups.next } in
     let row : DupRow = record { number = old.dups.next; place = c.args.place; tree = c.tree_of-tree.result; bytes = first.bytes } in
     let rows =
@@ -86,21 +86,21 @@ pub returns-clause-made : goal.returns-clause-made
 returns-clause-made c =
     let old = c.self.inside in
     let listed = listed_seen (rows_of c.new_dup.new.self.dups) (slice_set old.lodgings.items c.args.place c.restate-frame.result) c.restate-lone.new.self in
-    let first = c.args.first in
+    let first = c.args.first.now in
     let dup : DupRow = record { number = old.dups.next; place = c.args.place; tree = c.tree_of-tree.result; bytes = first.bytes } in
     let seen : DupsState → PagesView = λ d. record { shape = old.shape; listed = listed; dups = rows_of d.dups; knobs = old.knobs; next = d.next } in
     let with_rows : List DupRow → PagesView = λ ds. record { shape = old.shape; listed = listed; dups = ds; knobs = old.knobs; next = old.dups.next + 1 } in
     let of_tree : ℕ → PagesView = λ tree. with_rows (with_dup (record dup { tree = tree }) (rows_of old.dups.dups)) in
     ap seen c.in_ok-number.ensures.made
-    ∙ ap with_rows (rows_new (record { row = dup; items = with_item c.args.second.page (first.page ∷ []) }) old.dups.dups)
+    ∙ ap with_rows (rows_new (record { row = dup; items = with_item c.args.second.now.page (first.page ∷ []) }) old.dups.dups)
     ∙ ap of_tree c.tree_of-tree.ensures
     ∙ ap (λ (v : PagesView). record v { listed = listed; dups = with_dup (next_dup v c.args.place first) v.dups; next = v.next + 1 }) c.self.view_is
 
 pub returns-clause-rows : goal.returns-clause-rows
 returns-clause-rows c =
     let old = c.self.inside in
-    let first = c.args.first in
-    let second = c.args.second in
+    let first = c.args.first.now in
+    let second = c.args.second.now in
     let frame = c.restate-frame.result in
     let number = c.in_ok-number.number in
     let number_is = c.in_ok-number.ensures.number in
