@@ -21,7 +21,7 @@ use Rattle.ksm_base.proofs.Edits.{find_all}
 use Rattle.ksm_base.proofs.Pages.{same_page_eq, same_page_refl}
 use Rattle.ksm_base.proofs.RowCounts.{each_at_page}
 use Rattle.ksm_pages.specs.declared.row.Run.{Run}
-use Rattle.ksm_pages.specs.Scanned.{AreAhead, AreRuns, GoesOnAt, IsLeft, IsRun, IsUnderWay, RunsOver, moved_to, page_of, cursor_after, stays}
+use Rattle.ksm_pages.specs.Scanned.{AreAhead, AreRuns, IsLeft, IsRun, IsUnderWay, RunsOver, moved_to, page_of, cursor_after, stays}
 use Rattle.ksm_book.specs.declared.scan.Ahead.{Ahead}
 use Rattle.ksm_book.specs.Gathered.{GoesOnAtPage, IsAhead, IsKnown, StaysNow, behind, passed_by}
 use Rattle.ksm_book.proofs.Passing.{begins_none}

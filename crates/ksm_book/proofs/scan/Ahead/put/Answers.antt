@@ -1,4 +1,4 @@
-use Rattle.std.proofs.Common.{◌≡◌, ◌-◌, Option, Some, refl, sym, ap, ◌∙◌, arith, vec_len}
+use Rattle.std.proofs.Common.{◌-◌, Some, refl, sym, ap, ◌∙◌, arith, vec_len}
 use Rattle.ksm_base.proofs.Pages.{same_page_eq}
 use Rattle.ksm_book.proofs.Gathered.{last_together}
 use Rattle.ksm_book.proofs.scan.Ahead.put.Goals as goal

@@ -1,6 +1,4 @@
-use Rattle.std.proofs.Common.{◌≡◌, ◌∙◌, None, sym, ap, subst}
-use Rattle.std.specs.Prelude.{IfNone, IfSome}
-use Rattle.ksm_book.specs.Gathered.{GoesOnAtPage}
+use Rattle.std.proofs.Common.{sym, ap, subst}
 use Rattle.ksm_base.specs.Sound.{IsSound}
 use Rattle.ksm_base.proofs.SoundScan.{sound_none_waiting}
 use Rattle.ksm_layout.specs.Laid.{Lay, state_of}
