@@ -358,9 +358,9 @@ impl State {
     }
 
     // The pass ends where it has gone through all pages. Says where it goes on, if it does.
-    fn end_pass(&mut self) -> Option<Row>
+    fn end_pass(&mut self) -> Option<GuestPage>
         ensures state { self.new.state ≡ pass_ended_at_last self.old.state }
-        ensures next { MatchOption result (self.new.state.cursor ≡ None) (GoesOnAt self.new.state) }
+        ensures next { MatchOption result (self.new.state.cursor ≡ None) (GoesOnAtPage self.new.state) }
         ensures idle { IsIdle (mapped self.old) (mapped self.new) }
     {
         self.cursor?;
@@ -394,14 +394,12 @@ impl State {
         if known.is_some() {
             return known;
         }
-        if let Some(next) = self.end_pass() {
-            return Some(next.page);
+        let next = self.end_pass();
+        if next.is_some() {
+            return next;
         }
         self.layout.settle_all();
-        match self.layout.rows().next(None) {
-            Some(next) => Some(next.page),
-            None => None,
-        }
+        self.layout.rows().next(None)
     }
 
     // The row that is visited, which is of this page.
@@ -425,7 +423,11 @@ impl State {
         let run = self.next_run(page, joined, ahead, most);
         let goes_on = run.visits > 0 || run.next.is_some();
         self.close_pass(goes_on);
-        ahead.run = goes_on.then_some(run);
+        if goes_on {
+            ahead.run = Some(run);
+        } else {
+            ahead.run = None;
+        }
     }
 
     // The run in which the pass goes on: the first one behind the page visited last, that of an earlier pass if it is known, else found anew.

@@ -6,7 +6,7 @@ use Rattle.ksm_base.specs.Apply.{is_before}
 use Rattle.ksm_base.specs.Refusals.{is_of}
 use Rattle.ksm_base.specs.Rows.{shared_state}
 use Rattle.ksm_pages.specs.declared.row.Wanted.{Wanted}
-use Rattle.ksm_pages.specs.declared.row.Wanted.TheVariants.{Mergeable, Shared, Before}
+use Rattle.ksm_pages.specs.declared.row.Wanted.TheVariants.{Shared, Before}
 
 -- a row of the guest, or any row where no guest is given
 abbrev pub of_guest : Option ℕ → Row → Bool
@@ -19,7 +19,6 @@ is_shared_of guest r = of_guest guest r && shared_state r.state
 
 -- a search is for the row
 abbrev pub is_wanted : Wanted → Row → Bool
-is_wanted Mergeable r = r.mergeable
 is_wanted Shared r = shared_state r.state
 is_wanted (Before stop) r = is_before stop r
 

@@ -124,7 +124,6 @@ impl Entry {
         ensures { result ≡ is_a_wanted wanted.now (row_of (page, self.now)) }
     {
         match wanted {
-            Wanted::Mergeable => self.mergeable,
             Wanted::Shared => self.is_shared(),
             Wanted::Before(None) => true,
             Wanted::Before(Some(stop)) => page < stop.page,

@@ -12,8 +12,6 @@ use ksm_base::{GuestPage, Knobs, PageBytes, PageState, Row};
 /// The rows that a search is for.
 #[derive(Clone, Copy)]
 pub enum Wanted {
-    /// Those that the scan visits.
-    Mergeable,
     /// Merged and Zero ones.
     Shared,
     /// Those before the one at which an unmerging stopped, or all where it did not.

@@ -19,7 +19,7 @@ ghost use Rattle.ksm_base.specs.Rows.{InPageOrder, row_at, with_row, without_pag
 ghost use Rattle.ksm_base.specs.Visit.{after_cursor as comes_after, next_row as row_to_visit};
 ghost use Rattle.ksm_pages.specs.Listed.{AreNamed, rank, StandsAt};
 ghost use Rattle.ksm_pages.specs.RowEntries.{row_of, start_after, BeginsAt};
-ghost use Rattle.ksm_pages.specs.Scanned.{AreAhead, IsRun};
+ghost use Rattle.ksm_pages.specs.Scanned.{AreAhead, IsRun, page_of};
 ghost use Rattle.ksm_pages.specs.Tallied.{IsTally};
 ghost use Rattle.ksm_pages.specs.Wanted.{is_shared_of as is_shared_of_guest, is_wanted as is_a_wanted, up_to};
 
@@ -67,6 +67,14 @@ fn row_found(found: Option<(&GuestPage, &Entry)>) -> Option<Row>
 {
     let (page, entry) = found?;
     Some(entry.row(*page))
+}
+
+// The page of the entry that a search found.
+fn page_found(found: Option<(&GuestPage, &Entry)>) -> Option<GuestPage>
+    ensures { result ≡ page_of (option_map (λ e. row_of (deref_pair e)) found.entry) }
+{
+    let (page, _) = found?;
+    Some(*page)
 }
 
 // Where the pages after the one visited last begin.
@@ -305,11 +313,12 @@ impl Rows {
         up_to_guest(row_found(found), guest)
     }
 
-    /// The row that is visited next: the least mergeable one after the cursor.
-    pub fn next(&self, cursor: Option<GuestPage>) -> Option<Row>
-        ensures { result ≡ row_to_visit cursor self.now.rows }
+    /// The page that is visited next: that of the least mergeable row after the cursor.
+    pub fn next(&self, cursor: Option<GuestPage>) -> Option<GuestPage>
+        ensures { result ≡ page_of (row_to_visit cursor self.now.rows) }
     {
-        self.first_after(cursor, Wanted::Mergeable)
+        let mut walk = self.entries.range(after_cursor(cursor));
+        page_found(walk.find(|(_, entry)| entry.is_mergeable()))
     }
 
     /// What comes after the cursor, run by run, for `most` visits at most, up to the end of the pass or as far as there is
