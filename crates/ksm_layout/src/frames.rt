@@ -15,6 +15,7 @@ use frame_table::FrameTable;
 use ksm_base::{PAGE_WORDS, PageBytes, Shape};
 
 /// Reaps each dying one of `count` frames, ascending.
+#[inline(always)]
 pub fn reap_node(keeper: &mut FrameKeeper, table: &FrameTable, first: u32, count: u32)
     requires own { keeper.old.table ≡ table.now }
     requires inside { first + count ≤ frames_of keeper.old.table.shape }
@@ -76,6 +77,7 @@ pub fn load(keeper: &mut FrameKeeper, table: &FrameTable, frame: u32) -> PageByt
 }
 
 /// A frame of the node with these bytes, in the hand of the caller, if one is free once the dying ones were reaped.
+#[inline(always)]
 pub fn take_frame(
     keeper: &mut FrameKeeper,
     table: &FrameTable,

@@ -124,6 +124,7 @@ pub fn guest(left: Option<&[u8]>) -> Result<(u16, Option<&[u8]>), LineFault>
 }
 
 /// The next two words as a page.
+#[inline(always)]
 pub fn page(left: Option<&[u8]>) -> Result<(GuestPage, Option<&[u8]>), LineFault>
     ensures { GivesField result (page_at (words_left left.entry)) }
 {
@@ -230,6 +231,7 @@ fn content_in(word: &[u8]) -> Result<PageBytes, LineFault>
 }
 
 /// The last word as the content of a page.
+#[inline(always)]
 pub fn content_alone(left: Option<&[u8]>) -> Result<PageBytes, LineFault>
     ensures { Gives result (alone content_of (words_left left.entry)) }
 {

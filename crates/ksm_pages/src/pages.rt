@@ -59,6 +59,7 @@ impl Model for Pages {
 }
 
 // A row waits no more, if it did.
+#[inline(always)]
 fn stop_waiting(waiting: &mut Waiting, knobs: &Knobs, row: &Row)
     ensures { IsStopped knobs.now row.now waiting.old waiting.new }
 {

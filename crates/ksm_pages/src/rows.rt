@@ -178,6 +178,7 @@ impl Rows {
     }
 
     /// The row of a page that has one.
+    #[inline(always)]
     pub fn known(&self, page: GuestPage) -> Row
         requires known { is_some (row_at page self.now.rows) ≡ true }
         ensures row { row_at page self.now.rows ≡ Some result }
@@ -254,6 +255,7 @@ impl Rows {
     }
 
     /// Gives a row another state, on the frame where it is, and gives the number of that.
+    #[inline(always)]
     pub(crate) fn restate(&mut self, row: &Row, state: PageState) -> Option<u32>
         requires { row_at row.now.page self.old.rows ≡ Some row.now }
         ensures stood { StandsAt self.old row.now.page row.now result }

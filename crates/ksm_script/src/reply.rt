@@ -57,6 +57,7 @@ pub enum LineReply {
 /// Writes the line of a reply, its newline included.
 ///
 /// At a fault of the writer, or where it takes no byte, the answer is `RunFault::Write`, and a beginning of the line is written.
+#[inline(always)]
 pub fn write_reply<W: Write>(writer: &mut W, reply: &LineReply) -> Result<(), RunFault>
     ensures whole { OnOk result (Appends (W.contents writer.old) (W.contents writer.new) (text_of reply.now)) }
     ensures fault { IfErr result (λ e. (e ≡ RunFault.Write)
