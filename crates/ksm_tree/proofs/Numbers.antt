@@ -1,10 +1,11 @@
 -- Places in order: what an insert or a removal where a search ends leaves.
-use Rattle.std.proofs.Common.{◌≡◌, ◌∙◌, ℕ, ◌<◌, List, true, false, length, get_or, sym, ap, arith}
-use Rattle.std.specs.Prelude.{◌==◌, nat_lt, filter, insert, remove, AllPairs, Result, Ok, Err, IsOk, OnOk, OnErr}
+use Rattle.std.proofs.Common.{◌≡◌, ◌∙◌, ℕ, ◌-◌, ◌<◌, List, true, false, length, get_or, sym, ap, arith}
+use Rattle.std.specs.Prelude.{◌==◌, nat_lt, filter, insert, remove, slice_get, AllPairs, Some, Result, Ok, Err, IsOk, OnOk, OnErr}
 use Rattle.std.specs.List.{list_any}
 use Rattle.std.proofs.lemmas.Bool.{false≢true}
 use Rattle.std.proofs.lemmas.Bool.Decides.{nat_tests}
-use Rattle.ksm_rmap.proofs.Ordered.{IsOrder, insert_at, with_found, remove_at, absent_kept}
+use Rattle.std.proofs.lemmas.Option.{get_or_from_slice_get, slice_get_within}
+use Rattle.ksm_rmap.proofs.Ordered.{IsOrder, insert_at, with_found, remove_at, absent_kept, point_is_count}
 use Rattle.ksm_tree.specs.Places.{with_place, without}
 
 -- what holds of an `Ok`, where the result is one
@@ -26,6 +27,16 @@ places_ordered = record {
   same_refl = λ p. grind (arith, nat_tests);
   same_eq = λ p q same. grind (arith, nat_tests);
 }
+
+-- all places but the last one come before it
+pub last_counted : (place : ℕ) (places : List ℕ) → AllPairs (λ p q. nat_lt p q ≡ true) places → slice_get places (length places - 1) ≡ Some place → length places - 1 ≡ length (filter (λ p. nat_lt p place) places)
+last_counted place places rise last =
+    let at = length places - 1 in
+    let within : at < length places = slice_get_within places at place last in
+    let stands : (d : ℕ) → get_or places at d ≡ place = λ d. get_or_from_slice_get places at place d last in
+    point_is_count (λ p. nat_lt p place) places at (omega arith)
+    (λ k d low below. ap (nat_lt (get_or places k d)) (sym (stands d)) ∙ rise k at d below within)
+    (λ k d from below. let here : k ≡ at = omega arith in let is = stands d in rw here (grind (arith, nat_tests, is)))
 
 module _ (place : ℕ) (places : List ℕ) (rise : AllPairs (λ p q. nat_lt p q ≡ true) places) (at : ℕ) (count : at ≡ length (filter (λ p. nat_lt p place) places)) where
   pub put_in : false ≡ list_any (λ p. p == place) places → insert places at place ≡ with_place place places

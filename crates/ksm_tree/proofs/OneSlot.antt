@@ -3,7 +3,7 @@ use Rattle.std.proofs.Common.{◌≡◌, ◌∙◌, ℕ, zero, suc, ◌+◌, ◌
 use Rattle.std.specs.Prelude.{◌==◌, not, nat_lt, All, filter, find, option_map, is_some, slice_get, if◌then◌else◌}
 use Rattle.std.proofs.lemmas.Bool.Decides.{nat_tests}
 use Rattle.std.proofs.lemmas.Bool.{cases_Bool, false≢true}
-use Rattle.std.proofs.lemmas.List.{append-nil, get_or-reverse, get_or_default, get_or_push, length-map, length-reverse, map-set, set-append_left, set-append_right}
+use Rattle.std.proofs.lemmas.List.{append-nil, get_or-reverse, get_or_default, get_or_push, set-get_or, length-map, length-reverse, map-set, set-append_left, set-append_right}
 use Rattle.std.proofs.lemmas.Option.{none-some, same_Some, slice_get-get_or}
 use Rattle.std.proofs.Math.ListN.{get_or-map}
 use Rattle.std.proofs.Math.Seq.{map-set_same}
@@ -370,6 +370,35 @@ counted_set : (p n : ℕ) (slots : List (Option Dup)) (counts : List ℕ) (s : O
 counted_set p n slots counts s counted is =
     (λ i. set (counted i) p (is i)) ∙ sym (map-set count_in slots p s)
 
+-- a place that is not among those that pass can be taken out of them
+where_absent : (test : Option Dup → Bool) (p : ℕ) (slots : List (Option Dup)) → p < length slots → test (get_or slots p None) ≡ false → places_where test 0 slots ≡ without p (places_where test 0 slots)
+where_absent test p slots within fails =
+    ap (places_where test 0) (sym (set-get_or slots p None)) ∙ where_without test 0 p p slots (get_or slots p None) (omega arith) within fails
+
+mirrored_absent : (test : Option Dup → Bool) (p m : ℕ) (slots : List (Option Dup)) → m + p + 1 ≡ length slots → test (get_or slots p None) ≡ false → places_where test 0 (reverse slots) ≡ without m (places_where test 0 (reverse slots))
+mirrored_absent test p m slots at fails =
+    ap (λ slots. places_where test 0 (reverse slots)) (sym (set-get_or slots p None)) ∙ mirrored_without test p m slots (get_or slots p None) at fails
+
+-- what is not in a slot: a stale dup where there is none, and no dup where there is one
+pub stale_absent : (p : ℕ) (slots : List (Option Dup)) (r : Option Dup) (stale : List ℕ) → p < length slots → r ≡ get_or slots p r → is_some r ≡ false → stale ≡ places_where is_stale_slot 0 slots → stale ≡ without p stale
+stale_absent p slots r stale within read none is =
+    let here : get_or slots p None ≡ r = get_or_default slots p None r within ∙ sym read in
+    let fails : is_stale_slot r ≡ false = elim r as (λ r. is_some r ≡ false → is_stale_slot r ≡ false) [
+      | None ↦ λ h. refl
+      | Some d ↦ λ h. absurd (false≢true (sym h))
+    ] none in
+    is ∙ where_absent is_stale_slot p slots within (ap is_stale_slot here ∙ fails) ∙ ap (without p) (sym is)
+
+pub empty_absent : (p m : ℕ) (slots : List (Option Dup)) (r : Option Dup) (empty : List ℕ) → m + p + 1 ≡ length slots → r ≡ get_or slots p r → is_some r ≡ true → empty ≡ places_where is_empty_slot 0 (reverse slots) → empty ≡ without m empty
+empty_absent p m slots r empty at read some is =
+    let within : p < length slots = omega (arith, at) in
+    let here : get_or slots p None ≡ r = get_or_default slots p None r within ∙ sym read in
+    let fails : is_empty_slot r ≡ false = elim r as (λ r. is_some r ≡ true → is_empty_slot r ≡ false) [
+      | None ↦ λ h. absurd (false≢true h)
+      | Some d ↦ λ h. refl
+    ] some in
+    is ∙ mirrored_absent is_empty_slot p m slots at (ap is_empty_slot here ∙ fails) ∙ ap (without m) (sym is)
+
 -- a dup with items put into its slot
 pub slots_put : (slots : List (Option Dup)) (counts : List ℕ) (empty stale empty' stale' : SmallVec ℕ) (dup : Dup) (m n : ℕ) → m + dup.row.place + 1 ≡ length slots → n ≡ length dup.items → is_live dup ≡ true → AreSlots slots counts empty stale → empty'.items ≡ without m empty.items → empty'.capacity ≡ empty.capacity → stale'.items ≡ without dup.row.place stale.items → stale'.capacity ≡ stale.capacity → AreSlots (set slots dup.row.place (Some dup)) (set counts dup.row.place n) empty' stale'
 slots_put slots counts empty stale empty' stale' dup m n at is live h left room left_stale room_stale =
@@ -384,6 +413,14 @@ slots_put slots counts empty stale empty' stale' dup m n at is live h left room 
       empty_room = rw (length-set, room) h.empty_room;
       stale_room = rw (length-set, room_stale) h.stale_room;
     }
+
+-- and what is then seen of the slots
+pub seen_put : (slots : List (Option Dup)) (state : SlotsState) (dup : Dup) → slots_seen slots ≡ state → dup.row.place < state.places → ArePlaced 0 slots → slots_seen (set slots dup.row.place (Some dup)) ≡ record { places = state.places; dups = with_new dup state.dups }
+seen_put slots state dup seen place placed =
+    let p = dup.row.place in
+    let within : p < length slots = omega (arith, ap (λ s. s.places) seen, place) in
+    (λ i. record { places = length-set slots p (Some dup) i; dups = slot_put 0 p p slots dup (omega arith) refl within placed i })
+    ∙ ap (λ s. record { places = s.places; dups = with_new dup s.dups }) seen
 
 filled_within : (p : ℕ) (slots : List (Option Dup)) → is_some (get_or slots p None) ≡ true → p < length slots
 filled_within p [] filled = absurd (false≢true filled)

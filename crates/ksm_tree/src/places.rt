@@ -105,6 +105,13 @@ fn place_in(places: &[u32], place: u32) -> usize
     ensures count { result ≡ length (filter (λ p. nat_lt p place) places.now) }
     ensures within { result ≤ length places.now }
 {
+    let Some(last) = places.last() else {
+        return 0;
+    };
+    // The last one is taken most: a search would find the same.
+    if *last == place {
+        return places.len() - 1;
+    }
     places.partition_point(|p| *p < place)
 }
 

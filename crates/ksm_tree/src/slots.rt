@@ -109,11 +109,15 @@ impl Slots {
         ensures { self.new ≡ record { places = self.old.places; dups = with_new dup self.old.dups } }
     {
         let place = dup.row.place;
-        let distance = mirrored(self.dups.len(), place);
+        let was_empty = self.dups[place as usize].is_none();
         self.counts[place as usize] = dup.items.len() as u32;
         self.dups[place as usize] = Some(dup);
-        self.empty.remove(distance);
-        self.stale.remove(place);
+        if was_empty {
+            let distance = mirrored(self.dups.len(), place);
+            self.empty.remove(distance);
+        } else {
+            self.stale.remove(place);
+        }
     }
 
     /// The dup at a place goes.

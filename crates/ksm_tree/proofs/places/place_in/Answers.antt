@@ -1,8 +1,9 @@
 use Rattle.std.proofs.Common.{rules}
-use Rattle.std.specs.Prelude.{◌==◌, nat_lt}
+use Rattle.std.proofs.Common.{◌∙◌, sym, ap}
+use Rattle.std.specs.Prelude.{◌==◌, nat_lt, option_copied, Some}
 use Rattle.std.proofs.lemmas.List.Sorted.{IsPartitionPoint-from_clause}
 use Rattle.ksm_rmap.proofs.Ordered.{parted, point_is_count}
-use Rattle.ksm_tree.proofs.Numbers.{places_ordered}
+use Rattle.ksm_tree.proofs.Numbers.{last_counted, places_ordered}
 use Rattle.ksm_tree.proofs.places.place_in.Goals as goal
 
 pub returns-clause-count : goal.returns-clause-count
@@ -12,3 +13,7 @@ returns-clause-count c =
     let split = parted nat_lt (λ p q. p == q) places_ordered place places c.requires in
     let point = IsPartitionPoint-from_clause (λ p. nat_lt p place) places _ c.partition_point.ensures.partitioned split (λ a r q k. search rules) in
     point_is_count (λ p. nat_lt p place) places _ c.partition_point.ensures.bound point.0 point.1
+
+pub returns-then-last-place-clause-count : goal.returns-then-last-place-clause-count
+returns-then-last-place-clause-count c =
+    last_counted c.args.place c.args.places.now c.requires (sym c.last.ensures.value ∙ ap option_copied c.in-Some.is ∙ ap Some c.if-last-place.true)
