@@ -1,7 +1,7 @@
 //! `lookups [ROUNDS [RUNS [BEFORE]]]`: the processor time of a lookup (find, read all words, leave) on a table of 1,024 frames: of the
 //! table, by the program `lookup_times` of this repository, and of the same words in plain Rust, by this program; where BEFORE is the path
-//! of the `lookup_times` of another tree, of that one too. All run as programs of their own, in turn; the least that a run with no lookup
-//! takes is taken off.
+//! of the `lookup_times` of another tree, of that one too. All run as programs of their own, in turn, and the median of the runs counts;
+//! the least that a run with no lookup takes is taken off.
 //!
 //! `lookups plain PLACES THREADS ROUNDS` is the plain form alone.
 
@@ -50,43 +50,50 @@ fn run(program: &str, first: &[&str], places: &str, threads: usize, rounds: u64)
     (String::from_utf8(stdout).unwrap(), children() - before)
 }
 
-fn measure(rounds: u64, runs: u32, other: Option<&str>) {
+fn measure(rounds: u64, runs: usize, other: Option<&str>) {
     let this = std::env::current_exe().unwrap();
     let mut subjects = vec![
         ("plain", this.to_str().unwrap(), &["plain"][..]),
         ("table", TABLE, &[][..]),
     ];
     subjects.extend(other.map(|path| ("before", path, &[][..])));
-    println!("best of {runs}, {rounds} lookups a thread; processor ns of a lookup, {PAGE_WORDS} words");
+    println!("median of {runs}, {rounds} lookups a thread; processor ns of a lookup, {PAGE_WORDS} words");
     for places in ["hot", "spread"] {
         for threads in 1..=4 {
-            let best = best_times(&subjects, places, threads, rounds, runs);
+            let times = median_times(&subjects, places, threads, rounds, runs);
             print!("{places:6} {threads} threads:");
-            for ((name, ..), time) in subjects.iter().zip(&best) {
-                print!(" {name} {time:6.1} ns ({:.2}x)", time / best[0]);
+            for ((name, ..), time) in subjects.iter().zip(&times) {
+                print!(" {name} {time:6.1} ns ({:.2}x)", time / times[0]);
             }
             println!();
         }
     }
 }
 
-/// The processor time of a lookup of each program, in nanoseconds: the least that a run took, without the least that a run with no
-/// lookup took. All must print the same sum.
-fn best_times(subjects: &[(&str, &str, &[&str])], places: &str, threads: usize, rounds: u64, runs: u32) -> Vec<f64> {
+/// The processor time of a lookup of each program, in nanoseconds: what a run took in the median, without the least that a run with no
+/// lookup took. Threads that look one place up wait for each other, more in one run than in the next, so the least of several runs says
+/// how seldom they met. All must print the same sum.
+fn median_times(subjects: &[(&str, &str, &[&str])], places: &str, threads: usize, rounds: u64, runs: usize) -> Vec<f64> {
     let mut idle = vec![f64::INFINITY; subjects.len()];
-    let mut busy = idle.clone();
+    let mut busy = vec![Vec::new(); subjects.len()];
     for _ in 0..runs {
         let mut sums = Vec::new();
         for (at, (_, program, first)) in subjects.iter().enumerate() {
             idle[at] = idle[at].min(run(program, first, places, threads, 0).1);
             let (sum, time) = run(program, first, places, threads, rounds);
-            busy[at] = busy[at].min(time);
+            busy[at].push(time);
             sums.push(sum);
         }
         assert!(sums.iter().all(|sum| *sum == sums[0]), "the words read");
     }
     let lookups = (threads as u64 * rounds) as f64;
-    busy.iter().zip(&idle).map(|(busy, idle)| (busy - idle) / lookups).collect()
+    busy.iter_mut().zip(&idle).map(|(busy, idle)| (median(busy) - idle) / lookups).collect()
+}
+
+/// The time in the middle, once they are in order.
+fn median(times: &mut [f64]) -> f64 {
+    times.sort_by(f64::total_cmp);
+    times[times.len() / 2]
 }
 
 fn main() {
@@ -97,7 +104,7 @@ fn main() {
         let spread = words.get(1).is_none_or(|word| word != "hot");
         println!("{}", plain::run::<PAGE_WORDS>(spread, threads, number(3).unwrap_or(1)));
     } else {
-        let runs = number(1).unwrap_or(5) as u32;
-        measure(number(0).unwrap_or(2_000_000), runs, words.get(2).map(String::as_str));
+        let runs = number(1).unwrap_or(15) as usize;
+        measure(number(0).unwrap_or(1_000_000), runs, words.get(2).map(String::as_str));
     }
 }
