@@ -14,6 +14,8 @@ use crate::frame_keeper::FrameKeeper;
 use frame_table::FrameTable;
 use ksm_base::{PAGE_WORDS, PageBytes, Shape};
 
+// A hint alone, as at `take_frame`.
+
 /// Reaps each dying one of `count` frames, ascending.
 #[inline(always)]
 pub fn reap_node(keeper: &mut FrameKeeper, table: &FrameTable, first: u32, count: u32)
@@ -75,6 +77,8 @@ pub fn load(keeper: &mut FrameKeeper, table: &FrameTable, frame: u32) -> PageByt
     }
     bytes
 }
+
+// A hint alone: the bytes are not copied on their way to the frame.
 
 /// A frame of the node with these bytes, in the hand of the caller, if one is free once the dying ones were reaped.
 #[inline(always)]

@@ -123,6 +123,8 @@ pub fn guest(left: Option<&[u8]>) -> Result<(u16, Option<&[u8]>), LineFault>
     }
 }
 
+// A hint alone, as at `content_alone`: most lines have a page.
+
 /// The next two words as a page.
 #[inline(always)]
 pub fn page(left: Option<&[u8]>) -> Result<(GuestPage, Option<&[u8]>), LineFault>
@@ -229,6 +231,8 @@ fn content_in(word: &[u8]) -> Result<PageBytes, LineFault>
     }
     Ok(page_of(word))
 }
+
+// A hint alone: the bytes are not copied on their way to the line.
 
 /// The last word as the content of a page.
 #[inline(always)]

@@ -58,7 +58,7 @@ impl Model for Pages {
     ghost invariant = { λ p. AreLodged p.shape p.knobs p.rows p.dups p.waiting p.lodgings.items };
 }
 
-// A row waits no more, if it did.
+// A row waits no more, if it did. Inlined as a hint alone, since most rows do not wait.
 #[inline(always)]
 fn stop_waiting(waiting: &mut Waiting, knobs: &Knobs, row: &Row)
     ensures { IsStopped knobs.now row.now waiting.old waiting.new }

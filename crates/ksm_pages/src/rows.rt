@@ -177,6 +177,8 @@ impl Rows {
         }
     }
 
+    // A hint alone: the row would be cleared and copied on its way out.
+
     /// The row of a page that has one.
     #[inline(always)]
     pub fn known(&self, page: GuestPage) -> Row
@@ -253,6 +255,8 @@ impl Rows {
         self.tally = self.tally.without(old).with(row);
         frame
     }
+
+    // A hint alone: each caller knows the state that it gives.
 
     /// Gives a row another state, on the frame where it is, and gives the number of that.
     #[inline(always)]

@@ -54,6 +54,8 @@ pub enum LineReply {
     BadLine(u64),
 }
 
+// A hint alone: most replies are of one kind.
+
 /// Writes the line of a reply, its newline included.
 ///
 /// At a fault of the writer, or where it takes no byte, the answer is `RunFault::Write`, and a beginning of the line is written.
