@@ -1,6 +1,6 @@
-//! `lookups [ROUNDS [RUNS [BEFORE]]]`: the processor time of a lookup (find, read all words, leave) on a table of 1,024 frames: of the
-//! table, by the program `lookup_times` of this repository, and of the same words in plain Rust, by this program; where BEFORE is the path
-//! of the `lookup_times` of another tree, of that one too. All run as programs of their own, in turn, and the median of the runs counts;
+//! `lookups [ROUNDS [RUNS [BEFORE]]]`: the instructions and the processor time of a lookup (find, read all words, leave) on a
+//! table of 1,024 frames: of the table, by the program `lookup_times` of this repository, and of the same words in plain Rust,
+//! by this program; where BEFORE is the path of the `lookup_times` of another tree, of that one too. All run as programs of their own, in turn, and the median of the runs counts;
 //! the least that a run with no lookup takes is taken off.
 //!
 //! `lookups plain PLACES THREADS ROUNDS` is the plain form alone.
@@ -57,17 +57,45 @@ fn measure(rounds: u64, runs: usize, other: Option<&str>) {
         ("table", TABLE, &[][..]),
     ];
     subjects.extend(other.map(|path| ("before", path, &[][..])));
-    println!("median of {runs}, {rounds} lookups a thread; processor ns of a lookup, {PAGE_WORDS} words");
+    println!("a lookup, {PAGE_WORDS} words: instructions counted, and processor ns,");
+    println!("the median of {runs} runs of {rounds} lookups a thread");
     for places in ["hot", "spread"] {
+        print!("{places:6} 1 thread:  instructions");
+        show(&subjects, &counted(&subjects, places));
         for threads in 1..=4 {
-            let times = median_times(&subjects, places, threads, rounds, runs);
-            print!("{places:6} {threads} threads:");
-            for ((name, ..), time) in subjects.iter().zip(&times) {
-                print!(" {name} {time:6.1} ns ({:.2}x)", time / times[0]);
-            }
-            println!();
+            print!("{places:6} {threads} threads: ns          ");
+            show(&subjects, &median_times(&subjects, places, threads, rounds, runs));
         }
     }
+}
+
+/// What each program took, and its share of what the first one took.
+fn show(subjects: &[(&str, &str, &[&str])], took: &[f64]) {
+    for ((name, ..), each) in subjects.iter().zip(took) {
+        print!(" {name} {each:6.1} ({:.2}x)", each / took[0]);
+    }
+    println!();
+}
+
+/// The instructions of a lookup of each program, counted by valgrind, by one thread: the same whatever else the machine does.
+fn counted(subjects: &[(&str, &str, &[&str])], places: &str) -> Vec<f64> {
+    const ROUNDS: u64 = 10_000;
+    let count = |program: &str, first: &[&str], rounds: u64| {
+        let Output { stderr, status, .. } = Command::new("valgrind")
+            .args(["--tool=callgrind", "--callgrind-out-file=/dev/null", program])
+            .args(first)
+            .args([places, "1", &rounds.to_string()])
+            .output()
+            .unwrap_or_else(|error| panic!("valgrind: {error}"));
+        assert!(status.success(), "{program}: {status}");
+        let said = String::from_utf8_lossy(&stderr);
+        let line = said.lines().find(|line| line.contains("Collected")).expect("a count");
+        line.rsplit(' ').next().unwrap().parse::<f64>().expect("a number")
+    };
+    let lookup = |(_, program, first): &(&str, &str, &[&str])| {
+        (count(program, first, 2 * ROUNDS) - count(program, first, ROUNDS)) / ROUNDS as f64
+    };
+    subjects.iter().map(lookup).collect()
 }
 
 /// The processor time of a lookup of each program, in nanoseconds: what a run took in the median, without the least that a run with no
