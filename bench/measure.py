@@ -3,6 +3,7 @@
 import dataclasses
 import hashlib
 import resource
+import statistics
 import subprocess
 import tempfile
 
@@ -46,9 +47,9 @@ def measured(program, options, script):
 
 
 def best(runs):
-    """The run that took least, with the most memory that any of them had."""
+    """The run that took least, with the memory that the runs had in the median."""
     return dataclasses.replace(min(runs, key=lambda run: run.seconds),
-                               memory=max(run.memory for run in runs))
+                               memory=statistics.median_low(run.memory for run in runs))
 
 
 def measured_in_turn(programs, options, script, times):
