@@ -1,7 +1,7 @@
 //! `lookups [ROUNDS [RUNS [BEFORE]]]`: the instructions and the processor time of a lookup (find, read all words, leave) on a
 //! table of 1,024 frames: of the table, by the program `lookup_times` of this repository, and of the same words in plain Rust,
-//! by this program; where BEFORE is the path of the `lookup_times` of another tree, of that one too. All run as programs of their own, in turn, and the median of the runs counts;
-//! the least that a run with no lookup takes is taken off.
+//! by this program; where BEFORE is the path of the `lookup_times` of another tree, of that one too. All run as programs of
+//! their own, in turn, and the median of the runs counts; the least that a run with no lookup takes is taken off.
 //!
 //! `lookups plain PLACES THREADS ROUNDS` is the plain form alone.
 
