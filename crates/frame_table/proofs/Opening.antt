@@ -6,13 +6,14 @@ use Rattle.std.specs.List.{flat_map}
 use mathlib.Core.Option.{some, some-injective}
 use lib.ListN.{get_elem?}
 use Rattle.atomic_table.specs.Table as table
-use Rattle.frame_core.specs.declared.frame.TheConstants.{FRAME_WORDS}
+use Rattle.ksm_base.specs.declared.page.TheConstants.{PAGE_WORDS}
+use Rattle.frame_core.specs.declared.frame.TheConstants.{LINE_WORDS}
 use Rattle.ksm_base.specs.declared.shape.Shape.{Shape}
 use Rattle.ksm_base.specs.Values.{IsShape, frames_of}
 use Rattle.frame_core.specs.declared.seat.Phase.{Phase}
 use Rattle.frame_core.specs.declared.seat.Phase.TheVariants.{Idle, Spent as spent_phase}
 use Rattle.frame_core.specs.State.{opening, new_frame, place_word}
-use Rattle.frame_core.specs.Words.{words_of, frame_words}
+use Rattle.frame_core.specs.Words.{words_of, words_for, line_of, page_of}
 use Rattle.frame_core.specs.Trace.{History}
 use Rattle.frame_core.proofs.Keeps.{in_replicate}
 use Rattle.frame_core.proofs.Notes.{map_replicate, opening_ledger}
@@ -30,12 +31,15 @@ flat_zeros g w (suc n) a zeros =
     (λ i. zeros i ++ flat_zeros g w n a zeros i) ∙ (replicate-append-replicate w (n * w) 0 ∙ ap (λ (k : ℕ). replicate k 0) e)
 
 -- all words of the opening state are 0
-opening_words : (sh : Shape) → words_of (opening sh) ≡ replicate (frames_of sh * (1 + FRAME_WORDS)) 0
+opening_words : (sh : Shape) → words_of (opening sh) ≡ replicate (words_for (frames_of sh)) 0
 opening_words sh =
     let n : ℕ = frames_of sh in
-    let e : n + n * (FRAME_WORDS) ≡ n * (1 + FRAME_WORDS) = omega arith in
-    (λ i. map_replicate place_word n None i ++ flat_zeros frame_words (FRAME_WORDS) n new_frame refl i)
-    ∙ (replicate-append-replicate n (n * (FRAME_WORDS)) 0 ∙ ap (λ (k : ℕ). replicate k 0) e)
+    let pages : ℕ = n * PAGE_WORDS in
+    let lines : ℕ = n * LINE_WORDS in
+    (λ i. map_replicate place_word n None i ++ (flat_zeros line_of LINE_WORDS n new_frame refl i ++ (replicate LINE_WORDS 0 ++ flat_zeros page_of PAGE_WORDS n new_frame refl i)))
+    ∙ (ap (λ (ws : List ℕ). replicate n 0 ++ (replicate lines 0 ++ ws)) (replicate-append-replicate LINE_WORDS pages 0)
+    ∙ (ap (λ (ws : List ℕ). replicate n 0 ++ ws) (replicate-append-replicate lines (LINE_WORDS + pages) 0)
+    ∙ replicate-append-replicate n (lines + (LINE_WORDS + pages)) 0))
 
 abbrev opened : Shape → History
 opened sh = record { state = opening sh; trace = [] }
@@ -47,7 +51,7 @@ first_tied sh (suc j) v at = subst (Tied sh (opened sh) (tally_of sh.passes 0) (
     (in_replicate sh.passes j (Reader sh Idle []) v (got (replicate sh.passes (Reader sh Idle [])) j v at)) (refl, refl)
 
 -- a table whose words are all 0, with the keeper alone, is in the opening state of the core
-pub may_begin : (sh : Shape) → IsShape sh → Holds sh (table.opening (replicate (frames_of sh * (1 + FRAME_WORDS)) 0) [] (first_view sh))
+pub may_begin : (sh : Shape) → IsShape sh → Holds sh (table.opening (replicate (words_for (frames_of sh)) 0) [] (first_view sh))
 may_begin sh fits = record {
   shape = fits;
   events = [];

@@ -1,9 +1,8 @@
 -- A step of a reader, as its seat sees it, is the core's step of the same name.
-use Rattle.std.proofs.Common.{◌≡◌, ℕ, suc, ◌+◌, ◌-◌, ◌*◌, ◌/◌, ◌%◌, ◌<◌, ◌≤◌, ◌==◌, ◌&&◌, not, Bool, true, false, cond, eqb, nat_le, List, ◌∷◌, replicate, map, set, get_or, slice_get, slice_set, Option, Some, None, option_map, option_and_then, subst, refl, ap, sym, ◌∙◌, arith, eq-eqb, ne_eqb}
-use Rattle.std.proofs.lemmas.List.{length-map, set-get_or, get_or_append_left}
-use Rattle.std.proofs.lemmas.Option.{same_Some, slice_get-map, slice_get_within, get_or_from_slice_get}
+use Rattle.std.proofs.Common.{◌≡◌, ℕ, ◌+◌, ◌-◌, ◌*◌, ◌/◌, ◌%◌, ◌<◌, ◌≤◌, ◌==◌, ◌&&◌, not, Bool, true, false, cond, eqb, nat_le, List, replicate, set, get_or, slice_get, slice_set, Option, Some, None, option_map, option_and_then, subst, refl, ap, sym, ◌∙◌, arith, eq-eqb, ne_eqb}
+use Rattle.std.proofs.lemmas.List.{set-get_or}
+use Rattle.std.proofs.lemmas.Option.{same_Some, slice_get_within, get_or_from_slice_get}
 use Rattle.std.proofs.Math.Nat.{mul-le-mul_right}
-use Rattle.std.specs.List.{flat_map}
 use Rattle.ksm_base.specs.declared.page.TheConstants.{PAGE_WORDS}
 use Rattle.ksm_base.specs.declared.shape.Shape.{Shape}
 use Rattle.ksm_base.specs.Values.{IsShape, frames_of}
@@ -15,14 +14,14 @@ use Rattle.frame_core.specs.declared.seat.Aim.{Aim}
 use Rattle.frame_core.specs.declared.seat.Phase.{Phase}
 use Rattle.frame_core.specs.declared.seat.Phase.TheVariants.{Idle, Placed, Counted, Held}
 use Rattle.frame_core.specs.State.{State, place_word, word_of as packed, count_in, life_in}
-use Rattle.frame_core.specs.Words.{words_of, frame_words, frame_word_at, content_at}
+use Rattle.frame_core.specs.Words.{words_of, frame_word_at, content_at}
 use Rattle.frame_core.specs.ReaderSteps.{reader_step, at_seat, aimed_at, is_alive, is_still, load_place_step, load_frame_step, load_word_step, exchange_step, leave_step}
 use Rattle.frame_core.specs.Rule.{Rule, is_on}
 use Rattle.frame_core.proofs.Fitting.{get_inside, generation_at_most}
 use Rattle.frame_core.proofs.Packed.{count_packed, life_packed}
 use Rattle.frame_core.proofs.Lists.{count_one}
 use Rattle.frame_core.proofs.Ledgers.{reader_ledger}
-use Rattle.frame_core.proofs.Flat.{words_get, words_set}
+use Rattle.frame_core.proofs.Flat.{word_get, word_set, content_get, place_get}
 use Rattle.frame_core.proofs.Moves.AtSeat.{count_at_most}
 use Rattle.frame_table.specs.Seat.{MayRead, word_of, written, seat_after, aim_of, aim_at}
 use Rattle.frame_table.specs.Reading.{tells, NamesFrame}
@@ -82,15 +81,11 @@ module _ (s : State) (rule : Rule s) (q : ℕ) where
       let b : w / 1024 ≡ life.generation = omega arith in
       (omega arith, omega arith)
 
-  pub place_read : (p : ℕ) (place : Option Life) → slice_get s.places p ≡ Some place → get_or (words_of s) p 0 ≡ place_word place
-  place_read p place at = get_or_append_left (map place_word s.places) (flat_map frame_words s.frames) 0 p (omega (arith, length-map s.places place_word, slice_get_within s.places p place at))
-      ∙ get_or_from_slice_get (map place_word s.places) p (place_word place) 0 (slice_get-map place_word s.places p ∙ ap (option_map place_word) at)
-
   loads_place : (p : ℕ) → slice_get s.seats q ≡ Some Idle → p < F → IsReaderStep s q (LoadPlace p) Idle
   loads_place p at below =
       let here = get_inside s.places p (omega (arith, rule.place_count)) in
       seat_only (LoadPlace p) Idle (aimed_at p here.0) (load_place_step s.places p) (place_word here.0) at refl
-      (ap (option_map (λ place. (place_word place, aimed_at p place))) here.1) (place_read p here.0 here.1) refl (aimed p here.0 here.1) (names_frame p here.0 here.1)
+      (ap (option_map (λ place. (place_word place, aimed_at p place))) here.1) (place_get s rule p here.0 here.1) refl (aimed p here.0 here.1) (names_frame p here.0 here.1)
 
   -- the parts of the word of a frame that is there
   parts_there : (f : ℕ) (fr : Frame) → slice_get s.frames f ≡ Some fr
@@ -111,15 +106,13 @@ module _ (s : State) (rule : Rule s) (q : ℕ) where
       let parts = parts_there aim.life.frame fr here.1 in
       seat_only LoadFrame (Placed aim failures) _ (load_frame_step s.frames) (packed fr) at refl
       (ap (option_map (λ fr. (packed fr, cond (is_alive aim.life.generation fr) (Counted aim failures fr.count) Idle))) here.1)
-      (words_get s rule aim.life.frame 0 fr here.1 (omega arith)) refl
+      (word_get s rule aim.life.frame fr here.1) refl
       (λ i. cond (not (parts.0 i == 0) && parts.1 i == aim.life.generation) (Counted aim failures (parts.0 i)) Idle)
       (subst (λ (n : ℕ). n ≤ 1040) parts.0 parts.2, parts.3)
 
   content_read : (f i w : ℕ) (fr : Frame) → slice_get s.frames f ≡ Some fr → slice_get fr.content i ≡ Some w → get_or (words_of s) (content_at F f i) 0 ≡ w
   content_read f i w fr at here =
-      let inside : i < PAGE_WORDS = omega (arith, slice_get_within fr.content i w here, (rule.frames f fr at).content) in
-      let next : 1 + i ≡ suc i = omega arith in
-      words_get s rule f (1 + i) fr at (omega arith) ∙ (ap (λ (j : ℕ). get_or (frame_words fr) j 0) next ∙ get_or_from_slice_get fr.content i w 0 here)
+      content_get s rule f i fr at (omega (arith, slice_get_within fr.content i w here, (rule.frames f fr at).content)) ∙ get_or_from_slice_get fr.content i w 0 here
 
   loads_word : (i : ℕ) (aim : Aim) (known : List (Option ℕ)) → i < PAGE_WORDS → slice_get s.seats q ≡ Some (Held aim known) → IsReaderStep s q (LoadWord i) (Held aim known)
   loads_word i aim known below at =
@@ -133,19 +126,14 @@ module _ (s : State) (rule : Rule s) (q : ℕ) where
 
   -- ---------------------------------------------------------------- steps that change a count
 
-  -- the word of a frame becomes that of another with the same content
-  reworded : (f v : ℕ) (fr next : Frame) → slice_get s.frames f ≡ Some fr → v ≡ packed next → fr.content ≡ next.content
-      → set (words_of s) (frame_word_at F f) v ≡ words_of (record s { frames = slice_set s.frames f next })
-  reworded f v fr next at is same = words_set s rule f 0 v fr next at (omega arith) (λ i. is i ∷ same i)
-
   -- the frames after an exchange that was made, or was not
   abbrev frames_if : Bool → ℕ → Frame → List Frame
   frames_if b f fr = cond b (slice_set s.frames f (record fr { count = fr.count + 1 })) s.frames
 
   words_if : (b : Bool) (f : ℕ) (fr : Frame) → slice_get s.frames f ≡ Some fr
       → set (words_of s) (frame_word_at F f) (cond b (packed fr + 1) (packed fr)) ≡ words_of (record s { frames = frames_if b f fr })
-  words_if true f fr at = reworded f (packed fr + 1) fr (record fr { count = fr.count + 1 }) at (omega arith) refl
-  words_if false f fr at = ap (λ (m : ℕ). set (words_of s) (frame_word_at F f) m) (sym (words_get s rule f 0 fr at (omega arith)))
+  words_if true f fr at = word_set s rule f (packed fr + 1) fr (record fr { count = fr.count + 1 }) at (omega arith) refl
+  words_if false f fr at = ap (λ (m : ℕ). set (words_of s) (frame_word_at F f) m) (sym (word_get s rule f fr at))
       ∙ set-get_or (words_of s) (frame_word_at F f) 0
 
   abbrev build : ℕ × List Frame × Phase → ℕ × State
@@ -169,7 +157,7 @@ module _ (s : State) (rule : Rule s) (q : ℕ) where
         found = packed fr;
         next = (build (tried aim failures count fr)).1;
         steps = made;
-        word = words_get s rule f 0 fr here.1 (omega arith);
+        word = word_get s rule f fr here.1;
         words = words_if (is_still aim.life.generation count fr) f fr here.1;
         shape = refl;
         seats = refl;
@@ -192,8 +180,8 @@ module _ (s : State) (rule : Rule s) (q : ℕ) where
         found = packed fr;
         next = (build (released aim fr)).1;
         steps = made;
-        word = words_get s rule f 0 fr here.1 (omega arith);
-        words = reworded f (packed fr - 1) fr (record fr { count = fr.count - 1 }) here.1 (omega (arith, some)) refl;
+        word = word_get s rule f fr here.1;
+        words = word_set s rule f (packed fr - 1) fr (record fr { count = fr.count - 1 }) here.1 (omega (arith, some)) refl;
         shape = refl;
         seats = refl;
         ledger = reader_ledger s q Leave (build (released aim fr)) made;

@@ -19,7 +19,7 @@ use Rattle.frame_core.specs.Rule.{Rule, MayBeHeld}
 use Rattle.frame_core.specs.Trace.{History, run_of, holders}
 use Rattle.frame_core.specs.Safe.{IsSafe}
 use Rattle.frame_core.proofs.Fitting.{get_inside}
-use Rattle.frame_core.proofs.Flat.{words_get}
+use Rattle.frame_core.proofs.Flat.{word_get}
 use Rattle.frame_core.proofs.Given.{run_given, run_shape}
 use Rattle.frame_core.proofs.Histories.{run_sound}
 use Rattle.frame_core.proofs.Moves.AtSeat.{count_at_most}
@@ -53,7 +53,7 @@ count_is : (h : History) → Rule h.state → IsSafe h → (f : ℕ) → f < fra
 count_is h rule safe f below =
     let fr = get_inside h.state.frames f (omega (arith, rule.frame_count)) in
     let most = count_at_most h.state f fr.0 fr.1 rule in
-    ap count_in (words_get h.state rule f 0 fr.0 fr.1 (omega arith)) ∙ (count_packed fr.0.generation fr.0.count (omega (arith, most))
+    ap count_in (word_get h.state rule f fr.0 fr.1) ∙ (count_packed fr.0.generation fr.0.count (omega (arith, most))
     ∙ (safe.counted f fr.0 fr.1 ∙ ap (λ (n : Note). n.base + length (holders h.state.shape.passes f h.trace)) (sym (note_at h.state f fr.0 fr.1))))
 
 -- how far a seat has come in the core

@@ -22,7 +22,7 @@ use Rattle.frame_core.specs.Trace.{History, run_of}
 use Rattle.frame_core.specs.Rule as core_rule
 use Rattle.frame_core.specs.Rule.{is_on, readers_on}
 use Rattle.frame_core.proofs.Fitting.{get_inside}
-use Rattle.frame_core.proofs.Flat.{words_get}
+use Rattle.frame_core.proofs.Flat.{word_get, place_get}
 use Rattle.frame_core.proofs.Given.{run_shape}
 use Rattle.frame_core.proofs.Histories.{run_sound}
 use Rattle.frame_core.proofs.Lists.{count_set}
@@ -36,7 +36,6 @@ use Rattle.frame_table.specs.Views.{Log, KeeperLog, phase_of, tally_of}
 use Rattle.frame_table.specs.Rule.{Holds, IsAfter, Tied, all_views, is_out}
 use Rattle.frame_table.specs.Seats.{one_more, newcomer, one_less, Ends}
 use Rattle.frame_table.proofs.Looked.{got}
-use Rattle.frame_table.proofs.ReaderHalf.{place_read}
 use Rattle.frame_table.proofs.ReaderMay.{St, all_set, out_same}
 use Rattle.frame_table.proofs.KeeperMay.{seen, keeper_changes}
 
@@ -159,12 +158,12 @@ module _ (sh : Shape) (k : Ledger) (tally : Tally) (log : KeeperLog) where
       record {
         counts = λ f inside. let fr = there f inside in let c = (rule.frames f fr.0 fr.1).counted in let same : fr.0.count ≡ fr.0.base =
             omega (arith, c, free f) in
-            ap count_in (words_get s rule f 0 fr.0 fr.1 (omega arith))
+            ap count_in (word_get s rule f fr.0 fr.1)
             ∙ (count_packed fr.0.generation fr.0.count (low f fr.0 fr.1) ∙ (same ∙ ap (λ (n : Note). n.base) (sym (note_at s f fr.0 fr.1))));
         generations = λ f inside. let fr = there f inside in
-            ap life_in (words_get s rule f 0 fr.0 fr.1 (omega arith))
+            ap life_in (word_get s rule f fr.0 fr.1)
             ∙ (life_packed fr.0.generation fr.0.count (low f fr.0 fr.1) ∙ ap (λ (n : Note). n.generation) (sym (note_at s f fr.0 fr.1)));
-        places = λ p inside. let o = place p inside in place_read s rule 0 p o.0 o.1 ∙ ap place_word (sym (get_or_from_slice_get s.places p o.0 None o.1));
+        places = λ p inside. let o = place p inside in place_get s rule p o.0 o.1 ∙ ap place_word (sym (get_or_from_slice_get s.places p o.0 None o.1));
       }
 
   pub ends : (id : ℕ) (ws : List ℕ) (xs : List (Unit {0})) → tally.unmade ≡ 0 → tally.out ≡ 0 → Final (Seen (Holds sh) id keeper) ws xs → Ends k record { shape = sh; words = ws }

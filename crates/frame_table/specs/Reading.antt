@@ -10,7 +10,6 @@ use Rattle.frame_core.specs.declared.seat.Aim.{Aim}
 use Rattle.frame_core.specs.declared.seat.Phase.{Phase}
 use Rattle.frame_core.specs.declared.seat.Phase.TheVariants.{Held}
 use Rattle.frame_core.specs.State.{life_at, count_in}
-use Rattle.frame_core.specs.Words.{frame_word_at}
 use Rattle.frame_table.specs.declared.view.View.{View}
 use Rattle.frame_table.specs.declared.view.View.TheVariants.{Reader}
 use Rattle.frame_table.specs.Seat.{seat_after, word_of}
@@ -25,9 +24,9 @@ reader_after e v n = v
 abbrev pub Steps : ReaderStep → Sat → ℕ → Sat → Type 0
 Steps e m n m' = m' ≡ (reader_after e m.0 n, m.1)
 
--- the seat has a reference on the frame whose frame word is the table's word of this index
-abbrev pub IsHolder : Shape → ℕ → Sat → Type 0
-IsHolder sh word m = (aim : Aim) × (known : List (Option ℕ)) × (frame_word_at (frames_of sh) aim.life.frame ≡ word) × IsIn sh (Held aim known) m
+-- the seat has a reference on the frame whose frame word, or whose page, stands there
+abbrev pub IsHolder : Shape → (ℕ → ℕ → ℕ) → ℕ → Sat → Type 0
+IsHolder sh stands_at there m = (aim : Aim) × (known : List (Option ℕ)) × (stands_at (frames_of sh) aim.life.frame ≡ there) × IsIn sh (Held aim known) m
 
 -- the word of a place is that of none, or names a frame and a life of it
 abbrev pub NamesFrame : Shape → ℕ → Type 0

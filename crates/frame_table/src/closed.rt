@@ -11,7 +11,7 @@ use crate::pass::Pass;
 use crate::table::FrameTable;
 use crate::view::View;
 use atomic_table::{Closed, Join, Seat};
-use frame_core::{FRAME_WORDS, FrameWord};
+use frame_core::{FrameWord, LINE_WORDS};
 use ksm_base::Shape;
 use std::alloc::Global;
 use std::marker::Model;
@@ -34,9 +34,9 @@ pub struct ClosedTable {
 }
 
 impl Model for ClosedTable {
-    ghost use Rattle.std.specs.Prelude.{◌≡◌, ◌+◌, ◌*◌};
+    ghost use Rattle.std.specs.Prelude.{◌≡◌};
     ghost use Rattle.std.specs.Mem.Slots.{slots_items, slots_len, IsFull};
-    ghost use Rattle.frame_core.specs.declared.frame.TheConstants.{FRAME_WORDS as words_of_frame};
+    ghost use Rattle.frame_core.specs.Words.{words_for};
     ghost use Rattle.ksm_base.specs.Values.{IsShape, frames_of};
     ghost use Rattle.frame_table.specs.Named.{ClosedView};
 
@@ -44,7 +44,7 @@ impl Model for ClosedTable {
 
     ghost view = { λ c. record { shape = c.shape; words = slots_items c.closed.words } };
 
-    ghost invariant = { λ c. (slots_len c.closed.words ≡ frames_of c.shape * (1 + words_of_frame)) × IsFull c.closed.words × (slots_len c.closed.slots ≡ 0) × IsShape c.shape };
+    ghost invariant = { λ c. (slots_len c.closed.words ≡ words_for (frames_of c.shape)) × IsFull c.closed.words × (slots_len c.closed.slots ≡ 0) × IsShape c.shape };
 }
 
 impl Drop for ClosedTable {
@@ -59,7 +59,8 @@ impl ClosedTable {
         requires { frame < frames_of self.now.shape }
         ensures { result ≡ slice_index self.now.words (frame_word_at (frames_of self.now.shape) frame) }
     {
-        self.closed.word(self.shape.frames() as usize + frame as usize * FRAME_WORDS)
+        self.closed
+            .word(self.shape.frames() as usize + frame as usize * LINE_WORDS)
     }
 
     /// References on a frame.

@@ -15,17 +15,18 @@ pub struct Held {
     pub(crate) seat: Seat<(), View>,
     pub(crate) place: u32,
     pub(crate) frame: u32,
-    // The index of the frame word, which each read and the leave want.
+    // Where the frame word stands, for the leave, and where the page begins, for each read.
     pub(crate) word: usize,
+    pub(crate) page: usize,
     pub(crate) generation: u64,
 }
 
 impl Model for Held {
-    ghost use Rattle.std.specs.Prelude.{◌≡◌, ◌+◌, ◌<◌, length};
+    ghost use Rattle.std.specs.Prelude.{◌≡◌, ◌+◌, ◌<◌, ◌≤◌, length};
     ghost use Rattle.ksm_base.specs.declared.page.TheConstants.{PAGE_WORDS as words_of_page};
     ghost use Rattle.ksm_base.specs.Values.{frames_of};
     ghost use Rattle.frame_core.specs.declared.seat.Phase.TheVariants.{Held as held};
-    ghost use Rattle.frame_core.specs.Words.{frame_word_at};
+    ghost use Rattle.frame_core.specs.Words.{frame_word_at, page_at};
     ghost use Rattle.frame_table.specs.Named.{HeldView};
     ghost use Rattle.frame_table.specs.Seat.{aim_at};
     ghost use Rattle.frame_table.specs.Views.{IsIn, log_in, shape_in, known_in};
@@ -34,7 +35,7 @@ impl Model for Held {
 
     ghost view = { λ h. record { table = record { id = h.seat.table_id; shape = shape_in h.seat.me }; log = log_in h.seat.me; place = h.place; frame = h.frame; generation = h.generation; known = known_in h.seat.me } };
 
-    ghost invariant = { λ h. IsIn (shape_in h.seat.me) (held (aim_at h.place h.frame h.generation) (known_in h.seat.me)) h.seat.me × (h.frame < frames_of (shape_in h.seat.me)) × (length (known_in h.seat.me) ≡ words_of_page) × (h.word ≡ frame_word_at (frames_of (shape_in h.seat.me)) h.frame) × (h.word + words_of_page < h.seat.table_id.words) };
+    ghost invariant = { λ h. IsIn (shape_in h.seat.me) (held (aim_at h.place h.frame h.generation) (known_in h.seat.me)) h.seat.me × (h.frame < frames_of (shape_in h.seat.me)) × (length (known_in h.seat.me) ≡ words_of_page) × (h.word ≡ frame_word_at (frames_of (shape_in h.seat.me)) h.frame) × (h.word < h.seat.table_id.words) × (h.page ≡ page_at (frames_of (shape_in h.seat.me)) h.frame) × (h.page + words_of_page ≤ h.seat.table_id.words) };
 }
 
 impl Held {
@@ -65,8 +66,8 @@ impl Held {
         requires inside { i < words_of_page }
         ensures { ReadsWord self.old i result self.new }
     {
-        let word = self.word;
-        table.load_word(&mut self.seat, word, i)
+        let page = self.page;
+        table.load_word(&mut self.seat, page, i)
     }
 
     /// Gives the reference back.
@@ -79,6 +80,7 @@ impl Held {
             place: _,
             frame: _,
             word,
+            page: _,
             generation: _,
         } = self;
         table.give_back(&mut seat, word);

@@ -7,10 +7,10 @@ ghost use Rattle.frame_table.specs.Seats.{Opened, new_pass};
 
 use crate::keeper::Keeper;
 use crate::pass::Pass;
-use crate::table::FrameTable;
+use crate::table::{FrameTable, word_count};
 use crate::view::View;
 use atomic_table::{Seat, Split, Table};
-use frame_core::{FRAME_WORDS, Kind, Note};
+use frame_core::{Kind, Note};
 use ksm_base::{Fault, PAGE_WORDS, Shape};
 use std::alloc::Global;
 
@@ -53,7 +53,7 @@ impl FrameTable {
             generation: 0,
             content: [0; PAGE_WORDS],
         };
-        let words = vec![in alloc; 0u64; count * (1 + FRAME_WORDS)]?;
+        let words = vec![in alloc; 0u64; word_count(count)]?;
         let frames = vec![in alloc; blank; count]?;
         let mut passes = Vec::with_capacity(alloc, shape.passes as usize)?;
         let Ok((table, mut seat)) = Table::of_words(alloc, words.as_slice(), &shape) else {

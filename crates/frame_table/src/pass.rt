@@ -1,5 +1,4 @@
-ghost use Rattle.std.specs.Prelude.{◌≡◌, ℕ, ◌+◌, ◌<◌};
-ghost use Rattle.ksm_base.specs.declared.page.TheConstants.{PAGE_WORDS as words_of_page};
+ghost use Rattle.std.specs.Prelude.{◌≡◌, ℕ, ◌<◌};
 ghost use Rattle.ksm_base.specs.Values.{frames_of};
 ghost use Rattle.frame_core.specs.declared.seat.Aim.{Aim};
 ghost use Rattle.frame_core.specs.declared.seat.Phase.TheVariants.{Placed};
@@ -79,7 +78,7 @@ enum Round {
 
 fn try_round(table: &FrameTable, seat: &mut Seat<(), View>, life: Life, word: usize) -> Round
     requires own { seat.old.table_id ≡ table.now.id }
-    requires inside { word + words_of_page < table.now.id.words }
+    requires inside { word < table.now.id.words }
     requires at { word ≡ frame_word_at (frames_of table.now.shape) life.frame }
     requires phase { (aim : Aim) × (failures : ℕ) × (aim.life ≡ life) × IsIn table.now.shape (Placed aim failures) seat.old.me }
     ensures seat { (seat.new.table_id ≡ seat.old.table_id) × (seat.new.id ≡ seat.old.id) }
@@ -125,6 +124,7 @@ impl Pass {
                         place,
                         frame: life.frame,
                         word,
+                        page: table.page(life.frame),
                         generation: life.generation,
                     });
                 }

@@ -1,15 +1,22 @@
-ghost use Rattle.std.specs.Prelude.{◌≡◌, ◌+◌, ◌*◌, ◌<◌, ◌≤◌};
+ghost use Rattle.std.specs.Prelude.{◌≡◌, ◌+◌, ◌^◌, ◌<◌, ◌≤◌};
 ghost use Rattle.ksm_base.specs.declared.page.TheConstants.{PAGE_WORDS as words_of_page};
 ghost use Rattle.ksm_base.specs.Values.{frames_of};
-ghost use Rattle.frame_core.specs.declared.frame.TheConstants.{FRAME_WORDS as words_of_frame};
-ghost use Rattle.frame_core.specs.Words.{frame_word_at, content_at};
+ghost use Rattle.frame_core.specs.Words.{frame_word_at, page_at, content_at, words_for};
 
 use crate::view::{FrameRule, View};
 use atomic_table::Table;
-use frame_core::FRAME_WORDS;
-use ksm_base::Shape;
+use frame_core::LINE_WORDS;
+use ksm_base::{PAGE_WORDS, Shape};
 use std::alloc::Global;
 use std::marker::Model;
+
+// How many words a table of so many places has.
+pub(crate) fn word_count(places: usize) -> usize
+    requires { places ≤ 1024 }
+    ensures { result ≡ words_for places }
+{
+    places + (places + 1) * LINE_WORDS + places * PAGE_WORDS
+}
 
 /// The table, which threads share by reference. Contracts see which one it is, and its shape.
 #[derive(Drop)]
@@ -21,8 +28,8 @@ pub struct FrameTable {
 }
 
 impl Model for FrameTable {
-    ghost use Rattle.std.specs.Prelude.{◌≡◌, ◌+◌, ◌*◌, ◌≤◌};
-    ghost use Rattle.frame_core.specs.declared.frame.TheConstants.{FRAME_WORDS as words_of_frame};
+    ghost use Rattle.std.specs.Prelude.{◌≡◌, ◌≤◌};
+    ghost use Rattle.frame_core.specs.Words.{words_for};
     ghost use Rattle.ksm_base.specs.Values.{IsShape, frames_of};
     ghost use Rattle.frame_table.specs.Named.{TableName};
 
@@ -30,7 +37,7 @@ impl Model for FrameTable {
 
     ghost view = { λ t. record { id = t.table.shared.table_id; shape = t.shape } };
 
-    ghost invariant = { λ t. (t.table.shared.key ≡ t.shape) × (t.table.shared.table_id.words ≡ frames_of t.shape * (1 + words_of_frame)) × (t.table.shared.table_id.slots ≡ 0) × IsShape t.shape × (t.places ≡ frames_of t.shape) × (t.places ≤ 1024) };
+    ghost invariant = { λ t. (t.table.shared.key ≡ t.shape) × (t.table.shared.table_id.words ≡ words_for (frames_of t.shape)) × (t.table.shared.table_id.slots ≡ 0) × IsShape t.shape × (t.places ≡ frames_of t.shape) × (t.places ≤ 1024) };
 }
 
 impl FrameTable {
@@ -47,14 +54,24 @@ impl FrameTable {
         self.shape.tries
     }
 
-    // Where the words of a frame begin, its frame word first: the words of the places come before all of them.
+    // Where the word of a frame stands: the words of the places come before the lines of the frames.
     pub(crate) fn frame_word(&self, frame: u32) -> usize
         requires inside { frame < frames_of self.now.shape }
         ensures at { result ≡ frame_word_at (frames_of self.now.shape) frame }
-        ensures within { result + words_of_page < self.now.id.words }
-        ensures small { result ≤ 1024 * (1 + words_of_frame) }
+        ensures within { result < self.now.id.words }
     {
-        self.places as usize + frame as usize * FRAME_WORDS
+        self.places as usize + frame as usize * LINE_WORDS
+    }
+
+    // Where the page of a frame begins, behind the lines of all frames and one that is unused.
+    pub(crate) fn page(&self, frame: u32) -> usize
+        requires inside { frame < frames_of self.now.shape }
+        ensures at { result ≡ page_at (frames_of self.now.shape) frame }
+        ensures within { result + words_of_page ≤ self.now.id.words }
+        ensures small { result < 2 ^ 32 }
+    {
+        let places = self.places as usize;
+        places + (places + 1) * LINE_WORDS + frame as usize * PAGE_WORDS
     }
 
     pub(crate) fn content_word(&self, frame: u32, i: usize) -> usize
@@ -62,6 +79,6 @@ impl FrameTable {
         ensures at { result ≡ content_at (frames_of self.now.shape) frame i }
         ensures within { result < self.now.id.words }
     {
-        self.frame_word(frame) + 1 + i
+        self.page(frame) + i
     }
 }

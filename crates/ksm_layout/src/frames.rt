@@ -78,7 +78,7 @@ pub fn load(keeper: &mut FrameKeeper, table: &FrameTable, frame: u32) -> PageByt
     bytes
 }
 
-// A hint alone: the bytes are not copied on their way to the frame.
+// A hint alone: with it, fewer instructions were counted.
 
 /// A frame of the node with these bytes, in the hand of the caller, if one is free once the dying ones were reaped.
 #[inline(always)]

@@ -123,7 +123,7 @@ pub fn guest(left: Option<&[u8]>) -> Result<(u16, Option<&[u8]>), LineFault>
     }
 }
 
-// A hint alone, as at `content_alone`: most lines have a page.
+// A hint alone, as at `content_alone`.
 
 /// The next two words as a page.
 #[inline(always)]
@@ -232,7 +232,7 @@ fn content_in(word: &[u8]) -> Result<PageBytes, LineFault>
     Ok(page_of(word))
 }
 
-// A hint alone: the bytes are not copied on their way to the line.
+// A hint alone: with it, fewer instructions were counted.
 
 /// The last word as the content of a page.
 #[inline(always)]

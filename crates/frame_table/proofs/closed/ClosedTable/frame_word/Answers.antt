@@ -1,7 +1,7 @@
 use Rattle.std.proofs.Common.{◌≡◌, ℕ, ◌+◌, ◌*◌, get_or, ap, ◌∙◌, arith}
 use Rattle.std.specs.Mem.Slots.{slots_items}
 use Rattle.ksm_base.specs.Values.{frames_of}
-use Rattle.frame_core.specs.declared.frame.TheConstants.{FRAME_WORDS}
+use Rattle.frame_core.specs.declared.frame.TheConstants.{LINE_WORDS}
 use Rattle.frame_core.specs.Words.{frame_word_at}
 use Rattle.frame_table.specs.Named.{ClosedView}
 use Rattle.frame_table.proofs.Looked.{found_at}
@@ -10,7 +10,7 @@ use Rattle.frame_table.proofs.closed.ClosedTable.frame_word.Goals as goal
 pub returns : goal.returns
 returns c =
     let words = slots_items c.self.inside.closed.words in
-    let at : c.frames.result + c.args.frame * FRAME_WORDS ≡ frame_word_at (frames_of c.self.inside.shape) c.args.frame =
+    let at : c.frames.result + c.args.frame * LINE_WORDS ≡ frame_word_at (frames_of c.self.inside.shape) c.args.frame =
     omega (arith, c.frames.ensures.count) in
     found_at words _ c.word.result c.word.ensures
     ∙ (ap (λ (i : ℕ). get_or words i 0) at ∙ ap (λ (v : ClosedView). get_or v.words (frame_word_at (frames_of v.shape) c.args.frame) 0) c.self.view_is)

@@ -1,4 +1,4 @@
-use Rattle.std.proofs.Common.{rules, arith, ap}
+use Rattle.std.proofs.Common.{rules, ℕ, ◌+◌, arith, ap, sym}
 use Rattle.frame_table.specs.Reading.{loads_word}
 use Rattle.frame_table.proofs.Allowed.{turned, MayLoad}
 use Rattle.frame_table.proofs.ReaderCalls.{may_load_word}
@@ -8,4 +8,4 @@ pub load-requires : goal.load-requires
 load-requires c =
     let at = c.requires.phase in
     let may = may_load_word _ _ _ _ at.0 at.1 c.args.i c.requires.inside.1 in
-    (search rules, omega (arith, c.requires.inside.0, c.requires.inside.1, ap (λ n. n.id.words) c.self.view_is), turned (MayLoad loads_word _ _) _ _ _ _ _ _ (search rules) (omega (arith, at.2)) at.3 may)
+    (search rules, omega (arith, c.requires.inside.0, c.requires.inside.1, ap (λ n. n.id.words) c.self.view_is), turned (MayLoad loads_word _ _) _ _ _ _ _ _ (search rules) (ap (λ (page : ℕ). page + c.args.i) (sym at.2)) at.3 may)

@@ -1,5 +1,5 @@
-use Rattle.std.proofs.Common.{rules, ◌≡◌, ℕ, ◌+◌, ◌*◌, List, [], replicate, sym, subst}
-use Rattle.frame_core.specs.declared.frame.TheConstants.{FRAME_WORDS}
+use Rattle.std.proofs.Common.{rules, ◌≡◌, ℕ, List, [], replicate, sym, subst}
+use Rattle.frame_core.specs.Words.{words_for}
 use Rattle.ksm_base.specs.Values.{frames_of}
 use Rattle.atomic_table.specs.Table.{opening}
 use Rattle.frame_table.specs.Rule.{Holds, first_view}
@@ -8,5 +8,5 @@ use Rattle.frame_table.proofs.table.FrameTable.open.Goals as goal
 
 pub of_words-requires : goal.of_words-requires
 of_words-requires c =
-    let zeros : c.as_slice.result.now ≡ replicate (frames_of c.args.shape * (1 + FRAME_WORDS)) 0 = search rules in
+    let zeros : c.as_slice.result.now ≡ replicate (words_for (frames_of c.args.shape)) 0 = search rules in
     subst (λ (ws : List ℕ). Holds c.args.shape (opening ws [] (first_view c.args.shape))) (sym zeros) (may_begin c.args.shape c.requires)
