@@ -54,7 +54,7 @@ pub enum LineReply {
     BadLine(u64),
 }
 
-// A hint alone: most replies are of one kind.
+// A hint alone: with it, fewer instructions were counted.
 
 /// Writes the line of a reply, its newline included.
 ///
