@@ -1,13 +1,15 @@
 //! `lookups [ROUNDS [RUNS [BEFORE]]]`: the instructions and the processor time of a lookup (find, read all words, leave) on a
 //! table of 1,024 frames: of the table, by the program `lookup_times` of this repository, and of the same words in plain Rust,
-//! by this program; where BEFORE is the path of the `lookup_times` of another tree, of that one too. All run as programs of
-//! their own, in turn, and the median of the runs counts; the least that a run with no lookup takes is taken off.
+//! by this program, one behind another and, as `lined`, where the table has them; where BEFORE is the path of the `lookup_times` of another tree, of that one too. All run as programs of
+//! their own, in turn, and the median of the runs counts; the least that a run with no lookup takes is taken off. A run whose
+//! threads were not on processors at once is made again, up to eight times; at the end it is said how many counted all the same.
 //!
-//! `lookups plain PLACES THREADS ROUNDS` is the plain form alone.
+//! `lookups plain PLACES THREADS ROUNDS` and `lookups lined PLACES THREADS ROUNDS` are the plain forms alone.
 
 mod plain;
 
 use std::process::{Command, Output};
+use std::time::Instant;
 
 include!(concat!(env!("OUT_DIR"), "/page_words.rs"));
 
@@ -38,35 +40,62 @@ fn children() -> f64 {
     nanoseconds(usage.user) + nanoseconds(usage.system)
 }
 
-/// What a program prints, and the processor time that it took.
-fn run(program: &str, first: &[&str], places: &str, threads: usize, rounds: u64) -> (String, f64) {
-    let before = children();
+/// A run of a program: what it printed, its nanoseconds on processors, and how many of its threads were on one at once.
+struct Run {
+    told: String,
+    processor: f64,
+    at_once: f64,
+}
+
+fn run(program: &str, first: &[&str], places: &str, threads: usize, rounds: u64) -> Run {
+    let (before, start) = (children(), Instant::now());
     let Output { stdout, status, .. } = Command::new(program)
         .args(first)
         .args([places, &threads.to_string(), &rounds.to_string()])
         .output()
         .unwrap_or_else(|error| panic!("{program}: {error}; build it by `rt run` in crates/lookup_times"));
     assert!(status.success(), "{program}: {status}");
-    (String::from_utf8(stdout).unwrap(), children() - before)
+    let processor = children() - before;
+    let at_once = processor / start.elapsed().as_nanos() as f64;
+    Run { told: String::from_utf8(stdout).unwrap(), processor, at_once }
+}
+
+/// A run whose threads were on processors at once, or the last of eight that were not, and whether they were.
+fn run_at_once(program: &str, first: &[&str], places: &str, threads: usize, rounds: u64) -> (Run, bool) {
+    const PART: f64 = 0.9;
+    let mut tries = 1;
+    loop {
+        let run = run(program, first, places, threads, rounds);
+        let is_at_once = run.at_once >= PART * threads as f64;
+        if is_at_once || tries == 8 {
+            return (run, is_at_once);
+        }
+        tries += 1;
+    }
 }
 
 fn measure(rounds: u64, runs: usize, other: Option<&str>) {
     let this = std::env::current_exe().unwrap();
     let mut subjects = vec![
         ("plain", this.to_str().unwrap(), &["plain"][..]),
+        ("lined", this.to_str().unwrap(), &["lined"][..]),
         ("table", TABLE, &[][..]),
     ];
     subjects.extend(other.map(|path| ("before", path, &[][..])));
     println!("a lookup, {PAGE_WORDS} words: instructions counted, and processor ns,");
     println!("the median of {runs} runs of {rounds} lookups a thread");
+    let mut apart = 0;
     for places in ["hot", "spread"] {
         print!("{places:6} 1 thread:  instructions");
         show(&subjects, &counted(&subjects, places));
         for threads in 1..=4 {
             print!("{places:6} {threads} threads: ns          ");
-            show(&subjects, &median_times(&subjects, places, threads, rounds, runs));
+            let (times, others) = median_times(&subjects, places, threads, rounds, runs);
+            apart += others;
+            show(&subjects, &times);
         }
     }
+    println!("in {apart} of {} runs the threads were not on processors at once", 8 * runs * subjects.len());
 }
 
 /// What each program took, and its share of what the first one took.
@@ -99,23 +128,32 @@ fn counted(subjects: &[(&str, &str, &[&str])], places: &str) -> Vec<f64> {
 }
 
 /// The processor time of a lookup of each program, in nanoseconds: what a run took in the median, without the least that a run with no
-/// lookup took. Threads that look one place up wait for each other, more in one run than in the next, so the least of several runs says
-/// how seldom they met. All must print the same sum.
-fn median_times(subjects: &[(&str, &str, &[&str])], places: &str, threads: usize, rounds: u64, runs: usize) -> Vec<f64> {
+/// lookup took; and in how many runs the threads were not on processors at once. Threads that look one place up wait for each other, more
+/// in one run than in the next, so the least of several runs says how seldom they met. All must print the same sum.
+fn median_times(
+    subjects: &[(&str, &str, &[&str])],
+    places: &str,
+    threads: usize,
+    rounds: u64,
+    runs: usize,
+) -> (Vec<f64>, usize) {
     let mut idle = vec![f64::INFINITY; subjects.len()];
     let mut busy = vec![Vec::new(); subjects.len()];
+    let mut apart = 0;
     for _ in 0..runs {
         let mut sums = Vec::new();
         for (at, (_, program, first)) in subjects.iter().enumerate() {
-            idle[at] = idle[at].min(run(program, first, places, threads, 0).1);
-            let (sum, time) = run(program, first, places, threads, rounds);
-            busy[at].push(time);
-            sums.push(sum);
+            idle[at] = idle[at].min(run(program, first, places, threads, 0).processor);
+            let (run, is_at_once) = run_at_once(program, first, places, threads, rounds);
+            apart += usize::from(!is_at_once);
+            busy[at].push(run.processor);
+            sums.push(run.told);
         }
         assert!(sums.iter().all(|sum| *sum == sums[0]), "the words read");
     }
     let lookups = (threads as u64 * rounds) as f64;
-    busy.iter_mut().zip(&idle).map(|(busy, idle)| (median(busy) - idle) / lookups).collect()
+    let times = busy.iter_mut().zip(&idle).map(|(busy, idle)| (median(busy) - idle) / lookups);
+    (times.collect(), apart)
 }
 
 /// The time in the middle, once they are in order.
@@ -127,10 +165,15 @@ fn median(times: &mut [f64]) -> f64 {
 fn main() {
     let words: Vec<String> = std::env::args().skip(1).collect();
     let number = |at: usize| words.get(at).map(|word| word.parse().expect("a number"));
-    if words.first().is_some_and(|word| word == "plain") {
+    let form = match words.first().map(String::as_str) {
+        Some("plain") => Some(plain::run::<PAGE_WORDS, 1> as fn(bool, usize, u64) -> u64),
+        Some("lined") => Some(plain::run::<PAGE_WORDS, 8> as fn(bool, usize, u64) -> u64),
+        _ => None,
+    };
+    if let Some(form) = form {
         let threads = number(2).unwrap_or(1) as usize;
         let spread = words.get(1).is_none_or(|word| word != "hot");
-        println!("{}", plain::run::<PAGE_WORDS>(spread, threads, number(3).unwrap_or(1)));
+        println!("{}", form(spread, threads, number(3).unwrap_or(1)));
     } else {
         let runs = number(1).unwrap_or(15) as usize;
         measure(number(0).unwrap_or(1_000_000), runs, words.get(2).map(String::as_str));

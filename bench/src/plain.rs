@@ -1,5 +1,6 @@
-//! The lookup over the same words in plain Rust: the words of the places, then for each frame its frame word, generation and count in
-//! one, and its content.
+//! The lookup over the same words in plain Rust, in one block: those of the places, those of the frames, generation and count in one, then
+//! the contents. From one frame word to the next there are `LINE` words, and as many between the last of them and the contents: 1 where
+//! all lie one behind another, 8 where they lie as those of the table.
 //! Nothing is proved of it. All accesses are sequentially consistent, as those of the table.
 
 use std::sync::atomic::AtomicU64;
@@ -8,17 +9,18 @@ use std::thread;
 
 const FRAMES: usize = 1024;
 const TRIES: u32 = 64;
+/// From one place to the next, where lookups are spread.
 const STRIDE: usize = 619;
 /// What a frame word grows by with each life.
 const ONE_LIFE: u64 = 65536;
 
 /// A table whose every place names the frame of its number, in its first life.
-struct Table<const W: usize>(Vec<AtomicU64>);
+struct Table<const W: usize, const LINE: usize>(Vec<AtomicU64>);
 
-impl<const W: usize> Table<W> {
+impl<const W: usize, const LINE: usize> Table<W, LINE> {
     fn published() -> Self {
-        let words = (0..FRAMES * (2 + W)).map(|_| AtomicU64::new(0)).collect();
-        let table = Table(words);
+        let words = FRAMES + (FRAMES + 1) * LINE + FRAMES * W;
+        let table = Table((0..words).map(|_| AtomicU64::new(0)).collect());
         for frame in 0..FRAMES {
             for i in 0..W {
                 table
@@ -32,11 +34,11 @@ impl<const W: usize> Table<W> {
     }
 
     fn frame_word(&self, frame: usize) -> &AtomicU64 {
-        &self.0[FRAMES + frame * (1 + W)]
+        &self.0[FRAMES + frame * LINE]
     }
 
     fn content(&self, frame: usize, i: usize) -> &AtomicU64 {
-        &self.0[FRAMES + frame * (1 + W) + 1 + i]
+        &self.0[FRAMES + (FRAMES + 1) * LINE + frame * W + i]
     }
 
     /// The frame that a place names, held from now on.
@@ -80,25 +82,47 @@ impl<const W: usize> Table<W> {
     }
 }
 
-/// The sum of all words read, by so many threads of so many lookups each.
-pub fn run<const W: usize>(spread: bool, threads: usize, rounds: u64) -> u64 {
-    let table = &Table::<W>::published();
+/// The lookups of one thread, and the sum of all words that they read.
+struct Worker {
+    place: usize,
+    step: usize,
+    rounds: u64,
+    sum: u64,
+}
+
+impl Worker {
+    fn work<const W: usize, const LINE: usize>(&mut self, table: &Table<W, LINE>) {
+        let (mut place, mut sum) = (self.place, 0u64);
+        for _ in 0..self.rounds {
+            sum = sum.wrapping_add(table.look(place));
+            place = (place + self.step) % FRAMES;
+        }
+        self.sum = sum;
+    }
+}
+
+/// Lets each work at once: a thread more for the back half, and so on in each half, as the program of the table does.
+fn work_all<const W: usize, const LINE: usize>(table: &Table<W, LINE>, workers: &mut [Worker]) {
+    if let [worker] = workers {
+        return worker.work(table);
+    }
+    let (front, back) = workers.split_at_mut(workers.len() / 2);
     thread::scope(|scope| {
-        let work = |thread: usize| {
-            let (mut place, step) = if spread { (256 * thread, STRIDE) } else { (0, 0) };
-            let mut sum = 0u64;
-            for _ in 0..rounds {
-                sum = sum.wrapping_add(table.look(place));
-                place = (place + step) % FRAMES;
-            }
-            sum
-        };
-        let workers: Vec<_> = (0..threads)
-            .map(|thread| scope.spawn(move || work(thread)))
-            .collect();
-        workers
-            .into_iter()
-            .map(|worker| worker.join().unwrap())
-            .fold(0, u64::wrapping_add)
-    })
+        scope.spawn(|| work_all(table, back));
+        work_all(table, front);
+    });
+}
+
+/// The sum of all words read, by so many threads, four at most, of so many lookups each.
+pub fn run<const W: usize, const LINE: usize>(spread: bool, threads: usize, rounds: u64) -> u64 {
+    let table = Table::<W, LINE>::published();
+    let worker = |number: usize| Worker {
+        place: if spread { 256 * number } else { 0 },
+        step: if spread { STRIDE } else { 0 },
+        rounds: if number < threads { rounds } else { 0 },
+        sum: 0,
+    };
+    let mut workers = [0, 1, 2, 3].map(worker);
+    work_all(&table, &mut workers);
+    workers.iter().fold(0, |sum, worker| sum.wrapping_add(worker.sum))
 }
