@@ -1,8 +1,9 @@
 //! `lookups [ROUNDS [RUNS [BEFORE]]]`: the instructions and the processor time of a lookup (find, read all words, leave) on a
 //! table of 1,024 frames: of the table, by the program `lookup_times` of this repository, and of the same words in plain Rust,
-//! by this program, one behind another and, as `lined`, where the table has them; where BEFORE is the path of the `lookup_times` of another tree, of that one too. All run as programs of
-//! their own, in turn, and the median of the runs counts; the least that a run with no lookup takes is taken off. A run whose
-//! threads were not on processors at once is made again, up to eight times; at the end it is said how many counted all the same.
+//! by this program, one behind another and, as `lined`, where the table has them; where BEFORE is the path of the
+//! `lookup_times` of another tree, of that one too. All run as programs of their own, in turn, and the median of the runs
+//! counts; the least that a run with no lookup takes is taken off. A run whose threads were not on processors at once is made
+//! again, up to eight times; at the end it is said how many counted all the same.
 //!
 //! `lookups plain PLACES THREADS ROUNDS` and `lookups lined PLACES THREADS ROUNDS` are the plain forms alone.
 
