@@ -101,15 +101,15 @@ impl Worker {
     }
 }
 
-/// Lets each work at once: a thread more for the back half, and so on in each half, as the program of the table does.
+/// Lets each work at once: a thread more for the front half, and so on in each half, as `for_each_mut` of the table's program does.
 fn work_all<const W: usize, const LINE: usize>(table: &Table<W, LINE>, workers: &mut [Worker]) {
     if let [worker] = workers {
         return worker.work(table);
     }
     let (front, back) = workers.split_at_mut(workers.len() / 2);
     thread::scope(|scope| {
-        scope.spawn(|| work_all(table, back));
-        work_all(table, front);
+        scope.spawn(|| work_all(table, front));
+        work_all(table, back);
     });
 }
 

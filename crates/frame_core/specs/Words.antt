@@ -6,18 +6,18 @@ use Rattle.frame_core.specs.declared.frame.TheConstants.{LINE_WORDS}
 use Rattle.frame_core.specs.declared.frame.Frame.{Frame}
 use Rattle.frame_core.specs.State.{State, place_word, word_of}
 
--- a frame word begins a line; nobody uses the rest of it, so that no thread waits where another counts itself on another frame, or reads a page
+-- a frame word begins eight words of which nobody uses the others, so it shares a line of the cache with no other frame word and no page; that of frame 0 may share one with the last places
 abbrev pub line_of : Frame → List ℕ
 line_of fr = word_of fr ∷ replicate (LINE_WORDS - 1) 0
 
 abbrev pub page_of : Frame → List ℕ
 page_of fr = fr.content
 
--- an unused line parts the lines of the frames from their pages
+-- eight unused words part those of the frames from their pages
 abbrev pub pages_of : List Frame → List ℕ
 pages_of frames = replicate LINE_WORDS 0 ++ flat_map page_of frames
 
--- all words of a state: the places, a line for each frame, then the pages of the frames
+-- all words of a state: the places, eight words for each frame, then the pages of the frames
 abbrev pub words_of : State → List ℕ
 words_of s = map place_word s.places ++ (flat_map line_of s.frames ++ pages_of s.frames)
 

@@ -119,6 +119,7 @@ impl FrameTable {
             table,
             shape,
             places: _,
+            pages: _,
         } = self;
         ClosedTable {
             closed: table.close_with(seat),

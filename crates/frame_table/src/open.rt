@@ -10,7 +10,7 @@ use crate::pass::Pass;
 use crate::table::{FrameTable, word_count};
 use crate::view::View;
 use atomic_table::{Seat, Split, Table};
-use frame_core::{Kind, Note};
+use frame_core::{Kind, LINE_WORDS, Note};
 use ksm_base::{Fault, PAGE_WORDS, Shape};
 use std::alloc::Global;
 
@@ -64,6 +64,7 @@ impl FrameTable {
             table,
             shape,
             places,
+            pages: count + (count + 1) * LINE_WORDS,
         };
         'seats: for i in 0..shape.passes {
             passes.push_reserved(table.make_pass(&mut seat));

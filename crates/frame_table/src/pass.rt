@@ -113,6 +113,7 @@ impl Pass {
             return Found::Gone(Pass { seat }, Why::Vacant);
         };
         let word = table.frame_word(life.frame);
+        let page = table.page(life.frame);
         'rounds: for i in 0..table.tries() {
             match try_round(table, &mut seat, life, word) {
                 Round::Zero(_) => return Found::Gone(Pass { seat }, Why::Zero),
@@ -124,7 +125,7 @@ impl Pass {
                         place,
                         frame: life.frame,
                         word,
-                        page: table.page(life.frame),
+                        page,
                         generation: life.generation,
                     });
                 }

@@ -25,11 +25,13 @@ pub struct FrameTable {
     pub(crate) shape: Shape,
     // How many places there are, for the words behind them.
     pub(crate) places: u32,
+    // Where the pages begin.
+    pub(crate) pages: usize,
 }
 
 impl Model for FrameTable {
     ghost use Rattle.std.specs.Prelude.{◌≡◌, ◌≤◌};
-    ghost use Rattle.frame_core.specs.Words.{words_for};
+    ghost use Rattle.frame_core.specs.Words.{words_for, page_at};
     ghost use Rattle.ksm_base.specs.Values.{IsShape, frames_of};
     ghost use Rattle.frame_table.specs.Named.{TableName};
 
@@ -37,7 +39,7 @@ impl Model for FrameTable {
 
     ghost view = { λ t. record { id = t.table.shared.table_id; shape = t.shape } };
 
-    ghost invariant = { λ t. (t.table.shared.key ≡ t.shape) × (t.table.shared.table_id.words ≡ words_for (frames_of t.shape)) × (t.table.shared.table_id.slots ≡ 0) × IsShape t.shape × (t.places ≡ frames_of t.shape) × (t.places ≤ 1024) };
+    ghost invariant = { λ t. (t.table.shared.key ≡ t.shape) × (t.table.shared.table_id.words ≡ words_for (frames_of t.shape)) × (t.table.shared.table_id.slots ≡ 0) × IsShape t.shape × (t.places ≡ frames_of t.shape) × (t.places ≤ 1024) × (t.pages ≡ page_at (frames_of t.shape) 0) };
 }
 
 impl FrameTable {
@@ -70,8 +72,7 @@ impl FrameTable {
         ensures within { result + words_of_page ≤ self.now.id.words }
         ensures small { result < 2 ^ 32 }
     {
-        let places = self.places as usize;
-        places + (places + 1) * LINE_WORDS + frame as usize * PAGE_WORDS
+        self.pages + frame as usize * PAGE_WORDS
     }
 
     pub(crate) fn content_word(&self, frame: u32, i: usize) -> usize
