@@ -22,6 +22,12 @@ def build():
     subprocess.run(words, stdin=subprocess.DEVNULL, check=True)
 
 
+def build_program(name):
+    """Proves and builds a program of bench/programs where need be, and tells its path."""
+    told = subprocess.run([os.path.join(TOP, "bench", "program"), name, "--build"], stdout=subprocess.PIPE, text=True, check=True)
+    return told.stdout.strip()
+
+
 def build_plain():
     """Builds the program of the same language in plain Rust, which ksmbook is compared with."""
     subprocess.run(["cargo", "build", "--quiet", "--release", "--offline"],

@@ -1,4 +1,4 @@
-//! `callers WORK THREADS ROUNDS`: the work of the program `caller_times` of this repository in plain Rust, with one mutex round table and book,
+//! `callers WORK THREADS ROUNDS`: the work of the program `caller_times` of bench/programs in plain Rust, with one mutex round table and book,
 //! and one `RwLock` round the row of counters.
 //!
 //! The book has just what that work needs: rows in a map, the frame of each, a journal, and places for lookups. A page that is merged

@@ -1,5 +1,5 @@
 //! `lookups [ROUNDS [RUNS [BEFORE]]]`: the instructions and the processor time of a lookup (find, read all words, leave) on a
-//! table of 1,024 frames: of the table, by the program `lookup_times` of this repository, and of the same words in plain Rust,
+//! table of 1,024 frames: of the table, by the program `lookup_times` of bench/programs, and of the same words in plain Rust,
 //! by this program, one behind another and, as `lined`, where the table has them; where BEFORE is the path of the
 //! `lookup_times` of another tree, of that one too. All run as programs of their own, in turn, and the median of the runs
 //! counts; the least that a run with no lookup takes is taken off. A run whose threads were not on processors at once is made
@@ -16,7 +16,7 @@ include!(concat!(env!("OUT_DIR"), "/page_words.rs"));
 
 const TABLE: &str = concat!(
     env!("CARGO_MANIFEST_DIR"),
-    "/../crates/lookup_times/out/lookup_times"
+    "/target/programs/lookup_times"
 );
 
 #[repr(C)]
@@ -54,7 +54,7 @@ fn run(program: &str, first: &[&str], places: &str, threads: usize, rounds: u64)
         .args(first)
         .args([places, &threads.to_string(), &rounds.to_string()])
         .output()
-        .unwrap_or_else(|error| panic!("{program}: {error}; build it by `rt run` in crates/lookup_times"));
+        .unwrap_or_else(|error| panic!("{program}: {error}; build it by bench/program lookup_times --build"));
     assert!(status.success(), "{program}: {status}");
     let processor = children() - before;
     let at_once = processor / start.elapsed().as_nanos() as f64;
