@@ -2,7 +2,6 @@
 
 use frame_core::{Core, Event, KeeperStep, Kind, Phase, ReaderStep, Step, run};
 use ksm_base::Shape;
-use std::process::Abort;
 use std::test::*;
 
 /// One frame, one place and one seat: the least table on which a frame is given twice.
@@ -51,25 +50,103 @@ fn published() -> [(Event, Step); 6] {
     ]
 }
 
+/// An event, what it answers, and of what kind the frame and in which phase the seat is then.
+type Seen = (Event, Step, Kind, &'static str);
+
 /// A seat begins a lookup, the frame dies and is given again, and comes to the very count that the seat loaded: its exchange
 /// fails all the same, and its next lookup finds another life.
-fn second_life() -> [(Event, Step); 15] {
+fn second_life() -> [Seen; 15] {
     [
-        (reader(ReaderStep::LoadPlace(0)), Step::Done(1024)),
-        (reader(ReaderStep::LoadFrame), Step::Done(65538)),
-        (keeper(KeeperStep::Sub(0)), Step::Done(65538)),
-        (keeper(KeeperStep::Sub(0)), Step::Done(65537)),
-        (keeper(KeeperStep::Reap(0)), Step::Done(65536)),
-        (keeper(KeeperStep::Raise(0)), Step::Done(65536)),
-        (keeper(KeeperStep::Open(0)), Step::Done(131072)),
-        (keeper(KeeperStep::Add(0)), Step::Done(131073)),
-        (reader(ReaderStep::Exchange), Step::Done(131074)),
-        (reader(ReaderStep::LoadPlace(0)), Step::Done(1024)),
-        (reader(ReaderStep::LoadFrame), Step::Done(131074)),
-        (keeper(KeeperStep::Sub(0)), Step::Done(131074)),
-        (keeper(KeeperStep::Sub(0)), Step::Done(131073)),
-        (keeper(KeeperStep::Reap(0)), Step::Done(131072)),
-        (keeper(KeeperStep::Raise(0)), Step::Done(131072)),
+        (
+            reader(ReaderStep::LoadPlace(0)),
+            Step::Done(1024),
+            Kind::Stable,
+            "placed",
+        ),
+        (
+            reader(ReaderStep::LoadFrame),
+            Step::Done(65538),
+            Kind::Stable,
+            "counted",
+        ),
+        (
+            keeper(KeeperStep::Sub(0)),
+            Step::Done(65538),
+            Kind::Stable,
+            "counted",
+        ),
+        (
+            keeper(KeeperStep::Sub(0)),
+            Step::Done(65537),
+            Kind::Dying,
+            "counted",
+        ),
+        (
+            keeper(KeeperStep::Reap(0)),
+            Step::Done(65536),
+            Kind::Free,
+            "counted",
+        ),
+        (
+            keeper(KeeperStep::Raise(0)),
+            Step::Done(65536),
+            Kind::Filling,
+            "counted",
+        ),
+        (
+            keeper(KeeperStep::Open(0)),
+            Step::Done(131072),
+            Kind::Private,
+            "counted",
+        ),
+        (
+            keeper(KeeperStep::Add(0)),
+            Step::Done(131073),
+            Kind::Private,
+            "counted",
+        ),
+        (
+            reader(ReaderStep::Exchange),
+            Step::Done(131074),
+            Kind::Private,
+            "idle",
+        ),
+        (
+            reader(ReaderStep::LoadPlace(0)),
+            Step::Done(1024),
+            Kind::Private,
+            "placed",
+        ),
+        (
+            reader(ReaderStep::LoadFrame),
+            Step::Done(131074),
+            Kind::Private,
+            "idle",
+        ),
+        (
+            keeper(KeeperStep::Sub(0)),
+            Step::Done(131074),
+            Kind::Private,
+            "idle",
+        ),
+        (
+            keeper(KeeperStep::Sub(0)),
+            Step::Done(131073),
+            Kind::Dying,
+            "idle",
+        ),
+        (
+            keeper(KeeperStep::Reap(0)),
+            Step::Done(131072),
+            Kind::Free,
+            "idle",
+        ),
+        (
+            keeper(KeeperStep::Raise(0)),
+            Step::Done(131072),
+            Kind::Filling,
+            "idle",
+        ),
     ]
 }
 
@@ -85,45 +162,25 @@ fn phase_name(core: &Core) -> &'static str {
     }
 }
 
-fn expect_all(rt: &impl Abort, core: &mut Core, script: &[(Event, Step)]) {
-    for (event, answer) in script {
-        assert_eq!(rt; core.step(*event), *answer, "at {event:?}");
-    }
-}
-
-/// Makes the events, and then finds the frame and the seat so.
-fn reach(rt: &impl Abort, core: &mut Core, script: &[(Event, Step)], kind: Kind, phase: &str) {
-    expect_all(rt, core, script);
-    assert_eq!(rt; core.kind(0), Some(kind));
-    assert_eq!(rt; phase_name(core), phase);
-}
-
 // A seat loads the place and the frame word of the first life, and its exchange meets the same count in the second: it fails, by
 // the life in the word.
 #[test]
 fn two_lives_in_one_word(rt: HostRuntime) -> Result<(), Fail> {
-    let first = published();
-    let second = second_life();
-    assert!(rt; SHAPE.check());
     let mut core = Core::open(rt.alloc(), SHAPE).map_err(|_| "opens")?;
-    reach(&rt, &mut core, &first, Kind::Stable, "idle");
-    reach(&rt, &mut core, &second[..2], Kind::Stable, "counted");
-    reach(&rt, &mut core, &second[2..4], Kind::Dying, "counted");
-    reach(&rt, &mut core, &second[4..5], Kind::Free, "counted");
-    reach(&rt, &mut core, &second[5..8], Kind::Private, "counted");
-    reach(&rt, &mut core, &second[8..9], Kind::Private, "idle");
-    reach(&rt, &mut core, &second[9..10], Kind::Private, "placed");
-    reach(&rt, &mut core, &second[10..11], Kind::Private, "idle");
-    reach(&rt, &mut core, &second[11..13], Kind::Dying, "idle");
-    reach(&rt, &mut core, &second[13..14], Kind::Free, "idle");
-    reach(&rt, &mut core, &second[14..], Kind::Filling, "idle");
     let mut events = Vec::new(rt.alloc());
-    for (event, _) in first.iter().chain(second.iter()) {
-        events.push(*event)?;
+    for (event, answer) in published() {
+        assert_eq!(rt; core.step(event), answer, "at {event:?}");
+        events.push(event)?;
+    }
+    for (event, answer, kind, phase) in second_life() {
+        assert_eq!(rt; core.step(event), answer, "at {event:?}");
+        assert_eq!(rt; (core.kind(0), phase_name(&core)), (Some(kind), phase));
+        events.push(event)?;
     }
     let core = run(rt.alloc(), SHAPE, events.as_slice()).map_err(|_| "runs")?;
-    assert_eq!(rt; phase_name(&core), "idle");
-    assert_eq!(rt; core.kind(0), Some(Kind::Filling));
-    assert_eq!(rt; core.base(0), Some(0));
+    assert_eq!(rt;
+        (core.kind(0), core.base(0), phase_name(&core)),
+        (Some(Kind::Filling), Some(0), "idle")
+    );
     Ok(())
 }

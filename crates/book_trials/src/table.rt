@@ -102,7 +102,7 @@ fn third_table(table: &FrameTable, keeper: &mut Keeper) -> bool
 }
 
 // How a lookup ended: with a hold of this frame in this life, whose words were read twice, or with what the kind of answer tells.
-#[derive(Clone, Copy, Debug, PartialEq, Eq)]
+#[derive(Clone, Copy, PartialEq, Eq)]
 enum Ending {
     Held(u32, u64, PageBytes, PageBytes),
     Gone(Why),
@@ -148,7 +148,7 @@ fn find_equal(table: &FrameTable, pass: Pass, place: u32, page: &PageBytes) -> (
 }
 
 // A lookup of each place, one that compares the first place with its page, and one with a page whose last word differs.
-#[derive(Clone, Copy, Debug, PartialEq, Eq)]
+#[derive(Clone, Copy, PartialEq, Eq)]
 struct Endings {
     first: Ending,
     second: Ending,
@@ -225,11 +225,11 @@ fn lookups_on_three_tables(rt: HostRuntime) -> Result<(), Fail> {
     };
     let mut slot = Some(pass);
     first_table(&table, &mut keeper);
-    assert_eq!(rt; look(&table, &mut slot), named());
+    assert!(rt; look(&table, &mut slot) == named());
     second_table(&table, &mut keeper);
-    assert_eq!(rt; look(&table, &mut slot), gone(Why::Zero));
+    assert!(rt; look(&table, &mut slot) == gone(Why::Zero));
     assert!(rt; third_table(&table, &mut keeper));
-    assert_eq!(rt; look(&table, &mut slot), gone(Why::Generation));
+    assert!(rt; look(&table, &mut slot) == gone(Why::Generation));
     let Some(pass) = slot else { unreachable!() };
     passes.push_reserved(pass);
     let closed = table.close(keeper, passes);
@@ -252,19 +252,12 @@ fn lookups_on_three_tables_in_threads(rt: HostRuntime) -> Result<(), Fail> {
     let mut one = Some(one);
     let mut two = Some(two);
     first_table(&table, &mut keeper);
-    assert_eq!(rt;
-        look_both(&rt, &table, &mut one, &mut two),
-        (named(), named())
-    );
+    assert!(rt; look_both(&rt, &table, &mut one, &mut two) == (named(), named()));
     second_table(&table, &mut keeper);
-    assert_eq!(rt;
-        look_both(&rt, &table, &mut one, &mut two),
-        (gone(Why::Zero), gone(Why::Zero))
-    );
+    assert!(rt; look_both(&rt, &table, &mut one, &mut two) == (gone(Why::Zero), gone(Why::Zero)));
     assert!(rt; third_table(&table, &mut keeper));
-    assert_eq!(rt;
-        look_both(&rt, &table, &mut one, &mut two),
-        (gone(Why::Generation), gone(Why::Generation))
+    assert!(rt;
+        look_both(&rt, &table, &mut one, &mut two) == (gone(Why::Generation), gone(Why::Generation))
     );
     let Some(one) = one else { unreachable!() };
     let Some(two) = two else { unreachable!() };
@@ -441,7 +434,7 @@ fn run_all<R: Threads + Sync>(
 }
 
 // How a run ended: in how many holds a word was of another life, and how many lives the keeper counted; and of the frame at the end.
-#[derive(Clone, Copy, Debug, PartialEq, Eq)]
+#[derive(Clone, Copy)]
 struct Outcome {
     wrong: u64,
     lives: u64,
@@ -510,7 +503,7 @@ fn sixteen_passes_against_a_keeper(rt: HostRuntime) -> Result<(), Fail> {
     for tries in [1, 64] {
         let shape = Shape { tries, ..CROWDED };
         let outcome = crowd(&rt, rt.alloc(), shape)?;
-        assert!(rt; is_sound(&outcome), "{outcome:?}");
+        assert!(rt; is_sound(&outcome), "with {tries} tries");
     }
     Ok(())
 }
