@@ -14,5 +14,5 @@ census      how often each content is there, and who has it
 savings     what each setting of KSM saves, and what that costs
 sample      some of the pages as a script of ksmbook, whose proved counters are compared
 report      all that is told, as one value; also as JSON
-text, html_page   the same for a terminal, and for a browser or a printer
+words, text, html_page   the same for a terminal, and for a browser or a printer
 """

@@ -1,7 +1,8 @@
 """The areas of a process's address space that KSM may take, and the memory that is left out.
 
-KSM takes anonymous pages of private areas alone. The kernel refuses to mark an area that is shared, a device's, mapped by raw
-frames, of huge TLB pages, or not to be grown (`vma_ksm_compatible`, before it `ksm_madvise`); each of these is a flag in smaps.
+KSM takes anonymous pages of private areas alone. The kernel refuses to mark an area that is shared, a device's,
+mapped by raw frames, of huge TLB pages, or not to be grown (`vma_ksm_compatible`, before it `ksm_madvise`);
+each of these is a flag in smaps.
 """
 
 import dataclasses

@@ -20,8 +20,9 @@ class Heavy:
 
 
 class Census:
-    """Contents by the number of their copies, zeroes apart, for all nodes together and for each node by itself; the heaviest
-    contents; and of the processes that are shown which have contents in common."""
+    """Contents by the number of their copies, zeroes apart, for all nodes together and for each node by itself;
+    the heaviest contents, and whose pages of zeroes are; and of the processes that are shown which have contents in
+    common."""
 
     def __init__(self, shown: list[int]):
         self.together: collections.Counter[int] = collections.Counter()
@@ -31,6 +32,7 @@ class Census:
         self.within: collections.Counter[int] = collections.Counter()
         self.common: collections.Counter[int] = collections.Counter()
         self.heaviest: list[Heavy] = []
+        self.empty: Owners = {}
         self.contents = 0
         self.shown = {owner: 1 << place for place, owner in enumerate(shown)}
 
@@ -49,6 +51,7 @@ class Census:
         copies = by_node.total()
         if is_zero:
             self.zeroes.update(by_node)
+            self.empty = owners
         else:
             self.together[copies] += 1
             self.apart.update(by_node.values())
@@ -79,8 +82,8 @@ class Census:
         return sum(copies * contents for copies, contents in self.together.items()) + self.zeroes.total()
 
     def matrix(self) -> list[list[int]]:
-        """For the processes shown: how many frames merging two of them saves beyond what each saves alone, which is how many contents
-        they have in common; and on the diagonal what each saves alone."""
+        """For the processes shown: how many frames merging two of them saves beyond what each saves alone,
+        which is how many contents they have in common; and on the diagonal what each saves alone."""
         places = range(len(self.shown))
         rows = [[0] * len(places) for _ in places]
         for owner, mask in self.shown.items():

@@ -1,7 +1,8 @@
-"""One walk over the memory of all chosen processes, and where asked a second one, which finds the pages that changed.
+"""One walk over the memory of all chosen processes, and where asked a second one, which finds the pages that
+changed.
 
-Pages are told as they are read: a process that ends meanwhile is left out whole, one that grows is told, and neither stops the
-walk over the others.
+Pages are told as they are read: a process that ends meanwhile is left out whole, one that grows is told, and
+neither stops the walk over the others.
 """
 
 import array
@@ -26,8 +27,8 @@ COUNT_BITS = 16
 
 @dataclasses.dataclass
 class Seen:
-    """A process, and what was seen of it, in pages: those counted, those that were not to be read, those that it grew by while it
-    was read, and of two looks those that changed or went."""
+    """A process, and what was seen of it, in pages: those counted, those that were not to be read, those that
+    it grew by while it was read, and of two looks those that changed or went."""
     process: Process
     space: Space
     pages: int = 0
@@ -58,7 +59,8 @@ def opened(process: Process) -> Iterator[Files]:
 
 
 class Earlier:
-    """What is kept of a first look at a process: its stretches of pages area by area, a word each, and digests cut short."""
+    """What is kept of a first look at a process: its stretches of pages area by area, a word each, and digests
+    cut short."""
 
     def __init__(self):
         self.areas: list[array.array] = []
@@ -156,7 +158,8 @@ class Look:
             area, there = seen.space.areas[number], 0
             for first, letters in pagemap.runs(files.pagemap, start, start + count, self.zero, MOST_PAGES):
                 digests = self.read(seen, files, first, len(letters))
-                same = [digest if earlier.is_same(at + first - start + i, digest) else None for i, digest in enumerate(digests)]
+                same = [digest if earlier.is_same(place, digest) else None
+                        for place, digest in enumerate(digests, at + first - start)]
                 seen.changed += same.count(None) - digests.count(None)
                 there += len(letters)
                 self.count(owner, first, letters, same, lies_on.of(area.first, first, len(letters)))
@@ -175,7 +178,8 @@ class Look:
             seen.has_ended, seen.pages = True, 0
             self.piles.leave_out(owner)
 
-    def walk(self, seen: Seen, files: Files, progress: Progress) -> Iterator[tuple[Area, int, bytes, list[bytes | None]]]:
+    def walk(self, seen: Seen, files: Files,
+             progress: Progress) -> Iterator[tuple[Area, int, bytes, list[bytes | None]]]:
         """Each stretch of pages of a process: its area, its first page, its letters and its digests."""
         for area in seen.space.areas:
             for first, letters in pagemap.runs(files.pagemap, area.first, area.end, self.zero, MOST_PAGES):
@@ -199,7 +203,8 @@ class Look:
         self.piles.add(owner, first, letters, digests, lie_on)
 
     def count_frames_once(self) -> int:
-        """Counts a frame that several processes map since a fork as a page of the first of them. Tells how many are less."""
+        """Counts a frame that several processes map since a fork as a page of the first of them. Tells how many
+        are less."""
         fewer = self.piles.count_frames_once()
         for owner, pages in fewer.items():
             self.seen[owner].pages -= pages

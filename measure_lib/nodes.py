@@ -1,7 +1,8 @@
 """On which NUMA node a page lies.
 
-Where the machine has several nodes, /proc/PID/numa_maps tells for each area how many of its pages lie on which; an area on one
-node alone needs no more. Of the others the system call move_pages, which moves nothing without targets, tells each page's.
+Where the machine has several nodes, /proc/PID/numa_maps tells for each area how many of its pages lie on which;
+an area on one node alone needs no more. Of the others the system call move_pages, which moves nothing without
+targets, tells each page's.
 """
 
 import ctypes
@@ -35,7 +36,8 @@ def nodes_of_machine() -> list[int]:
 
 
 def nodes_of_areas(folder: int) -> dict[int, int | None]:
-    """The node of each area by its first page, None where its pages lie on several. Empty where the system does not tell."""
+    """The node of each area by its first page, None where its pages lie on several. Empty where the system does
+    not tell."""
     told: dict[int, int | None] = {}
     try:
         lines = text_of(folder, "numa_maps").splitlines()
@@ -49,7 +51,8 @@ def nodes_of_areas(folder: int) -> dict[int, int | None]:
 
 
 class Nodes:
-    """The nodes of the pages of one process. `is_told` falls where a page's node could not be learnt and the first was taken."""
+    """The nodes of the pages of one process. `is_told` falls where a page's node could not be learnt and the
+    first was taken."""
 
     def __init__(self, pid: int, folder: int, of_machine: list[int]):
         self.pid = pid

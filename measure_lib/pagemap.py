@@ -1,7 +1,7 @@
 """Which pages are anonymous and in memory, from /proc/PID/pagemap.
 
-Each page is one letter, so that runs of pages are found by a pattern: `1` where one process alone maps it, `2` where several do
-(after a fork, or where KSM merged it), `.` where it is none to be counted.
+Each page is one letter, so that runs of pages are found by a pattern: `1` where one process alone maps it, `2`
+where several do (after a fork, or where KSM merged it), `.` where it is none to be counted.
 """
 
 import ctypes
@@ -43,9 +43,10 @@ def entries_of(pagemap: int, first: int, count: int) -> bytes:
 
 
 def zero_frame() -> int | None:
-    """The frame of the kernel's page of zeroes, which serves memory that was read and never written. None where the system
-    does not tell frames (it does to root alone)."""
-    with mmap.mmap(-1, PAGE, flags=mmap.MAP_PRIVATE | mmap.MAP_ANONYMOUS) as page, open("/proc/self/pagemap", "rb", 0) as pagemap:
+    """The frame of the kernel's page of zeroes, which serves memory that was read and never written. None where
+    the system does not tell frames (it does to root alone)."""
+    with (mmap.mmap(-1, PAGE, flags=mmap.MAP_PRIVATE | mmap.MAP_ANONYMOUS) as page,
+          open("/proc/self/pagemap", "rb", 0) as pagemap):
         page.read(1)
         held = ctypes.c_char.from_buffer(page)
         number = ctypes.addressof(held) // PAGE
@@ -54,7 +55,8 @@ def zero_frame() -> int | None:
 
 
 def letters(pagemap: int, first: int, count: int, zero: int | None) -> bytes:
-    """A letter for each of so many pages. Those mapped from the frame of zeroes take no memory, and are not counted."""
+    """A letter for each of so many pages. Those mapped from the frame of zeroes take no memory, and are not
+    counted."""
     entries = entries_of(pagemap, first, count)
     told = entries[7::8].translate(LETTERS)
     if zero is None or SEVERAL not in told:

@@ -1,10 +1,12 @@
 """The digests of all pages with their owners, few bytes a page, and the contents that they make.
 
-A record is a digest, the number of the process that has the page, and the page's node: 19 bytes. Records lie in 256 piles by the
-first byte of the digest, so that equal pages are in one pile, and one pile at a time is taken apart.
+A record is a digest, the number of the process that has the page, and the page's node: 19 bytes. Records lie in
+256 piles by the first byte of the digest, so that equal pages are in one pile, and one pile at a time is taken
+apart.
 
-A frame that several processes map since a fork, at one address, is one page of memory: its records, which have the page's number
-too, are counted once. So are pages that KSM merged already counted for each address, as they were before.
+A frame that several processes map since a fork, at one address, is one page of memory: its records, which have
+the page's number too, are counted once. So are pages that KSM merged already counted for each address, as they
+were before.
 """
 
 import collections
@@ -46,8 +48,8 @@ class Piles:
         self.without.add(owner)
 
     def count_frames_once(self) -> "collections.Counter[int]":
-        """Lays each frame that several processes map since a fork to the others, once. Tells how many pages each process has
-        less by that."""
+        """Lays each frame that several processes map since a fork to the others, once. Tells how many pages
+        each process has less by that."""
         fewer: collections.Counter[int] = collections.Counter()
         for number, pile in enumerate(self.several):
             self.several[number] = bytearray()

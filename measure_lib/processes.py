@@ -120,7 +120,8 @@ def advice(who: str) -> str:
         return (f"{who} may not be read, though this is root: "
                 "it lacks CAP_SYS_PTRACE here (in a container: docker run --cap-add SYS_PTRACE --pid host)")
     if PTRACE_SCOPE.exists() and PTRACE_SCOPE.read_text().strip() != "0":
-        return f"{who} may not be read: kernel.yama.ptrace_scope lets only root read other processes. Run it as root: sudo ./measure .."
+        return (f"{who} may not be read: kernel.yama.ptrace_scope lets only root read other processes. "
+                "Run it as root: sudo ./measure ..")
     return f"{who} may not be read by this user. Run it as root: sudo ./measure .."
 
 
@@ -133,7 +134,8 @@ def by_number(pids: list[int]) -> list[Process]:
             if not may_be_read(process):
                 raise Trouble(advice(f"the memory of process {pid} ({process.name})"))
             if not has_memory(process):
-                raise Trouble(f"process {pid} ({process.name}) has no memory of its own: it is a thread of the kernel, or has ended")
+                raise Trouble(f"process {pid} ({process.name}) has no memory of its own: "
+                              "it is a thread of the kernel, or has ended")
         except Ended:
             raise Trouble(f"there is no process {pid}") from None
         chosen.append(process)
@@ -141,8 +143,8 @@ def by_number(pids: list[int]) -> list[Process]:
 
 
 def by_name(names: list[str]) -> tuple[list[Process], int]:
-    """The readable processes with one of these names in theirs, all where none is given; and how many more may not be read.
-    This program is never one of them."""
+    """The readable processes with one of these names in theirs, all where none is given; and how many more may
+    not be read. This program is never one of them."""
     chosen, refused = [], 0
     for pid in sorted(int(entry) for entry in os.listdir("/proc") if entry.isdecimal()):
         try:
@@ -165,9 +167,11 @@ def choose(pids: list[int], names: list[str], everything: bool) -> tuple[list[Pr
         named, refused = by_name(names)
         chosen = list(dict.fromkeys([*chosen, *named]))
     if not chosen and refused:
-        raise Trouble(advice(f"the memory of {refused} such processes" if refused > 1 else "the memory of the only such process"))
+        who = f"{refused:,} such processes" if refused > 1 else "the only such process"
+        raise Trouble(advice(f"the memory of {who}"))
     if not chosen:
         raise Trouble(f"no process has {' or '.join(names)} in its name" if names else "there is no process to read")
     if len(chosen) > MOST_PROCESSES:
-        raise Trouble(f"{len(chosen):,} processes are more than the {MOST_PROCESSES:,} that are told apart; choose some by --name")
+        raise Trouble(f"{len(chosen):,} processes are more than the {MOST_PROCESSES:,} that are told apart; "
+                      "choose some by --name")
     return chosen, refused

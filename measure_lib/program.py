@@ -61,7 +61,8 @@ def check(report: Report, look: Look, options: argparse.Namespace) -> Checked:
     if options.no_check:
         return Checked(why_not="--no-check was given")
     if not sample.is_built():
-        return Checked(why_not="ksmbook is not built here (./ksmbook --nodes 1 --frames 1 </dev/null proves and builds it)")
+        return Checked(why_not="ksmbook is not built here (./ksmbook --nodes 1 --frames 1 </dev/null "
+                               "proves and builds it)")
     return Checked(taken.pages(), taken.apart, sample.check(taken))
 
 
@@ -80,7 +81,8 @@ def can_be_written(path: str | None) -> None:
     """Refuses a file that can't be written before memory is read for a minute."""
     folder = os.path.dirname(os.path.abspath(path)) if path else None
     if folder and (os.path.isdir(path) or not os.access(folder, os.W_OK)):
-        raise Trouble(f"{path} can't be written: there is no such folder, it is a folder, or it is not yours", NOT_WRITTEN)
+        raise Trouble(f"{path} can't be written: there is no such folder, it is a folder, or it is not yours",
+                      NOT_WRITTEN)
 
 
 def measure(options: argparse.Namespace) -> None:

@@ -1,7 +1,7 @@
 """The bytes of pages, and the digests that stand for them from there on.
 
-A digest is BLAKE2b of 128 bits with a key of random bytes of this run: whoever fills the pages that are read can't make two that
-differ and have one digest, and the digests of two runs tell nothing of each other.
+A digest is BLAKE2b of 128 bits with a key of random bytes of this run: whoever fills the pages that are read
+can't make two that differ and have one digest, and the digests of two runs tell nothing of each other.
 """
 
 import hashlib
@@ -29,7 +29,8 @@ class Reader:
         return hashlib.blake2b(page, digest_size=DIGEST, key=self.key).digest()
 
     def digests(self, memory: int, first: int, count: int) -> list[bytes | None]:
-        """The digests of at most 1 MB of pages; None for one that can't be read any more, which is counted as unread."""
+        """The digests of at most 1 MB of pages; None for one that can't be read any more, which is counted as
+        unread."""
         view = self.buffer[:count * PAGE]
         try:
             read = os.preadv(memory, [view], first * PAGE)

@@ -18,7 +18,8 @@ DEFAULTS = Setting(256, 0, 1)
 
 @dataclasses.dataclass
 class Effort:
-    """What it took: seconds of the clock and of a processor, bytes of digests for each page read, and the seconds between two looks."""
+    """What it took: seconds of the clock and of a processor, bytes of digests for each page read, and the
+    seconds between two looks."""
     seconds: float
     processor: float
     digest_bytes: float
@@ -66,11 +67,9 @@ class Report:
         return sorted(alive, key=lambda pair: -pair[1].pages)
 
     def answer(self) -> Saving:
-        """What the machine's own setting saves; where KSM has another limit than those of the grid, the default's."""
-        now = Setting(self.kernel.ksm.get("max_page_sharing", DEFAULTS.max_page_sharing), self.kernel.ksm.get("use_zero_pages", 0),
-                      self.kernel.ksm.get("merge_across_nodes", 1) if len(self.kernel.nodes) > 1 else 1)
-        of = {told.setting: told for told in self.savings}
-        return of.get(now) or of[DEFAULTS]
+        """What the machine's own setting saves."""
+        now = setting_of(self.kernel)
+        return next(told for told in self.savings if told.setting == now)
 
     def best(self) -> Saving:
         """What the best setting of the grid saves, after its cost; of equals the first."""
@@ -98,11 +97,28 @@ class Report:
         return 2 * self.pages * (pause / 1000) / visits if visits and pause else None
 
 
+def setting_of(kernel: Kernel) -> Setting:
+    """How the machine is set. On one node merge_across_nodes makes no difference, and is told as 1."""
+    knobs = dataclasses.asdict(DEFAULTS)
+    knobs.update((name, value) for name, value in kernel.ksm.items() if name in knobs)
+    if len(kernel.nodes) == 1:
+        knobs["merge_across_nodes"] = 1
+    return Setting(**knobs)
+
+
+def told_settings(kernel: Kernel) -> list[Setting]:
+    """The settings of the grid, and the machine's own in its place among them."""
+    return sorted({*grid(len(kernel.nodes)), setting_of(kernel)},
+                  key=lambda of: (-of.merge_across_nodes, of.use_zero_pages, of.max_page_sharing))
+
+
 def nodes_from(look: Look) -> str:
     """Where the nodes of the pages are from."""
     if len(look.nodes) == 1:
         return "the machine has one node"
-    return "numa_maps and move_pages" if look.are_nodes_told else "not told for each page: those are counted on the first node"
+    if look.are_nodes_told:
+        return "numa_maps and move_pages"
+    return "not told for each page: those are counted on the first node"
 
 
 def report_of(look: Look, kernel: Kernel, refused: int, effort: Effort) -> Report:
@@ -114,15 +130,17 @@ def report_of(look: Look, kernel: Kernel, refused: int, effort: Effort) -> Repor
     left_out = LeftOut()
     for owner in alive:
         left_out.add(look.seen[owner].space.left_out)
-    savings = [saving(setting, census) for setting in grid(len(look.nodes))]
-    return Report(kernel, look.only_marked, look.seen, refused, left_out, forked, nodes_from(look), census, savings, shown, effort, Checked())
+    savings = [saving(setting, census) for setting in told_settings(kernel)]
+    return Report(kernel, look.only_marked, look.seen, refused, left_out, forked, nodes_from(look), census, savings,
+                  shown, effort, Checked())
 
 
 def setting_as_dict(told: Saving, pages: int) -> dict[str, object]:
     """A setting, what the kernel's counters come to with it, and what that means."""
-    return {**dataclasses.asdict(told.setting), "saved_mb": megabytes(told.saved), "saved_percent": percent(told.saved, pages),
-            "cost_mb": told.cost / MEGABYTE, "net_mb": megabytes(told.saved) - told.cost / MEGABYTE,
-            "pages_shared": told.pages_shared, "pages_sharing": told.pages_sharing, "pages_unshared": told.pages_unshared,
+    saved, cost = megabytes(told.saved), told.cost / MEGABYTE
+    return {**dataclasses.asdict(told.setting), "saved_mb": saved, "saved_percent": percent(told.saved, pages),
+            "cost_mb": cost, "net_mb": saved - cost, "pages_shared": told.pages_shared,
+            "pages_sharing": told.pages_sharing, "pages_unshared": told.pages_unshared,
             "ksm_zero_pages": told.ksm_zero_pages}
 
 

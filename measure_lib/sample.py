@@ -1,9 +1,11 @@
-"""Some of the pages as a script of ksmbook, whose counters are proved, and what it counts beside what the formulas give.
+"""Some of the pages as a script of ksmbook, whose counters are proved, and what it counts beside what the
+formulas give.
 
-A page of the book begins with a frame of its own, and a table has few, so some contents are taken: in the order of their keyed
-digests, which is random and knows nothing of how often a content is there, each with all of its pages, until the room is used.
-Contents of many pages would use all of it, or never fit: the heaviest are told apart, and a part of their pages is taken.
-In the script contents are numbered, 0 being zeroes; nothing of them, digests included, is in it.
+A page of the book begins with a frame of its own, and a table has few, so some contents are taken: in the order
+of their keyed digests, which is random and knows nothing of how often a content is there, each with all of its
+pages, until the room is used. Contents of many pages would use all of it, or never fit: zeroes and the heaviest
+are told apart, and a part of their pages is taken, half of the room together. In the script contents are numbered,
+0 being zeroes; nothing of them, digests included, is in it.
 """
 
 import dataclasses
@@ -18,11 +20,11 @@ from .trouble import NOT_AS_PROVED, Trouble
 
 TOP = os.path.dirname(os.path.dirname(os.path.abspath(__file__)))
 PROGRAM = os.path.join(TOP, "crates", "ksm_tool", "out", "ksm_tool")
-# a table of ksmbook: nodes, and frames of each. Pages leave some over: while all are unmerged, a frame serves pages of its node
-# and of others until the last of them has its own, so of several nodes less than half is used
+# a table of ksmbook: nodes, and frames of each. Pages leave some over: while all are unmerged, a frame serves pages
+# of its node and of others until the last of them has its own, so of several nodes less than half is used
 MOST_NODES, FRAMES, ROOM_ALONE, ROOM = 4, 256, 240, 120
-# a content of more pages is told apart, and of the heaviest four so many pages of a node are taken
-HEAVY, APART, PART = 30, 4, 12
+# a content of more pages is heavy, and so many contents are told apart
+HEAVY, APART = 30, 4
 # digits of a page's content
 DIGITS = 128
 PASSES = 4
@@ -59,9 +61,9 @@ class Sample:
         return ["--nodes", str(len(self.nodes)), "--frames", str(FRAMES)]
 
 
-def cut(owners: Owners, nodes: list[int]) -> Owners:
-    """Of a heavy content so many pages of each node."""
-    room, part = dict.fromkeys(nodes, PART), {}
+def cut(owners: Owners, nodes: list[int], most: int) -> Owners:
+    """Of a content at most so many pages of each node."""
+    room, part = dict.fromkeys(nodes, most), {}
     for (owner, node), times in owners.items():
         if taken := min(times, room.get(node, 0)):
             part[owner, node] = taken
@@ -78,10 +80,12 @@ def fits(sample: Sample, owners: Owners) -> bool:
 def sample_of(piles: Piles, zeroes: bytes, census: Census, by_node: dict[int, int]) -> Sample:
     """The sample of all pages, on the nodes that have most of them."""
     sample = Sample(sorted(sorted(by_node, key=by_node.get, reverse=True)[:MOST_NODES]))
-    heavy = [content for content in sorted(census.heaviest, reverse=True) if content.copies > HEAVY or content.is_zero]
-    for number, content in enumerate(heavy[:APART], 1):
-        sample.contents.append((0 if content.is_zero else number, cut(content.owners, sample.nodes)))
-    sample.apart = len(sample.contents)
+    heavy = [content.owners for content in sorted(census.heaviest, reverse=True)
+             if content.copies > HEAVY and not content.is_zero]
+    apart = [(0, census.empty)] * bool(census.empty) + list(enumerate(heavy, 1))
+    sample.apart = min(len(apart), APART)
+    for number, owners in apart[:APART]:
+        sample.contents.append((number, cut(owners, sample.nodes, sample.room() // (2 * sample.apart))))
     for number, owners in enumerate(light(piles, zeroes, sample.nodes), APART + 1):
         if not fits(sample, owners):
             break
@@ -140,11 +144,11 @@ def wanted(told: Saving) -> dict[str, int]:
 
 
 def check(sample: Sample) -> int:
-    """Has the proved book count the sample with each setting. How many settings there were; Trouble where the counters are others
-    than those of the formulas."""
+    """Has the proved book count the sample with each setting. How many settings there were; Trouble where the
+    counters are others than those of the formulas."""
     lines = script_of(sample)
-    run = subprocess.run([PROGRAM, *sample.options()], input="".join(f"{line}\n" for line in lines), capture_output=True, text=True,
-                         check=False)
+    run = subprocess.run([PROGRAM, *sample.options()], input="".join(f"{line}\n" for line in lines),
+                         capture_output=True, text=True, check=False)
     settings, found = grid(len(sample.nodes)), counted(run.stdout.splitlines())
     if run.returncode or len(found) != len(settings):
         last = "".join(run.stdout.splitlines()[-1:])
@@ -153,7 +157,8 @@ def check(sample: Sample) -> int:
     for setting, counters in zip(settings, found):
         by_formula = wanted(saving(setting, census))
         if any(counters[name] != value for name, value in by_formula.items()):
-            raise Trouble(f"with {setting} the proved book counts {counters} of the sample, the formulas {by_formula}", NOT_AS_PROVED)
+            raise Trouble(f"with {setting} the proved book counts {counters} of the sample, the formulas {by_formula}",
+                          NOT_AS_PROVED)
     return len(settings)
 
 

@@ -1,8 +1,9 @@
 """What each setting of KSM saves, and what that costs.
 
-Once the scan has gone over pages that stay as they are, those of one content (and with `merge_across_nodes` 0 of one node) are
-merged as far as `max_page_sharing` allows: of n pages and a limit of m stay as many frames as m goes into n, rounded up. A last
-page that is alone beyond full frames stays as it is. With `use_zero_pages` 1 no frame stays of pages of zeroes.
+Once the scan has gone over pages that stay as they are, those of one content (and with `merge_across_nodes` 0
+of one node) are merged as far as `max_page_sharing` allows: of n pages and a limit of m stay as many frames as
+m goes into n, rounded up. A last page that is alone beyond full frames stays as it is. With `use_zero_pages` 1
+no frame stays of pages of zeroes.
 """
 
 import collections
@@ -12,8 +13,8 @@ from collections.abc import Iterable
 from .census import Census
 
 LIMITS = (2, 16, 256, 1024)
-# bytes of a reverse-map item (one for each page that the scan met) and of a stable node (one for each KSM page, and for each
-# content that has several) on a 64-bit kernel: struct ksm_rmap_item and struct ksm_stable_node of mm/ksm.c
+# bytes of a reverse-map item (one for each page that the scan met) and of a stable node (one for each KSM page, and
+# for each content that has several) on a 64-bit kernel: struct ksm_rmap_item and struct ksm_stable_node of mm/ksm.c
 ITEM_BYTES, NODE_BYTES = 64, 64
 
 
@@ -27,8 +28,8 @@ class Setting:
 
 @dataclasses.dataclass
 class Saving:
-    """What the kernel's counters come to with a setting: KSM pages, pages saved by them, pages left alone, pages mapped from
-    the page of zeroes, contents that have several KSM pages; and all pages."""
+    """What the kernel's counters come to with a setting: KSM pages, pages saved by them, pages left alone,
+    pages mapped from the page of zeroes, contents that have several KSM pages; and all pages."""
     setting: Setting
     pages: int
     pages_shared: int = 0
@@ -60,7 +61,8 @@ class Saving:
 
 def grid(nodes: int) -> list[Setting]:
     """The settings that are told. On one node `merge_across_nodes` makes no difference."""
-    return [Setting(limit, zero, across) for across in ((1, 0) if nodes > 1 else (1,)) for zero in (0, 1) for limit in LIMITS]
+    return [Setting(limit, zero, across)
+            for across in ((1, 0) if nodes > 1 else (1,)) for zero in (0, 1) for limit in LIMITS]
 
 
 def zeroes_by_tree(census: Census, across: int) -> Iterable[int]:

@@ -132,7 +132,8 @@ class Waiting(Meanwhile):
 
 
 def frames_of_a_fork() -> str:
-    """Frames that a process has in common with its child are counted once, and the kernel's own page of zeroes is not."""
+    """Frames that a process has in common with its child are counted once, and the kernel's own page of zeroes
+    is not."""
     ready, wire = os.pipe()
     parent = os.fork()
     if not parent:
@@ -189,13 +190,15 @@ def without_permission() -> str:
 def statuses() -> str:
     """Each status but the one of a book that disagrees, and the sentences."""
     nowhere = os.path.join(TOP, "measure", "no such folder")
-    for words, status, said in [([], 2, "--all"), (["--all", "1"], 2, "--all"), (["x"], 2, "PID"), (["999999999"], 1, "no process"),
-                                (["--name", "no such name"], 1, "no process"), (["--again", "0", "1"], 2, "again"),
+    for words, status, said in [([], 2, "--all"), (["--all", "1"], 2, "--all"), (["x"], 2, "PID"),
+                                (["999999999"], 1, "no process"), (["--name", "no such name"], 1, "no process"),
+                                (["--again", "0", "1"], 2, "again"),
                                 (["--html", nowhere, str(os.getpid())], 3, "written")]:
         run = measure(*words)
         assert run.returncode == status and said in run.stderr and not run.stdout, (words, run)
     with open("/dev/full", "w", encoding="ascii") as full:
-        run = subprocess.run([MEASURE, "--no-check", str(os.getpid())], stdout=full, stderr=subprocess.PIPE, check=False)
+        run = subprocess.run([MEASURE, "--no-check", str(os.getpid())], stdout=full, stderr=subprocess.PIPE,
+                             check=False)
     assert run.returncode == 3, run
     return "statuses 1, 2 and 3 have their sentences"
 
@@ -213,7 +216,8 @@ def nothing_of_contents() -> str:
             with open(path, encoding="utf-8") as file:
                 outputs.append(file.read())
     end(child)
-    assert text.returncode == told.returncode == 0 and json.loads(told.stdout)["heaviest"][0]["copies"] == 40, (text, told)
+    assert text.returncode == told.returncode == 0, (text, told)
+    assert json.loads(told.stdout)["heaviest"][0]["copies"] == 40, told
     for output in outputs:
         assert f"{secret:x}" not in output.lower() and str(secret) not in output
     assert not re.search(r"\b[0-9a-f]{32}\b", "".join(outputs[:4])), "a digest"
@@ -242,7 +246,8 @@ def book_counts(nodes: int) -> int:
 
 
 def samples_on_nodes() -> str:
-    """Samples on one to four nodes are counted by the book as by the formulas, and a formula that is wrong is found."""
+    """Samples on one to four nodes are counted by the book as by the formulas, and a formula that is wrong is
+    found."""
     if not sample.is_built():
         return "samples on nodes: not tried, since ksmbook is not built"
     settings = [book_counts(nodes) for nodes in range(1, 5)]
@@ -255,7 +260,9 @@ def samples_on_nodes() -> str:
         assert trouble.status == NOT_AS_PROVED
     finally:
         savings.Saving.add = right
-    return f"samples on one to four nodes are as the book counts them, with {settings} settings, and a wrong formula is found"
+    return (f"samples on one to four nodes are as the book counts them, with {settings} settings, "
+            "and a wrong formula is found")
 
 
-ALL = [samples_on_nodes, one_that_ends, one_that_grows, pages_that_change, frames_of_a_fork, without_permission, statuses, nothing_of_contents]
+ALL = [samples_on_nodes, one_that_ends, one_that_grows, pages_that_change, frames_of_a_fork, without_permission,
+       statuses, nothing_of_contents]

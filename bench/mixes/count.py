@@ -55,5 +55,6 @@ def counted(pages: list[tuple[bytes, int]], setting: dict[str, int]) -> dict[str
             zeroes += 1
         else:
             trees[0 if setting["merge_across_nodes"] else node].add(content, setting["max_page_sharing"])
-    shared, sharing, unshared = (sum(numbers) for numbers in zip((0, 0, 0), *(tree.counters() for tree in trees.values())))
+    of_trees = [tree.counters() for tree in trees.values()]
+    shared, sharing, unshared = (sum(numbers) for numbers in zip((0, 0, 0), *of_trees))
     return {"pages_shared": shared, "pages_sharing": sharing, "pages_unshared": unshared, "ksm_zero_pages": zeroes}

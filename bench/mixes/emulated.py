@@ -1,7 +1,7 @@
 """A machine with a real kernel and two nodes, under software emulation, in which Python tries the mixes.
 
-The kernel, where it lies, and the machine are those of bench/kernel. This interpreter, the modules that are needed and the
-libraries that they are linked with are all that the machine has.
+The kernel, where it lies, and the machine are those of bench/kernel. This interpreter, the modules that are
+needed and the libraries that they are linked with are all that the machine has.
 """
 
 import importlib.util
@@ -20,15 +20,17 @@ import machine  # pylint: disable=wrong-import-position
 MOST_SECONDS = 3600
 # without it the kernel has no random bytes for minutes, and Python does not begin without some
 RANDOM = ["-cpu", "qemu64,+rdrand"]
-# prints the file of each module that the programs of the machine load, with those that Python loads only when it needs them
-LOADED = ("import sys; sys.path[:0] = [sys.argv[1], sys.argv[2]]; import encodings.ascii, gettext, locale, shutil, guest, measure_lib.program; "
+# prints the file of each module that the programs of the machine load, with some that Python loads when it needs them
+LOADED = ("import sys; sys.path[:0] = [sys.argv[1], sys.argv[2]]; "
+          "import encodings.ascii, gettext, locale, shutil, guest, measure_lib.program; "
           "print(*(m.__file__ for m in list(sys.modules.values()) if getattr(m, '__file__', None)), sep='\\n')")
 INIT = "#!{python} -S\nimport sys\nsys.path[:0] = ['/mixes', '/']\nimport guest\nguest.main()\n"
 
 
 def modules() -> list[str]:
     """The files of the modules, with what Python made of them."""
-    run = subprocess.run([sys.executable, "-S", "-c", LOADED, HERE, TOP], stdout=subprocess.PIPE, text=True, check=True)
+    words = [sys.executable, "-S", "-c", LOADED, HERE, TOP]
+    run = subprocess.run(words, stdout=subprocess.PIPE, text=True, check=True)
     files = [path for path in run.stdout.split("\n") if path.startswith("/") and not path.startswith(TOP)]
     made = [importlib.util.cache_from_source(path) for path in files if path.endswith(".py")]
     return files + [path for path in made if os.path.exists(path)]
@@ -80,8 +82,9 @@ def run(line: str) -> list[str]:
         fill(root)
         image, log, replies = (os.path.join(folder, name) for name in ("initrd", "log", "replies"))
         machine.pack(root, image)
-        words = ["timeout", "--foreground", str(MOST_SECONDS), "qemu-system-x86_64", *machine.MACHINE, *RANDOM, "-serial", f"file:{log}",
-                 "-serial", f"file:{replies}", "-kernel", kernel, "-initrd", image, "-append", machine.WORDS]
+        words = ["timeout", "--foreground", str(MOST_SECONDS), "qemu-system-x86_64", *machine.MACHINE, *RANDOM,
+                 "-serial", f"file:{log}", "-serial", f"file:{replies}", "-kernel", kernel, "-initrd", image,
+                 "-append", machine.WORDS]
         status = subprocess.run(words, stdin=subprocess.DEVNULL, check=False).returncode
         with open(replies, encoding="utf-8") as file:
             lines = file.read().splitlines()

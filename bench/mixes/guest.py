@@ -1,7 +1,8 @@
-"""The only program of an emulated machine: on each mix it runs `measure`, and then the kernel's own ksmd with each setting.
+"""The only program of an emulated machine: on each mix it runs `measure`, and then the kernel's own ksmd with
+each setting.
 
-What they tell goes to the second serial line: `linux RELEASE`, for each mix `mix NAME` and `told JSON`, for each setting
-`ksmd JSON`, and at last `end`.
+What they tell goes to the second serial line: `linux RELEASE`, for each mix `mix NAME` and `told JSON`, for
+each setting `ksmd JSON`, and at last `end`.
 """
 
 import ctypes
@@ -20,6 +21,8 @@ from measure_lib.savings import grid  # pylint: disable=wrong-import-position
 
 KSM = "/sys/kernel/mm/ksm/"
 COUNTERS = ["pages_shared", "pages_sharing", "ksm_zero_pages"]
+# the bytes that are saved, less those of all reverse-map items
+PROFIT = "general_profit"
 POWER_OFF = 0x4321FEDC
 # passes that the counters have to stay as they are, and the most seconds to wait for that
 PASSES, MOST_SECONDS = 3, 600
@@ -52,9 +55,9 @@ def write(name: str, value: int) -> None:
             file.write(str(value))
 
 
-def counters() -> dict[str, int]:
-    """The counters that this kernel has."""
-    return {name: value for name in COUNTERS if (value := read(name)) is not None}
+def counters(*more: str) -> dict[str, int]:
+    """The counters that this kernel has, and some more that need not settle."""
+    return {name: value for name in [*COUNTERS, *more] if (value := read(name)) is not None}
 
 
 def settled() -> dict[str, int]:
@@ -67,7 +70,7 @@ def settled() -> dict[str, int]:
             passes, seen = read("full_scans"), counters()
         if time.monotonic() > end:
             raise TimeoutError("ksmd does not settle")
-    return seen
+    return counters(PROFIT)
 
 
 def merged(setting: dict[str, int]) -> dict[str, int]:
@@ -109,6 +112,21 @@ def try_mix(replies, mix) -> None:
         children = {}
 
 
+def try_pythons(replies) -> None:
+    """Measures two idle Pythons that are marked whole, and merges them; two others for each further setting."""
+    tell(replies, "mix", "two idle Pythons")
+    for setting in map(vars, grid(2)):
+        idle = [subprocess.Popen([sys.executable, "-S", holder.__file__], stdout=subprocess.PIPE) for _ in range(2)]
+        for process in idle:
+            process.stdout.readline()
+        tell(replies, "told", json.dumps(told_by_measure([process.pid for process in idle])))
+        tell(replies, "ksmd", json.dumps({**setting, **merged(setting)}))
+        forget()
+        for process in idle:
+            process.kill()
+            process.wait()
+
+
 def main() -> None:
     """Tries each mix, and switches the machine off."""
     mount_all()
@@ -119,6 +137,7 @@ def main() -> None:
                 write(name, value)
             for mix in MIXES:
                 try_mix(replies, mix)
+            try_pythons(replies)
             tell(replies, "end", "")
         except BaseException:  # pylint: disable=broad-exception-caught
             tell(replies, "failed", json.dumps(traceback.format_exc()))

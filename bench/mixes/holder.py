@@ -91,6 +91,18 @@ def end_all(children: dict[int, list[int]]) -> None:
         os.waitpid(child, 0)
 
 
+def mark_whole() -> None:
+    """Marks all private areas of this process for KSM. Those that the kernel refuses stay as they are."""
+    libc = ctypes.CDLL(None)
+    with open("/proc/self/maps", encoding="utf-8") as maps:
+        lines = maps.read().splitlines()
+    for line in lines:
+        span, permissions = line.split()[:2]
+        first, end = (int(address, 16) for address in span.split("-"))
+        if permissions[3] == "p" and first < 1 << 63:
+            libc.madvise(ctypes.c_void_p(first), ctypes.c_size_t(end - first), mmap.MADV_MERGEABLE)
+
+
 def large(gigabytes: int) -> mmap.mmap:
     """So many gigabytes, in which every second page is equal to the one before it, and no other."""
     pages = (gigabytes << 30) // PAGE
@@ -100,3 +112,10 @@ def large(gigabytes: int) -> mmap.mmap:
     for at in range(pages):
         held[at * PAGE:at * PAGE + 8] = (1 + (at & ~1 if at & 2 else at)).to_bytes(8, "big")
     return held
+
+
+if __name__ == "__main__":
+    mark_whole()
+    print("marked", flush=True)
+    while True:
+        signal.pause()

@@ -50,7 +50,8 @@ def on_nodes(pages: list[Page], seed: int) -> list[Page]:
 
 
 def of_files() -> list[list[Page]]:
-    """Anonymous pages, and pages of a file that read the same: those only read are the page cache's, those written are not."""
+    """Anonymous pages, and pages of a file that read the same: those only read are the page cache's, those
+    written are not."""
     mapped = [Page(9000 + i % 40, of_file=READ if i % 4 else WRITTEN) for i in range(1200)]
     return [dealt([Page(9000 + i % 40) for i in range(900)] + different(300, 20000), 1, 3)[0] + mapped,
             dealt([Page(9000 + i % 60) for i in range(900)], 1, 4)[0] + mapped]
