@@ -8,6 +8,7 @@ areas       the areas of a process that KSM may take, and what is left out
 pagemap     which pages of an area are anonymous and in memory
 nodes       on which NUMA node a page lies
 reading     the bytes of pages, 1 MB at a time, and what stands for them: keyed digests
+earlier     what is kept of a first look
 look        one walk over all the memory, and a second one that finds what changed
 piles       the digests of all pages, few bytes a page, and the contents that they make
 census      how often each content is there, and who has it

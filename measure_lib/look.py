@@ -5,7 +5,6 @@ Pages are told as they are read: a process that ends meanwhile is left out whole
 neither stops the walk over the others.
 """
 
-import array
 import collections
 import contextlib
 import dataclasses
@@ -14,15 +13,12 @@ from collections.abc import Iterator
 
 from . import nodes, pagemap
 from .areas import Area, Space, space_of
+from .earlier import Earlier
 from .piles import Piles
 from .processes import Process, open_in
 from .progress import Progress
 from .reading import MOST_PAGES, Reader
 from .trouble import Ended
-
-# of a digest, as much as is kept of the first look to tell whether a page changed
-SHORT = 8
-COUNT_BITS = 16
 
 
 @dataclasses.dataclass
@@ -51,46 +47,11 @@ class Files:
 def opened(process: Process) -> Iterator[Files]:
     """The files of a process. Raises Ended where it is gone, also later."""
     with process.opened() as folder, contextlib.ExitStack() as left:
-        memory, map_ = open_in(folder, "mem"), None
+        memory = open_in(folder, "mem")
         left.callback(os.close, memory)
         map_ = open_in(folder, "pagemap")
         left.callback(os.close, map_)
         yield Files(folder, memory, map_)
-
-
-class Earlier:
-    """What is kept of a first look at a process: its stretches of pages area by area, a word each, and digests
-    cut short."""
-
-    def __init__(self):
-        self.areas: list[array.array] = []
-        self.digests = bytearray()
-
-    def begin_area(self) -> None:
-        """The stretches that come are of the next area."""
-        self.areas.append(array.array("Q"))
-
-    def add(self, first: int, digests: list[bytes | None]) -> None:
-        """Adds a stretch of pages. One without a digest is taken for changed later."""
-        self.areas[-1].append(first << COUNT_BITS | len(digests))
-        self.digests += b"".join(digest[:SHORT] if digest else bytes(SHORT) for digest in digests)
-
-    def stretches(self) -> Iterator[tuple[int, int, int, int]]:
-        """Each stretch: the number of its area, its first page, its count, and which of all pages its first is."""
-        at = 0
-        for number, words in enumerate(self.areas):
-            for word in words:
-                first, count = word >> COUNT_BITS, word & ((1 << COUNT_BITS) - 1)
-                yield number, first, count, at
-                at += count
-
-    def is_same(self, at: int, digest: bytes | None) -> bool:
-        """Tells whether the page of a number still has its digest."""
-        return digest is not None and self.digests[at * SHORT:(at + 1) * SHORT] == digest[:SHORT]
-
-    def size(self) -> int:
-        """The bytes that it takes."""
-        return self.digests.__sizeof__() + sum(words.__sizeof__() for words in self.areas)
 
 
 class Look:

@@ -75,12 +75,12 @@ def guest_name(words: list[str]) -> str | None:
 
 
 def names_of(folder: int) -> tuple[str, str]:
-    """The name that a process is shown by, and its names to be searched in."""
+    """The name that a process is shown by, which is a virtual machine's own, and its names to be searched in."""
     short = text_of(folder, "comm").rstrip("\n")
     words = text_of(folder, "cmdline").split("\0")
     program = os.path.basename(words[0])
     guest = guest_name(words[1:]) if "qemu" in program or "kvm" in program else None
-    return printable(f"{guest} ({short})" if guest else short), f"{short} {program}"
+    return printable(f"{guest} (qemu)" if guest else short), f"{short} {program}"
 
 
 def found(pid: int) -> tuple[Process, str]:

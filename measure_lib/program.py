@@ -45,6 +45,8 @@ def nothing(look: Look, only_marked: bool) -> str:
     """Why there is no page to be counted."""
     if all(seen.has_ended for seen in look.seen):
         return "each process ended while it was read"
+    if any(seen.changed for seen in look.seen):
+        return "all of their memory changed between the two looks"
     if only_marked:
         return "none of their memory is marked for KSM: without --mergeable all that could be marked is counted"
     return "they have no anonymous memory that KSM could merge"
@@ -67,12 +69,10 @@ def check(report: Report, look: Look, options: argparse.Namespace) -> Checked:
 
 
 def write(path: str, what: str) -> None:
-    """Writes a file whole, or leaves what was there."""
-    beside = f"{path}.{os.getpid()}"
+    """Writes a file."""
     try:
-        with open(beside, "w", encoding="utf-8") as file:
+        with open(path, "w", encoding="utf-8") as file:
             file.write(what)
-        os.replace(beside, path)
     except OSError as error:
         raise Trouble(f"{path} can't be written: {error.strerror}", NOT_WRITTEN) from None
 
