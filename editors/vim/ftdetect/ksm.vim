@@ -1,0 +1,2 @@
+" Scripts of ksmbook
+autocmd BufNewFile,BufRead *.ksm setfiletype ksm
