@@ -79,7 +79,7 @@ static int ksmd_is_asleep(void)
 	return state && state[1] && state[2] == 'S';
 }
 
-static void wait_for_ksmd(void)
+void wait_for_ksmd(void)
 {
 	const struct timespec pause = { .tv_nsec = LOOK_NANOSECONDS };
 	for (int look = 0; look < LOOKS; look++) {

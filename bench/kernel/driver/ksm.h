@@ -12,6 +12,10 @@ int ksm_write(const char *name, long value);
  * the kernel's own `pages_to_scan`, which is 0 from here on except in a batch. */
 unsigned long ksm_start(void);
 
+/* Waits until ksmd sleeps. A knob that it reads must not change while it is awake: a new number of visits,
+ * written right behind `run` 1, would let it make a pass that nobody asked for. */
+void wait_for_ksmd(void);
+
 /* Lets ksmd do exactly one batch of so many steps, and waits for its end. A batch does not go on into
  * the next pass. Where ksmd has nothing to do, nothing happens. */
 void ksmd_batch(unsigned long steps);

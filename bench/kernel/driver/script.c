@@ -328,6 +328,7 @@ static void do_movedup(char **words)
 /* ksmd's own number of visits is 0 except in a batch, so the script's is kept here. */
 static void set_visits(long value)
 {
+	wait_for_ksmd();
 	int error = ksm_write("pages_to_scan", value);
 	if (!error)
 		visits = (unsigned long)ksm_read("pages_to_scan");
