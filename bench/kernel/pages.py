@@ -8,12 +8,14 @@ NODES = 2
 
 @dataclasses.dataclass(eq=False)
 class Page:
-    """A registered page. `had` are the contents that it had since it was registered."""
+    """A registered page. `is_zeroed` says that it is mapped from the zero page, and `had` are the contents that it had
+    since it was registered."""
     guest: int
     number: int
     node: int
     content: str
     is_mergeable: bool = True
+    is_zeroed: bool = False
     had: set = dataclasses.field(default_factory=set)
 
     def __str__(self):
@@ -65,12 +67,13 @@ class Round:
 class Pages:
     """The pages that are registered, those that are merged, and what the round did so far."""
 
-    def __init__(self, crowd_contents):
+    def __init__(self, crowd_contents, zeroes):
         self.crowd_contents = crowd_contents
+        self.zeroes = zeroes
         self.pages = {}
         self.merged = collections.defaultdict(set)
         self.crowds = collections.defaultdict(Crowd)
-        self.across, self.limit = 1, 256
+        self.across, self.limit, self.zero_knob = 1, 256, 0
         self.round = Round()
 
     def tree(self, node):
@@ -89,6 +92,9 @@ class Pages:
     def is_shared(self):
         return any(self.has_dup(key) for key in {*self.merged, *self.crowds})
 
+    def has_merged_zeroes(self):
+        return any(pages for (_, content), pages in self.merged.items() if content == self.zeroes)
+
     def count_of(self, content):
         """Pages that have a content, or had it when the round began, and those that came to it."""
         return self.round.came[content] + sum(
@@ -103,6 +109,7 @@ class Pages:
 
     def note_leaving(self, page):
         key = self.key(page)
+        page.is_zeroed = False
         self.merged[key].discard(page)
         self.round.touched.add(page)
         self.round.went[page.content] += 1
@@ -138,7 +145,9 @@ class Pages:
         """What the pages are after two passes."""
         members = collections.defaultdict(list)
         for page in self.pages.values():
-            if page.is_mergeable:
+            if page.is_mergeable and page.content == self.zeroes and page not in self.merged[self.key(page)]:
+                page.is_zeroed |= self.zero_knob == 1
+            if page.is_mergeable and not page.is_zeroed:
                 members[self.key(page)].append(page)
         for key in {*members, *self.merged}:
             pages = members[key]
