@@ -2,9 +2,10 @@
  * and writes the replies to the second serial line.
  *
  * Beside NAME.ksm there may be NAME.setup, lines of a file of /sys/kernel/mm/ksm and a number, which are
- * written before the script is run. */
+ * written before the script is run. A file that the kernel does not have is left out. */
 
 #include <dirent.h>
+#include <errno.h>
 #include <stdio.h>
 #include <stdlib.h>
 #include <string.h>
@@ -78,7 +79,10 @@ static void write_knob(const char *line)
 {
 	char name[64];
 	long value;
-	if (sscanf(line, "%63s %ld", name, &value) == 2 && ksm_write(name, value))
+	if (sscanf(line, "%63s %ld", name, &value) != 2)
+		return;
+	int error = ksm_write(name, value);
+	if (error && error != ENOENT)
 		fail("a knob of a setup can't be set");
 }
 
