@@ -2,7 +2,6 @@
 #![tactic(auto)]
 
 mod book;
-mod journal;
 mod knobs;
 mod moving;
 mod scan;
@@ -10,4 +9,4 @@ mod state;
 mod unmerging;
 
 pub use book::Book;
-pub use journal::Journal;
+pub use ksm_journal::Journal;
