@@ -4,3 +4,4 @@ pub mod Unmerged
 pub mod Promised
 pub mod Gathered
 pub mod Quiet
+pub mod Worked
