@@ -4,7 +4,6 @@ pub mod Standing
 pub mod Promised
 pub mod DupMoves
 pub mod Onward
-pub mod Entering
 pub mod Journaled
 pub mod Resettling
 pub mod Quiet

@@ -2,6 +2,6 @@ pub mod Whole
 pub mod Carried
 pub mod Unmerged
 pub mod Promised
-pub mod Entered
 pub mod Gathered
 pub mod Quiet
+pub mod Worked

@@ -17,7 +17,6 @@ ghost use Rattle.ksm_base.specs.Sound.{IsSound};
 ghost use Rattle.ksm_layout.specs.Keeping.{spent};
 ghost use Rattle.ksm_book.specs.Promised.{FindsPlace, LieOn, NumbersAreSmall};
 
-use crate::journal::Journal;
 use crate::state::State;
 use frame_table::{FrameTable, Keeper};
 use ksm_base::laws::a_journal_goes_on;
@@ -25,6 +24,7 @@ use ksm_base::{
     Command, Counters, Fault, GuestPage, Knobs, PageBytes, Reply, Shape,
     each_page_has_what_was_stored_last,
 };
+use ksm_journal::Journal;
 use std::alloc::Global;
 use std::marker::Model;
 

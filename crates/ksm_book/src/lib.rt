@@ -2,12 +2,13 @@
 #![tactic(auto)]
 
 mod book;
-mod journal;
 mod knobs;
 mod moving;
 mod scan;
 mod state;
 mod unmerging;
+mod worked;
 
 pub use book::Book;
-pub use journal::Journal;
+pub use ksm_journal::Journal;
+pub use worked::{nodes_of_frames, steps_of_leaving, steps_of_visits};

@@ -71,3 +71,8 @@ abbrev pub page_moves_to_a_lower_node : List Line
 page_moves_to_a_lower_node =
     reg 0 0 1 0xaa ∷ reg 0 1 0 0xbb ∷ refused (NoFrame 0) (MovePage (at 0 0) 0) ∷ lies 0 0 1 0xaa true false Private ∷ drop 0 1
     ∷ ok (MovePage (at 0 0) 0) ∷ lies 0 0 0 0xaa true false Private ∷ []
+
+-- a page registered on the second node misses a frame there
+abbrev pub registering_misses_a_frame_of_its_node : List Line
+registering_misses_a_frame_of_its_node =
+    reg 0 0 1 0xaa ∷ refused (NoFrame 1) (Register (at 0 1) 1 (full 0xbb)) ∷ never (Register (at 0 1) 1 (full 0xbb)) (Err (NoFrame 0)) ∷ []

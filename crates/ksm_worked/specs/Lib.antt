@@ -9,3 +9,4 @@ pub mod Passes
 pub mod Flags
 pub mod ZeroPages
 pub mod Selftests
+pub mod Untouched

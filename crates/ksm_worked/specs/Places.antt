@@ -63,3 +63,9 @@ abbrev pub dup_keeps_its_row : List Line
 dup_keeps_its_row =
     merged ++ ok (MoveDup 0 1) ∷ stands (dup 0 0 0 0xaa ∷ []) ∷ ok (MovePage (at 0 0) 1) ∷ put 0 1 0xbb
     ∷ stands (dup 0 0 0 0xaa ∷ []) ∷ []
+
+-- there are as many places as frames of all nodes together
+abbrev pub places_of_all_nodes : List Line
+places_of_all_nodes =
+    reg 0 0 0 0xaa ∷ reg 0 1 1 0xaa ∷ ok (SetRun 1) ∷ scan 4 ∷ reg 0 2 0 0xbb ∷ reg 0 3 1 0xbb ∷ scan 8 ∷ put 0 2 0xcc ∷ put 0 3 0xcc ∷ scan 8
+    ∷ stands (dup 0 0 0 0xaa ∷ dup 1 1 0 0xbb ∷ dup 2 2 0 0xcc ∷ []) ∷ []

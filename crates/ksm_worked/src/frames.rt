@@ -58,3 +58,8 @@ pub fn frame_is_missed_where_it_is_wanted()
 pub fn page_moves_to_a_lower_node()
     ensures { Plays (opening (shape 2 1)) Frames.page_moves_to_a_lower_node }
 {}
+
+/// A page registered on the second node misses a frame of that node, and of no other.
+pub fn registering_misses_a_frame_of_its_node()
+    ensures { Plays (opening (shape 2 1)) Frames.registering_misses_a_frame_of_its_node }
+{}

@@ -10,4 +10,5 @@ pub mod merging;
 pub mod passes;
 pub mod places;
 pub mod refusals;
+pub mod untouched;
 pub mod zero_pages;

@@ -43,3 +43,8 @@ pub fn stale_dup_is_at_no_place()
 pub fn dup_keeps_its_row()
     ensures { Plays (opening (shape 2 4)) Places.dup_keeps_its_row }
 {}
+
+/// There are as many places as frames of all nodes together, so a third dup finds one where a node has two frames.
+pub fn places_of_all_nodes()
+    ensures { Plays (opening (shape 2 2)) Places.places_of_all_nodes }
+{}

@@ -1,0 +1,58 @@
+-- Worked commands: three equal pages, as they lie in the frames of two nodes, and what a command does with these. Own.
+use Rattle.std.specs.Prelude.{ℕ, ◌*◌, ◌^◌, List, [], ◌∷◌, Option, None, Some, Ok}
+use Rattle.std.specs.List.{repeat}
+use Rattle.ksm_base.specs.declared.page.GuestPage.{GuestPage}
+use Rattle.ksm_base.specs.declared.page.TheConstants.{PAGE_WORDS}
+use Rattle.ksm_base.specs.declared.command.Command.{Command}
+use Rattle.ksm_base.specs.declared.command.Command.TheVariants.{Register, Drop, Store, Scan, SetRun}
+use Rattle.ksm_base.specs.declared.reply.Reply.TheVariants.{Done, Scanned}
+use Rattle.ksm_base.specs.declared.shape.Shape.{Shape}
+use Rattle.ksm_base.specs.State.{BookState, opening}
+use Rattle.ksm_base.specs.Apply.{after}
+use Rattle.ksm_layout.specs.Commands.{listed_in}
+use Rattle.ksm_pages.specs.Listed.{Listed}
+
+-- two nodes of four frames
+abbrev pub shape : Shape
+shape = record { nodes = 2; frames_per_node = 4; passes = 2; last_generation = 2 ^ 40; tries = 8 }
+
+-- a page of guest 0
+abbrev pub page : ℕ → GuestPage
+page number = record { guest = 0; page = number }
+
+-- bytes that are all equal
+abbrev pub full : ℕ → List ℕ
+full byte = repeat PAGE_WORDS (byte * 0x0101010101010101 ∷ [])
+
+-- the state after commands that are done
+abbrev pub done : BookState → List Command → BookState
+done b [] = b
+done b (command ∷ later) = done (after b command (Ok Done)) later
+
+-- the state after so many visits
+abbrev pub scanned : ℕ → BookState → BookState
+scanned visits b = after b (Scan visits) (Ok (Scanned visits None))
+
+-- two equal pages at home on node 0, and one on node 1
+abbrev pub three : BookState
+three = done (opening shape) (Register (page 0) 0 (full 0xaa) ∷ Register (page 1) 0 (full 0xaa) ∷ Register (page 2) 1 (full 0xaa) ∷ SetRun 1 ∷ [])
+
+-- the lowest frames of their nodes
+abbrev pub apart : List (Option ℕ)
+apart = Some 0 ∷ Some 1 ∷ Some 4 ∷ []
+
+-- the three merged, after two passes
+abbrev pub merged : BookState
+merged = scanned 6 three
+
+-- all on the frame of the first
+abbrev pub together : List (Option ℕ)
+together = Some 0 ∷ Some 0 ∷ Some 0 ∷ []
+
+-- the three merged, and then stored to or dropped, so that their dup is stale
+abbrev pub stale : BookState
+stale = done merged (Store (page 0) (full 0xbb) ∷ Store (page 1) (full 0xcc) ∷ Drop (page 2) ∷ [])
+
+-- the rows with their frames
+abbrev pub all_merged : Listed
+all_merged = listed_in merged together

@@ -1,0 +1,41 @@
+//! Worked commands: the steps that they make on the frames, and the nodes on which they get one. Each is a law, with nothing to run.
+
+ghost use Rattle.std.specs.Prelude.{◌≡◌, [], ◌∷◌, None, Some, Ok, Err};
+ghost use Rattle.frame_core.specs.declared.event.KeeperStep.TheVariants.{Add, Sub, Publish, Withdraw};
+ghost use Rattle.ksm_base.specs.declared.command.Command.TheVariants.{Register, Store, Scan, Unmerge, MovePage, MoveDup, SetRun};
+ghost use Rattle.ksm_base.specs.declared.fault.Fault.TheVariants.{NoFrame};
+ghost use Rattle.ksm_base.specs.declared.reply.Reply.TheVariants.{Done, Scanned, Unmerged};
+ghost use Rattle.ksm_book.specs.Whole.{nodes_got};
+ghost use Rattle.ksm_book.specs.Worked.{all_merged, apart, full, merged, page, stale, three, together};
+ghost use Rattle.ksm_layout.specs.Commands.{dismissing, listed_in, pruning, scanning};
+
+/// A visit that makes a dup has its place name the waiting page's frame, which the visited page gets, and its own loses a reference. One
+/// that joins adds a reference there before it leaves its own frame. No visit before them makes a step.
+pub fn steps_of_visits()
+    ensures waits { scanning 4 three apart ≡ record { steps = []; frames = apart } }
+    ensures makes { scanning 5 three apart ≡ record { steps = Publish 0 0 ∷ Add 0 ∷ Sub 1 ∷ []; frames = Some 0 ∷ Some 0 ∷ Some 4 ∷ [] } }
+    ensures joins { scanning 6 three apart ≡ record { steps = Publish 0 0 ∷ Add 0 ∷ Sub 1 ∷ Add 0 ∷ Sub 4 ∷ []; frames = together } }
+    ensures stays { scanning 3 merged together ≡ record { steps = []; frames = together } }
+{}
+
+/// A page that goes leaves its frame. A stale dup that is pruned is withdrawn from its place, one with items stays.
+pub fn steps_of_leaving()
+    ensures goes { dismissing all_merged (page 1) ≡ record { steps = Sub 0 ∷ []; frames = Some 0 ∷ Some 0 ∷ [] } }
+    ensures prunes { pruning stale.dups (listed_in stale (Some 1 ∷ Some 2 ∷ [])) ≡ record { steps = Withdraw 0 ∷ []; frames = Some 1 ∷ Some 2 ∷ [] } }
+    ensures keeps { pruning merged.dups all_merged ≡ record { steps = []; frames = together } }
+{}
+
+/// A frame is got on the node where it is needed: a new page's, the home of a page that leaves its dup, the node moved to. None is where
+/// the page has one of its own, or stays at its home, or the command is refused.
+pub fn nodes_of_frames()
+    ensures registered { nodes_got merged (Ok Done) (Register (page 3) 1 (full 0xbb)) ≡ 1 ∷ [] }
+    ensures copied { nodes_got merged (Ok Done) (Store (page 2) (full 0xbb)) ≡ 1 ∷ [] }
+    ensures in_place { nodes_got three (Ok Done) (Store (page 2) (full 0xbb)) ≡ [] }
+    ensures moved { nodes_got merged (Ok Done) (MovePage (page 2) 0) ≡ 0 ∷ [] }
+    ensures at_home { nodes_got merged (Ok Done) (MovePage (page 2) 1) ≡ [] }
+    ensures dup_moved { nodes_got merged (Ok Done) (MoveDup 0 1) ≡ 1 ∷ [] }
+    ensures unmerged { nodes_got merged (Ok (Unmerged 3 None)) (Unmerge 0) ≡ 0 ∷ 0 ∷ 1 ∷ [] }
+    ensures stopped { nodes_got merged (Ok (Unmerged 1 (Some (NoFrame 0)))) (SetRun 2) ≡ 0 ∷ [] }
+    ensures scanned { nodes_got three (Ok (Scanned 6 None)) (Scan 6) ≡ [] }
+    ensures refused { nodes_got merged (Err (NoFrame 1)) (Store (page 2) (full 0xbb)) ≡ [] }
+{}
