@@ -6,7 +6,7 @@ mod lookups;
 mod selftests;
 
 use ksm_base::{Fault, PAGE_WORDS, Shape};
-use ksm_lines::{LineFault, read_line};
+use ksm_lines::read_line;
 use ksm_script::{End, RunFault, Session, run};
 use ksm_shared::{Naming, Parts};
 use std::alloc::{AllocError, Global};
@@ -26,7 +26,7 @@ struct Row<'a> {
     frames: u32,
     passes: u32,
     last_generation: u64,
-    input: &'a [u8],
+    input: &'a str,
     output: &'a str,
     end: End,
 }
@@ -38,7 +38,7 @@ const ROW: Row = Row {
     frames: 4,
     passes: 2,
     last_generation: 1 << 40,
-    input: b"",
+    input: "",
     output: "",
     end: End::AllRead,
 };
@@ -104,7 +104,7 @@ fn play_on<T: Threads + Wait + Sync, R: Read, W: Write>(
     reader: &mut R,
     writer: &mut W,
 ) -> Result<Result<End, RunFault>, Fault> {
-    let mut nothing: &[u8] = b"";
+    let mut nothing = "".as_bytes();
     let ended = play_twice(rt, alloc, row, reader, writer, &mut nothing)?;
     Ok(ended.0)
 }
@@ -116,7 +116,7 @@ impl Row<'_> {
         rt: &T,
         alloc: Global,
     ) -> Result<(Vec<u8>, Result<End, RunFault>), Fault> {
-        let mut reader = self.input;
+        let mut reader = self.input.as_bytes();
         let mut written = Vec::new(alloc);
         let outcome = play_on(rt, alloc, *self, &mut reader, &mut written)?;
         Ok((written, outcome))
@@ -164,25 +164,25 @@ fn first_rows(rt: HostRuntime) -> Result<(), Fail> {
     let rows = [
         Row {
             name: "first_run",
-            input: b"reg 0 0 0 aa\nput 0 0 bb\nget 0 0\nstat\n",
+            input: "reg 0 0 0 aa\nput 0 0 bb\nget 0 0\nstat\n",
             output: "ok\nok\n[bb]\nstat shared=0 sharing=0 unshared=0 volatile=1 chains=0 dups=0 full_scans=0\n",
             ..ROW
         },
         Row {
             name: "empty_input",
-            input: b"",
+            input: "",
             output: "",
             ..ROW
         },
         Row {
             name: "counters_at_opening",
-            input: b"stat\n",
+            input: "stat\n",
             output: "stat shared=0 sharing=0 unshared=0 volatile=0 chains=0 dups=0 full_scans=0\n",
             ..ROW
         },
         Row {
             name: "bad_line_without_newline",
-            input: b"reg 0 0 0 aa\nput 0 0 b",
+            input: "reg 0 0 0 aa\nput 0 0 b",
             output: "ok\nbad line 2\n",
             end: End::BadLine(2),
             ..ROW
@@ -209,7 +209,7 @@ fn byte_order_of_sixty_four(rt: HostRuntime) -> Result<(), Fail> {
     let output = format!(in alloc; "ok\n{digits}\n")?;
     let rows = [Row {
         name: "byte_order_of_sixty_four",
-        input: input.as_bytes(),
+        input: input.as_str(),
         output: output.as_str(),
         ..ROW
     }];
@@ -226,7 +226,7 @@ fn pages_differ_in_the_last_byte(rt: HostRuntime) -> Result<(), Fail> {
     )?;
     let rows = [Row {
         name: "pages_differ_in_the_last_byte",
-        input: input.as_bytes(),
+        input: input.as_str(),
         output: "ok\nok\nok\nscanned 4\nstat shared=0 sharing=0 unshared=2 volatile=0 chains=0 dups=0 full_scans=2\nok\nscanned 6\ndiffers 1 1\nstat shared=1 sharing=1 unshared=1 volatile=0 chains=0 dups=0 full_scans=4\n",
         ..ROW
     }];
@@ -239,19 +239,19 @@ fn merging_rows(rt: HostRuntime) -> Result<(), Fail> {
     let rows = [
         Row {
             name: "one_pass_merges_nothing",
-            input: b"reg 0 0 0 aa\nreg 0 1 0 aa\nset run 1\nscan 2\nstat\n",
+            input: "reg 0 0 0 aa\nreg 0 1 0 aa\nset run 1\nscan 2\nstat\n",
             output: "ok\nok\nok\nscanned 2\nstat shared=0 sharing=0 unshared=0 volatile=2 chains=0 dups=0 full_scans=1\n",
             ..ROW
         },
         Row {
             name: "two_equal_pages_merge",
-            input: b"reg 0 0 0 aa\nreg 0 1 0 aa\nset run 1\nscan 2\nstat\nscan 2\nstat\nget 0 1\n",
+            input: "reg 0 0 0 aa\nreg 0 1 0 aa\nset run 1\nscan 2\nstat\nscan 2\nstat\nget 0 1\n",
             output: "ok\nok\nok\nscanned 2\nstat shared=0 sharing=0 unshared=0 volatile=2 chains=0 dups=0 full_scans=1\nscanned 2\nstat shared=1 sharing=1 unshared=0 volatile=0 chains=0 dups=0 full_scans=2\n[aa]\n",
             ..ROW
         },
         Row {
             name: "equal_store_still_copies",
-            input: b"reg 0 0 0 aa\nreg 0 1 0 aa\nset run 1\nscan 4\nput 0 0 aa\nput 0 1 aa\nstat\nscan 2\nstat\nticket 0 0\n",
+            input: "reg 0 0 0 aa\nreg 0 1 0 aa\nset run 1\nscan 4\nput 0 0 aa\nput 0 1 aa\nstat\nscan 2\nstat\nticket 0 0\n",
             output: "ok\nok\nok\nscanned 4\nok\nok\nstat shared=0 sharing=0 unshared=0 volatile=2 chains=0 dups=0 full_scans=2\nscanned 2\nstat shared=1 sharing=1 unshared=0 volatile=0 chains=1 dups=2 full_scans=3\nplace 1\n",
             ..ROW
         },
@@ -259,14 +259,14 @@ fn merging_rows(rt: HostRuntime) -> Result<(), Fail> {
             name: "frame_retires",
             frames: 1,
             last_generation: 2,
-            input: b"reg 0 0 0 aa\ndrop 0 0\nreg 0 0 0 aa\ndrop 0 0\nreg 0 0 0 aa\n",
+            input: "reg 0 0 0 aa\ndrop 0 0\nreg 0 0 0 aa\ndrop 0 0\nreg 0 0 0 aa\n",
             output: "ok\nok\nok\nok\nrefused 4\n",
             ..ROW
         },
         Row {
             name: "stale_dup_makes_room",
             frames: 3,
-            input: b"reg 0 0 0 aa\nreg 0 1 0 aa\nset run 1\nscan 4\nput 0 0 a1\nput 0 1 a1\nscan 4\nput 0 0 a2\nput 0 1 a2\nscan 4\nput 0 0 a3\nput 0 1 a3\nscan 4\nstat\n",
+            input: "reg 0 0 0 aa\nreg 0 1 0 aa\nset run 1\nscan 4\nput 0 0 a1\nput 0 1 a1\nscan 4\nput 0 0 a2\nput 0 1 a2\nscan 4\nput 0 0 a3\nput 0 1 a3\nscan 4\nstat\n",
             output: "ok\nok\nok\nscanned 4\nok\nok\nscanned 4\nok\nok\nscanned 4\nok\nok\nscanned 4\nstat shared=1 sharing=1 unshared=0 volatile=0 chains=0 dups=0 full_scans=8\n",
             ..ROW
         },
@@ -280,27 +280,27 @@ fn chain_rows(rt: HostRuntime) -> Result<(), Fail> {
     let rows = [
         Row {
             name: "limit_boundary",
-            input: b"set max_page_sharing 2\nreg 0 0 0 aa\nreg 0 1 0 aa\nreg 0 2 0 aa\nreg 0 3 0 aa\nset run 1\nscan 8\nstat\n",
+            input: "set max_page_sharing 2\nreg 0 0 0 aa\nreg 0 1 0 aa\nreg 0 2 0 aa\nreg 0 3 0 aa\nset run 1\nscan 8\nstat\n",
             output: "ok\nok\nok\nok\nok\nok\nscanned 8\nstat shared=2 sharing=2 unshared=0 volatile=0 chains=1 dups=2 full_scans=2\n",
             ..ROW
         },
         Row {
             name: "fifth_page_waits",
             frames: 8,
-            input: b"set max_page_sharing 2\nreg 0 0 0 aa\nreg 0 1 0 aa\nreg 0 2 0 aa\nreg 0 3 0 aa\nreg 0 4 0 aa\nset run 1\nscan 10\nstat\n",
+            input: "set max_page_sharing 2\nreg 0 0 0 aa\nreg 0 1 0 aa\nreg 0 2 0 aa\nreg 0 3 0 aa\nreg 0 4 0 aa\nset run 1\nscan 10\nstat\n",
             output: "ok\nok\nok\nok\nok\nok\nok\nscanned 10\nstat shared=2 sharing=2 unshared=1 volatile=0 chains=1 dups=2 full_scans=2\n",
             ..ROW
         },
         Row {
             name: "chain_after_two_writes",
-            input: b"set max_page_sharing 2\nreg 0 0 0 aa\nreg 0 1 0 aa\nreg 0 2 0 aa\nreg 0 3 0 aa\nset run 1\nscan 8\nstat\nput 0 0 bb\nput 0 1 cc\nstat\nprune\nstat\n",
+            input: "set max_page_sharing 2\nreg 0 0 0 aa\nreg 0 1 0 aa\nreg 0 2 0 aa\nreg 0 3 0 aa\nset run 1\nscan 8\nstat\nput 0 0 bb\nput 0 1 cc\nstat\nprune\nstat\n",
             output: "ok\nok\nok\nok\nok\nok\nscanned 8\nstat shared=2 sharing=2 unshared=0 volatile=0 chains=1 dups=2 full_scans=2\nok\nok\nstat shared=1 sharing=1 unshared=0 volatile=2 chains=1 dups=2 full_scans=2\npruned 1\nstat shared=1 sharing=1 unshared=0 volatile=2 chains=0 dups=0 full_scans=2\n",
             ..ROW
         },
         Row {
             name: "fullest_dup_is_joined",
             frames: 8,
-            input: b"set max_page_sharing 3\nreg 0 0 0 aa\nreg 0 1 0 aa\nreg 0 2 0 aa\nreg 0 3 0 aa\nreg 0 4 0 aa\nreg 0 5 0 aa\nset run 1\nscan 12\ndrop 0 0\ndrop 0 1\ndrop 0 3\nreg 0 9 0 aa\nscan 4\nticket 0 9\nstat\nrmap 0\nrmap 1\nrmap 2\n",
+            input: "set max_page_sharing 3\nreg 0 0 0 aa\nreg 0 1 0 aa\nreg 0 2 0 aa\nreg 0 3 0 aa\nreg 0 4 0 aa\nreg 0 5 0 aa\nset run 1\nscan 12\ndrop 0 0\ndrop 0 1\ndrop 0 3\nreg 0 9 0 aa\nscan 4\nticket 0 9\nstat\nrmap 0\nrmap 1\nrmap 2\n",
             output: "ok\nok\nok\nok\nok\nok\nok\nok\nscanned 12\nok\nok\nok\nok\nscanned 4\nplace 1\nstat shared=2 sharing=2 unshared=0 volatile=0 chains=1 dups=2 full_scans=3\nrmap 0:2\nrmap 0:4 0:5 0:9\nrefused 10\n",
             ..ROW
         },
@@ -316,25 +316,25 @@ fn knob_rows(rt: HostRuntime) -> Result<(), Fail> {
             name: "nodes_kept_apart",
             nodes: 2,
             frames: 2,
-            input: b"set merge_across_nodes 0\nreg 0 0 0 aa\nreg 1 0 1 aa\nset run 1\nscan 4\nstat\n",
+            input: "set merge_across_nodes 0\nreg 0 0 0 aa\nreg 1 0 1 aa\nset run 1\nscan 4\nstat\n",
             output: "ok\nok\nok\nok\nscanned 4\nstat shared=0 sharing=0 unshared=2 volatile=0 chains=0 dups=0 full_scans=2\n",
             ..ROW
         },
         Row {
             name: "knob_waits_for_unmerging",
-            input: b"reg 0 0 0 aa\nreg 0 1 0 aa\nset run 1\nscan 4\nset merge_across_nodes 0\nset run 2\nset merge_across_nodes 0\nshow merge_across_nodes\nstat\n",
+            input: "reg 0 0 0 aa\nreg 0 1 0 aa\nset run 1\nscan 4\nset merge_across_nodes 0\nset run 2\nset merge_across_nodes 0\nshow merge_across_nodes\nstat\n",
             output: "ok\nok\nok\nscanned 4\nrefused 6\nunmerged 2\nok\n0\nstat shared=0 sharing=0 unshared=0 volatile=2 chains=0 dups=0 full_scans=2\n",
             ..ROW
         },
         Row {
             name: "refusals_of_commands",
-            input: b"set max_page_sharing 1\nscan 1\nput 5 5 aa\nreg 0 0 1 aa\nreg 0 0 0 aa\nreg 0 0 0 bb\n",
+            input: "set max_page_sharing 1\nscan 1\nput 5 5 aa\nreg 0 0 1 aa\nreg 0 0 0 aa\nreg 0 0 0 bb\n",
             output: "refused 7\nrefused 5\nrefused 2\nrefused 11\nok\nrefused 3\n",
             ..ROW
         },
         Row {
             name: "scan_of_pages_to_scan",
-            input: b"reg 0 0 0 aa\nreg 0 1 0 aa\nset run 1\nscan 4\nset pages_to_scan 0\nset pages_to_scan 3\nscan\nshow pages_to_scan\nstat\n",
+            input: "reg 0 0 0 aa\nreg 0 1 0 aa\nset run 1\nscan 4\nset pages_to_scan 0\nset pages_to_scan 3\nscan\nshow pages_to_scan\nstat\n",
             output: "ok\nok\nok\nscanned 4\nrefused 7\nok\nscanned 3\n3\nstat shared=1 sharing=1 unshared=0 volatile=0 chains=0 dups=0 full_scans=3\n",
             ..ROW
         },
@@ -348,7 +348,7 @@ fn zero_page_rows(rt: HostRuntime) -> Result<(), Fail> {
     let rows = [
         Row {
             name: "empty_pages_become_zero",
-            input: b"set use_zero_pages 1\nreg 0 0 0 00\nreg 0 1 0 00\nreg 0 2 0 00\nset run 1\nscan 6\nstat\nshow ksm_zero_pages\nput 0 1 00\nshow ksm_zero_pages\nscan 3\nshow ksm_zero_pages\n",
+            input: "set use_zero_pages 1\nreg 0 0 0 00\nreg 0 1 0 00\nreg 0 2 0 00\nset run 1\nscan 6\nstat\nshow ksm_zero_pages\nput 0 1 00\nshow ksm_zero_pages\nscan 3\nshow ksm_zero_pages\n",
             output: "ok\nok\nok\nok\nok\nscanned 6\nstat shared=0 sharing=0 unshared=0 volatile=0 chains=0 dups=0 full_scans=2\n3\nok\n2\nscanned 3\n3\n",
             ..ROW
         },
@@ -356,19 +356,19 @@ fn zero_page_rows(rt: HostRuntime) -> Result<(), Fail> {
             name: "zero_pages_and_no_frame",
             nodes: 1,
             frames: 2,
-            input: b"set use_zero_pages 1\nreg 0 0 0 00\nreg 0 1 0 00\nset run 1\nscan 4\nreg 0 2 0 11\nreg 0 3 0 22\nput 0 0 05\nget 0 0\nunmerge 0\nset run 2\nshow run\nset use_zero_pages 2\n",
+            input: "set use_zero_pages 1\nreg 0 0 0 00\nreg 0 1 0 00\nset run 1\nscan 4\nreg 0 2 0 11\nreg 0 3 0 22\nput 0 0 05\nget 0 0\nunmerge 0\nset run 2\nshow run\nset use_zero_pages 2\n",
             output: "ok\nok\nok\nok\nscanned 4\nok\nok\nrefused 4\n[00]\nunmerged 0 refused 4\nunmerged 0 refused 4\n0\nrefused 7\n",
             ..ROW
         },
         Row {
             name: "open_dup_before_zero_page",
-            input: b"reg 0 0 0 00\nreg 0 1 0 00\nset run 1\nscan 4\nset use_zero_pages 1\nreg 0 2 0 00\nscan 3\nstat\nshow ksm_zero_pages\n",
+            input: "reg 0 0 0 00\nreg 0 1 0 00\nset run 1\nscan 4\nset use_zero_pages 1\nreg 0 2 0 00\nscan 3\nstat\nshow ksm_zero_pages\n",
             output: "ok\nok\nok\nscanned 4\nok\nok\nscanned 3\nstat shared=1 sharing=2 unshared=0 volatile=0 chains=0 dups=0 full_scans=3\n0\n",
             ..ROW
         },
         Row {
             name: "zero_pages_are_shown_and_not_set",
-            input: b"show use_zero_pages\nshow ksm_zero_pages\nset use_zero_pages 1\nshow use_zero_pages\n",
+            input: "show use_zero_pages\nshow ksm_zero_pages\nset use_zero_pages 1\nshow use_zero_pages\n",
             output: "0\n0\nok\n1\n",
             ..ROW
         },
@@ -383,13 +383,13 @@ fn unmerging_rows(rt: HostRuntime) -> Result<(), Fail> {
         Row {
             name: "unmerging_runs_out_of_frames",
             frames: 3,
-            input: b"reg 0 0 0 aa\nreg 0 1 0 aa\nreg 0 2 0 aa\nset run 1\nscan 6\nreg 0 3 0 bb\nunmerge 0\nstat\nset run 2\nshow run\n",
+            input: "reg 0 0 0 aa\nreg 0 1 0 aa\nreg 0 2 0 aa\nset run 1\nscan 6\nreg 0 3 0 bb\nunmerge 0\nstat\nset run 2\nshow run\n",
             output: "ok\nok\nok\nok\nscanned 6\nok\nunmerged 1 refused 4\nstat shared=1 sharing=1 unshared=0 volatile=1 chains=0 dups=0 full_scans=2\nunmerged 0 refused 4\n0\n",
             ..ROW
         },
         Row {
             name: "mergeable_again",
-            input: b"reg 0 0 0 aa\nreg 0 1 0 aa\nset run 1\nscan 4\nunmerge 0\nscan 2\nmergeable 0\nscan 4\nstat\nmergeable 7\nunmerge 7\n",
+            input: "reg 0 0 0 aa\nreg 0 1 0 aa\nset run 1\nscan 4\nunmerge 0\nscan 2\nmergeable 0\nscan 4\nstat\nmergeable 7\nunmerge 7\n",
             output: "ok\nok\nok\nscanned 4\nunmerged 2\nscanned 0\nok\nscanned 4\nstat shared=1 sharing=1 unshared=0 volatile=0 chains=1 dups=2 full_scans=4\nrefused 2\nrefused 2\n",
             ..ROW
         },
@@ -404,14 +404,14 @@ fn moving_rows(rt: HostRuntime) -> Result<(), Fail> {
         Row {
             name: "moved_page_leaves_its_dup",
             nodes: 2,
-            input: b"reg 0 0 0 aa\nreg 0 1 0 aa\nset run 1\nscan 4\nmove 0 0 1\nticket 0 0\nticket 0 1\nstat\nget 0 0\n",
+            input: "reg 0 0 0 aa\nreg 0 1 0 aa\nset run 1\nscan 4\nmove 0 0 1\nticket 0 0\nticket 0 1\nstat\nget 0 0\n",
             output: "ok\nok\nok\nscanned 4\nok\nprivate\nplace 0\nstat shared=1 sharing=0 unshared=0 volatile=1 chains=0 dups=0 full_scans=2\n[aa]\n",
             ..ROW
         },
         Row {
             name: "dup_moves_within_its_node",
             nodes: 2,
-            input: b"set merge_across_nodes 0\nreg 0 0 0 aa\nreg 0 1 0 aa\nset run 1\nscan 4\nmovedup 0 1\nmovedup 0 0\nget 0 0\nmovedup 3 0\nmovedup 0 9\n",
+            input: "set merge_across_nodes 0\nreg 0 0 0 aa\nreg 0 1 0 aa\nset run 1\nscan 4\nmovedup 0 1\nmovedup 0 0\nget 0 0\nmovedup 3 0\nmovedup 0 9\n",
             output: "ok\nok\nok\nok\nscanned 4\nrefused 9\nok\n[aa]\nrefused 10\nrefused 11\n",
             ..ROW
         },
@@ -419,7 +419,7 @@ fn moving_rows(rt: HostRuntime) -> Result<(), Fail> {
             name: "no_frame_everywhere",
             nodes: 2,
             frames: 2,
-            input: b"reg 0 0 0 aa\nreg 0 1 0 aa\nset run 1\nscan 4\nreg 0 2 0 bb\nput 0 0 cc\nreg 0 3 0 dd\nmovedup 0 0\nunmerge 0\nreg 1 0 1 ee\nreg 1 1 1 ee\nmove 0 2 1\nset run 2\nstat\nscan 1\nget 0 0\n",
+            input: "reg 0 0 0 aa\nreg 0 1 0 aa\nset run 1\nscan 4\nreg 0 2 0 bb\nput 0 0 cc\nreg 0 3 0 dd\nmovedup 0 0\nunmerge 0\nreg 1 0 1 ee\nreg 1 1 1 ee\nmove 0 2 1\nset run 2\nstat\nscan 1\nget 0 0\n",
             output: "ok\nok\nok\nscanned 4\nok\nrefused 4\nrefused 4\nrefused 4\nunmerged 0 refused 4\nok\nok\nrefused 4\nunmerged 0 refused 4\nstat shared=1 sharing=1 unshared=0 volatile=3 chains=0 dups=0 full_scans=2\nrefused 5\n[aa]\n",
             ..ROW
         },
@@ -428,74 +428,79 @@ fn moving_rows(rt: HostRuntime) -> Result<(), Fail> {
 }
 
 /// None of these is a line of the language.
-const BAD_LINES: [&[u8]; 55] = [
-    b"reg 0 0 0",
-    b"reg 00 0 0 aa",
-    b"reg 0 01 0 aa",
-    b"reg 65536 0 0 aa",
-    b"reg 0 4294967296 0 aa",
-    b"reg 0 0 4294967296 aa",
-    b"reg 0 0 0 aaa",
-    b"reg 0 0 0 a",
-    b"reg 0 0 0 ag",
-    b"reg 0 0 0 0x",
-    b"reg 0 0 0 aa aa",
-    b"reg 0 0 aa",
-    b"reg\t0 0 0 aa",
-    b"reg 0 0 0\taa",
-    b" stat",
-    b"stat ",
-    b"get  0 0",
-    b"get 0 0 ",
-    b"get 0 +0",
-    b"get 0 -1",
-    b"get 0 0x1",
-    b"get 0",
-    b"get 0 0 0",
-    b"STAT",
-    b"stat\r",
-    b"stats",
-    b"sta",
-    b" ",
-    b"put 0 0",
-    b"put 0 b",
-    b"scan -1",
-    b"scan 1 2",
-    b"scan 01",
-    b"set foo 1",
-    b"set ksm_zero_pages 1",
-    b"set run",
-    b"set run 1 1",
-    b"show",
-    b"show run 1",
-    b"find",
-    b"find 0",
-    b"find 0 0 0",
-    b"find 00 0",
-    b"find 0 4294967296",
-    b"equal 0 0",
-    b"equal 0 0 b",
-    b"equal 0 0 aa aa",
-    b"look",
-    b"look 0 0",
-    b"look -1",
-    b"leave",
-    b"leave 0 0",
-    b"audit 0",
-    b"audit ",
-    b"Audit",
+const BAD_LINES: [&str; 55] = [
+    "reg 0 0 0",
+    "reg 00 0 0 aa",
+    "reg 0 01 0 aa",
+    "reg 65536 0 0 aa",
+    "reg 0 4294967296 0 aa",
+    "reg 0 0 4294967296 aa",
+    "reg 0 0 0 aaa",
+    "reg 0 0 0 a",
+    "reg 0 0 0 ag",
+    "reg 0 0 0 0x",
+    "reg 0 0 0 aa aa",
+    "reg 0 0 aa",
+    "reg\t0 0 0 aa",
+    "reg 0 0 0\taa",
+    " stat",
+    "stat ",
+    "get  0 0",
+    "get 0 0 ",
+    "get 0 +0",
+    "get 0 -1",
+    "get 0 0x1",
+    "get 0",
+    "get 0 0 0",
+    "STAT",
+    "stat\r",
+    "stats",
+    "sta",
+    " ",
+    "put 0 0",
+    "put 0 b",
+    "scan -1",
+    "scan 1 2",
+    "scan 01",
+    "set foo 1",
+    "set ksm_zero_pages 1",
+    "set run",
+    "set run 1 1",
+    "show",
+    "show run 1",
+    "find",
+    "find 0",
+    "find 0 0 0",
+    "find 00 0",
+    "find 0 4294967296",
+    "equal 0 0",
+    "equal 0 0 b",
+    "equal 0 0 aa aa",
+    "look",
+    "look 0 0",
+    "look -1",
+    "leave",
+    "leave 0 0",
+    "audit 0",
+    "audit ",
+    "Audit",
 ];
+
+/// Whether these bytes are none of the lines of the language.
+fn is_bad(line: &[u8]) -> bool {
+    read_line(line).is_err()
+}
 
 /// Each of the bad lines is bad, and no reply comes before.
 #[test]
 fn every_bad_line(rt: HostRuntime) -> Result<(), Fail> {
     for line in BAD_LINES {
-        assert_eq!(rt; read_line(line), Err(LineFault::Bad), "{line:?}");
-        let mut reader = line;
+        let mut reader = line.as_bytes();
+        assert!(rt; is_bad(reader), "{line:?}");
         let mut written = Vec::new(rt.alloc());
         let outcome = play_on(&rt, rt.alloc(), ROW, &mut reader, &mut written)?;
         assert_eq!(rt; outcome, Ok(End::BadLine(1)), "{line:?}");
-        assert_eq!(rt; written.as_slice(), b"bad line 1\n".as_slice(), "{line:?}");
+        assert_eq!(rt; written.as_slice(), "bad line 1\n".as_bytes(), "{line:?}");
     }
     Ok(())
 }
@@ -508,7 +513,7 @@ fn thirty_two_digits_are_bad(rt: HostRuntime) -> Result<(), Fail> {
     let input = format!(in alloc; "reg 0 0 0 {digits}\n")?;
     let rows = [Row {
         name: "thirty_two_digits_are_bad",
-        input: input.as_bytes(),
+        input: input.as_str(),
         output: "bad line 1\n",
         end: End::BadLine(1),
         ..ROW
@@ -524,8 +529,11 @@ fn digits_of_another_length_are_bad(rt: HostRuntime) -> Result<(), Fail> {
     for count in 0..whole + 4 {
         let digits = "1".repeat(alloc, count)?;
         let line = format!(in alloc; "put 0 0 {digits}")?;
-        let is_bad = read_line(line.as_bytes()) == Err(LineFault::Bad);
-        assert_eq!(rt; is_bad, count != 2 && count != whole, "{count}");
+        assert_eq!(rt;
+            is_bad(line.as_bytes()),
+            count != 2 && count != whole,
+            "{count}"
+        );
     }
     Ok(())
 }
@@ -534,12 +542,12 @@ fn digits_of_another_length_are_bad(rt: HostRuntime) -> Result<(), Fail> {
 #[test]
 fn lines_are_counted(rt: HostRuntime) -> Result<(), Fail> {
     let alloc = rt.alloc();
-    let mut reader: &[u8] = b"\n\nreg 0 0 0 AA\nget 0 0\n\nSTAT\nget 0 0\n";
+    let mut reader = "\n\nreg 0 0 0 AA\nget 0 0\n\nSTAT\nget 0 0\n".as_bytes();
     let mut written = Vec::new(alloc);
-    let mut more: &[u8] = b"get 0 0\n";
+    let mut more = "get 0 0\n".as_bytes();
     let ended = play_twice(&rt, alloc, ROW, &mut reader, &mut written, &mut more)?;
     assert_eq!(rt; (ended.0, ended.1), (Ok(End::BadLine(6)), Ok(End::AllRead)));
-    assert_eq!(rt; reader, b"get 0 0\n".as_slice());
+    assert_eq!(rt; reader, "get 0 0\n".as_bytes());
     let wanted = with_pages(alloc, "ok\n[aa]\nbad line 6\n")?;
     assert_eq!(rt; written.as_slice(), wanted.as_bytes());
     let wanted = with_pages(alloc, "[aa]\n")?;
@@ -551,13 +559,13 @@ fn lines_are_counted(rt: HostRuntime) -> Result<(), Fail> {
 #[test]
 fn long_lines_are_bad(rt: HostRuntime) -> Result<(), Fail> {
     let long = [b'a'; 300];
-    let mut reader: &[u8] = b"\n";
+    let mut reader = "\n".as_bytes();
     let mut more: &[u8] = &long;
     let mut written = Vec::new(rt.alloc());
     let ended = play_twice(&rt, rt.alloc(), ROW, &mut reader, &mut written, &mut more)?;
     assert_eq!(rt; (ended.0, ended.1), (Ok(End::AllRead), Ok(End::BadLine(1))));
     assert_eq!(rt; more.len(), 43);
-    assert_eq!(rt; ended.2.as_slice(), b"bad line 1\n".as_slice());
+    assert_eq!(rt; ended.2.as_slice(), "bad line 1\n".as_bytes());
     Ok(())
 }
 
@@ -606,7 +614,7 @@ impl Read for Broken<'_> {
     }
 }
 
-const LINES: &[u8] = b"reg 0 0 0 aa\nreg 0 1 0 aa\nset run 1\nscan 4\nfind 0 0\nlook 0\n";
+const LINES: &str = "reg 0 0 0 aa\nreg 0 1 0 aa\nset run 1\nscan 4\nfind 0 0\nlook 0\n";
 
 const REPLIES: &str = "ok\nok\nok\nscanned 4\nheld 0 1\n[aa]\n";
 
@@ -616,13 +624,13 @@ fn a_writer_that_fails_at_each_byte(rt: HostRuntime) -> Result<(), Fail> {
     let replies = with_pages(rt.alloc(), REPLIES)?;
     for fails in [false, true] {
         for left in 0..replies.len() {
-            let mut reader = LINES;
+            let mut reader = LINES.as_bytes();
             let mut writer = Narrow {
                 taken: Vec::new(rt.alloc()),
                 left,
                 fails,
             };
-            let mut again: &[u8] = b"leave 0\nreg 0 0 0 aa\n";
+            let mut again = "leave 0\nreg 0 0 0 aa\n".as_bytes();
             let ended = play_twice(&rt, rt.alloc(), ROW, &mut reader, &mut writer, &mut again)?;
             assert_eq!(rt;
                 (ended.0, ended.1),
@@ -630,7 +638,7 @@ fn a_writer_that_fails_at_each_byte(rt: HostRuntime) -> Result<(), Fail> {
             );
             assert!(rt; replies.as_bytes().starts_with(writer.taken.as_slice()));
             assert_eq!(rt; writer.taken.len(), left);
-            assert_eq!(rt; ended.2.as_slice(), b"refused 14\nrefused 3\n".as_slice());
+            assert_eq!(rt; ended.2.as_slice(), "refused 14\nrefused 3\n".as_bytes());
         }
     }
     Ok(())
@@ -641,14 +649,17 @@ fn a_writer_that_fails_at_each_byte(rt: HostRuntime) -> Result<(), Fail> {
 fn a_reader_that_fails_at_each_byte(rt: HostRuntime) -> Result<(), Fail> {
     let all = with_pages(rt.alloc(), REPLIES)?;
     for left in 0..LINES.len() {
-        let mut reader = Broken { bytes: LINES, left };
+        let mut reader = Broken {
+            bytes: LINES.as_bytes(),
+            left,
+        };
         let mut written = Vec::new(rt.alloc());
         let outcome = play_on(&rt, rt.alloc(), ROW, &mut reader, &mut written)?;
         assert_eq!(rt; outcome, Err(RunFault::Read));
         let lines = LINES
-            .iter()
+            .bytes()
             .take(left)
-            .filter(|byte| **byte == b'\n')
+            .filter(|byte| *byte == b'\n')
             .count();
         let replies = written.iter().filter(|byte| **byte == b'\n').count();
         assert_eq!(rt; replies, lines);

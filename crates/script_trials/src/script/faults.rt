@@ -34,7 +34,7 @@ impl Read for Interrupted<'_> {
 /// Neither a failed read nor the end of the input is asked for twice, and the session goes on in a second run.
 #[test]
 fn the_reader_is_not_asked_again(rt: HostRuntime) -> Result<(), Fail> {
-    let first: &[u8] = b"reg 0 0 0 aa\nget 0 0";
+    let first = "reg 0 0 0 aa\nget 0 0".as_bytes();
     for fails in [true, false] {
         let mut reader = Interrupted {
             first,
@@ -42,7 +42,7 @@ fn the_reader_is_not_asked_again(rt: HostRuntime) -> Result<(), Fail> {
             calls: 0,
         };
         let mut written = Vec::new(rt.alloc());
-        let mut rest: &[u8] = b"get 0 0\n";
+        let mut rest = "get 0 0\n".as_bytes();
         let ended = play_twice(&rt, rt.alloc(), ROW, &mut reader, &mut written, &mut rest)?;
         let wanted = if fails {
             Err(RunFault::Read)
@@ -93,7 +93,7 @@ impl Write for FailsOnce {
 /// After a failed write nothing more is written and no further line is read, and the line of the broken reply is carried out.
 #[test]
 fn nothing_is_written_after_a_fault(rt: HostRuntime) -> Result<(), Fail> {
-    let script: &[u8] = b"reg 0 0 0 aa\nget 0 0\ndrop 0 0\n";
+    let script = "reg 0 0 0 aa\nget 0 0\ndrop 0 0\n".as_bytes();
     let whole = with_pages(rt.alloc(), "ok\n[aa]\nok\n")?;
     let whole = whole.as_bytes();
     let read = with_pages(rt.alloc(), "ok\n[aa]\n")?.len();

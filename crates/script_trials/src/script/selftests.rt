@@ -55,7 +55,7 @@ fn at_each_limit<T: Abort + Threads + Wait + Sync>(
         let output = replies(alloc, pages, limit)?;
         let row = Row {
             frames: u32::from(pages),
-            input: input.as_bytes(),
+            input: input.as_str(),
             output: output.as_str(),
             ..ROW
         };
@@ -86,21 +86,21 @@ fn equal_pages_merge(rt: HostRuntime) -> Result<(), Fail> {
         Row {
             name: "ten_pages_make_one_dup",
             frames: 10,
-            input: b"reg 0 0 0 2a\nreg 0 1 0 2a\nreg 0 2 0 2a\nreg 0 3 0 2a\nreg 0 4 0 2a\nreg 0 5 0 2a\nreg 0 6 0 2a\nreg 0 7 0 2a\nreg 0 8 0 2a\nreg 0 9 0 2a\nset run 1\nscan 20\nstat\n",
+            input: "reg 0 0 0 2a\nreg 0 1 0 2a\nreg 0 2 0 2a\nreg 0 3 0 2a\nreg 0 4 0 2a\nreg 0 5 0 2a\nreg 0 6 0 2a\nreg 0 7 0 2a\nreg 0 8 0 2a\nreg 0 9 0 2a\nset run 1\nscan 20\nstat\n",
             output: "ok\nok\nok\nok\nok\nok\nok\nok\nok\nok\nok\nscanned 20\nstat shared=1 sharing=9 unshared=0 volatile=0 chains=0 dups=0 full_scans=2\n",
             ..ROW
         },
         Row {
             name: "ten_pages_at_limit_three",
             frames: 10,
-            input: b"set max_page_sharing 3\nreg 0 0 0 2a\nreg 0 1 0 2a\nreg 0 2 0 2a\nreg 0 3 0 2a\nreg 0 4 0 2a\nreg 0 5 0 2a\nreg 0 6 0 2a\nreg 0 7 0 2a\nreg 0 8 0 2a\nreg 0 9 0 2a\nset run 1\nscan 20\nstat\n",
+            input: "set max_page_sharing 3\nreg 0 0 0 2a\nreg 0 1 0 2a\nreg 0 2 0 2a\nreg 0 3 0 2a\nreg 0 4 0 2a\nreg 0 5 0 2a\nreg 0 6 0 2a\nreg 0 7 0 2a\nreg 0 8 0 2a\nreg 0 9 0 2a\nset run 1\nscan 20\nstat\n",
             output: "ok\nok\nok\nok\nok\nok\nok\nok\nok\nok\nok\nok\nscanned 20\nstat shared=3 sharing=6 unshared=1 volatile=0 chains=1 dups=3 full_scans=2\n",
             ..ROW
         },
         Row {
             name: "ten_pages_at_limit_four",
             frames: 10,
-            input: b"set max_page_sharing 4\nreg 0 0 0 2a\nreg 0 1 0 2a\nreg 0 2 0 2a\nreg 0 3 0 2a\nreg 0 4 0 2a\nreg 0 5 0 2a\nreg 0 6 0 2a\nreg 0 7 0 2a\nreg 0 8 0 2a\nreg 0 9 0 2a\nset run 1\nscan 20\nstat\n",
+            input: "set max_page_sharing 4\nreg 0 0 0 2a\nreg 0 1 0 2a\nreg 0 2 0 2a\nreg 0 3 0 2a\nreg 0 4 0 2a\nreg 0 5 0 2a\nreg 0 6 0 2a\nreg 0 7 0 2a\nreg 0 8 0 2a\nreg 0 9 0 2a\nset run 1\nscan 20\nstat\n",
             output: "ok\nok\nok\nok\nok\nok\nok\nok\nok\nok\nok\nok\nscanned 20\nstat shared=3 sharing=7 unshared=0 volatile=0 chains=1 dups=3 full_scans=2\n",
             ..ROW
         },
@@ -118,7 +118,7 @@ fn written_pages_unmerge(rt: HostRuntime) -> Result<(), Fail> {
     )?;
     let rows = [Row {
         name: "written_pages_share_nothing",
-        input: input.as_bytes(),
+        input: input.as_str(),
         output: "ok\nok\nok\nscanned 4\nok\nok\nscanned 2\nstat shared=0 sharing=0 unshared=0 volatile=2 chains=0 dups=0 full_scans=3\n",
         ..ROW
     }];
@@ -133,7 +133,7 @@ fn pages_merge_across_nodes(rt: HostRuntime) -> Result<(), Fail> {
             name: "two_nodes_merge",
             nodes: 2,
             frames: 2,
-            input: b"reg 0 0 0 2a\nreg 0 1 1 2a\nset run 1\nscan 4\nstat\n",
+            input: "reg 0 0 0 2a\nreg 0 1 1 2a\nset run 1\nscan 4\nstat\n",
             output: "ok\nok\nok\nscanned 4\nstat shared=1 sharing=1 unshared=0 volatile=0 chains=0 dups=0 full_scans=2\n",
             ..ROW
         },
@@ -141,7 +141,7 @@ fn pages_merge_across_nodes(rt: HostRuntime) -> Result<(), Fail> {
             name: "two_nodes_stay_apart",
             nodes: 2,
             frames: 2,
-            input: b"set merge_across_nodes 0\nreg 0 0 0 2a\nreg 0 1 1 2a\nset run 1\nscan 4\nstat\n",
+            input: "set merge_across_nodes 0\nreg 0 0 0 2a\nreg 0 1 1 2a\nset run 1\nscan 4\nstat\n",
             output: "ok\nok\nok\nok\nscanned 4\nstat shared=0 sharing=0 unshared=2 volatile=0 chains=0 dups=0 full_scans=2\n",
             ..ROW
         },
@@ -156,14 +156,14 @@ fn unmerging_takes_a_frame_for_each_page(rt: HostRuntime) -> Result<(), Fail> {
         Row {
             name: "eight_pages_unmerged_with_nine_frames",
             frames: 9,
-            input: b"reg 0 0 0 2a\nreg 0 1 0 2a\nreg 0 2 0 2a\nreg 0 3 0 2a\nreg 0 4 0 2a\nreg 0 5 0 2a\nreg 0 6 0 2a\nreg 0 7 0 2a\nset run 1\nscan 16\nunmerge 0\nticket 0 0\nticket 0 1\nticket 0 2\nticket 0 3\nticket 0 4\nticket 0 5\nticket 0 6\nticket 0 7\n",
+            input: "reg 0 0 0 2a\nreg 0 1 0 2a\nreg 0 2 0 2a\nreg 0 3 0 2a\nreg 0 4 0 2a\nreg 0 5 0 2a\nreg 0 6 0 2a\nreg 0 7 0 2a\nset run 1\nscan 16\nunmerge 0\nticket 0 0\nticket 0 1\nticket 0 2\nticket 0 3\nticket 0 4\nticket 0 5\nticket 0 6\nticket 0 7\n",
             output: "ok\nok\nok\nok\nok\nok\nok\nok\nok\nscanned 16\nunmerged 8\nprivate\nprivate\nprivate\nprivate\nprivate\nprivate\nprivate\nprivate\n",
             ..ROW
         },
         Row {
             name: "eight_pages_unmerged_with_eight_frames",
             frames: 8,
-            input: b"reg 0 0 0 2a\nreg 0 1 0 2a\nreg 0 2 0 2a\nreg 0 3 0 2a\nreg 0 4 0 2a\nreg 0 5 0 2a\nreg 0 6 0 2a\nreg 0 7 0 2a\nset run 1\nscan 16\nunmerge 0\nticket 0 0\nticket 0 1\nticket 0 2\nticket 0 3\nticket 0 4\nticket 0 5\nticket 0 6\nticket 0 7\n",
+            input: "reg 0 0 0 2a\nreg 0 1 0 2a\nreg 0 2 0 2a\nreg 0 3 0 2a\nreg 0 4 0 2a\nreg 0 5 0 2a\nreg 0 6 0 2a\nreg 0 7 0 2a\nset run 1\nscan 16\nunmerge 0\nticket 0 0\nticket 0 1\nticket 0 2\nticket 0 3\nticket 0 4\nticket 0 5\nticket 0 6\nticket 0 7\n",
             output: "ok\nok\nok\nok\nok\nok\nok\nok\nok\nscanned 16\nunmerged 7 refused 4\nprivate\nprivate\nprivate\nprivate\nprivate\nprivate\nprivate\nplace 0\n",
             ..ROW
         },
@@ -178,20 +178,20 @@ fn zero_pages_merge(rt: HostRuntime) -> Result<(), Fail> {
         Row {
             name: "zero_pages_merge_with_each_other",
             frames: 10,
-            input: b"reg 0 0 0 00\nreg 0 1 0 00\nreg 0 2 0 00\nreg 0 3 0 00\nreg 0 4 0 00\nreg 0 5 0 00\nreg 0 6 0 00\nreg 0 7 0 00\nreg 0 8 0 00\nreg 0 9 0 00\nset run 1\nscan 20\nstat\nshow ksm_zero_pages\n",
+            input: "reg 0 0 0 00\nreg 0 1 0 00\nreg 0 2 0 00\nreg 0 3 0 00\nreg 0 4 0 00\nreg 0 5 0 00\nreg 0 6 0 00\nreg 0 7 0 00\nreg 0 8 0 00\nreg 0 9 0 00\nset run 1\nscan 20\nstat\nshow ksm_zero_pages\n",
             output: "ok\nok\nok\nok\nok\nok\nok\nok\nok\nok\nok\nscanned 20\nstat shared=1 sharing=9 unshared=0 volatile=0 chains=0 dups=0 full_scans=2\n0\n",
             ..ROW
         },
         Row {
             name: "zero_pages_merge_with_the_zero_page",
             frames: 10,
-            input: b"set use_zero_pages 1\nreg 0 0 0 00\nreg 0 1 0 00\nreg 0 2 0 00\nreg 0 3 0 00\nreg 0 4 0 00\nreg 0 5 0 00\nreg 0 6 0 00\nreg 0 7 0 00\nreg 0 8 0 00\nreg 0 9 0 00\nset run 1\nscan 20\nstat\nshow ksm_zero_pages\n",
+            input: "set use_zero_pages 1\nreg 0 0 0 00\nreg 0 1 0 00\nreg 0 2 0 00\nreg 0 3 0 00\nreg 0 4 0 00\nreg 0 5 0 00\nreg 0 6 0 00\nreg 0 7 0 00\nreg 0 8 0 00\nreg 0 9 0 00\nset run 1\nscan 20\nstat\nshow ksm_zero_pages\n",
             output: "ok\nok\nok\nok\nok\nok\nok\nok\nok\nok\nok\nok\nscanned 20\nstat shared=0 sharing=0 unshared=0 volatile=0 chains=0 dups=0 full_scans=2\n10\n",
             ..ROW
         },
         Row {
             name: "unmerged_and_written_zero_pages",
-            input: b"set use_zero_pages 1\nreg 0 0 0 00\nreg 0 1 0 00\nreg 1 0 0 00\nreg 1 1 0 00\nset run 1\nscan 8\nshow ksm_zero_pages\nunmerge 0\nshow ksm_zero_pages\nput 1 0 01\nput 1 1 02\nshow ksm_zero_pages\n",
+            input: "set use_zero_pages 1\nreg 0 0 0 00\nreg 0 1 0 00\nreg 1 0 0 00\nreg 1 1 0 00\nset run 1\nscan 8\nshow ksm_zero_pages\nunmerge 0\nshow ksm_zero_pages\nput 1 0 01\nput 1 1 02\nshow ksm_zero_pages\n",
             output: "ok\nok\nok\nok\nok\nok\nscanned 8\n4\nunmerged 2\n2\nok\nok\n0\n",
             ..ROW
         },

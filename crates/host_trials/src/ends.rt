@@ -1,0 +1,302 @@
+//! The program over memory: what its words tell, how it ends, and what a fault leaves.
+use crate::host::{Host, taken};
+use clap::Error;
+use ksm_base::Shape;
+use ksm_host::{Ended, Status, played, run_on, told};
+use ksm_options::options;
+use std::alloc::{AllocError, Global};
+use std::io::{self, BufReader, BufWriter, ErrorKind, Read, Write};
+use std::process::ExitCode;
+use std::sync::Wait;
+use std::test::Fail;
+use std::thread::Threads;
+
+/// How the program ends at these words, this input and this room for output; what it printed; and what it said on standard error.
+fn ended<T: Threads + Wait + Sync>(
+    threads: &T,
+    alloc: Global,
+    words: &str,
+    input: &str,
+    room: Option<usize>,
+) -> (Status, Vec<u8>, String) {
+    let host = Host::new(alloc, words, input, room);
+    let outcome = run_on(&host, threads);
+    let (printed, said) = host.told();
+    (outcome.status(), printed, said)
+}
+
+/// Each option is read: two nodes, of three frames each, numbered node by node; a third pass; and a frame that is retired after two lives.
+#[test]
+fn words_tell_the_table(rt: HostRuntime) -> Result<(), Fail> {
+    const WORDS: &str = "ksmbook --nodes 2 --frames 3 --passes 3 --tries 1 --last-generation 2";
+    let lines = [
+        ("reg 0 0 1 aa\n", "ok\n"),
+        ("reg 0 1 1 aa\n", "ok\n"),
+        ("reg 0 2 1 bb\n", "ok\n"),
+        ("reg 0 3 1 cc\n", "refused 4\n"),
+        ("reg 0 3 2 cc\n", "refused 11\n"),
+        ("set run 1\n", "ok\n"),
+        ("scan 6\n", "scanned 6\n"),
+        ("find 2 0\n", "held 3 1\n"),
+        ("find 3 0\n", "refused 12\n"),
+        ("reg 0 3 1 cc\n", "ok\n"),
+        ("drop 0 3\n", "ok\n"),
+        ("reg 0 3 1 cc\n", "refused 4\n"),
+    ];
+    let mut script = String::new(rt.alloc());
+    let mut replies = String::new(rt.alloc());
+    for (line, reply) in lines {
+        script.push_str(line)?;
+        replies.push_str(reply)?;
+    }
+    let run = ended(&rt, rt.alloc(), WORDS, script.as_str(), None);
+    assert_eq!(rt; run.0, Status::Done);
+    assert_eq!(rt; run.1.as_slice(), replies.as_bytes());
+    assert_eq!(rt; run.2.as_str(), "");
+    Ok(())
+}
+
+/// The shape that a line of words tells, if it tells one.
+fn shape_of(alloc: Global, line: &str) -> Result<Option<Shape>, AllocError> {
+    let mut words = Vec::new(alloc);
+    for word in line.split(' ') {
+        words.push(String::from_str(alloc, word)?)?;
+    }
+    Ok(options(alloc, words.as_slice()).ok())
+}
+
+/// What is not told has its default, and settings may come in any order.
+#[test]
+fn defaults_and_settings(rt: HostRuntime) -> Result<(), Fail> {
+    let least = Shape {
+        nodes: 1,
+        frames_per_node: 8,
+        passes: 2,
+        last_generation: 1_099_511_627_776,
+        tries: 8,
+    };
+    let most = Shape {
+        nodes: 4,
+        frames_per_node: 256,
+        passes: 16,
+        last_generation: 3,
+        tries: 64,
+    };
+    let cases = [
+        ("ksmbook --nodes 1 --frames 8", least),
+        (
+            "ksmbook --tries 64 --frames=256 --last-generation 3 --nodes +4 --passes 016 --",
+            most,
+        ),
+    ];
+    for (line, shape) in cases {
+        assert!(rt; shape_of(rt.alloc(), line)? == Some(shape), "{line}");
+    }
+    Ok(())
+}
+
+/// The number of each status.
+#[test]
+fn numbers_of_statuses(rt: HostRuntime) {
+    let numbers = [
+        (Status::Done, 0),
+        (Status::NotUnderstood, 2),
+        (Status::Broken, 3),
+        (Status::NoMemory, 4),
+    ];
+    for (status, number) in numbers {
+        assert!(rt; ExitCode::from(status) == ExitCode::from(number));
+    }
+}
+
+/// Words that are no options end the program before its first line, and it says why, with no control byte but newlines.
+#[test]
+fn wrong_words_have_their_status(rt: HostRuntime) -> Result<(), Fail> {
+    let lines = [
+        "ksmbook",
+        "ksmbook --help",
+        "ksmbook --nodes 1",
+        "ksmbook --nodes 5 --frames 4",
+        "ksmbook --nodes 0 --frames 4",
+        "ksmbook --nodes 1 --frames 257",
+        "ksmbook --nodes 1 --frames 4 more",
+        "ksmbook --nodes 1 --frames 4 --nodes 1",
+        "ksmbook --nodes 1 --frames \u{1b}[31m",
+        "ksmbook --nodes --frames 4",
+        "ksmbook --nodes 1 --frames !",
+    ];
+    for words in lines {
+        let run = ended(&rt, rt.alloc(), words, "stat\n", None);
+        assert_eq!(rt; run.0, Status::NotUnderstood, "{words}");
+        assert!(rt; run.1.is_empty(), "{words}");
+        assert!(rt; !run.2.is_empty(), "{words}");
+        assert!(rt;
+            run.2.chars().all(|c| c == '\n' || !c.is_control()),
+            "{words}"
+        );
+    }
+    Ok(())
+}
+
+/// Where memory is refused for the words, nothing is said.
+#[test]
+fn nothing_is_said_of_memory(rt: HostRuntime) {
+    let host = Host::new(rt.alloc(), "ksmbook", "", None);
+    let read = told(&host, Err(Error::from(AllocError)));
+    let (printed, said) = host.told();
+    assert!(rt; read == Err(Status::NoMemory));
+    assert!(rt; printed.is_empty());
+    assert_eq!(rt; said.as_str(), "");
+}
+
+const FOUR: &str = "ksmbook --nodes 1 --frames 4";
+
+/// Each end of a script. Where the output fails, it has what it took before that, and nothing more is sent.
+#[test]
+fn each_end_has_its_status(rt: HostRuntime) -> Result<(), Fail> {
+    let cases = [
+        ("", "", Status::Done),
+        ("reg 0 0 0 aa\n\nget 1 0", "ok\nrefused 2\n", Status::Done),
+        (
+            "reg 0 0 0 aa\nfoo\nget 1 0\n",
+            "ok\nbad line 2\n",
+            Status::NotUnderstood,
+        ),
+    ];
+    for (script, wanted, end) in cases {
+        for room in 0..=wanted.len() {
+            let run = ended(&rt, rt.alloc(), FOUR, script, Some(room));
+            let status = if room == wanted.len() {
+                end
+            } else {
+                Status::Broken
+            };
+            assert_eq!(rt; run.0, status, "{script:?} {room}");
+            assert_eq!(rt;
+                run.1.as_slice(),
+                &wanted.as_bytes()[..room],
+                "{script:?} {room}"
+            );
+            assert_eq!(rt; run.2.as_str(), "");
+        }
+    }
+    Ok(())
+}
+
+/// What an input answers to one call.
+#[derive(Clone, Copy)]
+enum Turn<'a> {
+    /// Some bytes, or none: the end of the input.
+    Bytes(&'a str),
+    Fault,
+}
+
+/// Input that answers each call with the next turn, and counts the calls.
+#[derive(Drop)]
+struct Turns<'a> {
+    turns: &'a [Turn<'a>],
+    calls: usize,
+}
+
+impl Read for Turns<'_> {
+    fn read(&mut self, buffer: &mut [u8]) -> io::Result<usize> {
+        let turn = self.turns.get(self.calls);
+        self.calls = self.calls.saturating_add(1);
+        match turn {
+            Some(Turn::Bytes(text)) => {
+                let mut rest = text.as_bytes();
+                rest.read(buffer)
+            }
+            Some(Turn::Fault) => Err(io::Error::from(ErrorKind::BrokenPipe)),
+            None => Ok(0),
+        }
+    }
+}
+
+/// Output that takes `room` bytes, then fails once, and would take all after that.
+#[derive(Drop)]
+struct FailsOnce {
+    taken: Vec<u8>,
+    room: Option<usize>,
+}
+
+impl Write for FailsOnce {
+    fn write(&mut self, bytes: &[u8]) -> io::Result<usize> {
+        let count = taken(&mut self.room, bytes.len())?.min(bytes.len());
+        self.taken.extend_from_slice(&bytes[..count])?;
+        Ok(count)
+    }
+
+    fn flush(&mut self) -> io::Result<()> {
+        Ok(())
+    }
+}
+
+/// How the program ends over this input and this room for output, in blocks of so many bytes; what it sent; and what is left to read.
+fn played_by<T: Threads + Wait + Sync, I: Read + Drop>(
+    threads: &T,
+    alloc: Global,
+    block: usize,
+    input: I,
+    room: Option<usize>,
+) -> Result<(Status, Vec<u8>, I), Fail> {
+    let host = Host::new(alloc, "", "", None);
+    let mut words = Vec::new(alloc);
+    for word in FOUR.split(' ') {
+        words.push(String::from_str(alloc, word)?)?;
+    }
+    let output = FailsOnce {
+        taken: Vec::new(alloc),
+        room,
+    };
+    let mut reader = BufReader::with_capacity(alloc, block, input)?;
+    let writer = BufWriter::with_capacity(alloc, block, output)?;
+    let Ended { status, output, .. } = played(
+        &host,
+        threads,
+        words.as_slice(),
+        &mut reader,
+        writer,
+    );
+    Ok((status, output.taken, reader.into_inner()))
+}
+
+/// Neither a failed read nor the end of the input is asked for twice, and the replies were sent before the input was waited for.
+#[test]
+fn the_input_is_not_asked_again(rt: HostRuntime) -> Result<(), Fail> {
+    let cases = [
+        (Turn::Fault, "ok\n", Status::Broken),
+        (Turn::Bytes(""), "ok\nbad line 2\n", Status::NotUnderstood),
+    ];
+    for (second, wanted, end) in cases {
+        let turns = [
+            Turn::Bytes("reg 0 0 0 aa\nget 0"),
+            second,
+            Turn::Bytes(" 0\nget 0 0\n"),
+        ];
+        let input = Turns {
+            turns: &turns,
+            calls: 0,
+        };
+        let run = played_by(&rt, rt.alloc(), 64, input, None)?;
+        assert_eq!(rt; run.0, end);
+        assert_eq!(rt; run.1.as_slice(), wanted.as_bytes());
+        assert_eq!(rt; run.2.calls, 2);
+    }
+    Ok(())
+}
+
+/// In small blocks, an output that fails once after any number of bytes has just these.
+#[test]
+fn nothing_is_sent_after_a_failed_write(rt: HostRuntime) -> Result<(), Fail> {
+    let wanted = "ok\nrefused 2\nrefused 14\nrefused 2\n";
+    let script = "reg 0 0 0 aa\nget 1 0\nleave 0\nget 1 0\n";
+    for block in [1, 8] {
+        for room in 0..wanted.len() {
+            let run = played_by(&rt, rt.alloc(), block, script.as_bytes(), Some(room))?;
+            assert_eq!(rt; run.0, Status::Broken, "{room}");
+            assert_eq!(rt; run.1.as_slice(), &wanted.as_bytes()[..room], "{room}");
+        }
+    }
+    Ok(())
+}

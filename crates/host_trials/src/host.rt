@@ -1,0 +1,144 @@
+//! A host in memory: the program's words, its input, and what is printed and said.
+use std::alloc::{Alloc, Allocator, Global};
+use std::cell::RefCell;
+use std::env::FillError;
+use std::fmt::Display;
+use std::io::{self, BufRead, ErrorKind, Lines, Write};
+use std::rt::Env;
+
+/// What the program meets. Its output takes `room` bytes, then fails once, and would take all after that; without a room it takes all.
+#[derive(Drop)]
+pub struct Host<'a> {
+    alloc: Global,
+    words: &'a str,
+    input: &'a str,
+    room: RefCell<Option<usize>>,
+    printed: RefCell<Vec<u8>>,
+    said: RefCell<String>,
+}
+
+impl<'a> Host<'a> {
+    /// A host with these words, one space between them, and this input. A word `!` is a byte that is no text.
+    pub fn new(alloc: Global, words: &'a str, input: &'a str, room: Option<usize>) -> Host<'a> {
+        Host {
+            alloc,
+            words,
+            input,
+            room: RefCell::new(room),
+            printed: RefCell::new(Vec::new(alloc)),
+            said: RefCell::new(String::new(alloc)),
+        }
+    }
+
+    /// What was printed, and what was said on standard error.
+    pub fn told(self) -> (Vec<u8>, String) {
+        let Host { printed, said, .. } = self;
+        (printed.into_inner(), said.into_inner())
+    }
+}
+
+/// What a cell is asked for while it is in use. It never is.
+fn busy() -> io::Error {
+    io::Error::from(ErrorKind::ResourceBusy)
+}
+
+/// How many of so many bytes an output takes. With no room left it fails, and has room without end from then on.
+pub fn taken(room: &mut Option<usize>, bytes: usize) -> io::Result<usize> {
+    match *room {
+        None => Ok(bytes),
+        Some(0) => {
+            *room = None;
+            Err(io::Error::from(ErrorKind::BrokenPipe))
+        }
+        Some(left) => {
+            let count = left.min(bytes);
+            *room = Some(left - count);
+            Ok(count)
+        }
+    }
+}
+
+impl Alloc for Host<'_> {
+    type A = Global;
+
+    fn alloc(&self) -> Global {
+        self.alloc
+    }
+}
+
+impl Env for Host<'_> {
+    fn arg(&self, i: usize, buffer: &mut [u8]) -> Result<usize, FillError> {
+        let Some(word) = self.words.split(' ').nth(i) else {
+            return Err(FillError::NotPresent);
+        };
+        let bytes = if word == "!" {
+            [0xff].as_slice()
+        } else {
+            word.as_bytes()
+        };
+        if bytes.len() > buffer.len() {
+            return Err(FillError::TooLong);
+        }
+        buffer[..bytes.len()].copy_from_slice(bytes);
+        Ok(bytes.len())
+    }
+
+    fn var(&self, _name: &str, _buffer: &mut [u8]) -> Result<usize, FillError> {
+        Err(FillError::NotPresent)
+    }
+
+    fn var_at(&self, _i: usize, _buffer: &mut [u8]) -> Result<usize, FillError> {
+        Err(FillError::NotPresent)
+    }
+}
+
+impl<'a> Input for Host<'a> {
+    type Reader = &'a [u8];
+
+    fn read_line<A: Allocator + Clone>(&self, _buffer: &mut String<A>) -> io::Result<usize> {
+        Err(io::Error::from(ErrorKind::Unsupported))
+    }
+
+    fn lines<A: Allocator>(&self, alloc: A) -> Lines<&'a [u8], A> {
+        self.reader().lines(alloc)
+    }
+
+    fn reader(&self) -> &'a [u8] {
+        self.input.as_bytes()
+    }
+}
+
+impl Print for Host<'_> {
+    fn print<D: Display + Drop>(&self, _value: D) -> io::Result<()> {
+        Err(io::Error::from(ErrorKind::Unsupported))
+    }
+
+    fn println<D: Display + Drop>(&self, _value: D) -> io::Result<()> {
+        Err(io::Error::from(ErrorKind::Unsupported))
+    }
+
+    fn write_all(&self, _bytes: &[u8]) -> io::Result<()> {
+        Err(io::Error::from(ErrorKind::Unsupported))
+    }
+
+    fn write_some(&self, bytes: &[u8]) -> io::Result<usize> {
+        let mut room = self.room.try_borrow_mut().map_err(|_| busy())?;
+        let mut printed = self.printed.try_borrow_mut().map_err(|_| busy())?;
+        let count = taken(&mut room, bytes.len())?.min(bytes.len());
+        printed.extend_from_slice(&bytes[..count])?;
+        Ok(count)
+    }
+}
+
+impl Eprint for Host<'_> {
+    fn eprint<D: Display + Drop>(&self, value: D) -> io::Result<()> {
+        let mut said = self.said.try_borrow_mut().map_err(|_| busy())?;
+        write!(*said, "{value}")?;
+        Ok(())
+    }
+
+    fn eprintln<D: Display + Drop>(&self, value: D) -> io::Result<()> {
+        self.eprint(value)?;
+        self.eprint("\n")
+    }
+}

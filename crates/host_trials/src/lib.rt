@@ -1,0 +1,7 @@
+//! Trials of the program over hosts in memory.
+#![tactic(auto)]
+
+#[cfg(test)]
+mod ends;
+#[cfg(test)]
+mod host;

@@ -1,0 +1,105 @@
+-- What a run wrote is a beginning of the replies to what it read.
+use Rattle.std.proofs.Common.{◌≡◌, ℕ, ◌+◌, ◌++◌, List, [], ◌∷◌, Option, None, Some, Result, Ok, Err, Bool, true, false, refl, ap, sym, subst, ◌∙◌, append_assoc, inl, inr}
+use Rattle.std.specs.Prelude.{OnOk, is_ok}
+use Rattle.std.proofs.lemmas.List.{append-nil}
+use Rattle.std.specs.Io.KnownBytes.{Appends, Keeps, append_known}
+use Rattle.std.proofs.KnownBytes.{Appends-kept}
+use Rattle.ksm_script.specs.State.{ScriptState}
+use Rattle.ksm_script.specs.declared.reply.LineReply.{LineReply}
+use Rattle.ksm_script.specs.declared.reply.LineReply.TheVariants.{BadLine as bad_line}
+use Rattle.ksm_script.specs.declared.script.End.{End}
+use Rattle.ksm_script.specs.declared.script.End.TheVariants.{AllRead, BadLine}
+use Rattle.ksm_script.specs.declared.script.RunFault.{RunFault}
+use Rattle.ksm_script.specs.declared.script.RunFault.TheVariants.{Read, Write}
+use Rattle.ksm_script.specs.Replies.{text_of}
+use Rattle.ksm_script.specs.Script.{AnsweredAll, AnsweredLast, Runs, Streams, more}
+use Rattle.ksm_script.specs.Texts.{AppendsBroken, AppendsPart}
+use Rattle.ksm_host.specs.declared.status.Status.TheVariants.{Done, NotUnderstood}
+use Rattle.ksm_host.specs.Statuses.{status_after}
+use Rattle.ksm_host.specs.Sent.{Replies}
+
+whole : (begun written : Option (List ℕ)) (text : List ℕ) → Appends begun written text → AppendsPart begun written text
+whole begun written text h = (text, [], append-nil text, h)
+
+-- a text and a beginning of the next one
+broken : (begun written : Option (List ℕ)) (text next : List ℕ) → AppendsBroken begun written text next → AppendsPart begun written (text ++ next)
+broken begun written text next h = (text ++ h.0, h.1, append_assoc text h.0 h.1 ∙ ap (λ t. text ++ t) h.2, h.3)
+
+-- the line read last has its reply too
+with_last : (old new : Option (List ℕ)) (from to : ScriptState) (text : List ℕ) (reply : LineReply) → AnsweredLast old new from to text reply
+    → AnsweredAll old new from to (text ++ text_of reply)
+with_last old new from to text reply (lines, line, bytes, count, now, before, last, read, consumed) =
+    (lines ++ (line ++ 10 ∷ []), bytes, count + 1, more before line (Some reply) to last, read, consumed)
+
+append_nothing : (known : Option (List ℕ)) → append_known known [] ≡ known
+append_nothing None = refl
+append_nothing (Some bytes) = ap (λ (l : List ℕ). let o : Option (List ℕ) = Some l in o) (append-nil bytes)
+
+-- where the sending did not fail, all that was written is sent
+pub kept_where_sent : {A E : Type 0} (inner : Option (List ℕ)) (buffer : List ℕ) (written : Option (List ℕ)) (r : Result A E) → OnOk r (buffer ≡ [])
+    → Keeps written (append_known inner buffer) → is_ok r ≡ true → Keeps written inner
+kept_where_sent inner buffer written (Ok x) empty kept is =
+    subst (λ (o : Option (List ℕ)). Keeps written o) (ap (λ (l : List ℕ). append_known inner l) empty ∙ append_nothing inner) kept
+kept_where_sent inner buffer written (Err e) empty kept is = absurd (cc is)
+
+module _ (io : Streams) (from to : ScriptState) where
+  -- the replies, and what was written of them
+  abbrev pub Stands : Option (List ℕ) → Type 0
+  Stands now = (text : List ℕ) × Replies io.unread io.left from to text × AppendsPart io.begun now text
+
+  -- what is written stays where it is sent
+  pub stands_sent : (now : Option (List ℕ)) → Keeps io.written now → Stands io.written → Stands now
+  stands_sent now kept s = (s.0, s.1, (s.2.0, s.2.1, s.2.2, Appends-kept io.begun io.written now s.2.0 s.2.3 kept))
+
+  pub stands_after : (r : Result End RunFault) → Runs io from to r → Stands io.written
+  stands_after (Ok AllRead) run = let a = run.goes in (a.0, (run.last, inl a.1, run.given), whole io.begun io.written a.0 a.2)
+  stands_after (Ok (BadLine number)) run =
+      let b = run.goes in (
+        b.0 ++ text_of (bad_line number),
+        (run.last, inr (inl (b.0, b.1, b.3, ap (λ n. b.0 ++ text_of (bad_line n)) b.2)), run.given),
+        whole io.begun io.written (b.0 ++ text_of (bad_line number)) b.4,
+      )
+  stands_after (Err Read) run =
+      let b = run.goes in (b.0, (run.last, inr (inr (b.1, b.2, b.5)), run.given), whole io.begun io.written b.0 b.6)
+  stands_after (Err Write) run = elim run.goes [
+    | inl a ↦ (
+      a.0 ++ text_of a.1,
+      (run.last, inl (with_last io.unread io.left from run.last a.0 a.1 a.2), run.given),
+      broken io.begun io.written a.0 (text_of a.1) a.3,
+    )
+    | inr b ↦ (
+      b.0 ++ text_of (bad_line (b.1 + 1)),
+      (run.last, inr (inl (b.0, b.1, b.2, refl)), run.given),
+      broken io.begun io.written b.0 (text_of (bad_line (b.1 + 1))) b.3,
+    )
+  ]
+
+  module _ (now : Option (List ℕ)) (ended : Result End RunFault) (sent : Bool) (runs : Runs io from to ended) (kept : sent ≡ true → Keeps io.written now) where
+    abbrev sends : Streams
+    sends = record io { written = now }
+
+    pub sent_all : status_after ended sent ≡ Done → Runs sends from to (Ok AllRead)
+    sent_all = all ended sent runs kept
+      where
+        all : (r : Result End RunFault) (s : Bool) → Runs io from to r → (s ≡ true → Keeps io.written now) → status_after r s ≡ Done → Runs sends from to (Ok AllRead)
+        all (Ok AllRead) true run k e =
+            let a = run.goes in
+            record { last = run.last; goes = (a.0, a.1, Appends-kept io.begun io.written now a.0 a.2 (k refl), a.3); given = run.given }
+        all (Ok AllRead) false run k e = absurd (cc e)
+        all (Ok (BadLine number)) true run k e = absurd (cc e)
+        all (Ok (BadLine number)) false run k e = absurd (cc e)
+        all (Err fault) s run k e = absurd (cc e)
+
+    pub sent_to_bad : status_after ended sent ≡ NotUnderstood → (number : ℕ) × Runs sends from to (Ok (BadLine number))
+    sent_to_bad = bad ended sent runs kept
+      where
+        bad : (r : Result End RunFault) (s : Bool) → Runs io from to r → (s ≡ true → Keeps io.written now) → status_after r s ≡ NotUnderstood
+            → (number : ℕ) × Runs sends from to (Ok (BadLine number))
+        bad (Ok (BadLine number)) true run k e =
+            let b = run.goes in
+            let appended = Appends-kept io.begun io.written now (b.0 ++ text_of (bad_line number)) b.4 (k refl) in
+            (number, record { last = run.last; goes = (b.0, b.1, b.2, b.3, appended); given = run.given })
+        bad (Ok (BadLine number)) false run k e = absurd (cc e)
+        bad (Ok AllRead) true run k e = absurd (cc e)
+        bad (Ok AllRead) false run k e = absurd (cc e)
+        bad (Err fault) s run k e = absurd (cc e)

@@ -1,0 +1,44 @@
+-- How the program ends, by its words, its input and its output (own).
+use Rattle.std.specs.Prelude.{◌≡◌, ◌⊎◌, ℕ, List, [], Option, Some, None, Ok, replicate}
+use Rattle.std.specs.Io.KnownBytes.{append_known}
+use Rattle.clap.specs.Words.{Text}
+use Rattle.ksm_base.specs.State.{opening}
+use Rattle.frame_table.specs.Named.{ClosedView}
+use Rattle.frame_table.specs.Seats.{new_pass}
+use Rattle.ksm_shared.specs.Named.{PartsId}
+use Rattle.ksm_shared.specs.Locked.{EndsLawfully}
+use Rattle.ksm_options.specs.Settings.{Given}
+use Rattle.ksm_options.specs.Told.{IsToldBy, Tells}
+use Rattle.ksm_script.specs.State.{ScriptState}
+use Rattle.ksm_script.specs.Script.{Runs, Streams}
+use Rattle.ksm_script.specs.Texts.{AppendsPart}
+use Rattle.ksm_script.specs.declared.pass_state.PassState.TheVariants.{Idle}
+use Rattle.ksm_script.specs.declared.script.End.TheVariants.{AllRead, BadLine}
+use Rattle.ksm_host.specs.Sent.{Replies}
+use Rattle.ksm_host.specs.declared.status.Status.{Status}
+use Rattle.ksm_host.specs.declared.status.Status.TheVariants.{Done, NotUnderstood, Broken, NoMemory}
+
+-- a session on these parts before its first line: no page, an empty journal, and passes that hold nothing
+abbrev pub IsFresh : PartsId → ScriptState → Type 0
+IsFresh parts s = (s.book ≡ opening parts.frames.shape) × (s.journal ≡ [])
+    × (s.passes ≡ replicate parts.frames.shape.passes (Idle (new_pass parts.frames)))
+
+-- what a session came to, by the status: at *done* all was read and each reply sent; at a bad line the replies up to its own are sent; else a
+-- read or a write failed, and what is sent, with what waited behind it, is a beginning of the replies
+abbrev pub Serves : Streams → ScriptState → Status → Type 0
+Serves io from Done = (to : ScriptState) × Runs io from to (Ok AllRead)
+Serves io from NotUnderstood = (to : ScriptState) × (number : ℕ) × Runs io from to (Ok (BadLine number))
+Serves io from Broken = (to : ScriptState) × (text : List ℕ) × (waiting : List ℕ) × Replies io.unread io.left from to text
+    × AppendsPart io.begun (append_known io.written waiting) text
+Serves io from NoMemory = ⊥
+
+-- a session on these parts was served to its end and its table closed; or memory was refused before it
+abbrev pub EndsOn : PartsId → Streams → Status → Option ClosedView → Type 0
+EndsOn parts io status None = status ≡ NoMemory
+EndsOn parts io status (Some table) = (table.shape ≡ parts.frames.shape) × EndsLawfully parts table
+    × (from : ScriptState) × IsFresh parts from × Serves io from status
+
+-- the session was on a table of the shape that the words tell; or there was none, for want of memory or as the words tell no shape
+abbrev pub EndsBy : List Text → Streams → Status → Option ClosedView → Type 0
+EndsBy words io status None = (status ≡ NoMemory) ⊎ ((status ≡ NotUnderstood) × ((given : List Given) → Tells words given → ⊥))
+EndsBy words io status (Some table) = (parts : PartsId) × IsToldBy words parts.frames.shape × EndsOn parts io status (Some table)

@@ -1,0 +1,126 @@
+//! From the program's words, input and output to its end.
+ghost use Rattle.std.specs.Prelude.{◌≡◌, None, map, string_bytes};
+ghost use Rattle.std.specs.Io.Buffered.{reader_remaining, writer_contents, writer_inner};
+ghost use Rattle.ksm_host.specs.Ends.{EndsBy, EndsOn, Serves};
+ghost use Rattle.ksm_script.specs.Script.{streams};
+
+use crate::answering::answer;
+use crate::start::{opened, words};
+use crate::status::{Outcome, Status};
+use frame_table::ClosedTable;
+use ksm_script::Session;
+use ksm_shared::{Naming, Parts};
+use std::alloc::Global;
+use std::io::{self, BufReader, BufWriter, Read, Write};
+use std::marker::Brand;
+use std::rt::Env;
+use std::sync::Wait;
+use std::thread::Threads;
+
+/// How many bytes are read or sent at once, at most.
+const BLOCK: usize = 65536;
+
+/// How the program ended, and what is left of it.
+#[derive(Drop)]
+pub struct Ended<O> {
+    /// What the program tells by its exit status.
+    pub status: Status,
+    /// The table of its session, closed. There is none where the program ended before its first line.
+    pub table: Option<ClosedTable>,
+    /// The output, with what was sent to it. What could not be sent is let go.
+    pub output: O,
+}
+
+/// The program on a host: it reads the words and the input there, and prints the replies. Audits run in the threads.
+pub fn run_on<R: Env + Input + Print + Eprint + AllocGlobal, T: Threads + Wait + Sync>(
+    rt: &R,
+    threads: &T,
+) -> Outcome {
+    let words = match words(rt) {
+        Ok(words) => words,
+        Err(status) => return Outcome::new(status),
+    };
+    let reader = BufReader::with_capacity(rt.alloc(), BLOCK, rt.reader());
+    let writer = BufWriter::with_capacity(rt.alloc(), BLOCK, io::writer(rt));
+    match (reader, writer) {
+        (Ok(mut reader), Ok(writer)) => {
+            let ended = played(rt, threads, words.as_slice(), &mut reader, writer);
+            Outcome::new(ended.status)
+        }
+        _ => Outcome::new(Status::NoMemory),
+    }
+}
+
+/// The program over its words, its input and its output: it opens the book that the words tell, answers the script, and closes the book.
+///
+/// Without a table in what is left, no line was read and nothing was sent: memory was refused, or the words tell no shape.
+pub fn played<R: Eprint + AllocGlobal, T: Threads + Wait + Sync, I: Read, O: Write + Drop>(
+    rt: &R,
+    threads: &T,
+    words: &[String],
+    reader: &mut BufReader<I>,
+    writer: BufWriter<O>,
+) -> Ended<O>
+    ensures ends { EndsBy (map string_bytes words.now) (streams (reader_remaining I.remaining reader.old) (reader_remaining I.remaining reader.new)
+        (writer_contents O.contents writer) (O.contents result.output)) result.status result.table }
+    ensures untouched { result.table ≡ None → (result.output ≡ writer_inner writer) × (reader.new ≡ reader.old) }
+{
+    match opened(rt, words) {
+        Ok(parts) => in_session::<Brand, T, I, O>(rt.alloc(), threads, parts, reader, writer),
+        Err(status) => unopened(status, writer),
+    }
+}
+
+/// Opens a session on the parts, which get their name here, answers the script, and closes it.
+fn in_session<N: Naming, T: Threads + Wait + Sync, I: Read, O: Write + Drop>(
+    alloc: Global,
+    threads: &T,
+    parts: Parts,
+    reader: &mut BufReader<I>,
+    writer: BufWriter<O>,
+) -> Ended<O>
+    requires name { parts ≡ N.parts }
+    requires alone { parts.callers ≡ 1 }
+    ensures ends { EndsOn N.parts (streams (reader_remaining I.remaining reader.old) (reader_remaining I.remaining reader.new)
+        (writer_contents O.contents writer) (O.contents result.output)) result.status result.table }
+    ensures untouched { result.table ≡ None → (result.output ≡ writer_inner writer) × (reader.new ≡ reader.old) }
+{
+    let Ok(mut session) = Session::<N>::open(alloc, parts) else {
+        return unopened(Status::NoMemory, writer);
+    };
+    let (status, output) = served(threads, reader, writer, &mut session);
+    Ended {
+        status,
+        table: Some(session.close(threads)),
+        output,
+    }
+}
+
+/// The end before the first line.
+fn unopened<O: Write + Drop>(status: Status, writer: BufWriter<O>) -> Ended<O>
+    ensures status { result.status ≡ status }
+    ensures table { result.table ≡ None }
+    ensures output { result.output ≡ writer_inner writer }
+{
+    let (output, _) = writer.into_parts();
+    Ended {
+        status,
+        table: None,
+        output,
+    }
+}
+
+/// Answers the script. The writer is taken apart, so that what could not be sent is let go, and not tried again.
+fn served<N: Naming, T: Threads + Wait + Sync, I: Read, O: Write + Drop>(
+    threads: &T,
+    reader: &mut BufReader<I>,
+    mut writer: BufWriter<O>,
+    session: &mut Session<N>,
+) -> (Status, O)
+    ensures { Serves (streams (reader_remaining I.remaining reader.old) (reader_remaining I.remaining reader.new)
+        (writer_contents O.contents writer) (O.contents result.1)) session.old.state result.0 }
+{
+    let status = answer(threads, reader, &mut writer, session);
+    let (output, _) = writer.into_parts();
+    (status, output)
+}

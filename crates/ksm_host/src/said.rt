@@ -1,0 +1,32 @@
+//! What the program says on standard error.
+use std::fmt::{self, Display, Formatter, Write};
+
+/// A text with its control characters escaped, all but newlines: it names what a user typed, and may not steer the terminal.
+#[derive(Drop)]
+pub(crate) struct Escaped<T>(pub(crate) T);
+
+impl<T: Display> Display for Escaped<T> {
+    fn fmt<W: Write>(&self, f: &mut Formatter<W>) -> fmt::Result {
+        let mut escaping = Escaping { to: f };
+        write!(escaping, "{}", self.0)
+    }
+}
+
+/// Passes a text on, with control characters escaped.
+#[derive(Drop)]
+struct Escaping<'a, W> {
+    to: &'a mut W,
+}
+
+impl<W: Write> Write for Escaping<'_, W> {
+    fn write_str(&mut self, text: &str) -> fmt::Result {
+        for c in text.chars() {
+            if c.is_control() && c != '\n' {
+                write!(self.to, "{}", c.escape_default())?;
+            } else {
+                self.to.write_char(c)?;
+            }
+        }
+        Ok(())
+    }
+}

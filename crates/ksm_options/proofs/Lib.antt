@@ -1,0 +1,9 @@
+pub mod After
+pub mod AnyWord
+pub mod Numbers
+pub mod Plain
+pub mod Rows
+pub mod Steps
+pub mod Taken
+pub mod Turns
+pub mod Walks

@@ -1,0 +1,4 @@
+pub mod CommandLine
+pub mod Plain
+pub mod Settings
+pub mod Told

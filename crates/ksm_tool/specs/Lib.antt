@@ -1,6 +1,0 @@
-pub mod CommandLine
-pub mod Plain
-pub mod Sent
-pub mod Settings
-pub mod Statuses
-pub mod Told
