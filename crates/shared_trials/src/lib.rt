@@ -8,6 +8,8 @@ mod callers;
 #[cfg(test)]
 mod commands;
 #[cfg(test)]
+mod gates;
+#[cfg(test)]
 mod lookups;
 #[cfg(test)]
 mod rows;
