@@ -1,6 +1,9 @@
 //! What a worker does.
 ghost use Rattle.std.specs.Prelude.{◌≡◌, ◌<◌, ◌≤◌, [], vec_len, vec_capacity};
 ghost use Rattle.ksm_base.specs.Values.{frames_of};
+ghost use Rattle.frame_table.specs.Named.{PassView};
+ghost use Rattle.ksm_audit.specs.declared.report.Row.{Row};
+ghost use Rattle.ksm_audit.specs.Lookups.{Visits};
 ghost use Rattle.ksm_audit.specs.Working.{MayDraw, Claimed, Answers, IsReady, Works};
 
 use crate::claims::{ClaimSeat, ClaimWord, Draw};
@@ -49,8 +52,15 @@ fn answer<G: Gate>(
     }
     let (row, pass) = visit(table, pass, place);
     lines.push_reserved(Line { place, row });
-    gate.after(worker, place);
+    tell(gate, worker, place, &pass);
     pass
+}
+
+// Tells the gate of a place. The pass that looked it up is back, so nothing is held, and this lookup is the last that it made.
+fn tell<G: Gate>(gate: &G, worker: u32, place: u32, pass: &Pass)
+    requires looked_up { (before : PassView) × (row : Row) × Visits before place row pass.now }
+{
+    gate.after(worker, place);
 }
 
 /// Claims places and looks them up, until none is left.

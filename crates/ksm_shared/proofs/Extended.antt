@@ -1,6 +1,7 @@
 -- What a call under the lock tells its share.
-use Rattle.std.proofs.Common.{◌≡◌, ◌⊎◌, ◌<◌, ℕ, Bool, true, false, if◌then◌else◌, List, [], ◌∷◌, ◌++◌, refl, sym, ap, ◌∙◌, subst, arith, Option, Some, None, Ok, Err, eq-eqb, ⊎_elim, inl, inr}
+use Rattle.std.proofs.Common.{◌≡◌, ◌⊎◌, ◌<◌, ℕ, Bool, true, false, if◌then◌else◌, List, [], ◌∷◌, ◌++◌, refl, sym, ap, ◌∙◌, subst, arith, Option, Some, None, Ok, Err, eq-eqb, inl, inr}
 use Rattle.std.proofs.lemmas.List.{append-nil}
+use Rattle.std.specs.Prelude.{MatchBool}
 use mathlib.Core.List.{IsPrefix}
 use Rattle.atomic_table.specs.Table.{Me}
 use Rattle.ksm_base.specs.declared.command.Command.{Command}
@@ -216,16 +217,14 @@ pub counters_seen : (parts : PartsId) (b : JournaledBook) (es : List Entry) → 
     → counters_of b.state ≡ counters_of (replay (opening parts.frames.shape) es)
 counters_seen parts b es own journal legal = ap counters_of (legal.leads ∙ (λ i. replay (opening (own i).shape) (journal i)))
 
--- either the counters of before are shown still, or those after all that was followed
-abbrev pub Shown : List Entry → List Entry → Bool → List Entry → Type 0
-Shown old new follows journal = (new ≡ old) ⊎ ((follows ≡ true) × (new ≡ journal))
+-- where there was room the counters after all that was followed are shown, else those of before
+abbrev pub Shown : Bool → List Entry → List Entry → List Entry → Type 0
+Shown room old new journal = MatchBool room (new ≡ journal) (new ≡ old)
 
-pub shown_begins : (old new journal : List Entry) (follows : Bool) (es es' more : List Entry) → Shown old new follows journal → (follows ≡ true → journal ≡ es') → IsPrefix old es → es' ≡ es ++ more
-    → IsPrefix new es'
-shown_begins old new journal follows es es' more one all begins grows =
-    ⊎_elim (λ (t : new ≡ old). subst (λ (l : List Entry). IsPrefix l es') (sym t) (prefix_trans old es es' begins (more, sym grows)))
-    (λ (t : (follows ≡ true) × (new ≡ journal)). subst (λ (l : List Entry). IsPrefix l es') (sym (t.1 ∙ all t.0)) (prefix_self es')) one
+pub shows_all_or_old : (room : Bool) (old new journal es' : List Entry) → Shown room old new journal → journal ≡ es' → (new ≡ es') ⊎ (new ≡ old)
+shows_all_or_old true old new journal es' one all = inl (one ∙ all)
+shows_all_or_old false old new journal es' one all = inr one
 
-pub shows_all_or_old : (old new journal : List Entry) (follows : Bool) (es' : List Entry) → Shown old new follows journal → (follows ≡ true → journal ≡ es') → (new ≡ es') ⊎ (new ≡ old)
-shows_all_or_old old new journal follows es' one all =
-    ⊎_elim (λ (t : new ≡ old). inr t) (λ (t : (follows ≡ true) × (new ≡ journal)). inl (t.1 ∙ all t.0)) one
+pub shown_begins : (room : Bool) (old new journal es es' more : List Entry) → Shown room old new journal → journal ≡ es' → IsPrefix old es → es' ≡ es ++ more → IsPrefix new es'
+shown_begins true old new journal es es' more one all begins grows = subst (λ (l : List Entry). IsPrefix l es') (sym (one ∙ all)) (prefix_self es')
+shown_begins false old new journal es es' more one all begins grows = subst (λ (l : List Entry). IsPrefix l es') (sym one) (prefix_trans old es es' begins (more, sym grows))

@@ -6,3 +6,4 @@ pub mod Gathering
 pub mod Beginnings
 pub mod Adding
 pub mod Showing
+pub mod Empty

@@ -3,3 +3,4 @@ pub mod Named
 pub mod Locked
 pub mod Handed
 pub mod Published
+pub mod Opening

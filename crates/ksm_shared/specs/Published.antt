@@ -1,5 +1,5 @@
 -- What readers are shown of the journal with no lock: beginnings of it, and rows of counters (own).
-use Rattle.std.specs.Prelude.{◌≡◌, ◌==◌, ℕ, Bool, true, List, [], ◌∷◌, ◌++◌, length, MatchBool, Option, Some, None}
+use Rattle.std.specs.Prelude.{◌≡◌, ◌==◌, ℕ, true, List, [], ◌∷◌, ◌++◌, length, MatchBool, Option, Some, None}
 use mathlib.Core.List.{IsPrefix}
 use mathlib.Core.Option.{some}
 use lib.ListN.{get_elem?}
@@ -52,9 +52,8 @@ RowsGoOn parts x views = IsRowOf parts x
 abbrev pub Shows : PartsId → Reached → ShownRow → ShownRow → Reached → Type 0
 Shows parts v x y w = IsRowOf parts y × IsPrefix v.journal y.reached.journal × (w ≡ y.reached)
 
--- what a publisher has followed of the journal, where it still follows it, and after how much of it the counters stand that readers are shown
+-- the journal that a publisher has followed, and after how much of it the counters stand that readers are shown
 pub record Following : Type 0 where
-  pub follows : Bool
   pub journal : List Entry
   pub shown : List Entry
 

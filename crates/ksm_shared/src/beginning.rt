@@ -1,11 +1,13 @@
 //! Beginnings of the one journal, which can be copied and compared. Their entries have no bytes: only how many there are is kept.
-ghost use Rattle.std.specs.Prelude.{◌≡◌, ◌<◌, ◌^◌, ◌++◌, ◌∷◌, [], false, length, MatchBool};
+ghost use Rattle.std.specs.Prelude.{◌≡◌, ◌++◌, ◌∷◌, [], length, MatchBool};
 ghost use mathlib.Core.List.{IsPrefix};
 ghost use Rattle.ksm_shared.specs.Published.{length_word};
 
 use crate::seen::Entry;
 use logbook::{Gain, Offer, Plain, Play, Rule, Seen, Word};
 use std::marker::Model;
+use std::sync::Wait;
+use std::thread::yield_now;
 
 /// The rule of the word that has the length of the journal.
 pub struct HasLength;
@@ -107,19 +109,21 @@ impl Beginning {
         self.count <= other.count
     }
 
-    /// Adds an entry to all that was seen, and says whether it did. It did not where the journal was longer, and then has seen that.
-    pub fn add(&mut self, word: &LengthWord, entry: &Entry) -> bool
+    /// Adds an entry to all that was seen. Only who has the word adds entries, so the journal is as long as was seen. Where it was not, or
+    /// no number were left for the entry, this would wait for ever.
+    pub fn add<R: Wait>(&mut self, rt: &R, word: &LengthWord, entry: &Entry)
         requires word { word.now ≡ length_word self.old.logbook }
-        requires room { length self.old.journal < 2 ^ 62 }
         ensures logbook { self.new.logbook ≡ self.old.logbook }
-        ensures added { MatchBool result (self.new.journal ≡ self.old.journal ++ entry.now ∷ []) (IsPrefix self.old.journal self.new.journal) }
-        ensures longer { result ≡ false → length self.old.journal < length self.new.journal }
+        ensures added { self.new.journal ≡ self.old.journal ++ entry.now ∷ [] }
     {
+        let count = self.count;
+        if count == u64::MAX {
+            stand_still(rt)
+        }
         let mut offer: Offer<Entry, u64, HasLength, NoTrade> = self
             .seen
             .plain::<NoTrade, Entry, Adding>(entry);
         let mut pen = self.seen.no_pen();
-        let count = self.count;
         let found = word.compare_exchange::<Adding, NoTrade>(
             count,
             count + 1,
@@ -127,7 +131,17 @@ impl Beginning {
             &mut offer,
             &mut pen,
         );
-        self.count = if found == count { count + 1 } else { found };
-        found == count
+        if found != count {
+            stand_still(rt)
+        }
+        self.count = count + 1;
     }
+}
+
+// Never returns.
+fn stand_still<R: Wait>(rt: &R) -> ! {
+    for _ in rt.forever() {
+        yield_now();
+    }
+    unreachable!()
 }

@@ -1,5 +1,5 @@
 //! What callers share: the table of frames, and the book behind the merge lock.
-ghost use Rattle.std.specs.Prelude.{◌≡◌, ◌++◌, ◌<◌, ◌≤◌, [], Some, All, IfOk, IfErr, IfNone, IfSome, IsSome, option_map, replicate, vec_len, vec_capacity};
+ghost use Rattle.std.specs.Prelude.{◌≡◌, ◌++◌, ◌<◌, List, [], Some, All, IfOk, IfErr, IfNone, IfSome, IsSome, option_map, replicate, vec_len};
 ghost use mathlib.Core.List.{IsPrefix};
 ghost use Rattle.ksm_base.specs.Counting.{counters_of};
 ghost use Rattle.ksm_base.specs.Journal.{last_stored};
@@ -9,25 +9,23 @@ ghost use Rattle.ksm_base.specs.Values.{frames_of};
 ghost use Rattle.frame_table.specs.Equal.{LooksUpEqual};
 ghost use Rattle.frame_table.specs.Lookup.{LooksUp};
 ghost use Rattle.frame_table.specs.Seats.{new_pass};
+ghost use Rattle.ksm_shared.specs.declared.seen.Owned.{Owned};
 ghost use Rattle.ksm_shared.specs.Locked.{EndsLawfully, SeesOn, StepsAlone, fresh, made, made_by, part_of, state_seen};
 ghost use Rattle.ksm_shared.specs.Published.{Tells};
-ghost use Rattle.ksm_shared.specs.Seen.{book_view, entries};
+ghost use Rattle.ksm_shared.specs.Seen.{CallersFit, OwnersBelow, entries};
 
 use crate::answer::Answer;
 use crate::merge::Merge;
 use crate::naming::Naming;
+use crate::opening::open_lock;
 use crate::parts::Parts;
-use crate::publisher::Publisher;
 use crate::reader::{CounterReader, Row};
-use crate::seen::{SeenSeat, SeenWords};
 use crate::share::Share;
-use crate::writing::mint;
 use frame_table::{ClosedTable, Found, FoundEqual, FrameTable, Pass};
 use ksm_base::laws::a_journal_goes_on;
 use ksm_base::{Command, Counters, Fault, GuestPage, Knobs, PageBytes};
-use ksm_book::Book;
 use std::alloc::Global;
-use std::marker::{Model, PhantomData};
+use std::marker::Model;
 use std::sync::{Mutex, MutexGuard, Wait};
 
 /// One book for several callers. Each call that takes the lock is handed the caller's share; lookups take no lock.
@@ -50,8 +48,9 @@ impl<N: Naming> Model for Ksm<N> {
 }
 
 impl<N: Naming> Ksm<N> {
-    /// The opening book, with its passes, and a share and a reader of counters for each caller. Refused for memory alone; what was opened by
-    /// then is closed.
+    /// The opening book, with its passes, and a share and a reader of counters for each caller. No share has seen an entry, and there is none:
+    /// each is owned by a share, and behind what a share has seen comes none of its own. Refused for memory alone; what was opened by then is
+    /// closed.
     pub fn open(
         parts: Parts,
     ) -> Result<(Ksm<N>, Vec<Pass>, Vec<Share<N>>, Vec<CounterReader<N>>), Fault>
@@ -59,53 +58,30 @@ impl<N: Naming> Ksm<N> {
         ensures passes { IfOk result (λ opened. opened.1.items ≡ replicate N.parts.frames.shape.passes (new_pass N.parts.frames)) }
         ensures shares { IfOk result (λ opened. opened.2.items ≡ fresh N.parts.callers) }
         ensures readers { IfOk result (λ opened. opened.3.items ≡ replicate N.parts.callers []) }
+        ensures empty { IfOk result (λ opened. (log : List Owned) → OwnersBelow N.parts.callers log → CallersFit log N.parts.callers opened.2.items → log ≡ []) }
         ensures memory { IfErr result (λ fault. fault ≡ Fault.Memory) }
     {
         let Parts {
             alloc,
-            shape,
             frames,
-            keeper,
             passes,
-            seen,
-            mut seat,
-            word,
-            journal,
-            callers,
+            inner,
         } = parts;
-        let (mut shares, mut readers) = match room(alloc, callers) {
-            Ok(room) => room,
-            Err(fault) => {
-                drop(frames.close(keeper, passes));
-                return Err(fault);
-            }
-        };
-        let book = match Book::open(alloc, keeper, shape) {
-            Ok(book) => book,
+        let (merge, shares, readers) = match open_lock(alloc, inner) {
+            Ok(opened) => opened,
             Err((keeper, fault)) => {
                 drop(frames.close(keeper, passes));
                 return Err(fault);
             }
         };
-        let counters = book.counters();
-        let publisher = match Publisher::open(alloc, word, journal, counters, callers) {
-            Ok(publisher) => publisher,
-            Err(fault) => {
-                drop(frames.close(book.close(), passes));
-                return Err(fault);
-            }
-        };
-        mint_all(&seen.shared, &mut seat, &mut shares, callers);
-        take_readers(&publisher, &mut readers, callers);
-        let merge = Mutex::new(Merge {
-            book,
-            seen,
-            seat,
-            callers,
-            publisher,
-            of: PhantomData,
-        });
+        let merge = Mutex::new(merge);
         Ok((Ksm { frames, merge }, passes, shares, readers))
+    }
+
+    /// Takes the merge lock, for several calls in a row. Until it is given back (`MutexGuard::unlock`) no other call of this book that takes
+    /// the lock returns; lookups and rows of counters go on. Of the book that is lent nothing is known but what `Merge::lies_lawfully` says.
+    pub fn lock<'a, R: Wait>(&'a self, rt: &R) -> MutexGuard<'a, Merge<N>> {
+        self.merge.lock(rt)
     }
 
     /// Makes a command. The share owns its entry, but for want of memory, and has then seen a legal journal that ends with it. The answer tells
@@ -263,58 +239,5 @@ impl<N: Naming> Ksm<N> {
         let merge = merge.into_inner();
         merge.lies_lawfully();
         frames.close(merge.close(rt), passes)
-    }
-}
-
-// Room for what callers are handed.
-fn room<N: Naming>(
-    alloc: Global,
-    callers: u32,
-) -> Result<(Vec<Share<N>>, Vec<CounterReader<N>>), Fault>
-    ensures shares { IfOk result (λ room. (room.0.items ≡ []) × (vec_len room.0 ≡ 0) × (callers ≤ vec_capacity room.0)) }
-    ensures readers { IfOk result (λ room. (room.1.items ≡ []) × (vec_len room.1 ≡ 0) × (callers ≤ vec_capacity room.1)) }
-    ensures memory { IfErr result (λ fault. fault ≡ Fault.Memory) }
-{
-    let shares = Vec::with_capacity(alloc, callers as usize)?;
-    let readers = Vec::with_capacity(alloc, callers as usize)?;
-    Ok((shares, readers))
-}
-
-// A reader for each caller.
-fn take_readers<N: Naming>(
-    publisher: &Publisher<N>,
-    readers: &mut Vec<CounterReader<N>>,
-    callers: u32,
-)
-    requires publisher { publisher.now.shown ≡ [] }
-    requires room { (readers.old.items ≡ []) × (vec_len readers.old ≡ 0) × (callers ≤ vec_capacity readers.old) }
-    ensures readers { readers.new.items ≡ replicate callers [] }
-{
-    for _ in 0..callers {
-        let reader = CounterReader::new(publisher.reader(), publisher.newest());
-        readers.push_reserved(reader);
-    }
-}
-
-// A share for each caller.
-fn mint_all<N: Naming>(
-    table: &SeenWords,
-    book: &mut SeenSeat,
-    shares: &mut Vec<Share<N>>,
-    callers: u32,
-)
-    requires table { (book.old.table_id ≡ table.now.table_id) × (N.parts.seen ≡ table.now.table_id) × (0 < table.now.table_id.words) }
-    requires book { book.old.me ≡ (book_view [] 0, []) }
-    requires room { (shares.old.items ≡ []) × (vec_len shares.old ≡ 0) × (callers ≤ vec_capacity shares.old) }
-    ensures table { book.new.table_id ≡ table.now.table_id }
-    ensures book { book.new.me ≡ (book_view [] callers, []) }
-    ensures shares { shares.new.items ≡ fresh callers }
-{
-    for _ in 0..callers {
-        let seat = mint(table, book);
-        shares.push_reserved(Share {
-            seat,
-            of: PhantomData,
-        });
     }
 }

@@ -6,6 +6,7 @@ mod beginning;
 mod ksm;
 mod merge;
 mod naming;
+mod opening;
 mod parts;
 mod publisher;
 mod reader;
@@ -24,6 +25,3 @@ pub use reader::{CounterReader, Row};
 pub use seen::{Caller, Entry, OneJournal, Owned, View};
 pub use share::Share;
 pub use tally::{GatherFault, Tally, gather};
-
-#[cfg(test)]
-mod tests;

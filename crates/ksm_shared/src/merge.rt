@@ -20,7 +20,6 @@ use crate::share::Share;
 use crate::tally::{GatherFault, Tally};
 use crate::writing::write;
 use frame_table::{FrameTable, Keeper};
-use ksm_base::laws::a_journal_goes_on;
 use ksm_base::{Command, Fault, GuestPage, PageBytes, Reply};
 use ksm_book::Book;
 use std::marker::{Model, PhantomData};
@@ -41,7 +40,7 @@ pub struct Merge<N: Naming> {
 }
 
 impl<N: Naming> Model for Merge<N> {
-    ghost use Rattle.std.specs.Prelude.{◌≡◌, [], true};
+    ghost use Rattle.std.specs.Prelude.{◌≡◌, []};
     ghost use mathlib.Core.List.{IsPrefix};
     ghost use Rattle.ksm_shared.specs.Locked.{Locked};
     ghost use Rattle.ksm_shared.specs.Seen.{OwnersBelow, book_view, entries};
@@ -50,7 +49,7 @@ impl<N: Naming> Model for Merge<N> {
 
     ghost view = { λ m. record { book = m.book; log = m.seat.me.0.log; shown = m.publisher.shown } };
 
-    ghost invariant = { λ m. (m.book.keeper.table ≡ N.parts.frames) × (m.book.journal ≡ entries m.seat.me.0.log) × (m.seen.shared.table_id ≡ N.parts.seen) × (m.seen.shared.table_id.words ≡ 1) × (m.seat.table_id ≡ N.parts.seen) × (m.seat.me ≡ (book_view m.seat.me.0.log N.parts.callers, [])) × OwnersBelow N.parts.callers m.seat.me.0.log × (m.callers ≡ N.parts.callers) × (m.publisher.follows ≡ true → m.publisher.journal ≡ entries m.seat.me.0.log) × IsPrefix m.publisher.shown (entries m.seat.me.0.log) };
+    ghost invariant = { λ m. (m.book.keeper.table ≡ N.parts.frames) × (m.book.journal ≡ entries m.seat.me.0.log) × (m.seen.shared.table_id ≡ N.parts.seen) × (m.seen.shared.table_id.words ≡ 1) × (m.seat.table_id ≡ N.parts.seen) × (m.seat.me ≡ (book_view m.seat.me.0.log N.parts.callers, [])) × OwnersBelow N.parts.callers m.seat.me.0.log × (m.callers ≡ N.parts.callers) × (m.publisher.journal ≡ entries m.seat.me.0.log) × IsPrefix m.publisher.shown (entries m.seat.me.0.log) };
 }
 
 impl<N: Naming> Merge<N> {
@@ -74,7 +73,6 @@ impl<N: Naming> Merge<N> {
         ensures begins { IsPrefix self.new.shown (entries self.new.log) }
         ensures shown { result.shown ≡ self.new.shown }
     {
-        a_journal_goes_on();
         let result = self.book.apply(frames, command);
         self.book.lies_lawfully();
         let said = said(command, result);

@@ -3,44 +3,36 @@ ghost use Rattle.std.specs.Prelude.{◌≡◌, ◌≤◌, IfOk, IfErr};
 ghost use Rattle.ksm_base.specs.Values.{IsShape};
 ghost use Rattle.frame_table.specs.Seats.{Ends, new_keeper};
 
-use crate::beginning::{LengthWord, SeenJournal};
-use crate::seen::{SeenSeat, SeenTable};
-use frame_table::{ClosedTable, FrameTable, Keeper, Pass};
+use crate::beginning::SeenJournal;
+use crate::opening::Inner;
+use crate::seen::SeenTable;
+use frame_table::{ClosedTable, FrameTable, Pass};
 use ksm_base::{Fault, Shape};
 use logbook::{Start, Word};
 use std::alloc::Global;
 use std::marker::Model;
 
-/// A table with its keeper and passes, what the shares are cut from, and the logbook by which beginnings of the journal are compared.
-/// Contracts see which parts they are.
+/// A table of frames with its passes, and what is to lie under the merge lock. Contracts see which parts they are.
 ///
 /// They must be spent: `Ksm::open` makes a book of them, or they are closed.
 pub struct Parts {
     pub(crate) alloc: Global,
-    pub(crate) shape: Shape,
     pub(crate) frames: FrameTable,
-    pub(crate) keeper: Keeper,
     pub(crate) passes: Vec<Pass>,
-    pub(crate) seen: SeenTable,
-    pub(crate) seat: SeenSeat,
-    pub(crate) word: LengthWord,
-    pub(crate) journal: SeenJournal,
-    pub(crate) callers: u32,
+    pub(crate) inner: Inner,
 }
 
 impl Model for Parts {
-    ghost use Rattle.std.specs.Prelude.{◌≡◌, ◌≤◌, []};
-    ghost use Rattle.ksm_base.specs.Values.{IsShape};
-    ghost use Rattle.frame_table.specs.Seats.{Opened};
+    ghost use Rattle.std.specs.Prelude.{◌≡◌, replicate};
+    ghost use Rattle.frame_table.specs.Seats.{new_pass};
     ghost use Rattle.ksm_shared.specs.Named.{PartsId};
-    ghost use Rattle.ksm_shared.specs.Published.{length_word};
-    ghost use Rattle.ksm_shared.specs.Seen.{book_view};
+    ghost use Rattle.ksm_shared.specs.Opening.{IsNew};
 
     ghost Value = { PartsId };
 
-    ghost view = { λ p. record { frames = p.frames; seen = p.seen.shared.table_id; logbook = p.journal.book; callers = p.callers } };
+    ghost view = { λ p. record { frames = p.frames; seen = p.inner.seen.shared.table_id; logbook = p.inner.journal.book; callers = p.inner.callers } };
 
-    ghost invariant = { λ p. IsShape p.shape × Opened p.shape p.frames p.keeper p.passes.items × (p.seen.shared.table_id.words ≡ 1) × (p.seat.table_id ≡ p.seen.shared.table_id) × (p.seat.me ≡ (book_view [] 0, [])) × (1 ≤ p.callers) × (p.callers ≤ 16) × (p.word ≡ length_word p.journal.book) × (p.journal.log ≡ []) };
+    ghost invariant = { λ p. IsNew (record { frames = p.frames; seen = p.inner.seen.shared.table_id; logbook = p.inner.journal.book; callers = p.inner.callers }) p.inner × (p.passes.items ≡ replicate p.frames.shape.passes (new_pass p.frames)) };
 }
 
 impl Parts {
@@ -57,15 +49,17 @@ impl Parts {
         let (frames, keeper, passes) = FrameTable::open(alloc, shape)?;
         Ok(Parts {
             alloc,
-            shape,
             frames,
-            keeper,
             passes,
-            seen,
-            seat,
-            word,
-            journal,
-            callers,
+            inner: Inner {
+                shape,
+                keeper,
+                seen,
+                seat,
+                word,
+                journal,
+                callers,
+            },
         })
     }
 
@@ -74,7 +68,7 @@ impl Parts {
         ensures shape { result ≡ self.now.frames.shape }
         ensures fits { IsShape result }
     {
-        self.shape
+        self.inner.shape
     }
 
     /// Ends them where no book is made of them. No frame was given, and no place names one.
@@ -83,16 +77,10 @@ impl Parts {
     {
         let Parts {
             alloc: _,
-            shape: _,
             frames,
-            keeper,
             passes,
-            seen: _,
-            seat: _,
-            word: _,
-            journal: _,
-            callers: _,
+            inner,
         } = self;
-        frames.close(keeper, passes)
+        frames.close(inner.close(), passes)
     }
 }

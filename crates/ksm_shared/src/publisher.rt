@@ -1,5 +1,5 @@
 //! What follows the journal under the lock, and publishes the counters after it.
-ghost use Rattle.std.specs.Prelude.{◌≡◌, ◌<◌, ◌≤◌, ◌^◌, ◌++◌, ◌⊎◌, true, [], length, IfOk, IfErr};
+ghost use Rattle.std.specs.Prelude.{◌≡◌, ◌<◌, ◌≤◌, ◌++◌, [], IfOk, IfErr, MatchBool};
 ghost use Rattle.ksm_base.specs.Counting.{counters_of};
 ghost use Rattle.ksm_base.specs.Journal.{AreAnswers, replay};
 ghost use Rattle.ksm_base.specs.State.{opening};
@@ -14,29 +14,25 @@ use std::alloc::Global;
 use std::marker::Model;
 use std::sync::Wait;
 
-// No journal gets so long.
-const MOST_ENTRIES: u64 = 1 << 60;
-
-/// The journal as far as it was followed, and the rows that readers take. Contracts see it as both journals.
+/// The journal that was followed, and the rows that readers take. Contracts see it as both journals.
 ///
 /// It must be closed.
 pub struct Publisher<N: Naming> {
     word: LengthWord,
     followed: Beginning,
-    follows: bool,
     rows: Rows<N>,
 }
 
 impl<N: Naming> Model for Publisher<N> {
-    ghost use Rattle.std.specs.Prelude.{◌≡◌, true};
+    ghost use Rattle.std.specs.Prelude.{◌≡◌};
     ghost use mathlib.Core.List.{IsPrefix};
     ghost use Rattle.ksm_shared.specs.Published.{Following, length_word};
 
     ghost Value = { Following };
 
-    ghost view = { λ p. record { follows = p.follows; journal = p.followed.journal; shown = p.rows.reached.journal } };
+    ghost view = { λ p. record { journal = p.followed.journal; shown = p.rows.reached.journal } };
 
-    ghost invariant = { λ p. (p.word ≡ length_word N.parts.logbook) × (p.followed.logbook ≡ N.parts.logbook) × (p.follows ≡ true → IsPrefix p.rows.reached.journal p.followed.journal) };
+    ghost invariant = { λ p. (p.word ≡ length_word N.parts.logbook) × (p.followed.logbook ≡ N.parts.logbook) × IsPrefix p.rows.reached.journal p.followed.journal };
 }
 
 impl<N: Naming> Publisher<N> {
@@ -52,7 +48,7 @@ impl<N: Naming> Publisher<N> {
         requires seen { (seen.book ≡ N.parts.logbook) × (seen.log ≡ []) }
         requires counters { counters ≡ counters_of (opening N.parts.frames.shape) }
         requires readers { (0 < readers) × (readers ≤ 16) }
-        ensures opened { IfOk result (λ p. (p.follows ≡ true) × (p.journal ≡ []) × (p.shown ≡ [])) }
+        ensures opened { IfOk result (λ p. (p.journal ≡ []) × (p.shown ≡ [])) }
         ensures memory { IfErr result (λ fault. fault ≡ Fault.Memory) }
     {
         let followed = Beginning { count: 0, seen };
@@ -61,7 +57,6 @@ impl<N: Naming> Publisher<N> {
         Ok(Publisher {
             word,
             followed,
-            follows: true,
             rows,
         })
     }
@@ -79,20 +74,17 @@ impl<N: Naming> Publisher<N> {
         self.rows.newest().again()
     }
 
-    /// Follows the journal by its next entry, if there is one, and publishes the counters after it. Where memory is refused nothing new is
-    /// published, and the next call publishes. It follows until it meets entries that it did not add, or 2^60 of them.
-    pub fn follow<R: Wait>(&mut self, rt: &R, next: &Option<Entry>, counters: Counters)
-        requires legal { self.old.follows ≡ true → AreAnswers (opening N.parts.frames.shape) (self.old.journal ++ list_of next.now) }
-        requires counters { self.old.follows ≡ true → counters ≡ counters_of (replay (opening N.parts.frames.shape) (self.old.journal ++ list_of next.now)) }
-        ensures follows { self.new.follows ≡ true → (self.old.follows ≡ true) × (self.new.journal ≡ self.old.journal ++ list_of next.now) }
-        ensures stays { self.old.follows ≡ true → length self.old.journal < 2 ^ 60 → (self.new.follows ≡ true) ⊎ (length self.old.journal < length self.new.journal) }
-        ensures shown { (self.new.shown ≡ self.old.shown) ⊎ ((self.new.follows ≡ true) × (self.new.shown ≡ self.new.journal)) }
+    /// Follows the journal by its next entry, if there is one, and shows the counters after it, where there is room for their row. Answers
+    /// whether there was: where memory is refused readers take the row of before, and the next call shows all that they lack.
+    pub fn follow<R: Wait>(&mut self, rt: &R, next: &Option<Entry>, counters: Counters) -> bool
+        requires legal { AreAnswers (opening N.parts.frames.shape) (self.old.journal ++ list_of next.now) }
+        requires counters { counters ≡ counters_of (replay (opening N.parts.frames.shape) (self.old.journal ++ list_of next.now)) }
+        ensures journal { self.new.journal ≡ self.old.journal ++ list_of next.now }
+        ensures shown { MatchBool result (self.new.shown ≡ self.new.journal) (self.new.shown ≡ self.old.shown) }
     {
-        self.follows = goes_on(self.follows, &self.word, &mut self.followed, next);
-        if self.follows {
-            let row = CountedRow::new(counters, self.followed.again());
-            self.rows.show(rt, row);
-        }
+        go_on(rt, &self.word, &mut self.followed, next);
+        let row = CountedRow::new(counters, self.followed.again());
+        self.rows.show(rt, row)
     }
 
     /// Ends the copies of the newest row, once no reader is in them.
@@ -100,22 +92,19 @@ impl<N: Naming> Publisher<N> {
         let Publisher {
             word: _,
             followed: _,
-            follows: _,
             rows,
         } = self;
         rows.close(rt);
     }
 }
 
-// Adds the entry to what was followed. Answers whether that is the journal still.
-fn goes_on(follows: bool, word: &LengthWord, followed: &mut Beginning, next: &Option<Entry>) -> bool
+// Adds the entry to what was followed, if there is one.
+fn go_on<R: Wait>(rt: &R, word: &LengthWord, followed: &mut Beginning, next: &Option<Entry>)
     requires { word.now ≡ length_word followed.old.logbook }
     ensures logbook { followed.new.logbook ≡ followed.old.logbook }
-    ensures follows { result ≡ true → (follows ≡ true) × (followed.new.journal ≡ followed.old.journal ++ list_of next.now) }
-    ensures stays { follows ≡ true → length followed.old.journal < 2 ^ 60 → (result ≡ true) ⊎ (length followed.old.journal < length followed.new.journal) }
+    ensures journal { followed.new.journal ≡ followed.old.journal ++ list_of next.now }
 {
-    let Some(entry) = next else {
-        return follows;
-    };
-    follows && followed.len() < MOST_ENTRIES && followed.add(word, entry)
+    if let Some(entry) = next {
+        followed.add(rt, word, entry);
+    }
 }

@@ -1,5 +1,5 @@
 //! Rows of counters, and the two copies of the newest one that readers take with no lock.
-ghost use Rattle.std.specs.Prelude.{◌≡◌, ◌<◌, ◌^◌, ◌⊎◌, ◌∷◌, [], drop, IfOk};
+ghost use Rattle.std.specs.Prelude.{◌≡◌, ◌<◌, ◌^◌, ◌⊎◌, ◌++◌, ◌∷◌, [], drop, IfOk, MatchBool};
 ghost use mathlib.Core.List.{IsPrefix};
 ghost use Rattle.ksm_shared.specs.Published.{IsRowOf, ShownRow};
 
@@ -161,15 +161,17 @@ impl<N: Naming> Rows<N> {
         self.writer.published()
     }
 
-    /// Shows the row, or nothing new where memory is refused.
-    pub fn show<R: Wait>(&mut self, rt: &R, row: CountedRow)
+    /// Shows the row, and answers whether there was room for it; where memory for it is refused, readers take the row of before.
+    pub fn show<R: Wait>(&mut self, rt: &R, row: CountedRow) -> bool
         requires begins { IsPrefix self.old.reached.journal row.reached.journal }
         requires row { IsRowOf N.parts row }
-        ensures { (self.new ≡ row) ⊎ (self.new ≡ self.old) }
+        ensures { MatchBool result (self.new ≡ row) (self.new ≡ self.old) }
     {
-        if self.writer.append(row).is_ok() {
+        let room = take_room(&mut self.writer, row);
+        if room {
             let _ = replace_with(&mut self.writer, rt, publish);
         }
+        room
     }
 
     /// Ends the copies, once no reader is in them.
@@ -181,6 +183,14 @@ impl<N: Naming> Rows<N> {
 
 fn new_reader<N: Naming>(writer: &RowWriter<N>) -> Option<RowReader<N>> {
     writer.factory().reader().ok()
+}
+
+// Takes room for a row behind the one that readers take, and puts it there. False where memory is refused; then it is let go.
+fn take_room<N: Naming>(writer: &mut RowWriter<N>, row: CountedRow) -> bool
+    ensures shown { writer.new.desk ≡ writer.old.desk }
+    ensures room { MatchBool result (drop writer.new.behind writer.new.log.items ≡ drop writer.old.behind writer.old.log.items ++ row ∷ []) (drop writer.new.behind writer.new.log.items ≡ drop writer.old.behind writer.old.log.items) }
+{
+    writer.append(row).is_ok()
 }
 
 // Publishes the one row that is pending.

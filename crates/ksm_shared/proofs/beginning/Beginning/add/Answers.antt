@@ -3,7 +3,7 @@ use Rattle.ksm_shared.proofs.Adding.{adds_moves}
 use Rattle.ksm_shared.proofs.beginning.Beginning.add.Goals as goal
 
 pub compare_exchange-found-requires : goal.compare_exchange-found-requires
-compare_exchange-found-requires c =
+compare_exchange-found-requires g c =
     let b = ap (λ f. f.logbook) c.self.view_is in
     let h = c.requires.word in
     let offer = c.plain-offer.ensures in

@@ -1,4 +1,4 @@
-use Rattle.std.proofs.Common.{◌≡◌, ◌⊎◌, ◌∙◌, ◌++◌, ◌<◌, ℕ, true, ap, subst, sym}
+use Rattle.std.proofs.Common.{◌≡◌, ◌⊎◌, ◌∙◌, ◌++◌, ◌<◌, ℕ, ap, subst, sym}
 use mathlib.Core.List.{IsPrefix}
 use Rattle.ksm_shared.specs.declared.seen.Caller.{Caller}
 use Rattle.ksm_shared.specs.Seen.{entries, first}
@@ -23,30 +23,30 @@ module _ (g : Over) (c : goal.After-newest g) where
   grows : entries c.write.new.book.me.0.log ≡ entries c.self.inside.seat.me.0.log ++ made c.args.command c.apply-result.result
   grows = entries_grow _ _ number _ _ log
 
-  follows : c.follow.new.self.follows ≡ true → c.follow.new.self.journal ≡ entries c.write.new.book.me.0.log
-  follows h = let told = c.follow.ensures.follows h in follows_on _ _ _ _ number _ _ _ log c.said-said.ensures (c.self.invariant.8 told.0) told.1
+  follows : c.follow.new.self.journal ≡ entries c.write.new.book.me.0.log
+  follows = follows_on _ _ _ _ number _ _ _ log c.said-said.ensures c.self.invariant.8 c.follow.ensures.journal
 
   begins : IsPrefix c.follow.new.self.shown (entries c.write.new.book.me.0.log)
-  begins = shown_begins _ _ _ _ _ _ _ c.follow.ensures.shown follows c.self.invariant.9 grows
+  begins = shown_begins c.follow.result _ _ _ _ _ _ c.follow.ensures.shown follows c.self.invariant.9 grows
 
 pub follow-requires-clause-legal : goal.follow-requires-clause-legal
-follow-requires-clause-legal g c h =
+follow-requires-clause-legal g c =
     let i = c.self.invariant in
     let a = c.apply-result in
-    let next = follows_book _ _ _ _ _ _ (i.8 h ∙ sym i.1) a.ensures.journal c.said-said.ensures in
+    let next = follows_book _ _ _ _ _ _ (i.8 ∙ sym i.1) a.ensures.journal c.said-said.ensures in
     answers_seen g.N.Naming.parts a.new.self _ (a.ensures.carried.own ∙ i.0) next c.lies_lawfully.ensures.legal
 
 pub follow-requires-clause-counters : goal.follow-requires-clause-counters
-follow-requires-clause-counters g c h =
+follow-requires-clause-counters g c =
     let i = c.self.invariant in
     let a = c.apply-result in
-    let next = follows_book _ _ _ _ _ _ (i.8 h ∙ sym i.1) a.ensures.journal c.said-said.ensures in
+    let next = follows_book _ _ _ _ _ _ (i.8 ∙ sym i.1) a.ensures.journal c.said-said.ensures in
     c.counters-counters.ensures ∙ counters_seen g.N.Naming.parts a.new.self _ (a.ensures.carried.own ∙ i.0) next c.lies_lawfully.ensures.legal
 
 pub returns-clause-published : goal.returns-clause-published
 returns-clause-published g c =
     subst (λ (l : Locked). (c.follow.new.self.shown ≡ entries c.write.new.book.me.0.log) ⊎ (c.follow.new.self.shown ≡ l.shown)) c.self.view_is
-    (shows_all_or_old _ _ _ _ _ c.follow.ensures.shown (follows g c))
+    (shows_all_or_old c.follow.result _ _ _ _ c.follow.ensures.shown (follows g c))
 
 pub returns-clause-begins : goal.returns-clause-begins
 returns-clause-begins g c = begins g c

@@ -1,0 +1,5 @@
+use Rattle.std.proofs.Common.{◌≡◌, ◌≤◌, [], replicate, vec_capacity, vec_len}
+use Rattle.ksm_shared.proofs.opening.take_readers.Given as goal
+
+abbrev pub invariant-loop : goal.invariant-loop
+invariant-loop g l = (l.readers.items ≡ replicate l.counter []) × (vec_len l.readers ≡ l.counter) × (l.callers ≤ vec_capacity l.readers)

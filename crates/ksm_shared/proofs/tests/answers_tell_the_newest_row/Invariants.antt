@@ -1,5 +1,0 @@
-use Rattle.ksm_shared.proofs.tests.answers_tell_the_newest_row.Given as goal
-
--- the parts that were just opened
-abbrev pub ghosts-learnt : goal.ghosts-learnt
-ghosts-learnt g a = record { parts = a.parts }

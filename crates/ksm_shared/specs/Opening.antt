@@ -1,0 +1,35 @@
+-- What a shared book is made of before anybody has commanded (own).
+use Rattle.std.specs.Prelude.{◌≡◌, ◌≤◌, []}
+use Rattle.ksm_base.specs.State.{opening}
+use Rattle.ksm_base.specs.Values.{IsShape}
+use Rattle.frame_table.specs.Seats.{new_keeper}
+use Rattle.ksm_book.specs.Carried.{JournaledBook}
+use Rattle.ksm_shared.specs.declared.opening.Inner.{Inner}
+use Rattle.ksm_shared.specs.Named.{PartsId}
+use Rattle.ksm_shared.specs.Locked.{Locked}
+use Rattle.ksm_shared.specs.Published.{length_word}
+use Rattle.ksm_shared.specs.Seen.{book_view}
+
+-- what is to lie under the lock is of these parts, and none of it has made a step
+pub record IsNew (parts : PartsId) (p : Inner) : Type 0 where
+  pub shape : p.shape ≡ parts.frames.shape
+  pub fits : IsShape p.shape
+  pub keeper : p.keeper ≡ new_keeper parts.frames
+  pub seen : p.seen.shared.table_id ≡ parts.seen
+  pub words : p.seen.shared.table_id.words ≡ 1
+  pub seat : p.seat.table_id ≡ parts.seen
+  pub nothing : p.seat.me ≡ (book_view [] 0, [])
+  pub some : 1 ≤ p.callers
+  pub few : p.callers ≤ 16
+  pub callers : p.callers ≡ parts.callers
+  pub word : p.word ≡ length_word parts.logbook
+  pub logbook : p.journal.book ≡ parts.logbook
+  pub journal : p.journal.log ≡ []
+
+-- the opening book of these parts: no page, no dup and no entry, and the keeper has made no step
+abbrev pub opening_book : PartsId → JournaledBook
+opening_book parts = record { state = opening parts.frames.shape; frames = []; keeper = new_keeper parts.frames; journal = [] }
+
+-- the locked book as it opens: nobody owns an entry, and readers are shown the counters of the opening book
+abbrev pub opening_lock : PartsId → Locked
+opening_lock parts = record { book = opening_book parts; log = []; shown = [] }

@@ -1,0 +1,161 @@
+//! What is to lie under the merge lock, and how it is opened.
+ghost use Rattle.std.specs.Prelude.{◌≡◌, ◌<◌, ◌≤◌, [], IfOk, IfErr, replicate, vec_len, vec_capacity};
+ghost use Rattle.frame_table.specs.Seats.{new_keeper};
+ghost use Rattle.ksm_shared.specs.Locked.{fresh};
+ghost use Rattle.ksm_shared.specs.Opening.{IsNew, opening_lock};
+ghost use Rattle.ksm_shared.specs.Seen.{book_view};
+
+use crate::beginning::{LengthWord, SeenJournal};
+use crate::merge::Merge;
+use crate::naming::Naming;
+use crate::publisher::Publisher;
+use crate::reader::CounterReader;
+use crate::seen::{SeenSeat, SeenTable, SeenWords};
+use crate::share::Share;
+use crate::writing::mint;
+use frame_table::Keeper;
+use ksm_base::{Fault, Shape};
+use ksm_book::Book;
+use std::alloc::Global;
+use std::marker::PhantomData;
+
+/// What is to lie under the merge lock: the keeper, the table of what shares have seen with the book's seat there, and the logbook by which
+/// beginnings of the journal are compared, with the word that has its length.
+pub(crate) struct Inner {
+    pub shape: Shape,
+    pub keeper: Keeper,
+    pub seen: SeenTable,
+    pub seat: SeenSeat,
+    pub word: LengthWord,
+    pub journal: SeenJournal,
+    pub callers: u32,
+}
+
+impl Inner {
+    /// The keeper, where no book is made.
+    pub fn close(self) -> Keeper
+        ensures { result ≡ self.keeper }
+    {
+        let Inner {
+            shape: _,
+            keeper,
+            seen: _,
+            seat: _,
+            word: _,
+            journal: _,
+            callers: _,
+        } = self;
+        keeper
+    }
+}
+
+/// The book that is to lie under the lock, with a share and a reader of counters for each caller. Refused for memory alone, it gives the keeper
+/// back.
+pub(crate) fn open_lock<N: Naming>(
+    alloc: Global,
+    inner: Inner,
+) -> Result<(Merge<N>, Vec<Share<N>>, Vec<CounterReader<N>>), (Keeper, Fault)>
+    requires { IsNew N.parts inner }
+    ensures book { IfOk result (λ opened. opened.0 ≡ opening_lock N.parts) }
+    ensures shares { IfOk result (λ opened. opened.1.items ≡ fresh N.parts.callers) }
+    ensures readers { IfOk result (λ opened. opened.2.items ≡ replicate N.parts.callers []) }
+    ensures refused { IfErr result (λ e. (e.0 ≡ new_keeper N.parts.frames) × (e.1 ≡ Fault.Memory)) }
+{
+    let Ok((mut shares, mut readers)) = room(alloc, inner.callers) else {
+        return Err((inner.close(), Fault::Memory));
+    };
+    let merge = open_merge(alloc, inner, &mut shares)?;
+    take_readers(&merge.publisher, &mut readers, merge.callers);
+    Ok((merge, shares, readers))
+}
+
+// Room for what callers are handed.
+fn room<N: Naming>(
+    alloc: Global,
+    callers: u32,
+) -> Result<(Vec<Share<N>>, Vec<CounterReader<N>>), Fault>
+    ensures shares { IfOk result (λ room. (room.0.items ≡ []) × (vec_len room.0 ≡ 0) × (callers ≤ vec_capacity room.0)) }
+    ensures readers { IfOk result (λ room. (room.1.items ≡ []) × (vec_len room.1 ≡ 0) × (callers ≤ vec_capacity room.1)) }
+    ensures memory { IfErr result (λ fault. fault ≡ Fault.Memory) }
+{
+    let shares = Vec::with_capacity(alloc, callers as usize)?;
+    let readers = Vec::with_capacity(alloc, callers as usize)?;
+    Ok((shares, readers))
+}
+
+// The opening book, of which a share is cut for each caller. Refused for memory alone, it gives the keeper back.
+fn open_merge<N: Naming>(
+    alloc: Global,
+    inner: Inner,
+    shares: &mut Vec<Share<N>>,
+) -> Result<Merge<N>, (Keeper, Fault)>
+    requires inner { IsNew N.parts inner }
+    requires room { (shares.old.items ≡ []) × (vec_len shares.old ≡ 0) × (N.parts.callers ≤ vec_capacity shares.old) }
+    ensures opened { IfOk result (λ merge. merge ≡ opening_lock N.parts) }
+    ensures shares { IfOk result (λ _. shares.new.items ≡ fresh N.parts.callers) }
+    ensures refused { IfErr result (λ e. (e.0 ≡ new_keeper N.parts.frames) × (e.1 ≡ Fault.Memory)) }
+{
+    let Inner {
+        shape,
+        keeper,
+        seen,
+        mut seat,
+        word,
+        journal,
+        callers,
+    } = inner;
+    let book = Book::open(alloc, keeper, shape)?;
+    let counters = book.counters();
+    let publisher = match Publisher::open(alloc, word, journal, counters, callers) {
+        Ok(publisher) => publisher,
+        Err(fault) => return Err((book.close(), fault)),
+    };
+    mint_all(&seen.shared, &mut seat, shares, callers);
+    Ok(Merge {
+        book,
+        seen,
+        seat,
+        callers,
+        publisher,
+        of: PhantomData,
+    })
+}
+
+// A reader for each caller.
+fn take_readers<N: Naming>(
+    publisher: &Publisher<N>,
+    readers: &mut Vec<CounterReader<N>>,
+    callers: u32,
+)
+    requires publisher { publisher.now.shown ≡ [] }
+    requires room { (readers.old.items ≡ []) × (vec_len readers.old ≡ 0) × (callers ≤ vec_capacity readers.old) }
+    ensures { readers.new.items ≡ replicate callers [] }
+{
+    for _ in 0..callers {
+        let reader = CounterReader::new(publisher.reader(), publisher.newest());
+        readers.push_reserved(reader);
+    }
+}
+
+// A share for each caller.
+fn mint_all<N: Naming>(
+    table: &SeenWords,
+    book: &mut SeenSeat,
+    shares: &mut Vec<Share<N>>,
+    callers: u32,
+)
+    requires table { (book.old.table_id ≡ table.now.table_id) × (N.parts.seen ≡ table.now.table_id) × (0 < table.now.table_id.words) }
+    requires book { book.old.me ≡ (book_view [] 0, []) }
+    requires room { (shares.old.items ≡ []) × (vec_len shares.old ≡ 0) × (callers ≤ vec_capacity shares.old) }
+    ensures table { book.new.table_id ≡ table.now.table_id }
+    ensures book { book.new.me ≡ (book_view [] callers, []) }
+    ensures shares { shares.new.items ≡ fresh callers }
+{
+    for _ in 0..callers {
+        let seat = mint(table, book);
+        shares.push_reserved(Share {
+            seat,
+            of: PhantomData,
+        });
+    }
+}

@@ -1,0 +1,135 @@
+//! Four callers keep one journal, and one caller makes each locked read.
+ghost use Rattle.std.specs.Prelude.{◌≡◌};
+ghost use Rattle.ksm_base.specs.Values.{frames_of};
+
+use crate::commands::{DONE, SHAPE, TWO_MERGED, filled, merge_two, page, register, store};
+use ksm_base::{Fault, Knobs};
+use ksm_shared::{GatherFault, Ksm, Naming, Parts, Share, gather};
+use std::alloc::Global;
+use std::marker::Brand;
+use std::process::Abort;
+use std::sync::Wait;
+use std::test::Fail;
+use std::thread::{Threads, join};
+
+// The byte of a caller's j-th store.
+fn byte_of(guest: u16, j: u8) -> u8 {
+    ((guest % 4) as u8 * 50).saturating_add(j)
+}
+
+// A caller registers its page, stores to it 100 times, and stores to a page that is not there. It answers whether all went so.
+fn work<N: Naming>(
+    rt: &impl Wait,
+    ksm: &Ksm<N>,
+    mut share: Share<N>,
+    guest: u16,
+) -> (Share<N>, bool) {
+    let mut right = ksm.command(rt, &mut share, register(guest, 0, 0)).result() == DONE;
+    for j in 1..101u8 {
+        let command = store(guest, 0, byte_of(guest, j));
+        right &= ksm.command(rt, &mut share, command).result() == DONE;
+    }
+    let missing = ksm.command(rt, &mut share, store(guest, 9, 1)).result();
+    (share, right && missing == Err(Fault::UnknownPage))
+}
+
+// Four callers in a thread each, and what their shares tell together.
+fn four_work<N: Naming + Send + Sync, R: Threads + Wait + Abort + Sync>(
+    rt: &R,
+    ksm: &Ksm<N>,
+    mut shares: Vec<Share<N>>,
+) -> Result<u64, Fail> {
+    let three = shares.pop().ok_or("three")?;
+    let two = shares.pop().ok_or("two")?;
+    let one = shares.pop().ok_or("one")?;
+    let zero = shares.pop().ok_or("zero")?;
+    let ((zero, one), (two, three)) = join(
+        rt,
+        || join(rt, || work(rt, ksm, zero, 0), || work(rt, ksm, one, 1)),
+        || join(rt, || work(rt, ksm, two, 2), || work(rt, ksm, three, 3)),
+    );
+    assert!(rt; zero.1 && one.1 && two.1 && three.1);
+    let mut last = three.0;
+    for guest in 0..4 {
+        let bytes = ksm.read(rt, &mut last, page(guest, 0));
+        assert_eq!(rt; bytes, Some(filled(byte_of(guest, 100))));
+    }
+    shares.push(zero.0)?;
+    shares.push(one.0)?;
+    shares.push(two.0)?;
+    let GatherFault::Missing(mut shares) = gather(rt, ksm, shares).err().ok_or("missing")?;
+    assert_eq!(rt; shares.len(), 3);
+    shares.push(last)?;
+    let tally = gather(rt, ksm, shares).ok().ok_or("all")?;
+    Ok(tally.entries)
+}
+
+fn four<N: Naming + Send + Sync, R: Threads + Wait + Abort + Sync>(
+    rt: &R,
+    parts: Parts,
+) -> Result<(), Fail>
+    requires { parts ≡ N.parts }
+{
+    let (ksm, passes, shares, _readers) = Ksm::<N>::open(parts)?;
+    let entries = four_work(rt, &ksm, shares);
+    drop(ksm.close(rt, passes));
+    assert_eq!(rt; entries?, 408);
+    Ok(())
+}
+
+// Four callers keep one journal: each has its 102 entries there.
+#[test]
+fn four_callers_keep_one_journal(rt: HostRuntime) -> Result<(), Fail> {
+    let parts = Parts::open(rt.alloc(), SHAPE, 4)?;
+    four::<Brand, _>(&rt, parts)
+}
+
+// What the locked reads answer of two merged pages, and what the share then tells.
+fn reads<N: Naming, R: Wait + Abort>(
+    rt: &R,
+    alloc: Global,
+    ksm: &Ksm<N>,
+    mut shares: Vec<Share<N>>,
+) -> Result<u64, Fail> {
+    let mut one = shares.pop().ok_or("share")?;
+    let share = &mut one;
+    assert!(rt; merge_two(rt, ksm, share));
+    assert_eq!(rt; ksm.read(rt, share, page(0, 1)), Some(filled(10)));
+    assert_eq!(rt; ksm.read(rt, share, page(0, 2)), None);
+    assert_eq!(rt; ksm.ticket(rt, share, page(0, 1)), Some(0));
+    assert_eq!(rt; ksm.registered(rt, share, page(0, 1)), true);
+    assert_eq!(rt; ksm.registered(rt, share, page(1, 1)), false);
+    assert_eq!(rt; ksm.counters(rt, share), TWO_MERGED);
+    let knobs = Knobs {
+        run: 1,
+        ..Knobs::DEFAULT
+    };
+    assert_eq!(rt; ksm.knobs(rt, share), knobs);
+    let mappers = match ksm.mappers(rt, alloc, share, 0) {
+        Ok(Some(pages)) => pages.len(),
+        _ => 0,
+    };
+    assert_eq!(rt; mappers, 2);
+    shares.push(one)?;
+    let tally = gather(rt, ksm, shares).ok().ok_or("all")?;
+    Ok(tally.entries)
+}
+
+fn one<N: Naming, R: Wait + Abort>(rt: &R, alloc: Global, parts: Parts) -> Result<(), Fail>
+    requires name { parts ≡ N.parts }
+    requires places { frames_of parts.frames.shape ≡ 8 }
+{
+    let (ksm, passes, shares, _readers) = Ksm::<N>::open(parts)?;
+    let entries = reads(rt, alloc, &ksm, shares);
+    let closed = ksm.close(rt, passes);
+    assert_eq!(rt; entries?, 4);
+    assert_eq!(rt; (closed.place(0), closed.count(0)), (1024, 2));
+    Ok(())
+}
+
+#[test]
+fn one_caller_makes_each_locked_read(rt: HostRuntime) -> Result<(), Fail> {
+    let alloc = rt.alloc();
+    let parts = Parts::open(alloc, SHAPE, 1)?;
+    one::<Brand, _>(&rt, alloc, parts)
+}
