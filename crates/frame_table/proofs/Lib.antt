@@ -1,4 +1,5 @@
 pub mod Looked
+pub mod Orders
 pub mod ReaderHalf
 pub mod ReaderMay
 pub mod Allowed

@@ -5,6 +5,7 @@ use lib.ListN.{get_elem?}
 use Rattle.atomic_table.proofs.Lists.{at_longer}
 use Rattle.ksm_base.specs.declared.shape.Shape.{Shape}
 use Rattle.ksm_base.specs.Values.{frames_of}
+use Rattle.frame_core.specs.declared.event.Event.{Event}
 use Rattle.frame_core.specs.declared.frame.Kind.{Kind}
 use Rattle.frame_core.specs.declared.frame.Kind.TheVariants.{Stable, Dying}
 use Rattle.frame_core.specs.declared.ledger.Ledger.{Ledger}
@@ -57,11 +58,11 @@ count_is h rule safe f below =
     ∙ (safe.counted f fr.0 fr.1 ∙ ap (λ (n : Note). n.base + length (holders h.state.shape.passes f h.trace)) (sym (note_at h.state f fr.0 fr.1))))
 
 -- how far a seat has come in the core
-seated : (sh : Shape) (t : St) (h : Holds sh t) (q : ℕ) (phase : Phase) (log : Log) → get_elem? t.views (suc q) ≡ some (Reader sh phase log)
+seated : (sh : Shape) (t : St) (h : Holds sh t) (q : ℕ) (phase : Phase) (log : Log) (order : List Event) → get_elem? t.views (suc q) ≡ some (Reader sh phase log order)
     → slice_get (run_of sh h.events).state.seats q ≡ Some phase
-seated sh t h q phase log at =
-    seat_there (all_views sh h.tally t.views) (run_of sh h.events).state.seats q (Reader sh phase log) h.after.phases_are
-    (at_longer t.views (replicate h.tally.unmade (Reader sh Idle [])) (suc q) (Reader sh phase log) at)
+seated sh t h q phase log order at =
+    seat_there (all_views sh h.tally t.views) (run_of sh h.events).state.seats q (Reader sh phase log order) h.after.phases_are
+    (at_longer t.views (replicate h.tally.unmade (Reader sh Idle [] [])) (suc q) (Reader sh phase log order) at)
 
 pub runs_safely : TheTableRunsSafely
 runs_safely sh t h =
@@ -70,14 +71,14 @@ runs_safely sh t h =
     let safe = run_safe sh h.shape h.events in
     record {
       events = h.events;
-      keeper_log = λ ledger tally log at. (seen sh t h 0 _ at).3;
-      reader_log = λ q phase log at. (seen sh t h (suc q) _ at).1;
+      keeper_log = λ ledger tally log order at. (seen sh t h 0 _ at).3;
+      reader_log = λ q phase log order at. (seen sh t h (suc q) _ at).1;
       given = run_given sh h.shape h.events;
       safe = λ n. run_safe sh h.shape (take n h.events);
-      rightly = λ q aim known log at. safe.rightly q aim known (seated sh t h q (Held aim known) log at);
-      unwritten = λ ledger tally kept q aim known log keeper at. subst (λ (k : Ledger). ¬ IsWritable (frame_at k aim.life.frame).kind)
-          (sym (seen sh t h 0 _ keeper).1) (not_written past.state q aim known rule (seated sh t h q (Held aim known) log at));
-      counted = λ ledger tally log at f below. ap (λ (l : List ℕ). count_in (get_or l (frame_word_at (frames_of sh) f) 0)) h.after.words_are
+      rightly = λ q aim known log order at. safe.rightly q aim known (seated sh t h q (Held aim known) log order at);
+      unwritten = λ ledger tally kept seen_by q aim known log order keeper at. subst (λ (k : Ledger). ¬ IsWritable (frame_at k aim.life.frame).kind)
+          (sym (seen sh t h 0 _ keeper).1) (not_written past.state q aim known rule (seated sh t h q (Held aim known) log order at));
+      counted = λ ledger tally log order at f below. ap (λ (l : List ℕ). count_in (get_or l (frame_word_at (frames_of sh) f) 0)) h.after.words_are
           ∙ subst (λ (x : Ledger × Shape). count_in (get_or (words_of past.state) (frame_word_at (frames_of x.1) f) 0)
           ≡ (frame_at x.0 f).base + length (holders x.1.passes f past.trace)) (λ i. (sym (seen sh t h 0 _ at).1 i, run_shape sh h.shape h.events i))
           (count_is past rule safe f (subst (λ (x : Shape). f < frames_of x) (sym (run_shape sh h.shape h.events)) below));

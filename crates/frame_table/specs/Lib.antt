@@ -2,6 +2,7 @@ pub mod Named
 pub mod Kept
 pub mod Seat
 pub mod Views
+pub mod Orders
 pub mod Rule
 pub mod Reading
 pub mod Keeping

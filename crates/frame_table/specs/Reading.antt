@@ -4,6 +4,8 @@ use Rattle.atomic_table.specs.Table.{Step}
 use Rattle.ksm_base.specs.declared.page.TheConstants.{PAGE_WORDS}
 use Rattle.ksm_base.specs.declared.shape.Shape.{Shape}
 use Rattle.ksm_base.specs.Values.{frames_of}
+use Rattle.frame_core.specs.declared.event.Event.{Event}
+use Rattle.frame_core.specs.declared.event.Event.TheVariants as event
 use Rattle.frame_core.specs.declared.event.ReaderStep.{ReaderStep}
 use Rattle.frame_core.specs.declared.event.ReaderStep.TheVariants.{LoadPlace, LoadFrame, Exchange, Leave, LoadWord}
 use Rattle.frame_core.specs.declared.seat.Aim.{Aim}
@@ -13,16 +15,17 @@ use Rattle.frame_core.specs.State.{life_at, count_in}
 use Rattle.frame_table.specs.declared.view.View.{View}
 use Rattle.frame_table.specs.declared.view.View.TheVariants.{Reader}
 use Rattle.frame_table.specs.Seat.{seat_after, word_of}
-use Rattle.frame_table.specs.Views.{Sat, IsIn}
+use Rattle.frame_table.specs.Orders.{IsPresent}
+use Rattle.frame_table.specs.Views.{Sat, IsIn, shape_in, order_in}
 
--- the view after a step: as far as the step leads, and with one entry more in the log
-abbrev pub reader_after : ReaderStep → View → ℕ → View
-reader_after e (Reader sh phase log) n = Reader sh (seat_after sh e phase n) (log ++ (e, n) ∷ [])
-reader_after e v n = v
+-- the view after a step: as far as the step leads, with one entry more in the log, and this order
+abbrev pub reader_after : ReaderStep → View → ℕ → List Event → View
+reader_after e (Reader sh phase log old) n order = Reader sh (seat_after sh e phase n) (log ++ (e, n) ∷ []) order
+reader_after e v n order = v
 
 -- the step was made, and found the word n
 abbrev pub Steps : ReaderStep → Sat → ℕ → Sat → Type 0
-Steps e m n m' = m' ≡ (reader_after e m.0 n, m.1)
+Steps e m n m' = m' ≡ (reader_after e m.0 n (order_in m'), m.1)
 
 -- the seat has a reference on the frame whose frame word, or whose page, stands there
 abbrev pub IsHolder : Shape → (ℕ → ℕ → ℕ) → ℕ → Sat → Type 0
@@ -46,16 +49,20 @@ tells sh (LoadWord i) phase n = agrees_with i n phase
 tells sh _ phase n = Unit {0}
 
 abbrev pub tells_view : ReaderStep → View → ℕ → Type 0
-tells_view e (Reader sh phase log) n = tells sh e phase n
+tells_view e (Reader sh phase log order) n = tells sh e phase n
 tells_view e _ n = Unit {0}
 
--- the step was made, and found a word that is as the rule says
+-- the step is of the present, and found what the core's step of the seat finds
+abbrev pub IsMadeNow : ReaderStep → Sat → ℕ → Sat → Type 0
+IsMadeNow e m n m' = (q : ℕ) × IsPresent (shape_in m) (order_in m) (order_in m') (event.Reader q e) n
+
+-- the step was made, of the present, and found a word that is as the rule says
 abbrev pub Makes : ReaderStep → Sat → ℕ → Sat → Type 0
-Makes e m n m' = Steps e m n m' × tells_view e m.0 n
+Makes e m n m' = Steps e m n m' × tells_view e m.0 n × IsMadeNow e m n m'
 
 -- the word on which a step works
 abbrev pub word_at : ReaderStep → View → ℕ
-word_at e (Reader sh phase log) = word_of sh e phase
+word_at e (Reader sh phase log order) = word_of sh e phase
 word_at e _ = 0
 
 -- an operation on that word makes the step

@@ -25,21 +25,22 @@ use Rattle.frame_table.specs.Views.{Log, KeeperLog}
 pub record RunsSafely (sh : Shape) (t : table.State (Unit {0}) View) : Type 0 where
   pub events : List Event
   -- each seat's log is its part of their trace
-  pub keeper_log : (ledger : Ledger) (tally : Tally) (log : KeeperLog) → get_elem? t.views 0 ≡ some (Keeper sh ledger tally log)
+  pub keeper_log : (ledger : Ledger) (tally : Tally) (log : KeeperLog) (order : List Event) → get_elem? t.views 0 ≡ some (Keeper sh ledger tally log order)
       → log ≡ keeper_log_of (run_of sh events).trace
-  pub reader_log : (q : ℕ) (phase : Phase) (log : Log) → get_elem? t.views (suc q) ≡ some (Reader sh phase log) → log ≡ log_of q (run_of sh events).trace
+  pub reader_log : (q : ℕ) (phase : Phase) (log : Log) (order : List Event) → get_elem? t.views (suc q) ≡ some (Reader sh phase log order) → log ≡ log_of q (run_of sh events).trace
   -- each raise and each opening of them found the frame without a holder, and after any number of them the core was safe
   pub given : GivenUnheld sh.passes (run_of sh events).trace
   pub safe : (n : ℕ) → IsSafe (run_of sh (take n events))
   -- a seat that holds, holds what its place named, in that life, and the words that it read are those that were named
-  pub rightly : (q : ℕ) (aim : Aim) (known : List (Option ℕ)) (log : Log) → get_elem? t.views (suc q) ≡ some (Reader sh (Held aim known) log)
+  pub rightly : (q : ℕ) (aim : Aim) (known : List (Option ℕ)) (log : Log) (order : List Event)
+      → get_elem? t.views (suc q) ≡ some (Reader sh (Held aim known) log order)
       → HoldsRightly q aim (run_of sh events).trace
   -- a frame that the keeper may write is held by no seat
-  pub unwritten : (ledger : Ledger) (tally : Tally) (kept : KeeperLog) (q : ℕ) (aim : Aim) (known : List (Option ℕ)) (log : Log)
-      → get_elem? t.views 0 ≡ some (Keeper sh ledger tally kept)
-      → get_elem? t.views (suc q) ≡ some (Reader sh (Held aim known) log) → ¬ IsWritable (frame_at ledger aim.life.frame).kind
+  pub unwritten : (ledger : Ledger) (tally : Tally) (kept : KeeperLog) (seen : List Event) (q : ℕ) (aim : Aim) (known : List (Option ℕ)) (log : Log)
+      (order : List Event) → get_elem? t.views 0 ≡ some (Keeper sh ledger tally kept seen)
+      → get_elem? t.views (suc q) ≡ some (Reader sh (Held aim known) log order) → ¬ IsWritable (frame_at ledger aim.life.frame).kind
   -- the count of a frame is the keeper's references and the holders together
-  pub counted : (ledger : Ledger) (tally : Tally) (log : KeeperLog) → get_elem? t.views 0 ≡ some (Keeper sh ledger tally log)
+  pub counted : (ledger : Ledger) (tally : Tally) (log : KeeperLog) (order : List Event) → get_elem? t.views 0 ≡ some (Keeper sh ledger tally log order)
       → (f : ℕ) → f < frames_of sh → count_in (slice_index t.words (frame_word_at (frames_of sh) f))
       ≡ (frame_at ledger f).base + length (holders sh.passes f (run_of sh events).trace)
 

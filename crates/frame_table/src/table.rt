@@ -13,7 +13,7 @@ ghost use Rattle.frame_core.specs.Words.{frame_word_at, page_at, content_at, wor
 ghost use Rattle.frame_table.specs.Keeping.{Keeps};
 ghost use Rattle.frame_table.specs.Reading.{IsHolder, Makes};
 ghost use Rattle.frame_table.specs.Seats.{Opened, Ends, new_pass};
-ghost use Rattle.frame_table.specs.Views.{IsIn, IsKeeper, keeps_ledger, ledger_in, keeper_log, tally_in, tally_of};
+ghost use Rattle.frame_table.specs.Views.{IsIn, IsKeeper, keeps_ledger, ledger_in, keeper_log, order_in, tally_in, tally_of};
 
 use crate::closed::ClosedTable;
 use crate::keeper::Keeper;
@@ -110,7 +110,7 @@ impl FrameTable {
         requires keeper { IsKeeper self.now.shape seat.old.me }
         requires unmade { 0 < (tally_in seat.old.me).unmade }
         ensures seat { (seat.new.table_id ≡ seat.old.table_id) × (seat.new.id ≡ seat.old.id) }
-        ensures one_more { seat.new.me ≡ keeps_ledger self.now.shape (ledger_in seat.old.me) (tally_of ((tally_in seat.old.me).unmade - 1) ((tally_in seat.old.me).out + 1)) (keeper_log seat.old.me) }
+        ensures one_more { seat.new.me ≡ keeps_ledger self.now.shape (ledger_in seat.old.me) (tally_of ((tally_in seat.old.me).unmade - 1) ((tally_in seat.old.me).out + 1)) (keeper_log seat.old.me) (order_in seat.old.me) }
         ensures new { result ≡ new_pass self.now }
     {
         Pass {
@@ -158,7 +158,7 @@ impl FrameTable {
         requires out { 0 < (tally_in seat.old.me).out }
         requires pass { pass.table ≡ self.now }
         ensures seat { (seat.new.table_id ≡ seat.old.table_id) × (seat.new.id ≡ seat.old.id) }
-        ensures one_less { seat.new.me ≡ keeps_ledger self.now.shape (ledger_in seat.old.me) (tally_of (tally_in seat.old.me).unmade ((tally_in seat.old.me).out - 1)) (keeper_log seat.old.me) }
+        ensures one_less { seat.new.me ≡ keeps_ledger self.now.shape (ledger_in seat.old.me) (tally_of (tally_in seat.old.me).unmade ((tally_in seat.old.me).out - 1)) (keeper_log seat.old.me) (order_in seat.new.me) }
     {
         let Pass { seat: other } = pass;
         self.table.shared.join_seat::<GiveBack>(seat, other);
