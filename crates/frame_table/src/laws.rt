@@ -2,9 +2,11 @@
 ghost use Rattle.frame_table.specs.Running.{TheTableRunsSafely};
 ghost use Rattle.frame_table.specs.Steps.{ReadersStepAsTheCore, KeeperStepsAsTheCore};
 
-/// Between any two steps of any threads the table runs safely. There is one order of the steps made so far, of which each seat's log is its
-/// own part, such that no frame was raised or opened while a seat held it, none that may be written is held, each hold is of the life that its
-/// place named and of the words that it was published with, and each count is the keeper's references and the holders together.
+/// Between any two steps of any threads the table runs safely. There is one order of the steps made so far: each seat has seen a beginning of
+/// it, with all of its own steps, and its log is its part of them. The words are those of the core after them, which keeps its rule; each pass
+/// has come as far as the core's seat, and the keeper's ledger is what the words say. No frame was raised or opened while a seat held it, none
+/// that may be written is held, each hold is of the life that its place named, which is the present one, and of the words that it was
+/// published with, and each count is the keeper's references and the holders together.
 pub fn the_running_table_is_safe()
     ensures { TheTableRunsSafely }
 {}
