@@ -70,7 +70,7 @@ module _ {A : Type 0} (part : History → List A) (grows : (h : History) (e : Ev
   with_more h e None = begins_itself (part h)
   with_more h e (Some r) = grows h e r
 
-  fold_grows : (es : List Event) (h : History) → Begins (part h) (part (fold history_after h es))
+  pub fold_grows : (es : List Event) (h : History) → Begins (part h) (part (fold history_after h es))
   fold_grows [] h = begins_itself (part h)
   fold_grows (e ∷ es) h =
       begins_trans (part h) (part (history_after h e)) (part (fold history_after (history_after h e) es))

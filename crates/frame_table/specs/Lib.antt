@@ -13,4 +13,5 @@ pub mod Equal
 pub mod Gone
 pub mod Seats
 pub mod Running
+pub mod Truth
 pub mod Worked

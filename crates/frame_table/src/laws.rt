@@ -1,6 +1,7 @@
 //! What holds of the table at every moment, and of its steps.
 ghost use Rattle.frame_table.specs.Running.{TheTableRunsSafely};
 ghost use Rattle.frame_table.specs.Steps.{ReadersStepAsTheCore, KeeperStepsAsTheCore};
+ghost use Rattle.frame_table.specs.Truth.{ReadersLogIsTrue, KeepersLogIsTrue};
 
 /// Between any two steps of any threads the table runs safely. There is one order of the steps made so far: each seat has seen a beginning of
 /// it, with all of its own steps, and its log is its part of them. The words are those of the core after them, which keeps its rule; each pass
@@ -16,4 +17,14 @@ pub fn the_running_table_is_safe()
 pub fn steps_are_the_cores()
     ensures readers { ReadersStepAsTheCore }
     ensures keeper { KeeperStepsAsTheCore }
+{}
+
+/// A log cannot lie, whoever writes it. Take two moments of one table, at both of which its rule holds, and let one seat alone have gone on
+/// between them, by one entry of its log. Then the entry is a step of the present: what it tells is the word that stands there at the first
+/// moment, and at the second that word alone is another, and the seat has come as far, as the core's step of the same name says. Of the
+/// keeper's entries that is said by the core's states before and after. It holds while no other pass has been given back, which is done as the
+/// table is closed.
+pub fn a_log_cannot_lie()
+    ensures readers { ReadersLogIsTrue }
+    ensures keeper { KeepersLogIsTrue }
 {}
