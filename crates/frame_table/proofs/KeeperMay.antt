@@ -43,12 +43,12 @@ keeper_step_is s e rule may =
     record { found = half.0.0; next = half.0.1; steps = half.1; word = one.1; words = one.0; shape = half.4; seats = half.3; ledger = half.2; told = one.2 }
 
 -- of a seat that is not the keeper's, what is told does not speak of the keeper
-pub still_tied : (sh : Shape) (h g : History) (tally tally' : Tally) (j : ℕ) (v : View) → ((q : ℕ) → log_of q g.trace ≡ log_of q h.trace) → j ≢ 0
+pub others_tied : (sh : Shape) (h g : History) (tally tally' : Tally) (j : ℕ) (v : View) → ((q : ℕ) → log_of q g.trace ≡ log_of q h.trace) → j ≢ 0
     → Tied sh h tally j v → Tied sh g tally' j v
-still_tied sh h g tally tally' zero v same ne tied = absurd (ne refl)
-still_tied sh h g tally tally' (suc q) (Reader sh' phase log order) same ne tied = (tied.0, tied.1 ∙ sym (same q))
-still_tied sh h g tally tally' (suc q) Spent same ne tied = tt
-still_tied sh h g tally tally' (suc q) (Keeper sh' ledger t log order) same ne tied = absurd tied
+others_tied sh h g tally tally' zero v same ne tied = absurd (ne refl)
+others_tied sh h g tally tally' (suc q) (Reader sh' phase log order) same ne tied = (tied.0, tied.1 ∙ sym (same q))
+others_tied sh h g tally tally' (suc q) Spent same ne tied = tt
+others_tied sh h g tally tally' (suc q) (Keeper sh' ledger t log order) same ne tied = absurd tied
 
 -- the words and views where the keeper's view alone changes
 pub keeper_changes : (sh : Shape) (h g : History) (tally tally' : Tally) (words words' : List ℕ) (views : List View) (v w : View)
@@ -58,7 +58,7 @@ keeper_changes sh h g tally tally' words words' views v w logs seats same keeper
   words_are = same;
   phases_are = map-set phase_of views 0 w ∙ (ap (λ (l : List Phase). set l 0 (phase_of w)) is.phases_are ∙ (λ i. keeper i ∷ sym seats i));
   tied = λ j v of. ⊎_elim (λ (k : (j ≡ 0) × (w ≡ v)). subst (λ (x : ℕ × View). Tied sh g tally' x.0 x.1) (λ i. (sym k.0 i, k.1 i)) told)
-      (λ (k : (j ≢ 0) × (get_elem? views j ≡ some v)). still_tied sh h g tally tally' j v logs k.0 (is.tied j v k.1)) (at_set views 0 j w v of);
+      (λ (k : (j ≢ 0) × (get_elem? views j ≡ some v)). others_tied sh h g tally tally' j v logs k.0 (is.tied j v k.1)) (at_set views 0 j w v of);
 }
 
 -- what the rule tells of a view that is there

@@ -12,7 +12,7 @@ use Rattle.frame_table.specs.declared.pass.Round.TheVariants.{Lost}
 use Rattle.frame_table.specs.Rounds.{GoesRound}
 use Rattle.frame_table.specs.Lookup.{rounds, IsAlive, AllLost, opening}
 use Rattle.frame_core.specs.State.{life_at, frame_word, count_in, life_in}
-use Rattle.frame_table.specs.Seat.{aim_of, is_alive}
+use Rattle.frame_table.specs.Seat.{aim_of, is_referenced}
 use Rattle.frame_table.specs.Views.{Log, Sat, sits, log_in, order_in, IsIn}
 use Rattle.frame_table.specs.Reading.{reader_after, Steps}
 
@@ -72,8 +72,8 @@ pub counted : (sh : Shape) (aim : Aim) (failures n : ℕ) (me m : Sat) → IsIn 
     → IsAlive aim.life.generation n → (n ≡ frame_word aim.life.generation (count_in n)) × IsIn sh (Counted aim failures (count_in n)) m
 counted sh aim failures n me m is s alive =
     let log : Log = log_in me ++ (LoadFrame, n) ∷ [] in
-    let test : is_alive aim.life.generation n ≡ true = rw (ne_eqb (count_in n) 0 alive.0, eq-eqb (life_in n) aim.life.generation alive.1) refl in
-    let e : m ≡ sits sh (cond (is_alive aim.life.generation n) (Counted aim failures (count_in n)) Idle) log (order_in m) = s
+    let test : is_referenced aim.life.generation n ≡ true = rw (ne_eqb (count_in n) 0 alive.0, eq-eqb (life_in n) aim.life.generation alive.1) refl in
+    let e : m ≡ sits sh (cond (is_referenced aim.life.generation n) (Counted aim failures (count_in n)) Idle) log (order_in m) = s
     ∙ ap (λ (x : Sat). (reader_after LoadFrame x.0 n (order_in m), x.1)) is in (
       omega (arith, alive.1),
       is_in sh (Counted aim failures (count_in n)) log m

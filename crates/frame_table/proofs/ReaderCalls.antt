@@ -13,7 +13,7 @@ use Rattle.frame_core.specs.declared.seat.Phase.TheVariants.{Idle, Placed, Count
 use Rattle.frame_core.specs.State.{frame_word}
 use Rattle.frame_core.specs.Words.{frame_word_at, content_at}
 use Rattle.frame_table.specs.Views.{Log, sits}
-use Rattle.frame_table.specs.Reading.{Makes, loads_place, loads_frame, exchanges, leaves, loads_word}
+use Rattle.frame_table.specs.Reading.{StepsNow, loads_place, loads_frame, exchanges, leaves, loads_word}
 use Rattle.frame_table.proofs.Allowed.{MayLoad, MayExchange, MaySubOne, lowered}
 use Rattle.frame_table.proofs.ReaderMay.{reader_may}
 
@@ -21,7 +21,7 @@ module _ (slots id : ℕ) (sh : Shape) (log : Log) (order : List Event) where
   pub may_load_place : (p : ℕ) → p < frames_of sh → MayLoad loads_place slots id sh p (sits sh Idle log order)
   may_load_place p below t h size at small =
       let r = reader_may slots (LoadPlace p) Idle log order (λ n. n) sh id below (λ n small told. refl) t h size at small in
-      (r.0, r.1, r.2, r.3, λ o is. subst (λ (k : ℕ). Makes (LoadPlace k) (sits sh Idle log order) (get_or t.words p 0) (r.0, carried_after [] r.1)) is r.4)
+      (r.0, r.1, r.2, r.3, λ o is. subst (λ (k : ℕ). StepsNow (LoadPlace k) (sits sh Idle log order) (get_or t.words p 0) (r.0, carried_after [] r.1)) is r.4)
 
   pub may_load_frame : (aim : Aim) (failures : ℕ)
       → MayLoad loads_frame slots id sh (frame_word_at (frames_of sh) aim.life.frame) (sits sh (Placed aim failures) log order)
@@ -51,4 +51,4 @@ module _ (slots id : ℕ) (sh : Shape) (log : Log) (order : List Event) where
   -- which word of the page a word of the table is
   pub may_load_word : (aim : Aim) (known : List (Option ℕ)) (i : ℕ) → i < PAGE_WORDS → MayLoad loads_word slots id sh (content_at (frames_of sh) aim.life.frame i) (sits sh (Held aim known) log order)
   may_load_word aim known i below t h size at small = let r = reader_may slots (LoadWord i) (Held aim known) log order (λ n. n) sh id below (λ n small told. refl) t h size at small in
-      (r.0, r.1, r.2, r.3, λ j within is. let same : i ≡ j = omega arith in subst (λ (k : ℕ). Makes (LoadWord k) (sits sh (Held aim known) log order) (get_or t.words (content_at (frames_of sh) aim.life.frame i) 0) (r.0, carried_after [] r.1)) same r.4)
+      (r.0, r.1, r.2, r.3, λ j within is. let same : i ≡ j = omega arith in subst (λ (k : ℕ). StepsNow (LoadWord k) (sits sh (Held aim known) log order) (get_or t.words (content_at (frames_of sh) aim.life.frame i) 0) (r.0, carried_after [] r.1)) same r.4)

@@ -25,10 +25,10 @@ use Rattle.frame_core.proofs.Runs.{run_step}
 use Rattle.frame_table.specs.declared.view.Tally.{Tally}
 use Rattle.frame_table.specs.declared.view.View.{View}
 use Rattle.frame_table.specs.declared.view.View.TheVariants.{Keeper, Reader, Spent}
-use Rattle.frame_table.specs.Seat.{MayRead, word_of, written, seat_after}
+use Rattle.frame_table.specs.Seat.{MayRead, reader_word, written, seat_after}
 use Rattle.frame_table.specs.Views.{Log, sits, phase_of}
 use Rattle.frame_table.specs.Rule.{Holds, IsAfter, IsInOrder, Tied, all_views, is_out}
-use Rattle.frame_table.specs.Reading.{Makes, tells}
+use Rattle.frame_table.specs.Reading.{StepsNow, tells}
 use Rattle.frame_table.proofs.Looked.{got}
 use Rattle.frame_table.proofs.Orders.{begins_itself, in_order_more}
 use Rattle.frame_table.proofs.ReaderHalf.{reader_half}
@@ -74,7 +74,7 @@ still_tied sh h tally q e r same _ _ ne tied = absurd tied
 module _ (slots : ℕ) (e : ReaderStep) (phase : Phase) (log : Log) (order : List Event) (f : ℕ → ℕ) where
   -- what a step owes to the table's rule
   abbrev Owes : Shape → History → Tally → ℕ → St → List Event → Type 0
-  Owes sh h tally q t next = let i : ℕ = word_of sh e phase in let n : ℕ = get_or t.words i 0 in
+  Owes sh h tally q t next = let i : ℕ = reader_word sh e phase in let n : ℕ = get_or t.words i 0 in
       (r : ℕ × core.State) × (core_steps.step h.state (event.Reader q e) ≡ Some r)
       × IsAfter sh (made_by q e h r) tally (set t.words i (f n)) (all_views sh tally (set t.views (suc q) (Reader sh (seat_after sh e phase n) (log ++ (e, n) ∷ []) next)))
       × (log ++ (e, n) ∷ [] ≡ log_of q (made_by q e h r).trace) × (n ≡ r.0) × tells sh e phase n
@@ -82,12 +82,12 @@ module _ (slots : ℕ) (e : ReaderStep) (phase : Phase) (log : Log) (order : Lis
   here : (h : History) (t : St) (q : ℕ) (tally : Tally) (next : List Event) → core_rule.Rule h.state
       → IsAfter h.state.shape h tally t.words (all_views h.state.shape tally t.views) → MayRead h.state.shape e phase
       → ((n : ℕ) → n < 18446744073709551616 → tells h.state.shape e phase n → f n ≡ written e phase n)
-      → get_elem? t.views (suc q) ≡ some (Reader h.state.shape phase log order) → get_or t.words (word_of h.state.shape e phase) 0 < 18446744073709551616
+      → get_elem? t.views (suc q) ≡ some (Reader h.state.shape phase log order) → get_or t.words (reader_word h.state.shape e phase) 0 < 18446744073709551616
       → Owes h.state.shape h tally q t next
   here h t q tally next rule is may writes at small =
       let s = h.state in
       let sh = s.shape in
-      let i : ℕ = word_of sh e phase in
+      let i : ℕ = reader_word sh e phase in
       let n : ℕ = get_or t.words i 0 in
       let views : List View = all_views sh tally t.views in
       let at_all : get_elem? views (suc q) ≡ some (Reader sh phase log order) =
@@ -118,18 +118,18 @@ module _ (slots : ℕ) (e : ReaderStep) (phase : Phase) (log : Log) (order : Lis
         told,
       )
 
-  pub reader_may : (sh : Shape) (id : ℕ) → MayRead sh e phase → ((n : ℕ) → n < 18446744073709551616 → tells sh e phase n → f n ≡ written e phase n) → Allows (Holds sh) slots id (sits sh phase log order) (word_of sh e phase) f (Makes e (sits sh phase log order))
+  pub reader_may : (sh : Shape) (id : ℕ) → MayRead sh e phase → ((n : ℕ) → n < 18446744073709551616 → tells sh e phase n → f n ≡ written e phase n) → Allows (Holds sh) slots id (sits sh phase log order) (reader_word sh e phase) f (StepsNow e (sits sh phase log order))
   reader_may sh zero may writes t h size at small =
       absurd (h.after.tied 0 (Reader sh phase log order) (at_longer t.views (replicate h.tally.unmade (Reader sh Idle [] [])) 0 (Reader sh phase log order) at))
   reader_may sh (suc q) may writes t h size at small =
       let past = run_of sh h.events in
       let this : Event = event.Reader q e in
       let events : List Event = h.events ++ this ∷ [] in
-      let n : ℕ = get_or t.words (word_of sh e phase) 0 in
+      let n : ℕ = get_or t.words (reader_word sh e phase) 0 in
       let w : View = Reader sh (seat_after sh e phase n) (log ++ (e, n) ∷ []) events in
       let owes = subst (λ (x : Shape). IsAfter x past h.tally t.words (all_views x h.tally t.views) → MayRead x e phase
       → ((n : ℕ) → n < 18446744073709551616 → tells x e phase n → f n ≡ written e phase n)
-      → get_elem? t.views (suc q) ≡ some (Reader x phase log order) → get_or t.words (word_of x e phase) 0 < 18446744073709551616 → Owes x past h.tally q t events)
+      → get_elem? t.views (suc q) ≡ some (Reader x phase log order) → get_or t.words (reader_word x e phase) 0 < 18446744073709551616 → Owes x past h.tally q t events)
       (run_shape sh h.shape h.events)
       (here past t q h.tally events (run_sound sh h.shape h.events).rule) h.after may writes at small in
       let ran = run_step sh h.events this owes.0 owes.1 in
@@ -141,7 +141,7 @@ module _ (slots : ℕ) (e : ReaderStep) (phase : Phase) (log : Log) (order : Lis
           shape = h.shape;
           events = events;
           tally = h.tally;
-          after = subst (λ (x : History). IsAfter sh x h.tally (set t.words (word_of sh e phase) (f (get_or t.words (word_of sh e phase) 0)))
+          after = subst (λ (x : History). IsAfter sh x h.tally (set t.words (reader_word sh e phase) (f (get_or t.words (reader_word sh e phase) 0)))
               (all_views sh h.tally (set t.views (suc q) w)))
               (sym ran) owes.2;
           out = out_same t.views (suc q) (Reader sh phase log order) w at refl ∙ h.out;

@@ -33,7 +33,7 @@ use Rattle.frame_table.specs.declared.view.View.{View}
 use Rattle.frame_table.specs.declared.view.View.TheVariants.{Keeper, Reader, Spent}
 use Rattle.frame_table.specs.Orders.{Begins}
 use Rattle.frame_table.specs.Rule.{Holds, all_views}
-use Rattle.frame_table.specs.Seat.{MayRead, word_of, written, seat_after}
+use Rattle.frame_table.specs.Seat.{MayRead, reader_word, written, seat_after}
 use Rattle.frame_table.specs.Truth.{Moment, IsOpen, IsTrueEntry, ReadersLogIsTrue, KeepersLogIsTrue}
 use Rattle.frame_table.specs.Views.{Log, KeeperLog, phase_of}
 use Rattle.frame_table.proofs.Looked.{got}
@@ -230,7 +230,7 @@ entry_is s next t t' q phase phase' e n rule words words' at at' is =
     let same : (half.found, half.next) ≡ (n, next) = same_Some (half.found, half.next) (n, next) (sym half.steps ∙ is) in
     let found : half.found ≡ n = ap (λ (x : ℕ × State). x.0) same in
     let state : half.next ≡ next = ap (λ (x : ℕ × State). x.1) same in
-    let i : ℕ = word_of s.shape e phase in
+    let i : ℕ = reader_word s.shape e phase in
     let seats : next.seats ≡ slice_set s.seats q (seat_after s.shape e phase n) =
     ap (λ (x : State). x.seats) (sym state) ∙ (half.seats ∙ ap (λ (m : ℕ). slice_set s.seats q (seat_after s.shape e phase m)) found) in
     record {

@@ -14,7 +14,7 @@ use Rattle.frame_core.specs.declared.seat.Phase.TheVariants.{Held}
 use Rattle.frame_core.specs.State.{life_at, count_in}
 use Rattle.frame_table.specs.declared.view.View.{View}
 use Rattle.frame_table.specs.declared.view.View.TheVariants.{Reader}
-use Rattle.frame_table.specs.Seat.{seat_after, word_of}
+use Rattle.frame_table.specs.Seat.{seat_after, reader_word}
 use Rattle.frame_table.specs.Orders.{IsPresent}
 use Rattle.frame_table.specs.Views.{Sat, IsIn, shape_in, order_in}
 
@@ -57,29 +57,29 @@ abbrev pub IsMadeNow : ReaderStep → Sat → ℕ → Sat → Type 0
 IsMadeNow e m n m' = (q : ℕ) × IsPresent (shape_in m) (order_in m) (order_in m') (event.Reader q e) n
 
 -- the step was made, of the present, and found a word that is as the rule says
-abbrev pub Makes : ReaderStep → Sat → ℕ → Sat → Type 0
-Makes e m n m' = Steps e m n m' × tells_view e m.0 n × IsMadeNow e m n m'
+abbrev pub StepsNow : ReaderStep → Sat → ℕ → Sat → Type 0
+StepsNow e m n m' = Steps e m n m' × tells_view e m.0 n × IsMadeNow e m n m'
 
 -- the word on which a step works
 abbrev pub word_at : ReaderStep → View → ℕ
-word_at e (Reader sh phase log order) = word_of sh e phase
+word_at e (Reader sh phase log order) = reader_word sh e phase
 word_at e _ = 0
 
 -- an operation on that word makes the step
-abbrev pub MakesAt : ReaderStep → Step (Unit {0}) → Sat → ℕ → Sat → Type 0
-MakesAt e st m n m' = st.word ≡ word_at e m.0 → Makes e m n m'
+abbrev pub StepsAt : ReaderStep → Step (Unit {0}) → Sat → ℕ → Sat → Type 0
+StepsAt e st m n m' = st.word ≡ word_at e m.0 → StepsNow e m n m'
 
 abbrev pub loads_place : Step (Unit {0}) → Sat → ℕ → Sat → Type 0
-loads_place st m n m' = (p : ℕ) → MakesAt (LoadPlace p) st m n m'
+loads_place st m n m' = (p : ℕ) → StepsAt (LoadPlace p) st m n m'
 
 abbrev pub loads_frame : Step (Unit {0}) → Sat → ℕ → Sat → Type 0
-loads_frame st m n m' = MakesAt LoadFrame st m n m'
+loads_frame st m n m' = StepsAt LoadFrame st m n m'
 
 abbrev pub exchanges : Step (Unit {0}) → Sat → ℕ → Sat → Type 0
-exchanges st m n m' = MakesAt Exchange st m n m'
+exchanges st m n m' = StepsAt Exchange st m n m'
 
 abbrev pub leaves : Step (Unit {0}) → Sat → ℕ → Sat → Type 0
-leaves st m n m' = MakesAt Leave st m n m'
+leaves st m n m' = StepsAt Leave st m n m'
 
 abbrev pub loads_word : Step (Unit {0}) → Sat → ℕ → Sat → Type 0
-loads_word st m n m' = (i : ℕ) → i < PAGE_WORDS → MakesAt (LoadWord i) st m n m'
+loads_word st m n m' = (i : ℕ) → i < PAGE_WORDS → StepsAt (LoadWord i) st m n m'

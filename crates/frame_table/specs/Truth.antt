@@ -19,7 +19,7 @@ use Rattle.frame_table.specs.declared.view.Tally.{Tally}
 use Rattle.frame_table.specs.declared.view.View.{View}
 use Rattle.frame_table.specs.declared.view.View.TheVariants.{Keeper, Reader, Spent}
 use Rattle.frame_table.specs.Rule.{Holds}
-use Rattle.frame_table.specs.Seat.{MayRead, word_of, written, seat_after}
+use Rattle.frame_table.specs.Seat.{MayRead, reader_word, written, seat_after}
 use Rattle.frame_table.specs.Views.{Log, KeeperLog}
 
 abbrev pub Moment : Type 0
@@ -39,8 +39,8 @@ pub record IsStep (t t' : Moment) (e : Event) (found : ℕ) (before after : Stat
 -- the entry of a reader is the word on which its step works, as it is there, and that word and the seat's phase alone have changed, as the step says
 pub record IsTrueEntry (sh : Shape) (t t' : Moment) (phase phase' : Phase) (e : ReaderStep) (found : ℕ) : Type 0 where
   pub allowed : MayRead sh e phase
-  pub found_is : found ≡ slice_index t.words (word_of sh e phase)
-  pub words : t'.words ≡ slice_set t.words (word_of sh e phase) (written e phase found)
+  pub found_is : found ≡ slice_index t.words (reader_word sh e phase)
+  pub words : t'.words ≡ slice_set t.words (reader_word sh e phase) (written e phase found)
   pub phase_is : phase' ≡ seat_after sh e phase found
 
 abbrev pub ReadersLogIsTrue : Type 0

@@ -11,7 +11,7 @@ ghost use Rattle.frame_core.specs.Ledger.{MayStep, frame_at};
 ghost use Rattle.frame_core.specs.State.{place_word, frame_word};
 ghost use Rattle.frame_core.specs.Words.{frame_word_at, page_at, content_at, words_for};
 ghost use Rattle.frame_table.specs.Keeping.{Keeps};
-ghost use Rattle.frame_table.specs.Reading.{IsHolder, Makes};
+ghost use Rattle.frame_table.specs.Reading.{IsHolder, StepsNow};
 ghost use Rattle.frame_table.specs.Seats.{Opened, Ends, new_pass};
 ghost use Rattle.frame_table.specs.Views.{IsIn, IsKeeper, keeps_ledger, ledger_in, keeper_log, order_in, tally_in, tally_of};
 
@@ -199,7 +199,7 @@ impl FrameTable {
         requires inside { place < frames_of self.now.shape }
         requires phase { IsIn self.now.shape Idle seat.old.me }
         ensures seat { (seat.new.table_id ≡ seat.old.table_id) × (seat.new.id ≡ seat.old.id) }
-        ensures step { Makes (reader.LoadPlace place) seat.old.me result seat.new.me }
+        ensures step { StepsNow (reader.LoadPlace place) seat.old.me result seat.new.me }
     {
         self.table.shared.load::<LoadPlace>(seat, place as usize)
     }
@@ -211,7 +211,7 @@ impl FrameTable {
         requires inside { word < self.now.id.words }
         requires phase { (aim : Aim) × (failures : ℕ) × (frame_word_at (frames_of self.now.shape) aim.life.frame ≡ word) × IsIn self.now.shape (Placed aim failures) seat.old.me }
         ensures seat { (seat.new.table_id ≡ seat.old.table_id) × (seat.new.id ≡ seat.old.id) }
-        ensures step { Makes reader.LoadFrame seat.old.me result seat.new.me }
+        ensures step { StepsNow reader.LoadFrame seat.old.me result seat.new.me }
     {
         self.table.shared.load::<LoadFrame>(seat, word)
     }
@@ -222,7 +222,7 @@ impl FrameTable {
         requires inside { (word < self.now.id.words) × (loaded < 2 ^ 57) }
         requires phase { (aim : Aim) × (failures count : ℕ) × (frame_word_at (frames_of self.now.shape) aim.life.frame ≡ word) × (loaded ≡ frame_word aim.life.generation count) × IsIn self.now.shape (Counted aim failures count) seat.old.me }
         ensures seat { (seat.new.table_id ≡ seat.old.table_id) × (seat.new.id ≡ seat.old.id) }
-        ensures step { Makes reader.Exchange seat.old.me result seat.new.me }
+        ensures step { StepsNow reader.Exchange seat.old.me result seat.new.me }
     {
         self.table
             .shared
@@ -235,7 +235,7 @@ impl FrameTable {
         requires inside { word < self.now.id.words }
         requires phase { IsHolder self.now.shape frame_word_at word seat.old.me }
         ensures seat { (seat.new.table_id ≡ seat.old.table_id) × (seat.new.id ≡ seat.old.id) }
-        ensures step { Makes reader.Leave seat.old.me result seat.new.me }
+        ensures step { StepsNow reader.Leave seat.old.me result seat.new.me }
     {
         self.table.shared.fetch_sub::<Leave>(seat, word, 1)
     }
@@ -245,7 +245,7 @@ impl FrameTable {
         requires inside { (page + words_of_page ≤ self.now.id.words) × (i < words_of_page) }
         requires phase { IsHolder self.now.shape page_at page seat.old.me }
         ensures seat { (seat.new.table_id ≡ seat.old.table_id) × (seat.new.id ≡ seat.old.id) }
-        ensures step { Makes (reader.LoadWord i) seat.old.me result seat.new.me }
+        ensures step { StepsNow (reader.LoadWord i) seat.old.me result seat.new.me }
     {
         self.table.shared.load::<LoadWord>(seat, page + i)
     }
