@@ -1,4 +1,7 @@
 //! What holds of the table at every moment, and of its steps.
+ghost use Rattle.std.specs.Prelude.{ℕ, ◌≢◌, ◌+◌, ◌/◌, ◌<◌};
+ghost use Rattle.frame_core.specs.declared.frame.TheConstants.{LINE_WORDS as words_of_line};
+ghost use Rattle.frame_core.specs.Words.{frame_word_at, content_at};
 ghost use Rattle.frame_table.specs.Running.{TheTableRunsSafely};
 ghost use Rattle.frame_table.specs.Steps.{ReadersStepAsTheCore, KeeperStepsAsTheCore};
 ghost use Rattle.frame_table.specs.Truth.{ReadersLogIsTrue, KeepersLogIsTrue};
@@ -27,4 +30,10 @@ pub fn steps_are_the_cores()
 pub fn a_log_cannot_lie()
     ensures readers { ReadersLogIsTrue }
     ensures keeper { KeepersLogIsTrue }
+{}
+
+/// Wherever the table begins, no two frame words lie in one line of eight words, and none in a line with a word of a page.
+pub fn frame_words_lie_apart()
+    ensures frames { (begin places f g : ℕ) → f ≢ g → (begin + frame_word_at places f) / words_of_line ≢ (begin + frame_word_at places g) / words_of_line }
+    ensures pages { (begin places f g i : ℕ) → f < places → (begin + frame_word_at places f) / words_of_line ≢ (begin + content_at places g i) / words_of_line }
 {}

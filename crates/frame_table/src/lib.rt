@@ -21,7 +21,9 @@ pub use closed::ClosedTable;
 pub use equal::FoundEqual;
 pub use held::Held;
 pub use keeper::Keeper;
-pub use laws::{a_log_cannot_lie, steps_are_the_cores, the_running_table_is_safe};
+pub use laws::{
+    a_log_cannot_lie, frame_words_lie_apart, steps_are_the_cores, the_running_table_is_safe,
+};
 pub use pass::{Found, Pass, Why};
 pub use table::FrameTable;
 pub use view::{FrameRule, Tally, View};
