@@ -1,11 +1,14 @@
 -- Worked runs of the least table, one frame, one place and one seat: what is told from their traces. Own.
-use Rattle.std.specs.Prelude.{List, [], ◌∷◌, ◌++◌}
+use Rattle.std.specs.Prelude.{ℕ, List, [], ◌∷◌, ◌++◌}
 use Rattle.ksm_base.specs.declared.shape.Shape.{Shape}
 use Rattle.frame_core.specs.declared.event.Event.{Event}
 use Rattle.frame_core.specs.declared.event.Event.TheVariants.{Reader, Keeper}
 use Rattle.frame_core.specs.declared.event.ReaderStep.TheVariants.{LoadPlace, LoadFrame, Exchange, LoadWord}
 use Rattle.frame_core.specs.declared.event.KeeperStep.TheVariants.{Put, Raise, Open, Add, Sub, Reap, Publish}
-use Rattle.frame_core.specs.Trace.{Entry, run_of}
+use Rattle.frame_core.specs.declared.frame.Frame.{Frame}
+use Rattle.frame_core.specs.declared.frame.Kind.TheVariants.{Private}
+use Rattle.frame_core.specs.declared.seat.Aim.{Aim}
+use Rattle.frame_core.specs.Trace.{Entry, History, run_of}
 
 abbrev pub least : Shape
 least = record { nodes = 1; frames_per_node = 1; passes = 1; last_generation = 5; tries = 1 }
@@ -31,3 +34,22 @@ two_lives = published ++ begins ++ given_again ++ Reader 0 Exchange ∷ []
 -- the seat holds the frame and has read its second word, and the keeper tries to give it again
 abbrev pub held : List Event
 held = published ++ begins ++ Reader 0 Exchange ∷ Reader 0 (LoadWord 1) ∷ given_again
+
+-- the seat has taken the frame 0 in its life 1, which the place 0 named
+abbrev pub taken : List Event
+taken = published ++ begins ++ Reader 0 Exchange ∷ []
+
+abbrev pub aim_at : ℕ → ℕ → ℕ → Aim
+aim_at place frame generation = record { place = place; life = record { frame = frame; generation = generation } }
+
+-- then this step was made, and found this word
+abbrev pub and_then : Event → ℕ → List Entry
+and_then e word = record { event = e; word = word } ∷ trace_of taken
+
+-- the same, but that the frame may be written
+abbrev pub writable : Frame
+writable = record { count = 3; generation = 1; content = 7 ∷ 8 ∷ 0 ∷ 0 ∷ 0 ∷ 0 ∷ 0 ∷ 0 ∷ []; kind = Private; base = 2 }
+
+abbrev pub taken_and_writable : History
+taken_and_writable =
+    let past = run_of least taken in record { state = record past.state { frames = writable ∷ [] }; trace = past.trace }

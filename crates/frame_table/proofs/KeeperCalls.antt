@@ -13,7 +13,7 @@ use Rattle.frame_core.specs.State.{place_word, frame_word, life_in}
 use Rattle.frame_core.specs.Words.{frame_word_at, content_at}
 use Rattle.frame_core.specs.Ledger.{frame_at, MayStep}
 use Rattle.frame_table.specs.Rule.{Holds}
-use Rattle.frame_table.specs.Views.{Sat, IsKeeper, shape_in, ledger_in, tally_in, keeper_log}
+use Rattle.frame_table.specs.Views.{Sat, IsKeeper, shape_in, ledger_in, tally_in, keeper_log, order_in}
 use Rattle.frame_table.specs.Keeping.{Keeps, keeper_word, keeper_written, found_by, knows, reaps, puts, raises, opens, adds, subs, publishes, withdraws, freezes, shows}
 use Rattle.frame_table.proofs.Allowed.{turned, weaker, MayLoad, MayStore, MayExchange, MayAdd, MaySubOne, lowered}
 use Rattle.frame_table.proofs.KeeperMay.{keeper_may}
@@ -54,7 +54,7 @@ module _ (slots id : ℕ) (key sh : Shape) (me : Sat) (at : ℕ) (keeper : IsKee
   makes e write then is may writes tells =
       weaker write (λ n. Keeps e me (found_by e n)) then (λ n m. tells n m (ap shape_in keeper))
       (turned (λ (key : Shape) (i : ℕ) (m : Sat). Allows (Holds key) slots id m i write (λ n. Keeps e m (found_by e n))) key sh at _ me _ same is keeper
-      (keeper_may slots e write (keeper_log me) sh k (tally_in me) id may writes))
+      (keeper_may slots e write (keeper_log me) (order_in me) sh k (tally_in me) id may writes))
 
   -- of each frame whose word it is, the step is told: that is the one
   at_frame_word : (e : ℕ → KeeperStep) (f : ℕ) (write : ℕ → ℕ) → ((F g : ℕ) → keeper_word F (e g) ≡ frame_word_at F g) → ((g n : ℕ) → found_by (e g) n ≡ n)

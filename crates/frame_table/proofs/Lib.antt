@@ -1,4 +1,8 @@
 pub mod Looked
+pub mod Orders
+pub mod Replays
+pub mod Truth
+pub mod TrueEntries
 pub mod ReaderHalf
 pub mod ReaderMay
 pub mod Allowed

@@ -12,18 +12,18 @@ use Rattle.frame_table.specs.declared.pass.Round.TheVariants.{Lost}
 use Rattle.frame_table.specs.Rounds.{GoesRound}
 use Rattle.frame_table.specs.Lookup.{rounds, IsAlive, AllLost, opening}
 use Rattle.frame_core.specs.State.{life_at, frame_word, count_in, life_in}
-use Rattle.frame_table.specs.Seat.{aim_of, is_alive}
-use Rattle.frame_table.specs.Views.{Log, Sat, sits, log_in, IsIn}
+use Rattle.frame_table.specs.Seat.{aim_of, is_referenced}
+use Rattle.frame_table.specs.Views.{Log, Sat, sits, log_in, order_in, IsIn}
 use Rattle.frame_table.specs.Reading.{reader_after, Steps}
 
 -- from the value of a seat, what `IsIn` says
-pub is_in : (sh : Shape) (phase : Phase) (log : Log) (m : Sat) → m ≡ sits sh phase log → IsIn sh phase m
-is_in sh phase log m e = e ∙ ap (sits sh phase) (sym (ap log_in e))
+pub is_in : (sh : Shape) (phase : Phase) (log : Log) (m : Sat) → m ≡ sits sh phase log (order_in m) → IsIn sh phase m
+is_in sh phase log m e = e ∙ ap (λ (l : Log). sits sh phase l (order_in m)) (sym (ap log_in e))
 
 -- after i rounds that were lost
 abbrev pub Tries : Shape → Log → ℕ → ℕ → ℕ → Sat → Type 0
 Tries sh log p w i m = (xs : List (ℕ × ℕ)) × AllLost (life_at w).generation xs × (length xs ≡ i)
-    × (m ≡ sits sh (cond (nat_le sh.tries i) Idle (Placed (aim_of p w) i)) (log ++ opening p w xs))
+    × (m ≡ sits sh (cond (nat_le sh.tries i) Idle (Placed (aim_of p w) i)) (log ++ opening p w xs) (order_in m))
 
 module _ (sh : Shape) (p w : ℕ) where
   abbrev at : ℕ → Phase
@@ -32,19 +32,19 @@ module _ (sh : Shape) (p w : ℕ) where
   pub begins : (me m : Sat) → IsIn sh Idle me → Steps (LoadPlace p) me w m → ¬ (w ≡ 0) → 1 ≤ sh.tries → Tries sh (log_in me) p w 0 m
   begins me m is s some_word some_try =
       let log : Log = log_in me ++ (LoadPlace p, w) ∷ [] in
-      let e : m ≡ sits sh (cond (eqb w 0) Idle (at 0)) log = s ∙ ap (λ (x : Sat). (reader_after (LoadPlace p) x.0 w, x.1)) is in (
+      let e : m ≡ sits sh (cond (eqb w 0) Idle (at 0)) log (order_in m) = s ∙ ap (λ (x : Sat). (reader_after (LoadPlace p) x.0 w (order_in m), x.1)) is in (
         [],
         tt,
         refl,
-        e ∙ (ap (λ (b : Bool). sits sh (cond b Idle (at 0)) log) (ne_eqb w 0 some_word) ∙ ap (λ (b : Bool). sits sh (cond b Idle (at 0)) log) (sym (lt-leb sh.tries 0 (omega arith)))),
+        e ∙ (ap (λ (b : Bool). sits sh (cond b Idle (at 0)) log (order_in m)) (ne_eqb w 0 some_word) ∙ ap (λ (b : Bool). sits sh (cond b Idle (at 0)) log (order_in m)) (sym (lt-leb sh.tries 0 (omega arith)))),
       )
 
   module _ (log : Log) (i : ℕ) (m : Sat) (t : Tries sh log p w i m) where
     abbrev so_far : Log
     so_far = log ++ opening p w t.0
 
-    here : i < sh.tries → m ≡ sits sh (at i) so_far
-    here more = t.3 ∙ ap (λ (b : Bool). sits sh (cond b Idle (at i)) so_far) (lt-leb sh.tries i more)
+    here : i < sh.tries → m ≡ sits sh (at i) so_far (order_in m)
+    here more = t.3 ∙ ap (λ (b : Bool). sits sh (cond b Idle (at i)) so_far (order_in m)) (lt-leb sh.tries i more)
 
     pub stands : i < sh.tries → IsIn sh (at i) m
     stands more = is_in sh (at i) so_far m (here more)
@@ -65,19 +65,19 @@ module _ (sh : Shape) (p w : ℕ) where
         let phase : Phase = cond (nat_le sh.tries (i + 1)) Idle (at (i + 1)) in
         let same : so_far ++ (LoadFrame, c) ∷ (Exchange, d) ∷ [] ≡ log ++ opening p w xs = append_assoc log (opening p w t.0) _
         ∙ ap (λ (l : Log). log ++ (LoadPlace p, w) ∷ l) (sym (rounds_more t.0 c d)) in
-        (xs, lost_more (life_at w).generation t.0 c d t.1 g.0 g.1, omega (arith, length-append t.0 ((c, d) ∷ [])), g.2 ∙ ap (sits sh phase) same)
+        (xs, lost_more (life_at w).generation t.0 c d t.1 g.0 g.1, omega (arith, length-append t.0 ((c, d) ∷ [])), g.2 ∙ ap (λ (l : Log). sits sh phase l (order_in m')) same)
 
 -- a frame word of the life named, with a reference, was loaded
 pub counted : (sh : Shape) (aim : Aim) (failures n : ℕ) (me m : Sat) → IsIn sh (Placed aim failures) me → Steps LoadFrame me n m
     → IsAlive aim.life.generation n → (n ≡ frame_word aim.life.generation (count_in n)) × IsIn sh (Counted aim failures (count_in n)) m
 counted sh aim failures n me m is s alive =
     let log : Log = log_in me ++ (LoadFrame, n) ∷ [] in
-    let test : is_alive aim.life.generation n ≡ true = rw (ne_eqb (count_in n) 0 alive.0, eq-eqb (life_in n) aim.life.generation alive.1) refl in
-    let e : m ≡ sits sh (cond (is_alive aim.life.generation n) (Counted aim failures (count_in n)) Idle) log = s
-    ∙ ap (λ (x : Sat). (reader_after LoadFrame x.0 n, x.1)) is in (
+    let test : is_referenced aim.life.generation n ≡ true = rw (ne_eqb (count_in n) 0 alive.0, eq-eqb (life_in n) aim.life.generation alive.1) refl in
+    let e : m ≡ sits sh (cond (is_referenced aim.life.generation n) (Counted aim failures (count_in n)) Idle) log (order_in m) = s
+    ∙ ap (λ (x : Sat). (reader_after LoadFrame x.0 n (order_in m), x.1)) is in (
       omega (arith, alive.1),
       is_in sh (Counted aim failures (count_in n)) log m
-          (e ∙ ap (λ (b : Bool). sits sh (cond b (Counted aim failures (count_in n)) Idle) log) test),
+          (e ∙ ap (λ (b : Bool). sits sh (cond b (Counted aim failures (count_in n)) Idle) log (order_in m)) test),
     )
 
 -- what the word of a place names, where it names something

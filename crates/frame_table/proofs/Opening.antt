@@ -3,7 +3,7 @@ use Rattle.std.proofs.Common.{◌≡◌, ℕ, zero, suc, ◌+◌, ◌*◌, List,
 use Rattle.std.proofs.lemmas.List.{replicate-append-replicate}
 use Rattle.std.proofs.Math.Nat.{suc-mul}
 use Rattle.std.specs.List.{flat_map}
-use mathlib.Core.Option.{some, some-injective}
+use mathlib.Core.Option.{some, some-injective, some-ne-none}
 use lib.ListN.{get_elem?}
 use Rattle.atomic_table.specs.Table as table
 use Rattle.ksm_base.specs.declared.page.TheConstants.{PAGE_WORDS}
@@ -21,7 +21,7 @@ use Rattle.frame_table.specs.declared.view.View.{View}
 use Rattle.frame_table.specs.declared.view.View.TheVariants.{Reader}
 use Rattle.frame_table.specs.Views.{phase_of, tally_of}
 use Rattle.frame_table.proofs.Looked.{got}
-use Rattle.frame_table.specs.Rule.{Holds, Tied, all_views, first_view}
+use Rattle.frame_table.specs.Rule.{Holds, Tied, IsInOrder, all_views, first_view}
 
 -- so many blocks of zeros are zeros
 flat_zeros : {A : Type 0} (g : A → List ℕ) (w n : ℕ) (a : A) → g a ≡ replicate w 0 → flat_map g (replicate n a) ≡ replicate (n * w) 0
@@ -48,7 +48,11 @@ first_tied : (sh : Shape) (j : ℕ) (v : View) → get_elem? (all_views sh (tall
     → Tied sh (opened sh) (tally_of sh.passes 0) j v
 first_tied sh zero v at = subst (Tied sh (opened sh) (tally_of sh.passes 0) 0) (some-injective (first_view sh) v at) (refl, sym (opening_ledger sh), refl, refl)
 first_tied sh (suc j) v at = subst (Tied sh (opened sh) (tally_of sh.passes 0) (suc j))
-    (in_replicate sh.passes j (Reader sh Idle []) v (got (replicate sh.passes (Reader sh Idle [])) j v at)) (refl, refl)
+    (in_replicate sh.passes j (Reader sh Idle [] []) v (got (replicate sh.passes (Reader sh Idle [] [])) j v at)) (refl, refl)
+
+first_order : (sh : Shape) (j : ℕ) (v : View) → get_elem? (first_view sh ∷ []) j ≡ some v → IsInOrder sh [] j v
+first_order sh zero v at = subst (IsInOrder sh [] 0) (some-injective (first_view sh) v at) (([], refl), refl)
+first_order sh (suc j) v at = absurd (some-ne-none v (sym at))
 
 -- a table whose words are all 0, with the keeper alone, is in the opening state of the core
 pub may_begin : (sh : Shape) → IsShape sh → Holds sh (table.opening (replicate (words_for (frames_of sh)) 0) [] (first_view sh))
@@ -59,10 +63,12 @@ may_begin sh fits = record {
   after = record {
     words_are = sym (opening_words sh);
     phases_are =
-        ap (λ (l : List Phase). spent_phase ∷ l) (map_replicate phase_of sh.passes (Reader sh Idle []));
+        ap (λ (l : List Phase). spent_phase ∷ l) (map_replicate phase_of sh.passes (Reader sh Idle [] []));
     tied = first_tied sh;
   };
   out = refl;
+  orders = first_order sh;
+  longest = (0, first_view sh, refl, refl);
 }
 
 module _ {A : Type 0} where

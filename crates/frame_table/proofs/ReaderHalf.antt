@@ -23,7 +23,7 @@ use Rattle.frame_core.proofs.Lists.{count_one}
 use Rattle.frame_core.proofs.Ledgers.{reader_ledger}
 use Rattle.frame_core.proofs.Flat.{word_get, word_set, content_get, place_get}
 use Rattle.frame_core.proofs.Moves.AtSeat.{count_at_most}
-use Rattle.frame_table.specs.Seat.{MayRead, word_of, written, seat_after, aim_of, aim_at}
+use Rattle.frame_table.specs.Seat.{MayRead, reader_word, written, seat_after, aim_of, aim_at}
 use Rattle.frame_table.specs.Reading.{tells, NamesFrame}
 use Rattle.frame_table.specs.Steps.{IsReaderStep}
 use Rattle.frame_table.proofs.Looked.{there}
@@ -43,14 +43,14 @@ module _ (s : State) (rule : Rule s) (q : ℕ) where
   -- ---------------------------------------------------------------- steps that load
 
   seat_only : (e : ReaderStep) (phase new : Phase) (change : Phase → Option (ℕ × Phase)) (n : ℕ) → slice_get s.seats q ≡ Some phase → reader_step s q e ≡ at_seat s q change → change phase ≡ Some (n, new)
-      → get_or (words_of s) (word_of s.shape e phase) 0 ≡ n → written e phase n ≡ n → new ≡ seat_after s.shape e phase n → tells s.shape e phase n → IsReaderStep s q e phase
+      → get_or (words_of s) (reader_word s.shape e phase) 0 ≡ n → written e phase n ≡ n → new ≡ seat_after s.shape e phase n → tells s.shape e phase n → IsReaderStep s q e phase
   seat_only e phase new change n at is gives word same after told = record {
     found = n;
     next = record s { seats = slice_set s.seats q new };
     steps = is ∙ (ap (λ (o : Option Phase). option_and_then (λ p. option_map (λ r. (r.0, record s { seats = slice_set s.seats q r.1 })) (change p)) o) at
         ∙ ap (λ (o : Option (ℕ × Phase)). option_map (λ r. (r.0, record s { seats = slice_set s.seats q r.1 })) o) gives);
     word = word;
-    words = ap (λ (m : ℕ). set (words_of s) (word_of s.shape e phase) m) (same ∙ sym word) ∙ set-get_or (words_of s) (word_of s.shape e phase) 0;
+    words = ap (λ (m : ℕ). set (words_of s) (reader_word s.shape e phase) m) (same ∙ sym word) ∙ set-get_or (words_of s) (reader_word s.shape e phase) 0;
     shape = refl;
     seats = ap (λ (p : Phase). slice_set s.seats q p) after;
     ledger = refl;

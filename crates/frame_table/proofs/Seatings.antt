@@ -1,14 +1,17 @@
 -- The table's rule where a pass is made, where one is given back, and what it says at the end.
-use Rattle.std.proofs.Common.{◌≡◌, ℕ, zero, suc, ◌+◌, ◌-◌, ◌<◌, ◌≤◌, ◌≢◌, Bool, true, false, cond, List, [], ◌∷◌, ◌++◌, map, set, replicate, slice_get, count_by, Some, None, sym, refl, ap, ◌∙◌, subst, ⊎_elim, arith, append_assoc, append-nil}
+use Rattle.std.proofs.Common.{◌≡◌, ℕ, zero, suc, ◌+◌, ◌-◌, ◌<◌, ◌≤◌, ◌≢◌, Bool, true, false, cond, List, [], ◌∷◌, ◌++◌, map, set, replicate, slice_get, count_by, Some, None, sym, refl, ap, ◌∙◌, subst, ⊎_elim, inl, inr, ◌⊎◌, length, arith, append_assoc, append-nil}
 use Rattle.std.proofs.lemmas.List.{map-set}
 use Rattle.std.proofs.lemmas.List.Sums.{sum_by-append, sum_by-cons}
-use Rattle.std.proofs.lemmas.Option.{get_or_from_slice_get}
-use mathlib.Core.Option.{some}
+use Rattle.std.proofs.lemmas.Option.{get_or_from_slice_get, slice_get_within}
+use mathlib.Core.Option.{some, some-injective}
+use mathlib.Core.Logic.{dite}
+use native.Mathlib.Decide.{ℕ_discrete}
 use lib.ListN.{get_elem?}
 use Rattle.atomic_table.specs.Table.{Splits, Joins, Seen, Final}
-use Rattle.atomic_table.proofs.Lists.{at_set, at_map, at_longer, set_again}
+use Rattle.atomic_table.proofs.Lists.{at_set, at_map, at_longer, at_snoc, set_again, set_here, set_else}
 use Rattle.ksm_base.specs.declared.shape.Shape.{Shape}
 use Rattle.ksm_base.specs.Values.{frames_of}
+use Rattle.frame_core.specs.declared.event.Event.{Event}
 use Rattle.frame_core.specs.declared.frame.Frame.{Frame}
 use Rattle.frame_core.specs.declared.ledger.Ledger.{Ledger}
 use Rattle.frame_core.specs.declared.ledger.Note.{Note}
@@ -18,7 +21,7 @@ use Rattle.frame_core.specs.State as core
 use Rattle.frame_core.specs.State.{place_word, count_in, life_in}
 use Rattle.frame_core.specs.Words.{words_of}
 use Rattle.frame_core.specs.Ledger.{ledger_of}
-use Rattle.frame_core.specs.Trace.{History, run_of}
+use Rattle.frame_core.specs.Trace.{History, run_of, keeper_log_of}
 use Rattle.frame_core.specs.Rule as core_rule
 use Rattle.frame_core.specs.Rule.{is_on, readers_on}
 use Rattle.frame_core.proofs.Fitting.{get_inside}
@@ -32,45 +35,83 @@ use Rattle.frame_core.proofs.Packed.{count_packed, life_packed}
 use Rattle.frame_table.specs.declared.view.Tally.{Tally}
 use Rattle.frame_table.specs.declared.view.View.{View}
 use Rattle.frame_table.specs.declared.view.View.TheVariants.{Keeper, Reader, Spent}
-use Rattle.frame_table.specs.Views.{Log, KeeperLog, phase_of, tally_of}
-use Rattle.frame_table.specs.Rule.{Holds, IsAfter, Tied, all_views, is_out}
+use Rattle.frame_table.specs.Views.{Log, KeeperLog, phase_of, order_of, tally_of}
+use Rattle.frame_table.specs.Orders.{Begins, later}
+use Rattle.frame_table.specs.Rule.{Holds, IsAfter, IsInOrder, Tied, all_views, is_out}
 use Rattle.frame_table.specs.Seats.{one_more, newcomer, one_less, Ends}
 use Rattle.frame_table.proofs.Looked.{got}
+use Rattle.frame_table.proofs.Orders.{begins_shorter, begins_whole, later_is, between, keeper_log_grows}
 use Rattle.frame_table.proofs.ReaderMay.{St, all_set, out_same}
 use Rattle.frame_table.proofs.KeeperMay.{seen, keeper_changes}
 
 module _ (sh : Shape) where
   abbrev idle : View
-  idle = Reader sh Idle []
+  idle = Reader sh Idle [] []
 
   one_idle_less : (n : ℕ) → 0 < n → (idle ∷ []) ++ replicate (n - 1) idle ≡ replicate n idle
   one_idle_less zero few = absurd (omega arith)
   one_idle_less (suc n) few = let e : suc n - 1 ≡ n = omega arith in ap (λ (m : ℕ). idle ∷ replicate m idle) e
 
   -- a pass that was given back is as one that is idle
-  spent_is_idle : (h : History) (tally : Tally) (words : List ℕ) (views : List View) (q : ℕ) (log : Log)
-      → get_elem? views (suc q) ≡ some (Reader sh Idle log) → IsAfter sh h tally words views → IsAfter sh h tally words (set views (suc q) Spent)
-  spent_is_idle h tally words views q log at is = record {
+  spent_is_idle : (h : History) (tally : Tally) (words : List ℕ) (views : List View) (q : ℕ) (log : Log) (order : List Event)
+      → get_elem? views (suc q) ≡ some (Reader sh Idle log order) → IsAfter sh h tally words views → IsAfter sh h tally words (set views (suc q) Spent)
+  spent_is_idle h tally words views q log order at is = record {
     words_are = is.words_are;
     phases_are = map-set phase_of views (suc q) Spent
-        ∙ (set_again (map phase_of views) (suc q) Idle (at_map phase_of views (suc q) (Reader sh Idle log) at) ∙ is.phases_are);
+        ∙ (set_again (map phase_of views) (suc q) Idle (at_map phase_of views (suc q) (Reader sh Idle log order) at) ∙ is.phases_are);
     tied = λ j v of. ⊎_elim (λ (k : (j ≡ suc q) × (Spent ≡ v)). subst (λ (x : ℕ × View). Tied sh h tally x.0 x.1) (λ i. (sym k.0 i, k.1 i)) tt)
         (λ (k : (j ≢ suc q) × (get_elem? views j ≡ some v)). is.tied j v k.1) (at_set views (suc q) j Spent v of);
   }
 
-module _ (sh : Shape) (k : Ledger) (tally : Tally) (log : KeeperLog) where
+-- ---------------------------------------------------------------- the orders, where a view changes
+
+apart : (q : ℕ) → 0 ≢ suc q
+apart q e = omega (arith, e)
+
+abbrev Longest : List Event → List View → Type 0
+Longest events views = (j : ℕ) × (v : View) × (get_elem? views j ≡ some v) × (order_of v ≡ events)
+
+orders_set : (sh : Shape) (events : List Event) (views : List View) (i : ℕ) (w : View) → ((j : ℕ) (v : View) → get_elem? views j ≡ some v → IsInOrder sh events j v)
+    → IsInOrder sh events i w → (j : ℕ) (v : View) → get_elem? (set views i w) j ≡ some v → IsInOrder sh events j v
+orders_set sh events views i w orders new j v at =
+    ⊎_elim (λ (k : (j ≡ i) × (w ≡ v)). subst (λ (x : ℕ × View). IsInOrder sh events x.0 x.1) (λ y. (sym k.0 y, k.1 y)) new)
+    (λ (k : (j ≢ i) × (get_elem? views j ≡ some v)). orders j v k.1) (at_set views i j w v at)
+
+-- a pass that is new has seen nothing
+new_in_order : (sh : Shape) (events : List Event) (j : ℕ) (v : View) → idle sh ≡ v → IsInOrder sh events j v
+new_in_order sh events zero v is = subst (IsInOrder sh events 0) is tt
+new_in_order sh events (suc q) v is = subst (IsInOrder sh events (suc q)) is ((events, refl), refl)
+
+abbrev longest_else : (events : List Event) (views : List View) (i : ℕ) (w : View) (l : Longest events views) → l.0 ≢ i → Longest events (set views i w)
+longest_else events views i w l ne = (l.0, l.1, set_else views i l.0 w ne ∙ l.2, l.3)
+
+abbrev longest_here : (events : List Event) (views : List View) (i : ℕ) (v w : View) → get_elem? views i ≡ some v → order_of w ≡ events → Longest events (set views i w)
+longest_here events views i v w at is = (i, w, set_here views i w (slice_get_within views i v (got views i v at)), is)
+
+one_view : (views : List View) (i j : ℕ) (v w : View) → j ≡ i → get_elem? views i ≡ some v → get_elem? views j ≡ some w → w ≡ v
+one_view views i j v w same at at' = some-injective w v (sym at' ∙ (ap (get_elem? views) same ∙ at))
+
+-- a view tells another tally, of the same order
+longest_set : (events : List Event) (views : List View) (i : ℕ) (v w : View) → get_elem? views i ≡ some v → order_of w ≡ order_of v
+    → Longest events views → Longest events (set views i w)
+longest_set events views i v w at still l =
+    dite (ℕ_discrete l.0 i)
+    (λ here. longest_here events views i v w at (still ∙ (sym (ap order_of (one_view views i l.0 v l.1 here at l.2)) ∙ l.3)))
+    (λ else. longest_else events views i w l else)
+
+module _ (sh : Shape) (k : Ledger) (tally : Tally) (log : KeeperLog) (order : List Event) where
   abbrev keeper : View
-  keeper = Keeper sh k tally log
+  keeper = Keeper sh k tally log order
 
   -- the keeper's view tells another tally, of as many passes that are still to be made
-  retold : (t : St) (tally' : Tally) (h : Holds sh t) → get_elem? t.views 0 ≡ some keeper
-      → IsAfter sh (run_of sh h.events) tally' t.words (set (all_views sh tally t.views) 0 (Keeper sh k tally' log))
-  retold t tally' h at =
+  retold : (t : St) (tally' : Tally) (next : List Event) (h : Holds sh t) → get_elem? t.views 0 ≡ some keeper
+      → IsAfter sh (run_of sh h.events) tally' t.words (set (all_views sh tally t.views) 0 (Keeper sh k tally' log next))
+  retold t tally' next h at =
       let past = run_of sh h.events in
       let tied = seen sh t h 0 keeper at in
-      keeper_changes sh past past h.tally tally' t.words t.words (all_views sh tally t.views) keeper (Keeper sh k tally' log)
+      keeper_changes sh past past h.tally tally' t.words t.words (all_views sh tally t.views) keeper (Keeper sh k tally' log next)
       (λ q. refl) refl h.after.words_are refl (refl, tied.1, refl, tied.3)
-      (at_longer t.views (replicate tally.unmade (Reader sh Idle [])) 0 keeper at)
+      (at_longer t.views (replicate tally.unmade (Reader sh Idle [] [])) 0 keeper at)
       (subst (λ (x : Tally). IsAfter sh past h.tally t.words (all_views sh x t.views)) (sym tied.2) h.after)
 
   passes_out : (t : St) (h : Holds sh t) → get_elem? t.views 0 ≡ some keeper → count_by is_out t.views ≡ tally.out
@@ -82,7 +123,7 @@ module _ (sh : Shape) (k : Ledger) (tally : Tally) (log : KeeperLog) where
   may_make (suc id) few t h at = absurd (seen sh t h (suc id) keeper at)
   may_make zero few t h at =
       let tally' : Tally = tally_of (tally.unmade - 1) (tally.out + 1) in
-      let next : View = Keeper sh k tally' log in
+      let next : View = Keeper sh k tally' log order in
       let views : List View = set t.views 0 next in
       let same : all_views sh tally' (views ++ idle sh ∷ []) ≡ set (all_views sh tally t.views) 0 next =
       append_assoc views (idle sh ∷ []) (replicate (tally.unmade - 1) (idle sh))
@@ -91,40 +132,71 @@ module _ (sh : Shape) (k : Ledger) (tally : Tally) (log : KeeperLog) where
         shape = h.shape;
         events = h.events;
         tally = tally';
-        after = subst (IsAfter sh (run_of sh h.events) tally' t.words) (sym same) (retold t tally' h at);
+        after = subst (IsAfter sh (run_of sh h.events) tally' t.words) (sym same) (retold t tally' order h at);
         out = omega (arith, sum_by-append (λ (v : View). cond (is_out v) 1 0) views (idle sh ∷ []), out_same t.views 0 keeper next at refl, passes_out t h at);
+        orders = λ j v of. ⊎_elim (orders_set sh h.events t.views 0 next h.orders (h.orders 0 keeper at) j v) (new_in_order sh h.events j v) (at_snoc views (idle sh) v j of);
+        longest = let l = longest_set h.events t.views 0 keeper next at refl h.longest in (l.0, l.1, at_longer views (idle sh ∷ []) l.0 l.1 l.2, l.3);
       }
 
   -- ---------------------------------------------------------------- a pass is given back
 
-  given_here : (t : St) (q : ℕ) (mine : Log) → 0 < tally.out → Holds sh t → get_elem? t.views 0 ≡ some keeper → get_elem? (set t.views 0 (one_less keeper (Reader sh Idle mine))) (suc q) ≡ some (Reader sh Idle mine)
-      → Holds sh record { words = t.words; homes = t.homes; views = set (set t.views 0 (one_less keeper (Reader sh Idle mine))) (suc q) Spent }
-  given_here t q mine few h at there =
+  -- the keeper has seen then what either has
+  module _ (events : List Event) (other : List Event) (first : Begins order events) (second : Begins other events) where
+    longer_is : (order ≡ events) ⊎ (other ≡ events) → later order other ≡ events
+    longer_is whole = later_is (λ (l : List Event). l ≡ events) order other
+        (λ few. ⊎_elim (λ is. is) (λ is. sym (begins_whole order events first (subst (λ (l : List Event). length l ≤ length order) is few))) whole)
+        (λ few. ⊎_elim (λ is. sym (begins_whole other events second (subst (λ (l : List Event). length l ≤ length other) is few))) (λ is. is) whole)
+
+    joined : log ≡ keeper_log_of (run_of sh order).trace → log ≡ keeper_log_of (run_of sh events).trace
+        → Begins (later order other) events × (log ≡ keeper_log_of (run_of sh (later order other)).trace)
+    joined mine all = later_is (λ (l : List Event). Begins l events × (log ≡ keeper_log_of (run_of sh l).trace)) order other (λ few. (first, mine))
+        (λ few. (
+          second,
+          mine ∙ sym (between (λ (h : History). keeper_log_of h.trace) keeper_log_grows sh order other events
+              (begins_shorter order other events first second few) second (sym mine ∙ all)),
+        ))
+
+  given_here : (t : St) (q : ℕ) (mine : Log) (other : List Event) → 0 < tally.out → Holds sh t → get_elem? t.views 0 ≡ some keeper → get_elem? (set t.views 0 (one_less keeper (Reader sh Idle mine other))) (suc q) ≡ some (Reader sh Idle mine other)
+      → Holds sh record { words = t.words; homes = t.homes; views = set (set t.views 0 (one_less keeper (Reader sh Idle mine other))) (suc q) Spent }
+  given_here t q mine other few h at there =
       let tally' : Tally = tally_of tally.unmade (tally.out - 1) in
-      let next : View = Keeper sh k tally' log in
+      let old : View = Reader sh Idle mine other in
+      let next : View = Keeper sh k tally' log (later order other) in
       let views : List View = set t.views 0 next in
       let past = run_of sh h.events in
       let retold_all : IsAfter sh past tally' t.words (all_views sh tally' views) =
-      subst (IsAfter sh past tally' t.words) (sym (all_set sh tally t.views 0 keeper next at)) (retold t tally' h at) in
-      let at_all = at_longer views (replicate tally.unmade (Reader sh Idle [])) (suc q) (Reader sh Idle mine) there in
+      subst (IsAfter sh past tally' t.words) (sym (all_set sh tally t.views 0 keeper next at)) (retold t tally' (later order other) h at) in
+      let at_all = at_longer views (replicate tally.unmade (Reader sh Idle [] [])) (suc q) old there in
+      let was : get_elem? t.views (suc q) ≡ some old = sym (set_else t.views 0 (suc q) next (λ e. apart q (sym e))) ∙ there in
+      let first = h.orders 0 keeper at in
+      let second = h.orders (suc q) old was in
+      let tied = seen sh t h 0 keeper at in
       record {
         shape = h.shape;
         events = h.events;
         tally = tally';
-        after = subst (IsAfter sh past tally' t.words) (sym (all_set sh tally' views (suc q) (Reader sh Idle mine) Spent there))
-            (spent_is_idle sh past tally' t.words (all_views sh tally' views) q mine at_all retold_all);
+        after = subst (IsAfter sh past tally' t.words) (sym (all_set sh tally' views (suc q) old Spent there))
+            (spent_is_idle sh past tally' t.words (all_views sh tally' views) q mine other at_all retold_all);
         out = omega (
           arith,
-          count_set is_out views (suc q) (Reader sh Idle mine) Spent (got views (suc q) (Reader sh Idle mine) there),
+          count_set is_out views (suc q) old Spent (got views (suc q) old there),
           out_same t.views 0 keeper next at refl,
           passes_out t h at,
         );
+        orders = orders_set sh h.events views (suc q) Spent (orders_set sh h.events t.views 0 next h.orders (joined h.events other first.0 second.0 first.1 tied.3)) tt;
+        longest = dite (ℕ_discrete h.longest.0 (suc q))
+            (λ here. let is : other ≡ h.events = sym (ap order_of (one_view t.views (suc q) h.longest.0 old h.longest.1 here was h.longest.2)) ∙ h.longest.3 in
+            longest_else h.events views (suc q) Spent (longest_here h.events t.views 0 keeper next at (longer_is h.events other first.0 second.0 (inr is))) (apart q))
+            (λ else. dite (ℕ_discrete h.longest.0 0)
+            (λ here. let is : order ≡ h.events = sym (ap order_of (one_view t.views 0 h.longest.0 keeper h.longest.1 here at h.longest.2)) ∙ h.longest.3 in
+            longest_else h.events views (suc q) Spent (longest_here h.events t.views 0 keeper next at (longer_is h.events other first.0 second.0 (inl is))) (apart q))
+            (λ ne. longest_else h.events views (suc q) Spent (longest_else h.events t.views 0 next h.longest ne) else));
       }
 
-  pub may_give : (id other : ℕ) (mine : Log) → 0 < tally.out → Joins (Holds sh) id keeper other (Reader sh Idle mine) (one_less keeper (Reader sh Idle mine)) Spent
-  may_give (suc id) other mine few t h at apart there = absurd (seen sh t h (suc id) keeper at)
-  may_give zero zero mine few t h at apart there = absurd (apart refl)
-  may_give zero (suc q) mine few t h at apart there = given_here t q mine few h at there
+  pub may_give : (id other : ℕ) (mine : Log) (met : List Event) → 0 < tally.out → Joins (Holds sh) id keeper other (Reader sh Idle mine met) (one_less keeper (Reader sh Idle mine met)) Spent
+  may_give (suc id) other mine met few t h at apart there = absurd (seen sh t h (suc id) keeper at)
+  may_give zero zero mine met few t h at apart there = absurd (apart refl)
+  may_give zero (suc q) mine met few t h at apart there = given_here t q mine met few h at there
 
   -- ---------------------------------------------------------------- the end
 
@@ -134,8 +206,8 @@ module _ (sh : Shape) (k : Ledger) (tally : Tally) (log : KeeperLog) where
 
   -- where no pass is out, nobody has a reference on a frame
   none_on : (f : ℕ) (v : View) → cond (is_on f (phase_of v)) 1 0 ≤ cond (is_out v) 1 0
-  none_on f (Reader sh' phase mine) = at_most_one (is_on f phase)
-  none_on f (Keeper sh' k' t mine) = omega arith
+  none_on f (Reader sh' phase mine order) = at_most_one (is_on f phase)
+  none_on f (Keeper sh' k' t mine order) = omega arith
   none_on f Spent = omega arith
 
   on_at_most_out : (f : ℕ) (views : List View) → count_by (is_on f) (map phase_of views) ≤ count_by is_out views
@@ -174,7 +246,7 @@ module _ (sh : Shape) (k : Ledger) (tally : Tally) (log : KeeperLog) where
       let s = (run_of sh h.events).state in
       let tied = seen sh t h 0 keeper final.1.1 in
       let unmade : h.tally.unmade ≡ 0 = ap (λ (x : Tally). x.unmade) (sym tied.2) ∙ none_unmade in
-      let views : all_views sh h.tally t.views ≡ t.views = ap (λ (n : ℕ). t.views ++ replicate n (Reader sh Idle [])) unmade ∙ append-nil t.views in
+      let views : all_views sh h.tally t.views ≡ t.views = ap (λ (n : ℕ). t.views ++ replicate n (Reader sh Idle [] [])) unmade ∙ append-nil t.views in
       let phases : map phase_of t.views ≡ spent_phase ∷ s.seats = ap (map phase_of) (sym views) ∙ h.after.phases_are in
       let free = λ (f : ℕ). let some = sum_by-cons (λ (p : Phase). cond (is_on f p) 1 0) spent_phase s.seats in
       let most : count_by (is_on f) (spent_phase ∷ s.seats) ≤ count_by is_out t.views =

@@ -1,8 +1,10 @@
 -- What each step of the keeper tells its seat (own).
-use Rattle.std.specs.Prelude.{◌≡◌, ℕ, Some, ◌+◌, ◌-◌, ◌%◌, ◌<◌, ◌≤◌, ◌==◌, cond, [], ◌∷◌, ◌++◌, slice_index}
+use Rattle.std.specs.Prelude.{◌≡◌, ℕ, Some, ◌+◌, ◌-◌, ◌%◌, ◌<◌, ◌≤◌, ◌==◌, cond, List, [], ◌∷◌, ◌++◌, slice_index}
 use Rattle.atomic_table.specs.Table.{Step}
 use Rattle.ksm_base.specs.declared.page.TheConstants.{PAGE_WORDS}
 use Rattle.ksm_base.specs.Values.{frames_of}
+use Rattle.frame_core.specs.declared.event.Event.{Event}
+use Rattle.frame_core.specs.declared.event.Event.TheVariants as event
 use Rattle.frame_core.specs.declared.event.KeeperStep.{KeeperStep}
 use Rattle.frame_core.specs.declared.event.KeeperStep.TheVariants.{Reap, Put, Raise, Open, Add, Sub, Publish, Withdraw, Freeze, Word}
 use Rattle.frame_core.specs.declared.ledger.Ledger.{Ledger}
@@ -11,7 +13,8 @@ use Rattle.frame_core.specs.Words.{frame_word_at, content_at}
 use Rattle.frame_core.specs.Ledger.{ledger_after, frame_at}
 use Rattle.frame_table.specs.declared.view.View.{View}
 use Rattle.frame_table.specs.declared.view.View.TheVariants.{Keeper}
-use Rattle.frame_table.specs.Views.{Sat, shape_in}
+use Rattle.frame_table.specs.Orders.{IsPresent}
+use Rattle.frame_table.specs.Views.{Sat, shape_in, order_in}
 
 -- the word that a step of the keeper works on, in a table of so many places
 abbrev pub keeper_word : ℕ → KeeperStep → ℕ
@@ -45,10 +48,10 @@ found_by (Publish p f) n = 0
 found_by (Withdraw p) n = 0
 found_by _ n = n
 
--- the view after a step: what the keeper knows then, and one entry more in the log
-abbrev pub keeper_after : KeeperStep → View → ℕ → View
-keeper_after e (Keeper sh ledger tally log) n = Keeper sh (ledger_after sh ledger e n) tally (log ++ (e, n) ∷ [])
-keeper_after e v n = v
+-- the view after a step: what the keeper knows then, one entry more in the log, and this order
+abbrev pub keeper_after : KeeperStep → View → ℕ → List Event → View
+keeper_after e (Keeper sh ledger tally log old) n order = Keeper sh (ledger_after sh ledger e n) tally (log ++ (e, n) ∷ []) order
+keeper_after e v n order = v
 
 -- what the rule says of the word that a step found: it is that of the ledger, where the keeper alone writes it
 abbrev pub knows : Ledger → KeeperStep → ℕ → Type 0
@@ -62,12 +65,12 @@ knows ledger (Word f i) n = n ≡ slice_index (frame_at ledger f).content i
 knows ledger _ n = Unit {0}
 
 abbrev pub knows_view : View → KeeperStep → ℕ → Type 0
-knows_view (Keeper sh ledger tally log) e n = knows ledger e n
+knows_view (Keeper sh ledger tally log order) e n = knows ledger e n
 knows_view _ e n = Unit {0}
 
--- the keeper made the step, and found the word n
+-- the keeper made the step, of the present, and found the word n
 abbrev pub Keeps : KeeperStep → Sat → ℕ → Sat → Type 0
-Keeps e m n m' = (m' ≡ (keeper_after e m.0 n, m.1)) × knows_view m.0 e n
+Keeps e m n m' = (m' ≡ (keeper_after e m.0 n (order_in m'), m.1)) × knows_view m.0 e n × IsPresent (shape_in m) (order_in m) (order_in m') (event.Keeper e) n
 
 -- an operation on the word on which the step works makes the step
 abbrev pub KeepsAt : KeeperStep → Step (Unit {0}) → Sat → ℕ → Sat → Type 0

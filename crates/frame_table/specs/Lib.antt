@@ -2,6 +2,7 @@ pub mod Named
 pub mod Kept
 pub mod Seat
 pub mod Views
+pub mod Orders
 pub mod Rule
 pub mod Reading
 pub mod Keeping
@@ -12,4 +13,5 @@ pub mod Equal
 pub mod Gone
 pub mod Seats
 pub mod Running
+pub mod Truth
 pub mod Worked

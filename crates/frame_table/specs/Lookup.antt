@@ -1,17 +1,14 @@
 -- What a lookup adds to its pass's log, and which answer shows which log.
 use Rattle.std.specs.Prelude.{◌≡◌, ℕ, ◌<◌, List, [], ◌∷◌, ◌++◌, length, slice_index_or, slice_set, Some, None}
 use Rattle.ksm_base.specs.declared.shape.Shape.{Shape}
-use Rattle.frame_core.specs.declared.event.ReaderStep.{ReaderStep}
 use Rattle.frame_core.specs.declared.event.ReaderStep.TheVariants.{LoadPlace, LoadFrame, Exchange, Leave, LoadWord}
 use Rattle.frame_core.specs.State.{life_at, count_in, life_in}
 use Rattle.frame_table.specs.Seat.{nothing_known}
+pub use Rattle.frame_table.specs.Views.{Log}
 use Rattle.frame_table.specs.declared.pass.Found.{Found}
 use Rattle.frame_table.specs.declared.pass.Found.TheVariants.{Held, Gone, Busy}
 use Rattle.frame_table.specs.declared.pass.Why.TheVariants.{Vacant, Zero, Generation}
 use Rattle.frame_table.specs.Named.{PassView, HeldView}
-
-abbrev pub Log : Type 0
-Log = List (ReaderStep × ℕ)
 
 -- rounds that failed: the frame word loaded, and another that the exchange found
 abbrev pub rounds : List (ℕ × ℕ) → Log

@@ -4,6 +4,8 @@ use Rattle.atomic_table.specs.Table.{Step}
 use Rattle.ksm_base.specs.declared.page.TheConstants.{PAGE_WORDS}
 use Rattle.ksm_base.specs.declared.shape.Shape.{Shape}
 use Rattle.ksm_base.specs.Values.{frames_of}
+use Rattle.frame_core.specs.declared.event.Event.{Event}
+use Rattle.frame_core.specs.declared.event.Event.TheVariants as event
 use Rattle.frame_core.specs.declared.event.ReaderStep.{ReaderStep}
 use Rattle.frame_core.specs.declared.event.ReaderStep.TheVariants.{LoadPlace, LoadFrame, Exchange, Leave, LoadWord}
 use Rattle.frame_core.specs.declared.seat.Aim.{Aim}
@@ -12,17 +14,18 @@ use Rattle.frame_core.specs.declared.seat.Phase.TheVariants.{Held}
 use Rattle.frame_core.specs.State.{life_at, count_in}
 use Rattle.frame_table.specs.declared.view.View.{View}
 use Rattle.frame_table.specs.declared.view.View.TheVariants.{Reader}
-use Rattle.frame_table.specs.Seat.{seat_after, word_of}
-use Rattle.frame_table.specs.Views.{Sat, IsIn}
+use Rattle.frame_table.specs.Seat.{seat_after, reader_word}
+use Rattle.frame_table.specs.Orders.{IsPresent}
+use Rattle.frame_table.specs.Views.{Sat, IsIn, shape_in, order_in}
 
--- the view after a step: as far as the step leads, and with one entry more in the log
-abbrev pub reader_after : ReaderStep → View → ℕ → View
-reader_after e (Reader sh phase log) n = Reader sh (seat_after sh e phase n) (log ++ (e, n) ∷ [])
-reader_after e v n = v
+-- the view after a step: as far as the step leads, with one entry more in the log, and this order
+abbrev pub reader_after : ReaderStep → View → ℕ → List Event → View
+reader_after e (Reader sh phase log old) n order = Reader sh (seat_after sh e phase n) (log ++ (e, n) ∷ []) order
+reader_after e v n order = v
 
 -- the step was made, and found the word n
 abbrev pub Steps : ReaderStep → Sat → ℕ → Sat → Type 0
-Steps e m n m' = m' ≡ (reader_after e m.0 n, m.1)
+Steps e m n m' = m' ≡ (reader_after e m.0 n (order_in m'), m.1)
 
 -- the seat has a reference on the frame whose frame word, or whose page, stands there
 abbrev pub IsHolder : Shape → (ℕ → ℕ → ℕ) → ℕ → Sat → Type 0
@@ -46,33 +49,37 @@ tells sh (LoadWord i) phase n = agrees_with i n phase
 tells sh _ phase n = Unit {0}
 
 abbrev pub tells_view : ReaderStep → View → ℕ → Type 0
-tells_view e (Reader sh phase log) n = tells sh e phase n
+tells_view e (Reader sh phase log order) n = tells sh e phase n
 tells_view e _ n = Unit {0}
 
--- the step was made, and found a word that is as the rule says
-abbrev pub Makes : ReaderStep → Sat → ℕ → Sat → Type 0
-Makes e m n m' = Steps e m n m' × tells_view e m.0 n
+-- the step is of the present, and found what the core's step of the seat finds
+abbrev pub IsMadeNow : ReaderStep → Sat → ℕ → Sat → Type 0
+IsMadeNow e m n m' = (q : ℕ) × IsPresent (shape_in m) (order_in m) (order_in m') (event.Reader q e) n
+
+-- the step was made, of the present, and found a word that is as the rule says
+abbrev pub StepsNow : ReaderStep → Sat → ℕ → Sat → Type 0
+StepsNow e m n m' = Steps e m n m' × tells_view e m.0 n × IsMadeNow e m n m'
 
 -- the word on which a step works
 abbrev pub word_at : ReaderStep → View → ℕ
-word_at e (Reader sh phase log) = word_of sh e phase
+word_at e (Reader sh phase log order) = reader_word sh e phase
 word_at e _ = 0
 
 -- an operation on that word makes the step
-abbrev pub MakesAt : ReaderStep → Step (Unit {0}) → Sat → ℕ → Sat → Type 0
-MakesAt e st m n m' = st.word ≡ word_at e m.0 → Makes e m n m'
+abbrev pub StepsAt : ReaderStep → Step (Unit {0}) → Sat → ℕ → Sat → Type 0
+StepsAt e st m n m' = st.word ≡ word_at e m.0 → StepsNow e m n m'
 
 abbrev pub loads_place : Step (Unit {0}) → Sat → ℕ → Sat → Type 0
-loads_place st m n m' = (p : ℕ) → MakesAt (LoadPlace p) st m n m'
+loads_place st m n m' = (p : ℕ) → StepsAt (LoadPlace p) st m n m'
 
 abbrev pub loads_frame : Step (Unit {0}) → Sat → ℕ → Sat → Type 0
-loads_frame st m n m' = MakesAt LoadFrame st m n m'
+loads_frame st m n m' = StepsAt LoadFrame st m n m'
 
 abbrev pub exchanges : Step (Unit {0}) → Sat → ℕ → Sat → Type 0
-exchanges st m n m' = MakesAt Exchange st m n m'
+exchanges st m n m' = StepsAt Exchange st m n m'
 
 abbrev pub leaves : Step (Unit {0}) → Sat → ℕ → Sat → Type 0
-leaves st m n m' = MakesAt Leave st m n m'
+leaves st m n m' = StepsAt Leave st m n m'
 
 abbrev pub loads_word : Step (Unit {0}) → Sat → ℕ → Sat → Type 0
-loads_word st m n m' = (i : ℕ) → i < PAGE_WORDS → MakesAt (LoadWord i) st m n m'
+loads_word st m n m' = (i : ℕ) → i < PAGE_WORDS → StepsAt (LoadWord i) st m n m'

@@ -1,47 +1,70 @@
 -- What is true of the running table between any two steps of any threads, in its own words and views (own).
-use Rattle.std.specs.Prelude.{◌≡◌, ℕ, suc, ◌+◌, ◌<◌, List, length, take, slice_index, Option}
+use Rattle.std.specs.Prelude.{◌≡◌, ℕ, suc, ◌+◌, ◌<◌, ◌≤◌, List, length, take, slice_get, slice_index, Option, Some}
 use mathlib.Core.Option.{some}
 use lib.ListN.{get_elem?}
 use Rattle.atomic_table.specs.Table as table
+use Rattle.ksm_base.specs.declared.page.TheConstants.{PAGE_WORDS}
 use Rattle.ksm_base.specs.declared.shape.Shape.{Shape}
 use Rattle.ksm_base.specs.Values.{frames_of}
 use Rattle.frame_core.specs.declared.event.Event.{Event}
 use Rattle.frame_core.specs.declared.ledger.Ledger.{Ledger}
 use Rattle.frame_core.specs.declared.seat.Aim.{Aim}
 use Rattle.frame_core.specs.declared.seat.Phase.{Phase}
-use Rattle.frame_core.specs.declared.seat.Phase.TheVariants.{Held}
-use Rattle.frame_core.specs.State.{count_in}
-use Rattle.frame_core.specs.Words.{frame_word_at}
-use Rattle.frame_core.specs.Ledger.{frame_at, IsWritable}
-use Rattle.frame_core.specs.Trace.{run_of, log_of, keeper_log_of, holders, HoldsRightly}
+use Rattle.frame_core.specs.declared.seat.Phase.TheVariants.{Idle, Held}
+use Rattle.frame_core.specs.State.{place_word, count_in, life_in}
+use Rattle.frame_core.specs.Words.{words_of, frame_word_at, content_at}
+use Rattle.frame_core.specs.Ledger.{ledger_of, frame_at, named_at, IsWritable}
+use Rattle.frame_core.specs.Rule as core
+use Rattle.frame_core.specs.Trace.{History, run_of, log_of, keeper_log_of, holders, HoldsRightly}
 use Rattle.frame_core.specs.Safe.{IsSafe, GivenUnheld}
 use Rattle.frame_table.specs.declared.view.Tally.{Tally}
 use Rattle.frame_table.specs.declared.view.View.{View}
-use Rattle.frame_table.specs.declared.view.View.TheVariants.{Keeper, Reader}
-use Rattle.frame_table.specs.Rule.{Holds}
-use Rattle.frame_table.specs.Views.{Log, KeeperLog}
+use Rattle.frame_table.specs.declared.view.View.TheVariants.{Keeper, Reader, Spent}
+use Rattle.frame_table.specs.Rule.{Holds, IsInOrder}
+use Rattle.frame_table.specs.Views.{Log, KeeperLog, order_of}
+
+-- the keeper's log is its part of the steps, and its ledger is what the words say
+pub record LedgerIs (sh : Shape) (h : History) (words : List ℕ) (ledger : Ledger) (log : KeeperLog) : Type 0 where
+  pub ledger_is : ledger ≡ ledger_of h.state
+  pub log_is : log ≡ keeper_log_of h.trace
+  -- the count of a frame is the keeper's references and the holders together
+  pub counts : (f : ℕ) → f < frames_of sh → count_in (slice_index words (frame_word_at (frames_of sh) f)) ≡ (frame_at ledger f).base + length (holders sh.passes f h.trace)
+  pub generations : (f : ℕ) → f < frames_of sh → life_in (slice_index words (frame_word_at (frames_of sh) f)) ≡ (frame_at ledger f).generation
+  pub contents : (f i : ℕ) → f < frames_of sh → i < PAGE_WORDS → slice_index words (content_at (frames_of sh) f i) ≡ slice_index (frame_at ledger f).content i
+  pub places : (p : ℕ) → p < frames_of sh → slice_index words p ≡ place_word (named_at ledger p)
+
+-- a hold is of the present life of its frame, which has a reference, and what it has read are the frame's words
+pub record HoldIs (sh : Shape) (words : List ℕ) (aim : Aim) (known : List (Option ℕ)) : Type 0 where
+  pub life : life_in (slice_index words (frame_word_at (frames_of sh) aim.life.frame)) ≡ aim.life.generation
+  pub referenced : 1 ≤ count_in (slice_index words (frame_word_at (frames_of sh) aim.life.frame))
+  pub read : (i word : ℕ) → slice_get known i ≡ Some (Some word) → slice_index words (content_at (frames_of sh) aim.life.frame i) ≡ word
 
 -- there are steps, in one order, such that
 pub record RunsSafely (sh : Shape) (t : table.State (Unit {0}) View) : Type 0 where
   pub events : List Event
-  -- each seat's log is its part of their trace
-  pub keeper_log : (ledger : Ledger) (tally : Tally) (log : KeeperLog) → get_elem? t.views 0 ≡ some (Keeper sh ledger tally log)
-      → log ≡ keeper_log_of (run_of sh events).trace
-  pub reader_log : (q : ℕ) (phase : Phase) (log : Log) → get_elem? t.views (suc q) ≡ some (Reader sh phase log) → log ≡ log_of q (run_of sh events).trace
+  -- the words are those of the core after them, which keeps its rule
+  pub words : t.words ≡ words_of (run_of sh events).state
+  pub rule : core.Rule (run_of sh events).state
+  -- the keeper's view is the core's ledger; a pass has come as far as its seat of the core has, and logs its part; one that was given back is idle
+  pub keeper : (sh' : Shape) (ledger : Ledger) (tally : Tally) (log : KeeperLog) (order : List Event)
+      → get_elem? t.views 0 ≡ some (Keeper sh' ledger tally log order) → (sh' ≡ sh) × LedgerIs sh (run_of sh events) t.words ledger log
+  pub reader : (q : ℕ) (sh' : Shape) (phase : Phase) (log : Log) (order : List Event) → get_elem? t.views (suc q) ≡ some (Reader sh' phase log order)
+      → (sh' ≡ sh) × (slice_get (run_of sh events).state.seats q ≡ Some phase) × (log ≡ log_of q (run_of sh events).trace)
+  pub given_back : (q : ℕ) → get_elem? t.views (suc q) ≡ some Spent → slice_get (run_of sh events).state.seats q ≡ Some Idle
+  -- what a seat has seen is a beginning of them, with all steps of its own, and the seat of the last has seen all
+  pub orders : (j : ℕ) (v : View) → get_elem? t.views j ≡ some v → IsInOrder sh events j v
+  pub longest : (j : ℕ) × (v : View) × (get_elem? t.views j ≡ some v) × (order_of v ≡ events)
   -- each raise and each opening of them found the frame without a holder, and after any number of them the core was safe
   pub given : GivenUnheld sh.passes (run_of sh events).trace
   pub safe : (n : ℕ) → IsSafe (run_of sh (take n events))
-  -- a seat that holds, holds what its place named, in that life, and the words that it read are those that were named
-  pub rightly : (q : ℕ) (aim : Aim) (known : List (Option ℕ)) (log : Log) → get_elem? t.views (suc q) ≡ some (Reader sh (Held aim known) log)
-      → HoldsRightly q aim (run_of sh events).trace
+  -- a seat that holds, holds what its place named, in the present life, and what it has read is what was named and what is there
+  pub holds : (q : ℕ) (aim : Aim) (known : List (Option ℕ)) (log : Log) (order : List Event)
+      → get_elem? t.views (suc q) ≡ some (Reader sh (Held aim known) log order)
+      → HoldsRightly q aim (run_of sh events).trace × HoldIs sh t.words aim known
   -- a frame that the keeper may write is held by no seat
-  pub unwritten : (ledger : Ledger) (tally : Tally) (kept : KeeperLog) (q : ℕ) (aim : Aim) (known : List (Option ℕ)) (log : Log)
-      → get_elem? t.views 0 ≡ some (Keeper sh ledger tally kept)
-      → get_elem? t.views (suc q) ≡ some (Reader sh (Held aim known) log) → ¬ IsWritable (frame_at ledger aim.life.frame).kind
-  -- the count of a frame is the keeper's references and the holders together
-  pub counted : (ledger : Ledger) (tally : Tally) (log : KeeperLog) → get_elem? t.views 0 ≡ some (Keeper sh ledger tally log)
-      → (f : ℕ) → f < frames_of sh → count_in (slice_index t.words (frame_word_at (frames_of sh) f))
-      ≡ (frame_at ledger f).base + length (holders sh.passes f (run_of sh events).trace)
+  pub unwritten : (ledger : Ledger) (tally : Tally) (kept : KeeperLog) (seen : List Event) (q : ℕ) (aim : Aim) (known : List (Option ℕ)) (log : Log)
+      (order : List Event) → get_elem? t.views 0 ≡ some (Keeper sh ledger tally kept seen)
+      → get_elem? t.views (suc q) ≡ some (Reader sh (Held aim known) log order) → ¬ IsWritable (frame_at ledger aim.life.frame).kind
 
 abbrev pub TheTableRunsSafely : Type 0
 TheTableRunsSafely = (sh : Shape) (t : table.State (Unit {0}) View) → Holds sh t → RunsSafely sh t

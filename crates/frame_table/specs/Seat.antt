@@ -35,8 +35,8 @@ loaded_by (Counted aim failures count) = frame_word aim.life.generation count
 loaded_by _ = 0
 
 -- the frame word is of this life, and of a frame with a reference
-abbrev pub is_alive : ℕ → ℕ → Bool
-is_alive generation w = not (count_in w == 0) && life_in w == generation
+abbrev pub is_referenced : ℕ → ℕ → Bool
+is_referenced generation w = not (count_in w == 0) && life_in w == generation
 
 -- what a step leaves where it found n
 abbrev pub written : ReaderStep → Phase → ℕ → ℕ
@@ -55,17 +55,17 @@ module _ (sh : Shape) where
   MayRead _ _ = ⊥
 
   -- the word that a step works on
-  abbrev pub word_of : ReaderStep → Phase → ℕ
-  word_of (LoadPlace p) phase = p
-  word_of LoadFrame phase = frame_word_at (frames_of sh) (frame_of phase)
-  word_of Exchange phase = frame_word_at (frames_of sh) (frame_of phase)
-  word_of Leave phase = frame_word_at (frames_of sh) (frame_of phase)
-  word_of (LoadWord i) phase = content_at (frames_of sh) (frame_of phase) i
+  abbrev pub reader_word : ReaderStep → Phase → ℕ
+  reader_word (LoadPlace p) phase = p
+  reader_word LoadFrame phase = frame_word_at (frames_of sh) (frame_of phase)
+  reader_word Exchange phase = frame_word_at (frames_of sh) (frame_of phase)
+  reader_word Leave phase = frame_word_at (frames_of sh) (frame_of phase)
+  reader_word (LoadWord i) phase = content_at (frames_of sh) (frame_of phase) i
 
   -- how far the seat is after a step that found the word n
   abbrev pub seat_after : ReaderStep → Phase → ℕ → Phase
   seat_after (LoadPlace p) Idle n = cond (n == 0) Idle (Placed (aim_of p n) 0)
-  seat_after LoadFrame (Placed aim failures) n = cond (is_alive aim.life.generation n) (Counted aim failures (count_in n)) Idle
+  seat_after LoadFrame (Placed aim failures) n = cond (is_referenced aim.life.generation n) (Counted aim failures (count_in n)) Idle
   seat_after Exchange (Counted aim failures count) n =
       cond (n == frame_word aim.life.generation count) (Held aim nothing_known) (cond (nat_le sh.tries (failures + 1)) Idle (Placed aim (failures + 1)))
   seat_after Leave phase n = Idle

@@ -9,7 +9,8 @@ use Rattle.frame_core.specs.Words.{frame_word_at}
 use Rattle.frame_core.specs.Ledger.{first_ledger, frame_at, named_at}
 use Rattle.frame_table.specs.declared.view.View.{View}
 use Rattle.frame_table.specs.declared.view.View.TheVariants.{Keeper, Reader}
-use Rattle.frame_table.specs.Views.{shape_of, tally_of}
+use Rattle.frame_table.specs.Views.{shape_of, order_of, tally_of}
+use Rattle.frame_table.specs.Orders.{later}
 use Rattle.frame_table.specs.Named.{TableName, PassView, KeeperView, ClosedView}
 
 -- a pass of the table that has made no step
@@ -26,16 +27,16 @@ Opened sh t k ps = (t.shape ≡ sh) × (k ≡ new_keeper t) × (ps ≡ replicate
 
 -- the keeper's view once one of the passes to come is made
 abbrev pub one_more : View → View
-one_more (Keeper sh ledger tally log) = Keeper sh ledger (tally_of (tally.unmade - 1) (tally.out + 1)) log
+one_more (Keeper sh ledger tally log order) = Keeper sh ledger (tally_of (tally.unmade - 1) (tally.out + 1)) log order
 one_more v = v
 
 -- the view of a pass that is made
 abbrev pub newcomer : View → View
-newcomer v = Reader (shape_of v) Idle []
+newcomer v = Reader (shape_of v) Idle [] []
 
--- the keeper's view once a pass is given back
+-- the keeper's view once a pass is given back: it has seen what either has
 abbrev pub one_less : View → View → View
-one_less (Keeper sh ledger tally log) w = Keeper sh ledger (tally_of tally.unmade (tally.out - 1)) log
+one_less (Keeper sh ledger tally log order) w = Keeper sh ledger (tally_of tally.unmade (tally.out - 1)) log (later order (order_of w))
 one_less v w = v
 
 -- the words are those of the ledger, and each count is the keeper's own references

@@ -10,7 +10,7 @@ use Rattle.frame_core.specs.Steps.{step}
 use Rattle.frame_core.specs.Words.{words_of}
 use Rattle.frame_core.specs.Ledger.{ledger_of, ledger_after, MayStep}
 use Rattle.frame_core.specs.Rule.{Rule}
-use Rattle.frame_table.specs.Seat.{MayRead, word_of, written, seat_after}
+use Rattle.frame_table.specs.Seat.{MayRead, reader_word, written, seat_after}
 use Rattle.frame_table.specs.Reading.{tells}
 use Rattle.frame_table.specs.Keeping.{keeper_word, keeper_written, found_by, knows}
 
@@ -20,8 +20,8 @@ pub record IsReaderStep (s : State) (q : ℕ) (e : ReaderStep) (phase : Phase) :
   pub next : State
   pub steps : step s (Reader q e) ≡ Some (found, next)
   -- one word was found, and left
-  pub word : slice_index (words_of s) (word_of s.shape e phase) ≡ found
-  pub words : slice_set (words_of s) (word_of s.shape e phase) (written e phase found) ≡ words_of next
+  pub word : slice_index (words_of s) (reader_word s.shape e phase) ≡ found
+  pub words : slice_set (words_of s) (reader_word s.shape e phase) (written e phase found) ≡ words_of next
   -- the seat alone has come further, and what the keeper knows stays
   pub shape : next.shape ≡ s.shape
   pub seats : next.seats ≡ slice_set s.seats q (seat_after s.shape e phase found)

@@ -2,6 +2,7 @@
 use Rattle.std.specs.Prelude.{◌≡◌, ℕ, List, [], Option}
 use Rattle.atomic_table.specs.Table.{Me}
 use Rattle.ksm_base.specs.declared.shape.Shape.{Shape}
+use Rattle.frame_core.specs.declared.event.Event.{Event}
 use Rattle.frame_core.specs.declared.event.KeeperStep.{KeeperStep}
 use Rattle.frame_core.specs.declared.event.ReaderStep.{ReaderStep}
 use Rattle.frame_core.specs.declared.ledger.Ledger.{Ledger}
@@ -19,29 +20,38 @@ Log = List (ReaderStep × ℕ)
 abbrev pub KeeperLog : Type 0
 KeeperLog = List (KeeperStep × ℕ)
 
+-- the steps of all seats, in their order, up to the last one of a seat
+abbrev pub order_of : View → List Event
+order_of (Reader sh phase log order) = order
+order_of (Keeper sh ledger tally log order) = order
+order_of Spent = []
+
 -- a seat: its view, and no slots
 abbrev pub Sat : Type 0
 Sat = Me (Unit {0}) View
 
 -- how far a seat has come: a pass that was given back is idle, and the keeper's seat is no reader's
 abbrev pub phase_of : View → Phase
-phase_of (Reader sh phase log) = phase
+phase_of (Reader sh phase log order) = phase
 phase_of Spent = Idle
-phase_of (Keeper sh ledger tally log) = spent_phase
+phase_of (Keeper sh ledger tally log order) = spent_phase
+
+abbrev pub order_in : Sat → List Event
+order_in m = order_of m.0
 
 abbrev pub no_shape : Shape
 no_shape = record { nodes = 0; frames_per_node = 0; passes = 0; last_generation = 0; tries = 0 }
 
 abbrev pub shape_of : View → Shape
-shape_of (Reader sh phase log) = sh
-shape_of (Keeper sh ledger tally log) = sh
+shape_of (Reader sh phase log order) = sh
+shape_of (Keeper sh ledger tally log order) = sh
 shape_of Spent = no_shape
 
 abbrev pub shape_in : Sat → Shape
 shape_in m = shape_of m.0
 
 abbrev pub entries : View → Log
-entries (Reader sh phase log) = log
+entries (Reader sh phase log order) = log
 entries _ = []
 
 -- what a reader's seat has done
@@ -49,7 +59,7 @@ abbrev pub log_in : Sat → Log
 log_in m = entries m.0
 
 abbrev pub words_known : View → List (Option ℕ)
-words_known (Reader sh (Held aim known) log) = known
+words_known (Reader sh (Held aim known) log order) = known
 words_known _ = []
 
 -- the words that a seat has read in its hold
@@ -57,18 +67,18 @@ abbrev pub known_in : Sat → List (Option ℕ)
 known_in m = words_known m.0
 
 -- a reader's seat
-abbrev pub sits : Shape → Phase → Log → Sat
-sits sh phase log = (Reader sh phase log, [])
+abbrev pub sits : Shape → Phase → Log → List Event → Sat
+sits sh phase log order = (Reader sh phase log order, [])
 
 -- the seat is a reader's that has come so far
 abbrev pub IsIn : Shape → Phase → Sat → Type 0
-IsIn sh phase m = m ≡ sits sh phase (log_in m)
+IsIn sh phase m = m ≡ sits sh phase (log_in m) (order_in m)
 
 abbrev pub nothing_noted : Ledger
 nothing_noted = record { frames = []; places = [] }
 
 abbrev pub ledger_of_view : View → Ledger
-ledger_of_view (Keeper sh ledger tally log) = ledger
+ledger_of_view (Keeper sh ledger tally log order) = ledger
 ledger_of_view _ = nothing_noted
 
 -- what the keeper's seat knows
@@ -76,7 +86,7 @@ abbrev pub ledger_in : Sat → Ledger
 ledger_in m = ledger_of_view m.0
 
 abbrev pub tally_of_view : View → Tally
-tally_of_view (Keeper sh ledger tally log) = tally
+tally_of_view (Keeper sh ledger tally log order) = tally
 tally_of_view _ = record { unmade = 0; out = 0 }
 
 -- how many passes there are, by the keeper's seat
@@ -84,7 +94,7 @@ abbrev pub tally_in : Sat → Tally
 tally_in m = tally_of_view m.0
 
 abbrev pub keeper_entries : View → KeeperLog
-keeper_entries (Keeper sh ledger tally log) = log
+keeper_entries (Keeper sh ledger tally log order) = log
 keeper_entries _ = []
 
 -- what the keeper's seat has done
@@ -92,12 +102,12 @@ abbrev pub keeper_log : Sat → KeeperLog
 keeper_log m = keeper_entries m.0
 
 -- the keeper's seat
-abbrev pub keeps_ledger : Shape → Ledger → Tally → KeeperLog → Sat
-keeps_ledger sh ledger tally log = (Keeper sh ledger tally log, [])
+abbrev pub keeps_ledger : Shape → Ledger → Tally → KeeperLog → List Event → Sat
+keeps_ledger sh ledger tally log order = (Keeper sh ledger tally log order, [])
 
 -- the seat is the keeper's
 abbrev pub IsKeeper : Shape → Sat → Type 0
-IsKeeper sh m = m ≡ keeps_ledger sh (ledger_in m) (tally_in m) (keeper_log m)
+IsKeeper sh m = m ≡ keeps_ledger sh (ledger_in m) (tally_in m) (keeper_log m) (order_in m)
 
 -- so many passes are still to be made, and so many are out
 abbrev pub tally_of : ℕ → ℕ → Tally

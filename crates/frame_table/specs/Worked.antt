@@ -1,9 +1,14 @@
 -- Worked lookups, by which the definitions of a lookup are tried: what its steps found, one after another. Own.
-use Rattle.std.specs.Prelude.{ℕ}
+use Rattle.std.specs.Prelude.{ℕ, [], ◌∷◌, replicate, Some}
+use Rattle.ksm_base.specs.declared.page.TheConstants.{PAGE_WORDS}
 use Rattle.ksm_base.specs.declared.shape.Shape.{Shape}
 use Rattle.frame_core.specs.declared.event.ReaderStep.{ReaderStep}
 use Rattle.frame_core.specs.declared.event.ReaderStep.TheVariants.{LoadPlace, LoadFrame, Exchange}
+use Rattle.frame_core.specs.declared.frame.Kind.TheVariants.{Stable}
+use Rattle.frame_core.specs.declared.ledger.Ledger.{Ledger}
 use Rattle.frame_core.specs.State.{frame_word}
+use Rattle.frame_table.specs.Named.{TableName, PassView, ClosedView}
+use Rattle.frame_table.specs.Views.{Log}
 
 -- two frames, and two tries
 abbrev pub two_tries : Shape
@@ -19,3 +24,18 @@ loads life count = (LoadFrame, frame_word life count)
 
 abbrev pub finds : ℕ → ℕ → ReaderStep × ℕ
 finds life count = (Exchange, frame_word life count)
+
+-- a pass of the table, which has done this
+abbrev pub pass_of : TableName → Log → PassView
+pass_of t log = record { table = t; log = log }
+
+-- one frame, which the keeper has opened in its life 1, with one reference, and named at its one place
+abbrev pub ended : Ledger
+ended = record {
+  frames = record { kind = Stable; base = 1; generation = 1; content = replicate PAGE_WORDS 0 } ∷ [];
+  places = Some record { frame = 0; generation = 1 } ∷ [];
+}
+
+-- a closed table with one frame, by its first two words
+abbrev pub closed : ℕ → ℕ → ClosedView
+closed place word = record { shape = record { nodes = 1; frames_per_node = 1; passes = 1; last_generation = 5; tries = 1 }; words = place ∷ word ∷ [] }

@@ -24,13 +24,13 @@ impl Model for Keeper {
     ghost use Rattle.std.specs.Prelude.{◌≡◌, length};
     ghost use Rattle.ksm_base.specs.Values.{frames_of};
     ghost use Rattle.frame_table.specs.Named.{KeeperView};
-    ghost use Rattle.frame_table.specs.Views.{keeps_ledger, shape_in, ledger_in, keeper_log, tally_of};
+    ghost use Rattle.frame_table.specs.Views.{keeps_ledger, shape_in, ledger_in, keeper_log, order_in, tally_of};
 
     ghost Value = { KeeperView };
 
     ghost view = { λ q. record { table = record { id = q.seat.table_id; shape = shape_in q.seat.me }; ledger = ledger_in q.seat.me; log = keeper_log q.seat.me } };
 
-    ghost invariant = { λ q. (q.seat.me ≡ keeps_ledger (shape_in q.seat.me) (ledger_in q.seat.me) (tally_of 0 (shape_in q.seat.me).passes) (keeper_log q.seat.me)) × (q.frames.items ≡ (ledger_in q.seat.me).frames) × (length q.frames.items ≡ frames_of (shape_in q.seat.me)) };
+    ghost invariant = { λ q. (q.seat.me ≡ keeps_ledger (shape_in q.seat.me) (ledger_in q.seat.me) (tally_of 0 (shape_in q.seat.me).passes) (keeper_log q.seat.me) (order_in q.seat.me)) × (q.frames.items ≡ (ledger_in q.seat.me).frames) × (length q.frames.items ≡ frames_of (shape_in q.seat.me)) };
 }
 
 impl Keeper {

@@ -10,9 +10,9 @@ mod held;
 mod keeper;
 mod keeper_steps;
 mod laws;
-mod open;
 mod pass;
 mod reader_steps;
+mod seats;
 mod table;
 mod view;
 mod worked;
@@ -21,7 +21,9 @@ pub use closed::ClosedTable;
 pub use equal::FoundEqual;
 pub use held::Held;
 pub use keeper::Keeper;
-pub use laws::{steps_are_the_cores, the_running_table_is_safe};
+pub use laws::{
+    a_log_cannot_lie, frame_words_lie_apart, steps_are_the_cores, the_running_table_is_safe,
+};
 pub use pass::{Found, Pass, Why};
 pub use table::FrameTable;
 pub use view::{FrameRule, Tally, View};

@@ -1,12 +1,30 @@
-ghost use Rattle.std.specs.Prelude.{◌≡◌, ◌+◌, ◌^◌, ◌<◌, ◌≤◌};
+//! The table and its words. Nothing else of the crate reaches the words: each step of a seat is one function here, of one operation on a word.
+ghost use Rattle.std.specs.Prelude.{◌≡◌, ℕ, ◌+◌, ◌-◌, ◌%◌, ◌^◌, ◌<◌, ◌≤◌, List, Option, Some, IfOk, IfErr, vec_len, All};
+ghost use Rattle.ksm_base.specs.declared.fault.Fault.TheVariants as fault_of;
 ghost use Rattle.ksm_base.specs.declared.page.TheConstants.{PAGE_WORDS as words_of_page};
-ghost use Rattle.ksm_base.specs.Values.{frames_of};
+ghost use Rattle.ksm_base.specs.Values.{IsShape, frames_of};
+ghost use Rattle.frame_core.specs.declared.event.KeeperStep.TheVariants as keeper;
+ghost use Rattle.frame_core.specs.declared.event.ReaderStep.TheVariants as reader;
+ghost use Rattle.frame_core.specs.declared.seat.Aim.{Aim};
+ghost use Rattle.frame_core.specs.declared.seat.Phase.TheVariants.{Idle, Placed, Counted, Held};
+ghost use Rattle.frame_core.specs.Ledger.{MayStep, frame_at};
+ghost use Rattle.frame_core.specs.State.{place_word, frame_word};
 ghost use Rattle.frame_core.specs.Words.{frame_word_at, page_at, content_at, words_for};
+ghost use Rattle.frame_table.specs.Keeping.{Keeps};
+ghost use Rattle.frame_table.specs.Reading.{IsHolder, StepsNow};
+ghost use Rattle.frame_table.specs.Seats.{Opened, Ends, new_pass};
+ghost use Rattle.frame_table.specs.Views.{IsIn, IsKeeper, keeps_ledger, ledger_in, keeper_log, order_in, tally_in, tally_of};
 
+use crate::closed::ClosedTable;
+use crate::keeper::Keeper;
+use crate::keeper_steps::{Add, Freeze, Open, Publish, Put, Raise, Reap, Sub, Withdraw, Word};
+use crate::pass::Pass;
+use crate::reader_steps::{Exchange, Leave, LoadFrame, LoadPlace, LoadWord};
+use crate::seats::{GiveBack, NewPass};
 use crate::view::{FrameRule, View};
-use atomic_table::Table;
-use frame_core::LINE_WORDS;
-use ksm_base::{PAGE_WORDS, Shape};
+use atomic_table::{Seat, Table};
+use frame_core::{FrameWord, Kind, LINE_WORDS, Note};
+use ksm_base::{Fault, PAGE_WORDS, Shape};
 use std::alloc::Global;
 use std::marker::Model;
 
@@ -21,7 +39,7 @@ pub(crate) fn word_count(places: usize) -> usize
 /// The table, which threads share by reference. Contracts see which one it is, and its shape.
 #[derive(Drop)]
 pub struct FrameTable {
-    pub(crate) table: Table<(), View, Shape, FrameRule, Global>,
+    table: Table<(), View, Shape, FrameRule, Global>,
     pub(crate) shape: Shape,
     // How many places there are, for the words behind them.
     pub(crate) places: u32,
@@ -81,5 +99,284 @@ impl FrameTable {
         ensures within { result < self.now.id.words }
     {
         self.page(frame) + i
+    }
+}
+
+// Opening and closing.
+
+impl FrameTable {
+    fn make_pass(&self, seat: &mut Seat<(), View>) -> Pass
+        requires own { seat.old.table_id ≡ self.now.id }
+        requires keeper { IsKeeper self.now.shape seat.old.me }
+        requires unmade { 0 < (tally_in seat.old.me).unmade }
+        ensures seat { (seat.new.table_id ≡ seat.old.table_id) × (seat.new.id ≡ seat.old.id) }
+        ensures one_more { seat.new.me ≡ keeps_ledger self.now.shape (ledger_in seat.old.me) (tally_of ((tally_in seat.old.me).unmade - 1) ((tally_in seat.old.me).out + 1)) (keeper_log seat.old.me) (order_in seat.old.me) }
+        ensures new { result ≡ new_pass self.now }
+    {
+        Pass {
+            seat: self.table.shared.split_seat::<NewPass>(seat),
+        }
+    }
+
+    /// A table with all frames free and all places empty, its keeper, and a pass for each of the shape's `passes`. The only refusal is
+    /// `Memory`; then nothing is kept.
+    pub fn open(alloc: Global, shape: Shape) -> Result<(FrameTable, Keeper, Vec<Pass>), Fault>
+        requires { IsShape shape }
+        ensures opened { IfOk result (λ t. Opened shape t.0 t.1 t.2.items) }
+        ensures memory { IfErr result (λ fault. fault ≡ Fault.Memory) }
+    {
+        let places = shape.frames();
+        let count = places as usize;
+        let blank = Note {
+            kind: Kind::Free,
+            base: 0,
+            generation: 0,
+            content: [0; PAGE_WORDS],
+        };
+        let words = vec![in alloc; 0u64; word_count(count)]?;
+        let frames = vec![in alloc; blank; count]?;
+        let mut passes = Vec::with_capacity(alloc, shape.passes as usize)?;
+        let Ok((table, mut seat)) = Table::of_words(alloc, words.as_slice(), &shape) else {
+            passes.destroy_empty();
+            return Err(Fault::Memory);
+        };
+        let table = FrameTable {
+            table,
+            shape,
+            places,
+            pages: count + (count + 1) * LINE_WORDS,
+        };
+        'seats: for i in 0..shape.passes {
+            passes.push_reserved(table.make_pass(&mut seat));
+        }
+        Ok((table, Keeper { seat, frames }, passes))
+    }
+
+    fn take_back(&self, seat: &mut Seat<(), View>, pass: Pass)
+        requires own { seat.old.table_id ≡ self.now.id }
+        requires keeper { IsKeeper self.now.shape seat.old.me }
+        requires out { 0 < (tally_in seat.old.me).out }
+        requires pass { pass.table ≡ self.now }
+        ensures seat { (seat.new.table_id ≡ seat.old.table_id) × (seat.new.id ≡ seat.old.id) }
+        ensures one_less { seat.new.me ≡ keeps_ledger self.now.shape (ledger_in seat.old.me) (tally_of (tally_in seat.old.me).unmade ((tally_in seat.old.me).out - 1)) (keeper_log seat.old.me) (order_in seat.new.me) }
+    {
+        let Pass { seat: other } = pass;
+        self.table.shared.join_seat::<GiveBack>(seat, other);
+    }
+
+    /// Ends the table, with its keeper and all its passes. Nobody holds a frame then: each count is the keeper's own references.
+    pub fn close(self, keeper: Keeper, mut passes: Vec<Pass>) -> ClosedTable
+        requires own { keeper.table ≡ self }
+        requires all { vec_len passes ≡ self.shape.passes }
+        requires passes { All (λ p. p.table ≡ self) passes.items }
+        ensures shape { result.shape ≡ self.shape }
+        ensures ends { Ends keeper.ledger result }
+    {
+        let Keeper { mut seat, frames } = keeper;
+        drop(frames);
+        'seats: while let Some(pass) = passes.pop() {
+            self.take_back(&mut seat, pass);
+        }
+        passes.destroy_empty();
+        let FrameTable {
+            table,
+            shape,
+            places: _,
+            pages: _,
+        } = self;
+        ClosedTable {
+            closed: table.close_with(seat),
+            shape,
+        }
+    }
+}
+
+// The steps of a reader.
+
+impl FrameTable {
+    pub(crate) fn load_place(&self, seat: &mut Seat<(), View>, place: u32) -> u64
+        requires own { seat.old.table_id ≡ self.now.id }
+        requires inside { place < frames_of self.now.shape }
+        requires phase { IsIn self.now.shape Idle seat.old.me }
+        ensures seat { (seat.new.table_id ≡ seat.old.table_id) × (seat.new.id ≡ seat.old.id) }
+        ensures step { StepsNow (reader.LoadPlace place) seat.old.me result seat.new.me }
+    {
+        self.table.shared.load::<LoadPlace>(seat, place as usize)
+    }
+
+    // A frame is told here by where its word or its page stands, which a lookup finds once.
+
+    pub(crate) fn load_frame(&self, seat: &mut Seat<(), View>, word: usize) -> u64
+        requires own { seat.old.table_id ≡ self.now.id }
+        requires inside { word < self.now.id.words }
+        requires phase { (aim : Aim) × (failures : ℕ) × (frame_word_at (frames_of self.now.shape) aim.life.frame ≡ word) × IsIn self.now.shape (Placed aim failures) seat.old.me }
+        ensures seat { (seat.new.table_id ≡ seat.old.table_id) × (seat.new.id ≡ seat.old.id) }
+        ensures step { StepsNow reader.LoadFrame seat.old.me result seat.new.me }
+    {
+        self.table.shared.load::<LoadFrame>(seat, word)
+    }
+
+    // Raises the frame word by one, if it is still the one that was loaded. Answers the word found.
+    pub(crate) fn exchange(&self, seat: &mut Seat<(), View>, word: usize, loaded: u64) -> u64
+        requires own { seat.old.table_id ≡ self.now.id }
+        requires inside { (word < self.now.id.words) × (loaded < 2 ^ 57) }
+        requires phase { (aim : Aim) × (failures count : ℕ) × (frame_word_at (frames_of self.now.shape) aim.life.frame ≡ word) × (loaded ≡ frame_word aim.life.generation count) × IsIn self.now.shape (Counted aim failures count) seat.old.me }
+        ensures seat { (seat.new.table_id ≡ seat.old.table_id) × (seat.new.id ≡ seat.old.id) }
+        ensures step { StepsNow reader.Exchange seat.old.me result seat.new.me }
+    {
+        self.table
+            .shared
+            .compare_exchange::<Exchange>(seat, word, loaded, loaded + 1)
+    }
+
+    // Gives the reference back. Answers the frame word before.
+    pub(crate) fn give_back(&self, seat: &mut Seat<(), View>, word: usize) -> u64
+        requires own { seat.old.table_id ≡ self.now.id }
+        requires inside { word < self.now.id.words }
+        requires phase { IsHolder self.now.shape frame_word_at word seat.old.me }
+        ensures seat { (seat.new.table_id ≡ seat.old.table_id) × (seat.new.id ≡ seat.old.id) }
+        ensures step { StepsNow reader.Leave seat.old.me result seat.new.me }
+    {
+        self.table.shared.fetch_sub::<Leave>(seat, word, 1)
+    }
+
+    pub(crate) fn load_word(&self, seat: &mut Seat<(), View>, page: usize, i: usize) -> u64
+        requires own { seat.old.table_id ≡ self.now.id }
+        requires inside { (page + words_of_page ≤ self.now.id.words) × (i < words_of_page) }
+        requires phase { IsHolder self.now.shape page_at page seat.old.me }
+        ensures seat { (seat.new.table_id ≡ seat.old.table_id) × (seat.new.id ≡ seat.old.id) }
+        ensures step { StepsNow (reader.LoadWord i) seat.old.me result seat.new.me }
+    {
+        self.table.shared.load::<LoadWord>(seat, page + i)
+    }
+}
+
+// The steps of the keeper.
+
+impl FrameTable {
+    pub(crate) fn reap_at(&self, seat: &mut Seat<(), View>, frame: u32) -> u64
+        requires own { seat.old.table_id ≡ self.now.id }
+        requires keeper { IsKeeper self.now.shape seat.old.me }
+        requires may { MayStep self.now.shape (ledger_in seat.old.me) (keeper.Reap frame) }
+        ensures seat { (seat.new.table_id ≡ seat.old.table_id) × (seat.new.id ≡ seat.old.id) }
+        ensures step { Keeps (keeper.Reap frame) seat.old.me result seat.new.me }
+    {
+        self.table.shared.load::<Reap>(seat, self.frame_word(frame))
+    }
+
+    pub(crate) fn put_at(&self, seat: &mut Seat<(), View>, frame: u32, i: usize, content: u64)
+        requires own { seat.old.table_id ≡ self.now.id }
+        requires keeper { IsKeeper self.now.shape seat.old.me }
+        requires may { MayStep self.now.shape (ledger_in seat.old.me) (keeper.Put frame i content) }
+        ensures seat { (seat.new.table_id ≡ seat.old.table_id) × (seat.new.id ≡ seat.old.id) }
+        ensures step { Keeps (keeper.Put frame i content) seat.old.me 0 seat.new.me }
+    {
+        self.table
+            .shared
+            .store::<Put>(seat, self.content_word(frame, i), content);
+    }
+
+    pub(crate) fn raise_at(&self, seat: &mut Seat<(), View>, frame: u32) -> u64
+        requires own { seat.old.table_id ≡ self.now.id }
+        requires keeper { IsKeeper self.now.shape seat.old.me }
+        requires may { MayStep self.now.shape (ledger_in seat.old.me) (keeper.Raise frame) }
+        ensures seat { (seat.new.table_id ≡ seat.old.table_id) × (seat.new.id ≡ seat.old.id) }
+        ensures step { Keeps (keeper.Raise frame) seat.old.me result seat.new.me }
+    {
+        self.table
+            .shared
+            .fetch_add::<Raise>(seat, self.frame_word(frame), FrameWord::ONE_LIFE)
+    }
+
+    pub(crate) fn open_at(&self, seat: &mut Seat<(), View>, frame: u32) -> u64
+        requires own { seat.old.table_id ≡ self.now.id }
+        requires keeper { IsKeeper self.now.shape seat.old.me }
+        requires may { MayStep self.now.shape (ledger_in seat.old.me) (keeper.Open frame) }
+        ensures seat { (seat.new.table_id ≡ seat.old.table_id) × (seat.new.id ≡ seat.old.id) }
+        ensures step { Keeps (keeper.Open frame) seat.old.me result seat.new.me }
+    {
+        self.table
+            .shared
+            .fetch_add::<Open>(seat, self.frame_word(frame), 1)
+    }
+
+    pub(crate) fn add_at(&self, seat: &mut Seat<(), View>, frame: u32) -> u64
+        requires own { seat.old.table_id ≡ self.now.id }
+        requires keeper { IsKeeper self.now.shape seat.old.me }
+        requires may { MayStep self.now.shape (ledger_in seat.old.me) (keeper.Add frame) }
+        ensures seat { (seat.new.table_id ≡ seat.old.table_id) × (seat.new.id ≡ seat.old.id) }
+        ensures step { Keeps (keeper.Add frame) seat.old.me result seat.new.me }
+    {
+        self.table
+            .shared
+            .fetch_add::<Add>(seat, self.frame_word(frame), 1)
+    }
+
+    pub(crate) fn sub_at(&self, seat: &mut Seat<(), View>, frame: u32) -> u64
+        requires own { seat.old.table_id ≡ self.now.id }
+        requires keeper { IsKeeper self.now.shape seat.old.me }
+        requires may { MayStep self.now.shape (ledger_in seat.old.me) (keeper.Sub frame) }
+        ensures seat { (seat.new.table_id ≡ seat.old.table_id) × (seat.new.id ≡ seat.old.id) }
+        ensures step { Keeps (keeper.Sub frame) seat.old.me result seat.new.me }
+    {
+        self.table
+            .shared
+            .fetch_sub::<Sub>(seat, self.frame_word(frame), 1)
+    }
+
+    pub(crate) fn publish_at(&self, seat: &mut Seat<(), View>, place: u32, frame: u32, name: u64)
+        requires own { seat.old.table_id ≡ self.now.id }
+        requires keeper { IsKeeper self.now.shape seat.old.me }
+        requires may { MayStep self.now.shape (ledger_in seat.old.me) (keeper.Publish place frame) }
+        requires name { name ≡ place_word (Some record { frame = frame; generation = (frame_at (ledger_in seat.old.me) frame).generation }) % 2 ^ 64 }
+        ensures seat { (seat.new.table_id ≡ seat.old.table_id) × (seat.new.id ≡ seat.old.id) }
+        ensures step { Keeps (keeper.Publish place frame) seat.old.me 0 seat.new.me }
+    {
+        self.table
+            .shared
+            .store::<Publish>(seat, place as usize, name);
+    }
+
+    pub(crate) fn withdraw_at(&self, seat: &mut Seat<(), View>, place: u32)
+        requires own { seat.old.table_id ≡ self.now.id }
+        requires keeper { IsKeeper self.now.shape seat.old.me }
+        requires may { MayStep self.now.shape (ledger_in seat.old.me) (keeper.Withdraw place) }
+        ensures seat { (seat.new.table_id ≡ seat.old.table_id) × (seat.new.id ≡ seat.old.id) }
+        ensures step { Keeps (keeper.Withdraw place) seat.old.me 0 seat.new.me }
+    {
+        self.table.shared.store::<Withdraw>(seat, place as usize, 0);
+    }
+
+    // Exchanges the frame word for one without a reference, if it is the one with the keeper's alone.
+    pub(crate) fn freeze_at(
+        &self,
+        seat: &mut Seat<(), View>,
+        frame: u32,
+        alone: u64,
+        none: u64,
+    ) -> u64
+        requires own { seat.old.table_id ≡ self.now.id }
+        requires keeper { IsKeeper self.now.shape seat.old.me }
+        requires may { MayStep self.now.shape (ledger_in seat.old.me) (keeper.Freeze frame) }
+        requires alone { alone ≡ frame_word (frame_at (ledger_in seat.old.me) frame).generation (frame_at (ledger_in seat.old.me) frame).base % 2 ^ 64 }
+        requires none { none ≡ frame_word (frame_at (ledger_in seat.old.me) frame).generation 0 % 2 ^ 64 }
+        ensures seat { (seat.new.table_id ≡ seat.old.table_id) × (seat.new.id ≡ seat.old.id) }
+        ensures step { Keeps (keeper.Freeze frame) seat.old.me result seat.new.me }
+    {
+        self.table
+            .shared
+            .compare_exchange::<Freeze>(seat, self.frame_word(frame), alone, none)
+    }
+
+    pub(crate) fn word_at(&self, seat: &mut Seat<(), View>, frame: u32, i: usize) -> u64
+        requires own { seat.old.table_id ≡ self.now.id }
+        requires keeper { IsKeeper self.now.shape seat.old.me }
+        requires may { MayStep self.now.shape (ledger_in seat.old.me) (keeper.Word frame i) }
+        ensures seat { (seat.new.table_id ≡ seat.old.table_id) × (seat.new.id ≡ seat.old.id) }
+        ensures step { Keeps (keeper.Word frame i) seat.old.me result seat.new.me }
+    {
+        self.table
+            .shared
+            .load::<Word>(seat, self.content_word(frame, i))
     }
 }

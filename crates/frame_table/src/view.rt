@@ -1,5 +1,5 @@
 use atomic_table::TableRule;
-use frame_core::{KeeperStep, Ledger, Phase, ReaderStep};
+use frame_core::{Event, KeeperStep, Ledger, Phase, ReaderStep};
 use ksm_base::Shape;
 use std::collections::LinkedList;
 
@@ -11,12 +11,13 @@ pub struct Tally {
     pub out: u32,
 }
 
-/// What a seat knows: its part of the state, and its steps, each with the word that it found. Contracts speak of it; no value of it is made.
+/// What a seat knows: its part of the state, its steps, each with the word that it found, and the order of all steps of all seats up to its
+/// last one. The rule speaks of it; no value of it is made.
 pub enum View {
     /// The keeper's seat.
-    Keeper(Shape, Ledger, Tally, LinkedList<(KeeperStep, u64)>),
+    Keeper(Shape, Ledger, Tally, LinkedList<(KeeperStep, u64)>, LinkedList<Event>),
     /// A pass, and how far its lookup has come.
-    Reader(Shape, Phase, LinkedList<(ReaderStep, u64)>),
+    Reader(Shape, Phase, LinkedList<(ReaderStep, u64)>, LinkedList<Event>),
     /// A pass that was given back.
     Spent,
 }

@@ -1,9 +1,15 @@
 //! Worked lookups: logs that are a lookup of the place 1, which names the frame 0 in its life 3, and logs that are none.
-ghost use Rattle.std.specs.Prelude.{◌≡◌, [], ◌∷◌, None, Some};
+ghost use Rattle.std.specs.Prelude.{◌≡◌, true, false, List, [], ◌∷◌, replicate, None, Some};
+ghost use Rattle.ksm_base.specs.declared.page.TheConstants.{PAGE_WORDS};
+ghost use Rattle.frame_core.specs.declared.event.KeeperStep.TheVariants.{Raise};
 ghost use Rattle.frame_core.specs.declared.event.ReaderStep.TheVariants.{LoadPlace};
-ghost use Rattle.frame_table.specs.Named.{HeldView};
-ghost use Rattle.frame_table.specs.Lookup.{IsVacant, IsZero, IsOld, IsBusy, IsFound, ReadsWord};
-ghost use Rattle.frame_table.specs.Worked.{two_tries, named, loads, finds};
+ghost use Rattle.frame_table.specs.declared.pass.Found.TheVariants.{Held, Gone};
+ghost use Rattle.frame_table.specs.declared.pass.Why.TheVariants.{Vacant, Zero, Generation};
+ghost use Rattle.frame_table.specs.Named.{TableName, KeeperView, PassView, HeldView};
+ghost use Rattle.frame_table.specs.Equal.{Compares};
+ghost use Rattle.frame_table.specs.Lookup.{IsVacant, IsZero, IsOld, IsBusy, IsFound, LooksUp, ReadsWord, Leaves};
+ghost use Rattle.frame_table.specs.Seats.{Opened, Ends, new_keeper};
+ghost use Rattle.frame_table.specs.Worked.{two_tries, named, loads, finds, pass_of, ended, closed};
 
 /// An empty place.
 pub fn lookups_of_an_empty_place()
@@ -58,7 +64,41 @@ pub fn lookups_that_hold()
     ensures not_exchanged { ¬ IsFound two_tries 1 0 3 (named ∷ loads 3 2 ∷ []) }
 {}
 
-/// In a hold in which the word 1 was read as 8, it is read so again.
+/// Each reason is told of its own lookups.
+pub fn lookups_told_why()
+    ensures zero { (t : TableName) → t.shape ≡ two_tries → LooksUp (pass_of t []) 1 (Gone (pass_of t (named ∷ loads 3 0 ∷ [])) Zero) }
+    ensures old { (t : TableName) → t.shape ≡ two_tries → LooksUp (pass_of t []) 1 (Gone (pass_of t (named ∷ loads 4 2 ∷ [])) Generation) }
+    ensures vacant { (t : TableName) → LooksUp (pass_of t []) 1 (Gone (pass_of t ((LoadPlace 1, 0) ∷ [])) Vacant) }
+{}
+
+/// A hold begins with no word known, and one that was read is read so again. It is left by one step more.
 pub fn words_of_a_hold()
+    ensures known { (v : PassView) (h : HeldView) → h.known ≡ replicate PAGE_WORDS (Some 8) → ¬ LooksUp v 1 (Held h) }
     ensures another_word { (v w : HeldView) → v.known ≡ None ∷ Some 8 ∷ [] → ¬ ReadsWord v 1 9 w }
+    ensures left_without_a_step { (v : HeldView) (p : PassView) → p.log ≡ v.log → ¬ Leaves v p }
+{}
+
+/// Comparisons with a page of words 8.
+pub fn comparisons_of_a_hold()
+    ensures unread { (v w : HeldView) → w.known ≡ replicate PAGE_WORDS None → ¬ Compares (replicate PAGE_WORDS 8) v true w }
+    ensures another { (v w : HeldView) → w.known ≡ replicate PAGE_WORDS (Some 9) → ¬ Compares (replicate PAGE_WORDS 8) v true w }
+    ensures equal { (v w : HeldView) → w.known ≡ replicate PAGE_WORDS (Some 8) → ¬ Compares (replicate PAGE_WORDS 8) v false w }
+{}
+
+/// A table for one pass.
+pub fn tables_that_were_opened()
+    ensures one_pass { (t : TableName) → t.shape ≡ two_tries → Opened two_tries t (new_keeper t) (pass_of t [] ∷ []) }
+    ensures no_pass { (t : TableName) (k : KeeperView) → ¬ Opened two_tries t k [] }
+    ensures two_passes { (t : TableName) (k : KeeperView) → ¬ Opened two_tries t k (pass_of t [] ∷ pass_of t [] ∷ []) }
+    ensures a_step { (t : TableName) (k : KeeperView) → ¬ Opened two_tries t k (pass_of t (named ∷ []) ∷ []) }
+    ensures another_shape { (t : TableName) (k : KeeperView) (ps : List PassView) → t.shape.passes ≡ 2 → ¬ Opened two_tries t k ps }
+    ensures keepers_step { (t : TableName) (k : KeeperView) (ps : List PassView) → k.log ≡ (Raise 0, 0) ∷ [] → ¬ Opened two_tries t k ps }
+{}
+
+/// A table closed with one reference on its frame, the keeper's.
+pub fn tables_that_were_closed()
+    ensures end { Ends ended (closed 1024 65537) }
+    ensures held { ¬ Ends ended (closed 1024 65538) }
+    ensures another_life { ¬ Ends ended (closed 1024 131073) }
+    ensures another_place { ¬ Ends ended (closed 0 65537) }
 {}

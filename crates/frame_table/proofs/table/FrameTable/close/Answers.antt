@@ -5,7 +5,7 @@ use Rattle.ksm_base.specs.declared.shape.Shape.{Shape}
 use Rattle.frame_table.specs.declared.view.View.{View}
 use Rattle.frame_table.specs.declared.view.View.TheVariants.{Keeper}
 use Rattle.frame_table.specs.Rule.{Holds}
-use Rattle.frame_table.specs.Views.{tally_of}
+use Rattle.frame_table.specs.Views.{order_in, tally_of}
 use Rattle.frame_table.specs.Seats.{Ends}
 use Rattle.frame_table.proofs.Seatings.{ends}
 use Rattle.frame_table.proofs.table.FrameTable.close.Goals as goal
@@ -19,8 +19,8 @@ returns-clause-ends c =
     let same : t.shape ≡ sh = ap (λ n. n.shape) c.self-2.view_is in
     let key : t.table.shared.key ≡ sh = c.self-2.invariant.0 ∙ same in
     let n : ℕ = vec_len c.seats.passes in
-    let view : c.seats.seat.me.0 ≡ Keeper sh k (tally_of 0 n) log = ap (λ m. m.0) c.seats.invariant.keeper in
+    let view : c.seats.seat.me.0 ≡ Keeper sh k (tally_of 0 n) log (order_in c.seats.seat.me) = ap (λ m. m.0) c.seats.invariant.keeper in
     let words = slots_items c.close_with.result.words in
     let slots = slots_items c.close_with.result.slots in
-    subst (λ (s : Shape). Ends k record { shape = s; words = words }) (sym same) (ends sh k (tally_of 0 n) log c.seats.seat.id words slots refl (search rules)
+    subst (λ (s : Shape). Ends k record { shape = s; words = words }) (sym same) (ends sh k (tally_of 0 n) log (order_in c.seats.seat.me) c.seats.seat.id words slots refl (search rules)
     (subst (λ (x : Shape × View). Final (Seen (Holds x.0) c.seats.seat.id x.1) words slots) (λ i. (key i, view i)) c.close_with.ensures.values.2))

@@ -7,4 +7,4 @@ use Rattle.frame_table.proofs.table.FrameTable.load_frame.Goals as goal
 pub load-requires : goal.load-requires
 load-requires c =
     let at = c.requires.phase in
-    (search rules, omega (arith, c.requires.inside, ap (λ n. n.id.words) c.self.view_is), turned (MayLoad loads_frame _ _) _ _ _ _ _ _ (search rules) (sym at.2) at.3 (may_load_frame _ _ _ _ at.0 at.1))
+    (search rules, omega (arith, c.requires.inside, ap (λ n. n.id.words) c.self.view_is), turned (MayLoad loads_frame _ _) _ _ _ _ _ _ (search rules) (sym at.2) at.3 (may_load_frame _ _ _ _ _ at.0 at.1))

@@ -15,4 +15,4 @@ split_seat-requires c =
     let key : c.self.inside.table.shared.key ≡ c.args.self.now.shape = c.self.invariant.0 ∙ ap (λ n. n.shape) c.self.view_is in
     let frames : 1 ≤ frames_of c.self.inside.shape = frames_at_least c.self.inside.shape c.self.invariant.3 in
     let words = c.self.invariant.1 in
-    (search rules, omega arith, turned (λ (k : Shape) (i : ℕ) (m : Sat). Splits (Holds k) c.args.seat.now.id m.0 (one_more m.0) (newcomer m.0)) _ _ 0 0 _ _ key refl c.requires.keeper (may_make _ _ _ _ _ c.requires.unmade))
+    (search rules, omega arith, turned (λ (k : Shape) (i : ℕ) (m : Sat). Splits (Holds k) c.args.seat.now.id m.0 (one_more m.0) (newcomer m.0)) _ _ 0 0 _ _ key refl c.requires.keeper (may_make _ _ _ _ _ _ c.requires.unmade))

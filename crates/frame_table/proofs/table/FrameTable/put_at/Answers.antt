@@ -4,5 +4,5 @@ use Rattle.frame_table.proofs.table.FrameTable.put_at.Goals as goal
 
 pub store-requires : goal.store-requires
 store-requires c =
-    let at = c.content_word-word.ensures.at in
+    let at = c.content_word.ensures.at in
     (search rules, search rules, may_put _ _ _ _ _ _ c.requires.keeper (search rules) c.args.frame c.args.i c.args.content at c.requires.may)

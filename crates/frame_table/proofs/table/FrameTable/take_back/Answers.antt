@@ -5,7 +5,7 @@ use Rattle.frame_core.specs.declared.seat.Phase.TheVariants.{Idle}
 use Rattle.atomic_table.specs.Table.{Joins}
 use Rattle.frame_table.specs.declared.view.View.TheVariants.{Spent}
 use Rattle.frame_table.specs.Rule.{Holds}
-use Rattle.frame_table.specs.Views.{Sat, IsIn, shape_in, log_in}
+use Rattle.frame_table.specs.Views.{Sat, IsIn, shape_in, log_in, order_in}
 use Rattle.frame_table.specs.Seats.{one_less}
 use Rattle.frame_table.proofs.ReaderHalf.{frames_at_least}
 use Rattle.frame_table.proofs.Seatings.{may_give}
@@ -23,5 +23,5 @@ join_seat-requires c =
       search rules,
       ap (λ m. m.1) idle,
       omega arith,
-      subst (λ (x : Shape × Sat × Sat). Joins (Holds x.0) c.args.seat.now.id x.1.0 other.id x.2.0 (one_less x.1.0 x.2.0) Spent) (λ i. (sym key i, sym c.requires.keeper i, sym idle i)) (may_give _ _ _ _ _ other.id (log_in other.me) c.requires.out),
+      subst (λ (x : Shape × Sat × Sat). Joins (Holds x.0) c.args.seat.now.id x.1.0 other.id x.2.0 (one_less x.1.0 x.2.0) Spent) (λ i. (sym key i, sym c.requires.keeper i, sym idle i)) (may_give _ _ _ _ _ _ other.id (log_in other.me) (order_in other.me) c.requires.out),
     )

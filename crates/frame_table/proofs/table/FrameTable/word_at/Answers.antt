@@ -4,5 +4,5 @@ use Rattle.frame_table.proofs.table.FrameTable.word_at.Goals as goal
 
 pub load-requires : goal.load-requires
 load-requires c =
-    let at = c.content_word-word.ensures.at in
+    let at = c.content_word.ensures.at in
     (search rules, search rules, may_show _ _ _ _ _ _ c.requires.keeper (search rules) c.args.frame c.args.i at c.requires.may)

@@ -1,0 +1,23 @@
+use Rattle.std.proofs.Common.{[], ◌∷◌, refl, sym, subst, arith}
+use Rattle.frame_core.specs.declared.event.ReaderStep.TheVariants.{LoadPlace}
+use Rattle.ksm_base.specs.declared.shape.Shape.{Shape}
+use Rattle.frame_table.specs.Lookup.{IsZero, IsOld}
+use Rattle.frame_table.specs.Worked.{named, loads}
+use Rattle.frame_table.proofs.worked.lookups_told_why.Goals as goal
+
+pub returns-clause-zero : goal.returns-clause-zero
+returns-clause-zero c = λ t e. (refl, (named ∷ loads 3 0 ∷ [], refl, subst (λ (sh : Shape). IsZero sh 1 (named ∷ loads 3 0 ∷ [])) (sym e) (3072, [], 196608, (λ n. omega (arith, n), tt, omega arith), refl, refl)))
+
+pub returns-clause-old : goal.returns-clause-old
+returns-clause-old c = λ t e. (
+  refl,
+  (
+    named ∷ loads 4 2 ∷ [],
+    refl,
+    subst (λ (sh : Shape). IsOld sh 1 (named ∷ loads 4 2 ∷ [])) (sym e)
+        (3072, [], 262146, (λ n. omega (arith, n), tt, omega arith), λ n. omega (arith, n), λ n. omega (arith, n), refl),
+  ),
+)
+
+pub returns-clause-vacant : goal.returns-clause-vacant
+returns-clause-vacant c = λ t. (refl, ((LoadPlace 1, 0) ∷ [], refl, refl))
