@@ -19,7 +19,10 @@ from .savings import Saving, Setting, grid, saving
 from .trouble import NOT_AS_PROVED, Trouble
 
 TOP = os.path.dirname(os.path.dirname(os.path.abspath(__file__)))
-PROGRAM = os.path.join(TOP, "crates", "ksm_tool", "out", "ksm_tool")
+# ksmbook, where a checkout builds it, or where the package has it
+PROGRAMS = [os.path.join(TOP, "crates", "ksm_tool", "out", "ksm_tool"),
+            os.path.join(os.path.dirname(os.path.dirname(TOP)), "bin", "ksmbook")]
+PROGRAM = next((path for path in PROGRAMS if os.access(path, os.X_OK)), PROGRAMS[0])
 # a table of ksmbook: nodes, and frames of each. Pages leave some over: while all are unmerged, a frame serves pages
 # of its node and of others until the last of them has its own, so of several nodes less than half is used
 MOST_NODES, FRAMES, ROOM_ALONE, ROOM = 4, 256, 240, 120
