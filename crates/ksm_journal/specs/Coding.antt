@@ -1,4 +1,5 @@
--- How a journal keeps its entries: a command in eight bytes, an answer in one, and in lists beside them what these have no room for. Own.
+-- How a journal keeps its entries: a command in eight bytes, an answer in one, and beside them what these have no room
+-- for. Own.
 use Rattle.std.specs.Prelude.{ℕ, ◌*◌, ◌<◌, Bool, true, false, not, ◌&&◌, List, [], ◌∷◌, slice_index_or, None, Ok, Err, MatchBool, if◌then◌else◌}
 use Rattle.std.specs.List.{repeat}
 use Rattle.ksm_base.specs.declared.page.GuestPage.{GuestPage}
@@ -89,7 +90,8 @@ answer_of NumberUnmerged number = Ok (Unmerged number None)
 
 -- the row of a code stands in the lists of so many pages and whole entries
 abbrev pub IsInside : ℕ → ℕ → CommandKind → ℕ → Type 0
-IsInside pages wholes kind row = MatchBool (is_whole kind) (row < wholes) (MatchBool (is_beside kind) (row < pages) (Unit {0}))
+IsInside pages wholes kind row =
+    MatchBool (is_whole kind) (row < wholes) (MatchBool (is_beside kind) (row < pages) (Unit {0}))
 
 -- the command whose page and bytes stand in a row of the pages
 abbrev pub command_beside : CommandKind → CommandCode → StoredPage → Command
@@ -100,7 +102,10 @@ command_beside kind c p = Register p.page c.byte p.bytes
 abbrev pub entry_of : List StoredPage → List Entry → CommandKind → CommandCode → AnswerCode → Entry
 entry_of pages wholes kind c answer =
     if is_whole kind then slice_index_or wholes c.number no_entry
-    else (if is_beside kind then command_beside kind c (slice_index_or pages c.number no_page) else command_of kind c, answer_of answer c.number)
+    else (
+      if is_beside kind then command_beside kind c (slice_index_or pages c.number no_page) else command_of kind c,
+      answer_of answer c.number,
+    )
 
 -- the entries of the codes, in order
 abbrev pub entries_of : List StoredPage → List Entry → List CommandCode → List AnswerCode → List Entry

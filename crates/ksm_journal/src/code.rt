@@ -5,7 +5,8 @@ ghost use Rattle.ksm_journal.specs.Coding.{IsInside, answer_of, command_beside, 
 
 use ksm_base::{Command, Fault, GuestPage, PAGE_WORDS, PageBytes, Reply};
 
-/// Which command it is, and where its parts stand. A page stands in `guest` and `number`, one byte that its page is full of in `byte`.
+/// Which command it is, and where its parts stand. A page stands in `guest` and `number`, the one byte of its bytes in
+/// `byte`.
 #[derive(Clone, Copy)]
 pub(crate) enum CommandKind {
     /// A store of one byte.

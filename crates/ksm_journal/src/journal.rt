@@ -7,10 +7,11 @@ use ksm_base::{Command, Fault, Reply};
 use std::alloc::{AllocError, Global};
 use std::marker::Model;
 
-/// Commands with their answers, in the order in which they were made. Contracts see the entries, and whether there is memory for one more.
+/// Commands with their answers, in the order in which they were made. Contracts see the entries, and whether there is
+/// memory for one more.
 ///
-/// An entry takes nine bytes. A page that is not full of one byte takes 72 more; what has no code stands there whole: a scan that stopped,
-/// an unmerging that did, a number of more than 32 bits, a node above 3.
+/// An entry takes nine bytes. A page that is not full of one byte takes 72 more. What no code tells stands whole beside
+/// the codes, in 120 more: a scan that stopped, an unmerging that did, a number of more than 32 bits, a node above 3.
 #[derive(Drop)]
 pub struct Journal {
     codes: Vec<CommandCode>,
@@ -25,9 +26,15 @@ impl Model for Journal {
 
     ghost Value = { JournalView };
 
-    ghost view = { λ j. record { entries = entries_of j.pages.items j.wholes.items j.codes.items j.answers.items; has_room = (ltb (vec_len j.codes) (vec_capacity j.codes) && ltb (vec_len j.answers) (vec_capacity j.answers)) && ((ltb (vec_len j.pages) (vec_capacity j.pages) && ltb (vec_len j.pages) (2 ^ 32)) && (ltb (vec_len j.wholes) (vec_capacity j.wholes) && ltb (vec_len j.wholes) (2 ^ 32))) } };
+    ghost view = { λ j. record {
+      entries = entries_of j.pages.items j.wholes.items j.codes.items j.answers.items;
+      has_room = (ltb (vec_len j.codes) (vec_capacity j.codes) && ltb (vec_len j.answers) (vec_capacity j.answers))
+          && ((ltb (vec_len j.pages) (vec_capacity j.pages) && ltb (vec_len j.pages) (2 ^ 32))
+          && (ltb (vec_len j.wholes) (vec_capacity j.wholes) && ltb (vec_len j.wholes) (2 ^ 32)));
+    } };
 
-    ghost invariant = { λ j. (length j.answers.items ≡ length j.codes.items) × All (λ c. IsInside (length j.pages.items) (length j.wholes.items) c.kind c.number) j.codes.items };
+    ghost invariant = { λ j. (length j.answers.items ≡ length j.codes.items)
+        × All (λ c. IsInside (length j.pages.items) (length j.wholes.items) c.kind c.number) j.codes.items };
 }
 
 impl Journal {
@@ -43,7 +50,7 @@ impl Journal {
         }
     }
 
-    /// Takes the memory of one more entry. Refused for memory, or where 2^32 pages stand beside the entries, or as many whole entries.
+    /// Takes the memory of one more entry. Refused for memory, or where 2^32 pages or whole entries stand beside the codes.
     pub fn reserve(&mut self) -> Result<(), AllocError>
         ensures kept { self.new.entries ≡ self.old.entries }
         ensures room { IfOk result (λ _. self.new.has_room ≡ true) }
@@ -70,7 +77,7 @@ impl Journal {
         self.answers.push_reserved(told);
     }
 
-    // Handed on by value, and not inlined as a hint alone: else each entry would clear and write what only a long one needs.
+    // Handed on by value, and not inlined as a hint alone: else each entry would clear what only a long one needs.
 
     /// Adds an entry that its codes do not tell all of.
     #[inline(never)]
