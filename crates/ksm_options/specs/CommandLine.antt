@@ -1,5 +1,5 @@
 -- The program's command line in the words of `clap` (own).
-use Rattle.std.specs.Prelude.{ℕ, Some, codes}
+use Rattle.std.specs.Prelude.{ℕ, Some, codes, true}
 use Rattle.clap.specs.Words.{App, Rule, Text, new_app, new_rule, with_rule}
 use Rattle.clap.specs.declared.builder.action.ArgAction.TheVariants.{Set}
 use Rattle.clap.specs.declared.builder.value_parser.ValueParser.TheVariants.{Unsigned}
@@ -13,6 +13,10 @@ number_rule name most = record (new_rule name) {
   parser = Some (Unsigned 1 most);
   value_names = 1;
 }
+
+-- the same option, which has to be given
+abbrev pub required_rule : Text → ℕ → Rule
+required_rule name most = record (number_rule name most) { required = true }
 
 -- the option of a setting
 abbrev pub rule_for : Setting → Rule

@@ -1,8 +1,8 @@
 //! The command line, read with `clap`.
-ghost use Rattle.std.specs.Prelude.{◌≡◌, IfOk, IfErr, List, Some, false, map, string_bytes};
+ghost use Rattle.std.specs.Prelude.{◌≡◌, IfOk, IfErr, List, Some, codes, false, map, string_bytes};
 ghost use Rattle.ksm_base.specs.Values.{IsShape};
-ghost use Rattle.clap.specs.Words.{app_of, found_of, kind_of, one_text, rule_of};
-ghost use Rattle.ksm_options.specs.CommandLine.{ksmbook, number_rule};
+ghost use Rattle.clap.specs.Words.{app_of, found_of, kind_of, new_app, one_text, rule_of, with_rule};
+ghost use Rattle.ksm_options.specs.CommandLine.{ksmbook, number_rule, required_rule};
 ghost use Rattle.ksm_options.specs.Plain.{IsWellFormed};
 ghost use Rattle.ksm_options.specs.Settings.{Given, Setting, name_of, text_of};
 ghost use Rattle.ksm_options.specs.Told.{IsToldBy, Tells};
@@ -27,12 +27,39 @@ fn number<'a>(alloc: Global, name: &'a str, most: u64, help: &'a str) -> Arg<'a>
         .help(help)
 }
 
+/// The same option, which has to be given.
+fn required<'a>(alloc: Global, name: &'a str, most: u64, help: &'a str) -> Arg<'a>
+    ensures rule { rule_of result ≡ required_rule name.entry.now most }
+    ensures local { result.global ≡ false }
+    ensures help { result.help ≡ Some help.entry }
+{
+    number(alloc, name, most, help).required(true)
+}
+
+/// The command line without an option.
+fn named<'a>(alloc: Global) -> Result<Command<'a>, AllocError>
+    ensures { IfOk result (λ command. app_of command ≡ new_app (codes "ksmbook")) }
+{
+    let named = Command::new(alloc, "ksmbook").bin_name("ksmbook")?;
+    Ok(named.about(
+        "Keeps a book of merged pages: commands on standard input, replies on standard output",
+    ))
+}
+
+/// A command line with one option more.
+fn with<'a>(command: Command<'a>, option: Arg<'a>) -> Result<Command<'a>, AllocError>
+    requires { option.global ≡ false }
+    ensures { IfOk result (λ longer. app_of longer ≡ with_rule (app_of command.entry) (rule_of option.entry)) }
+{
+    command.arg(option)
+}
+
 /// The command line of the program.
 fn command<'a>(alloc: Global) -> Result<Command<'a>, AllocError>
     ensures { IfOk result (λ command. app_of command ≡ ksmbook) }
 {
-    let nodes = number(alloc, "nodes", 4, "NUMA nodes, 1 to 4");
-    let frames = number(alloc, "frames", 256, "Frames of each node, 1 to 256");
+    let nodes = required(alloc, "nodes", 4, "NUMA nodes, 1 to 4");
+    let frames = required(alloc, "frames", 256, "Frames of each node, 1 to 256");
     let passes = number(
         alloc,
         "passes",
@@ -51,15 +78,11 @@ fn command<'a>(alloc: Global) -> Result<Command<'a>, AllocError>
         1_099_511_627_776,
         "How often a frame is given, 1 to 1099511627776 [default: 1099511627776]",
     );
-    let named = Command::new(alloc, "ksmbook").bin_name("ksmbook")?;
-    let empty = named.about(
-        "Keeps a book of merged pages: commands on standard input, replies on standard output",
-    );
-    let with_nodes = empty.arg(nodes.required(true))?;
-    let with_frames = with_nodes.arg(frames.required(true))?;
-    let with_passes = with_frames.arg(passes)?;
-    let with_tries = with_passes.arg(tries)?;
-    with_tries.arg(last_generation)
+    let with_nodes = with(named(alloc)?, nodes)?;
+    let with_frames = with(with_nodes, frames)?;
+    let with_passes = with(with_frames, passes)?;
+    let with_tries = with(with_passes, tries)?;
+    with(with_tries, last_generation)
 }
 
 /// What `clap` finds in the words.
