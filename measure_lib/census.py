@@ -99,7 +99,8 @@ class Census:
 
 
 def count_pile(census: Census, records: dict[bytes, int], zeroes: bytes) -> None:
-    """Adds the contents of a pile. Most are there once, and are only numbered."""
+    """Adds the contents of a pile. Most are there once, and are only numbered; not so zeroes, which are told apart
+    where a single page has them, too."""
     copies: collections.Counter[bytes] = collections.Counter()
     for record, times in records.items():
         copies[record[:DIGEST]] += times

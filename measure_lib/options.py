@@ -44,7 +44,8 @@ def parser() -> argparse.ArgumentParser:
         formatter_class=lambda prog: argparse.RawDescriptionHelpFormatter(prog, max_help_position=22, width=80))
     made.add_argument("pids", metavar="PID", nargs="*", type=int, help="a process to read")
     made.add_argument("--name", metavar="NAME", action="append", default=[],
-                      help="each process with NAME in the name of its program; may be given again")
+                      help="each process with NAME in the name of its program, or of its virtual machine; "
+                           "may be given again")
     made.add_argument("--all", action="store_true", help="each process that you may read")
     made.add_argument("--mergeable", action="store_true",
                       help="count only memory that programs marked for KSM already (QEMU marks its guests')")

@@ -5,8 +5,8 @@ A record is a digest, the number of the process that has the page, and the page'
 apart.
 
 A frame that several processes map since a fork, at one address, is one page of memory: its records, which have
-the page's number too, are counted once. So are pages that KSM merged already counted for each address, as they
-were before.
+the page's number too, are counted once. Pages that KSM merged already have addresses of their own, so each of them
+counts, as it did before.
 """
 
 import collections

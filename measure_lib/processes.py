@@ -80,7 +80,7 @@ def names_of(folder: int) -> tuple[str, str]:
     words = text_of(folder, "cmdline").split("\0")
     program = os.path.basename(words[0])
     guest = guest_name(words[1:]) if "qemu" in program or "kvm" in program else None
-    return printable(f"{guest} (qemu)" if guest else short), f"{short} {program}"
+    return printable(f"{guest} (qemu)" if guest else short), f"{short} {program} {guest or ''}"
 
 
 def found(pid: int) -> tuple[Process, str]:

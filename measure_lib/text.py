@@ -62,8 +62,10 @@ def settings(report: Report) -> list[str]:
 
 
 def cell(pages: int) -> str:
-    """Megabytes in a cell of the matrix."""
+    """Megabytes in a cell of the matrix; gigabytes, and said so, where they are too many for it."""
     size = megabytes(pages)
+    if size >= 99999:
+        return f"{f'{size / 1024:,.0f} GB':>{CELL}}"
     return f"{size:>{CELL}.1f}" if size < 1000 else f"{size:>{CELL},.0f}"
 
 
