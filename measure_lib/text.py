@@ -42,9 +42,9 @@ def processes(report: Report) -> list[str]:
 
 
 def setting(report: Report, told: Saving, most: int) -> str:
-    """A row of the settings, with a bar."""
-    of = told.setting
-    knobs = f"{of.max_page_sharing:>9,}{of.use_zero_pages:>11}{of.merge_across_nodes:>14}"
+    """A row of the settings, with a bar. A star is at the machine's own."""
+    of, star = told.setting, "*" if told is report.answer() else " "
+    knobs = f"{star}{of.max_page_sharing:>8,}{of.use_zero_pages:>11}{of.merge_across_nodes:>14}"
     saved = f"{as_megabytes(told.saved):>12}{percent(told.saved, report.pages):>6.1f}"
     after = f"{told.cost / MEGABYTE:>9,.1f}{words.net(told):>11}"
     return f"{knobs}{saved}{after} {'#' * round(BAR * told.saved / most)}".rstrip()
@@ -56,9 +56,8 @@ def settings(report: Report) -> list[str]:
     lines = [f"{'max_page_':>9}{'use_zero_':>11}{'merge_across_':>14}{'saved':>12}{'%':>6}{'cost':>9}{'net':>11}",
              f"{'sharing':>9}{'pages':>11}{'nodes':>14}{'MB':>12}{'':>6}{'MB':>9}{'MB':>11}"]
     lines += [setting(report, told, most) for told in report.savings]
-    if len(report.kernel.nodes) == 1:
-        lines.append("On one node merge_across_nodes 0 saves the same.")
-    return lines
+    one = " On one node merge_across_nodes 0 saves the same." if len(report.kernel.nodes) == 1 else ""
+    return [*lines, f"* as this machine is set.{one}"]
 
 
 def cell(pages: int) -> str:
