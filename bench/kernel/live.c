@@ -3,6 +3,7 @@
  *
  * Its argument is how many seconds. */
 
+#include <dirent.h>
 #include <fcntl.h>
 #include <stdbool.h>
 #include <stdio.h>
@@ -14,6 +15,8 @@
 #include <sys/syscall.h>
 #include <sys/wait.h>
 #include <unistd.h>
+
+#define TRACING "/sys/kernel/tracing/"
 
 enum { PAGE = 4096, PAGES = 256, CONTENTS = 6, WORKERS = 4, NODES = 2, MOVE_ALL = 4, TURNS = 1000 };
 
@@ -89,21 +92,35 @@ static void keep_busy(void)
 	}
 }
 
+/* The tool takes away its probes and its instance. */
+static void tell_what_is_left(int replies)
+{
+	char text[256];
+	struct dirent *entry;
+	int probes = open(TRACING "kprobe_events", O_RDONLY);
+	if (probes < 0 || read(probes, text, sizeof text) != 0)
+		dprintf(replies, "left: probes\n");
+	DIR *instances = opendir(TRACING "instances");
+	while (instances && (entry = readdir(instances)))
+		if (*entry->d_name != '.')
+			dprintf(replies, "left: instance %s\n", entry->d_name);
+}
+
 int main(int count, char **words)
 {
 	mount("proc", "/proc", "proc", 0, NULL);
 	mount("sysfs", "/sys", "sysfs", 0, NULL);
 	mount("dev", "/dev", "devtmpfs", 0, NULL);
-	mount("tracefs", "/sys/kernel/tracing", "tracefs", 0, NULL);
+	mount("tracefs", TRACING, "tracefs", 0, NULL);
 	mount("tmpfs", "/tmp", "tmpfs", 0, NULL);
 	for (size_t i = 0; i < sizeof knobs / sizeof *knobs; i++)
 		put(knobs[i][0], knobs[i][1]);
 	pid_t busy = fork();
 	if (!busy)
 		keep_busy();
+	int replies = open("/dev/ttyS1", O_WRONLY);
 	pid_t looker = fork();
 	if (!looker) {
-		int replies = open("/dev/ttyS1", O_WRONLY);
 		dup2(replies, 1);
 		dup2(replies, 2);
 		execl("/python", "/python", "/trace", "--live", "--seconds", count > 1 ? words[1] : "20", NULL);
@@ -111,7 +128,8 @@ int main(int count, char **words)
 		_exit(1);
 	}
 	waitpid(looker, NULL, 0);
-	sync();
+	tell_what_is_left(replies);
+	dprintf(replies, "end\n");
 	usleep(300000);
 	reboot(RB_POWER_OFF);
 	for (;;)
