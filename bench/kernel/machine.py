@@ -23,7 +23,8 @@ C_FLAGS = ["-std=c11", "-D_GNU_SOURCE", "-O2", "-Wall", "-Wextra", "-static"]
 MACHINE = ["-accel", "tcg", "-m", "512", "-smp", "1", "-display", "none", "-no-reboot", "-nodefaults",
            "-object", "memory-backend-ram,id=m0,size=256M", "-object", "memory-backend-ram,id=m1,size=256M",
            "-numa", "node,nodeid=0,cpus=0,memdev=m0", "-numa", "node,nodeid=1,memdev=m1"]
-WORDS = "console=ttyS0 quiet panic=-1 transparent_hugepage=never numa_balancing=disable mitigations=off"
+WORDS = ("console=ttyS0 quiet panic=-1 transparent_hugepage=never numa_balancing=disable mitigations=off "
+         "no_timer_check")  # it fails where the host is busy
 
 
 class Trouble(Exception):

@@ -2,7 +2,8 @@
  * and writes the replies to the second serial line.
  *
  * Beside NAME.ksm there may be NAME.setup, lines of a file of /sys/kernel/mm/ksm and a number, which are
- * written before the script is run. A file that the kernel does not have is left out. */
+ * written before the script is run. A file that the kernel does not have is left out. A file `trace` says what is
+ * traced meanwhile. */
 
 #include <dirent.h>
 #include <errno.h>
@@ -18,6 +19,7 @@
 #include "fail.h"
 #include "ksm.h"
 #include "script.h"
+#include "trace.h"
 
 #define FOLDER "/scripts/"
 
@@ -103,7 +105,9 @@ static void run(const char *script, unsigned long visits)
 	set_up(script);
 	fprintf(replies, "script %s\n", script);
 	fflush(replies);
+	trace_counters();
 	script_run(read_file(path), visits, replies);
+	trace_copy(replies);
 	fflush(replies);
 }
 
@@ -121,6 +125,7 @@ int main(void)
 	open_replies();
 	uname(&system);
 	fprintf(replies, "linux %s %s\n", system.release, system.version);
+	trace_start();
 	unsigned long visits = ksm_start();
 	int count = scandir(FOLDER, &scripts, is_script, alphasort);
 	for (int i = 0; i < count; i++)

@@ -9,6 +9,7 @@
 #include <unistd.h>
 
 #include "fail.h"
+#include "trace.h"
 
 #define FOLDER "/sys/kernel/mm/ksm/"
 
@@ -97,6 +98,7 @@ void ksmd_batch(unsigned long steps)
 	ksm_write("sleep_millisecs", ++sleep_millisecs);
 	wait_for_ksmd();
 	ksm_write("pages_to_scan", 0);
+	trace_counters();
 }
 
 unsigned long ksm_start(void)
