@@ -1,16 +1,30 @@
-"""Writes scripts for measuring: pages on four nodes of 256 frames, the same script each time."""
+"""Writes scripts for measuring, the same script each time.
 
+A work is a generator: it lays its pages and yields, and yields again after each round. Where nothing else is said, its
+pages lie on four nodes of 256 frames.
+"""
+
+import itertools
 import random
 
+import collide
 import talk
 
 NODES = 4
 OPTIONS = ["--nodes", str(NODES), "--frames", "256"]
 PAGES = NODES * 256
+# The pages of the works with many of them, the pages of a guest there, and the guest behind all others.
+MANY = 100_000
+PER_GUEST = 100
+LAST_GUEST = 65_535
+# A small table, whose frames are scarce, with all the passes that there may be.
+SCARCE_FRAMES = 32
+SCARCE_OPTIONS = ["--nodes", str(NODES), "--frames", str(SCARCE_FRAMES), "--passes", "16"]
+ALL_PASSES = [*OPTIONS, "--passes", "16"]
 
 
 class Script:
-    """A script on its way to a file, whose lines and visits are counted.
+    """A script on its way to a file, whose lines, visits and rounds are counted.
 
     Its pages are numbered: number i is page i // 4 of guest i % 4, and is at home on node i % 4.
     """
@@ -20,28 +34,43 @@ class Script:
         self.pages = pages
         self.lines = 0
         self.visits = 0
+        self.rounds = 0
         self.numbers = random.Random(pages)
 
     def add(self, line):
         self.file.write(line + "\n")
         self.lines += 1
 
+    def name(self, number):
+        return f"{number % NODES} {number // NODES}"
+
     def register(self, number, content):
-        node = number % NODES
-        self.add(f"reg {node} {number // NODES} {node} {content:02x}")
+        self.add(f"reg {self.name(number)} {number % NODES} {content:02x}")
 
     def store(self, number, content):
-        self.add(f"put {number % NODES} {number // NODES} {content:02x}")
+        self.add(f"put {self.name(number)} {content:02x}")
 
     def store_words(self, number, words):
-        """Stores so many words at random, hardly two alike."""
-        self.add(f"put {number % NODES} {number // NODES} {self.numbers.getrandbits(64 * words):0{16 * words}x}")
+        """Stores words at random, hardly two pages alike."""
+        self.add(f"put {self.name(number)} {self.random_digits(words)}")
+
+    def random_digits(self, words):
+        return f"{self.numbers.getrandbits(64 * words):0{16 * words}x}"
 
     def read(self, number):
-        self.add(f"get {number % NODES} {number // NODES}")
+        self.add(f"get {self.name(number)}")
 
     def drop(self, number):
-        self.add(f"drop {number % NODES} {number // NODES}")
+        self.add(f"drop {self.name(number)}")
+
+    def begin(self, limit=None):
+        """Lets the scan run, and dups have so many items at most."""
+        if limit:
+            self.add(f"set max_page_sharing {limit}")
+        self.add("set run 1")
+
+    def one_pass(self):
+        self.scan(self.pages)
 
     def two_passes(self):
         self.scan(2 * self.pages)
@@ -56,6 +85,16 @@ class Script:
     def any_content(self):
         """One of sixteen."""
         return self.numbers.randrange(1, 17)
+
+
+def write(file, work, pages, is_enough):
+    """Writes the rounds of a work behind what it lays, until there is enough of it."""
+    script = Script(file, pages)
+    for _ in work(script):
+        if is_enough(script):
+            return script
+        script.rounds += 1
+    return script
 
 
 def write_round(script):
@@ -74,104 +113,323 @@ def write_rest(script):
     script.add("stat")
 
 
-def write_merging(file, pages, is_enough):
-    """Rounds of stores and passes until there is enough. Each content has a chain of two or three full dups."""
-    script = Script(file, pages)
-    script.add(f"set max_page_sharing {max(2, pages * 3 // 128)}")
-    script.add("set run 1")
-    for number in range(pages):
+def merging(script):
+    """Rounds of stores and passes. Each content has a chain of two or three full dups."""
+    script.begin(limit=max(2, script.pages * 3 // 128))
+    for number in range(script.pages):
         script.register(number, script.any_content())
     script.two_passes()
-    while not is_enough(script):
-        for _ in range(4 * PAGES // pages):
+    while True:
+        yield
+        for _ in range(4 * PAGES // script.pages):
             write_round(script)
         write_rest(script)
-    return script
 
 
-def write_settled(file, pages, is_enough):
+def settled(script):
     """Long scans in which nothing changes: of each eight pages seven are one dup, and one waits."""
-    script = Script(file, pages)
-    script.add("set run 1")
-    for number in range(pages):
+    script.begin()
+    for number in range(script.pages):
         script.register(number, number // 8 + (128 if number % 8 == 7 else 0))
     script.two_passes()
     script.add("stat")
-    while not is_enough(script):
+    while True:
+        yield
         script.scan(100_000)
-    return script
 
 
-def write_stores(file, pages, is_enough):
+def stores(script):
     """Stores and reads in equal parts, on pages of their own."""
-    script = Script(file, pages)
-    for number in range(pages):
+    for number in range(script.pages):
         script.register(number, number % 256)
-    while not is_enough(script):
+    while True:
+        yield
         script.store(script.any_page(), script.numbers.randrange(256))
         script.read(script.any_page())
-    return script
 
 
-def write_full_stores(file, pages, is_enough):
+def full_stores(script):
     """The same with every digit of a page written."""
-    script = Script(file, pages)
     words = talk.page_words()
-    for number in range(pages):
+    for number in range(script.pages):
         script.register(number, number % 256)
-    while not is_enough(script):
+    while True:
+        yield
         script.store_words(script.any_page(), words)
         script.read(script.any_page())
-    return script
 
 
-def write_counting(file, pages, is_enough):
+def counting(script):
     """Three lines of `stat` for each store, among pages merged in chains, and two passes now and then."""
-    script = Script(file, pages)
-    script.add("set max_page_sharing 4")
-    script.add("set run 1")
-    for number in range(pages):
+    script.begin(limit=4)
+    for number in range(script.pages):
         script.register(number, script.numbers.randrange(64))
     script.two_passes()
-    while not is_enough(script):
+    while True:
+        yield
         for _ in range(256):
             script.store(script.any_page(), script.numbers.randrange(64))
             for _ in range(3):
                 script.add("stat")
         script.two_passes()
         script.add("prune")
-    return script
 
 
-def write_lookups(file, pages, is_enough):
-    """Lookups of places that merged pages share, a few of them empty, each read and left."""
-    script = Script(file, pages)
-    script.add("set max_page_sharing 2")
-    script.add("set run 1")
-    for number in range(pages):
+def lay_shared_places(script):
+    """Merges the pages by four in pairs: as many dups as half the pages, at the first places."""
+    script.begin(limit=2)
+    for number in range(script.pages):
         script.register(number, number // 4)
     script.two_passes()
-    while not is_enough(script):
-        reader, place = script.numbers.randrange(2), script.numbers.randrange(pages * 17 // 32)
+
+
+def lookups(script):
+    """Lookups of places that merged pages share, a few of them empty, each read and left."""
+    lay_shared_places(script)
+    while True:
+        yield
+        reader, place = script.numbers.randrange(2), script.numbers.randrange(script.pages * 17 // 32)
         if script.numbers.randrange(5) == 0:
             script.add(f"equal {reader} {place} {script.numbers.randrange(256):02x}")
         else:
             script.add(f"find {reader} {place}")
         script.add(f"look {reader}")
         script.add(f"leave {reader}")
-    return script
 
 
-def write_broken_scans(file, pages, is_enough):
+def broken_scans(script):
     """Long scans, with a store to a merged page between: seven in eight pages merged in chains, one waiting."""
-    script = Script(file, pages)
-    script.add("set max_page_sharing 4")
-    script.add("set run 1")
-    for number in range(pages):
+    script.begin(limit=4)
+    for number in range(script.pages):
         script.register(number, 16 + number // 8 if number % 8 == 7 else script.numbers.randrange(4))
     script.two_passes()
-    while not is_enough(script):
+    while True:
+        yield
         script.scan(100_000)
-        number = 8 * script.numbers.randrange(pages // 8) + script.numbers.randrange(7)
+        number = 8 * script.numbers.randrange(script.pages // 8) + script.numbers.randrange(7)
         script.store(number, script.numbers.randrange(4))
-    return script
+
+
+def lay_unlike(script, contents):
+    """Registers pages with the contents, as many as there are pages, and lets all of them wait."""
+    script.begin()
+    for number, content in zip(range(script.pages), contents):
+        script.add(f"reg {script.name(number)} {number % NODES} {content}")
+    script.two_passes()
+
+
+def random_contents(script):
+    """Contents at random, hardly two alike."""
+    words = talk.page_words()
+    while True:
+        yield script.random_digits(words)
+
+
+def waiting(script):
+    """Pages that are all different and wait: a store of another content, and a pass."""
+    words = talk.page_words()
+    lay_unlike(script, random_contents(script))
+    while True:
+        yield
+        script.store_words(script.any_page(), words)
+        script.one_pass()
+
+
+def long_chain(script):
+    """One content in dups of two items each: sixteen stores of it, which copy the page, and a pass, which merges it again."""
+    script.begin(limit=2)
+    for number in range(script.pages):
+        script.register(number, 7)
+    script.two_passes()
+    while True:
+        yield
+        for _ in range(16):
+            script.store(script.any_page(), 7)
+        script.one_pass()
+
+
+def reads_of_all(script):
+    """Each page is read in turn, half of them merged."""
+    script.begin()
+    for number in range(script.pages):
+        script.add(f"reg {script.name(number)} {number % NODES} "
+                   + (f"{number // 8:02x}" if number % 2 else script.random_digits(talk.page_words())))
+    script.two_passes()
+    while True:
+        yield
+        for number in range(script.pages):
+            script.read(number)
+
+
+def tickets(script):
+    """At which place a page is merged, asked of pages by four in pairs."""
+    lay_shared_places(script)
+    while True:
+        yield
+        script.add(f"ticket {script.name(script.any_page())}")
+
+
+def empty_lines(script):
+    while True:
+        yield
+        script.add("")
+
+
+def mappers(script):
+    """Which pages are merged at a place: all, which left it and came back in no order."""
+    script.begin(limit=1024)
+    for number in range(script.pages):
+        script.register(number, 7)
+    script.two_passes()
+    for _ in range(script.pages):
+        script.store(script.any_page(), 7)
+        script.one_pass()
+    while True:
+        yield
+        script.add("rmap 0")
+
+
+def audits(script):
+    """Audits by all passes, a store between."""
+    lay_shared_places(script)
+    while True:
+        yield
+        script.add("audit")
+        script.store(script.any_page(), script.numbers.randrange(256))
+
+
+def nothing(script):
+    """No line at all."""
+    yield
+
+
+def many_name(number):
+    """The pages of works with many of them: number i is page i % 100 of guest i // 100."""
+    return f"{number // PER_GUEST} {number % PER_GUEST}"
+
+
+def register_many(script, number, content):
+    script.add(f"reg {many_name(number)} {number % NODES} {content:02x}")
+
+
+def lay_dups(script, contents):
+    """Merges a pair of each content in the first guests, with a page behind all others that has no equal. The scan is left
+    behind the pairs, so that a page registered there and visited at once joins a dup, as long as one of its content is open."""
+    script.begin(limit=1024)
+    script.add(f"reg {LAST_GUEST} 0 0 {script.random_digits(talk.page_words())}")
+    for content in range(contents):
+        for i in (0, 1):
+            register_many(script, 2 * content + i, content)
+    script.scan(2 * (2 * contents + 1) + 2 * contents)
+
+
+def mixed_contents(script, contents, count):
+    """So many contents, the first of them the most often (Zipf)."""
+    weights = list(itertools.accumulate(1 / (1 + i) for i in range(contents)))
+    return script.numbers.choices(range(contents), cum_weights=weights, k=count)
+
+
+def guests(script):
+    """A thousand guests come, a hundred pages each of 200 contents mixed by Zipf, with `scan 100` behind each guest; then a
+    store and `scan 100` in turn."""
+    contents = 200
+    lay_dups(script, contents)
+    for guest in range(2 * contents // PER_GUEST, MANY // PER_GUEST):
+        yield
+        for page, content in enumerate(mixed_contents(script, contents, PER_GUEST)):
+            register_many(script, guest * PER_GUEST + page, content)
+        script.scan(100)
+    while True:
+        yield
+        (content,) = mixed_contents(script, contents, 1)
+        script.add(f"put {many_name(script.numbers.randrange(MANY))} {content:02x}")
+        script.scan(100)
+
+
+def one_broken(script):
+    """Among 100,000 merged pages of 100 contents one is stored to, and a pass merges it again."""
+    contents = 100
+    lay_dups(script, contents)
+    for first in range(2 * contents, MANY, PER_GUEST):
+        for number in range(first, first + PER_GUEST):
+            register_many(script, number, number % contents)
+        script.scan(PER_GUEST)
+    script.scan(1 + 2 * (MANY + 1))
+    while True:
+        yield
+        script.add(f"put {many_name(script.numbers.randrange(MANY))} {script.numbers.randrange(contents):02x}")
+        script.scan(MANY + 1)
+
+
+def scarce(script):
+    """Few frames, and sixteen passes that each hold one through fifteen rounds: stores and moves, some of which find no frame
+    free, and a pass."""
+    script.begin()
+    numbers = script.numbers
+    for number in range(script.pages):
+        script.register(number, numbers.randrange(48))
+        if number % 16 == 15:
+            script.scan(2 * number)
+    for turn in itertools.count():
+        yield
+        script.add(f"leave {turn % 16}")
+        script.add(f"find {turn % 16} {numbers.randrange(48)}")
+        for _ in range(6):
+            script.store(script.any_page(), numbers.randrange(48))
+        script.add(f"move {script.name(script.any_page())} {numbers.randrange(NODES)}")
+        script.add(f"movedup {numbers.randrange(48)} {numbers.randrange(NODES)}")
+        script.one_pass()
+
+
+def journalled(script):
+    """Stores of one value to pages of their own, for what the journal takes."""
+    for number in range(script.pages):
+        script.register(number, number % 256)
+    while True:
+        yield
+        script.store(script.any_page(), script.numbers.randrange(256))
+
+
+def registered_and_read(script, names, contents):
+    """Stores and reads in equal parts on pages of these names, once two passes went over them."""
+    script.begin()
+    for number, (name, content) in enumerate(zip(names, contents)):
+        script.add(f"reg {name} {number % NODES} {content}")
+    script.two_passes()
+    while True:
+        yield
+        script.add(f"put {script.numbers.choice(names)} {script.numbers.randrange(256):02x}")
+        script.add(f"get {script.numbers.choice(names)}")
+
+
+def pages_at_random(script):
+    """Stores and reads of pages whose numbers are at random."""
+    names = [f"{script.numbers.getrandbits(16)} {script.numbers.getrandbits(32)}" for _ in range(script.pages)]
+    return registered_and_read(script, names, random_contents(script))
+
+
+def pages_that_collide(script):
+    """The same of pages that are looked for at one place of a map with the kit's hasher."""
+    names = [f"{guest} {page}" for guest, page in collide.pages(script.pages)]
+    return registered_and_read(script, names, random_contents(script))
+
+
+def passes_over(script, contents):
+    """Passes over pages of these contents, which wait; a store in each puts one of them again."""
+    lay_unlike(script, contents)
+    while True:
+        yield
+        number = script.any_page()
+        script.add(f"put {script.name(number)} {contents[number]}")
+        script.one_pass()
+
+
+def contents_at_random(script):
+    """Passes over pages that wait, with contents at random."""
+    contents = list(itertools.islice(random_contents(script), script.pages))
+    return passes_over(script, contents)
+
+
+def contents_that_collide(script):
+    """The same with contents of one hash."""
+    return passes_over(script, list(collide.contents(script.pages)))

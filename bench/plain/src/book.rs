@@ -1,16 +1,21 @@
-//! The book: its rows and dups, and the commands but for the scan.
+//! The book: its rows and dups, and the commands on one page or dup.
 
 use crate::command::{Answer, Command, Counters, Fault, Knobs, Reply};
-use crate::contents::Contents;
+use crate::contents::{Contents, Waiting};
 use crate::dups::Dups;
+use crate::journal::Journal;
 use crate::keeper::Keeper;
+use crate::order::Order;
 use crate::rows::{Page, Row, Rows, State};
 use crate::table::{PageBytes, ZERO_PAGE};
+use crate::unmerged::List;
 
 pub struct Book {
     pub keeper: Keeper,
     pub knobs: Knobs,
     pub(crate) rows: Rows,
+    pub(crate) order: Order,
+    pub(crate) unmerged: List,
     pub(crate) dups: Dups,
     pub(crate) contents: Contents,
     pub(crate) counters: Counters,
@@ -18,7 +23,7 @@ pub struct Book {
     /// One more whenever no row waits any longer.
     pub(crate) pass: u64,
     nodes: u32,
-    journal: Vec<(Command, Answer)>,
+    journal: Journal,
 }
 
 impl Book {
@@ -34,30 +39,30 @@ impl Book {
                 use_zero_pages: 0,
             },
             rows: Rows::default(),
+            order: Order::default(),
+            unmerged: List::default(),
             dups: Dups::open(places),
             contents: Contents::new(nodes),
             counters: Counters::default(),
             cursor: None,
             pass: 1,
             nodes,
-            journal: Vec::new(),
+            journal: Journal::default(),
         }
     }
 
     pub fn apply(&mut self, command: Command) -> Answer {
-        if self.journal.try_reserve(1).is_err() {
-            return Err(Fault::Memory);
-        }
-        let answer = self.answer(command);
-        self.journal.push((command, answer));
+        self.journal.reserve()?;
+        let answer = self.answer(&command);
+        self.journal.add(&command, answer);
         answer
     }
 
-    fn answer(&mut self, command: Command) -> Answer {
-        match command {
-            Command::Register(page, node, bytes) => self.register(page, node, &bytes),
+    fn answer(&mut self, command: &Command) -> Answer {
+        match *command {
+            Command::Register(page, node, ref bytes) => self.register(page, node, bytes),
             Command::Drop(page) => self.drop_page(page),
-            Command::Store(page, bytes) => self.store(page, &bytes),
+            Command::Store(page, ref bytes) => self.store(page, bytes),
             Command::Scan(visits) => self.scan(visits),
             Command::Prune => Ok(Reply::Pruned(self.prune())),
             Command::Unmerge(guest) => self.unmerge(guest),
@@ -75,7 +80,7 @@ impl Book {
     pub fn read(&self, page: Page) -> Result<PageBytes, Fault> {
         let slot = self.slot(page)?;
         let frame = match self.rows.at(slot).state {
-            State::Own { frame, .. } => frame,
+            State::Own { frame } => frame,
             State::Merged { place, .. } => self.dups.at(place).frame,
             State::Zero => return Ok(ZERO_PAGE),
         };
@@ -102,8 +107,13 @@ impl Book {
         &self.counters
     }
 
+    /// How many rows are mergeable.
+    pub fn mergeable(&self) -> u64 {
+        u64::from(self.order.mergeable())
+    }
+
     #[inline]
-    fn slot(&self, page: Page) -> Result<u32, Fault> {
+    pub(crate) fn slot(&self, page: Page) -> Result<u32, Fault> {
         self.rows.find(page).ok_or(Fault::UnknownPage)
     }
 
@@ -112,14 +122,14 @@ impl Book {
     }
 
     #[inline]
-    pub(crate) fn tree(&self, home: u32) -> u32 {
-        if self.knobs.merge_across_nodes == 1 { 0 } else { home }
+    pub(crate) fn tree(&self, home: u8) -> u32 {
+        if self.knobs.merge_across_nodes == 1 { 0 } else { u32::from(home) }
     }
 
     /// The bytes that the book knows a row to have.
-    fn known(&self, slot: u32) -> PageBytes {
+    pub(crate) fn known(&self, slot: u32) -> PageBytes {
         match self.rows.at(slot).state {
-            State::Own { frame, .. } => self.keeper.table.load(frame),
+            State::Own { frame } => self.keeper.table.load(frame),
             State::Merged { place, .. } => *self.contents.bytes(self.dups.at(place).content),
             State::Zero => ZERO_PAGE,
         }
@@ -127,17 +137,13 @@ impl Book {
 
     #[inline]
     pub(crate) fn stop_waiting(&mut self, slot: u32) {
-        let pass = self.pass;
-        let row = self.rows.at_mut(slot);
-        if let State::Own { waits_since, .. } = &mut row.state
-            && *waits_since == pass
-        {
-            *waits_since = 0;
+        let row = self.rows.at(slot);
+        let Some(content) = row.content else { return };
+        let tree = self.tree(row.home);
+        let waiting = &mut self.contents.group(content, tree).waiting;
+        if *waiting == (Waiting { slot, pass: self.pass }) {
+            *waiting = Waiting::default();
             self.counters.waiting -= 1;
-            if let Some(content) = row.content {
-                let tree = if self.knobs.merge_across_nodes == 1 { 0 } else { row.home };
-                self.contents.group(content, tree).waiting.1 = 0;
-            }
         }
     }
 
@@ -148,21 +154,28 @@ impl Book {
 
     /// The row gives back the frame that it has, if it has one, or leaves its dup.
     fn release(&mut self, slot: u32) {
-        self.stop_waiting(slot);
         match self.rows.at(slot).state {
-            State::Own { frame, .. } => self.keeper.sub(frame),
+            State::Own { frame } => {
+                self.stop_waiting(slot);
+                self.keeper.sub(frame);
+            }
             State::Merged { place, item } => self.leave_dup(place, item),
             State::Zero => self.counters.zero -= 1,
         }
     }
 
     /// The row gets a frame of its own on the node, which is its home then.
-    fn resettle(&mut self, slot: u32, node: u32, bytes: &PageBytes) -> Result<(), Fault> {
+    pub(crate) fn resettle(&mut self, slot: u32, node: u32, bytes: &PageBytes) -> Result<(), Fault> {
         let frame = self.keeper.take(node, bytes).ok_or(Fault::NoFrame)?;
         self.release(slot);
         let row = self.rows.at_mut(slot);
-        row.home = node;
-        row.state = State::Own { frame, waits_since: 0 };
+        let was_own = matches!(row.state, State::Own { .. });
+        row.home = node as u8;
+        row.state = State::Own { frame };
+        if !was_own {
+            let page = row.page;
+            self.unmerged.insert(page, slot);
+        }
         Ok(())
     }
 
@@ -179,15 +192,15 @@ impl Book {
             return Err(Fault::AlreadyRegistered);
         }
         let frame = self.keeper.take(node, bytes).ok_or(Fault::NoFrame)?;
-        self.rows.insert(Row {
+        let slot = self.rows.insert(Row {
             page,
-            state: State::Own { frame, waits_since: 0 },
+            state: State::Own { frame },
             content: None,
-            home: node,
-            mergeable: true,
+            home: node as u8,
             unchanged: false,
         });
-        self.counters.mergeable += 1;
+        self.order.insert(page);
+        self.unmerged.insert(page, slot);
         Ok(Reply::Done)
     }
 
@@ -195,8 +208,9 @@ impl Book {
         let slot = self.slot(page)?;
         self.release(slot);
         self.forget_content(slot);
-        self.counters.mergeable -= u64::from(self.rows.at(slot).mergeable);
         self.rows.remove(slot);
+        self.order.remove(page);
+        self.unmerged.remove(page);
         Ok(Reply::Done)
     }
 
@@ -205,8 +219,8 @@ impl Book {
         let is_same = self.known(slot) == *bytes;
         let Row { state, home, .. } = *self.rows.at(slot);
         match state {
-            State::Merged { .. } | State::Zero => self.resettle(slot, home, bytes)?,
-            State::Own { frame, .. } => {
+            State::Merged { .. } | State::Zero => self.resettle(slot, u32::from(home), bytes)?,
+            State::Own { frame } => {
                 self.stop_waiting(slot);
                 self.keeper.table.store(frame, bytes);
             }
@@ -221,134 +235,8 @@ impl Book {
     fn move_page(&mut self, page: Page, node: u32) -> Answer {
         self.check_node(node)?;
         let slot = self.slot(page)?;
-        if self.rows.at(slot).home != node {
+        if u32::from(self.rows.at(slot).home) != node {
             self.resettle(slot, node, &self.known(slot))?;
-        }
-        Ok(Reply::Done)
-    }
-
-    fn make_mergeable(&mut self, guest: u32) -> Answer {
-        let slots = self.rows.of_guest(guest);
-        for &slot in &slots {
-            self.counters.mergeable += u64::from(!self.rows.at(slot).mergeable);
-            self.rows.set_mergeable(slot, true);
-        }
-        if slots.is_empty() {
-            Err(Fault::UnknownPage)
-        } else {
-            Ok(Reply::Done)
-        }
-    }
-
-    /// A row leaves its dup, or the zero page, for a frame of its own; tells whether it had none.
-    fn unshare(&mut self, slot: u32) -> Result<bool, Fault> {
-        let Row { state, home, .. } = *self.rows.at(slot);
-        let is_shared = matches!(state, State::Merged { .. } | State::Zero);
-        if is_shared {
-            self.resettle(slot, home, &self.known(slot))?;
-        }
-        Ok(is_shared)
-    }
-
-    fn unmerge(&mut self, guest: u32) -> Answer {
-        let slots = self.rows.of_guest(guest);
-        if slots.is_empty() {
-            return Err(Fault::UnknownPage);
-        }
-        let mut pages = 0;
-        for slot in slots {
-            match self.unshare(slot) {
-                Ok(was_shared) => pages += u64::from(was_shared),
-                Err(fault) => return Ok(Reply::Unmerged(pages, Some(fault))),
-            }
-            self.stop_waiting(slot);
-            self.counters.mergeable -= u64::from(self.rows.at(slot).mergeable);
-            self.rows.set_mergeable(slot, false);
-            self.rows.at_mut(slot).unchanged = false;
-        }
-        Ok(Reply::Unmerged(pages, None))
-    }
-
-    fn set_run(&mut self, run: u32) -> Answer {
-        match run {
-            0 | 1 => {
-                self.knobs.run = run;
-                Ok(Reply::Done)
-            }
-            2 => Ok(self.unmerge_all()),
-            _ => Err(Fault::BadValue),
-        }
-    }
-
-    fn unmerge_all(&mut self) -> Reply {
-        let slots: Vec<u32> = self.rows.order.values().copied().collect();
-        let mut pages = 0;
-        for slot in slots {
-            match self.unshare(slot) {
-                Ok(false) => {}
-                Ok(true) => {
-                    self.rows.at_mut(slot).unchanged = false;
-                    pages += 1;
-                }
-                Err(fault) => {
-                    self.knobs.run = 0;
-                    return Reply::Unmerged(pages, Some(fault));
-                }
-            }
-        }
-        self.all_stop_waiting();
-        for row in self.rows.all_mut() {
-            row.unchanged = false;
-        }
-        self.cursor = None;
-        self.knobs.run = 2;
-        Reply::Unmerged(pages, None)
-    }
-
-    fn set_pages_to_scan(&mut self, pages: u32) -> Answer {
-        if !(1..=1_000_000).contains(&pages) {
-            return Err(Fault::BadValue);
-        }
-        self.knobs.pages_to_scan = pages;
-        Ok(Reply::Done)
-    }
-
-    fn set_zero_pages(&mut self, zero_pages: u32) -> Answer {
-        if zero_pages > 1 {
-            return Err(Fault::BadValue);
-        }
-        self.knobs.use_zero_pages = zero_pages;
-        Ok(Reply::Done)
-    }
-
-    /// A knob of sharing gets another value only while nothing is shared; stale dups go then.
-    fn begin_to_set(&mut self) -> Result<(), Fault> {
-        if self.counters.shared > 0 {
-            return Err(Fault::SharedPages);
-        }
-        self.prune();
-        Ok(())
-    }
-
-    fn set_across(&mut self, across: u32) -> Answer {
-        if across > 1 {
-            return Err(Fault::BadValue);
-        }
-        if across != self.knobs.merge_across_nodes {
-            self.begin_to_set()?;
-            self.all_stop_waiting();
-            self.knobs.merge_across_nodes = across;
-        }
-        Ok(Reply::Done)
-    }
-
-    fn set_limit(&mut self, limit: u32) -> Answer {
-        if !(2..=1_024).contains(&limit) {
-            return Err(Fault::BadValue);
-        }
-        if limit != self.knobs.max_page_sharing {
-            self.begin_to_set()?;
-            self.knobs.max_page_sharing = limit;
         }
         Ok(Reply::Done)
     }

@@ -51,8 +51,15 @@ pub struct Group {
     pub dups: u32,
     /// Those with an item and fewer than the limit, ascending.
     pub open: Vec<Open>,
-    /// The row that waited last, and the pass in which it came to wait.
-    pub waiting: (u32, u64),
+    pub waiting: Waiting,
+}
+
+/// The row that waited last in a group, by its slot. It waits as long as the pass goes on in which it came to wait: when another pass
+/// begins no row waits, and none is told so.
+#[derive(Clone, Copy, Default, PartialEq, Eq)]
+pub struct Waiting {
+    pub slot: u32,
+    pub pass: u64,
 }
 
 struct Content {

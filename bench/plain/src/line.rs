@@ -1,8 +1,14 @@
-//! Lines of the script language, as they are written.
+//! Lines of the script language, read where they lie.
 
 use crate::command::Command;
 use crate::rows::{Page, page};
 use crate::table::{PAGE_WORDS, PageBytes};
+
+/// The most bytes of a line. No line of the language has as many, so a longer one is found out as it is read.
+pub const LONGEST_LINE: usize = 256;
+
+/// The digits of a page.
+const PAGE_DIGITS: usize = 16 * PAGE_WORDS;
 
 pub enum Line {
     Command(Command),
@@ -29,69 +35,118 @@ pub enum Knob {
     UseZeroPages,
 }
 
-/// The line that the bytes write; none where they write none.
-pub fn parse(bytes: &[u8]) -> Option<Line> {
-    let mut words = Words(Some(bytes));
-    let line = match words.next()? {
-        b"reg" => Line::Command(Command::Register(words.page()?, words.number()?, words.content()?)),
-        b"drop" => Line::Command(Command::Drop(words.page()?)),
-        b"put" => Line::Command(Command::Store(words.page()?, words.content()?)),
-        b"get" => Line::Get(words.page()?),
-        b"ticket" => Line::Ticket(words.page()?),
-        b"rmap" => Line::Rmap(words.number()?),
-        b"scan" if words.0.is_none() => Line::ScanPages,
-        b"scan" => Line::Command(Command::Scan(u64::from(words.number()?))),
-        b"prune" => Line::Command(Command::Prune),
-        b"unmerge" => Line::Command(Command::Unmerge(words.guest()?)),
-        b"mergeable" => Line::Command(Command::Mergeable(words.guest()?)),
-        b"move" => Line::Command(Command::MovePage(words.page()?, words.number()?)),
-        b"movedup" => Line::Command(Command::MoveDup(words.number()?, words.number()?)),
-        b"set" => Line::Command(words.setting()?),
-        b"show" if words.0 == Some(b"ksm_zero_pages") => {
-            words.0 = None;
-            Line::ShowZeroPages
-        }
-        b"show" => Line::Show(words.knob()?),
-        b"stat" => Line::Stat,
-        b"find" => Line::Find(words.number()?, words.number()?),
-        b"equal" => Line::Equal(words.number()?, words.number()?, words.content()?),
-        b"look" => Line::Look(words.number()?),
-        b"leave" => Line::Leave(words.number()?),
-        b"audit" => Line::Audit,
-        _ => return None,
-    };
-    words.0.is_none().then_some(line)
+/// The line that a text begins with, and its length with the newline; none where it begins with none. The text has a newline, or more
+/// bytes than a line may have.
+#[inline]
+pub fn parse(text: &[u8]) -> Option<(Line, usize)> {
+    let mut words = Words { text, at: 4 };
+    let line = words.line(*text.first_chunk()?)?;
+    words.take(b"\n")?;
+    Some((line, words.at))
 }
 
-/// The words that are left.
-struct Words<'a>(Option<&'a [u8]>);
+/// The first four bytes of a line as one number.
+const fn head(bytes: &[u8; 4]) -> u32 {
+    u32::from_le_bytes(*bytes)
+}
 
-impl<'a> Words<'a> {
+const REG: u32 = head(b"reg ");
+const DROP: u32 = head(b"drop");
+const PUT: u32 = head(b"put ");
+const GET: u32 = head(b"get ");
+const TICKET: u32 = head(b"tick");
+const RMAP: u32 = head(b"rmap");
+const SCAN: u32 = head(b"scan");
+const PRUNE: u32 = head(b"prun");
+const UNMERGE: u32 = head(b"unme");
+const MERGEABLE: u32 = head(b"merg");
+const MOVE: u32 = head(b"move");
+const SET: u32 = head(b"set ");
+const SHOW: u32 = head(b"show");
+const STAT: u32 = head(b"stat");
+const FIND: u32 = head(b"find");
+const EQUAL: u32 = head(b"equa");
+const LOOK: u32 = head(b"look");
+const LEAVE: u32 = head(b"leav");
+const AUDIT: u32 = head(b"audi");
+
+/// A text, and how far it is read.
+struct Words<'a> {
+    text: &'a [u8],
+    at: usize,
+}
+
+impl Words<'_> {
+    /// The line that begins with these bytes, the newline left.
     #[inline]
-    fn next(&mut self) -> Option<&'a [u8]> {
-        let left = self.0?;
-        match left.iter().position(|&byte| byte == b' ') {
-            None => self.0.take(),
-            Some(end) => {
-                self.0 = Some(&left[end + 1..]);
-                Some(&left[..end])
-            }
-        }
+    fn line(&mut self, first: [u8; 4]) -> Option<Line> {
+        Some(match head(&first) {
+            PUT => Line::Command(Command::Store(self.page()?, self.content()?)),
+            GET => Line::Get(self.page()?),
+            STAT => Line::Stat,
+            FIND => self.behind(b" ", |words| Some(Line::Find(words.number()?, words.next_number()?)))?,
+            LOOK => self.behind(b" ", |words| Some(Line::Look(words.number()?)))?,
+            LEAVE => self.behind(b"e ", |words| Some(Line::Leave(words.number()?)))?,
+            TICKET => self.behind(b"et ", |words| Some(Line::Ticket(words.page()?)))?,
+            REG => Line::Command(Command::Register(self.page()?, self.next_number()?, self.content()?)),
+            DROP => self.behind(b" ", |words| Some(Line::Command(Command::Drop(words.page()?))))?,
+            SCAN if self.take(b" ").is_none() => Line::ScanPages,
+            SCAN => Line::Command(Command::Scan(u64::from(self.number()?))),
+            EQUAL => self.behind(b"l ", Words::equal)?,
+            RMAP => self.behind(b" ", |words| Some(Line::Rmap(words.number()?)))?,
+            SET => Line::Command(self.setting()?),
+            MOVE => Line::Command(self.moving()?),
+            SHOW => self.behind(b" ", Words::shown)?,
+            PRUNE => self.behind(b"e", |_| Some(Line::Command(Command::Prune)))?,
+            UNMERGE => self.behind(b"rge ", |words| Some(Line::Command(Command::Unmerge(words.guest()?))))?,
+            MERGEABLE => self.behind(b"eable ", |words| Some(Line::Command(Command::Mergeable(words.guest()?))))?,
+            AUDIT => self.behind(b"t", |_| Some(Line::Audit))?,
+            _ => return None,
+        })
+    }
+
+    /// Reads the rest of a name, and what follows it.
+    #[inline]
+    fn behind(&mut self, rest: &[u8], then: impl FnOnce(&mut Self) -> Option<Line>) -> Option<Line> {
+        self.take(rest)?;
+        then(self)
     }
 
     #[inline]
-    fn number(&mut self) -> Option<u32> {
-        let word = self.next()?;
-        if word.is_empty() || (word.len() > 1 && word[0] == b'0') {
+    fn take(&mut self, bytes: &[u8]) -> Option<()> {
+        let is_there = self.text[self.at..].starts_with(bytes);
+        is_there.then(|| self.at += bytes.len())
+    }
+
+    #[inline]
+    fn digit(&mut self) -> Option<u64> {
+        let digit = self.text.get(self.at)?.wrapping_sub(b'0');
+        if digit > 9 {
             return None;
         }
-        word.iter().try_fold(0_u32, |number, byte| {
-            let digit = byte.wrapping_sub(b'0');
-            if digit > 9 {
-                return None;
+        self.at += 1;
+        Some(u64::from(digit))
+    }
+
+    /// A decimal. What follows a zero is left, and is a digit in no line.
+    #[inline]
+    fn number(&mut self) -> Option<u32> {
+        let mut number = self.digit()?;
+        if number > 0 {
+            while let Some(digit) = self.digit() {
+                number = 10 * number + digit;
+                if number > u64::from(u32::MAX) {
+                    return None;
+                }
             }
-            number.checked_mul(10)?.checked_add(u32::from(digit))
-        })
+        }
+        Some(number as u32)
+    }
+
+    #[inline]
+    fn next_number(&mut self) -> Option<u32> {
+        self.take(b" ")?;
+        self.number()
     }
 
     #[inline]
@@ -101,43 +156,56 @@ impl<'a> Words<'a> {
 
     #[inline]
     fn page(&mut self) -> Option<Page> {
-        Some(page(self.guest()?, self.number()?))
+        Some(page(self.guest()?, self.next_number()?))
     }
 
+    /// A space, and a content as the last word of its line.
     #[inline]
     fn content(&mut self) -> Option<PageBytes> {
-        let word = self.next()?;
-        if word.len() == 2 {
-            let byte = byte_of(word)?;
-            return Some([u64::from_le_bytes([byte; 8]); PAGE_WORDS]);
+        self.take(b" ")?;
+        let left = &self.text[self.at..];
+        if let &[high, low, b'\n', ..] = left {
+            self.at += 2;
+            let byte = value_of(high) << 4 | value_of(low);
+            let is_well = value_of(high).max(value_of(low)) < 16;
+            return is_well.then_some([u64::from_le_bytes([byte; 8]); PAGE_WORDS]);
         }
-        if word.len() != 16 * PAGE_WORDS {
-            return None;
+        self.at += PAGE_DIGITS;
+        bytes_of(left.first_chunk()?)
+    }
+
+    fn equal(&mut self) -> Option<Line> {
+        Some(Line::Equal(self.number()?, self.next_number()?, self.content()?))
+    }
+
+    fn moving(&mut self) -> Option<Command> {
+        if self.take(b"dup ").is_some() {
+            return Some(Command::MoveDup(self.number()?, self.next_number()?));
         }
-        let mut content = [0; PAGE_WORDS];
-        for (value, digits) in content.iter_mut().zip(word.chunks_exact(16)) {
-            let mut bytes = [0; 8];
-            for (byte, pair) in bytes.iter_mut().zip(digits.chunks_exact(2)) {
-                *byte = byte_of(pair)?;
-            }
-            *value = u64::from_le_bytes(bytes);
+        self.take(b" ")?;
+        Some(Command::MovePage(self.page()?, self.next_number()?))
+    }
+
+    fn shown(&mut self) -> Option<Line> {
+        match self.take(b"ksm_zero_pages") {
+            Some(()) => Some(Line::ShowZeroPages),
+            None => Some(Line::Show(self.knob()?)),
         }
-        Some(content)
     }
 
     fn knob(&mut self) -> Option<Knob> {
-        match self.next()? {
-            b"run" => Some(Knob::Run),
-            b"pages_to_scan" => Some(Knob::PagesToScan),
-            b"merge_across_nodes" => Some(Knob::MergeAcrossNodes),
-            b"max_page_sharing" => Some(Knob::MaxPageSharing),
-            b"use_zero_pages" => Some(Knob::UseZeroPages),
-            _ => None,
-        }
+        const NAMES: [(&[u8], Knob); 5] = [
+            (b"run", Knob::Run),
+            (b"pages_to_scan", Knob::PagesToScan),
+            (b"merge_across_nodes", Knob::MergeAcrossNodes),
+            (b"max_page_sharing", Knob::MaxPageSharing),
+            (b"use_zero_pages", Knob::UseZeroPages),
+        ];
+        NAMES.into_iter().find(|(name, _)| self.take(name).is_some()).map(|(_, knob)| knob)
     }
 
     fn setting(&mut self) -> Option<Command> {
-        let (knob, value) = (self.knob()?, self.number()?);
+        let (knob, value) = (self.knob()?, self.next_number()?);
         Some(match knob {
             Knob::Run => Command::SetRun(value),
             Knob::PagesToScan => Command::SetPagesToScan(value),
@@ -148,22 +216,33 @@ impl<'a> Words<'a> {
     }
 }
 
-const NO_DIGIT: u8 = u8::MAX;
-
-/// What each byte is worth as a hexadecimal digit.
-const DIGITS: [u8; 256] = {
-    let mut digits = [NO_DIGIT; 256];
-    let mut worth = 0;
-    while worth < 16 {
-        digits[b"0123456789abcdef"[worth] as usize] = worth as u8;
-        digits[b"0123456789ABCDEF"[worth] as usize] = worth as u8;
-        worth += 1;
-    }
-    digits
-};
-
+/// What a byte is worth as a hexadecimal digit, or more than sixteen.
 #[inline]
-fn byte_of(pair: &[u8]) -> Option<u8> {
-    let (high, low) = (DIGITS[pair[0] as usize], DIGITS[pair[1] as usize]);
-    (high != NO_DIGIT && low != NO_DIGIT).then_some(high << 4 | low)
+fn value_of(digit: u8) -> u8 {
+    const SMALL: u8 = b'a' ^ b'A';
+    let number = digit.wrapping_sub(b'0');
+    let letter = (digit | SMALL).wrapping_sub(b'a');
+    if number < 10 {
+        number
+    } else if letter < 6 {
+        letter + 10
+    } else {
+        u8::MAX
+    }
+}
+
+/// The page that the digits write. No digit is a branch, so many are read at once.
+#[inline]
+fn bytes_of(digits: &[u8; PAGE_DIGITS]) -> Option<PageBytes> {
+    let values = digits.map(value_of);
+    if values.iter().fold(0, |most, &value| most.max(value)) > 15 {
+        return None;
+    }
+    let mut bytes = [0; PAGE_DIGITS / 2];
+    for (byte, pair) in bytes.iter_mut().zip(values.as_chunks().0) {
+        let pair = u16::from_le_bytes(*pair);
+        *byte = (pair << 4 | pair >> 8) as u8;
+    }
+    let mut words = bytes.as_chunks().0.iter().map(|word| u64::from_le_bytes(*word));
+    Some(std::array::from_fn(|_| words.next().unwrap_or_default()))
 }

@@ -1,6 +1,4 @@
-//! The rows in slots, found by their page, and in the order of their pages.
-
-use std::collections::BTreeMap;
+//! The rows in slots, found by their page.
 
 use crate::contents::Map;
 
@@ -9,8 +7,8 @@ pub type Page = u64;
 
 #[derive(Clone, Copy, PartialEq, Eq)]
 pub enum State {
-    /// On this frame of its own. It waits where it came to wait in the present pass.
-    Own { frame: u32, waits_since: u64 },
+    /// On this frame of its own. It waits where its group says so.
+    Own { frame: u32 },
     /// The item with this index of the dup at the place.
     Merged { place: u32, item: u32 },
     /// On the zero page, with no frame.
@@ -22,8 +20,7 @@ pub struct Row {
     pub state: State,
     /// The number of its bytes, where a visit asked for it since the last store.
     pub content: Option<u32>,
-    pub home: u32,
-    pub mergeable: bool,
+    pub home: u8,
     pub unchanged: bool,
 }
 
@@ -32,8 +29,6 @@ pub struct Rows {
     slots: Vec<Row>,
     unused: Vec<u32>,
     by_page: Map<Page, u32>,
-    pub order: BTreeMap<Page, u32>,
-    pub mergeable: BTreeMap<Page, u32>,
 }
 
 impl Rows {
@@ -56,13 +51,8 @@ impl Rows {
         self.slots.iter_mut()
     }
 
-    /// The slots of a guest's rows, in order.
-    pub fn of_guest(&self, guest: u32) -> Vec<u32> {
-        let first = page(guest, 0);
-        self.order.range(first..=page(guest, u32::MAX)).map(|(_, &slot)| slot).collect()
-    }
-
-    pub fn insert(&mut self, row: Row) {
+    /// Adds a row; tells its slot.
+    pub fn insert(&mut self, row: Row) -> u32 {
         let page = row.page;
         let slot = match self.unused.pop() {
             Some(slot) => {
@@ -75,34 +65,16 @@ impl Rows {
             }
         };
         self.by_page.insert(page, slot);
-        self.order.insert(page, slot);
-        self.mergeable.insert(page, slot);
+        slot
     }
 
     pub fn remove(&mut self, slot: u32) {
-        let Row { page, mergeable, .. } = self.slots[slot as usize];
-        self.by_page.remove(&page);
-        self.order.remove(&page);
-        if mergeable {
-            self.mergeable.remove(&page);
-        }
+        self.by_page.remove(&self.slots[slot as usize].page);
         self.unused.push(slot);
-    }
-
-    pub fn set_mergeable(&mut self, slot: u32, mergeable: bool) {
-        let row = &mut self.slots[slot as usize];
-        if row.mergeable == mergeable {
-            return;
-        }
-        row.mergeable = mergeable;
-        if mergeable {
-            self.mergeable.insert(row.page, slot);
-        } else {
-            self.mergeable.remove(&row.page);
-        }
     }
 }
 
+#[inline]
 pub fn page(guest: u32, page: u32) -> Page {
     u64::from(guest) << 32 | u64::from(page)
 }

@@ -7,16 +7,14 @@ use std::thread;
 
 use crate::book::Book;
 use crate::command::{Answer, Command, Counters, Fault, Reply};
-use crate::line::{Knob, Line, parse};
-use crate::table::{Found, Hold, PAGE_WORDS, PageBytes, Table, Why};
+use crate::line::{Knob, Line};
+use crate::table::{Found, Hold, PageBytes, Table, Why};
+use crate::text::{write_content, write_number};
 
 pub struct Session {
     book: Book,
     holds: Vec<Option<Hold>>,
 }
-
-/// A bad line.
-pub struct Bad;
 
 impl Session {
     pub fn open(book: Book, passes: u32) -> Session {
@@ -26,13 +24,13 @@ impl Session {
         }
     }
 
-    /// Does what a line says, and writes its reply without the newline.
-    pub fn answer(&mut self, line: &[u8], text: &mut Vec<u8>) -> Result<(), Bad> {
-        let line = parse(line).ok_or(Bad)?;
+    /// Does what a line says, and writes its reply.
+    #[inline]
+    pub fn answer(&mut self, line: Line, text: &mut Vec<u8>) {
         if let Err(fault) = self.write_reply(line, text) {
             write_refusal(text, fault);
         }
-        Ok(())
+        text.push(b'\n');
     }
 
     fn write_reply(&mut self, line: Line, text: &mut Vec<u8>) -> Result<(), Fault> {
@@ -50,7 +48,7 @@ impl Session {
             Line::Rmap(place) => self.write_mappers(text, place)?,
             Line::Show(knob) => self.write_knob(text, knob),
             Line::ShowZeroPages => write_number(text, b"", self.book.counters().zero),
-            Line::Stat => write_counters(text, self.book.counters()),
+            Line::Stat => write_counters(text, self.book.counters(), self.book.mergeable()),
             Line::Find(pass, place) => self.find(text, pass, place, None)?,
             Line::Equal(pass, place, content) => self.find(text, pass, place, Some(content))?,
             Line::Look(pass) => {
@@ -203,50 +201,12 @@ fn write_refusal(text: &mut Vec<u8>, fault: Fault) {
     write_number(text, b"refused ", fault as u32);
 }
 
-fn write_counters(text: &mut Vec<u8>, counters: &Counters) {
+fn write_counters(text: &mut Vec<u8>, counters: &Counters, mergeable: u64) {
     write_number(text, b"stat shared=", counters.shared);
     write_number(text, b" sharing=", counters.merged - counters.shared);
     write_number(text, b" unshared=", counters.waiting);
-    write_number(text, b" volatile=", counters.mergeable - counters.merged - counters.waiting - counters.zero);
+    write_number(text, b" volatile=", mergeable - counters.merged - counters.waiting - counters.zero);
     write_number(text, b" chains=", counters.chains);
     write_number(text, b" dups=", counters.dups);
     write_number(text, b" full_scans=", counters.full_scans);
-}
-
-/// Writes a name and a number behind it.
-pub fn write_number(text: &mut Vec<u8>, name: &[u8], number: impl Into<u64>) {
-    const MOST: usize = 20;
-    let mut digits = [0; MOST];
-    let (mut start, mut left) = (MOST, number.into());
-    loop {
-        start -= 1;
-        digits[start] = b'0' + (left % 10) as u8;
-        left /= 10;
-        if left == 0 {
-            break;
-        }
-    }
-    text.extend_from_slice(name);
-    text.extend_from_slice(&digits[start..]);
-}
-
-/// The two digits of each byte.
-const PAIRS: [[u8; 2]; 256] = {
-    let digits = b"0123456789abcdef";
-    let mut pairs = [[0; 2]; 256];
-    let mut byte = 0;
-    while byte < 256 {
-        pairs[byte] = [digits[byte / 16], digits[byte % 16]];
-        byte += 1;
-    }
-    pairs
-};
-
-fn write_content(text: &mut Vec<u8>, content: &PageBytes) {
-    let mut digits = [0; 16 * PAGE_WORDS];
-    let bytes = content.iter().flat_map(|word| word.to_le_bytes());
-    for (pair, byte) in digits.chunks_exact_mut(2).zip(bytes) {
-        pair.copy_from_slice(&PAIRS[byte as usize]);
-    }
-    text.extend_from_slice(&digits);
 }
