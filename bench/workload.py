@@ -330,8 +330,8 @@ def mixed_contents(script, contents, count):
 
 
 def guests(script):
-    """A thousand guests come, a hundred pages each of 200 contents mixed by Zipf, with `scan 100` behind each guest; then a
-    store and `scan 100` in turn."""
+    """A thousand guests come, a hundred pages each of 200 contents mixed by Zipf, with `scan 100` behind each guest and two passes
+    behind twenty, as dups fill up; then a store and `scan 100` in turn."""
     contents = 200
     lay_dups(script, contents)
     for guest in range(2 * contents // PER_GUEST, MANY // PER_GUEST):
@@ -339,6 +339,8 @@ def guests(script):
         for page, content in enumerate(mixed_contents(script, contents, PER_GUEST)):
             register_many(script, guest * PER_GUEST + page, content)
         script.scan(100)
+        if guest % 20 == 19:
+            script.scan(2 * ((guest + 1) * PER_GUEST + 1))
     while True:
         yield
         (content,) = mixed_contents(script, contents, 1)
@@ -364,25 +366,27 @@ def one_broken(script):
 def scarce(script):
     """Few frames, and sixteen passes that each hold one through fifteen rounds: stores and moves, some of which find no frame
     free, and a pass."""
+    contents = 96
     script.begin()
     numbers = script.numbers
     for number in range(script.pages):
-        script.register(number, numbers.randrange(48))
-        if number % 16 == 15:
-            script.scan(2 * number)
+        script.register(number, number % contents)
+        if number % 8 == 7:
+            script.scan(2 * (number + 1))
     for turn in itertools.count():
         yield
-        script.add(f"leave {turn % 16}")
-        script.add(f"find {turn % 16} {numbers.randrange(48)}")
-        for _ in range(6):
-            script.store(script.any_page(), numbers.randrange(48))
+        reader, place = turn % 16, numbers.randrange(contents)
+        script.add(f"leave {reader}")
+        script.add(f"find {reader} {place}")
+        for _ in range(12):
+            script.store(script.any_page(), numbers.randrange(contents))
         script.add(f"move {script.name(script.any_page())} {numbers.randrange(NODES)}")
-        script.add(f"movedup {numbers.randrange(48)} {numbers.randrange(NODES)}")
+        script.add(f"movedup {numbers.randrange(contents)} {numbers.randrange(NODES)}")
         script.one_pass()
 
 
-def journalled(script):
-    """Stores of one value to pages of their own, for what the journal takes."""
+def stores_alone(script):
+    """Stores of one value, on pages of their own."""
     for number in range(script.pages):
         script.register(number, number % 256)
     while True:
@@ -403,14 +407,14 @@ def registered_and_read(script, names, contents):
 
 
 def pages_at_random(script):
-    """Stores and reads of pages whose numbers are at random."""
-    names = [f"{script.numbers.getrandbits(16)} {script.numbers.getrandbits(32)}" for _ in range(script.pages)]
+    """Stores and reads of pages of one guest whose numbers are at random."""
+    names = [f"0 {page}" for page in script.numbers.sample(range(collide.PAGES), script.pages)]
     return registered_and_read(script, names, random_contents(script))
 
 
 def pages_that_collide(script):
     """The same of pages that are looked for at one place of a map with the kit's hasher."""
-    names = [f"{guest} {page}" for guest, page in collide.pages(script.pages)]
+    names = [f"0 {page}" for page in collide.pages(script.pages)]
     return registered_and_read(script, names, random_contents(script))
 
 

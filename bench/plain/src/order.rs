@@ -36,6 +36,16 @@ pub struct Order {
     counts: Vec<u32>,
     mergeable: u32,
     version: u64,
+    last: Last,
+}
+
+/// The run that was looked into last, with how many pages of the runs before it are mergeable, as of a version: the next page that is
+/// asked for is often in the same run.
+#[derive(Clone, Copy, Default)]
+struct Last {
+    version: u64,
+    run: usize,
+    before: u32,
 }
 
 impl Order {
@@ -45,7 +55,7 @@ impl Order {
         self.mergeable
     }
 
-    /// It changes with what `up_to` and `nth` tell, and is 0 only while there was no page.
+    /// It changes with the pages and with which of them are mergeable, and is 0 only where there never was one.
     #[inline]
     pub fn version(&self) -> u64 {
         self.version
@@ -59,44 +69,42 @@ impl Order {
 
     /// Adds a mergeable page.
     pub fn insert(&mut self, page: Page) {
-        if self.runs.is_empty() {
-            self.add_run(0, Vec::new(), page);
-        }
         let mut run = self.run_of(page);
-        let mut at = self.runs[run].partition_point(|entry| entry.page() < page);
-        if self.runs[run].len() == LONGEST_RUN {
-            let is_last = at == LONGEST_RUN;
-            self.cut(run, if is_last { LONGEST_RUN } else { LONGEST_RUN / 2 }, page);
-            if at > self.runs[run].len() || is_last {
-                at -= self.runs[run].len();
-                run += 1;
-            }
+        if self.runs.get(run).is_none_or(|entries| entries.len() == LONGEST_RUN) {
+            self.make_room(run, page);
+            run = self.run_of(page);
         }
+        let at = self.runs[run].partition_point(|entry| entry.page() < page);
         self.runs[run].insert(at, Entry::new(page, true));
         self.firsts[run] = self.runs[run][0].page();
         self.count(run, true);
     }
 
-    fn add_run(&mut self, run: usize, entries: Vec<Entry>, page: Page) {
-        let first = entries.first().map_or(page, |entry| entry.page());
+    /// Cuts a full run in two, or makes an empty one for the page where there is none, or where the page comes behind the full one.
+    fn make_room(&mut self, run: usize, page: Page) {
+        let Some(entries) = self.runs.get_mut(run) else {
+            return self.add_run(run, page, Vec::new());
+        };
+        if entries.last().is_some_and(|last| last.page() < page) {
+            return self.add_run(run + 1, page, Vec::new());
+        }
+        let behind = entries.split_off(LONGEST_RUN / 2);
+        self.add_run(run + 1, behind[0].page(), behind);
+        self.counts[run] -= self.counts[run + 1];
+    }
+
+    fn add_run(&mut self, run: usize, first: Page, entries: Vec<Entry>) {
         self.firsts.insert(run, first);
         self.counts.insert(run, mergeable_of(&entries));
         self.runs.insert(run, entries);
     }
 
-    /// Makes a run of its own of what is behind the first so many pages, or an empty one for the page.
-    fn cut(&mut self, run: usize, length: usize, page: Page) {
-        let behind = self.runs[run].split_off(length);
-        self.add_run(run + 1, behind, page);
-        self.counts[run] -= self.counts[run + 1];
-    }
-
     pub fn remove(&mut self, page: Page) {
+        self.mark(page, false);
         let run = self.run_of(page);
         let at = self.runs[run].partition_point(|entry| entry.page() < page);
-        if self.runs[run].remove(at).is_mergeable() {
-            self.count(run, false);
-        }
+        self.runs[run].remove(at);
+        self.version += 1;
         match self.runs[run].first() {
             Some(first) => self.firsts[run] = first.page(),
             None => {
@@ -132,20 +140,31 @@ impl Order {
     }
 
     /// How many pages up to this one are mergeable, itself included.
-    pub fn up_to(&self, page: Page) -> u32 {
+    pub fn up_to(&mut self, page: Page) -> u32 {
         if self.runs.is_empty() {
             return 0;
         }
-        let run = self.run_of(page);
+        let Last { run, before, .. } = self.look_into(page);
         let entries = &self.runs[run];
         let at = entries.partition_point(|entry| entry.page() <= page);
-        let within = if self.counts[run] as usize == entries.len() {
-            at as u32
-        } else {
-            mergeable_of(&entries[..at])
-        };
-        let before: u32 = self.counts[..run].iter().sum();
-        before + within
+        let is_whole = self.counts[run] as usize == entries.len();
+        before + if is_whole { at as u32 } else { mergeable_of(&entries[..at]) }
+    }
+
+    /// Finds the run of a page.
+    #[inline]
+    fn look_into(&mut self, page: Page) -> Last {
+        let Last { version, run, .. } = self.last;
+        let is_there = version == self.version && self.firsts[run] <= page && self.firsts.get(run + 1).is_none_or(|&next| page < next);
+        if !is_there {
+            let run = self.run_of(page);
+            self.last = Last {
+                version: self.version,
+                run,
+                before: self.counts[..run].iter().sum(),
+            };
+        }
+        self.last
     }
 
     /// The mergeable page up to which there are so many, which are no more than there are, and one at least.

@@ -58,7 +58,7 @@ impl Book {
         let mut list = mem::take(&mut self.unmerged);
         let (mut kept, mut next, mut is_quiet) = (first, first, true);
         while let Some(row) = list.0.get_mut(next)
-            && row.up_to(&self.order) <= end
+            && row.up_to(&mut self.order) <= end
         {
             let slot = row.slot;
             let visit = self.visit(slot);

@@ -16,7 +16,7 @@ pub struct Unmerged {
 impl Unmerged {
     /// How many pages up to this one are mergeable.
     #[inline]
-    pub fn up_to(&mut self, order: &Order) -> u32 {
+    pub fn up_to(&mut self, order: &mut Order) -> u32 {
         if self.version != order.version() {
             self.version = order.version();
             self.up_to = order.up_to(self.page);
