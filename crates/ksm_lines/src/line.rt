@@ -14,7 +14,7 @@ use ksm_base::{GuestPage, PageBytes};
 use thiserror::Error;
 
 /// A line of a script, one variant for each form (own).
-#[derive(Clone, Copy, Debug, PartialEq, Eq)]
+#[derive(Clone, Copy)]
 pub enum Line {
     /// No bytes: nothing is done, and there is no reply.
     Empty,

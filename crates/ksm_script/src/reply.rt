@@ -16,7 +16,7 @@ use ksm_base::{Counters, Fault, GuestPage, PageBytes};
 use std::io::Write;
 
 /// A reply line, one variant for each form (own).
-#[derive(Debug, Drop)]
+#[derive(Drop)]
 pub enum LineReply {
     /// `ok`
     Done,

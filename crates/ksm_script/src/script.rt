@@ -22,8 +22,8 @@ use thiserror::Error;
 /// Why a run broke off.
 #[derive(Clone, Copy, Debug, PartialEq, Eq, Error)]
 pub enum RunFault {
-    /// The reader failed.
-    #[error("the input cannot be read")]
+    /// The reader failed; in [`run_buffered`] also the sending of replies before the reader waits for more input.
+    #[error("the input cannot be read, or the replies before it cannot be sent")]
     Read,
     /// The writer failed, or took no byte.
     #[error("the output cannot be written")]
@@ -35,7 +35,7 @@ pub enum RunFault {
 pub enum End {
     /// All lines were read and answered.
     AllRead,
-    /// The line of this number is bad, and nothing behind it was read.
+    /// The line of this number is bad, and no line behind it was answered. A buffered reader may have read ahead.
     BadLine(u64),
 }
 

@@ -181,6 +181,12 @@ fn first_rows(rt: HostRuntime) -> Result<(), Fail> {
             ..ROW
         },
         Row {
+            name: "greatest_guest_and_page",
+            input: "reg 65535 4294967295 0 aa\nget 65535 4294967295\nreg 65535 4294967295 0 aa\n",
+            output: "ok\n[aa]\nrefused 3\n",
+            ..ROW
+        },
+        Row {
             name: "bad_line_without_newline",
             input: "reg 0 0 0 aa\nput 0 0 b",
             output: "ok\nbad line 2\n",
