@@ -1,3 +1,5 @@
+//! The commands of the book. Each is one step of the definitions (`specs/Apply.antt`), and one entry of the journal.
+
 use crate::page::{GuestPage, PageBytes};
 
 /// What can be asked of the book. Each names its refusals in the order in which they are tested; `Memory` may come in place of

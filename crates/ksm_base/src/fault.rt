@@ -1,3 +1,5 @@
+//! Why a command is refused. Each fault has the number that the script language writes.
+
 ghost use Rattle.std.specs.Prelude.{◌≡◌};
 ghost use Rattle.ksm_base.specs.Values.{fault_number};
 

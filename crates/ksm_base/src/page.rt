@@ -1,3 +1,5 @@
+//! Pages: how one is named, and what it reads. `PAGE_WORDS` is the one place that says how large a page is.
+
 use std::hash::{Hash, Hasher};
 
 /// How many 64-bit words a page has: 8, so a page is 64 bytes (own; a page of the machine has 4,096).

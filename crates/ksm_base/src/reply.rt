@@ -1,3 +1,6 @@
+//! What a command is answered: done, how many, and where it stopped. A reply that tells a stop lets the state after a
+//! command be a function of state, command and answer.
+
 use crate::fault::Fault;
 
 /// What a command did (own).

@@ -1,3 +1,6 @@
+//! A row: what the book knows of a page. How a page is mapped is one field of four cases, so no two flags can
+//! disagree; which pages a dup has is read off the rows, so no list of items can disagree either.
+
 use crate::page::{GuestPage, PageBytes};
 
 /// Whether a page is mapped from a frame of its own, from one that it shares (mm/ksm), or from the zero page (admin-guide/mm/ksm,

@@ -1,3 +1,5 @@
+//! The sizes of a table. They are tested once, by `Shape::check`; every other call has that as its condition.
+
 ghost use Rattle.std.specs.Prelude.{◌≡◌, ◌≤◌, ◌↔◌, IsTrue};
 ghost use Rattle.ksm_base.specs.Values.{IsShape, frames_of};
 
