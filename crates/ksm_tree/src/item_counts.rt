@@ -62,7 +62,7 @@ impl Counts {
     pub fn set_limit(&mut self, limit: u32)
         ensures { self.new ≡ self.old }
     {
-        if are_none(self.each.as_slice()) {
+        if limit != self.limit && are_none(self.each.as_slice()) {
             self.limit = limit;
         }
     }
