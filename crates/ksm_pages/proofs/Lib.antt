@@ -1,6 +1,7 @@
 pub mod RowLists
 pub mod RowWalks
 pub mod Paging
+pub mod InTurn
 pub mod PagePlaces
 pub mod GuestWalks
 pub mod Ranks

@@ -18,7 +18,7 @@ ghost use Rattle.std.specs.BTreeMap.Range.{entries_between};
 ghost use Rattle.std.specs.declared.ops.Bound.TheVariants.{Unbounded};
 ghost use Rattle.ksm_base.specs.declared.fault.Fault.TheVariants.{Memory};
 ghost use Rattle.ksm_base.specs.Apply.{unshared as as_unshared};
-ghost use Rattle.ksm_base.specs.Rows.{settled_state};
+ghost use Rattle.ksm_base.specs.Rows.{settled as as_settled, settled_state};
 ghost use Rattle.ksm_pages.specs.Paged.{Sorted, asks, changed_all};
 ghost use Rattle.ksm_pages.specs.RowEntries.{entry_of, page_order};
 
@@ -220,6 +220,17 @@ impl PageMap {
             return;
         };
         kept.settle();
+    }
+
+    /// No row waits any more: those that did are Private. It takes a step for each page, and no hash.
+    pub fn settle_every(&mut self)
+        ensures { self.new ≡ changed_all as_settled self.old }
+    {
+        for index in 0..self.found.len() {
+            if let Some(entry) = self.found.get_index_mut(index) {
+                entry.settle();
+            }
+        }
     }
 
     // This call writes every entry and drops none. It does so by `retain`, whose contract says what is written to each

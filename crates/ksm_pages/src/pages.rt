@@ -147,6 +147,7 @@ impl Pages {
         requires { (knobs.merge_across_nodes ≡ self.old.knobs.merge_across_nodes) ⊎ All (λ r. waiting_state r.state ≡ false) self.old.listed.rows }
         ensures { self.new ≡ record self.old { knobs = knobs } }
     {
+        self.dups.set_limit(knobs.max_page_sharing);
         self.knobs = knobs;
     }
 

@@ -7,7 +7,7 @@
 //! `has_guest` searches once in the order. `next` and `next_shared` do so too, and take one step for each row that they
 //! pass over, which are rows of the guest alone where one is given; `ahead` so too, and one for each of its visits.
 //! `len`, `any_mergeable` and the counts take one. `make_mergeable` searches in the order for each row of the guest, and
-//! once more, and finds each by a hash. `settle_all` finds each row that waits by a hash. `unshare_all` walks over the rows.
+//! once more, and finds each by a hash. `settle_all` finds each row that waits by a hash, or walks over all rows where many wait. `unshare_all` walks over the rows.
 
 ghost use Rattle.std.specs.Prelude.{◌≡◌, ◌<◌, ◌≤◌, [], None, Some, length, filter, find, count_by, map, insert, remove, slice_set, false, MatchOption, OnOk, OnErr, Err, is_some, true, option_map, ◌&&◌, slice_get, unwrap_or, IfSome};
 ghost use Rattle.std.specs.List.{list_any};
@@ -419,6 +419,29 @@ impl Rows {
 
     /// No row waits any more: those that did, which are of these pages, are Private.
     pub(crate) fn settle_all(&mut self, waiting: &Waiting)
+        requires { AreNamed waiting.now self.old.rows }
+        ensures rows { self.new.rows ≡ map as_settled self.old.rows }
+        ensures frames { self.new.frames ≡ self.old.frames }
+    {
+        // To find a page by a hash takes as long as to go by some eight.
+        if self.tally.waiting > self.entries.len() / 8 {
+            self.settle_every();
+        } else {
+            self.settle_pages(waiting);
+        }
+    }
+
+    // The same, by going by every row.
+    fn settle_every(&mut self)
+        ensures rows { self.new.rows ≡ map as_settled self.old.rows }
+        ensures frames { self.new.frames ≡ self.old.frames }
+    {
+        self.entries.settle_every();
+        self.tally = self.tally.settled();
+    }
+
+    // The same, by finding each page that waits.
+    fn settle_pages(&mut self, waiting: &Waiting)
         requires { AreNamed waiting.now self.old.rows }
         ensures rows { self.new.rows ≡ map as_settled self.old.rows }
         ensures frames { self.new.frames ≡ self.old.frames }

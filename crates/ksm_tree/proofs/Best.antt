@@ -1,6 +1,6 @@
 -- The best dup to join: a walk over a group, keeping the better of two, ends at the one that the definition chooses of all.
 use Rattle.std.proofs.Common.{◌≡◌, ◌∙◌, ℕ, ◌<◌, ◌≤◌, ◌+◌, ◌-◌, Bool, true, false, List, [], ◌∷◌, ◌++◌, append_assoc, append-nil, drop, drop-cons, get_or, add-one, Option, None, Some, refl, sym, ap, inl, inr, arith}
-use Rattle.std.specs.Prelude.{◌==◌, ◌&&◌, ◌||◌, not, nat_le, nat_lt, length, All, find, if◌then◌else◌, ◌^◌, ◌%◌}
+use Rattle.std.specs.Prelude.{◌==◌, ◌&&◌, ◌||◌, not, nat_le, nat_lt, length, map, filter, All, find, if◌then◌else◌, ◌^◌, ◌%◌}
 use Rattle.std.specs.List.{list_all}
 use Rattle.std.proofs.lemmas.Bool.{and_parts, cases_Bool, false≢true}
 use Rattle.std.proofs.lemmas.Bool.Decides.{nat_tests}
@@ -10,8 +10,9 @@ use Rattle.ksm_base.specs.Rows.{InPlaceOrder}
 use Rattle.ksm_rmap.proofs.Ordered.{pairs_head, pairs_tail}
 use Rattle.ksm_base.specs.declared.row.DupRow.{DupRow}
 use Rattle.ksm_tree.specs.declared.dup.Dup.{Dup}
-use Rattle.ksm_tree.specs.Choosing.{may_join, is_no_worse, best_of, better}
-use Rattle.ksm_tree.specs.Dups.{rows_of, dup_at, items_in}
+use Rattle.ksm_tree.specs.Choosing.{ArePlacesToJoin, may_join, is_no_worse, best_of, better, of_group}
+use Rattle.ksm_tree.specs.Counts.{is_open}
+use Rattle.ksm_tree.specs.Dups.{rows_of, dup_at, items_in, places_open}
 use Rattle.ksm_tree.specs.Index.{in_group, group_places}
 use Rattle.ksm_tree.proofs.Changes.{all_rows}
 use Rattle.ksm_tree.proofs.Rows.{found_passes}
@@ -203,9 +204,9 @@ abbrev pub joined : ℕ → Option Dup → Option Dup → Option Dup
 joined limit acc None = acc
 joined limit acc (Some d) = if has_room limit d then Some (better acc d) else acc
 
-abbrev pub folded : ℕ → List Dup → Option Dup → List ℕ → Option Dup
-folded limit dups acc [] = acc
-folded limit dups acc (p ∷ places) = folded limit dups (joined limit acc (dup_at p dups)) places
+abbrev pub folded : ℕ → List ℕ → ℕ → List Dup → Option Dup → List ℕ → Option Dup
+folded t b limit dups acc [] = acc
+folded t b limit dups acc (p ∷ places) = folded t b limit dups (joined limit acc (of_group t b (dup_at p dups))) places
 
 -- how many items a dup must have to be joined where another was found
 abbrev pub least_of : Option Dup → ℕ
@@ -232,10 +233,27 @@ pub least_better : (acc : Option Dup) (d : Dup) → least_of acc ≤ length d.it
 least_better None d least = refl
 least_better (Some best) d least = grind (arith, nat_tests, least)
 
-pub stepped : (limit : ℕ) (dups : List Dup) (acc next : Option Dup) (places : List ℕ) (i : ℕ) → i < length places → joined limit acc (dup_at (get_or places i 0) dups) ≡ next → folded limit dups next (drop (i + 1) places) ≡ folded limit dups acc (drop i places)
-stepped limit dups acc next places i within is =
+pub stepped : (t : ℕ) (b : List ℕ) (limit : ℕ) (dups : List Dup) (acc next : Option Dup) (places : List ℕ) (i : ℕ) → i < length places → joined limit acc (of_group t b (dup_at (get_or places i 0) dups)) ≡ next → folded t b limit dups next (drop (i + 1) places) ≡ folded t b limit dups acc (drop i places)
+stepped t b limit dups acc next places i within is =
     let rest : drop i places ≡ get_or places i 0 ∷ drop (i + 1) places = rw (add-one, drop-cons places i 0) in
-    ap (λ best. folded limit dups best (drop (i + 1) places)) (sym is) ∙ ap (folded limit dups acc) (sym rest)
+    ap (λ best. folded t b limit dups best (drop (i + 1) places)) (sym is) ∙ ap (folded t b limit dups acc) (sym rest)
+
+-- a dup that is looked at for a group is the one that stands there
+pub stands_so : (t : ℕ) (b : List ℕ) (slot : Option Dup) (d : Dup) → Some d ≡ of_group t b slot → Some d ≡ slot
+stands_so t b None d is = is
+stands_so t b (Some e) d is =
+    elim (cases_Bool (in_group t b e.row)) [
+      | inl inside ↦ grind (arith, is, inside)
+      | inr outside ↦ absurd (none-some d (sym (is ∙ (grind (arith, outside)))))
+    ]
+
+pub passed_over_so : (t : ℕ) (b : List ℕ) (limit : ℕ) (acc slot : Option Dup) → joined limit acc slot ≡ acc → joined limit acc (of_group t b slot) ≡ acc
+passed_over_so t b limit acc None over = refl
+passed_over_so t b limit acc (Some d) over =
+    elim (cases_Bool (in_group t b d.row)) [
+      | inl inside ↦ rw inside over
+      | inr outside ↦ rw outside refl
+    ]
 
 -- the places of a group lie below how many there are
 pub places_within : (t : ℕ) (b : List ℕ) (places : ℕ) (rows : List DupRow) → All (λ r. r.place < places) rows → All (λ p. p < places) (group_places t b rows)
@@ -248,30 +266,63 @@ places_within t b places (r ∷ rows) below =
       | inr outside ↦ rw outside rest
     ]
 
-better_kept : (t : ℕ) (b : List ℕ) (limit : ℕ) (acc : Option Dup) (d : Dup) → in_group t b d.row ≡ true → joined limit acc (Some d) ≡ kept (may_join t b limit) acc d
-better_kept t b limit None d inside = grind (arith, inside)
-better_kept t b limit (Some best) d inside = grind (arith, inside)
-
-passed_group : (t : ℕ) (b : List ℕ) (limit : ℕ) (acc : Option Dup) (d : Dup) → in_group t b d.row ≡ false → acc ≡ kept (may_join t b limit) acc d
-passed_group t b limit None d outside = grind (arith, outside)
-passed_group t b limit (Some best) d outside = grind (arith, outside)
-
-fold_group : (t : ℕ) (b : List ℕ) (limit : ℕ) (all dups : List Dup) (acc : Option Dup) → All (λ d. dup_at d.row.place all ≡ Some d) dups → folded limit all acc (group_places t b (rows_of dups)) ≡ walked (may_join t b limit) acc dups
-fold_group t b limit all [] acc found = refl
-fold_group t b limit all (d ∷ dups) acc found =
-    let here = All-head (λ e. dup_at e.row.place all ≡ Some e) d dups found in
-    let rest = All-tail (λ e. dup_at e.row.place all ≡ Some e) d dups found in
-    elim (cases_Bool (in_group t b d.row)) [
-      | inl inside ↦
-          rw inside (ap (λ v. folded limit all (joined limit acc v) (group_places t b (rows_of dups))) here
-          ∙ ap (λ v. folded limit all v (group_places t b (rows_of dups))) (better_kept t b limit acc d inside)
-          ∙ fold_group t b limit all dups (kept (may_join t b limit) acc d) rest)
-      | inr outside ↦
-          rw outside (ap (λ v. folded limit all v (group_places t b (rows_of dups))) (passed_group t b limit acc d outside)
-          ∙ fold_group t b limit all dups (kept (may_join t b limit) acc d) rest)
+-- and so do those of the open dups
+open_within : (limit places : ℕ) (dups : List Dup) → All (λ r. r.place < places) (rows_of dups) → All (λ p. p < places) (places_open limit dups)
+open_within limit places [] below = λ k d lt. absurd (omega arith)
+open_within limit places (d ∷ dups) below =
+    let here = All-head (λ e. e.place < places) d.row (rows_of dups) below in
+    let rest = open_within limit places dups (All-tail (λ e. e.place < places) d.row (rows_of dups) below) in
+    elim (cases_Bool (is_open limit (length d.items))) [
+      | inl inside ↦ rw inside (All-cons (λ p. p < places) d.row.place (places_open limit dups) here rest)
+      | inr outside ↦ rw outside rest
     ]
 
--- the walk over a group's places ends at the best dup
-pub folded_best : (t : ℕ) (b : List ℕ) (limit : ℕ) (dups : List Dup) → InPlaceOrder (rows_of dups) → folded limit dups None (group_places t b (rows_of dups)) ≡ best_of t b limit dups
-folded_best t b limit dups rise =
-    fold_group t b limit dups dups None (found_self dups rise) ∙ walk_top (may_join t b limit) dups
+pub candidates_within : (t : ℕ) (b : List ℕ) (limit places : ℕ) (dups : List Dup) (found : List ℕ) → All (λ r. r.place < places) (rows_of dups) → ArePlacesToJoin t b limit dups found → All (λ p. p < places) found
+candidates_within t b limit places dups found below (inl group) = rw group (places_within t b places (rows_of dups) below)
+candidates_within t b limit places dups found below (inr opens) = rw opens (open_within limit places dups below)
+
+kept_so : (t : ℕ) (b : List ℕ) (limit : ℕ) (acc : Option Dup) (d : Dup) → joined limit acc (of_group t b (Some d)) ≡ kept (may_join t b limit) acc d
+kept_so t b limit None d = grind arith
+kept_so t b limit (Some best) d = grind arith
+
+passed_group : (t : ℕ) (b : List ℕ) (limit : ℕ) (acc : Option Dup) (d : Dup) → may_join t b limit d ≡ false → acc ≡ kept (may_join t b limit) acc d
+passed_group t b limit None d fails = grind (arith, fails)
+passed_group t b limit (Some best) d fails = grind (arith, fails)
+
+-- a walk over the places of those dups that pass a test, which all that may be joined pass
+module _ (t : ℕ) (b : List ℕ) (limit : ℕ) (test : Dup → Bool) (passes : (d : Dup) → test d ≡ false → may_join t b limit d ≡ false) where
+  fold_passing : (all dups : List Dup) (acc : Option Dup) → All (λ d. dup_at d.row.place all ≡ Some d) dups → folded t b limit all acc (map (λ d. d.row.place) (filter test dups)) ≡ walked (may_join t b limit) acc dups
+  fold_passing all [] acc found = refl
+  fold_passing all (d ∷ dups) acc found =
+      let here = All-head (λ e. dup_at e.row.place all ≡ Some e) d dups found in
+      let rest = All-tail (λ e. dup_at e.row.place all ≡ Some e) d dups found in
+      let left = map (λ d. d.row.place) (filter test dups) in
+      elim (cases_Bool (test d)) [
+        | inl inside ↦
+            rw inside (ap (λ v. folded t b limit all (joined limit acc (of_group t b v)) left) here
+            ∙ ap (λ v. folded t b limit all v left) (kept_so t b limit acc d)
+            ∙ fold_passing all dups (kept (may_join t b limit) acc d) rest)
+        | inr outside ↦
+            rw outside (ap (λ v. folded t b limit all v left) (passed_group t b limit acc d (passes d outside))
+            ∙ fold_passing all dups (kept (may_join t b limit) acc d) rest)
+      ]
+
+group_of_dups : (t : ℕ) (b : List ℕ) (dups : List Dup) → group_places t b (rows_of dups) ≡ map (λ d. d.row.place) (filter (λ d. in_group t b d.row) dups)
+group_of_dups t b [] = refl
+group_of_dups t b (d ∷ dups) =
+    let rest = group_of_dups t b dups in
+    elim (cases_Bool (in_group t b d.row)) [
+      | inl inside ↦ grind (arith, inside, rest)
+      | inr outside ↦ grind (arith, outside, rest)
+    ]
+
+-- the walk over the places to join ends at the best dup
+pub folded_best : (t : ℕ) (b : List ℕ) (limit : ℕ) (dups : List Dup) (found : List ℕ) → InPlaceOrder (rows_of dups) → ArePlacesToJoin t b limit dups found → folded t b limit dups None found ≡ best_of t b limit dups
+folded_best t b limit dups found rise (inl group) =
+    ap (folded t b limit dups None) (group ∙ group_of_dups t b dups)
+    ∙ fold_passing t b limit (λ d. in_group t b d.row) (λ d outside. grind (arith, outside)) dups dups None (found_self dups rise)
+    ∙ walk_top (may_join t b limit) dups
+folded_best t b limit dups found rise (inr opens) =
+    ap (folded t b limit dups None) opens
+    ∙ fold_passing t b limit (λ d. is_open limit (length d.items)) (λ d outside. grind (arith, outside)) dups dups None (found_self dups rise)
+    ∙ walk_top (may_join t b limit) dups

@@ -9,7 +9,8 @@ use Rattle.ksm_base.proofs.Edits.{count_more}
 use Rattle.smallvec.specs.SmallVec.{SmallVec}
 use Rattle.ksm_tree.specs.declared.dup.Dup.{Dup}
 use Rattle.ksm_tree.specs.Dups.{is_live, is_stale}
-use Rattle.ksm_tree.specs.Slots.{AreSlots, is_empty_slot, is_stale_slot, places_where, present}
+use Rattle.ksm_tree.specs.Counts.{places_where}
+use Rattle.ksm_tree.specs.Slots.{AreSlots, is_empty_slot, is_stale_slot, present}
 
 -- tests that agree on each element count alike
 pub count_alike : {X : Type 0} (p q : X → Bool) (xs : List X) → All (λ x. p x ≡ q x) xs → count_by p xs ≡ count_by q xs

@@ -1,14 +1,14 @@
 -- The keys of the maps: equal where tree and bytes are.
-use Rattle.std.proofs.Common.{◌≡◌, ℕ, List, [], ◌∷◌, true, refl, arith}
+use Rattle.std.proofs.Common.{◌≡◌, ℕ, List, [], ◌∷◌, true, refl, ap, arith}
 use Rattle.std.specs.Prelude.{map, ◌&&◌, ◌==◌, bytes_eq}
 use Rattle.std.proofs.lemmas.Bool.{and_parts}
 use Rattle.std.proofs.lemmas.Bool.Decides.{nat_tests}
 use Rattle.std.proofs.lemmas.Slice.Eq.{bytes_eq-Decides}
-use Rattle.std.specs.Map.{lookup}
+use Rattle.std.specs.Map.{lookup, values_of}
 use Rattle.ksm_base.specs.declared.page.GuestPage.{GuestPage}
 use Rattle.ksm_base.specs.declared.row.DupRow.{DupRow}
 use Rattle.ksm_tree.specs.Index.{in_group}
-use Rattle.ksm_tree.specs.Waits.{waiting_page, waiting_at}
+use Rattle.ksm_tree.specs.Waits.{WaitingPage, waiting_page, waiting_at}
 use Rattle.ksm_tree.specs.declared.content.Content.{Content}
 use Rattle.ksm_tree.specs.contracts.content.ContentPartialEq.TheImpl as content_eq
 
@@ -32,6 +32,11 @@ waiting_found t b (e ∷ es) =
     let rest = waiting_found t b es in
     let here = same_content (record { tree = t; bytes = b }) e.0 in
     grind (arith, rest, here)
+
+-- the pages that wait are the values of the map
+pub pages_are : (es : List (Content × GuestPage)) → values_of es ≡ map (λ (w : WaitingPage). w.page) (map waiting_at es)
+pages_are [] = refl
+pages_are (e ∷ es) = ap (λ l. e.1 ∷ l) (pages_are es)
 
 -- whether a content is a row's
 pub own_group : (t : ℕ) (b : List ℕ) (row : DupRow) → in_group t b row ≡ (t == row.tree && bytes_eq b row.bytes)

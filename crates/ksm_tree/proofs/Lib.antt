@@ -10,8 +10,10 @@ pub mod Made
 pub mod Numbers
 pub mod OneSlot
 pub mod Opened
+pub mod Openings
 pub mod Rows
 pub mod Tied
 pub mod Ties
 pub mod Regrouped
 pub mod Waiters
+pub mod Where

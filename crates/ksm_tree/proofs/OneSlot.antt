@@ -18,9 +18,11 @@ use Rattle.smallvec.specs.SmallVec.{SmallVec}
 use Rattle.ksm_rmap.proofs.Ordered.{filter_none, filter_all, absent_kept}
 use Rattle.ksm_rmap.proofs.Pages.{pages_ordered}
 use Rattle.ksm_tree.specs.declared.dup.Dup.{Dup}
+use Rattle.ksm_tree.proofs.Where.{where_with, where_without, where_same, where_room}
 use Rattle.ksm_tree.specs.Dups.{stands_at, dup_at, items_in, is_stale, is_live, rows_of, with_new, without_place}
 use Rattle.ksm_tree.specs.Places.{with_place, without}
-use Rattle.ksm_tree.specs.Slots.{SlotsState, slots_seen, present, count_in, is_empty_slot, is_stale_slot, places_where, ArePlaced, AreSlots, change_at}
+use Rattle.ksm_tree.specs.Counts.{places_where}
+use Rattle.ksm_tree.specs.Slots.{SlotsState, slots_seen, present, count_in, is_empty_slot, is_stale_slot, ArePlaced, AreSlots, change_at}
 
 -- the dups of slots from k on stand at k or behind it
 pub placed_above : (k : ℕ) (slots : List (Option Dup)) → ArePlaced k slots → All (λ d. k ≤ d.row.place) (present slots)
@@ -128,80 +130,6 @@ placed_emptied k (suc i) (None ∷ slots) placed = placed_emptied (suc k) i slot
 placed_emptied k zero (Some d ∷ slots) placed = placed.1
 placed_emptied k (suc i) (Some d ∷ slots) placed = (placed.0, placed_emptied (suc k) i slots placed.1)
 
-module _ (test : Option Dup → Bool) where
-  where_above : (k : ℕ) (slots : List (Option Dup)) → All (λ p. k ≤ p) (places_where test k slots)
-  where_above k [] = λ i d lt. absurd (omega arith)
-  where_above k (s ∷ slots) =
-      let rest = All-weaker (λ p. suc k ≤ p) (λ p. k ≤ p) (λ p h. omega arith) (places_where test (suc k) slots) (where_above (suc k) slots) in
-      elim (test s) as (λ b. All (λ p. k ≤ p) (if b then k ∷ places_where test (suc k) slots else places_where test (suc k) slots)) [
-        | true ↦ All-cons (λ p. k ≤ p) k (places_where test (suc k) slots) (omega arith) rest
-        | false ↦ rest
-      ]
-
-  where_not_below : (k p : ℕ) (slots : List (Option Dup)) → p < k → All (λ q. nat_lt q p ≡ false) (places_where test k slots)
-  where_not_below k p slots below i d lt = let h = where_above k slots i d lt in grind (arith, nat_tests, h)
-
-  where_behind : (k p : ℕ) (slots : List (Option Dup)) → p < k → All (λ q. nat_lt p q ≡ true) (places_where test k slots)
-  where_behind k p slots below i d lt = let h = where_above k slots i d lt in grind (arith, nat_tests, h)
-
-  where_apart : (k p : ℕ) (slots : List (Option Dup)) → p < k → All (λ q. not (q == p) ≡ true) (places_where test k slots)
-  where_apart k p slots below i d lt = let h = where_above k slots i d lt in grind (arith, nat_tests, h)
-
-  -- a slot that passes from now on
-  pub where_with : (k p i : ℕ) (slots : List (Option Dup)) (s : Option Dup) → p ≡ k + i → i < length slots → test s ≡ true → places_where test k (set slots i s) ≡ with_place p (places_where test k slots)
-  where_with k p i [] s is within passes = absurd (omega arith)
-  where_with k p zero (r ∷ slots) s is within passes =
-      let rest = places_where test (suc k) slots in
-      let none = filter_none (λ q. nat_lt q p) rest (where_not_below (suc k) p slots (omega arith)) in
-      let each = filter_all (λ q. nat_lt p q) rest (where_behind (suc k) p slots (omega arith)) in
-      elim (test r) as (λ b. (if test s then k ∷ rest else rest) ≡ with_place p (if b then k ∷ rest else rest)) [
-        | true ↦ grind (arith, nat_tests, none, each, passes)
-        | false ↦ grind (arith, nat_tests, none, each, passes)
-      ]
-  where_with k p (suc i) (r ∷ slots) s is within passes =
-      let rest = places_where test (suc k) slots in
-      let new = places_where test (suc k) (set slots i s) in
-      let so_far = where_with (suc k) p i slots s (omega arith) (omega arith) passes in
-      elim (test r) as (λ b. (if b then k ∷ new else new) ≡ with_place p (if b then k ∷ rest else rest)) [
-        | true ↦ grind (arith, nat_tests, so_far)
-        | false ↦ so_far
-      ]
-
-  -- a slot that fails from now on
-  pub where_without : (k p i : ℕ) (slots : List (Option Dup)) (s : Option Dup) → p ≡ k + i → i < length slots → test s ≡ false → places_where test k (set slots i s) ≡ without p (places_where test k slots)
-  where_without k p i [] s is within fails = absurd (omega arith)
-  where_without k p zero (r ∷ slots) s is within fails =
-      let rest = places_where test (suc k) slots in
-      let each = filter_all (λ q. not (q == p)) rest (where_apart (suc k) p slots (omega arith)) in
-      elim (test r) as (λ b. (if test s then k ∷ rest else rest) ≡ without p (if b then k ∷ rest else rest)) [
-        | true ↦ grind (arith, nat_tests, each, fails)
-        | false ↦ grind (arith, nat_tests, each, fails)
-      ]
-  where_without k p (suc i) (r ∷ slots) s is within fails =
-      let rest = places_where test (suc k) slots in
-      let new = places_where test (suc k) (set slots i s) in
-      let so_far = where_without (suc k) p i slots s (omega arith) (omega arith) fails in
-      elim (test r) as (λ b. (if b then k ∷ new else new) ≡ without p (if b then k ∷ rest else rest)) [
-        | true ↦ grind (arith, nat_tests, so_far)
-        | false ↦ so_far
-      ]
-
-  -- a slot that passes as it did
-  pub where_same : (k i : ℕ) (slots : List (Option Dup)) (s : Option Dup) → test s ≡ test (get_or slots i None) → places_where test k (set slots i s) ≡ places_where test k slots
-  where_same k i [] s same = refl
-  where_same k zero (r ∷ slots) s same = rw same refl
-  where_same k (suc i) (r ∷ slots) s same = let so_far = where_same (suc k) i slots s same in grind (arith, so_far)
-
-  where_short : (k : ℕ) (slots : List (Option Dup)) → length (places_where test k slots) ≤ length slots
-  where_short k [] = omega arith
-  where_short k (s ∷ slots) = let so_far = where_short (suc k) slots in grind (arith, so_far)
-
-  -- beside a slot that fails there is room for one more place
-  pub where_room : (k i : ℕ) (slots : List (Option Dup)) → i < length slots → test (get_or slots i None) ≡ false → length (places_where test k slots) + 1 ≤ length slots
-  where_room k i [] within fails = absurd (omega arith)
-  where_room k zero (s ∷ slots) within fails = let short = where_short (suc k) slots in grind (arith, fails, short)
-  where_room k (suc i) (s ∷ slots) within fails = let so_far = where_room (suc k) i slots (omega arith) fails in grind (arith, so_far)
-
 -- the last number of a list
 abbrev last_of : List ℕ → Option ℕ
 last_of xs = slice_get xs (length xs - 1)
@@ -308,12 +236,12 @@ module _ (test : Option Dup → Bool) where
   mirrored_same : (i m : ℕ) (slots : List (Option Dup)) (s : Option Dup) → m + i + 1 ≡ length slots → test s ≡ test (get_or slots i None) → mirrored_where (set slots i s) ≡ mirrored_where slots
   mirrored_same i m slots s is same =
       ap (places_where test 0) (reverse_set slots i m s is)
-      ∙ where_same test 0 m (reverse slots) s (same ∙ ap test (sym (get_mirrored slots i m None is)))
+      ∙ where_same test None 0 m (reverse slots) s (same ∙ ap test (sym (get_mirrored slots i m None is)))
 
   pub mirrored_room : (i m : ℕ) (slots : List (Option Dup)) → m + i + 1 ≡ length slots → test (get_or slots i None) ≡ false → length (mirrored_where slots) + 1 ≤ length slots
   mirrored_room i m slots is fails =
       let n = length-reverse slots in
-      let room = where_room test 0 m (reverse slots) (omega (arith, is, n)) (ap test (get_mirrored slots i m None is) ∙ fails) in
+      let room = where_room test None 0 m (reverse slots) (omega (arith, is, n)) (ap test (get_mirrored slots i m None is) ∙ fails) in
       omega (arith, room, n)
 
 -- the first stale place is that of the first stale dup
@@ -543,7 +471,7 @@ slots_joined p n slots counts empty stale d page within h filled is live =
     let e : Dup = record d { items = with_item page d.items } in
     slots_changed p slots counts (set counts p n) empty stale stale d e within h filled refl
     (counted_set p n slots counts (Some e) h.counted is)
-    (h.stales ∙ sym (where_same is_stale_slot 0 p slots (Some e) (grown_not_stale page d.items ∙ sym (ap is_stale_slot filled ∙ live)))) refl
+    (h.stales ∙ sym (where_same is_stale_slot None 0 p slots (Some e) (grown_not_stale page d.items ∙ sym (ap is_stale_slot filled ∙ live)))) refl
 
 -- the view after a change of the items at a place
 pub view_changed : (p : ℕ) (slots : List (Option Dup)) (s : SlotsState) (d : Dup) (f : List GuestPage → List GuestPage) → slots_seen slots ≡ s → ArePlaced 0 slots → get_or slots p None ≡ Some d → slots_seen (set slots p (Some (record d { items = f d.items }))) ≡ record { places = s.places; dups = change_at p f s.dups }
@@ -567,14 +495,14 @@ slots_unlike p slots counts empty stale d page within h filled absent =
     let same : is_stale e ≡ is_stale d = ap (λ ps. length ps == 0) kept in
     slots_changed p slots counts counts empty stale stale d e within h filled refl
     (h.counted ∙ sym (map-set_same count_in slots p (Some e) None (ap length kept ∙ sym (ap count_in filled))))
-    (h.stales ∙ sym (where_same is_stale_slot 0 p slots (Some e) (same ∙ sym (ap is_stale_slot filled)))) refl
+    (h.stales ∙ sym (where_same is_stale_slot None 0 p slots (Some e) (same ∙ sym (ap is_stale_slot filled)))) refl
 
 pub slots_shrunk : (p n : ℕ) (slots : List (Option Dup)) (counts : List ℕ) (empty stale : SmallVec ℕ) (d : Dup) (page : GuestPage) → p < length slots → AreSlots slots counts empty stale → get_or slots p None ≡ Some d → n ≡ length (without_item page d.items) → true ≡ has_item page d.items → (length (without_item page d.items) == 0) ≡ false → AreSlots (set slots p (Some (record d { items = without_item page d.items }))) (set counts p n) empty stale
 slots_shrunk p n slots counts empty stale d page within h filled is found left =
     let e : Dup = record d { items = without_item page d.items } in
     slots_changed p slots counts (set counts p n) empty stale stale d e within h filled refl
     (counted_set p n slots counts (Some e) h.counted is)
-    (h.stales ∙ sym (where_same is_stale_slot 0 p slots (Some e) (left ∙ sym (ap is_stale_slot filled ∙ had_item page d found)))) refl
+    (h.stales ∙ sym (where_same is_stale_slot None 0 p slots (Some e) (left ∙ sym (ap is_stale_slot filled ∙ had_item page d found)))) refl
 
 pub slots_staled : (p n : ℕ) (slots : List (Option Dup)) (counts : List ℕ) (empty stale stale' : SmallVec ℕ) (d : Dup) (page : GuestPage) → p < length slots → AreSlots slots counts empty stale → get_or slots p None ≡ Some d → n ≡ length (without_item page d.items) → (length (without_item page d.items) == 0) ≡ true → stale'.items ≡ with_place p stale.items → stale'.capacity ≡ stale.capacity → AreSlots (set slots p (Some (record d { items = without_item page d.items }))) (set counts p n) empty stale'
 slots_staled p n slots counts empty stale stale' d page within h filled is none more room =
@@ -585,5 +513,5 @@ slots_staled p n slots counts empty stale stale' d page within h filled is none 
 
 pub stale_has_room : (p : ℕ) (slots : List (Option Dup)) (counts : List ℕ) (empty stale : SmallVec ℕ) (d : Dup) (page : GuestPage) → p < length slots → AreSlots slots counts empty stale → get_or slots p None ≡ Some d → true ≡ has_item page d.items → length stale.items + 1 ≤ stale.capacity
 stale_has_room p slots counts empty stale d page within h filled found =
-    let room = where_room is_stale_slot 0 p slots within (ap is_stale_slot filled ∙ had_item page d found) in
+    let room = where_room is_stale_slot None 0 p slots within (ap is_stale_slot filled ∙ had_item page d found) in
     omega (arith, room, ap length h.stales, h.stale_room)

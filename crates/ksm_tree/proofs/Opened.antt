@@ -7,7 +7,8 @@ use Rattle.std.proofs.lemmas.Bool.Decides.{nat_tests}
 use Rattle.smallvec.specs.SmallVec.{SmallVec}
 use Rattle.ksm_tree.specs.declared.dup.Dup.{Dup}
 use Rattle.ksm_tree.specs.Places.{with_place}
-use Rattle.ksm_tree.specs.Slots.{slots_seen, present, count_in, is_empty_slot, is_stale_slot, places_where, ArePlaced, AreSlots}
+use Rattle.ksm_tree.specs.Counts.{places_where}
+use Rattle.ksm_tree.specs.Slots.{slots_seen, present, count_in, is_empty_slot, is_stale_slot, ArePlaced, AreSlots}
 
 abbrev pub none_of : ℕ → List (Option Dup)
 none_of n = replicate n None

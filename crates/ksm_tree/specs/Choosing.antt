@@ -1,12 +1,13 @@
 -- Which dup a page joins, and where a new dup goes: the book's own words, with the items of a dup in place of the rows merged into it.
-use Rattle.std.specs.Prelude.{ℕ, Bool, not, ◌&&◌, ◌||◌, ◌==◌, nat_lt, nat_le, List, length, find, Option, Some, None, bytes_eq, if◌then◌else◌}
+use Rattle.std.specs.Prelude.{◌≡◌, ◌⊎◌, ℕ, Bool, not, ◌&&◌, ◌||◌, ◌==◌, nat_lt, nat_le, List, length, find, Option, Some, None, bytes_eq, if◌then◌else◌}
 use Rattle.std.specs.List.{list_all}
 use Rattle.ksm_base.specs.declared.row.DupRow.{DupRow}
 use Rattle.ksm_base.specs.Visit.{empty_from}
 use Rattle.ksm_tree.specs.declared.choice.Choice.{Choice}
 use Rattle.ksm_tree.specs.declared.choice.Choice.TheVariants.{Empty, Stale}
 use Rattle.ksm_tree.specs.declared.dup.Dup.{Dup}
-use Rattle.ksm_tree.specs.Dups.{DupsState, rows_of, is_stale}
+use Rattle.ksm_tree.specs.Dups.{DupsState, rows_of, places_open, is_stale}
+use Rattle.ksm_tree.specs.Index.{in_group, group_places}
 
 -- a dup of the tree and the bytes, with an item, and below the limit
 abbrev pub may_join : ℕ → List ℕ → ℕ → Dup → Bool
@@ -49,3 +50,12 @@ choice_of s = chosen (empty_place s.places (rows_of s.dups)) (find is_stale s.du
 abbrev pub better : Option Dup → Dup → Dup
 better None d = d
 better (Some best) d = if is_no_worse best d then best else d
+
+-- a dup, if it is of the tree and the bytes
+abbrev pub of_group : ℕ → List ℕ → Option Dup → Option Dup
+of_group tree bytes None = None
+of_group tree bytes (Some d) = if in_group tree bytes d.row then Some d else None
+
+-- the places of a group, or those of all dups with an item and fewer than the limit: the best is at one of them, if there is one
+abbrev pub ArePlacesToJoin : ℕ → List ℕ → ℕ → List Dup → List ℕ → Type 0
+ArePlacesToJoin tree bytes limit dups places = (places ≡ group_places tree bytes (rows_of dups)) ⊎ (places ≡ places_open limit dups)

@@ -4,6 +4,7 @@ use Rattle.ksm_base.specs.declared.page.GuestPage.{GuestPage}
 use Rattle.ksm_base.specs.declared.row.DupRow.{DupRow}
 use Rattle.ksm_base.specs.Rows.{InPlaceOrder}
 use Rattle.ksm_tree.specs.declared.dup.Dup.{Dup}
+use Rattle.ksm_tree.specs.Counts.{is_open}
 
 -- how many places there are, the dups in the order of their places, and the number of the dup that is made next
 pub record DupsState : Type 0 where
@@ -28,6 +29,10 @@ is_stale d = length d.items == 0
 -- a dup with an item
 abbrev pub is_live : Dup → Bool
 is_live d = nat_lt 0 (length d.items)
+
+-- the places of the dups with an item and fewer than the limit, in their order
+abbrev pub places_open : ℕ → List Dup → List ℕ
+places_open limit dups = map (λ d. d.row.place) (filter (λ d. is_open limit (length d.items)) dups)
 
 abbrev pub dup_of : ℕ → List Dup → Option Dup
 dup_of number dups = find (has_number number) dups

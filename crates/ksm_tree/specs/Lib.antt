@@ -1,5 +1,6 @@
 pub mod Bridge
 pub mod Choosing
+pub mod Counts
 pub mod Digest
 pub mod Dups
 pub mod Groups

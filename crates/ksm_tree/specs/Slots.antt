@@ -3,6 +3,7 @@ use Rattle.std.specs.Prelude.{◌≡◌, ℕ, suc, ◌≤◌, Bool, true, false,
 use Rattle.smallvec.specs.SmallVec.{SmallVec}
 use Rattle.ksm_base.specs.declared.page.GuestPage.{GuestPage}
 use Rattle.ksm_tree.specs.declared.dup.Dup.{Dup}
+use Rattle.ksm_tree.specs.Counts.{places_where}
 use Rattle.ksm_tree.specs.Dups.{stands_at, items_in, is_stale}
 
 -- how many places there are, and the dups in the order of their places
@@ -30,11 +31,6 @@ is_stale_slot (Some d) = is_stale d
 -- how many items the dup of a slot has
 abbrev pub count_in : Option Dup → ℕ
 count_in slot = length (items_in slot)
-
--- the places from k on whose slots pass a test
-abbrev pub places_where : (Option Dup → Bool) → ℕ → List (Option Dup) → List ℕ
-places_where test k [] = []
-places_where test k (s ∷ slots) = if test s then k ∷ places_where test (suc k) slots else places_where test (suc k) slots
 
 -- each dup knows the place where it stands, from k on
 abbrev pub ArePlaced : ℕ → List (Option Dup) → Type 0

@@ -2,7 +2,7 @@ ghost use Rattle.std.specs.Prelude.{◌≡◌, ℕ, ◌+◌, ◌^◌, ◌<◌, �
 ghost use Rattle.ksm_base.specs.Counting.{in_chain, leads_group};
 ghost use Rattle.ksm_base.specs.Rows.{same_page};
 ghost use Rattle.ksm_rmap.specs.Items.{has_item, with_item, without_item};
-ghost use Rattle.ksm_tree.specs.Choosing.{best_of, better as better_dup, choice_of, is_no_worse as no_worse_than};
+ghost use Rattle.ksm_tree.specs.Choosing.{ArePlacesToJoin, best_of, of_group, better as better_dup, choice_of, is_no_worse as no_worse_than};
 ghost use Rattle.ksm_tree.specs.Dups.{AreDups, change_items, dup_at, dup_of, is_live, is_stale, items_of, rows_of, stands_at, with_new, without_place};
 
 use crate::choice::Choice;
@@ -15,9 +15,12 @@ use ksm_rmap::Items;
 use std::alloc::Global;
 use std::marker::Model;
 
+// So many open places are walked along before a group is looked for.
+const FEW_OPEN: usize = 8;
+
 /// The dups with their items, by place, by number, and by tree and bytes (mm/ksm, stable nodes and their chains).
 ///
-/// A look-up by number or by content costs a hash and a comparison, in the mean, and `best` the length of the chain too; what is counted is known. The hash has a fixed seed: where contents were picked that collide, a look-up costs a comparison for each. Room for every place is taken at the start, so only a new dup and a new item may want memory.
+/// A look-up by number or by content costs a hash and a comparison, in the mean, and `best` the length of the chain too, or the number of dups that are not full, if that is less; what is counted is known. The hash has a fixed seed: where contents were picked that collide, a look-up costs a comparison for each. Room for every place is taken at the start, so only a new dup and a new item may want memory.
 #[derive(Drop)]
 pub struct Dups {
     alloc: Global,
@@ -63,12 +66,12 @@ impl Dups {
         let mut least = 1;
         let mut room = limit.saturating_sub(least);
         let counts = self.slots.counts();
-        let chain = self.index.places(tree, bytes);
-        for place in chain {
+        let places = self.places_to_join(tree, bytes, limit);
+        for place in places {
             let items = counts[*place as usize];
             // Fewer than the least wrap to more than there is room for, so one comparison is enough.
             if items.wrapping_sub(least) < room {
-                if let Some(dup) = self.slots.at(*place) {
+                if let Some(dup) = self.at_of(*place, tree, bytes) {
                     best = Some(better(best, dup));
                     least = items;
                     room = limit - items;
@@ -263,6 +266,43 @@ impl Dups {
         ensures { result ≡ count_by (λ d. in_chain (rows_of self.now.dups) d && leads_group (rows_of self.now.dups) d) (rows_of self.now.dups) }
     {
         self.index.groups.totals.chains
+    }
+
+    /// The limit with which `best` is mostly asked: it passes over the full dups of a chain then. It takes effect where no dup has an item.
+    pub fn set_limit(&mut self, limit: u32)
+        ensures { self.new ≡ self.old }
+    {
+        self.slots.set_limit(limit);
+    }
+
+    // The places among which a dup to join is looked for: the open ones where these are few, or fewer than the group has, else those of the group.
+    fn places_to_join(&self, tree: u32, bytes: &PageBytes, limit: u32) -> &[u32]
+        ensures { ArePlacesToJoin tree bytes.now limit self.now.dups result.now }
+    {
+        let Some(open) = self.slots.open_places(limit) else {
+            return self.index.places(tree, bytes);
+        };
+        if open.len() <= FEW_OPEN {
+            return open;
+        }
+        let chain = self.index.places(tree, bytes);
+        if open.len() < chain.len() {
+            open
+        } else {
+            chain
+        }
+    }
+
+    // The dup at a place, if it is of that tree and these bytes.
+    fn at_of(&self, place: u32, tree: u32, bytes: &PageBytes) -> Option<&Dup>
+        ensures { option_copied result ≡ of_group tree bytes.now (dup_at place self.now.dups) }
+    {
+        let dup = self.slots.at(place)?;
+        if dup.row.tree == tree && dup.row.bytes == *bytes {
+            Some(dup)
+        } else {
+            None
+        }
     }
 
     fn find(&self, number: u64) -> Option<&Dup>

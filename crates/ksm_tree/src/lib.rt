@@ -7,6 +7,7 @@ mod dup;
 mod dups;
 mod groups;
 mod index;
+mod item_counts;
 pub mod laws;
 mod places;
 mod slots;

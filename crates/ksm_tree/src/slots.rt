@@ -1,10 +1,11 @@
-ghost use Rattle.std.specs.Prelude.{◌≡◌, ℕ, ◌-◌, ◌<◌, ◌≤◌, [], true, false, None, Some, count_by, find, length, option_copied, option_map, is_some, slice_index_or, IfErr, IfOk, OnErr, OnOk};
+ghost use Rattle.std.specs.Prelude.{◌≡◌, ℕ, ◌-◌, ◌<◌, ◌≤◌, [], true, false, None, Some, count_by, find, length, option_copied, option_map, is_some, slice_index_or, IfErr, IfOk, IfSome, OnErr, OnOk};
 ghost use Rattle.ksm_tree.specs.Choosing.{empty_place};
 ghost use Rattle.ksm_rmap.specs.Items.{has_item, with_item, without_item};
-ghost use Rattle.ksm_tree.specs.Dups.{dup_at, items_in, is_live, is_stale, rows_of, with_new, without_place};
+ghost use Rattle.ksm_tree.specs.Dups.{dup_at, items_in, is_live, is_stale, places_open, rows_of, with_new, without_place};
 ghost use Rattle.ksm_tree.specs.Slots.{change_at};
 
 use crate::dup::Dup;
+use crate::item_counts::Counts;
 use crate::places::Places;
 use ksm_base::{Fault, GuestPage};
 use std::alloc::Global;
@@ -15,7 +16,7 @@ use std::marker::Model;
 #[derive(Drop)]
 pub struct Slots {
     dups: Vec<Option<Dup>>,
-    counts: Vec<u32>,
+    counts: Counts,
     empty: Places,
     stale: Places,
 }
@@ -27,7 +28,7 @@ impl Model for Slots {
 
     ghost view = { λ s. slots_seen s.dups.items };
 
-    ghost invariant = { λ s. AreSlots s.dups.items s.counts.items s.empty.list s.stale.list };
+    ghost invariant = { λ s. AreSlots s.dups.items s.counts s.empty.list s.stale.list };
 }
 
 impl Slots {
@@ -39,17 +40,15 @@ impl Slots {
     {
         let room = places as usize;
         let mut dups = Vec::with_capacity(alloc, room)?;
-        let mut counts = Vec::with_capacity(alloc, room)?;
         let mut empty = Places::with_room(alloc, room)?;
         for place in 0..places {
             dups.push(None)?;
-            counts.push(0)?;
             empty.insert(place);
         }
         let stale = Places::with_room(alloc, room)?;
         Ok(Slots {
             dups,
-            counts,
+            counts: Counts::open(alloc, places)?,
             empty,
             stale,
         })
@@ -70,7 +69,21 @@ impl Slots {
         ensures places { length result.now ≡ self.now.places }
         ensures each { (place : ℕ) → slice_index_or result.now place 0 ≡ length (items_in (dup_at place self.now.dups)) }
     {
-        self.counts.as_slice()
+        self.counts.each()
+    }
+
+    /// The places of the open dups, those with an item and fewer than the limit, where they are known for this limit.
+    pub fn open_places(&self, limit: u32) -> Option<&[u32]>
+        ensures { IfSome result (λ found. found.now ≡ places_open limit self.now.dups) }
+    {
+        self.counts.open_places(limit)
+    }
+
+    /// The open dups are those of this limit from now on, if none has an item.
+    pub fn set_limit(&mut self, limit: u32)
+        ensures { self.new ≡ self.old }
+    {
+        self.counts.set_limit(limit);
     }
 
     /// The least place that no dup has.
@@ -110,7 +123,7 @@ impl Slots {
     {
         let place = dup.row.place;
         let was_empty = self.dups[place as usize].is_none();
-        self.counts[place as usize] = dup.items.len() as u32;
+        self.counts.set(place, dup.items.len() as u32);
         self.dups[place as usize] = Some(dup);
         if was_empty {
             let distance = mirrored(self.dups.len(), place);
@@ -126,7 +139,7 @@ impl Slots {
         ensures { self.new ≡ record { places = self.old.places; dups = without_place place self.old.dups } }
     {
         let distance = mirrored(self.dups.len(), place);
-        self.counts[place as usize] = 0;
+        self.counts.set(place, 0);
         self.dups[place as usize] = None;
         self.stale.remove(place);
         self.empty.insert(distance);
@@ -145,7 +158,7 @@ impl Slots {
             Some(dup) => {
                 dup.items.add(page)?;
                 let count = dup.items.len() as u32;
-                self.counts[place as usize] = count;
+                self.counts.set(place, count);
                 if count == 1 {
                     self.stale.remove(place);
                 }
@@ -166,7 +179,7 @@ impl Slots {
                     return;
                 }
                 let left = dup.items.len() as u32;
-                self.counts[place as usize] = left;
+                self.counts.set(place, left);
                 if left == 0 {
                     self.stale.insert(place);
                 }

@@ -65,6 +65,7 @@ impl Waiting {
     }
 
     /// The pages that wait, in no order.
+    #[tactic(auto, using(crate::proofs::Keys::pages_are))]
     pub fn pages(&self) -> Values<'_, Content, GuestPage>
         ensures { result ≡ map (λ w. w.page) self.now }
     {

@@ -10,7 +10,7 @@ invariant_of-self c =
     let old = c.self.inside in
     record {
       kept = record {
-        linked = c.self.invariant.kept.linked;
+        linked = rw c.set_limit.ensures c.self.invariant.kept.linked;
         waits = elim c.requires [
           | inl same ↦ knobs_tuned old.knobs old.rows.rows old.waiting c.self.invariant.kept.waits c.args.knobs (same ∙ sym (ap (λ v. v.knobs.merge_across_nodes) c.self.view_is))
           | inr still ↦ knobs_free old.knobs c.args.knobs old.rows.rows old.waiting c.self.invariant.kept.waits (subst (λ v. All (λ r. waiting_state r.state ≡ false) v.listed.rows) (sym c.self.view_is) still)

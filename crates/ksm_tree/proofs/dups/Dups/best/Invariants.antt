@@ -9,4 +9,4 @@ invariant-loop-place l =
     (1 ≤ l.least)
     × (l.least ≡ least_of (option_copied l.best))
     × (l.room ≡ l.limit - l.least)
-    × (folded l.limit l.self-inside.slots.dups (option_copied l.best) (drop l.place-index l.chain) ≡ folded l.limit l.self-inside.slots.dups None l.chain)
+    × (folded l.tree l.bytes l.limit l.self.dups (option_copied l.best) (drop l.place-index l.places) ≡ folded l.tree l.bytes l.limit l.self.dups None l.places)

@@ -11,11 +11,11 @@ index_mut-requires c =
     let known : is_some (dup_at c.args.place (present c.self.inside.dups.items)) ≡ true = rw (ap (λ s. s.dups) c.self.view_is) c.requires.known in
     omega (arith, known_within c.args.place c.self.inside.dups.items c.self.invariant.placed known, c.self.inside.dups.ok.0)
 
-pub index_mut-requires-in-Some : goal.index_mut-requires-in-Some
-index_mut-requires-in-Some c =
+pub set-requires : goal.set-requires
+set-requires c =
     let known : is_some (dup_at c.args.place (present c.self.inside.dups.items)) ≡ true = rw (ap (λ s. s.dups) c.self.view_is) c.requires.known in
     let within = known_within c.args.place c.self.inside.dups.items c.self.invariant.placed known in
-    omega (arith, count_within c.args.place c.self.inside.dups.items c.self.inside.counts.items c.self.invariant.counted within, c.self.inside.counts.ok.0)
+    omega (arith, count_within c.args.place c.self.inside.dups.items c.self.inside.counts c.self.invariant.counted within)
 
 pub unreachable-requires : goal.unreachable-requires
 unreachable-requires c =
@@ -38,8 +38,8 @@ invariant_of-self-then-count-eq1 c =
     let slots = c.self.inside.dups.items in
     let here = holds_dup place slots c.args.self.now c.index_mut.result.now c.in-Some.dup c.self.view_is c.self.invariant.placed c.requires.known c.index_mut.ensures.value c.in-Some.is in
     let count : c.len-count.result ≡ length (with_item c.args.page c.in-Some.dup.items) = c.len-count.ensures.count ∙ ap length c.in_ok-add-in-Some.ensures.added in
-    let grown = slots_grown place c.len-count.result slots c.self.inside.counts.items c.self.inside.empty.list c.self.inside.stale.list c.remove.new.self.list c.in-Some.dup c.args.page here.within c.self.invariant here.filled count c.remove.ensures.without c.remove.ensures.capacity in
-    rw c.in_ok-add-in-Some.ensures.added grown
+    let grown = slots_grown place c.len-count.result slots c.self.inside.counts c.self.inside.empty.list c.self.inside.stale.list c.remove.new.self.list c.in-Some.dup c.args.page here.within c.self.invariant here.filled count c.remove.ensures.without c.remove.ensures.capacity in
+    rw (c.in_ok-add-in-Some.ensures.added, c.set.ensures) grown
 
 pub invariant_of-self-else-count-eq1 : goal.invariant_of-self-else-count-eq1
 invariant_of-self-else-count-eq1 c =
@@ -48,8 +48,8 @@ invariant_of-self-else-count-eq1 c =
     let here = holds_dup place slots c.args.self.now c.index_mut.result.now c.in-Some.dup c.self.view_is c.self.invariant.placed c.requires.known c.index_mut.ensures.value c.in-Some.is in
     let count : c.len-count.result ≡ length (with_item c.args.page c.in-Some.dup.items) = c.len-count.ensures.count ∙ ap length c.in_ok-add-in-Some.ensures.added in
     let live = was_live c.args.page c.in-Some.dup.items (λ one. c.if-count-eq1.false (count ∙ one)) in
-    let joined = slots_joined place c.len-count.result slots c.self.inside.counts.items c.self.inside.empty.list c.self.inside.stale.list c.in-Some.dup c.args.page here.within c.self.invariant here.filled count live in
-    rw c.in_ok-add-in-Some.ensures.added joined
+    let joined = slots_joined place c.len-count.result slots c.self.inside.counts c.self.inside.empty.list c.self.inside.stale.list c.in-Some.dup c.args.page here.within c.self.invariant here.filled count live in
+    rw (c.in_ok-add-in-Some.ensures.added, c.set.ensures) joined
 
 pub returns-then-count-eq1-clause-added : goal.returns-then-count-eq1-clause-added
 returns-then-count-eq1-clause-added c =

@@ -10,13 +10,13 @@ mirrored-distance-requires-clause-place c =
     let within = known_within c.args.place c.self.inside.dups.items c.self.invariant.placed (rw (ap (λ s. s.dups) c.self.view_is) c.requires) in
     omega (arith, within, c.len.ensures)
 
+pub set-requires : goal.set-requires
+set-requires c =
+    let within = known_within c.args.place c.self.inside.dups.items c.self.invariant.placed (rw (ap (λ s. s.dups) c.self.view_is) c.requires) in
+    omega (arith, count_within c.args.place c.self.inside.dups.items c.self.inside.counts c.self.invariant.counted within)
+
 pub index_mut-requires : goal.index_mut-requires
 index_mut-requires c =
-    let within = known_within c.args.place c.self.inside.dups.items c.self.invariant.placed (rw (ap (λ s. s.dups) c.self.view_is) c.requires) in
-    omega (arith, count_within c.args.place c.self.inside.dups.items c.self.inside.counts.items c.self.invariant.counted within, c.self.inside.counts.ok.0)
-
-pub index_mut-requires-2 : goal.index_mut-requires-2
-index_mut-requires-2 c =
     let within = known_within c.args.place c.self.inside.dups.items c.self.invariant.placed (rw (ap (λ s. s.dups) c.self.view_is) c.requires) in
     omega (arith, within, c.self.inside.dups.ok.0)
 
@@ -33,7 +33,7 @@ pub invariant_of-self : goal.invariant_of-self
 invariant_of-self c =
     let within = known_within c.args.place c.self.inside.dups.items c.self.invariant.placed (rw (ap (λ s. s.dups) c.self.view_is) c.requires) in
     let at : c.mirrored-distance.result + c.args.place + 1 ≡ length c.self.inside.dups.items = omega (arith, within, c.mirrored-distance.ensures, c.len.ensures) in
-    slots_cleared c.args.place c.mirrored-distance.result c.self.inside.dups.items c.self.inside.counts.items c.self.inside.empty.list c.self.inside.stale.list c.insert.new.self.list c.remove.new.self.list at c.self.invariant c.insert.ensures.with c.insert.ensures.capacity c.remove.ensures.without c.remove.ensures.capacity
+    rw c.set.ensures (slots_cleared c.args.place c.mirrored-distance.result c.self.inside.dups.items c.self.inside.counts c.self.inside.empty.list c.self.inside.stale.list c.insert.new.self.list c.remove.new.self.list at c.self.invariant c.insert.ensures.with c.insert.ensures.capacity c.remove.ensures.without c.remove.ensures.capacity)
 
 pub returns : goal.returns
 returns c =

@@ -7,13 +7,13 @@ use Rattle.ksm_tree.proofs.slots.Slots.counts.Goals as goal
 
 pub returns-clause-places : goal.returns-clause-places
 returns-clause-places c =
-    ap length c.as_slice.ensures.value
+    ap length c.each.ensures
     ∙ ap length c.self.invariant.counted
     ∙ length-map c.self.inside.dups.items count_in
     ∙ ap (λ s. s.places) c.self.view_is
 
 pub returns-clause-each : goal.returns-clause-each
 returns-clause-each c place =
-    count_read place _ c.self.inside.dups.items c.self.inside.counts.items c.self.invariant.placed c.self.invariant.counted
-    (ap (λ counts. get_or counts place 0) c.as_slice.ensures.value)
+    count_read place _ c.self.inside.dups.items c.self.inside.counts c.self.invariant.placed c.self.invariant.counted
+    (ap (λ counts. get_or counts place 0) c.each.ensures)
     ∙ ap (λ s. length (items_in (dup_at place s.dups))) c.self.view_is

@@ -1,4 +1,4 @@
-use Rattle.std.proofs.Common.{◌≡◌, ◌∙◌, ◌++◌, ◌∷◌, [], length, None, ap, arith}
+use Rattle.std.proofs.Common.{◌≡◌, ◌∙◌, ◌++◌, ◌∷◌, [], length, replicate, None, sym, ap, arith}
 use Rattle.std.proofs.lemmas.List.{replicate-append-replicate}
 use Rattle.ksm_tree.specs.Places.{with_place}
 use Rattle.ksm_tree.specs.Slots.{slots_seen}
@@ -13,12 +13,12 @@ insert-requires c =
 pub loop-place-preserved : goal.loop-place-preserved
 loop-place-preserved c =
     let place = c.loop-place.place in
-    (c.in_ok-push.ensures.items ∙ ap (λ slots. slots ++ None ∷ []) c.loop-place.invariant.0 ∙ replicate-append-replicate place 1 None, c.insert.ensures.with ∙ ap (with_place place) c.loop-place.invariant.1 ∙ range_more 0 place place (omega arith), omega (arith, c.insert.ensures.capacity, c.loop-place.invariant.2), c.in_ok-push-2.ensures.items ∙ ap (λ counts. counts ++ 0 ∷ []) c.loop-place.invariant.3 ∙ replicate-append-replicate place 1 0)
+    (c.in_ok-push.ensures.items ∙ ap (λ slots. slots ++ None ∷ []) c.loop-place.invariant.0 ∙ replicate-append-replicate place 1 None, c.insert.ensures.with ∙ ap (with_place place) c.loop-place.invariant.1 ∙ range_more 0 place place (omega arith), omega (arith, c.insert.ensures.capacity, c.loop-place.invariant.2))
 
 pub invariant_of-result : goal.invariant_of-result
 invariant_of-result c =
     let end : c.loop-place.place ≡ c.args.places = omega arith in
-    rw c.loop-place.invariant.0 (none_slots c.loop-place.place c.loop-place.counts.items c.loop-place.empty.list c.in_ok-stale.stale.list (omega (arith, c.requires, end)) c.loop-place.invariant.3 c.loop-place.invariant.1 c.in_ok-stale.ensures.none (omega (arith, c.loop-place.invariant.2, end)) (omega (arith, c.in_ok-stale.ensures.room, end)))
+    rw c.loop-place.invariant.0 (none_slots c.loop-place.place c.in_ok-open.field-0 c.loop-place.empty.list c.in_ok-stale.stale.list (omega (arith, c.requires, end)) (c.in_ok-open.ensures.none ∙ ap (λ n. replicate n 0) (sym end)) c.loop-place.invariant.1 c.in_ok-stale.ensures.none (omega (arith, c.loop-place.invariant.2, end)) (omega (arith, c.in_ok-stale.ensures.room, end)))
 
 pub returns-clause-opened : goal.returns-clause-opened
 returns-clause-opened c =

@@ -10,7 +10,7 @@ invariant_of-self c =
     let within : place < length slots = omega (arith, ap (λ s. s.places) c.self.view_is, c.requires.place) in
     let at : c.mirrored-distance.result + place + 1 ≡ length slots = omega (arith, within, c.mirrored-distance.ensures, c.len-then-was_empty.ensures) in
     let absent = stale_absent place slots c.index.result.now stale.items within c.index.ensures c.if-was_empty.ensures c.self.invariant.stales in
-    slots_put slots c.self.inside.counts.items c.self.inside.empty.list stale c.remove.new.self.list stale c.args.dup c.mirrored-distance.result c.len.result at c.len.ensures.count c.requires.live c.self.invariant c.remove.ensures.without c.remove.ensures.capacity absent refl
+    rw c.set.ensures (slots_put slots c.self.inside.counts c.self.inside.empty.list stale c.remove.new.self.list stale c.args.dup c.mirrored-distance.result c.len.result at c.len.ensures.count c.requires.live c.self.invariant c.remove.ensures.without c.remove.ensures.capacity absent refl)
 
 pub invariant_of-self-else-was_empty : goal.invariant_of-self-else-was_empty
 invariant_of-self-else-was_empty c =
@@ -21,7 +21,7 @@ invariant_of-self-else-was_empty c =
     let distance = length slots - 1 - place in
     let at : distance + place + 1 ≡ length slots = omega (arith, within) in
     let absent = empty_absent place distance slots c.index.result.now empty.items at c.index.ensures c.if-was_empty.ensures c.self.invariant.empties in
-    slots_put slots c.self.inside.counts.items empty c.self.inside.stale.list empty c.remove-else-was_empty.new.self.list c.args.dup distance c.len.result at c.len.ensures.count c.requires.live c.self.invariant absent refl c.remove-else-was_empty.ensures.without c.remove-else-was_empty.ensures.capacity
+    rw c.set.ensures (slots_put slots c.self.inside.counts empty c.self.inside.stale.list empty c.remove-else-was_empty.new.self.list c.args.dup distance c.len.result at c.len.ensures.count c.requires.live c.self.invariant absent refl c.remove-else-was_empty.ensures.without c.remove-else-was_empty.ensures.capacity)
 
 pub returns-then-was_empty : goal.returns-then-was_empty
 returns-then-was_empty c = seen_put c.self.inside.dups.items c.args.self.now c.args.dup c.self.view_is c.requires.place c.self.invariant.placed

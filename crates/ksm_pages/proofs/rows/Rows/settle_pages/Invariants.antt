@@ -5,7 +5,7 @@ use Rattle.ksm_pages.specs.RowEntries.{frame_of}
 use Rattle.ksm_pages.specs.Paged.{Entries}
 use Rattle.ksm_pages.proofs.RowLists.{rows_of}
 use Rattle.ksm_pages.proofs.Settling.{calmed}
-use Rattle.ksm_pages.proofs.rows.Rows.settle_all.Given as goal
+use Rattle.ksm_pages.proofs.rows.Rows.settle_pages.Given as goal
 
 -- the rows of the pages that were met are settled, and each lies where it did
 abbrev pub invariant-loop-page : goal.invariant-loop-page

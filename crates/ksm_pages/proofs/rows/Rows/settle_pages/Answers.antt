@@ -8,7 +8,7 @@ use Rattle.ksm_pages.specs.Tallied.{IsTally}
 use Rattle.ksm_pages.proofs.RowLists.{rows_of}
 use Rattle.ksm_pages.proofs.Settling.{all_calmed, calmed, none_calmed, one_more_calmed, settles_one}
 use Rattle.ksm_pages.proofs.Tallies.{tally_settled, tally_within}
-use Rattle.ksm_pages.proofs.rows.Rows.settle_all.Goals as goal
+use Rattle.ksm_pages.proofs.rows.Rows.settle_pages.Goals as goal
 
 pub loop-page-init : goal.loop-page-init
 loop-page-init c = ([], sym c.pages-page-items.ensures ∙ sym c.into_iter-page-iterator.ensures.into_iter_gives, none_calmed (rows_of c.self.inside.entries), refl, refl)

@@ -1,0 +1,82 @@
+-- The open places, as the counts change.
+use Rattle.std.proofs.Common.{◌≡◌, ◌∙◌, ℕ, zero, suc, ◌+◌, ◌<◌, ◌≤◌, Bool, true, false, List, [], ◌∷◌, length, length-set, get_or, set, map, replicate, Option, None, Some, refl, sym, ap, inl, inr, arith}
+use Rattle.std.specs.Prelude.{◌==◌}
+use mathlib.Core.Bool.{beq}
+use Rattle.std.specs.List.{list_all}
+use Rattle.std.proofs.lemmas.Bool.{cases_Bool, false≢true}
+use Rattle.std.proofs.lemmas.Bool.Decides.{nat_tests}
+use Rattle.smallvec.specs.SmallVec.{SmallVec}
+use Rattle.ksm_tree.specs.declared.dup.Dup.{Dup}
+use Rattle.ksm_tree.specs.Counts.{AreCounts, is_open, places_where}
+use Rattle.ksm_tree.specs.Dups.{places_open}
+use Rattle.ksm_tree.specs.Places.{with_place, without}
+use Rattle.ksm_tree.specs.Slots.{present, count_in, ArePlaced}
+use Rattle.ksm_tree.proofs.Where.{where_with, where_without, where_same, where_room}
+
+-- two answers that are alike, and two of which the first is yes and the other is not like it
+pub agree : (a b : Bool) → beq a b ≡ true → a ≡ b
+agree true true same = refl
+agree true false same = grind (arith, same)
+agree false true same = grind (arith, same)
+agree false false same = refl
+
+pub differ : (a b : Bool) → beq a b ≡ false → a ≡ true → b ≡ false
+differ true true apart opens = grind (arith, apart)
+differ false true apart opens = absurd (false≢true opens)
+differ a false apart opens = refl
+
+-- where no place has an item, none is open
+none_open : (limit k : ℕ) (counts : List ℕ) → list_all (λ n. n == 0) counts ≡ true → places_where (is_open limit) k counts ≡ []
+none_open limit k [] none = refl
+none_open limit k (n ∷ counts) none =
+    let here : (n == 0) ≡ true = grind (arith, none) in
+    let left : list_all (λ n. n == 0) counts ≡ true = grind (arith, none, here) in
+    let rest = none_open limit (suc k) counts left in
+    grind (arith, nat_tests, here, rest)
+
+length_zeroes : (n : ℕ) → length {A = ℕ} (replicate n 0) ≡ n
+length_zeroes zero = refl
+length_zeroes (suc n) = ap suc (length_zeroes n)
+
+all_none : (n : ℕ) → list_all (λ n. n == 0) (replicate n 0) ≡ true
+all_none zero = refl
+all_none (suc n) = all_none n
+
+pub counts_begun : (limit n : ℕ) (places : SmallVec ℕ) → places.items ≡ [] → n ≤ places.capacity → AreCounts limit (replicate n 0) places
+counts_begun limit n places none room =
+    record { opens = none ∙ sym (none_open limit 0 (replicate n 0) (all_none n)); room = rw length_zeroes room }
+
+-- so another limit may be taken
+pub counts_limited : (limit other : ℕ) (counts : List ℕ) (places : SmallVec ℕ) → list_all (λ n. n == 0) counts ≡ true → AreCounts limit counts places → AreCounts other counts places
+counts_limited limit other counts places none h =
+    record { opens = h.opens ∙ none_open limit 0 counts none ∙ sym (none_open other 0 counts none); room = h.room }
+
+-- a place where the number changes: it is open as before, or opens, or is open no more
+pub counts_same : (limit p n : ℕ) (counts : List ℕ) (places : SmallVec ℕ) → is_open limit n ≡ is_open limit (get_or counts p 0) → AreCounts limit counts places → AreCounts limit (set counts p n) places
+counts_same limit p n counts places same h =
+    record { opens = h.opens ∙ sym (where_same (is_open limit) 0 0 p counts n same); room = rw length-set h.room }
+
+pub counts_opened : (limit p n : ℕ) (counts : List ℕ) (places places' : SmallVec ℕ) → p < length counts → is_open limit n ≡ true → places'.items ≡ with_place p places.items → places'.capacity ≡ places.capacity → AreCounts limit counts places → AreCounts limit (set counts p n) places'
+counts_opened limit p n counts places places' within opens more room h =
+    record { opens = more ∙ ap (with_place p) h.opens ∙ sym (where_with (is_open limit) 0 p p counts n (omega arith) within opens); room = rw (length-set, room) h.room }
+
+pub counts_closed : (limit p n : ℕ) (counts : List ℕ) (places places' : SmallVec ℕ) → p < length counts → is_open limit n ≡ false → places'.items ≡ without p places.items → places'.capacity ≡ places.capacity → AreCounts limit counts places → AreCounts limit (set counts p n) places'
+counts_closed limit p n counts places places' within closes left room h =
+    record { opens = left ∙ ap (without p) h.opens ∙ sym (where_without (is_open limit) 0 p p counts n (omega arith) within closes); room = rw (length-set, room) h.room }
+
+pub opens_with_room : (limit p : ℕ) (counts : List ℕ) (places : SmallVec ℕ) → p < length counts → is_open limit (get_or counts p 0) ≡ false → AreCounts limit counts places → length places.items + 1 ≤ places.capacity
+opens_with_room limit p counts places within closed h =
+    let room = where_room (is_open limit) 0 0 p counts within closed in
+    omega (arith, room, ap length h.opens, h.room)
+
+-- the open places of slots are those of the open dups in them
+pub open_seen : (limit k : ℕ) (slots : List (Option Dup)) → ArePlaced k slots → places_where (is_open limit) k (map count_in slots) ≡ places_open limit (present slots)
+open_seen limit k [] placed = refl
+open_seen limit k (None ∷ slots) placed = open_seen limit (suc k) slots placed
+open_seen limit k (Some d ∷ slots) placed =
+    let at = placed.0 in
+    let rest = open_seen limit (suc k) slots placed.1 in
+    elim (cases_Bool (is_open limit (length d.items))) [
+      | inl opens ↦ grind (arith, opens, at, rest)
+      | inr closed ↦ grind (arith, closed, at, rest)
+    ]

@@ -1,0 +1,82 @@
+-- The places at which a test is passed: what a change at one place does to them.
+use Rattle.std.proofs.Common.{◌≡◌, ℕ, zero, suc, ◌+◌, ◌<◌, ◌≤◌, Bool, true, false, List, [], ◌∷◌, length, get_or, set, refl, arith}
+use Rattle.std.specs.Prelude.{◌==◌, not, nat_lt, All, if◌then◌else◌}
+use Rattle.std.proofs.lemmas.Bool.Decides.{nat_tests}
+use Rattle.std.proofs.lemmas.List.Elements.{All-cons, All-weaker}
+use Rattle.ksm_rmap.proofs.Ordered.{filter_none, filter_all}
+use Rattle.ksm_tree.specs.Places.{with_place, without}
+use Rattle.ksm_tree.specs.Counts.{places_where}
+
+module _ {X : Type 0} (test : X → Bool) where
+  where_above : (k : ℕ) (xs : List X) → All (λ p. k ≤ p) (places_where test k xs)
+  where_above k [] = λ i d lt. absurd (omega arith)
+  where_above k (y ∷ xs) =
+      let rest = All-weaker (λ p. suc k ≤ p) (λ p. k ≤ p) (λ p h. omega arith) (places_where test (suc k) xs) (where_above (suc k) xs) in
+      elim (test y) as (λ b. All (λ p. k ≤ p) (if b then k ∷ places_where test (suc k) xs else places_where test (suc k) xs)) [
+        | true ↦ All-cons (λ p. k ≤ p) k (places_where test (suc k) xs) (omega arith) rest
+        | false ↦ rest
+      ]
+
+  where_not_below : (k p : ℕ) (xs : List X) → p < k → All (λ q. nat_lt q p ≡ false) (places_where test k xs)
+  where_not_below k p xs below i d lt = let h = where_above k xs i d lt in grind (arith, nat_tests, h)
+
+  where_behind : (k p : ℕ) (xs : List X) → p < k → All (λ q. nat_lt p q ≡ true) (places_where test k xs)
+  where_behind k p xs below i d lt = let h = where_above k xs i d lt in grind (arith, nat_tests, h)
+
+  where_apart : (k p : ℕ) (xs : List X) → p < k → All (λ q. not (q == p) ≡ true) (places_where test k xs)
+  where_apart k p xs below i d lt = let h = where_above k xs i d lt in grind (arith, nat_tests, h)
+
+  -- an element that passes from now on
+  pub where_with : (k p i : ℕ) (xs : List X) (x : X) → p ≡ k + i → i < length xs → test x ≡ true → places_where test k (set xs i x) ≡ with_place p (places_where test k xs)
+  where_with k p i [] x is within passes = absurd (omega arith)
+  where_with k p zero (y ∷ xs) x is within passes =
+      let rest = places_where test (suc k) xs in
+      let none = filter_none (λ q. nat_lt q p) rest (where_not_below (suc k) p xs (omega arith)) in
+      let each = filter_all (λ q. nat_lt p q) rest (where_behind (suc k) p xs (omega arith)) in
+      elim (test y) as (λ b. (if test x then k ∷ rest else rest) ≡ with_place p (if b then k ∷ rest else rest)) [
+        | true ↦ grind (arith, nat_tests, none, each, passes)
+        | false ↦ grind (arith, nat_tests, none, each, passes)
+      ]
+  where_with k p (suc i) (y ∷ xs) x is within passes =
+      let rest = places_where test (suc k) xs in
+      let new = places_where test (suc k) (set xs i x) in
+      let so_far = where_with (suc k) p i xs x (omega arith) (omega arith) passes in
+      elim (test y) as (λ b. (if b then k ∷ new else new) ≡ with_place p (if b then k ∷ rest else rest)) [
+        | true ↦ grind (arith, nat_tests, so_far)
+        | false ↦ so_far
+      ]
+
+  -- an element that fails from now on
+  pub where_without : (k p i : ℕ) (xs : List X) (x : X) → p ≡ k + i → i < length xs → test x ≡ false → places_where test k (set xs i x) ≡ without p (places_where test k xs)
+  where_without k p i [] x is within fails = absurd (omega arith)
+  where_without k p zero (y ∷ xs) x is within fails =
+      let rest = places_where test (suc k) xs in
+      let each = filter_all (λ q. not (q == p)) rest (where_apart (suc k) p xs (omega arith)) in
+      elim (test y) as (λ b. (if test x then k ∷ rest else rest) ≡ without p (if b then k ∷ rest else rest)) [
+        | true ↦ grind (arith, nat_tests, each, fails)
+        | false ↦ grind (arith, nat_tests, each, fails)
+      ]
+  where_without k p (suc i) (y ∷ xs) x is within fails =
+      let rest = places_where test (suc k) xs in
+      let new = places_where test (suc k) (set xs i x) in
+      let so_far = where_without (suc k) p i xs x (omega arith) (omega arith) fails in
+      elim (test y) as (λ b. (if b then k ∷ new else new) ≡ without p (if b then k ∷ rest else rest)) [
+        | true ↦ grind (arith, nat_tests, so_far)
+        | false ↦ so_far
+      ]
+
+  -- an element that passes as it did
+  pub where_same : (d : X) (k i : ℕ) (xs : List X) (x : X) → test x ≡ test (get_or xs i d) → places_where test k (set xs i x) ≡ places_where test k xs
+  where_same d k i [] x same = refl
+  where_same d k zero (y ∷ xs) x same = rw same refl
+  where_same d k (suc i) (y ∷ xs) x same = let so_far = where_same d (suc k) i xs x same in grind (arith, so_far)
+
+  where_short : (k : ℕ) (xs : List X) → length (places_where test k xs) ≤ length xs
+  where_short k [] = omega arith
+  where_short k (y ∷ xs) = let so_far = where_short (suc k) xs in grind (arith, so_far)
+
+  -- beside an element that fails there is room for one more place
+  pub where_room : (d : X) (k i : ℕ) (xs : List X) → i < length xs → test (get_or xs i d) ≡ false → length (places_where test k xs) + 1 ≤ length xs
+  where_room d k i [] within fails = absurd (omega arith)
+  where_room d k zero (y ∷ xs) within fails = let short = where_short (suc k) xs in grind (arith, fails, short)
+  where_room d k (suc i) (y ∷ xs) within fails = let so_far = where_room d (suc k) i xs (omega arith) fails in grind (arith, so_far)

@@ -1,0 +1,13 @@
+use Rattle.std.proofs.Common.{◌∙◌, ap}
+use Rattle.ksm_tree.specs.Counts.{is_open, places_where}
+use Rattle.ksm_tree.specs.Dups.{places_open}
+use Rattle.ksm_tree.proofs.Openings.{open_seen}
+use Rattle.ksm_tree.proofs.slots.Slots.open_places.Goals as goal
+
+pub returns : goal.returns
+returns c =
+    let seen =
+    ap (places_where (is_open c.args.limit) 0) c.self.invariant.counted
+    ∙ open_seen c.args.limit 0 c.self.inside.dups.items c.self.invariant.placed
+    ∙ ap (λ s. places_open c.args.limit s.dups) c.self.view_is in
+    rw (← seen) c.open_places.ensures

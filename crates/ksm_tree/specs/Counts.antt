@@ -1,0 +1,17 @@
+-- How many items there are at each place, and the places whose number passes a test. (own)
+use Rattle.std.specs.Prelude.{◌≡◌, ℕ, suc, ◌≤◌, Bool, ◌&&◌, nat_le, nat_lt, List, [], ◌∷◌, length, if◌then◌else◌}
+use Rattle.smallvec.specs.SmallVec.{SmallVec}
+
+-- with an item, and fewer than the limit
+abbrev pub is_open : ℕ → ℕ → Bool
+is_open limit count = nat_le 1 count && nat_lt count limit
+
+-- the places from k on at which a test is passed
+abbrev pub places_where : {X : Type 0} → (X → Bool) → ℕ → List X → List ℕ
+places_where test k [] = []
+places_where test k (x ∷ xs) = if test x then k ∷ places_where test (suc k) xs else places_where test (suc k) xs
+
+-- the open places are known, with room for all
+pub record AreCounts (limit : ℕ) (counts : List ℕ) (places : SmallVec ℕ) : Type 0 where
+  pub opens : places.items ≡ places_where (is_open limit) 0 counts
+  pub room : length counts ≤ places.capacity
