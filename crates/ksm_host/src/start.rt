@@ -38,7 +38,8 @@ pub(crate) fn opened<R: Eprint + AllocGlobal>(rt: &R, words: &[String]) -> Resul
     ensures refused { result ≡ Err Status.NotUnderstood → (given : List Given) → ¬ (Tells (map string_bytes words.now) given) }
 {
     let shape = told(rt, options(rt.alloc(), words))?;
-    Parts::open(rt.alloc(), shape, 1).map_err(|_| Status::NoMemory)
+    let parts = Parts::open(rt.alloc(), shape, 1).map_err(|_| Status::NoMemory)?;
+    Ok(parts.unread())
 }
 
 /// The shape that was told, or the status to end with. Why the words are no options is said on standard error; of a want of memory

@@ -1,6 +1,6 @@
 -- Each step keeps the rule.
-use Rattle.std.proofs.Common.{◌≡◌, ◌≢◌, ◌==◌, ℕ, zero, suc, ◌+◌, ◌≤◌, true, false, List, [], ◌∷◌, ◌++◌, set, refl, sym, ap, ◌∙◌, subst, ⊎_elim, arith, le_trans, Option, true≢false}
-use mathlib.Core.Option.{some, some-ne-none, some-injective}
+use Rattle.std.proofs.Common.{◌≡◌, ◌≢◌, ◌==◌, ℕ, zero, suc, ◌+◌, ◌≤◌, true, false, List, [], ◌∷◌, ◌++◌, set, refl, sym, ap, ◌∙◌, subst, ⊎_elim, arith, le_trans, Option, None, true≢false}
+use mathlib.Core.Option.{none, some, some-ne-none, some-injective}
 use mathlib.Core.Logic.{dite}
 use native.Mathlib.Decide.{ℕ_discrete}
 use lib.ListN.{get_elem?}
@@ -11,7 +11,7 @@ use Rattle.ksm_base.specs.Journal.{Entry}
 use Rattle.ksm_shared.specs.declared.seen.Owned.{Owned}
 use Rattle.ksm_shared.specs.declared.seen.Caller.{Caller}
 use Rattle.ksm_shared.specs.declared.seen.View.{View}
-use Rattle.ksm_shared.specs.Seen.{CallersFit, times, total, OwnersBelow, Fits, IsKept, Kept, view_of, nobody, book_view, share_view, caller, added, after, Knows, Writes}
+use Rattle.ksm_shared.specs.Seen.{CallersFit, times, total, OwnersBelow, Fits, IsKept, Kept, view_of, nobody, book_view, share_view, caller, added, after, Knows, Looks, Writes}
 use Rattle.ksm_shared.proofs.Lists.{total_set, total_one, total_two, total_snoc, total_zero, times_append, times_map, times_le, times_other, callers_grow, callers_more, callers_append, callers_fresh, times_above, owners_append, owners_more, owners_none, added_apart, added_owners}
 
 fits_set : (book : ℕ) (log : List Owned) (count : ℕ) (views : List View) (by : ℕ) (w : View)
@@ -78,6 +78,10 @@ writes slots id v held e kp s h len at small = (
   writes_views s.views id v e kp h at,
   λ e' is. (ap (λ x. after v x) (some-injective e e' is), refl, knows s.views id v kp h at),
 )
+
+pub looks : (slots id : ℕ) (v : View) (held : List (ℕ × Option Entry)) → v.is_book ≡ true
+    → Allows Kept slots id (v, held) 0 (λ n. n) (Looks (step slots 0 0 0 none) (v, held))
+looks slots id v held kp s h len at small = (after v None, keeps, tt, writes_views s.views id v None kp h at, (refl, refl, knows s.views id v kp h at))
 
 -- a whole view goes to a new seat
 pub moves_out : {S : Type 0} (id : ℕ) (v : View) → v.is_book ≡ false → Splits {S = S} Kept id v nobody v

@@ -1,13 +1,13 @@
 -- What the joined seats know, and what is left when they are cut apart.
 use Rattle.std.proofs.Common.{◌≡◌, ℕ, true, false, List, [], ◌∷◌, ◌++◌, refl, sym, ap, ◌∙◌, subst, Option, None, map, length, arith}
 use Rattle.std.proofs.lemmas.List.{append-nil}
-use mathlib.Core.Option.{some}
+use mathlib.Core.Option.{none, some, some-injective}
 use Rattle.atomic_table.specs.Table.{Me, step}
 use Rattle.ksm_base.specs.Journal.{Entry}
 use Rattle.ksm_shared.specs.declared.seen.Owned.{Owned}
 use Rattle.ksm_shared.specs.declared.seen.Caller.{Caller}
 use Rattle.ksm_shared.specs.declared.seen.View.{View}
-use Rattle.ksm_shared.specs.Seen.{view_of, book_view, share_view, joined_view, caller, first, added, after, Knows, Writes, IsBookSeat, IsShareSeat, Wrote}
+use Rattle.ksm_shared.specs.Seen.{view_of, book_view, share_view, joined_view, caller, first, added, after, Knows, Looks, Writes, IsBookSeat, IsShareSeat, Wrote}
 
 abbrev Me' : Type 0
 Me' = Me (Option Entry) View
@@ -52,6 +52,10 @@ wrote bm sm jm xm b2 s2 e slots found s j w cut given =
         share_is = ap (λ (m : Me'). m.0) is_share ∙ ap (λ (a : List Owned). share_view g.number (log ++ a)) same;
       },
     )
+
+-- what a look tells is what a step with no entry tells
+pub looked : (jm xm : Me') (slots found : ℕ) → Looks (step slots 0 0 0 none) jm found xm → Writes (step slots 0 0 0 (some None)) jm found xm
+looked jm xm slots found l e is = (l.0 ∙ ap (λ (x : Option Entry). after jm.0 x) (some-injective None e is), l.1, l.2)
 
 -- a look of the book's seat with these shares: they fit, and are let go
 pub let_go : (bm jm xm b2 : Me') (cs : List Caller) (slots found : ℕ) → IsBookSeat bm → jm ≡ (view_of true bm.0.log bm.0.shares cs, []) → Writes (step slots 0 0 0 (some None)) jm found xm

@@ -5,13 +5,14 @@ use Rattle.logbook.specs.Pages.{Book}
 use Rattle.ksm_base.specs.declared.shape.Shape.{Shape}
 use Rattle.frame_table.specs.Named.{TableName}
 
--- the parts of one book: the table of its frames, the table of what its shares have seen, the logbook of its journal, and how many shares
--- there are
+-- the parts of one book: the table of its frames, the table of what its shares have seen, the logbook of its journal, how many shares
+-- there are, and how many readers of counters
 pub record PartsId : Type 0 where
   pub frames : TableName
   pub seen : TableId
   pub logbook : Book
   pub callers : ℕ
+  pub readers : ℕ
 
 abbrev pub no_table : TableId
 no_table = record { words = 0; slots = 0; views_name = 0; atom = 0; block = 0; offset = 0; slot_names = [] }
@@ -24,4 +25,4 @@ no_logbook = record { number = 0; log_name = 0; cells_name = 0 }
 
 -- no parts
 abbrev pub no_parts : PartsId
-no_parts = record { frames = record { id = no_table; shape = no_shape }; seen = no_table; logbook = no_logbook; callers = 0 }
+no_parts = record { frames = record { id = no_table; shape = no_shape }; seen = no_table; logbook = no_logbook; callers = 0; readers = 0 }

@@ -22,6 +22,8 @@ pub record IsNew (parts : PartsId) (p : Inner) : Type 0 where
   pub some : 1 ≤ p.callers
   pub few : p.callers ≤ 16
   pub callers : p.callers ≡ parts.callers
+  pub few_readers : p.readers ≤ 16
+  pub readers : p.readers ≡ parts.readers
   pub word : p.word ≡ length_word parts.logbook
   pub logbook : p.journal.book ≡ parts.logbook
   pub journal : p.journal.log ≡ []

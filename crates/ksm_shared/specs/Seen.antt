@@ -106,6 +106,10 @@ pub record Knows (v : View) : Type 0 where
 abbrev pub Writes : Step (Option Entry) → Me (Option Entry) View → ℕ → Me (Option Entry) View → Type 0
 Writes s m found w = (e : Option Entry) → s.said ≡ some e → (w.0 ≡ after m.0 e) × (w.1 ≡ m.1) × Knows m.0
 
+-- what a look of the book's seat tells: each share joined to it has then seen the journal
+abbrev pub Looks : Step (Option Entry) → Me (Option Entry) View → ℕ → Me (Option Entry) View → Type 0
+Looks s m found w = (w.0 ≡ after m.0 None) × (w.1 ≡ m.1) × Knows m.0
+
 -- the first of these shares
 abbrev pub first : List Caller → Caller
 first [] = caller 0 []

@@ -1,5 +1,5 @@
 //! What callers share: the table of frames, and the book behind the merge lock.
-ghost use Rattle.std.specs.Prelude.{◌≡◌, ◌++◌, ◌<◌, List, [], Some, All, IfOk, IfErr, IfNone, IfSome, IsSome, option_map, replicate, vec_len};
+ghost use Rattle.std.specs.Prelude.{◌≡◌, ◌++◌, ◌<◌, List, [], Some, true, false, All, IfOk, IfErr, IfNone, IfSome, IsSome, option_map, replicate, vec_len};
 ghost use mathlib.Core.List.{IsPrefix};
 ghost use Rattle.ksm_base.specs.Counting.{counters_of};
 ghost use Rattle.ksm_base.specs.Journal.{last_stored};
@@ -48,16 +48,16 @@ impl<N: Naming> Model for Ksm<N> {
 }
 
 impl<N: Naming> Ksm<N> {
-    /// The opening book, with its passes, and a share and a reader of counters for each caller. No share has seen an entry, and there is none:
-    /// each is owned by a share, and behind what a share has seen comes none of its own. Refused for memory alone; what was opened by then is
-    /// closed.
+    /// The opening book, with its passes, a share for each caller, and the readers of counters, each with its place. No share has seen an
+    /// entry, and there is none: each is owned by a share, and behind what a share has seen comes none of its own. Refused for memory alone;
+    /// what was opened by then is closed.
     pub fn open(
         parts: Parts,
     ) -> Result<(Ksm<N>, Vec<Pass>, Vec<Share<N>>, Vec<CounterReader<N>>), Fault>
         requires { parts ≡ N.parts }
         ensures passes { IfOk result (λ opened. opened.1.items ≡ replicate N.parts.frames.shape.passes (new_pass N.parts.frames)) }
         ensures shares { IfOk result (λ opened. opened.2.items ≡ fresh N.parts.callers) }
-        ensures readers { IfOk result (λ opened. opened.3.items ≡ replicate N.parts.callers []) }
+        ensures readers { IfOk result (λ opened. opened.3.items ≡ replicate N.parts.readers []) }
         ensures empty { IfOk result (λ opened. (log : List Owned) → OwnersBelow N.parts.callers log → CallersFit log N.parts.callers opened.2.items → log ≡ []) }
         ensures memory { IfErr result (λ fault. fault ≡ Fault.Memory) }
     {
@@ -129,6 +129,28 @@ impl<N: Naming> Ksm<N> {
         place
     }
 
+    /// The same of a page that is registered; none where it is not. The lock is taken once.
+    pub fn ticket_if_known<R: Wait>(
+        &self,
+        rt: &R,
+        share: &mut Share<N>,
+        page: GuestPage,
+    ) -> Option<Option<u32>>
+        ensures seen { SeesOn N.parts share.old share.new [] }
+        ensures part { part_of share.new ≡ part_of share.old }
+        ensures alone { N.parts.callers ≡ 1 → share.new ≡ share.old }
+        ensures known { IfSome result (λ place. (is_known (state_seen N.parts share.new) page ≡ true) × (place ≡ ticket_of page (state_seen N.parts share.new))) }
+        ensures unknown { IfNone result (is_known (state_seen N.parts share.new) page ≡ false) }
+    {
+        let mut merge = self.merge.lock(rt);
+        merge.show(share);
+        let book = merge.book();
+        let known = book.registered(page);
+        let place = book.ticket(page);
+        MutexGuard::unlock(merge);
+        if known { Some(place) } else { None }
+    }
+
     /// Whether the page is registered.
     pub fn registered<R: Wait>(&self, rt: &R, share: &mut Share<N>, page: GuestPage) -> bool
         ensures seen { SeesOn N.parts share.old share.new [] }
@@ -195,7 +217,7 @@ impl<N: Naming> Ksm<N> {
     }
 
     /// The counters after the first `number` entries of the journal. It takes no lock. The journal goes on where the reader's last row ended,
-    /// and begins with what each answer told of that the reader has learnt. None where the reader's entry was refused.
+    /// and begins with what each answer told of that the reader has learnt. None where the reader's entry into its place was refused.
     pub fn counters_now(&self, reader: &mut CounterReader<N>) -> Option<Row>
         ensures shown { IfSome result (λ row. IsPrefix reader.old reader.new × Tells N.parts row reader.new) }
         ensures none { IfNone result (reader.new ≡ reader.old) }

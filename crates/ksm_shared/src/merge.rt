@@ -15,10 +15,10 @@ ghost use Rattle.ksm_shared.specs.Seen.{CallersFit, IsBookSeat, OwnersBelow, cal
 use crate::answer::Answer;
 use crate::naming::Naming;
 use crate::publisher::Publisher;
-use crate::seen::{Entry, SeenSeat, SeenTable, SeenWords, Shares, Writing};
+use crate::seen::{Entry, Looking, SeenSeat, SeenTable, SeenWords, Shares};
 use crate::share::Share;
 use crate::tally::{GatherFault, Tally};
-use crate::writing::write;
+use crate::writing::{look, write};
 use frame_table::{FrameTable, Keeper};
 use ksm_base::{Command, Fault, GuestPage, PageBytes, Reply};
 use ksm_book::Book;
@@ -98,7 +98,7 @@ impl<N: Naming> Merge<N> {
     {
         self.book.lies_lawfully();
         let table = &self.seen;
-        write(&table.shared, &mut self.seat, &mut share.seat, &None);
+        look(&table.shared, &mut self.seat, &mut share.seat);
     }
 
     /// The book, for what is read without a step.
@@ -164,6 +164,22 @@ impl<N: Naming> Merge<N> {
         publisher.close(rt);
         book.close()
     }
+
+    /// The keeper, where a reader was refused at the opening.
+    pub(crate) fn leave(self) -> Keeper
+        ensures { result ≡ self.book.keeper }
+    {
+        let Merge {
+            book,
+            seen: _,
+            seat: _,
+            callers: _,
+            publisher,
+            of: _,
+        } = self;
+        publisher.leave();
+        book.close()
+    }
 }
 
 // Joins the shares to the book's seat, looks, and lets them go.
@@ -179,7 +195,7 @@ fn join_all<N: Naming>(table: &SeenWords, book: &mut SeenSeat, shares: Vec<Share
         let Share { seat, of: _ } = share;
         table.join_seat::<Shares>(book, seat);
     }
-    table.compare_exchange_with::<Writing>(book, 0, 0, 0, &None);
+    table.load::<Looking>(book, 0);
     let _gone = table.split_seat::<Shares>(book);
 }
 

@@ -29,6 +29,7 @@ pub(crate) struct Inner {
     pub word: LengthWord,
     pub journal: SeenJournal,
     pub callers: u32,
+    pub readers: u32,
 }
 
 impl Inner {
@@ -44,13 +45,14 @@ impl Inner {
             word: _,
             journal: _,
             callers: _,
+            readers: _,
         } = self;
         keeper
     }
 }
 
-/// The book that is to lie under the lock, with a share and a reader of counters for each caller. Refused for memory alone, it gives the keeper
-/// back.
+/// The book that is to lie under the lock, with a share for each caller, and the readers of counters. Refused for memory alone, it gives the
+/// keeper back.
 pub(crate) fn open_lock<N: Naming>(
     alloc: Global,
     inner: Inner,
@@ -58,28 +60,32 @@ pub(crate) fn open_lock<N: Naming>(
     requires { IsNew N.parts inner }
     ensures book { IfOk result (λ opened. opened.0 ≡ opening_lock N.parts) }
     ensures shares { IfOk result (λ opened. opened.1.items ≡ fresh N.parts.callers) }
-    ensures readers { IfOk result (λ opened. opened.2.items ≡ replicate N.parts.callers []) }
+    ensures readers { IfOk result (λ opened. opened.2.items ≡ replicate N.parts.readers []) }
     ensures refused { IfErr result (λ e. (e.0 ≡ new_keeper N.parts.frames) × (e.1 ≡ Fault.Memory)) }
 {
-    let Ok((mut shares, mut readers)) = room(alloc, inner.callers) else {
+    let count = inner.readers;
+    let Ok((mut shares, mut readers)) = room(alloc, inner.callers, count) else {
         return Err((inner.close(), Fault::Memory));
     };
     let merge = open_merge(alloc, inner, &mut shares)?;
-    take_readers(&merge.publisher, &mut readers, merge.callers);
-    Ok((merge, shares, readers))
+    match take_readers(&merge.publisher, &mut readers, count) {
+        Ok(()) => Ok((merge, shares, readers)),
+        Err(fault) => Err((merge.leave(), fault)),
+    }
 }
 
 // Room for what callers are handed.
 fn room<N: Naming>(
     alloc: Global,
     callers: u32,
+    count: u32,
 ) -> Result<(Vec<Share<N>>, Vec<CounterReader<N>>), Fault>
     ensures shares { IfOk result (λ room. (room.0.items ≡ []) × (vec_len room.0 ≡ 0) × (callers ≤ vec_capacity room.0)) }
-    ensures readers { IfOk result (λ room. (room.1.items ≡ []) × (vec_len room.1 ≡ 0) × (callers ≤ vec_capacity room.1)) }
+    ensures readers { IfOk result (λ room. (room.1.items ≡ []) × (vec_len room.1 ≡ 0) × (count ≤ vec_capacity room.1)) }
     ensures memory { IfErr result (λ fault. fault ≡ Fault.Memory) }
 {
     let shares = Vec::with_capacity(alloc, callers as usize)?;
-    let readers = Vec::with_capacity(alloc, callers as usize)?;
+    let readers = Vec::with_capacity(alloc, count as usize)?;
     Ok((shares, readers))
 }
 
@@ -103,10 +109,11 @@ fn open_merge<N: Naming>(
         word,
         journal,
         callers,
+        readers,
     } = inner;
     let book = Book::open(alloc, keeper, shape)?;
     let counters = book.counters();
-    let publisher = match Publisher::open(alloc, word, journal, counters, callers) {
+    let publisher = match Publisher::open(alloc, word, journal, counters, readers) {
         Ok(publisher) => publisher,
         Err(fault) => return Err((book.close(), fault)),
     };
@@ -121,20 +128,23 @@ fn open_merge<N: Naming>(
     })
 }
 
-// A reader for each caller.
+// So many readers, each in a place of its own. Refused for memory alone.
 fn take_readers<N: Naming>(
     publisher: &Publisher<N>,
     readers: &mut Vec<CounterReader<N>>,
-    callers: u32,
-)
+    count: u32,
+) -> Result<(), Fault>
     requires publisher { publisher.now.shown ≡ [] }
-    requires room { (readers.old.items ≡ []) × (vec_len readers.old ≡ 0) × (callers ≤ vec_capacity readers.old) }
-    ensures { readers.new.items ≡ replicate callers [] }
+    requires count { count ≡ N.parts.readers }
+    requires room { (readers.old.items ≡ []) × (vec_len readers.old ≡ 0) × (count ≤ vec_capacity readers.old) }
+    ensures readers { IfOk result (λ _. readers.new.items ≡ replicate count []) }
+    ensures memory { IfErr result (λ fault. fault ≡ Fault.Memory) }
 {
-    for _ in 0..callers {
-        let reader = CounterReader::new(publisher.reader(), publisher.newest());
+    for _ in 0..count {
+        let reader = CounterReader::new(publisher.reader()?, publisher.newest());
         readers.push_reserved(reader);
     }
+    Ok(())
 }
 
 // A share for each caller.

@@ -30,17 +30,18 @@ impl Model for Parts {
 
     ghost Value = { PartsId };
 
-    ghost view = { λ p. record { frames = p.frames; seen = p.inner.seen.shared.table_id; logbook = p.inner.journal.book; callers = p.inner.callers } };
+    ghost view = { λ p. record { frames = p.frames; seen = p.inner.seen.shared.table_id; logbook = p.inner.journal.book; callers = p.inner.callers; readers = p.inner.readers } };
 
-    ghost invariant = { λ p. IsNew (record { frames = p.frames; seen = p.inner.seen.shared.table_id; logbook = p.inner.journal.book; callers = p.inner.callers }) p.inner × (p.passes.items ≡ replicate p.frames.shape.passes (new_pass p.frames)) };
+    ghost invariant = { λ p. IsNew (record { frames = p.frames; seen = p.inner.seen.shared.table_id; logbook = p.inner.journal.book; callers = p.inner.callers; readers = p.inner.readers }) p.inner × (p.passes.items ≡ replicate p.frames.shape.passes (new_pass p.frames)) };
 }
 
 impl Parts {
-    /// The parts of a book of this shape, with 1 to 16 callers. Refused for memory alone; then nothing is kept.
+    /// The parts of a book of this shape, with 1 to 16 callers and a reader of counters for each. Refused for memory alone; then nothing is
+    /// kept.
     pub fn open(alloc: Global, shape: Shape, callers: u32) -> Result<Parts, Fault>
         requires shape { IsShape shape }
         requires callers { (1 ≤ callers) × (callers ≤ 16) }
-        ensures opened { IfOk result (λ parts. (parts.frames.shape ≡ shape) × (parts.callers ≡ callers)) }
+        ensures opened { IfOk result (λ parts. (parts.frames.shape ≡ shape) × (parts.callers ≡ callers) × (parts.readers ≡ callers)) }
         ensures memory { IfErr result (λ fault. fault ≡ Fault.Memory) }
     {
         let (seen, seat) = SeenTable::of_words(alloc, &[0], &())?;
@@ -59,8 +60,28 @@ impl Parts {
                 word,
                 journal,
                 callers,
+                readers: callers,
             },
         })
+    }
+
+    /// The same for a book whose counters are read under the lock alone: it has no readers, and no rows are published for them.
+    pub fn unread(self) -> Parts
+        ensures { result ≡ record self { readers = 0 } }
+    {
+        let Parts {
+            alloc,
+            frames,
+            passes,
+            mut inner,
+        } = self;
+        inner.readers = 0;
+        Parts {
+            alloc,
+            frames,
+            passes,
+            inner,
+        }
     }
 
     /// What they were opened with: how many nodes, frames and passes.

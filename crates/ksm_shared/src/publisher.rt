@@ -36,7 +36,7 @@ impl<N: Naming> Model for Publisher<N> {
 }
 
 impl<N: Naming> Publisher<N> {
-    /// Shows the counters of an empty journal, with places for so many readers. Refused for memory alone.
+    /// Shows the counters of an empty journal to so many readers. Refused for memory alone.
     pub fn open(
         alloc: Global,
         word: LengthWord,
@@ -47,7 +47,7 @@ impl<N: Naming> Publisher<N> {
         requires word { word ≡ length_word N.parts.logbook }
         requires seen { (seen.book ≡ N.parts.logbook) × (seen.log ≡ []) }
         requires counters { counters ≡ counters_of (opening N.parts.frames.shape) }
-        requires readers { (0 < readers) × (readers ≤ 16) }
+        requires readers { (readers ≡ N.parts.readers) × (readers ≤ 16) }
         ensures opened { IfOk result (λ p. (p.journal ≡ []) × (p.shown ≡ [])) }
         ensures memory { IfErr result (λ fault. fault ≡ Fault.Memory) }
     {
@@ -61,9 +61,12 @@ impl<N: Naming> Publisher<N> {
         })
     }
 
-    /// A new reader; none where each place for one is taken.
-    pub fn reader(&self) -> Option<RowReader<N>> {
-        self.rows.reader()
+    /// A new reader, of a book that has some. Refused for memory alone.
+    pub fn reader(&self) -> Result<RowReader<N>, Fault>
+        requires { 0 < N.parts.readers }
+        ensures memory { IfErr result (λ fault. fault ≡ Fault.Memory) }
+    {
+        Ok(self.rows.reader()?)
     }
 
     /// A copy of the row that readers take.
@@ -95,6 +98,16 @@ impl<N: Naming> Publisher<N> {
             rows,
         } = self;
         rows.close(rt);
+    }
+
+    /// Leaves the copies where they lie, where a reader was refused.
+    pub fn leave(self) {
+        let Publisher {
+            word: _,
+            followed: _,
+            rows,
+        } = self;
+        rows.leave();
     }
 }
 

@@ -6,6 +6,7 @@ ghost use Rattle.ksm_shared.specs.Published.{IsRowOf, Tells};
 use crate::answer::Answer;
 use crate::naming::Naming;
 use crate::rows::{CountedRow, RowReader, RowsGoOn};
+use core::mem::replace_with;
 use ksm_base::Counters;
 use std::marker::{Model, PhantomData};
 
@@ -19,7 +20,7 @@ pub struct Row {
 /// Reads counters with no lock. Contracts see it as the longest beginning of the journal that it was shown or has learnt of.
 #[derive(Drop)]
 pub struct CounterReader<N: Naming> {
-    reader: Option<RowReader<N>>,
+    reader: RowReader<N>,
     row: CountedRow,
     of: PhantomData<N>,
 }
@@ -37,7 +38,7 @@ impl<N: Naming> Model for CounterReader<N> {
 }
 
 impl<N: Naming> CounterReader<N> {
-    pub(crate) fn new(reader: Option<RowReader<N>>, row: CountedRow) -> CounterReader<N>
+    pub(crate) fn new(reader: RowReader<N>, row: CountedRow) -> CounterReader<N>
         requires { IsRowOf N.parts row }
         ensures { result ≡ row.reached.journal }
     {
@@ -61,20 +62,24 @@ impl<N: Naming> CounterReader<N> {
         ensures shown { IfSome result (λ row. IsPrefix self.old self.new × Tells N.parts row self.new) }
         ensures none { IfNone result (self.new ≡ self.old) }
     {
-        let reader = self.reader.take()?;
-        match reader.enter_as::<RowsGoOn<N>>() {
-            Ok(reading) => {
-                self.row.rise(reading.get());
-                self.reader = Some(reading.leave());
-                Some(Row {
-                    number: self.row.beginning().len(),
-                    counters: self.row.counters(),
-                })
-            }
-            Err(reader) => {
-                self.reader = Some(reader);
-                None
-            }
+        let newest = replace_with(&mut self.reader, (), enter)?;
+        self.row.rise(&newest);
+        Some(Row {
+            number: self.row.beginning().len(),
+            counters: self.row.counters(),
+        })
+    }
+}
+
+// Enters the copies, and copies the row that is shown; none where the entry was refused.
+fn enter<N: Naming>(reader: RowReader<N>, _x: ()) -> (RowReader<N>, Option<CountedRow>)
+    ensures { IfSome result.1 (λ row. IsRowOf N.parts row) }
+{
+    match reader.enter_as::<RowsGoOn<N>>() {
+        Ok(reading) => {
+            let row = reading.get().again();
+            (reading.leave(), Some(row))
         }
+        Err(reader) => (reader, None),
     }
 }

@@ -13,6 +13,7 @@ use left_right::reader::Reader;
 use left_right::writer::Writer;
 use std::alloc::{AllocError, Global};
 use std::marker::{Model, PhantomData};
+use std::mem::ManuallyDrop;
 use std::sync::Wait;
 
 /// Counters, and the beginning of the journal after which they stand.
@@ -120,45 +121,61 @@ pub type RowReader<N> = Reader<CountedRow, Beginning, RowsGoOn<N>>;
 /// Writes both copies.
 pub type RowWriter<N> = Writer<CountedRow, CountedRow, Beginning, RowsGoOn<N>>;
 
-/// The writer of the rows, with nothing pending. Contracts see it as the row that readers take.
+/// The newest row, and the two copies of it that readers take, with nothing pending; where the book has no readers there are none. Contracts
+/// see the newest row.
 ///
-/// It must be closed.
+/// They must be closed.
 pub struct Rows<N: Naming> {
-    writer: RowWriter<N>,
+    newest: CountedRow,
+    copies: Option<RowWriter<N>>,
 }
 
 impl<N: Naming> Model for Rows<N> {
-    ghost use Rattle.std.specs.Prelude.{◌≡◌, [], drop};
+    ghost use Rattle.std.specs.Prelude.{◌≡◌, [], drop, IfNone, IfSome};
     ghost use Rattle.ksm_shared.specs.Published.{IsRowOf, ShownRow};
 
     ghost Value = { ShownRow };
 
-    ghost view = { λ r. r.writer.desk.shown.value };
+    ghost view = { λ r. r.newest };
 
-    ghost invariant = { λ r. IsRowOf N.parts r.writer.desk.shown.value × (drop r.writer.behind r.writer.log.items ≡ []) };
+    ghost invariant = { λ r. IsRowOf N.parts r.newest × IfNone r.copies (N.parts.readers ≡ 0) × IfSome r.copies (λ w. (w.desk.shown.value ≡ r.newest) × (drop w.behind w.log.items ≡ [])) };
 }
 
 impl<N: Naming> Rows<N> {
-    /// Two copies of a row, with places for so many readers.
+    /// The first row, and copies of it for so many readers.
     pub fn open(alloc: Global, row: CountedRow, readers: usize) -> Result<Rows<N>, AllocError>
-        requires readers { (0 < readers) × (readers < 2 ^ 32) }
+        requires readers { (readers ≡ N.parts.readers) × (readers < 2 ^ 32) }
         requires row { IsRowOf N.parts row }
         ensures { IfOk result (λ rows. rows ≡ row) }
     {
-        let writer = RowWriter::new(alloc, row.again(), row, readers)?;
-        Ok(Rows { writer })
+        if readers == 0 {
+            return Ok(Rows {
+                newest: row,
+                copies: None,
+            });
+        }
+        let copies = two_copies(alloc, &row, readers)?;
+        Ok(Rows {
+            newest: row,
+            copies: Some(copies),
+        })
     }
 
-    /// A new reader; none where each place for one is taken.
-    pub fn reader(&self) -> Option<RowReader<N>> {
-        new_reader(&self.writer)
+    /// A new reader, in a place of its own.
+    pub fn reader(&self) -> Result<RowReader<N>, AllocError>
+        requires { 0 < N.parts.readers }
+    {
+        match &self.copies {
+            Some(copies) => new_reader(copies),
+            None => unreachable!(),
+        }
     }
 
     /// The row that readers take.
     pub fn newest(&self) -> &CountedRow
         ensures { (result.now ≡ self.now) × IsRowOf N.parts self.now }
     {
-        self.writer.published()
+        &self.newest
     }
 
     /// Shows the row, and answers whether there was room for it; where memory for it is refused, readers take the row of before.
@@ -167,22 +184,61 @@ impl<N: Naming> Rows<N> {
         requires row { IsRowOf N.parts row }
         ensures { MatchBool result (self.new ≡ row) (self.new ≡ self.old) }
     {
-        let room = take_room(&mut self.writer, row);
-        if room {
-            let _ = replace_with(&mut self.writer, rt, publish);
+        if let Some(copies) = &mut self.copies {
+            if !show_in(rt, copies, row.again()) {
+                return false;
+            }
         }
-        room
+        self.newest = row;
+        true
     }
 
     /// Ends the copies, once no reader is in them.
     pub fn close<R: Wait>(self, rt: &R) {
-        let Rows { writer } = self;
-        let _ = writer.take(rt);
+        let Rows { newest: _, copies } = self;
+        match copies {
+            Some(copies) => drop(copies.take(rt)),
+            None => (),
+        }
+    }
+
+    /// Leaves the copies where they lie, for good. Their writer ends by a wait alone, and an opening that is refused has none.
+    pub fn leave(self) {
+        let Rows { newest: _, copies } = self;
+        let _left = unsafe { ManuallyDrop::new_unchecked(copies) };
     }
 }
 
-fn new_reader<N: Naming>(writer: &RowWriter<N>) -> Option<RowReader<N>> {
-    writer.factory().reader().ok()
+// Two copies of the row, with places for so many readers.
+fn two_copies<N: Naming>(
+    alloc: Global,
+    row: &CountedRow,
+    readers: usize,
+) -> Result<RowWriter<N>, AllocError>
+    requires readers { (0 < readers) × (readers < 2 ^ 32) }
+    requires row { IsRowOf N.parts row.now }
+    ensures { IfOk result (λ w. (w.desk.shown.value ≡ row.now) × (drop w.behind w.log.items ≡ [])) }
+{
+    RowWriter::new(alloc, row.again(), row.again(), readers)
+}
+
+fn new_reader<N: Naming>(writer: &RowWriter<N>) -> Result<RowReader<N>, AllocError> {
+    writer.factory().reader()
+}
+
+// Shows the row in the copies, where there is room for it.
+fn show_in<N: Naming, R: Wait>(rt: &R, writer: &mut RowWriter<N>, row: CountedRow) -> bool
+    requires nothing { drop writer.old.behind writer.old.log.items ≡ [] }
+    requires begins { IsPrefix writer.old.desk.shown.value.reached.journal row.reached.journal }
+    requires row { IsRowOf N.parts row }
+    ensures nothing { drop writer.new.behind writer.new.log.items ≡ [] }
+    ensures shown { MatchBool result (writer.new.desk.shown.value ≡ row) (writer.new.desk.shown.value ≡ writer.old.desk.shown.value) }
+{
+    let room = take_room(writer, row);
+    if room {
+        let _ = replace_with(writer, rt, publish);
+    }
+    room
 }
 
 // Takes room for a row behind the one that readers take, and puts it there. False where memory is refused; then it is let go.

@@ -42,13 +42,22 @@ impl TableRule<Option<Entry>, View, ()> for OneJournal {
     ghost first = { λ _. book_view [] 0 };
 }
 
-/// The step that adds an entry, or looks.
+/// The step that adds an entry, where there is one.
 pub struct Writing;
 
 impl Play<Option<Entry>, View> for Writing {
     ghost use Rattle.ksm_shared.specs.Seen.{Writes};
 
     ghost then = { Writes };
+}
+
+/// The step that looks.
+pub struct Looking;
+
+impl Play<Option<Entry>, View> for Looking {
+    ghost use Rattle.ksm_shared.specs.Seen.{Looks};
+
+    ghost then = { Looks };
 }
 
 /// A new share.

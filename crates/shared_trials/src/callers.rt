@@ -97,6 +97,8 @@ fn reads<N: Naming, R: Wait + Abort>(
     assert_eq!(rt; ksm.read(rt, share, page(0, 1)), Some(filled(10)));
     assert_eq!(rt; ksm.read(rt, share, page(0, 2)), None);
     assert_eq!(rt; ksm.ticket(rt, share, page(0, 1)), Some(0));
+    assert_eq!(rt; ksm.ticket_if_known(rt, share, page(0, 1)), Some(Some(0)));
+    assert_eq!(rt; ksm.ticket_if_known(rt, share, page(1, 1)), None);
     assert_eq!(rt; ksm.registered(rt, share, page(0, 1)), true);
     assert_eq!(rt; ksm.registered(rt, share, page(1, 1)), false);
     assert_eq!(rt; ksm.counters(rt, share), TWO_MERGED);

@@ -166,6 +166,28 @@ fn sixteen_readers_see_each_row(rt: HostRuntime) -> Result<(), Fail> {
     sixteen::<Brand, _>(&rt, parts)
 }
 
+fn unread<N: Naming, R: Wait + Abort>(rt: &R, parts: Parts) -> Result<(), Fail>
+    requires { parts ≡ N.parts }
+{
+    let (ksm, passes, mut shares, readers) = Ksm::<N>::open(parts)?;
+    let mut rows = (0, 0);
+    if let Some(share) = shares.last_mut() {
+        let first = ksm.command(rt, share, register(0, 0, 0xaa));
+        let second = ksm.command(rt, share, store(0, 0, 1));
+        rows = (first.row(), second.row());
+    }
+    drop(ksm.close(rt, passes));
+    assert_eq!(rt; (readers.len(), rows), (0, (1, 2)));
+    Ok(())
+}
+
+// A book with no readers publishes nothing, and its answers tell the newest row all the same.
+#[test]
+fn a_book_without_readers_counts_on(rt: HostRuntime) -> Result<(), Fail> {
+    let parts = Parts::open(rt.alloc(), SHAPE, 1)?.unread();
+    unread::<Brand, _>(&rt, parts)
+}
+
 // Registers and merges three pages.
 fn merge_three<N: Naming>(rt: &impl Wait, ksm: &Ksm<N>, share: &mut Share<N>) -> bool {
     let scan = Command::Scan { visits: 6 };

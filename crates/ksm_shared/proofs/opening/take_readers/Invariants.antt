@@ -2,4 +2,4 @@ use Rattle.std.proofs.Common.{◌≡◌, ◌≤◌, [], replicate, vec_capacity,
 use Rattle.ksm_shared.proofs.opening.take_readers.Given as goal
 
 abbrev pub invariant-loop : goal.invariant-loop
-invariant-loop g l = (l.readers.items ≡ replicate l.counter []) × (vec_len l.readers ≡ l.counter) × (l.callers ≤ vec_capacity l.readers)
+invariant-loop g l = (l.readers.items ≡ replicate l.counter []) × (vec_len l.readers ≡ l.counter) × (l.count ≤ vec_capacity l.readers)

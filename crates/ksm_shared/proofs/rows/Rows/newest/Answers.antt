@@ -1,6 +1,6 @@
-use Rattle.std.proofs.Common.{◌∙◌, subst}
+use Rattle.std.proofs.Common.{subst}
 use Rattle.ksm_shared.specs.Published.{IsRowOf, ShownRow}
 use Rattle.ksm_shared.proofs.rows.Rows.newest.Goals as goal
 
 pub returns : goal.returns
-returns g c = (c.published.ensures ∙ c.self.view_is, subst (λ (r : ShownRow). IsRowOf g.N.Naming.parts r) c.self.view_is c.self.invariant.0)
+returns g c = (c.self.view_is, subst (λ (r : ShownRow). IsRowOf g.N.Naming.parts r) c.self.view_is c.self.invariant.0)
