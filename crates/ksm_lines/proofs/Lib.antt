@@ -2,6 +2,9 @@ pub mod Booleans
 pub mod Words
 pub mod Numbers
 pub mod Hex
+pub mod Lanes
+pub mod Alone
+pub mod Front
 pub mod Fields
 pub mod Lines
 pub mod BadLines

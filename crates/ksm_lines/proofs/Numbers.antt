@@ -7,10 +7,11 @@ use Rattle.std.specs.Str.Parse.{digits_value}
 use Rattle.std.proofs.lemmas.Bool.{cases_lt, le-ltb, lt-ltb, ltb-true, eqb-true}
 use Rattle.std.proofs.lemmas.Fmt.{decimal_digit, decimal_nonempty, first_decimal, digits_decimal, digits_value-decimal, decimal-digits_value}
 use Rattle.std.proofs.lemmas.Str.Parse.{IsNumeralModel, numerals_by_value}
-use Rattle.ksm_lines.specs.Digits.{digits_of}
+use Rattle.ksm_lines.specs.Digits.{digits_of, IsReadTo, IsHigh}
 use Rattle.ksm_lines.specs.Reading.{is_plain, number_below}
 use Rattle.std.proofs.lemmas.Str.Parse.{digits_value-take-le}
 use Rattle.std.proofs.lemmas.Int.Digits.{digits_value_more}
+use Rattle.std.proofs.lemmas.List.{take_all}
 use Rattle.std.proofs.lemmas.List.Folds.{list_all_more}
 use Rattle.std.specs.Char.{digit_value}
 use Rattle.ksm_lines.proofs.Booleans.{chosen, is_chosen, first_true, second_true}
@@ -42,10 +43,6 @@ not_zero : (a b : Bool) → (a ≡ true → b ≡ true) → (not a || b) ≡ tru
 not_zero true b h = h refl
 not_zero false b h = refl
 
--- the digits as far as they are read
-abbrev pub IsReadTo : ℕ → List ℕ → ℕ → Type 0
-IsReadTo i word value = (list_all is_ascii_digit (take i word) ≡ true) × (value ≡ digits_value 10 (take i word)) × (value < 2 ^ 32)
-
 -- digits that write a number out of range
 pub no_digits_high : (word : List ℕ) (i value : ℕ) → value ≡ digits_value 10 (take i word) → 2 ^ 32 ≤ value → digits_of word ≡ None
 no_digits_high word i value is high =
@@ -67,6 +64,17 @@ module _ (word : List ℕ) (i value digit : ℕ) (lt : i < length word) (low : 4
 
   pub read_more : is_ascii_digit (get_or word i 0) ≡ true → value * 10 + digit < 2 ^ 32 → IsReadTo (i + 1) word (value * 10 + digit)
   read_more digits small = (list_all_more is_ascii_digit word i 0 lt ∙ ap₂ (λ a b. a && b) read.0 digits, value_more, small)
+
+  pub high_more : is_ascii_digit (get_or word i 0) ≡ true → 2 ^ 32 ≤ value * 10 + digit → IsHigh word
+  high_more digits high = (i + 1, omega arith, list_all_more is_ascii_digit word i 0 lt ∙ ap₂ (λ a b. a && b) read.0 digits, subst (λ n. 2 ^ 32 ≤ n) value_more high)
+
+pub digits_whole : (word : List ℕ) (i value : ℕ) → length word ≤ i → IsReadTo i word value → digits_of word ≡ Some value
+digits_whole word i value whole read =
+    let all : take i word ≡ word = take_all i word whole in
+    let digits : list_all is_ascii_digit word ≡ true = ap (list_all is_ascii_digit) (sym all) ∙ read.0 in
+    let is : digits_value 10 word ≡ value = ap (digits_value 10) (sym all) ∙ sym read.1 in
+    let small : ltb value (2 ^ 32) ≡ true = lt-ltb _ _ read.2 in
+    rw (digits, is, small) refl
 
 -- ---- the number's decimal text
 

@@ -1,12 +1,14 @@
 -- Words, parted at each space.
-use Rattle.std.proofs.Common.{◌≡◌, ℕ, ◌+◌, ◌-◌, ◌<◌, Bool, true, false, cond, List, [], ◌∷◌, length, take, drop, Some, None, refl, sym, ap, ◌∙◌}
+use Rattle.std.proofs.Common.{◌≡◌, ℕ, ◌+◌, ◌-◌, ◌<◌, Bool, true, false, cond, List, [], ◌∷◌, length, take, drop, Option, Some, None, refl, sym, ap, ◌∙◌}
 use Rattle.std.specs.Prelude.{position}
-use Rattle.std.specs.List.{slice_split, onto_first, position_from, position_or_len}
+use Rattle.std.specs.List.{list_all, slice_split, onto_first, position_from, position_or_len}
 use Rattle.std.proofs.lemmas.Bool.{ltb-true}
 use Rattle.std.proofs.lemmas.Iterator.Adapters.{position_from-zero}
 use Rattle.std.proofs.lemmas.List.{take_rest}
 use Rattle.std.proofs.lemmas.List.Splits.{slice_split_first}
-use Rattle.ksm_lines.specs.Reading.{ended}
+use Rattle.std.proofs.lemmas.List.Folds.{list_all_at}
+use Rattle.std.proofs.lemmas.List.Sums.{passes_at_first}
+use Rattle.ksm_lines.specs.Reading.{◌>>=◌, alone, ended}
 use Rattle.ksm_lines.proofs.Booleans.{is_chosen}
 
 -- there is always a first part
@@ -43,3 +45,32 @@ one_word p (x ∷ xs) i e =
 -- without a space there is one word
 pub cut_none : (p : ℕ → Bool) (text : List ℕ) → position p text ≡ None → slice_split p text ≡ text ∷ []
 cut_none p text e = one_word p text 0 (sym (position_from-zero p text) ∙ e)
+
+-- ---- the last word
+
+alone_one : {A : Type 0} (read : List ℕ → Option A) (word : List ℕ) → alone read (word ∷ []) ≡ read word
+alone_one read word = of (read word)
+  where
+    of : {A : Type 0} (o : Option A) → (let one : Option (A × List (List ℕ)) = o >>= (λ value. Some (value, [])) in one >>= λ value. ended value.1 >>= λ end. Some value.0) ≡ o
+    of None = refl
+    of (Some x) = refl
+
+alone_more : {A : Type 0} (read : List ℕ → Option A) (word : List ℕ) (words : List (List ℕ)) → ended words ≡ None → alone read (word ∷ words) ≡ None
+alone_more read word words e = of (read word)
+  where
+    of : {A : Type 0} (o : Option A) → (let more : Option (A × List (List ℕ)) = o >>= (λ value. Some (value, words)) in more >>= λ value. ended value.1 >>= λ end. Some value.0) ≡ None
+    of None = refl
+    of (Some x) = rw e refl
+
+-- A word whose bytes all pass a test that no space passes is the last one where the whole text is read as it.
+pub alone_text : {A : Type 0} (read : List ℕ → Option A) (test p : ℕ → Bool) (text : List ℕ) → ((word : List ℕ) → list_all test word ≡ false → read word ≡ None)
+    → ((byte : ℕ) → p byte ≡ true → test byte ≡ false) → alone read (slice_split p text) ≡ read text
+alone_text read test p text none space = go (position p text) refl
+  where
+    go : (o : Option ℕ) → position p text ≡ o → alone read (slice_split p text) ≡ read text
+    go None e = ap (alone read) (cut_none p text e) ∙ alone_one read text
+    go (Some k) e =
+        let is = is_chosen _ _ _ e in
+        let lt : position_or_len p text < length text = ltb-true _ _ is.0 in
+        ap (alone read) (cut_at p text k e) ∙ alone_more read _ _ (not_ended p _)
+        ∙ sym (none text (list_all_at test text (position_or_len p text) 0 lt (space _ (passes_at_first p text 0 lt))))

@@ -1,16 +1,18 @@
 //! The fields of a line: its words, read one by one.
-ghost use Rattle.std.specs.Prelude.{◌≡◌, ◌+◌, ◌*◌, ◌<◌, ◌≤◌, ◌==◌, ◌∷◌, length, bytes_eq, position};
-ghost use Rattle.std.specs.Char.{is_ascii_hexdigit};
-ghost use Rattle.std.specs.List.{list_all};
-ghost use Rattle.ksm_lines.specs.Content.{hex_value, byte_at, word_at, page_of, content_of};
+ghost use Rattle.std.specs.Prelude.{◌≡◌, ◌+◌, ◌*◌, ◌<◌, ◌≤◌, ◌↔◌, ◌==◌, ◌∷◌, ◌++◌, All, map, not, false, true, length, take, slice_index, None, IsSome, IfSome, IfOk, IfErr, bytes_eq, position};
+ghost use Rattle.std.specs.Char.{is_ascii_digit, is_ascii_hexdigit};
+ghost use Rattle.std.specs.List.{list_all, range_with_len};
+ghost use Rattle.std.specs.Int.{w64, from_le_bytes};
+ghost use Rattle.ksm_lines.specs.Content.{hex_value, digit_or_none, byte_at, word_at, pair_in, digits_of_word, page_of_digits, content_of};
 ghost use Rattle.ksm_lines.specs.Grammar.{words_of};
-ghost use Rattle.ksm_lines.specs.Digits.{digits_of};
+ghost use Rattle.ksm_lines.specs.Digits.{digits_of, IsReadTo, IsHigh};
 ghost use Rattle.ksm_lines.specs.Reading.{Gives, GivesField, words_left, field, guest_of, number_of, page_at, alone, page_alone, knob_of, shown_of, ended};
 
 use crate::knob::{Knob, Shown, knob_named, shown_named};
 use crate::line::LineFault;
 use ksm_base::{GuestPage, PAGE_WORDS, PageBytes};
 use std::array;
+use std::simd::prelude::*;
 
 /// How many digits a page is written in.
 const PAGE_DIGITS: usize = 16 * PAGE_WORDS;
@@ -43,6 +45,22 @@ pub fn cut(text: &[u8]) -> (&[u8], Option<&[u8]>)
         Some(at) => (&text[..at], Some(&text[at + 1..])),
         None => (text, None),
     }
+}
+
+/// What is left of a text behind these bytes, where it begins with them.
+#[inline(always)]
+pub fn behind_name<'a, const N: usize>(text: &'a [u8], name: &[u8; N]) -> Option<&'a [u8]>
+    ensures { IfSome result (λ left. text.now ≡ name.now ++ left.now) }
+{
+    if text.len() < N {
+        return None;
+    }
+    for i in 0..N {
+        if text[i] != name[i] {
+            return None;
+        }
+    }
+    Some(&text[N..])
 }
 
 /// Whether a word is this name.
@@ -87,29 +105,72 @@ fn number_in(word: &[u8]) -> Result<u32, LineFault>
     }
 }
 
-/// The number that decimal digits write, leading zeros included.
-fn digits_in(word: &[u8]) -> Result<u32, LineFault>
-    ensures { Gives result (digits_of word.now) }
+/// The number that the digits at the front of a text write, leading zeros included, and how many they are.
+fn digits_at(text: &[u8]) -> Result<(u32, usize), LineFault>
+    ensures front { IfOk result (λ r. IsReadTo r.1 text.now r.0) }
+    ensures inside { IfOk result (λ r. r.1 ≤ length text.now) }
+    ensures stops { IfOk result (λ r. r.1 < length text.now → is_ascii_digit (slice_index text.now r.1) ≡ false) }
+    ensures high { IfErr result (λ e. IsHigh text.now) }
 {
     let mut value: u64 = 0;
-    for byte in word {
+    for at in 0..text.len() {
+        let byte = text[at];
         if !byte.is_ascii_digit() {
-            return Err(LineFault::Bad);
+            return Ok((value as u32, at));
         }
-        value = value * 10 + u64::from(*byte - b'0');
+        value = value * 10 + u64::from(byte - b'0');
         if value > u64::from(u32::MAX) {
             return Err(LineFault::Bad);
         }
     }
-    Ok(value as u32)
+    Ok((value as u32, text.len()))
+}
+
+/// The number that decimal digits write, leading zeros included.
+fn digits_in(word: &[u8]) -> Result<u32, LineFault>
+    ensures { Gives result (digits_of word.now) }
+{
+    let Ok((number, end)) = digits_at(word) else {
+        return Err(LineFault::Bad);
+    };
+    if end != word.len() {
+        return Err(LineFault::Bad);
+    }
+    Ok(number)
+}
+
+/// What is left behind the digits at the front of a text, where they are its first word.
+fn behind(text: &[u8], end: usize) -> Result<Option<&[u8]>, LineFault>
+    requires inside { end ≤ length text.now }
+    requires digits { list_all is_ascii_digit (take end text.now) ≡ true }
+    requires stops { end < length text.now → is_ascii_digit (slice_index text.now end) ≡ false }
+    ensures words { IfOk result (λ left. words_of text.now ≡ take end text.now ∷ words_left left) }
+    ensures odd { IfErr result (λ e. field number_of (words_of text.now) ≡ None) }
+{
+    if end == text.len() {
+        return Ok(None);
+    }
+    if text[end] != b' ' {
+        return Err(LineFault::Bad);
+    }
+    Ok(Some(&text[end + 1..]))
 }
 
 /// The next word as a number.
 pub fn number(left: Option<&[u8]>) -> Result<(u32, Option<&[u8]>), LineFault>
     ensures { GivesField result (field number_of (words_left left.entry)) }
 {
-    let (word, left) = cut(left.ok_or(LineFault::Bad)?);
-    Ok((number_in(word)?, left))
+    let Some(text) = left else {
+        return Err(LineFault::Bad);
+    };
+    let Ok((number, end)) = digits_at(text) else {
+        return Err(LineFault::Bad);
+    };
+    let left = behind(text, end)?;
+    if end == 0 || end > 1 && text[0] == b'0' {
+        return Err(LineFault::Bad);
+    }
+    Ok((number, left))
 }
 
 /// The next word as the number of a guest.
@@ -139,27 +200,29 @@ pub fn page(left: Option<&[u8]>) -> Result<(GuestPage, Option<&[u8]>), LineFault
 pub fn number_alone(left: Option<&[u8]>) -> Result<u32, LineFault>
     ensures { Gives result (alone number_of (words_left left.entry)) }
 {
-    let (number, left) = number(left)?;
-    ended(left)?;
-    Ok(number)
+    let Some(text) = left else {
+        return Err(LineFault::Bad);
+    };
+    number_in(text)
 }
 
 /// The last word as the number of a guest.
 pub fn guest_alone(left: Option<&[u8]>) -> Result<u16, LineFault>
     ensures { Gives result (alone guest_of (words_left left.entry)) }
 {
-    let (guest, left) = guest(left)?;
-    ended(left)?;
-    Ok(guest)
+    match u16::try_from(number_alone(left)?) {
+        Ok(guest) => Ok(guest),
+        Err(_) => Err(LineFault::Bad),
+    }
 }
 
 /// The last two words as a page.
 pub fn page_alone(left: Option<&[u8]>) -> Result<GuestPage, LineFault>
     ensures { Gives result (page_alone (words_left left.entry)) }
 {
-    let (page, left) = page(left)?;
-    ended(left)?;
-    Ok(page)
+    let (guest, left) = guest(left)?;
+    let page = number_alone(left)?;
+    Ok(GuestPage { guest, page })
 }
 
 /// The next word as a knob.
@@ -196,40 +259,82 @@ fn digit(byte: u8) -> u8
     DIGIT_VALUES[byte as usize]
 }
 
-/// Word i of the page that the digits write.
-fn word_of(digits: &[u8], i: usize) -> u64
-    requires { 16 * i + 16 ≤ length digits.now }
-    ensures { result ≡ word_at (byte_at digits.now) i }
+/// The value of each hexadecimal digit, 255 of any other byte.
+#[inline(always)]
+fn digit_values(digits: u8x16) -> u8x16
+    requires { length digits ≡ 16 }
+    ensures { result ≡ map digit_or_none digits }
 {
-    u64::from_le_bytes(array::from_fn(|j| byte_of(digits, 8 * i + j)))
+    let number = digits - u8x16::splat(b'0');
+    let letter = (digits | u8x16::splat(0x20)) - u8x16::splat(b'a');
+    let letters = letter
+        .simd_lt(u8x16::splat(6))
+        .select(letter + u8x16::splat(10), u8x16::splat(255));
+    number.simd_lt(u8x16::splat(10)).select(number, letters)
 }
 
-/// The page that the digits write.
-fn page_of(digits: &[u8]) -> PageBytes
+/// Whether a byte was none of the digits.
+#[inline(always)]
+fn has_other(values: u8x16) -> bool
+    ensures { result ≡ not (list_all (λ value. not (value == 255)) values) }
+{
+    values.simd_eq(u8x16::splat(255)).to_bitmask() != 0
+}
+
+/// The word of a page whose digits have these values.
+#[inline(always)]
+fn word_of(values: u8x16) -> u64
+    requires { All (λ value. value < 16) values }
+    ensures { result ≡ from_le_bytes w64 (map (pair_in values) (range_with_len 0 8)) }
+{
+    let high = values.swizzle::<8>([0, 2, 4, 6, 8, 10, 12, 14]);
+    let low = values.swizzle::<8>([1, 3, 5, 7, 9, 11, 13, 15]);
+    u64::from_le_bytes((high * u8x8::splat(16) + low).to_array())
+}
+
+/// Word i of the page that the digits write, where its bytes are digits.
+#[inline(always)]
+fn word_in(digits: &[u8], i: usize) -> Option<u64>
+    requires { 16 * i + 16 ≤ length digits.now }
+    ensures digits { IsSome result ↔ (list_all is_ascii_hexdigit (digits_of_word digits.now i) ≡ true) }
+    ensures word { IfSome result (λ word. word ≡ word_at (byte_at digits.now) i) }
+{
+    let values = digit_values(u8x16::from_slice(&digits[16 * i..]));
+    if has_other(values) {
+        return None;
+    }
+    Some(word_of(values))
+}
+
+/// The page that the digits write, where each byte is a digit.
+fn page_in(digits: &[u8]) -> Result<PageBytes, LineFault>
     requires { length digits.now ≡ 16 * PAGE_WORDS }
-    ensures { result ≡ page_of (byte_at digits.now) }
+    ensures { Gives result (page_of_digits digits.now) }
 {
     let mut page = [0; PAGE_WORDS];
     for i in 0..PAGE_WORDS {
-        page[i] = word_of(digits, i);
+        let Some(word) = word_in(digits, i) else {
+            return Err(LineFault::Bad);
+        };
+        page[i] = word;
     }
-    page
+    Ok(page)
 }
 
 /// The page that a word of two digits fills, or that one of as many digits as a page has writes.
 fn content_in(word: &[u8]) -> Result<PageBytes, LineFault>
     ensures { Gives result (content_of word.now) }
 {
+    if word.len() == PAGE_DIGITS {
+        return page_in(word);
+    }
+    if word.len() != 2 {
+        return Err(LineFault::Bad);
+    }
     if !are_hex_digits(word) {
         return Err(LineFault::Bad);
     }
-    if word.len() == 2 {
-        return Ok([u64::from_le_bytes([byte_of(word, 0); 8]); PAGE_WORDS]);
-    }
-    if word.len() != PAGE_DIGITS {
-        return Err(LineFault::Bad);
-    }
-    Ok(page_of(word))
+    Ok([u64::from_le_bytes([byte_of(word, 0); 8]); PAGE_WORDS])
 }
 
 // A hint alone: with it, fewer instructions were counted.
@@ -239,8 +344,8 @@ fn content_in(word: &[u8]) -> Result<PageBytes, LineFault>
 pub fn content_alone(left: Option<&[u8]>) -> Result<PageBytes, LineFault>
     ensures { Gives result (alone content_of (words_left left.entry)) }
 {
-    let (word, left) = cut(left.ok_or(LineFault::Bad)?);
-    let bytes = content_in(word)?;
-    ended(left)?;
-    Ok(bytes)
+    let Some(text) = left else {
+        return Err(LineFault::Bad);
+    };
+    content_in(text)
 }

@@ -1,13 +1,13 @@
 //! The lines of the language.
 ghost use Rattle.std.specs.Prelude.{◌≡◌, IfOk, Ok};
 ghost use Rattle.ksm_lines.specs.declared.line.Line.{Line};
-ghost use Rattle.ksm_lines.specs.Grammar.{Writes};
+ghost use Rattle.ksm_lines.specs.Grammar.{Writes, words_of};
 ghost use Rattle.ksm_lines.specs.Reading.{Gives, words_left};
-ghost use Rattle.ksm_lines.specs.Forms.{forms, managing_forms, look_up_forms, named_line, name_alone, register_at, store_at, scan_at, move_page_at, move_dup_at, set_at, find_at, equal_at};
+ghost use Rattle.ksm_lines.specs.Forms.{forms, managing_forms, look_up_forms, line_at, named_line, name_alone, register_at, store_at, scan_at, move_page_at, move_dup_at, set_at, find_at, equal_at};
 
 use crate::field::{
-    content_alone, cut, ended, guest_alone, is, knob, number, number_alone, page, page_alone,
-    shown_alone,
+    behind_name, content_alone, cut, ended, guest_alone, is, knob, number, number_alone, page,
+    page_alone, shown_alone,
 };
 use crate::knob::{Knob, Shown};
 use ksm_base::{GuestPage, PageBytes};
@@ -118,6 +118,32 @@ pub fn read_line(bytes: &[u8]) -> Result<Line, LineFault>
     ensures written { IfOk result (λ line. Writes line bytes.now) }
     ensures read { (line : Line) → Writes line bytes.now → result ≡ Ok line }
 {
+    told_line(bytes)
+}
+
+/// The line that the bytes are, told by their words. The lines that come by the million are told by their first bytes.
+#[inline(always)]
+fn told_line(bytes: &[u8]) -> Result<Line, LineFault>
+    ensures { Gives result (line_at (words_of bytes.now)) }
+{
+    if let Some(left) = behind_name(bytes, b"put ") {
+        return store(Some(left));
+    }
+    if let Some(left) = behind_name(bytes, b"get ") {
+        return page_alone(Some(left)).map(|page| Line::Get { page });
+    }
+    if let Some(left) = behind_name(bytes, b"find ") {
+        return find(Some(left));
+    }
+    if let Some(left) = behind_name(bytes, b"look ") {
+        return number_alone(Some(left)).map(|pass| Line::Look { pass });
+    }
+    if let Some(left) = behind_name(bytes, b"leave ") {
+        return number_alone(Some(left)).map(|pass| Line::Leave { pass });
+    }
+    if let Some(left) = behind_name(bytes, b"ticket ") {
+        return page_alone(Some(left)).map(|page| Line::Ticket { page });
+    }
     let (name, left) = cut(bytes);
     named(name, left)
 }

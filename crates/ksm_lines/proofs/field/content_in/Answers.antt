@@ -8,7 +8,7 @@ none_of_three : {A : Type 0} (a b c : Bool) (x y : Option A) → b ≡ false →
 none_of_three true b c x y p q = refl
 none_of_three false b c x y p q = rw (p, q) refl
 
-pub returns-then-word-ne-PAGE_DIGITS : goal.returns-then-word-ne-PAGE_DIGITS
-returns-then-word-ne-PAGE_DIGITS c =
+pub returns-then-word-ne2 : goal.returns-then-word-ne2
+returns-then-word-ne2 c =
     let digits = length c.args.word.now in
     none_of_three _ _ _ _ _ (ne_eqb digits 2 (λ e. omega arith)) (ne_eqb digits (16 * PAGE_WORDS) (λ e. omega arith))

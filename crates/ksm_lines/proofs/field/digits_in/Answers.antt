@@ -1,15 +1,19 @@
-use Rattle.std.proofs.Common.{sym, arith}
-use Rattle.ksm_lines.proofs.Numbers.{value_more, read_more, no_digits_high}
+use Rattle.std.proofs.Common.{◌<◌, refl, arith, length}
+use Rattle.std.specs.Char.{is_ascii_digit}
+use Rattle.std.proofs.lemmas.List.Folds.{list_all_at}
+use Rattle.ksm_lines.proofs.Numbers.{no_digits_high, digits_whole}
 use Rattle.ksm_lines.proofs.field.digits_in.Goals as goal
 
-pub returns-then-value-from : goal.returns-then-value-from
-returns-then-value-from c =
-    let digit = c.if-not-is_ascii_digit.ensures in
-    let more = value_more _ _ _ _ c.loop-byte-test.true digit.cases.0 digit.cases.1 c.from.ensures c.loop-byte.invariant in
-    no_digits_high c.args.word.now _ _ more (omega (arith, c.from-in-loop-byte.ensures))
+pub returns-in_default : goal.returns-in_default
+returns-in_default c =
+    let high = c.in_default.ensures.high in
+    no_digits_high c.args.word.now high.0 _ refl high.3
 
-pub loop-byte-preserved : goal.loop-byte-preserved
-loop-byte-preserved c =
-    let digit = c.if-not-is_ascii_digit.ensures in
-    read_more _ _ _ _ c.loop-byte-test.true digit.cases.0 digit.cases.1 c.from.ensures c.loop-byte.invariant (sym digit.value)
-    (omega (arith, c.from-in-loop-byte.ensures))
+pub returns-then-end-word : goal.returns-then-end-word
+returns-then-end-word c =
+    let lt : c.in-Ok.end < length c.args.word.now = omega (arith, c.in-Ok.ensures.inside) in
+    let other = list_all_at is_ascii_digit c.args.word.now c.in-Ok.end 0 lt (c.in-Ok.ensures.stops lt) in
+    rw other refl
+
+pub returns : goal.returns
+returns c = digits_whole c.args.word.now _ _ (omega arith) c.in-Ok.ensures.front

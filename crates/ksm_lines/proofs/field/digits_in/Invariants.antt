@@ -1,5 +1,0 @@
-use Rattle.ksm_lines.proofs.Numbers.{IsReadTo}
-use Rattle.ksm_lines.proofs.field.digits_in.Given as goal
-
-abbrev pub invariant-loop-byte : goal.invariant-loop-byte
-invariant-loop-byte l = IsReadTo l.byte-index l.word l.value
