@@ -4,8 +4,10 @@
 mod cause;
 mod line;
 mod part;
+mod said;
 mod word;
 
 pub use cause::{Cause, Trouble};
 pub use line::cause_of;
 pub use part::{Number, Part};
+pub use said::BadLine;

@@ -19,7 +19,7 @@ use ksm_base::PAGE_WORDS;
 pub(crate) const WORD_ROOM: usize = 256;
 
 /// How many digits a page is written in.
-const PAGE_DIGITS: usize = 16 * PAGE_WORDS;
+pub(crate) const PAGE_DIGITS: usize = 16 * PAGE_WORDS;
 
 /// Where the first space of a text is.
 fn first_space(text: &[u8]) -> Option<usize>
