@@ -12,10 +12,11 @@ use Rattle.ksm_script.specs.declared.script.End.TheVariants.{AllRead, BadLine}
 use Rattle.ksm_script.specs.declared.script.RunFault.{RunFault}
 use Rattle.ksm_script.specs.declared.script.RunFault.TheVariants.{Read, Write}
 use Rattle.ksm_script.specs.Replies.{text_of}
+use Rattle.ksm_script.specs.LastLine.{EndsBad}
 use Rattle.ksm_script.specs.Script.{AnsweredAll, AnsweredLast, Runs, Streams, more}
 use Rattle.ksm_script.specs.Texts.{AppendsBroken, AppendsPart}
 use Rattle.ksm_host.specs.declared.status.Status.TheVariants.{Done, NotUnderstood}
-use Rattle.ksm_host.specs.Statuses.{status_after}
+use Rattle.ksm_host.specs.Statuses.{bad_end, bad_line_of, status_after}
 use Rattle.ksm_host.specs.Sent.{Replies}
 
 whole : (begun written : Option (List ℕ)) (text : List ℕ) → Appends begun written text → AppendsPart begun written text
@@ -41,6 +42,12 @@ pub kept_where_sent : {A E : Type 0} (inner : Option (List ℕ)) (buffer : List 
 kept_where_sent inner buffer written (Ok x) empty kept is =
     subst (λ (o : Option (List ℕ)). Keeps written o) (ap (λ (l : List ℕ). append_known inner l) empty ∙ append_nothing inner) kept
 kept_where_sent inner buffer written (Err e) empty kept is = absurd (cc is)
+
+-- the line that a run read last, by the number that is told of it
+pub line_told : (old new : Option (List ℕ)) (line : List ℕ) (r : Result End RunFault) → EndsBad old new line r → EndsBad old new line (bad_end (bad_line_of r))
+line_told old new line (Ok (BadLine number)) h = h
+line_told old new line (Ok AllRead) h = tt
+line_told old new line (Err fault) h = tt
 
 module _ (io : Streams) (from to : ScriptState) where
   -- the replies, and what was written of them
@@ -90,15 +97,15 @@ module _ (io : Streams) (from to : ScriptState) where
         all (Ok (BadLine number)) false run k e = absurd (cc e)
         all (Err fault) s run k e = absurd (cc e)
 
-    pub sent_to_bad : status_after ended sent ≡ NotUnderstood → (number : ℕ) × Runs sends from to (Ok (BadLine number))
+    pub sent_to_bad : status_after ended sent ≡ NotUnderstood → (number : ℕ) × (bad_line_of ended ≡ Some number) × Runs sends from to (Ok (BadLine number))
     sent_to_bad = bad ended sent runs kept
       where
         bad : (r : Result End RunFault) (s : Bool) → Runs io from to r → (s ≡ true → Keeps io.written now) → status_after r s ≡ NotUnderstood
-            → (number : ℕ) × Runs sends from to (Ok (BadLine number))
+            → (number : ℕ) × (bad_line_of r ≡ Some number) × Runs sends from to (Ok (BadLine number))
         bad (Ok (BadLine number)) true run k e =
             let b = run.goes in
             let appended = Appends-kept io.begun io.written now (b.0 ++ text_of (bad_line number)) b.4 (k refl) in
-            (number, record { last = run.last; goes = (b.0, b.1, b.2, b.3, appended); given = run.given })
+            (number, refl, record { last = run.last; goes = (b.0, b.1, b.2, b.3, appended); given = run.given })
         bad (Ok (BadLine number)) false run k e = absurd (cc e)
         bad (Ok AllRead) true run k e = absurd (cc e)
         bad (Ok AllRead) false run k e = absurd (cc e)

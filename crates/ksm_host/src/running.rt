@@ -5,12 +5,12 @@ ghost use Rattle.ksm_host.specs.Ends.{EndsBy, EndsOn, Serves};
 ghost use Rattle.ksm_script.specs.Script.{streams};
 
 use crate::answering::answer;
+use crate::said::say_why;
 use crate::start::{opened, words};
 use crate::status::{Outcome, Status};
 use frame_table::ClosedTable;
 use ksm_script::Session;
 use ksm_shared::{Naming, Parts};
-use std::alloc::Global;
 use std::io::{self, BufReader, BufWriter, Read, Write};
 use std::marker::Brand;
 use std::rt::Env;
@@ -66,29 +66,29 @@ pub fn played<R: Eprint + AllocGlobal, T: Threads + Wait + Sync, I: Read, O: Wri
     ensures untouched { result.table ≡ None → (result.output ≡ writer_inner writer) × (reader.new ≡ reader.old) }
 {
     match opened(rt, words) {
-        Ok(parts) => in_session::<Brand, T, I, O>(rt.alloc(), threads, parts, reader, writer),
+        Ok(parts) => in_session::<Brand, R, T, I, O>(rt, threads, parts, reader, writer),
         Err(status) => unopened(status, writer),
     }
 }
 
 /// Opens a session on the parts, which get their name here, answers the script, and closes it.
-fn in_session<N: Naming, T: Threads + Wait + Sync, I: Read, O: Write + Drop>(
-    alloc: Global,
-    threads: &T,
-    parts: Parts,
-    reader: &mut BufReader<I>,
-    writer: BufWriter<O>,
-) -> Ended<O>
+fn in_session<
+    N: Naming,
+    R: Eprint + AllocGlobal,
+    T: Threads + Wait + Sync,
+    I: Read,
+    O: Write + Drop,
+>(rt: &R, threads: &T, parts: Parts, reader: &mut BufReader<I>, writer: BufWriter<O>) -> Ended<O>
     requires name { parts ≡ N.parts }
     requires alone { parts.callers ≡ 1 }
     ensures ends { EndsOn N.parts (streams (reader_remaining I.remaining reader.old) (reader_remaining I.remaining reader.new)
         (writer_contents O.contents writer) (O.contents result.output)) result.status result.table }
     ensures untouched { result.table ≡ None → (result.output ≡ writer_inner writer) × (reader.new ≡ reader.old) }
 {
-    let Ok(mut session) = Session::<N>::open(alloc, parts) else {
+    let Ok(mut session) = Session::<N>::open(rt.alloc(), parts) else {
         return unopened(Status::NoMemory, writer);
     };
-    let (status, output) = served(threads, reader, writer, &mut session);
+    let (status, output) = served(rt, threads, reader, writer, &mut session);
     Ended {
         status,
         table: Some(session.close(threads)),
@@ -110,8 +110,10 @@ fn unopened<O: Write + Drop>(status: Status, writer: BufWriter<O>) -> Ended<O>
     }
 }
 
-/// Answers the script. The writer is taken apart, so that what could not be sent is let go, and not tried again.
-fn served<N: Naming, T: Threads + Wait + Sync, I: Read, O: Write + Drop>(
+/// Answers the script. The writer is taken apart, so that what could not be sent is let go, and not tried again. Behind `bad line`
+/// it is said why.
+fn served<N: Naming, R: Eprint, T: Threads + Wait + Sync, I: Read, O: Write + Drop>(
+    rt: &R,
     threads: &T,
     reader: &mut BufReader<I>,
     mut writer: BufWriter<O>,
@@ -120,7 +122,10 @@ fn served<N: Naming, T: Threads + Wait + Sync, I: Read, O: Write + Drop>(
     ensures { Serves (streams (reader_remaining I.remaining reader.old) (reader_remaining I.remaining reader.new)
         (writer_contents O.contents writer) (O.contents result.1)) session.old.state result.0 }
 {
-    let status = answer(threads, reader, &mut writer, session);
+    let (status, bad_line) = answer(threads, reader, &mut writer, session);
     let (output, _) = writer.into_parts();
+    if let (Status::NotUnderstood, Some(number)) = (status, bad_line) {
+        say_why(rt, number, session.line());
+    }
     (status, output)
 }

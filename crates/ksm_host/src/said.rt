@@ -1,4 +1,5 @@
 //! What the program says on standard error.
+use ksm_causes::BadLine;
 use std::fmt::{self, Display, Formatter, Write};
 
 /// A text with its control characters escaped, all but newlines: it names what a user typed, and may not steer the terminal.
@@ -28,5 +29,12 @@ impl<W: Write> Write for Escaping<'_, W> {
             }
         }
         Ok(())
+    }
+}
+
+/// Says on standard error why the line of this number is bad. Where that takes no text, the reply says that it is.
+pub(crate) fn say_why<R: Eprint>(rt: &R, number: u64, line: &[u8]) {
+    if let Some(bad) = BadLine::of(number, line) {
+        let _ = rt.eprint(bad);
     }
 }

@@ -8,6 +8,7 @@ use Rattle.ksm_lines.specs.declared.line.Line.{Line}
 use Rattle.ksm_lines.specs.declared.line.LineFault.{LineFault}
 use Rattle.ksm_script.specs.declared.reply.LineReply.{LineReply}
 use Rattle.ksm_script.specs.declared.script.End.{End}
+use Rattle.ksm_script.specs.declared.script.End.TheVariants.{BadLine}
 use Rattle.ksm_script.specs.declared.script.RunFault.{RunFault}
 use Rattle.ksm_script.specs.declared.script.RunFault.TheVariants.{Write}
 use Rattle.ksm_script.specs.declared.input.LineEnd.{LineEnd}
@@ -15,6 +16,7 @@ use Rattle.ksm_script.specs.declared.input.LineEnd.TheVariants.{Newline, Input, 
 use Rattle.ksm_lines.specs.Grammar.{Writes, IsNoLine}
 use Rattle.ksm_script.specs.Input.{EndsAs, IsPlain}
 use Rattle.ksm_script.specs.Answering.{Answers, reply_text}
+use Rattle.ksm_script.specs.LastLine.{EndsBad}
 use Rattle.ksm_script.specs.Script.{Answered, none, more, CarriesOut, ReadFor, AnsweredAll, AnsweredLast, IsBad, IsReadAs, AnsweredToBad, Streams, Goes}
 
 -- a failed write is told as one
@@ -147,3 +149,8 @@ module _ (first now later : Option (List ℕ)) (begun written : Option (List ℕ
   pub answered_to_bad : (fault : LineFault) → IsReadAs (Err fault) end line → AnsweredToBad first later from state so.text so.count
   answered_to_bad fault bad =
       (line, read.bytes, end, (so.lines, so.answered, consumed_then), read.plain, read.ends, bad_of later end line bad read.last)
+
+  -- what was read ends with the bad line, whatever its number
+  pub ends_bad : (fault : LineFault) → IsReadAs (Err fault) end line → EndsBad first later line (Ok (BadLine 0))
+  ends_bad fault bad =
+      (so.lines, read.bytes, end, consumed_then, read.plain, read.ends, bad_of later end line bad read.last)

@@ -9,3 +9,4 @@ pub mod Answering
 pub mod Script
 pub mod Seen
 pub mod Worked
+pub mod LastLine

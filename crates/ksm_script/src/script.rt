@@ -6,6 +6,7 @@ ghost use Rattle.ksm_script.specs.declared.reply.LineReply.{LineReply};
 ghost use Rattle.ksm_script.specs.Answering.{reply_text};
 ghost use Rattle.ksm_script.specs.Replies.{text_of};
 ghost use Rattle.ksm_script.specs.Lookups.{IsIdle};
+ghost use Rattle.ksm_script.specs.LastLine.{EndsBad};
 ghost use Rattle.ksm_script.specs.Script.{Goes, IsReadAs, Runs, streams};
 ghost use Rattle.ksm_script.specs.Texts.{AppendsPart};
 
@@ -44,7 +45,7 @@ pub enum End {
 /// Lines are numbered from 1; those of no bytes count, and have no reply. Each fault of a read or a write ends the run, an
 /// interrupted one too. At `RunFault::Read` the replies to the whole lines read are written. At `RunFault::Write` a beginning of
 /// the last line's reply is written behind whole replies to the lines before, and no further line is read. At each end all holds are
-/// given back.
+/// given back. At a bad line the session keeps it ([`Session::line`]).
 pub fn run<N: Naming, T: Threads + Wait + Sync, R: Read, W: Write>(
     rt: &T,
     reader: &mut R,
@@ -53,6 +54,7 @@ pub fn run<N: Naming, T: Threads + Wait + Sync, R: Read, W: Write>(
 ) -> Result<End, RunFault>
     ensures ran { Runs (streams (R.remaining reader.old) (R.remaining reader.new) (W.contents writer.old) (W.contents writer.new))
         session.old.state session.new.state result }
+    ensures line { EndsBad (R.remaining reader.old) (R.remaining reader.new) session.new.line result }
     ensures idle { All IsIdle session.new.state.passes }
 {
     let ended = run_by::<ByBytes, N, T, R, W>(rt, reader, writer, session);
@@ -72,6 +74,7 @@ pub fn run_buffered<N: Naming, T: Threads + Wait + Sync, R: Read, W: Write + Dro
 ) -> Result<End, RunFault>
     ensures ran { Runs (streams (reader_remaining R.remaining reader.old) (reader_remaining R.remaining reader.new)
         (writer_contents W.contents writer.old) (writer_contents W.contents writer.new)) session.old.state session.new.state result }
+    ensures line { EndsBad (reader_remaining R.remaining reader.old) (reader_remaining R.remaining reader.new) session.new.line result }
     ensures idle { All IsIdle session.new.state.passes }
 {
     let ended = run_by::<ByBlocks, N, T, BufReader<R>, BufWriter<W>>(rt, reader, writer, session);
@@ -86,8 +89,9 @@ fn run_by<M: TakesLines<R, W>, N: Naming, T: Threads + Wait + Sync, R, W: Write>
     writer: &mut W,
     session: &mut Session<N>,
 ) -> Result<End, RunFault>
-    ensures { Goes (streams (M.remaining reader.old) (M.remaining reader.new) (W.contents writer.old) (W.contents writer.new))
+    ensures goes { Goes (streams (M.remaining reader.old) (M.remaining reader.new) (W.contents writer.old) (W.contents writer.new))
         session.old.state session.new.state result }
+    ensures line { EndsBad (M.remaining reader.old) (M.remaining reader.new) session.new.line result }
 {
     'lines: for number in 1..u64::MAX {
         let end = session.read_next::<M, R, W>(reader, writer)?;

@@ -120,8 +120,8 @@ impl<N: Naming> Session<N> {
         M::next_line(reader, writer, &mut self.line)
     }
 
-    /// The bytes of the line that was read last.
-    pub(crate) fn line(&self) -> &[u8]
+    /// The bytes of the line that was read last, without its newline: of one that is too long the first 257.
+    pub fn line(&self) -> &[u8]
         ensures { result.now ≡ self.now.line }
     {
         self.line.as_slice()
@@ -177,6 +177,7 @@ impl<N: Naming> Session<N> {
     /// Gives all holds back.
     pub(crate) fn give_back(&mut self)
         ensures given { AllGivenBack self.old.state self.new.state }
+        ensures line { self.new.line ≡ self.old.line }
     {
         self.passes.give_back(self.ksm.table());
     }

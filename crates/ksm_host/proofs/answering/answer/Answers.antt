@@ -1,12 +1,12 @@
 use Rattle.std.proofs.Common.{◌≡◌, ◌∙◌, true, sym}
 use Rattle.std.specs.Io.Buffered.{writer_contents, writer_inner}
 use Rattle.std.specs.Io.KnownBytes.{Keeps}
-use Rattle.ksm_host.proofs.Sent.{sent_all, sent_to_bad, stands_after, stands_sent}
+use Rattle.ksm_host.proofs.Sent.{line_told, sent_all, sent_to_bad, stands_after, stands_sent}
 use Rattle.ksm_host.proofs.answering.answer.Given.{Over}
 use Rattle.ksm_host.proofs.answering.answer.Goals.{then-is_ok, else-is_ok}
 use Rattle.ksm_host.proofs.answering.answer.Goals as goal
 
-are_kept : (g : Over) (c : goal.After-after g) → c.if-is_ok.are_sent ≡ true
+are_kept : (g : Over) (c : goal.After-bad_line_of g) → c.if-is_ok.are_sent ≡ true
     → Keeps (writer_contents g.O.Write.contents c.run_buffered-ended.new.writer) (g.O.Write.contents (writer_inner c.if-is_ok.writer))
 are_kept g c = elim c.if-is_ok.branch [
   | then-is_ok w ↦ rw w.writer-is (rw w.are_sent-is w.sent-are_sent.ensures.sent)
@@ -27,4 +27,9 @@ returns-clause-done g c = λ e.
 
 pub returns-clause-bad : goal.returns-clause-bad
 returns-clause-bad g c = λ e.
-    sent_to_bad _ _ _ (g.O.Write.contents (writer_inner c.if-is_ok.writer)) c.run_buffered-ended.result c.if-is_ok.are_sent c.run_buffered-ended.ensures.ran (are_kept g c) (sym c.after.ensures ∙ e)
+    let bad = sent_to_bad _ _ _ (g.O.Write.contents (writer_inner c.if-is_ok.writer)) c.run_buffered-ended.result c.if-is_ok.are_sent c.run_buffered-ended.ensures.ran (are_kept g c) (sym c.after.ensures ∙ e) in
+    (bad.0, c.bad_line_of.ensures ∙ bad.1, bad.2)
+
+pub returns-clause-line : goal.returns-clause-line
+returns-clause-line g c =
+    rw c.bad_line_of.ensures (line_told _ _ _ c.run_buffered-ended.result c.run_buffered-ended.ensures.line)

@@ -6,14 +6,14 @@ use Rattle.ksm_script.specs.Answering.{reply_text}
 use Rattle.ksm_script.specs.Replies.{text_of}
 use Rattle.ksm_script.specs.Texts.{AppendsPart}
 use Rattle.ksm_script.proofs.Parts.{broken_after}
-use Rattle.ksm_script.proofs.Turns.{IsDone, read_as, nothing_yet, in_state, answered_all, answered_last, goes_on, all_read, answered_to_bad, broke}
+use Rattle.ksm_script.proofs.Turns.{IsDone, read_as, nothing_yet, in_state, answered_all, answered_last, goes_on, all_read, answered_to_bad, broke, ends_bad}
 use Rattle.ksm_script.proofs.script.run_by.Goals as goal
 
 pub lines-init : goal.lines-init
 lines-init g c = nothing_yet _ _ _
 
-pub returns-in_err-write_reply : goal.returns-in_err-write_reply
-returns-in_err-write_reply g c =
+pub returns-in_err-write_reply-clause-goes : goal.returns-in_err-write_reply-clause-goes
+returns-in_err-write_reply-clause-goes g c =
     let now = c.in_ok-end.ensures in
     let so = in_state _ _ _ _ _ _ _ _ _ now.state now.kept c.lines.invariant in
     let read = read_as _ _ _ c.in_ok-end.end now.read now.plain now.end in
@@ -21,15 +21,22 @@ returns-in_err-write_reply g c =
     broke _ _ _ c.from_residual-in_err-write_reply.result (search rules)
     (inr (so.text, so.count, answered_to_bad _ _ _ _ _ _ _ _ _ _ so read c.in_default.field-0 c.in_default.ensures, broken_after _ _ _ so.text _ so.appended part))
 
-pub returns-in_default : goal.returns-in_default
-returns-in_default g c =
+pub returns-in_default-clause-goes : goal.returns-in_default-clause-goes
+returns-in_default-clause-goes g c =
     let now = c.in_ok-end.ensures in
     let so = in_state _ _ _ _ _ _ _ _ _ now.state now.kept c.lines.invariant in
     let read = read_as _ _ _ c.in_ok-end.end now.read now.plain now.end in
     (so.text, so.count, sym so.counted, answered_to_bad _ _ _ _ _ _ _ _ _ _ so read c.in_default.field-0 c.in_default.ensures, Appends-trans _ _ _ so.text _ so.appended c.in_ok-write_reply.ensures.whole)
 
-pub returns-in_err-write_answer : goal.returns-in_err-write_answer
-returns-in_err-write_answer g c =
+pub returns-in_default-clause-line : goal.returns-in_default-clause-line
+returns-in_default-clause-line g c =
+    let now = c.in_ok-end.ensures in
+    let so = in_state _ _ _ _ _ _ _ _ _ now.state now.kept c.lines.invariant in
+    let read = read_as _ _ _ c.in_ok-end.end now.read now.plain now.end in
+    ends_bad _ _ _ _ _ _ _ _ _ _ so read c.in_default.field-0 c.in_default.ensures
+
+pub returns-in_err-write_answer-clause-goes : goal.returns-in_err-write_answer-clause-goes
+returns-in_err-write_answer-clause-goes g c =
     let now = c.in_ok-end.ensures in
     let so = in_state _ _ _ _ _ _ _ _ _ now.state now.kept c.lines.invariant in
     let read = read_as _ _ _ c.in_ok-end.end now.read now.plain now.end in
@@ -39,8 +46,8 @@ returns-in_err-write_answer g c =
     broke _ _ _ c.from_residual-in_err-write_answer.result (search rules)
     (inl (so.text, broken.1, answered_last _ _ _ _ _ _ _ _ _ _ so read _ _ _ did broken.1 broken.2, broken_after _ _ _ so.text _ so.appended broken.3))
 
-pub returns-then-is_empty : goal.returns-then-is_empty
-returns-then-is_empty g c =
+pub returns-then-is_empty-clause-goes : goal.returns-then-is_empty-clause-goes
+returns-then-is_empty-clause-goes g c =
     let now = c.in_ok-end.ensures in
     let so = in_state _ _ _ _ _ _ _ _ _ now.state now.kept c.lines.invariant in
     let read = read_as _ _ _ c.in_ok-end.end now.read now.plain now.end in
@@ -48,8 +55,8 @@ returns-then-is_empty g c =
     let empty : length c.read_next.new.self.line ≡ 0 = search rules in
     (so.text, all_read _ _ _ _ _ _ _ _ _ _ so read last empty, so.appended, read.last last)
 
-pub returns-then-eq-2 : goal.returns-then-eq-2
-returns-then-eq-2 g c =
+pub returns-then-eq-2-clause-goes : goal.returns-then-eq-2-clause-goes
+returns-then-eq-2-clause-goes g c =
     let now = c.in_ok-end.ensures in
     let so = in_state _ _ _ _ _ _ _ _ _ now.state now.kept c.lines.invariant in
     let read = read_as _ _ _ c.in_ok-end.end now.read now.plain now.end in

@@ -1,0 +1,5 @@
+pub mod Spaces
+pub mod Parts
+pub mod Numbers
+pub mod Words
+pub mod Exact

@@ -1,0 +1,5 @@
+use Rattle.ksm_lines.proofs.Numbers.{IsReadTo}
+use Rattle.ksm_causes.proofs.word.value_of.Given as goal
+
+abbrev pub invariant-loop-byte : goal.invariant-loop-byte
+invariant-loop-byte l = IsReadTo l.byte-index l.digits l.value

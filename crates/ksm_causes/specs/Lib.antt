@@ -1,0 +1,4 @@
+pub mod Forms
+pub mod Sizes
+pub mod Troubles
+pub mod Sentences

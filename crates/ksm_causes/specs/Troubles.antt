@@ -1,0 +1,134 @@
+-- Why a line is bad: of its words, read from left to right, the first that can't stand there (own).
+use Rattle.std.specs.Prelude.{ℕ, ◌+◌, ◌*◌, Bool, true, false, not, ◌&&◌, ◌||◌, ◌==◌, nat_lt, List, [], ◌∷◌, length, drop, Option, Some, None, option_map, position, slice_index, if◌then◌else◌}
+use Rattle.std.specs.Char.{is_ascii_digit, is_ascii_graphic, is_ascii_hexdigit}
+use Rattle.std.specs.List.{list_all}
+use Rattle.std.specs.Option.{option_or}
+use Rattle.std.specs.Str.Parse.{digits_value}
+use Rattle.ksm_base.specs.declared.page.TheConstants.{PAGE_WORDS}
+use Rattle.ksm_lines.specs.Grammar.{words_of}
+use Rattle.ksm_causes.specs.declared.part.Number as numbers
+use Rattle.ksm_causes.specs.declared.part.Number.TheVariants.{Guest, Visits}
+use Rattle.ksm_causes.specs.declared.part.Part.{Part}
+use Rattle.ksm_causes.specs.declared.part.Part.TheVariants.{Number, Content, Knob, Shown}
+use Rattle.ksm_causes.specs.declared.cause.Cause.{Cause}
+use Rattle.ksm_causes.specs.declared.cause.Cause.TheVariants.{LongLine, SpaceBefore, TwoSpaces, SpaceAfter, Tab, CarriageReturn, OtherByte, Comment, Capital, UnknownName, Missing, OneWordMore, Sign, LeadingZero, NotANumber, TooLarge, NotHexadecimal, ContentLength, UnknownKnob, UnknownShown, CounterSet}
+use Rattle.ksm_causes.specs.declared.cause.Trouble.{Trouble}
+use Rattle.ksm_causes.specs.Forms.{forms, parts_in, is_name, is_knob, is_counter, lowered}
+
+abbrev pub at : ℕ → Cause → Trouble
+at column cause = record { column = column; cause = cause }
+
+-- ---- a word, at the column of its first byte
+
+-- the first byte that fails a test
+abbrev pub byte_trouble : (ℕ → Bool) → (ℕ → Cause) → ℕ → List ℕ → Option Trouble
+byte_trouble stands cause column word =
+    option_map (λ i. at (column + i) (cause (slice_index word i))) (position (λ byte. not (stands byte)) word)
+
+abbrev pub strange_cause : ℕ → Cause
+strange_cause byte = if byte == 9 then Tab else if byte == 13 then CarriageReturn else OtherByte
+
+-- a byte that stands in no word of any line
+abbrev pub strange_trouble : ℕ → List ℕ → Option Trouble
+strange_trouble = byte_trouble is_ascii_graphic strange_cause
+
+-- the largest number that may stand for a guest, a page and so on
+abbrev pub most : numbers.Number → ℕ
+most Guest = 65535
+most _ = 4294967295
+
+abbrev pub are_digits : List ℕ → Bool
+are_digits word = list_all is_ascii_digit word && nat_lt 0 (length word)
+
+abbrev pub is_signed : List ℕ → Bool
+is_signed word = (slice_index word 0 == 43 || slice_index word 0 == 45) && are_digits (drop 1 word)
+
+abbrev pub has_leading_zero : List ℕ → Bool
+has_leading_zero word = slice_index word 0 == 48 && nat_lt 1 (length word)
+
+-- what a word is not, then its form, then its range
+abbrev pub number_cause : numbers.Number → List ℕ → Option Cause
+number_cause number word =
+    if is_signed word then Some Sign
+    else if not (are_digits word) then Some (NotANumber number)
+    else if has_leading_zero word then Some LeadingZero
+    else if nat_lt (most number) (digits_value 10 word) then Some (TooLarge number)
+    else None
+
+abbrev pub length_cause : List ℕ → Option Cause
+length_cause word = if length word == 2 || length word == 16 * PAGE_WORDS then None else Some ContentLength
+
+abbrev pub knob_cause : List ℕ → Option Cause
+knob_cause word =
+    if is_knob word then None
+    else if is_counter word then Some CounterSet
+    else if is_knob (lowered word) then Some Capital
+    else Some UnknownKnob
+
+abbrev pub shown_cause : List ℕ → Option Cause
+shown_cause word =
+    if is_knob word || is_counter word then None
+    else if is_knob (lowered word) || is_counter (lowered word) then Some Capital
+    else Some UnknownShown
+
+-- why a word of printable bytes is not this part
+abbrev pub part_trouble : Part → ℕ → List ℕ → Option Trouble
+part_trouble (Number number) column word = option_map (at column) (number_cause number word)
+part_trouble Content column word =
+    option_or (byte_trouble is_ascii_hexdigit (λ byte. NotHexadecimal) column word) (option_map (at column) (length_cause word))
+part_trouble Knob column word = option_map (at column) (knob_cause word)
+part_trouble Shown column word = option_map (at column) (shown_cause word)
+
+-- why a word is not this part: a byte that no line has comes first
+abbrev pub word_trouble : Part → ℕ → List ℕ → Option Trouble
+word_trouble part column word = option_or (strange_trouble column word) (part_trouble part column word)
+
+-- ---- a line; *end* is the column of the byte behind the words that were read
+
+-- a number of visits may be left out, any other part not
+abbrev pub missing_trouble : ℕ → List Part → Option Trouble
+missing_trouble end [] = None
+missing_trouble end (Number Visits ∷ parts) = None
+missing_trouble end (part ∷ parts) = Some (at end (Missing part))
+
+abbrev pub is_empty : List ℕ → Bool
+is_empty [] = true
+is_empty (byte ∷ bytes) = false
+
+-- a space where a word should begin, with these words behind it
+abbrev pub space_trouble : ℕ → List (List ℕ) → Trouble
+space_trouble end words = if list_all is_empty words then at end SpaceAfter else at (end + 1) TwoSpaces
+
+-- a word where the line should end
+abbrev pub more_trouble : ℕ → List ℕ → Option Trouble
+more_trouble end word = option_or (strange_trouble (end + 1) word) (Some (at (end + 1) OneWordMore))
+
+-- words that should be these parts
+abbrev pub parts_trouble : ℕ → List Part → List (List ℕ) → Option Trouble
+parts_trouble end parts [] = missing_trouble end parts
+parts_trouble end parts ([] ∷ words) = Some (space_trouble end words)
+parts_trouble end [] (word ∷ words) = more_trouble end word
+parts_trouble end (part ∷ parts) (word ∷ words) =
+    option_or (word_trouble part (end + 1) word) (parts_trouble (end + 1 + length word) parts words)
+
+-- a first word that no line begins with
+abbrev pub name_cause : List ℕ → Cause
+name_cause name = if slice_index name 0 == 35 then Comment else if is_name (lowered name) then Capital else UnknownName
+
+abbrev pub named_trouble : Option (List Part) → List ℕ → List (List ℕ) → Option Trouble
+named_trouble (Some parts) name words = parts_trouble (length name + 1) parts words
+named_trouble None name words = option_or (strange_trouble 1 name) (Some (at 1 (name_cause name)))
+
+-- a line of no bytes is good; with words behind a first one of no bytes it begins with a space
+abbrev pub empty_trouble : List (List ℕ) → Option Trouble
+empty_trouble [] = None
+empty_trouble (word ∷ words) = Some (at 1 SpaceBefore)
+
+abbrev pub words_trouble : List (List ℕ) → Option Trouble
+words_trouble [] = None
+words_trouble ([] ∷ words) = empty_trouble words
+words_trouble (name ∷ words) = named_trouble (parts_in forms name) name words
+
+-- a line that is too long is that before all else
+abbrev pub trouble_of : List ℕ → Option Trouble
+trouble_of line = if nat_lt 256 (length line) then Some (at 257 LongLine) else words_trouble (words_of line)

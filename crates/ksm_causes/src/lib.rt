@@ -1,0 +1,13 @@
+//! Why a line of the script language is bad: where, and for which cause.
+#![tactic(auto)]
+
+mod cause;
+mod line;
+mod part;
+mod said;
+mod word;
+
+pub use cause::{Cause, Trouble};
+pub use line::cause_of;
+pub use part::{Number, Part};
+pub use said::BadLine;
