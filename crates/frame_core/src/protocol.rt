@@ -38,7 +38,7 @@ impl Core {
     /// `Fault::Memory`.
     pub fn open(alloc: Global, shape: Shape) -> Result<Core, Fault>
         requires { IsShape shape }
-        ensures first { IfOk result (λ core. core ≡ record { shape = shape; state = first_state shape }) }
+        ensures opening { IfOk result (λ core. core ≡ record { shape = shape; state = first_state shape }) }
         ensures ledger { IfOk result (λ core. core.state.ledger ≡ first_ledger shape) }
         ensures memory { IfErr result (λ fault. fault ≡ Fault.Memory) }
     {
