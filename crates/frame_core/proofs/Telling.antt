@@ -1,311 +1,385 @@
--- After each kind of step, the state and the trace still go together. Here for any tale: what the step adds to it is written out.
-use Rattle.std.proofs.Common.{◌≡◌, ℕ, ◌+◌, ◌*◌, ◌%◌, ◌<◌, ◌≤◌, ◌≢◌, ◌==◌, ◌&&◌, Bool, true, false, if◌then◌else◌, List, [], ◌∷◌, Option, Some, None, slice_get, slice_set, subst, sym, ap, ◌∙◌, refl, ⊎_elim, arith}
-use Rattle.std.proofs.lemmas.Bool.{eq-eqb, ne_eqb, cases_eq}
-use Rattle.std.proofs.Math.Nat.{mul-le-mul_right}
+-- After each step, the state and the trace still go together. Of a step of the keeper that is said for any tale: what it adds to the tale is written out.
+use Rattle.std.proofs.Common.{◌≡◌, ℕ, ◌+◌, ◌-◌, ◌*◌, ◌%◌, ◌<◌, ◌≢◌, ◌==◌, ◌&&◌, not, leb, Bool, true, false, cond, if◌then◌else◌, List, [], ◌∷◌, length, get_or, set, Option, Some, None, slice_get, subst, sym, ap, ◌∙◌, refl, ⊎_elim, arith}
+use Rattle.std.proofs.lemmas.Bool.{eq-eqb, eqb-true, ne_eqb, cases_eq, and_parts, ltb-true}
 use Rattle.std.proofs.lemmas.List.Elements.{All-nil, All-cons}
-use Rattle.std.proofs.lemmas.Option.{same_Some, slice_get_within}
+use Rattle.std.proofs.lemmas.Option.{same_Some}
+use Rattle.ksm_base.specs.declared.page.TheConstants.{PAGE_WORDS}
+use Rattle.ksm_base.specs.declared.shape.Shape.{Shape}
 use Rattle.ksm_base.specs.Values.{frames_of}
-use Rattle.frame_core.specs.declared.frame.Frame.{Frame}
-use Rattle.frame_core.specs.declared.frame.Kind.TheVariants.{Filling, Private, Stable}
+use Rattle.frame_core.specs.declared.event.Event.{Event}
+use Rattle.frame_core.specs.declared.event.Event.TheVariants as event
+use Rattle.frame_core.specs.declared.event.KeeperStep.{KeeperStep}
+use Rattle.frame_core.specs.declared.event.KeeperStep.TheVariants.{Reap, Put, Raise, Open, Add, Sub, Publish, Withdraw, Freeze, Word}
+use Rattle.frame_core.specs.declared.event.ReaderStep.{ReaderStep}
+use Rattle.frame_core.specs.declared.event.ReaderStep.TheVariants.{LoadPlace, LoadFrame, Exchange, Leave, LoadWord}
+use Rattle.frame_core.specs.declared.frame.Kind.TheVariants.{Free, Filling, Private, Dying, Retired}
+use Rattle.frame_core.specs.declared.ledger.Ledger.{Ledger}
+use Rattle.frame_core.specs.declared.ledger.Note.{Note}
 use Rattle.frame_core.specs.declared.seat.Life.{Life}
 use Rattle.frame_core.specs.declared.seat.Aim.{Aim}
 use Rattle.frame_core.specs.declared.seat.Phase.{Phase}
 use Rattle.frame_core.specs.declared.seat.Phase.TheVariants.{Idle, Placed, Counted, Held, Spent}
-use Rattle.frame_core.specs.State.{State, place_word, frame_word}
-use Rattle.frame_core.specs.ReaderSteps.{aimed_at}
-use Rattle.frame_core.specs.Trace.{frame_in}
-use Rattle.frame_core.specs.Rule.{Rule, LifeRule, HeldRule, SeatRule, MayBeNamed, MayBeHeld}
-use Rattle.frame_core.proofs.Lists.{get_set, each_set}
-use Rattle.frame_core.proofs.Told.{SeatTale, Tale, Told, FrameTold, AimIs, SeatTold, PlaceTold, ReadRightly, Writable}
-use Rattle.frame_core.proofs.Quiet.{Quiet, quiet_told}
+use Rattle.frame_core.specs.State.{State, place_word, frame_word, count_in, life_in}
+use Rattle.frame_core.specs.Ledger.{blank, frame_at, named_at, with_frame, IsWritable, MayStep, reaped, raised, opened, added, lowered, filled, shown, frozen}
+use Rattle.frame_core.specs.KeeperSteps.{word_of, keeper_finds, may_step}
+use Rattle.frame_core.specs.Seat.{phase_at, nothing_known, aim_of, is_referenced, may_read, reader_finds, seat_after, reader_counts}
+use Rattle.frame_core.specs.Steps.{after_keeper, step}
+use Rattle.frame_core.specs.Trace.{Entry, frame_in}
+use Rattle.frame_core.specs.Rule.{Rule, IsNamed, HeldRule, SeatRule, MayBeNamed, MayBeHeld}
+use Rattle.frame_core.proofs.Lists.{each_set, get_set, get_inside}
+use Rattle.frame_core.proofs.Decides.{decides}
+use Rattle.frame_core.proofs.Fitting.{frames_at_most}
+use Rattle.frame_core.proofs.Changes.{seat_there}
+use Rattle.frame_core.proofs.Keeps.{if_made, aimed}
+use Rattle.frame_core.proofs.Told.{SeatTale, Tale, Told, FrameTold, AimIs, SeatTold, PlaceTold, ReadRightly, tale_of}
 
 -- ---------------------------------------------------------------- steps of the keeper
 
--- a step at one frame that leaves no mark in the tale
-pub tell_quiet : (s : State) (T : Tale) (f : ℕ) (old new : Frame) → slice_get s.frames f ≡ Some old → Quiet old new → Told s T → Told (record s { frames = slice_set s.frames f new }) T
-tell_quiet s T f old new at quiet told = record {
-  frames = each_set s.frames f new (λ k x. FrameTold (T.life k) (T.stored k) (T.named k) x) (quiet_told (T.life f) (T.stored f) (T.named f) old new quiet (told.frames f old at)) (λ k x ne found. told.frames k x found);
-  places = told.places;
-  seats = told.seats;
+-- a step that leaves life and content of a frame alone, and makes nothing writable
+record Quiet (old new : Note) : Type 0 where
+  pub generation : old.generation ≡ new.generation
+  pub content : old.content ≡ new.content
+  pub kind : IsWritable new.kind → IsWritable old.kind
+
+quiet_told : (life : ℕ) (words : ℕ → ℕ) (named : ℕ → ℕ → Option ℕ) (old new : Note) → Quiet old new → FrameTold life words named old → FrameTold life words named new
+quiet_told life words named old new quiet told = record {
+  life_is = told.life_is ∙ quiet.generation;
+  words_are = subst (λ (content : List ℕ). (i w : ℕ) → slice_get content i ≡ Some w → words i ≡ w) quiet.content told.words_are;
+  named_as = subst (λ (x : ℕ × List ℕ). (i v w : ℕ) → named x.0 i ≡ Some v → slice_get x.1 i ≡ Some w → v ≡ w) (λ i. (quiet.generation i, quiet.content i)) told.named_as;
+  unnamed = λ h i. subst (λ (g : ℕ). named g i ≡ None) quiet.generation (told.unnamed (quiet.kind h) i);
+  later = told.later;
 }
 
 -- what a tale says of a seat, after the lives, the words named, or what was opened changed
-pub seat_map : (tries : ℕ) (frames : List Frame) (life life' : ℕ → ℕ) (named named' : ℕ → ℕ → ℕ → Option ℕ) (seat : SeatTale) (given' : ℕ → Bool)
-    → ((aim : Aim) → LifeRule frames aim.life → AimIs life named seat aim → AimIs life' named' (record seat { given = given' }) aim)
-    → ((aim : Aim) (known : List (Option ℕ)) → LifeRule frames aim.life → HeldRule frames aim.life known → (i : ℕ) → named aim.life.frame aim.life.generation i ≡ named' aim.life.frame aim.life.generation i)
-    → (phase : Phase) → SeatRule tries frames phase → SeatTold life named seat phase → SeatTold life' named' (record seat { given = given' }) phase
-seat_map tries frames life life' named named' seat given' aims reads Idle rule told = told
-seat_map tries frames life life' named named' seat given' aims reads (Placed aim failures) rule told = (told.0, aims aim rule.0 told.1)
-seat_map tries frames life life' named named' seat given' aims reads (Counted aim failures count) rule told = (told.0, aims aim rule.0 told.1, told.2)
-seat_map tries frames life life' named named' seat given' aims reads (Held aim known) rule told =
-    (told.0, aims aim rule.0 told.1, subst (λ (n : ℕ → Option ℕ). ReadRightly n seat.read) (λ j i. reads aim known rule.0 rule.1 i j) told.2)
-seat_map tries frames life life' named named' seat given' aims reads Spent rule told = told
-
--- a word is stored
-pub tell_put : (s : State) (T : Tale) (f i w : ℕ) (old : Frame) → slice_get s.frames f ≡ Some old → Writable old.kind → Told s T
-    → Told (record s { frames = slice_set s.frames f (record old { content = slice_set old.content i w }) }) (record T { stored = λ g j. if f == g && i == j then w else T.stored g j })
-tell_put s T f i w old at writable told =
-    let before = told.frames f old at in record {
-      frames = each_set s.frames f (record old { content = slice_set old.content i w })
-          (λ k x. FrameTold (T.life k) (λ j. if f == k && i == j then w else T.stored k j) (T.named k) x)
-          record {
-            life_is = before.life_is;
-            words_are = λ j v e. ⊎_elim
-                (λ (h : (j ≡ i) × (w ≡ v)). rw (eq-eqb f f refl, eq-eqb i j (sym h.0)) h.1)
-                (λ (h : (j ≢ i) × (slice_get old.content j ≡ Some v)). rw (eq-eqb f f refl, ne_eqb i j (λ q. h.0 (sym q))) (before.words_are j v h.1))
-                (get_set old.content i j w v e);
-            named_as = λ j v x n e. absurd (cc (n, before.unnamed writable j));
-            unnamed = before.unnamed;
-            later = before.later;
-          }
-          (λ k x ne found. rw (ne_eqb f k (λ q. ne (sym q))) (told.frames k x found));
-      places = told.places;
-      seats = told.seats;
-    }
-
--- a frame is given its next life
-pub tell_raise : (s : State) (T : Tale) (f : ℕ) (old : Frame) → slice_get s.frames f ≡ Some old → Rule s → Told s T
-    → Told (record s { frames = slice_set s.frames f (record old { generation = old.generation + 1; kind = Filling }) }) (record T { life = λ g. if f == g then T.life g + 1 else T.life g })
-tell_raise s T f old at rule told =
-    let before = told.frames f old at in record {
-      frames = each_set s.frames f (record old { generation = old.generation + 1; kind = Filling })
-          (λ k x. FrameTold (if f == k then T.life k + 1 else T.life k) (T.stored k) (T.named k) x)
-          (rw (eq-eqb f f refl) record {
-            life_is = omega (arith, before.life_is);
-            words_are = before.words_are;
-            named_as = λ i v w n e. absurd (cc (n, before.later (old.generation + 1) i (omega (arith, before.life_is))));
-            unnamed = λ h i. before.later (old.generation + 1) i (omega (arith, before.life_is));
-            later = λ g i h. before.later g i (omega (arith, h));
-          })
-          (λ k x ne found. rw (ne_eqb f k (λ q. ne (sym q))) (told.frames k x found));
-      places = told.places;
-      seats = λ q phase found. seat_map s.shape.tries s.frames T.life (λ g. if f == g then T.life g + 1 else T.life g) T.named T.named (T.seat q) (T.seat q).given
-          (λ aim life aimed. record {
-            loaded_is = aimed.loaded_is;
-            below = aimed.below;
-            was_named = aimed.was_named;
-            not_given = ⊎_elim
-                (λ (same : f ≡ aim.life.frame). rw (eq-eqb f aim.life.frame same) (λ e.
-                let past : aim.life.generation ≤ old.generation = life.past old (ap (λ (k : ℕ). slice_get s.frames k) (sym same) ∙ at) in
-                let is : T.life aim.life.frame ≡ old.generation = ap T.life (sym same) ∙ before.life_is in
-                absurd (omega (arith, past, is, e))))
-                (λ (ne : f ≡ aim.life.frame → ⊥). rw (ne_eqb f aim.life.frame ne) aimed.not_given)
-                (cases_eq f aim.life.frame);
-          })
-          (λ aim known life held i. refl)
-          phase (rule.seats q phase found) (told.seats q phase found);
-    }
-
--- a frame is opened
-pub tell_open : (s : State) (T : Tale) (f : ℕ) (old new : Frame) → slice_get s.frames f ≡ Some old → old.kind ≡ Filling → Quiet old new → Rule s → Told s T
-    → Told (record s { frames = slice_set s.frames f new }) (record T { seat = λ q. record (T.seat q) { given = λ g. if f == g then true else (T.seat q).given g } })
-tell_open s T f old new at kind quiet rule told =
-    let before = told.frames f old at in record {
-      frames = each_set s.frames f new (λ k x. FrameTold (T.life k) (T.stored k) (T.named k) x) (quiet_told (T.life f) (T.stored f) (T.named f) old new quiet before) (λ k x ne found. told.frames k x found);
-      places = told.places;
-      seats = λ q phase found. seat_map s.shape.tries s.frames T.life T.life T.named T.named (T.seat q) (λ g. if f == g then true else (T.seat q).given g)
-          (λ aim life aimed. record {
-            loaded_is = aimed.loaded_is;
-            below = aimed.below;
-            was_named = aimed.was_named;
-            not_given = λ e. ⊎_elim
-                (λ (same : f ≡ aim.life.frame).
-                let here : slice_get s.frames aim.life.frame ≡ Some old = ap (λ (k : ℕ). slice_get s.frames k) (sym same) ∙ at in
-                let is : T.life aim.life.frame ≡ old.generation = ap T.life (sym same) ∙ before.life_is in
-                absurd (subst MayBeNamed kind (life.named old here (e ∙ is))))
-                (λ (ne : f ≡ aim.life.frame → ⊥). rw (ne_eqb f aim.life.frame ne) (aimed.not_given e))
-                (cases_eq f aim.life.frame);
-          })
-          (λ aim known life held i. refl)
-          phase (rule.seats q phase found) (told.seats q phase found);
-    }
-
--- there are at most 1,024 frames
-frames_at_most : (s : State) → Rule s → frames_of s.shape ≤ 1024
-frames_at_most s rule =
-    let a : s.shape.nodes * s.shape.frames_per_node ≤ 4 * s.shape.frames_per_node = mul-le-mul_right s.shape.frames_per_node rule.shape.nodes_high in
-    omega (arith, a, rule.shape.frames_high)
+seat_map : (sh : Shape) (k : Ledger) (life life' : ℕ → ℕ) (named named' : ℕ → ℕ → ℕ → Option ℕ) (seat : SeatTale) (given' : ℕ → Bool)
+    → ((aim : Aim) → IsNamed sh k aim.life → AimIs life named seat aim → AimIs life' named' (record seat { given = given' }) aim)
+    → ((aim : Aim) (known : List (Option ℕ)) → HeldRule (frame_at k aim.life.frame) aim.life known → (i : ℕ) → named aim.life.frame aim.life.generation i ≡ named' aim.life.frame aim.life.generation i)
+    → (phase : Phase) → SeatRule sh k phase → SeatTold life named seat phase → SeatTold life' named' (record seat { given = given' }) phase
+seat_map sh k life life' named named' seat given' aims reads Idle rule told = told
+seat_map sh k life life' named named' seat given' aims reads (Placed aim failures) rule told = (told.0, aims aim rule.0 told.1)
+seat_map sh k life life' named named' seat given' aims reads (Counted aim failures count) rule told = (told.0, aims aim rule.0 told.1, told.2)
+seat_map sh k life life' named named' seat given' aims reads (Held aim known) rule told =
+    (told.0, aims aim rule.0 told.1, subst (λ (n : ℕ → Option ℕ). ReadRightly n seat.read) (λ j i. reads aim known rule.1 i j) told.2)
+seat_map sh k life life' named named' seat given' aims reads Spent rule told = told
 
 -- what was named stays named
 still_named : (b : Bool) (v : ℕ) (o : Option ℕ) → (x : ℕ) × (o ≡ Some x) → (x : ℕ) × ((if b then Some v else o) ≡ Some x)
 still_named true v o h = (v, refl)
 still_named false v o h = h
 
--- a frame is named at a place
-pub tell_publish : (s : State) (T : Tale) (p f : ℕ) (old : Frame) → slice_get s.frames f ≡ Some old → old.kind ≡ Private → Rule s → Told s T
-    → Told (record s { frames = slice_set s.frames f (record old { kind = Stable }); places = slice_set s.places p (Some record { frame = f; generation = old.generation }) })
-    (record T { named = λ h g i. if f == h && T.life h == g then Some (T.stored h i) else T.named h g i })
-tell_publish s T p f old at kind rule told =
-    let before = told.frames f old at in
-    let within : f < 1024 = omega (arith, slice_get_within s.frames f old at, rule.frame_count, frames_at_most s rule) in record {
-      frames = each_set s.frames f (record old { kind = Stable })
-          (λ k x. FrameTold (T.life k) (T.stored k) (λ g i. if f == k && T.life k == g then Some (T.stored k i) else T.named k g i) x)
-          record {
-            life_is = before.life_is;
-            words_are = before.words_are;
-            named_as = λ i v w n e.
-                let n' : Some (T.stored f i) ≡ Some v = rw (eq-eqb f f refl, eq-eqb (T.life f) old.generation before.life_is) at n in
-                sym (same_Some (T.stored f i) v n') ∙ before.words_are i w e;
-            unnamed = λ h i. absurd h;
-            later = λ g i h. rw (eq-eqb f f refl, ne_eqb (T.life f) g (λ e. omega (arith, e, h))) (before.later g i h);
-          }
-          (λ k x ne found. rw (ne_eqb f k (λ q. ne (sym q))) (told.frames k x found));
-      places = λ k life found. ⊎_elim
-          (λ (h : (k ≡ p) × (Some record { frame = f; generation = old.generation } ≡ Some life)).
-          subst (λ (l : Life). PlaceTold (λ h g i. if f == h && T.life h == g then Some (T.stored h i) else T.named h g i) l) (same_Some record { frame = f; generation = old.generation } life h.1)
-          record { below = within; was_named = λ i. (T.stored f i, rw (eq-eqb f f refl, eq-eqb (T.life f) old.generation before.life_is) refl) })
-          (λ (h : (k ≢ p) × (slice_get s.places k ≡ Some (Some life))). let was = told.places k life h.1 in
-          record { below = was.below; was_named = λ i. still_named (f == life.frame && T.life life.frame == life.generation) (T.stored life.frame i) (T.named life.frame life.generation i) (was.was_named i) })
-          (get_set s.places p k (Some record { frame = f; generation = old.generation }) (Some life) found);
-      seats = λ q phase found. seat_map s.shape.tries s.frames T.life T.life T.named (λ h g i. if f == h && T.life h == g then Some (T.stored h i) else T.named h g i) (T.seat q) (T.seat q).given
-          (λ aim life aimed. record {
-            loaded_is = aimed.loaded_is;
-            below = aimed.below;
-            was_named = λ i. still_named (f == aim.life.frame && T.life aim.life.frame == aim.life.generation) (T.stored aim.life.frame i) (T.named aim.life.frame aim.life.generation i) (aimed.was_named i);
-            not_given = aimed.not_given;
-          })
-          (λ aim known life held i. ⊎_elim
-          (λ (same : f ≡ aim.life.frame). absurd (subst MayBeHeld kind (held.kind old (ap (λ (k : ℕ). slice_get s.frames k) (sym same) ∙ at))))
-          (λ (ne : f ≡ aim.life.frame → ⊥). rw (ne_eqb f aim.life.frame ne) refl)
-          (cases_eq f aim.life.frame))
-          phase (rule.seats q phase found) (told.seats q phase found);
-    }
+-- the notes and places of this ledger, and the counts and seats of s
+module _ (sh : Shape) (s : State) (T : Tale) (rule : Rule sh s) (told : Told s T) where
+  abbrev k : Ledger
+  k = s.ledger
 
--- a place is emptied
-pub tell_withdraw : (s : State) (T : Tale) (p : ℕ) → Told s T → Told (record s { places = slice_set s.places p None }) T
-tell_withdraw s T p told = record {
-  frames = told.frames;
-  places = λ k life found. ⊎_elim
-      (λ (h : (k ≡ p) × (None ≡ Some life)). absurd (cc (h.1)))
-      (λ (h : (k ≢ p) × (slice_get s.places k ≡ Some (Some life))). told.places k life h.1)
-      (get_set s.places p k None (Some life) found);
-  seats = told.seats;
-}
+  -- each frame is told of rightly, where this one is that changed
+  each_frame : (T' : Tale) (f : ℕ) (note : Note) → f < frames_of sh → FrameTold (T'.life f) (T'.stored f) (T'.named f) note
+      → ((g : ℕ) → g ≢ f → FrameTold (T.life g) (T.stored g) (T.named g) (frame_at k g) → FrameTold (T'.life g) (T'.stored g) (T'.named g) (frame_at k g))
+      → (g : ℕ) → FrameTold (T'.life g) (T'.stored g) (T'.named g) (frame_at (with_frame k f note) g)
+  each_frame T' f note below here others = each_set (λ g x. FrameTold (T'.life g) (T'.stored g) (T'.named g) x) k.frames f note blank
+      (omega (arith, below, rule.frame_count)) here (λ g ne. others g ne (told.frames g))
+
+  -- a step at one frame that leaves no mark in the tale
+  tell_quiet : (f : ℕ) (note : Note) (counts : List ℕ) → f < frames_of sh → Quiet (frame_at k f) note → Told record { ledger = with_frame k f note; counts = counts; seats = s.seats } T
+  tell_quiet f note counts below quiet = record {
+    frames = each_frame T f note below (quiet_told (T.life f) (T.stored f) (T.named f) (frame_at k f) note quiet (told.frames f)) (λ g ne h. h);
+    places = told.places;
+    seats = told.seats;
+  }
+
+  -- the same, where the frame stays as it is
+  tell_counts : (counts : List ℕ) → Told record { ledger = k; counts = counts; seats = s.seats } T
+  tell_counts counts = record { frames = told.frames; places = told.places; seats = told.seats }
+
+  -- a word is stored
+  tell_put : (f i w : ℕ) → f < frames_of sh → IsWritable (frame_at k f).kind
+      → Told record { ledger = with_frame k f (filled i w (frame_at k f)); counts = s.counts; seats = s.seats } (record T { stored = λ g j. if f == g && i == j then w else T.stored g j })
+  tell_put f i w below writable =
+      let old = frame_at k f in
+      let before = told.frames f in record {
+        frames = each_frame (record T { stored = λ g j. if f == g && i == j then w else T.stored g j }) f (filled i w old) below
+            record {
+              life_is = before.life_is;
+              words_are = λ j v e. ⊎_elim
+                  (λ (h : (j ≡ i) × (w ≡ v)). rw (eq-eqb f f refl, eq-eqb i j (sym h.0)) h.1)
+                  (λ (h : (j ≢ i) × (slice_get old.content j ≡ Some v)). rw (eq-eqb f f refl, ne_eqb i j (λ q. h.0 (sym q))) (before.words_are j v h.1))
+                  (get_set old.content i j w v e);
+              named_as = λ j v x n e. absurd (cc (n, before.unnamed writable j));
+              unnamed = before.unnamed;
+              later = before.later;
+            }
+            (λ g ne h. rw (ne_eqb f g (λ q. ne (sym q))) h);
+        places = told.places;
+        seats = told.seats;
+      }
+
+  -- a frame is given its next life
+  tell_raise : (f : ℕ) → f < frames_of sh
+      → Told record { ledger = with_frame k f (raised (frame_at k f)); counts = s.counts; seats = s.seats } (record T { life = λ g. if f == g then T.life g + 1 else T.life g })
+  tell_raise f below =
+      let old = frame_at k f in
+      let before = told.frames f in record {
+        frames = each_frame (record T { life = λ g. if f == g then T.life g + 1 else T.life g }) f (raised old) below
+            (rw (eq-eqb f f refl) record {
+              life_is = omega (arith, before.life_is);
+              words_are = before.words_are;
+              named_as = λ i v w n e. absurd (cc (n, before.later (old.generation + 1) i (omega (arith, before.life_is))));
+              unnamed = λ h i. before.later (old.generation + 1) i (omega (arith, before.life_is));
+              later = λ g i h. before.later g i (omega (arith, h));
+            })
+            (λ g ne h. rw (ne_eqb f g (λ q. ne (sym q))) h);
+        places = told.places;
+        seats = λ q. seat_map sh k T.life (λ g. if f == g then T.life g + 1 else T.life g) T.named T.named (T.seat q) (T.seat q).given
+            (λ aim life is. record {
+              loaded_is = is.loaded_is;
+              below = is.below;
+              was_named = is.was_named;
+              not_given = ⊎_elim
+                  (λ (same : f ≡ aim.life.frame). rw (eq-eqb f aim.life.frame same)
+                  (λ e. absurd (omega (arith, life.past, (told.frames aim.life.frame).life_is, e))))
+                  (λ (ne : f ≡ aim.life.frame → ⊥). rw (ne_eqb f aim.life.frame ne) is.not_given)
+                  (cases_eq f aim.life.frame);
+            })
+            (λ aim known held i. refl)
+            (phase_at s q) (rule.seats q) (told.seats q);
+      }
+
+  -- a frame is opened
+  tell_open : (f : ℕ) (counts : List ℕ) → f < frames_of sh → (frame_at k f).kind ≡ Filling
+      → Told record { ledger = with_frame k f (opened (frame_at k f)); counts = counts; seats = s.seats } (record T { seat = λ q. record (T.seat q) { given = λ g. if f == g then true else (T.seat q).given g } })
+  tell_open f counts below kind = record {
+    frames = (tell_quiet f (opened (frame_at k f)) counts below record { generation = refl; content = refl; kind = λ h. subst IsWritable (sym kind) tt }).frames;
+    places = told.places;
+    seats = λ q. seat_map sh k T.life T.life T.named T.named (T.seat q) (λ g. if f == g then true else (T.seat q).given g)
+        (λ aim life is. record {
+          loaded_is = is.loaded_is;
+          below = is.below;
+          was_named = is.was_named;
+          not_given = λ e. ⊎_elim
+              (λ (same : f ≡ aim.life.frame).
+              absurd (subst MayBeNamed (ap (λ (g : ℕ). (frame_at k g).kind) (sym same) ∙ kind) (life.named (e ∙ (told.frames aim.life.frame).life_is))))
+              (λ (ne : f ≡ aim.life.frame → ⊥). rw (ne_eqb f aim.life.frame ne) (is.not_given e))
+              (cases_eq f aim.life.frame);
+        })
+        (λ aim known held i. refl)
+        (phase_at s q) (rule.seats q) (told.seats q);
+  }
+
+  -- a frame is named at a place
+  tell_publish : (p f : ℕ) → p < frames_of sh → f < frames_of sh → (frame_at k f).kind ≡ Private
+      → Told record {
+        ledger = record { frames = set k.frames f (shown (frame_at k f)); places = set k.places p (Some record { frame = f; generation = (frame_at k f).generation }) };
+        counts = s.counts;
+        seats = s.seats;
+      } (record T { named = λ h g i. if f == h && T.life h == g then Some (T.stored h i) else T.named h g i })
+  tell_publish p f there below kind =
+      let old = frame_at k f in
+      let before = told.frames f in
+      let named' = λ (h g i : ℕ). let o : Option ℕ = if f == h && T.life h == g then Some (T.stored h i) else T.named h g i in o in record {
+        frames = each_frame (record T { named = named' }) f (shown old) below
+            record {
+              life_is = before.life_is;
+              words_are = before.words_are;
+              named_as = λ i v w n e.
+                  let n' : Some (T.stored f i) ≡ Some v = rw (eq-eqb f f refl, eq-eqb (T.life f) old.generation before.life_is) at n in
+                  sym (same_Some (T.stored f i) v n') ∙ before.words_are i w e;
+              unnamed = λ h i. absurd h;
+              later = λ g i h. rw (eq-eqb f f refl, ne_eqb (T.life f) g (λ e. omega (arith, e, h))) (before.later g i h);
+            }
+            (λ g ne h. rw (ne_eqb f g (λ q. ne (sym q))) h);
+        places = each_set (λ x o. (life : Life) → o ≡ Some life → PlaceTold named' life) k.places p (Some record { frame = f; generation = old.generation }) None
+            (omega (arith, there, rule.place_count))
+            (λ life e. subst (PlaceTold named') (same_Some record { frame = f; generation = old.generation } life e)
+            record { below = omega (arith, below, frames_at_most sh rule.shape); was_named = λ i. (T.stored f i, rw (eq-eqb f f refl, eq-eqb (T.life f) old.generation before.life_is) refl) })
+            (λ x ne life e. let was = told.places x life e in
+            record { below = was.below; was_named = λ i. still_named (f == life.frame && T.life life.frame == life.generation) (T.stored life.frame i) (T.named life.frame life.generation i) (was.was_named i) });
+        seats = λ q. seat_map sh k T.life T.life T.named named' (T.seat q) (T.seat q).given
+            (λ aim life is. record {
+              loaded_is = is.loaded_is;
+              below = is.below;
+              was_named = λ i. still_named (f == aim.life.frame && T.life aim.life.frame == aim.life.generation) (T.stored aim.life.frame i) (T.named aim.life.frame aim.life.generation i) (is.was_named i);
+              not_given = is.not_given;
+            })
+            (λ aim known held i. ⊎_elim
+            (λ (same : f ≡ aim.life.frame). absurd (subst MayBeHeld (ap (λ (g : ℕ). (frame_at k g).kind) (sym same) ∙ kind) held.kind))
+            (λ (ne : f ≡ aim.life.frame → ⊥). rw (ne_eqb f aim.life.frame ne) refl)
+            (cases_eq f aim.life.frame))
+            (phase_at s q) (rule.seats q) (told.seats q);
+      }
+
+  -- a place is emptied
+  tell_withdraw : (p : ℕ) → p < frames_of sh → Told (record s { ledger = record k { places = set k.places p None } }) T
+  tell_withdraw p there = record {
+    frames = told.frames;
+    places = each_set (λ x o. (life : Life) → o ≡ Some life → PlaceTold T.named life) k.places p None None (omega (arith, there, rule.place_count))
+        (λ life e. absurd (cc (e))) (λ x ne. told.places x);
+    seats = told.seats;
+  }
+
+  -- the kinds of a frame after a step that takes references away
+  reap_quiet : (note : Note) (b : Bool) → Quiet note record { kind = cond b Retired Free; base = 0; generation = note.generation; content = note.content }
+  reap_quiet note true = record { generation = refl; content = refl; kind = λ h. absurd h }
+  reap_quiet note false = record { generation = refl; content = refl; kind = λ h. absurd h }
+
+  lower_quiet : (note : Note) (b : Bool) → Quiet note (record note { kind = cond b Dying note.kind; base = note.base - 1 })
+  lower_quiet note true = record { generation = refl; content = refl; kind = λ h. absurd h }
+  lower_quiet note false = record { generation = refl; content = refl; kind = λ h. h }
+
+  tell_if : (f : ℕ) (note : Note) (counts counts' : List ℕ) (b : Bool) → f < frames_of sh → Quiet (frame_at k f) note
+      → Told record { ledger = cond b (with_frame k f note) k; counts = cond b counts counts'; seats = s.seats } T
+  tell_if f note counts counts' true below quiet = tell_quiet f note counts below quiet
+  tell_if f note counts counts' false below quiet = tell_counts counts'
+
+  same_if : (b : Bool) (counts : List ℕ) → cond b counts counts ≡ counts
+  same_if true counts = refl
+  same_if false counts = refl
+
+  tell_reap : (f : ℕ) (b : Bool) → f < frames_of sh
+      → Told record { ledger = cond b (with_frame k f (reaped sh.last_generation (frame_at k f))) k; counts = s.counts; seats = s.seats } T
+  tell_reap f b below = subst (λ (c : List ℕ). Told record { ledger = cond b (with_frame k f (reaped sh.last_generation (frame_at k f))) k; counts = c; seats = s.seats } T)
+      (same_if b s.counts) (tell_if f (reaped sh.last_generation (frame_at k f)) s.counts s.counts b below (reap_quiet (frame_at k f) ((frame_at k f).generation == sh.last_generation)))
+
+-- a step of the keeper that is allowed
+tell_keeper : (sh : Shape) (s : State) (t : List Entry) (e : KeeperStep) → Rule sh s → Told s (tale_of t) → MayStep sh s.ledger e
+    → Told (after_keeper sh s e (keeper_finds s e)) (tale_of (record { event = event.Keeper e; word = keeper_finds s e } ∷ t))
+tell_keeper sh s t (Reap f) rule told may = tell_reap sh s (tale_of t) rule told f (count_in (word_of s f) == 0) may.0
+tell_keeper sh s t (Put f i w) rule told may = tell_put sh s (tale_of t) rule told f i w may.0 may.2
+tell_keeper sh s t (Raise f) rule told may = tell_raise sh s (tale_of t) rule told f may.0
+tell_keeper sh s t (Open f) rule told may = tell_open sh s (tale_of t) rule told f _ may.0 may.1
+tell_keeper sh s t (Add f) rule told may =
+    tell_quiet sh s (tale_of t) rule told f (added (frame_at s.ledger f)) _ may.0 record { generation = refl; content = refl; kind = λ h. h }
+tell_keeper sh s t (Sub f) rule told may =
+    let note = frame_at s.ledger f in
+    tell_quiet sh s (tale_of t) rule told f (lowered note) _ may.0 (lower_quiet sh s (tale_of t) rule told note (note.base == 1))
+tell_keeper sh s t (Publish p f) rule told may = tell_publish sh s (tale_of t) rule told p f may.0 may.1 may.2
+tell_keeper sh s t (Withdraw p) rule told may = tell_withdraw sh s (tale_of t) rule told p may.0
+tell_keeper sh s t (Freeze f) rule told may =
+    tell_if sh s (tale_of t) rule told f (frozen (frame_at s.ledger f)) (set s.counts f 0) s.counts (count_in (word_of s f) == (frame_at s.ledger f).base) may.0
+    record { generation = refl; content = refl; kind = λ h. absurd h }
+tell_keeper sh s t (Word f i) rule told may = told
 
 -- ---------------------------------------------------------------- steps of a reader
-
--- the seats after a step of the seat q: its own tale is the one at true, that of any other seat the one at false
-pub tell_seats : (s : State) (T : Tale) (q : ℕ) (new : Phase) (after : ℕ → Bool → SeatTale) → ((k : ℕ) → after k false ≡ T.seat k) → SeatTold T.life T.named (after q true) new → Told s T
-    → (k : ℕ) (phase : Phase) → slice_get (slice_set s.seats q new) k ≡ Some phase → SeatTold T.life T.named (after k (q == k)) phase
-tell_seats s T q new after others here told =
-    each_set s.seats q new (λ k phase. SeatTold T.life T.named (after k (q == k)) phase)
-    (subst (λ (b : Bool). SeatTold T.life T.named (after q b) new) (sym (eq-eqb q q refl)) here)
-    (λ k phase ne found. subst (λ (b : Bool). SeatTold T.life T.named (after k b) phase) (sym (ne_eqb q k (λ e. ne (sym e))))
-    (subst (λ (t : SeatTale). SeatTold T.life T.named t phase) (sym (others k)) (told.seats k phase found)))
-
--- a place is loaded
-loaded_told : (T : Tale) (q p : ℕ) (place : Option Life) → ((life : Life) → place ≡ Some life → PlaceTold T.named life) → (T.seat q).held ≡ None
-    → SeatTold T.life T.named (record (T.seat q) { loaded = Some (p, place_word place); given = λ f. false }) (aimed_at p place)
-loaded_told T q p None named held = held
-loaded_told T q p (Some life) named held =
-    let was = named life refl in
-    (held, record { loaded_is = refl; below = was.below; was_named = was.was_named; not_given = λ e. refl })
-
-pub tell_load_place : (s : State) (T : Tale) (q p : ℕ) (place : Option Life) → slice_get s.seats q ≡ Some Idle → slice_get s.places p ≡ Some place → Told s T
-    → Told (record s { seats = slice_set s.seats q (aimed_at p place) })
-    (record T { seat = λ k. record (T.seat k) { loaded = if q == k then Some (p, place_word place) else (T.seat k).loaded; given = λ f. if q == k then false else (T.seat k).given f } })
-tell_load_place s T q p place at named told = record {
-  frames = told.frames;
-  places = told.places;
-  seats = tell_seats s T q (aimed_at p place)
-      (λ k b. record (T.seat k) { loaded = if b then Some (p, place_word place) else (T.seat k).loaded; given = λ f. if b then false else (T.seat k).given f })
-      (λ k. refl)
-      (loaded_told T q p place (λ life e. told.places p life (named ∙ ap (λ (o : Option Life). Some o) e)) (told.seats q Idle at))
-      told;
-}
-
--- a frame word is loaded
-counted_told : (T : Tale) (q w count : ℕ) (aim : Aim) (failures : ℕ) (b : Bool) → (b ≡ true → w ≡ frame_word aim.life.generation count)
-    → SeatTold T.life T.named (T.seat q) (Placed aim failures)
-    → SeatTold T.life T.named (record (T.seat q) { counted = w }) (if b then Counted aim failures count else Idle)
-counted_told T q w count aim failures false is told = told.0
-counted_told T q w count aim failures true is told =
-    (told.0, record { loaded_is = told.1.loaded_is; below = told.1.below; was_named = told.1.was_named; not_given = told.1.not_given }, is refl)
-
-pub tell_load_frame : (s : State) (T : Tale) (q w count : ℕ) (aim : Aim) (failures : ℕ) (b : Bool) → (b ≡ true → w ≡ frame_word aim.life.generation count)
-    → slice_get s.seats q ≡ Some (Placed aim failures) → Told s T
-    → Told (record s { seats = slice_set s.seats q (if b then Counted aim failures count else Idle) })
-    (record T { seat = λ k. record (T.seat k) { counted = if q == k then w else (T.seat k).counted } })
-tell_load_frame s T q w count aim failures b is at told = record {
-  frames = told.frames;
-  places = told.places;
-  seats = tell_seats s T q (if b then Counted aim failures count else Idle)
-      (λ k c. record (T.seat k) { counted = if c then w else (T.seat k).counted })
-      (λ k. refl)
-      (counted_told T q w count aim failures b is (told.seats q (Placed aim failures) at))
-      told;
-}
 
 -- a number with the frame in its lowest ten bits
 frame_of_word : (g f : ℕ) → f < 1024 → (g * 1024 + f) % 1024 ≡ f
 frame_of_word g f below = omega arith
 
--- an exchange is tried. The frames change in their counts alone
-exchanged_told : (T : Tale) (q w count : ℕ) (aim : Aim) (failures : ℕ) (known : List (Option ℕ)) (b c : Bool)
-    → (w == frame_word aim.life.generation count) ≡ b → SeatTold T.life T.named (T.seat q) (Counted aim failures count)
-    → SeatTold T.life T.named (record (T.seat q) { held = if w == (T.seat q).counted then frame_in (T.seat q).loaded else (T.seat q).held; read = [] })
-    (if b then Held aim known else if c then Idle else Placed aim (failures + 1))
-exchanged_told T q w count aim failures known true c is told =
-    let a = told.1 in
-    let held : (if w == (T.seat q).counted then frame_in (T.seat q).loaded else (T.seat q).held) ≡ Some aim.life.frame
-    = rw (told.2, is, a.loaded_is) (ap (λ (k : ℕ). Some k) (frame_of_word aim.life.generation aim.life.frame a.below)) in (
-      held,
-      record { loaded_is = a.loaded_is; below = a.below; was_named = a.was_named; not_given = a.not_given },
-      All-nil (λ (r : ℕ × ℕ). T.named aim.life.frame aim.life.generation r.0 ≡ Some r.1),
-    )
-exchanged_told T q w count aim failures known false true is told = rw (told.2, is) told.0
-exchanged_told T q w count aim failures known false false is told =
-    let a = told.1 in
-    let held : (if w == (T.seat q).counted then frame_in (T.seat q).loaded else (T.seat q).held) ≡ None = rw (told.2, is) told.0 in
-    (held, record { loaded_is = a.loaded_is; below = a.below; was_named = a.was_named; not_given = a.not_given })
+module _ (sh : Shape) (s : State) (t : List Entry) (rule : Rule sh s) (told : Told s (tale_of t)) (q : ℕ) (there : q < length s.seats) where
+  abbrev T : Tale
+  T = tale_of t
 
-pub tell_exchange : (s : State) (T : Tale) (q w count : ℕ) (aim : Aim) (failures : ℕ) (known : List (Option ℕ)) (c : Bool)
-    → slice_get s.seats q ≡ Some (Counted aim failures count) → Told s T
-    → Told (record s {
-      seats = slice_set s.seats q
-          (if w == frame_word aim.life.generation count then Held aim known else if c then Idle else Placed aim (failures + 1));
-    })
-    (record T {
-      seat = λ k. record (T.seat k)
-          { held = if q == k && w == (T.seat k).counted then frame_in (T.seat k).loaded else (T.seat k).held; read = if q == k then [] else (T.seat k).read };
-    })
-tell_exchange s T q w count aim failures known c at told = record {
-  frames = told.frames;
-  places = told.places;
-  seats = tell_seats s T q (if w == frame_word aim.life.generation count then Held aim known else if c then Idle else Placed aim (failures + 1))
-      (λ k b. record (T.seat k) {
-        held = if b && w == (T.seat k).counted then frame_in (T.seat k).loaded else (T.seat k).held;
-        read =
-            if b then [] else (T.seat k).read;
-      })
-      (λ k. refl)
-      (exchanged_told T q w count aim failures known (w == frame_word aim.life.generation count) c refl (told.seats q (Counted aim failures count) at))
-      told;
-}
+  -- what the trace tells of the seat
+  abbrev own : SeatTale
+  own = T.seat q
 
--- a reference is given back
-pub tell_leave : (s : State) (T : Tale) (q : ℕ) → Told s T → Told (record s { seats = slice_set s.seats q Idle }) (record T { seat = λ k. record (T.seat k) { held = if q == k then None else (T.seat k).held } })
-tell_leave s T q told = record {
-  frames = told.frames;
-  places = told.places;
-  seats = tell_seats s T q Idle (λ k b. record (T.seat k) { held = if b then None else (T.seat k).held }) (λ k. refl) refl told;
-}
+  -- where the seat has come so far, that is told
+  mine : (phase : Phase) → phase_at s q ≡ phase → SeatTold T.life T.named own phase
+  mine phase at = subst (SeatTold T.life T.named own) at (told.seats q)
 
--- a word is loaded
-pub tell_load_word : (s : State) (T : Tale) (q i w : ℕ) (aim : Aim) (known known' : List (Option ℕ)) (fr : Frame) → slice_get s.seats q ≡ Some (Held aim known) → slice_get s.frames aim.life.frame ≡ Some fr → slice_get fr.content i ≡ Some w → Rule s → Told s T
-    → Told (record s { seats = slice_set s.seats q (Held aim known') }) (record T { seat = λ k. record (T.seat k) { read = if q == k then (i, w) ∷ (T.seat k).read else (T.seat k).read } })
-tell_load_word s T q i w aim known known' fr at found word rule told =
-    let mine = told.seats q (Held aim known) at in
-    let frame = told.frames aim.life.frame fr found in
-    let same : aim.life.generation ≡ fr.generation = (rule.seats q (Held aim known) at).1.same fr found in
-    let was = mine.1.was_named i in
-    let was' : T.named aim.life.frame fr.generation i ≡ Some was.0 = subst (λ (g : ℕ). T.named aim.life.frame g i ≡ Some was.0) same was.1 in
-    let is : was.0 ≡ w = frame.named_as i was.0 w was' word in record {
-      frames = told.frames;
-      places = told.places;
-      seats = tell_seats s T q (Held aim known')
-          (λ k b. record (T.seat k) { read = if b then (i, w) ∷ (T.seat k).read else (T.seat k).read })
-          (λ k. refl)
-          (mine.0, record { loaded_is = mine.1.loaded_is; below = mine.1.below; was_named = mine.1.was_named; not_given = mine.1.not_given }, All-cons (λ (r : ℕ × ℕ). T.named aim.life.frame aim.life.generation r.0 ≡ Some r.1) (i, w) (T.seat q).read (was.1 ∙ ap (λ (v : ℕ). Some v) is) mine.2)
-          told;
-    }
+  ruled : (phase : Phase) → phase_at s q ≡ phase → SeatRule sh s.ledger phase
+  ruled phase at = subst (SeatRule sh s.ledger) at (rule.seats q)
+
+  -- the seats after a step of the seat q: its own tale is the one at true, that of any other seat the one at false
+  tell_seat : (new : Phase) (counts : List ℕ) (after : ℕ → Bool → SeatTale) → ((j : ℕ) → after j false ≡ T.seat j) → SeatTold T.life T.named (after q true) new
+      → Told record { ledger = s.ledger; counts = counts; seats = set s.seats q new } (record T { seat = λ j. after j (q == j) })
+  tell_seat new counts after others here = record {
+    frames = told.frames;
+    places = told.places;
+    seats = each_set (λ j phase. SeatTold T.life T.named (after j (q == j)) phase) s.seats q new Spent there
+        (subst (λ (b : Bool). SeatTold T.life T.named (after q b) new) (sym (eq-eqb q q refl)) here)
+        (λ j ne. subst (λ (b : Bool). SeatTold T.life T.named (after j b) (phase_at s j)) (sym (ne_eqb q j (λ e. ne (sym e))))
+        (subst (λ (x : SeatTale). SeatTold T.life T.named x (phase_at s j)) (sym (others j)) (told.seats j)));
+  }
+
+  -- what was told of an aim is told of it in a tale that differs in other parts
+  same_aim : (aim : Aim) (counted : ℕ) (held : Option ℕ) (read : List (ℕ × ℕ)) → AimIs T.life T.named own aim
+      → AimIs T.life T.named record { loaded = own.loaded; counted = counted; held = held; read = read; given = own.given } aim
+  same_aim aim counted held read is = record { loaded_is = is.loaded_is; below = is.below; was_named = is.was_named; not_given = is.not_given }
+
+  -- a place is loaded
+  loaded_told : (p : ℕ) (place : Option Life) → named_at s.ledger p ≡ place → phase_at s q ≡ Idle
+      → SeatTold T.life T.named (record own { loaded = Some (p, place_word place); given = λ f. false }) (cond (place_word place == 0) Idle (Placed (aim_of p (place_word place)) 0))
+  loaded_told p None is at = mine Idle at
+  loaded_told p (Some life) is at =
+      let was = told.places p life is in
+      subst (SeatTold T.life T.named (record own { loaded = Some (p, place_word (Some life)); given = λ f. false })) (sym (aimed sh s rule p life (rule.places p life is)))
+      (mine Idle at, record { loaded_is = refl; below = was.below; was_named = was.was_named; not_given = λ e. refl })
+
+  -- a frame word is loaded
+  counted_told : (w : ℕ) (aim : Aim) (failures : ℕ) (b : Bool) → is_referenced aim.life.generation w ≡ b → phase_at s q ≡ Placed aim failures
+      → SeatTold T.life T.named (record own { counted = w }) (cond b (Counted aim failures (count_in w)) Idle)
+  counted_told w aim failures false is at = (mine (Placed aim failures) at).0
+  counted_told w aim failures true is at =
+      let m = mine (Placed aim failures) at in
+      let life = eqb-true (life_in w) aim.life.generation (and_parts (not (count_in w == 0)) (life_in w == aim.life.generation) is).1 in
+      (m.0, same_aim aim w own.held own.read m.1, omega (arith, life))
+
+  -- an exchange is tried
+  exchanged_told : (w count : ℕ) (aim : Aim) (failures : ℕ) (b c : Bool) → (w == frame_word aim.life.generation count) ≡ b → phase_at s q ≡ Counted aim failures count
+      → SeatTold T.life T.named (record own { held = if w == own.counted then frame_in own.loaded else own.held; read = [] })
+      (cond b (Held aim nothing_known) (cond c Idle (Placed aim (failures + 1))))
+  exchanged_told w count aim failures true c is at =
+      let m = mine (Counted aim failures count) at in
+      let held : (if w == own.counted then frame_in own.loaded else own.held) ≡ Some aim.life.frame
+      = rw (m.2, is, m.1.loaded_is) (ap (λ (x : ℕ). Some x) (frame_of_word aim.life.generation aim.life.frame m.1.below)) in
+      (held, same_aim aim own.counted _ [] m.1, All-nil (λ (r : ℕ × ℕ). T.named aim.life.frame aim.life.generation r.0 ≡ Some r.1))
+  exchanged_told w count aim failures false true is at = let m = mine (Counted aim failures count) at in rw (m.2, is) m.0
+  exchanged_told w count aim failures false false is at =
+      let m = mine (Counted aim failures count) at in
+      let held : (if w == own.counted then frame_in own.loaded else own.held) ≡ None = rw (m.2, is) m.0 in
+      (held, same_aim aim own.counted _ [] m.1)
+
+  -- a word is loaded
+  read_told : (i : ℕ) (aim : Aim) (known known' : List (Option ℕ)) → i < PAGE_WORDS → phase_at s q ≡ Held aim known
+      → SeatTold T.life T.named (record own { read = (i, get_or (frame_at s.ledger aim.life.frame).content i 0) ∷ own.read }) (Held aim known')
+  read_told i aim known known' below at =
+      let m = mine (Held aim known) at in
+      let r = ruled (Held aim known) at in
+      let note = frame_at s.ledger aim.life.frame in
+      let w = get_or note.content i 0 in
+      let frame = told.frames aim.life.frame in
+      let there = get_inside note.content i 0 (omega (arith, below, (rule.frames aim.life.frame r.0.inside).content)) in
+      let was = m.1.was_named i in
+      let was' : T.named aim.life.frame note.generation i ≡ Some was.0 = subst (λ (g : ℕ). T.named aim.life.frame g i ≡ Some was.0) r.1.same was.1 in
+      let is : was.0 ≡ w = frame.named_as i was.0 w was' there in (
+        m.0,
+        same_aim aim own.counted own.held _ m.1,
+        All-cons (λ (r : ℕ × ℕ). T.named aim.life.frame aim.life.generation r.0 ≡ Some r.1) (i, w) own.read (was.1 ∙ ap (λ (v : ℕ). Some v) is) m.2,
+      )
+
+  tell_reader : (e : ReaderStep) (phase : Phase) → phase_at s q ≡ phase → may_read sh e phase ≡ true
+      → Told record { ledger = s.ledger; counts = reader_counts e phase (reader_finds s e phase) s.counts; seats = set s.seats q (seat_after sh e phase (reader_finds s e phase)) }
+      (tale_of (record { event = event.Reader q e; word = reader_finds s e phase } ∷ t))
+  tell_reader (LoadPlace p) Idle at may =
+      let w = place_word (named_at s.ledger p) in
+      tell_seat _ _ (λ j b. record (T.seat j) { loaded = if b then Some (p, w) else (T.seat j).loaded; given = λ f. if b then false else (T.seat j).given f })
+      (λ j. refl) (loaded_told p (named_at s.ledger p) refl at)
+  tell_reader LoadFrame (Placed aim failures) at may =
+      let w = word_of s aim.life.frame in
+      tell_seat _ _ (λ j b. record (T.seat j) { counted = if b then w else (T.seat j).counted }) (λ j. refl)
+      (counted_told w aim failures (is_referenced aim.life.generation w) refl at)
+  tell_reader Exchange (Counted aim failures count) at may =
+      let w = word_of s aim.life.frame in
+      tell_seat _ _ (λ j b. record (T.seat j) {
+        held = if b && w == (T.seat j).counted then frame_in (T.seat j).loaded else (T.seat j).held;
+        read = if b then [] else (T.seat j).read;
+      }) (λ j. refl)
+      (exchanged_told w count aim failures (w == frame_word aim.life.generation count) (leb sh.tries (failures + 1)) refl at)
+  tell_reader Leave (Held aim known) at may =
+      tell_seat _ _ (λ j b. record (T.seat j) { held = if b then None else (T.seat j).held }) (λ j. refl) refl
+  tell_reader (LoadWord i) (Held aim known) at may =
+      let w = get_or (frame_at s.ledger aim.life.frame).content i 0 in
+      tell_seat _ _ (λ j b. record (T.seat j) { read = if b then (i, w) ∷ (T.seat j).read else (T.seat j).read }) (λ j. refl)
+      (read_told i aim known (set known i (Some w)) (ltb-true i PAGE_WORDS may) at)
+  tell_reader _ _ at may = absurd (cc (may))
+
+-- ---------------------------------------------------------------- any step
+
+pub told_step : (sh : Shape) (s : State) (t : List Entry) (e : Event) (r : ℕ × State) → Rule sh s → Told s (tale_of t) → step sh s e ≡ Some r
+    → Told r.1 (tale_of (record { event = e; word = r.0 } ∷ t))
+told_step sh s t (event.Reader q e) r rule told is =
+    if_made (may_read sh e (phase_at s q)) _ r (λ x. Told x.1 (tale_of (record { event = event.Reader q e; word = x.0 } ∷ t))) is
+    (λ may. tell_reader sh s t rule told q (seat_there sh e s q may) e (phase_at s q) refl may)
+told_step sh s t (event.Keeper e) r rule told is =
+    if_made (may_step sh s.ledger e) _ r (λ x. Told x.1 (tale_of (record { event = event.Keeper e; word = x.0 } ∷ t))) is
+    (λ may. tell_keeper sh s t e rule told ((decides sh s.ledger e).0 may))

@@ -1,21 +1,16 @@
 -- What the keeper knows, where each of its steps is allowed, and what it knows after it: a function of what it knew, the step and the word found.
-use Rattle.std.specs.Prelude.{◌≡◌, ℕ, ◌<◌, ◌≤◌, ◌==◌, cond, map, replicate, slice_index_or, slice_set, Option, Some, None}
+use Rattle.std.specs.Prelude.{◌≡◌, ℕ, ◌+◌, ◌-◌, ◌<◌, ◌≤◌, ◌==◌, cond, replicate, slice_index_or, slice_set, Option, Some, None}
 use Rattle.ksm_base.specs.declared.page.TheConstants.{PAGE_WORDS}
 use Rattle.ksm_base.specs.declared.shape.Shape.{Shape}
 use Rattle.ksm_base.specs.Values.{frames_of}
 use Rattle.frame_core.specs.declared.event.KeeperStep.{KeeperStep}
 use Rattle.frame_core.specs.declared.event.KeeperStep.TheVariants.{Reap, Put, Raise, Open, Add, Sub, Publish, Withdraw, Freeze, Word}
 use Rattle.frame_core.specs.declared.frame.Kind.{Kind}
-use Rattle.frame_core.specs.declared.frame.Kind.TheVariants.{Free, Filling, Private, Stable, Dying}
+use Rattle.frame_core.specs.declared.frame.Kind.TheVariants.{Free, Filling, Private, Stable, Dying, Retired}
 use Rattle.frame_core.specs.declared.ledger.Ledger.{Ledger}
 use Rattle.frame_core.specs.declared.ledger.Note.{Note}
 use Rattle.frame_core.specs.declared.seat.Life.{Life}
-use Rattle.frame_core.specs.State.{State, count_in}
-use Rattle.frame_core.specs.Notes.{note_of, reaped, filled, raised, opened, added, lowered, shown, frozen}
-
--- what the keeper knows in a state
-abbrev pub ledger_of : State → Ledger
-ledger_of s = record { frames = map note_of s.frames; places = s.places }
+use Rattle.frame_core.specs.State.{count_in}
 
 -- a frame that was never given
 abbrev pub blank : Note
@@ -52,6 +47,42 @@ IsReadable _ = ⊥
 abbrev pub IsLoose : Ledger → Option Life → Type 0
 IsLoose k None = Unit {0}
 IsLoose k (Some life) = (frame_at k life.frame).generation ≡ life.generation → ¬ ((frame_at k life.frame).kind ≡ Stable)
+
+-- ---------------------------------------------------------------- what a step at a frame makes of what is known of it
+
+-- reap, where nobody had a reference: free again, or retired after the last life
+abbrev pub reaped : ℕ → Note → Note
+reaped last note = record { kind = cond (note.generation == last) Retired Free; base = 0; generation = note.generation; content = note.content }
+
+-- put of the content word i
+abbrev pub filled : ℕ → ℕ → Note → Note
+filled i w note = record note { content = slice_set note.content i w }
+
+-- raise: the next life
+abbrev pub raised : Note → Note
+raised note = record note { kind = Filling; generation = note.generation + 1 }
+
+-- open: the first reference
+abbrev pub opened : Note → Note
+opened note = record note { kind = Private; base = 1 }
+
+-- add: one reference more
+abbrev pub added : Note → Note
+added note = record note { base = note.base + 1 }
+
+-- sub: one reference less, and dying with the last one
+abbrev pub lowered : Note → Note
+lowered note = record note { kind = cond (note.base == 1) Dying note.kind; base = note.base - 1 }
+
+-- publish: named at a place
+abbrev pub shown : Note → Note
+shown note = record note { kind = Stable }
+
+-- freeze, where the keeper's references were all
+abbrev pub frozen : Note → Note
+frozen note = record note { kind = Dying; base = 0 }
+
+-- ---------------------------------------------------------------- the steps
 
 module _ (sh : Shape) (k : Ledger) where
   -- where a step of the keeper is allowed

@@ -1,14 +1,12 @@
 pub mod State
-pub mod Notes
+pub mod Ledger
 pub mod KeeperSteps
-pub mod ReaderSteps
+pub mod Seat
 pub mod Steps
 pub mod Bounds
 pub mod Rule
 pub mod Trace
 pub mod Safe
 pub mod Words
-pub mod Machine
-pub mod Ledger
 pub mod Knowing
 pub mod Worked

@@ -2,13 +2,18 @@
 use Rattle.std.specs.Prelude.{ℕ, ◌≡◌, ◌+◌, ◌<◌, ◌≤◌, Bool, false, ◌==◌, List, length, slice_get, count_by, Option, Some}
 use Rattle.ksm_base.specs.Values.{IsShape, frames_of}
 use Rattle.ksm_base.specs.declared.page.TheConstants.{PAGE_WORDS}
-use Rattle.frame_core.specs.declared.frame.Frame.{Frame}
+use Rattle.ksm_base.specs.declared.shape.Shape.{Shape}
 use Rattle.frame_core.specs.declared.frame.Kind.{Kind}
 use Rattle.frame_core.specs.declared.frame.Kind.TheVariants.{Free, Filling, Private, Stable, Dying, Retired}
+use Rattle.frame_core.specs.declared.ledger.Ledger.{Ledger}
+use Rattle.frame_core.specs.declared.ledger.Note.{Note}
 use Rattle.frame_core.specs.declared.seat.Life.{Life}
 use Rattle.frame_core.specs.declared.seat.Phase.{Phase}
 use Rattle.frame_core.specs.declared.seat.Phase.TheVariants.{Idle, Placed, Counted, Held, Spent}
 use Rattle.frame_core.specs.State.{State}
+use Rattle.frame_core.specs.Ledger.{frame_at, named_at}
+use Rattle.frame_core.specs.KeeperSteps.{count_at}
+use Rattle.frame_core.specs.Seat.{phase_at}
 
 -- the seat has counted itself on the frame f
 abbrev pub is_on : ℕ → Phase → Bool
@@ -37,13 +42,13 @@ abbrev pub GenerationFits : ℕ → Kind → ℕ → Type 0
 GenerationFits last Free generation = generation < last
 GenerationFits last _ generation = (1 ≤ generation) × (generation ≤ last)
 
--- what is true of a frame on which so many readers have counted themselves
-pub record FrameRule (last readers : ℕ) (fr : Frame) : Type 0 where
-  pub counted : fr.count ≡ fr.base + readers
-  pub base : BaseFits fr.kind fr.base
-  pub count : CountFits fr.kind fr.count
-  pub generation : GenerationFits last fr.kind fr.generation
-  pub content : length fr.content ≡ PAGE_WORDS
+-- what is true of a frame with so many references, on which so many readers have counted themselves
+pub record FrameRule (last readers : ℕ) (note : Note) (count : ℕ) : Type 0 where
+  pub counted : count ≡ note.base + readers
+  pub base : BaseFits note.kind note.base
+  pub count_fits : CountFits note.kind count
+  pub generation : GenerationFits last note.kind note.generation
+  pub content : length note.content ≡ PAGE_WORDS
 
 -- a frame of this kind may have been named in its life
 abbrev pub MayBeNamed : Kind → Type 0
@@ -57,37 +62,42 @@ MayBeHeld Stable = Unit {0}
 MayBeHeld Dying = Unit {0}
 MayBeHeld _ = ⊥
 
--- what is true of a life that a place or a seat names
-pub record LifeRule (frames : List Frame) (life : Life) : Type 0 where
-  pub inside : life.frame < length frames
+-- what is true of a life that a place or a seat names, by what is known of its frame
+pub record LifeRule (sh : Shape) (note : Note) (life : Life) : Type 0 where
+  pub inside : life.frame < frames_of sh
   pub first : 1 ≤ life.generation
-  pub past : (fr : Frame) → slice_get frames life.frame ≡ Some fr → life.generation ≤ fr.generation
-  pub named : (fr : Frame) → slice_get frames life.frame ≡ Some fr → life.generation ≡ fr.generation → MayBeNamed fr.kind
+  pub past : life.generation ≤ note.generation
+  pub named : life.generation ≡ note.generation → MayBeNamed note.kind
 
 -- each word that is known is the frame's
 abbrev pub KnownFits : List (Option ℕ) → List ℕ → Type 0
 KnownFits known content = (i w : ℕ) → slice_get known i ≡ Some (Some w) → slice_get content i ≡ Some w
 
 -- what is true of a life that a seat holds
-pub record HeldRule (frames : List Frame) (life : Life) (known : List (Option ℕ)) : Type 0 where
-  pub same : (fr : Frame) → slice_get frames life.frame ≡ Some fr → life.generation ≡ fr.generation
-  pub kind : (fr : Frame) → slice_get frames life.frame ≡ Some fr → MayBeHeld fr.kind
-  pub words : (fr : Frame) → slice_get frames life.frame ≡ Some fr → KnownFits known fr.content
+pub record HeldRule (note : Note) (life : Life) (known : List (Option ℕ)) : Type 0 where
+  pub same : life.generation ≡ note.generation
+  pub kind : MayBeHeld note.kind
+  pub words : KnownFits known note.content
+
+-- the ledger tells that the life may be named
+abbrev pub IsNamed : Shape → Ledger → Life → Type 0
+IsNamed sh k life = LifeRule sh (frame_at k life.frame) life
 
 -- what is true of a seat
-abbrev pub SeatRule : ℕ → List Frame → Phase → Type 0
-SeatRule tries frames Idle = Unit {0}
-SeatRule tries frames (Placed aim failures) = LifeRule frames aim.life × (failures < tries)
-SeatRule tries frames (Counted aim failures count) = LifeRule frames aim.life × (failures < tries) × (1 ≤ count) × (count ≤ 1040)
-SeatRule tries frames (Held aim known) = LifeRule frames aim.life × HeldRule frames aim.life known
-SeatRule tries frames Spent = Unit {0}
+abbrev pub SeatRule : Shape → Ledger → Phase → Type 0
+SeatRule sh k Idle = Unit {0}
+SeatRule sh k (Placed aim failures) = IsNamed sh k aim.life × (failures < sh.tries)
+SeatRule sh k (Counted aim failures count) = IsNamed sh k aim.life × (failures < sh.tries) × (1 ≤ count) × (count ≤ 1040)
+SeatRule sh k (Held aim known) = IsNamed sh k aim.life × HeldRule (frame_at k aim.life.frame) aim.life known
+SeatRule sh k Spent = Unit {0}
 
 -- the rule of the protocol: of the sizes, of each frame with the readers on it, of each place, of each seat
-pub record Rule (s : State) : Type 0 where
-  pub shape : IsShape s.shape
-  pub frame_count : length s.frames ≡ frames_of s.shape
-  pub place_count : length s.places ≡ frames_of s.shape
-  pub seat_count : length s.seats ≡ s.shape.passes
-  pub frames : (f : ℕ) (fr : Frame) → slice_get s.frames f ≡ Some fr → FrameRule s.shape.last_generation (readers_on f s.seats) fr
-  pub places : (p : ℕ) (life : Life) → slice_get s.places p ≡ Some (Some life) → LifeRule s.frames life
-  pub seats : (q : ℕ) (phase : Phase) → slice_get s.seats q ≡ Some phase → SeatRule s.shape.tries s.frames phase
+pub record Rule (sh : Shape) (s : State) : Type 0 where
+  pub shape : IsShape sh
+  pub frame_count : length s.ledger.frames ≡ frames_of sh
+  pub place_count : length s.ledger.places ≡ frames_of sh
+  pub count_count : length s.counts ≡ frames_of sh
+  pub seat_count : length s.seats ≡ sh.passes
+  pub frames : (f : ℕ) → f < frames_of sh → FrameRule sh.last_generation (readers_on f s.seats) (frame_at s.ledger f) (count_at s f)
+  pub places : (p : ℕ) (life : Life) → named_at s.ledger p ≡ Some life → IsNamed sh s.ledger life
+  pub seats : (q : ℕ) → SeatRule sh s.ledger (phase_at s q)

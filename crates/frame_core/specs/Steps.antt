@@ -1,49 +1,50 @@
 -- The step relation of the frame protocol, as a function: the word that a step finds and the state after it, or None where it is not allowed. Source: own.
-use Rattle.std.specs.Prelude.{ℕ, ◌≡◌, List, Option, None, Some}
+use Rattle.std.specs.Prelude.{ℕ, Bool, if◌then◌else◌, replicate, slice_set, Option, None, Some}
+use Rattle.ksm_base.specs.declared.shape.Shape.{Shape}
+use Rattle.ksm_base.specs.Values.{frames_of}
 use Rattle.frame_core.specs.declared.event.Event.{Event}
 use Rattle.frame_core.specs.declared.event.Event.TheVariants as event
+use Rattle.frame_core.specs.declared.event.KeeperStep.{KeeperStep}
+use Rattle.frame_core.specs.declared.event.ReaderStep.{ReaderStep}
 use Rattle.frame_core.specs.declared.event.Step.{Step}
 use Rattle.frame_core.specs.declared.event.Step.TheVariants.{Done, NotAllowed}
-use Rattle.frame_core.specs.declared.frame.Frame.{Frame}
-use Rattle.frame_core.specs.declared.seat.Phase.{Phase}
+use Rattle.frame_core.specs.declared.seat.Phase.TheVariants.{Idle}
 use Rattle.frame_core.specs.State.{State}
-use Rattle.frame_core.specs.KeeperSteps.{keeper_step}
-use Rattle.frame_core.specs.ReaderSteps.{reader_step}
+use Rattle.frame_core.specs.Ledger.{first_ledger, ledger_after}
+use Rattle.frame_core.specs.KeeperSteps.{may_step, keeper_finds, keeper_counts}
+use Rattle.frame_core.specs.Seat.{phase_at, may_read, reader_finds, seat_after, reader_counts}
 
-abbrev pub step : State → Event → Option (ℕ × State)
-step s (event.Reader seat e) = reader_step s seat e
-step s (event.Keeper e) = keeper_step s e
+-- all words are 0: all frames are free, all places empty, all seats idle
+abbrev pub first_state : Shape → State
+first_state sh = record { ledger = first_ledger sh; counts = replicate (frames_of sh) 0; seats = replicate sh.passes Idle }
+
+-- a step of the keeper that found the word n changes what it knows, and counts
+abbrev pub after_keeper : Shape → State → KeeperStep → ℕ → State
+after_keeper sh s e n = record { ledger = ledger_after sh s.ledger e n; counts = keeper_counts s.ledger e n s.counts; seats = s.seats }
+
+-- a step of the reader on the seat q that found the word n changes its phase, and counts
+abbrev pub after_reader : Shape → State → ℕ → ReaderStep → ℕ → State
+after_reader sh s q e n = record {
+  ledger = s.ledger;
+  counts = reader_counts e (phase_at s q) n s.counts;
+  seats = slice_set s.seats q (seat_after sh e (phase_at s q) n);
+}
+
+-- a value, where a test allows it
+abbrev pub only_if : {A : Type 0} → Bool → A → Option A
+only_if allowed a = if allowed then Some a else None
+
+abbrev pub step : Shape → State → Event → Option (ℕ × State)
+step sh s (event.Reader q e) =
+    only_if (may_read sh e (phase_at s q)) (reader_finds s e (phase_at s q), after_reader sh s q e (reader_finds s e (phase_at s q)))
+step sh s (event.Keeper e) = only_if (may_step sh s.ledger e) (keeper_finds s e, after_keeper sh s e (keeper_finds s e))
 
 -- the answer to an event: the word found, or not allowed
-abbrev pub answer : {A : Type 0} → Option (ℕ × A) → Step
+abbrev pub answer : Option (ℕ × State) → Step
 answer None = NotAllowed
 answer (Some r) = Done r.0
 
 -- what is there after an event: where it is not allowed, what was there
-abbrev pub after : {A : Type 0} → A → Option (ℕ × A) → A
+abbrev pub after : State → Option (ℕ × State) → State
 after old None = old
 after old (Some r) = r.1
-
--- the same for a step that changes a frame and a seat
-abbrev pub answer_both : Option (ℕ × List Frame × Phase) → Step
-answer_both None = NotAllowed
-answer_both (Some r) = Done r.0
-
-abbrev pub frames_after : List Frame → Option (ℕ × List Frame × Phase) → List Frame
-frames_after old None = old
-frames_after old (Some r) = r.1
-
-abbrev pub phase_after : Phase → Option (ℕ × List Frame × Phase) → Phase
-phase_after old None = old
-phase_after old (Some r) = r.2
-
--- a change was made of what was there, where it is allowed, and answered
-pub record Makes {A : Type 0} (change : A → Option (ℕ × A)) (old : A) (result : Step) (new : A) : Type 0 where
-  pub answered : result ≡ answer (change old)
-  pub changed : new ≡ after old (change old)
-
--- the same of the frames and a phase
-pub record MakesBoth (change : List Frame → Phase → Option (ℕ × List Frame × Phase)) (frames : List Frame) (phase : Phase) (result : Step) (new_frames : List Frame) (new_phase : Phase) : Type 0 where
-  pub answered : result ≡ answer_both (change frames phase)
-  pub frames_changed : new_frames ≡ frames_after frames (change frames phase)
-  pub phase_changed : new_phase ≡ phase_after phase (change frames phase)

@@ -9,8 +9,8 @@ use Rattle.frame_core.specs.declared.event.KeeperStep.{KeeperStep}
 use Rattle.frame_core.specs.declared.event.ReaderStep.TheVariants.{LoadPlace, LoadFrame, Exchange, Leave, LoadWord}
 use Rattle.frame_core.specs.declared.event.KeeperStep.TheVariants.{Put, Raise, Open, Publish}
 use Rattle.frame_core.specs.declared.seat.Aim.{Aim}
-use Rattle.frame_core.specs.State.{State, opening, place_word, life_at}
-use Rattle.frame_core.specs.Steps.{step}
+use Rattle.frame_core.specs.State.{State, place_word, life_at}
+use Rattle.frame_core.specs.Steps.{first_state, step}
 
 -- an accepted event, and the word that it read
 pub record Entry : Type 0 where
@@ -28,12 +28,16 @@ history_with h e None = h
 history_with h e (Some r) = record { state = r.1; trace = record { event = e; word = r.0 } ∷ h.trace }
 
 -- one event more
-abbrev pub history_after : History → Event → History
-history_after h e = history_with h e (step h.state e)
+abbrev pub history_after : Shape → History → Event → History
+history_after shape h e = history_with h e (step shape h.state e)
 
--- the events one after another, from the opening state
+-- before any event
+abbrev pub first_history : Shape → History
+first_history shape = record { state = first_state shape; trace = [] }
+
+-- the events one after another, from there
 abbrev pub run_of : Shape → List Event → History
-run_of shape events = fold history_after (record { state = opening shape; trace = [] }) events
+run_of shape events = fold (history_after shape) (first_history shape) events
 
 -- ---------------------------------------------------------------- what the trace tells
 

@@ -1,12 +1,12 @@
 -- Worked runs of the least table, one frame, one place and one seat: what is told from their traces. Own.
-use Rattle.std.specs.Prelude.{ℕ, List, [], ◌∷◌, ◌++◌}
+use Rattle.std.specs.Prelude.{ℕ, List, [], ◌∷◌, ◌++◌, Some}
 use Rattle.ksm_base.specs.declared.shape.Shape.{Shape}
 use Rattle.frame_core.specs.declared.event.Event.{Event}
 use Rattle.frame_core.specs.declared.event.Event.TheVariants.{Reader, Keeper}
 use Rattle.frame_core.specs.declared.event.ReaderStep.TheVariants.{LoadPlace, LoadFrame, Exchange, LoadWord}
 use Rattle.frame_core.specs.declared.event.KeeperStep.TheVariants.{Put, Raise, Open, Add, Sub, Reap, Publish}
-use Rattle.frame_core.specs.declared.frame.Frame.{Frame}
 use Rattle.frame_core.specs.declared.frame.Kind.TheVariants.{Private}
+use Rattle.frame_core.specs.declared.ledger.Ledger.{Ledger}
 use Rattle.frame_core.specs.declared.seat.Aim.{Aim}
 use Rattle.frame_core.specs.Trace.{Entry, History, run_of}
 
@@ -47,9 +47,12 @@ abbrev pub and_then : Event → ℕ → List Entry
 and_then e word = record { event = e; word = word } ∷ trace_of taken
 
 -- the same, but that the frame may be written
-abbrev pub writable : Frame
-writable = record { count = 3; generation = 1; content = 7 ∷ 8 ∷ 0 ∷ 0 ∷ 0 ∷ 0 ∷ 0 ∷ 0 ∷ []; kind = Private; base = 2 }
+abbrev pub writable : Ledger
+writable = record {
+  frames = record { kind = Private; base = 2; generation = 1; content = 7 ∷ 8 ∷ 0 ∷ 0 ∷ 0 ∷ 0 ∷ 0 ∷ 0 ∷ [] } ∷ [];
+  places = Some record { frame = 0; generation = 1 } ∷ [];
+}
 
 abbrev pub taken_and_writable : History
 taken_and_writable =
-    let past = run_of least taken in record { state = record past.state { frames = writable ∷ [] }; trace = past.trace }
+    let past = run_of least taken in record { state = record past.state { ledger = writable }; trace = past.trace }

@@ -1,3 +1,4 @@
+//! The steps of the seats, and the answer to one.
 /// One atomic step of one seat, on one word of the table.
 #[derive(Clone, Copy, Debug, PartialEq, Eq)]
 pub enum Event {

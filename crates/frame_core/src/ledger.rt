@@ -1,3 +1,4 @@
+//! What the keeper knows.
 use crate::frame::Kind;
 use crate::seat::Life;
 use ksm_base::PAGE_WORDS;

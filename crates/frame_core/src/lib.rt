@@ -14,7 +14,7 @@ mod seat;
 mod worked;
 
 pub use event::{Event, KeeperStep, ReaderStep, Step};
-pub use frame::{Frame, FrameWord, Kind, LINE_WORDS};
+pub use frame::{FrameWord, Kind, LINE_WORDS};
 pub use ledger::{Ledger, Note};
 pub use protocol::{Core, run};
 pub use seat::{Aim, Life, Phase};

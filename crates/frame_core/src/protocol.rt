@@ -1,9 +1,9 @@
+//! The frame protocol as a pure machine, with what is promised of it.
 ghost use Rattle.std.specs.Prelude.{◌≡◌, ℕ, IfOk, IfErr, slice_get, option_map, take};
 ghost use Rattle.ksm_base.specs.Values.{IsShape};
-ghost use Rattle.frame_core.specs.State.{opening};
-ghost use Rattle.frame_core.specs.Steps.{step, answer, after};
+ghost use Rattle.frame_core.specs.Steps.{first_state, step, answer, after};
 ghost use Rattle.frame_core.specs.Trace.{run_of};
-ghost use Rattle.frame_core.specs.Ledger.{ledger_of, first_ledger};
+ghost use Rattle.frame_core.specs.Ledger.{first_ledger};
 ghost use Rattle.frame_core.specs.Knowing.{LedgerTells, ChangesOwnView};
 ghost use Rattle.frame_core.specs.Safe.{IsSafe, GivenUnheld};
 
@@ -15,7 +15,7 @@ use ksm_base::{Fault, Shape};
 use std::alloc::Global;
 use std::marker::Model;
 
-/// The frame protocol as a pure machine: one keeper, and a seat for each pass. Contracts see it as its
+/// The frame protocol as a pure machine: one keeper, and a seat for each pass. Contracts see it as its shape and its
 /// state, which keeps the rule of the protocol (own).
 #[derive(Drop)]
 pub struct Core {
@@ -23,25 +23,23 @@ pub struct Core {
 }
 
 impl Model for Core {
-    ghost use Rattle.frame_core.specs.State.{State};
-
-    ghost Value = { State };
-
-    ghost use Rattle.frame_core.specs.Machine.{state_of};
+    ghost use Rattle.frame_core.specs.Knowing.{CoreView};
     ghost use Rattle.frame_core.specs.Rule.{Rule};
 
-    ghost view = { λ c. state_of c.machine };
+    ghost Value = { CoreView };
 
-    ghost invariant = { λ c. Rule (state_of c.machine) };
+    ghost view = { λ c. c.machine };
+
+    ghost invariant = { λ c. Rule c.machine.shape c.machine.state };
 }
 
 impl Core {
-    /// The opening state: all words 0, all frames free, all places empty, all seats idle. The only error is
+    /// The first state: all words 0, all frames free, all places empty, all seats idle. The only error is
     /// `Fault::Memory`.
     pub fn open(alloc: Global, shape: Shape) -> Result<Core, Fault>
         requires { IsShape shape }
-        ensures opening { IfOk result (λ core. core ≡ opening shape) }
-        ensures ledger { IfOk result (λ core. ledger_of core ≡ first_ledger shape) }
+        ensures opening { IfOk result (λ core. core ≡ record { shape = shape; state = first_state shape }) }
+        ensures ledger { IfOk result (λ core. core.state.ledger ≡ first_ledger shape) }
         ensures memory { IfErr result (λ fault. fault ≡ Fault.Memory) }
     {
         match Machine::new(alloc, shape) {
@@ -52,39 +50,39 @@ impl Core {
 
     /// One step of one seat. It takes no memory.
     pub fn step(&mut self, event: Event) -> Step
-        ensures answer { result ≡ answer (step self.old event) }
-        ensures after { self.new ≡ after self.old (step self.old event) }
+        ensures answer { result ≡ answer (step self.old.shape self.old.state event) }
+        ensures after { self.new ≡ record { shape = self.old.shape; state = after self.old.state (step self.old.shape self.old.state event) } }
         // a reader changes its own phase and nothing that another seat knows, the keeper what it knows itself
-        ensures views { ChangesOwnView self.old event self.new }
+        ensures views { ChangesOwnView self.old.state event self.new.state }
         // what the keeper knows tells where its steps are allowed, and follows them
-        ensures ledger { LedgerTells self.old event result self.new }
+        ensures ledger { LedgerTells self.old.shape self.old.state event result self.new.state }
     {
         self.machine.step(event)
     }
 
     /// How far the lookup on a seat has come. `None` where the shape has no such seat.
     pub fn phase(&self, seat: u32) -> Option<Phase>
-        ensures { result ≡ slice_get self.now.seats seat }
+        ensures { result ≡ slice_get self.now.state.seats seat }
     {
-        self.machine.seat(seat)
+        self.machine.seats.get(seat as usize).copied()
     }
 
     /// What the keeper uses a frame for. `None` where the shape has no such frame.
     pub fn kind(&self, frame: u32) -> Option<Kind>
-        ensures { result ≡ option_map (λ fr. fr.kind) (slice_get self.now.frames frame) }
+        ensures { result ≡ option_map (λ note. note.kind) (slice_get self.now.state.ledger.frames frame) }
     {
-        match self.machine.frame(frame) {
-            Some(frame) => Some(frame.kind),
+        match self.machine.notes.get(frame as usize) {
+            Some(note) => Some(note.kind),
             None => None,
         }
     }
 
     /// The keeper's own references on a frame, 0 to 1,024. `None` where the shape has no such frame.
     pub fn base(&self, frame: u32) -> Option<u64>
-        ensures { result ≡ option_map (λ fr. fr.base) (slice_get self.now.frames frame) }
+        ensures { result ≡ option_map (λ note. note.base) (slice_get self.now.state.ledger.frames frame) }
     {
-        match self.machine.frame(frame) {
-            Some(frame) => Some(frame.base),
+        match self.machine.notes.get(frame as usize) {
+            Some(note) => Some(note.base),
             None => None,
         }
     }
@@ -94,10 +92,10 @@ impl Core {
 /// error is `Fault::Memory`.
 pub fn run(alloc: Global, shape: Shape, events: &[Event]) -> Result<Core, Fault>
     requires { IsShape shape }
-    ensures state { IfOk result (λ core. core ≡ (run_of shape events.now).state) }
+    ensures state { IfOk result (λ core. core ≡ record { shape = shape; state = (run_of shape events.now).state }) }
     ensures memory { IfErr result (λ fault. fault ≡ Fault.Memory) }
     // after any number of the events
-    ensures safe { (n : ℕ) → IsSafe (run_of shape (take n events.now)) }
+    ensures safe { (n : ℕ) → IsSafe shape (run_of shape (take n events.now)) }
     // each raise and each opening in the trace found the frame without a holder
     ensures given { GivenUnheld shape.passes (run_of shape events.now).trace }
 {

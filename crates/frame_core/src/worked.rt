@@ -5,7 +5,7 @@ ghost use Rattle.frame_core.specs.declared.event.KeeperStep.TheVariants.{Raise, 
 ghost use Rattle.frame_core.specs.declared.event.ReaderStep.TheVariants.{Leave, LoadWord};
 ghost use Rattle.frame_core.specs.Safe.{IsSafe, GivenUnheld};
 ghost use Rattle.frame_core.specs.Trace.{life_of, holders, named_word, words_read, given_since, HoldsRightly};
-ghost use Rattle.frame_core.specs.Worked.{trace_of, published, two_lives, held, taken, aim_at, and_then, taken_and_writable};
+ghost use Rattle.frame_core.specs.Worked.{least, trace_of, published, two_lives, held, taken, aim_at, and_then, taken_and_writable};
 
 /// Two lives in one word: the exchange fails though the count is the one that was loaded, so nobody holds the frame in its second life,
 /// which was named nowhere.
@@ -44,5 +44,5 @@ pub fn a_held_frame_that_is_given_or_written()
     ensures safe { GivenUnheld 1 (trace_of taken) }
     ensures raised { ¬ GivenUnheld 1 (and_then (Keeper (Raise 0)) 0) }
     ensures opened { ¬ GivenUnheld 1 (and_then (Keeper (Open 0)) 0) }
-    ensures written { ¬ IsSafe taken_and_writable }
+    ensures written { ¬ IsSafe least taken_and_writable }
 {}

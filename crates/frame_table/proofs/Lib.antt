@@ -1,9 +1,10 @@
 pub mod Looked
 pub mod Orders
+pub mod Making
 pub mod Replays
+pub mod Opening
 pub mod Truth
-pub mod TrueEntries
-pub mod ReaderHalf
+pub mod ReaderWords
 pub mod ReaderMay
 pub mod Allowed
 pub mod ReaderCalls
@@ -12,8 +13,8 @@ pub mod KeeperMay
 pub mod KeeperCalls
 pub mod Looks
 pub mod Compared
-pub mod Opening
-pub mod Seatings
 pub mod Elements
-pub mod Running
 pub mod NoLookups
+pub mod Running
+pub mod Seatings
+pub mod TrueEntries

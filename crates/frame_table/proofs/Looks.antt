@@ -8,12 +8,16 @@ use Rattle.frame_core.specs.declared.seat.Aim.{Aim}
 use Rattle.frame_core.specs.declared.seat.Phase.{Phase}
 use Rattle.frame_core.specs.declared.seat.Phase.TheVariants.{Idle, Placed, Counted}
 use Rattle.frame_core.specs.declared.event.ReaderStep.TheVariants.{LoadPlace, LoadFrame, Exchange}
+use Rattle.frame_table.specs.declared.pass.Round.{Round}
 use Rattle.frame_table.specs.declared.pass.Round.TheVariants.{Lost}
+use Rattle.frame_table.specs.declared.view.View.TheVariants.{Reader}
 use Rattle.frame_table.specs.Rounds.{GoesRound}
-use Rattle.frame_table.specs.Lookup.{rounds, IsAlive, AllLost, opening}
+use Rattle.frame_table.specs.Lookup.{rounds, IsAlive, AllLost, GoesOn, opening}
+use Rattle.frame_table.specs.Named.{TableName}
+use Rattle.atomic_table.specs.Seated.{TableId}
 use Rattle.frame_core.specs.State.{life_at, frame_word, count_in, life_in}
-use Rattle.frame_table.specs.Seat.{aim_of, is_referenced}
-use Rattle.frame_table.specs.Views.{Log, Sat, sits, log_in, order_in, IsIn}
+use Rattle.frame_core.specs.Seat.{aim_of, is_referenced}
+use Rattle.frame_table.specs.Views.{Log, Sat, sits, log_in, order_in, shape_in, IsIn}
 use Rattle.frame_table.specs.Reading.{reader_after, Steps}
 
 -- from the value of a seat, what `IsIn` says
@@ -49,6 +53,10 @@ module _ (sh : Shape) (p w : ℕ) where
     pub stands : i < sh.tries → IsIn sh (at i) m
     stands more = is_in sh (at i) so_far m (here more)
 
+    -- a round, by the log so far
+    pub last_round : (r : Round) (m' : Sat) → i < sh.tries → GoesRound m.0 r m' → GoesRound (Reader sh (at i) so_far (order_in m)) r m'
+    last_round r m' more goes = subst (λ (x : Sat). GoesRound x.0 r m') (here more) goes
+
     lost_more : (g : ℕ) (xs : List (ℕ × ℕ)) (c d : ℕ) → AllLost g xs → IsAlive g c → ¬ (d ≡ c) → AllLost g (xs ++ (c, d) ∷ [])
     lost_more g [] c d a x y = (x, y, tt)
     lost_more g (z ∷ zs) c d a x y = (a.0, a.1, lost_more g zs c d a.2 x y)
@@ -59,7 +67,7 @@ module _ (sh : Shape) (p w : ℕ) where
 
     pub goes_on : (m' : Sat) (c d : ℕ) → i < sh.tries → GoesRound m.0 (Lost c d) m' → Tries sh log p w (i + 1) m'
     goes_on m' c d more goes =
-        let g = subst (λ (x : Sat). GoesRound x.0 (Lost c d) m') (here more) goes in
+        let g = last_round (Lost c d) m' more goes in
         let n = t.2 in
         let xs : List (ℕ × ℕ) = t.0 ++ (c, d) ∷ [] in
         let phase : Phase = cond (nat_le sh.tries (i + 1)) Idle (at (i + 1)) in
@@ -84,3 +92,14 @@ counted sh aim failures n me m is s alive =
 pub named : (w : ℕ) (life : Life) (b : Bool) → eqb w 0 ≡ b → cond b None (Some (life_at w)) ≡ Some life → ¬ (w ≡ 0) × (life_at w ≡ life)
 named w life true is e = absurd (cc (e))
 named w life false is e = (eqb-false w 0 is, same_Some (life_at w) life e)
+
+-- the table that a seat is of, after a round
+pub same_table : (mine now : TableName) (id : TableId) (m : Sat) → id ≡ now.id → shape_in m ≡ now.shape → mine ≡ now
+    → ◌≡◌ {A = TableName} record { id = id; shape = shape_in m } mine
+same_table mine now id m ids shapes own = (λ i. record { id = ids i; shape = shapes i }) ∙ sym own
+
+-- a lookup that ended in the round i
+pub ended : (mine now : TableName) (i w : ℕ) (life : Life) (xs : List (ℕ × ℕ)) → cond (eqb w 0) None (Some (life_at w)) ≡ Some life → i < now.shape.tries
+    → AllLost (life_at w).generation xs → length xs ≡ i → mine ≡ now → GoesOn mine.shape w xs
+ended mine now i w life xs names more lost long own =
+    ((named w life (eqb w 0) refl names).0, lost, omega (arith, more, long, ap (λ (t : TableName). t.shape.tries) own))

@@ -5,9 +5,9 @@ use Rattle.std.proofs.lemmas.List.Sums.{fold-append}
 use Rattle.ksm_base.specs.declared.shape.Shape.{Shape}
 use Rattle.frame_core.specs.declared.event.Event.{Event}
 use Rattle.frame_core.specs.declared.event.Event.TheVariants as event
-use Rattle.frame_core.specs.State.{State, opening}
+use Rattle.frame_core.specs.State.{State}
 use Rattle.frame_core.specs.Steps.{step}
-use Rattle.frame_core.specs.Trace.{History, history_after, history_with, run_of, log_of, keeper_log_of}
+use Rattle.frame_core.specs.Trace.{History, first_history, history_after, history_with, run_of, log_of, keeper_log_of}
 use Rattle.frame_table.specs.declared.view.View.{View}
 use Rattle.frame_table.specs.declared.view.View.TheVariants.{Keeper, Reader}
 use Rattle.frame_table.specs.Orders.{Begins, later}
@@ -62,24 +62,24 @@ later_is P xs ys first second = later_case P xs ys (leb (length ys) (length xs))
 
 -- ---------------------------------------------------------------- logs grow
 
-pub run_append : (sh : Shape) (es fs : List Event) → run_of sh (es ++ fs) ≡ fold history_after (run_of sh es) fs
-run_append sh es fs = fold-append history_after record { state = opening sh; trace = [] } es fs
+pub run_append : (sh : Shape) (es fs : List Event) → run_of sh (es ++ fs) ≡ fold (history_after sh) (run_of sh es) fs
+run_append sh es fs = fold-append (history_after sh) (first_history sh) es fs
 
 module _ {A : Type 0} (part : History → List A) (grows : (h : History) (e : Event) (r : ℕ × State) → Begins (part h) (part (history_with h e (Some r)))) where
   with_more : (h : History) (e : Event) (o : Option (ℕ × State)) → Begins (part h) (part (history_with h e o))
   with_more h e None = begins_itself (part h)
   with_more h e (Some r) = grows h e r
 
-  pub fold_grows : (es : List Event) (h : History) → Begins (part h) (part (fold history_after h es))
-  fold_grows [] h = begins_itself (part h)
-  fold_grows (e ∷ es) h =
-      begins_trans (part h) (part (history_after h e)) (part (fold history_after (history_after h e) es))
-      (with_more h e (step h.state e)) (fold_grows es (history_after h e))
+  pub fold_grows : (sh : Shape) (es : List Event) (h : History) → Begins (part h) (part (fold (history_after sh) h es))
+  fold_grows sh [] h = begins_itself (part h)
+  fold_grows sh (e ∷ es) h =
+      begins_trans (part h) (part (history_after sh h e)) (part (fold (history_after sh) (history_after sh h e) es))
+      (with_more h e (step sh h.state e)) (fold_grows sh es (history_after sh h e))
 
   -- what a run tells of a seat goes on from what a beginning of it tells
   pub part_grows : (sh : Shape) (es fs : List Event) → Begins es fs → Begins (part (run_of sh es)) (part (run_of sh fs))
   part_grows sh es fs b =
-      subst (λ (h : History). Begins (part (run_of sh es)) (part h)) (sym (run_append sh es b.0) ∙ ap (run_of sh) (sym b.1)) (fold_grows b.0 (run_of sh es))
+      subst (λ (h : History). Begins (part (run_of sh es)) (part h)) (sym (run_append sh es b.0) ∙ ap (run_of sh) (sym b.1)) (fold_grows sh b.0 (run_of sh es))
 
   -- where the beginning of a run tells as much as the run does, so does all between
   pub between : (sh : Shape) (es fs gs : List Event) → Begins es fs → Begins fs gs → part (run_of sh es) ≡ part (run_of sh gs) → part (run_of sh fs) ≡ part (run_of sh es)

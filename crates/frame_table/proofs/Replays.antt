@@ -13,15 +13,15 @@ cancel : {A : Type 0} (xs ys zs : List A) → xs ++ ys ≡ xs ++ zs → ys ≡ z
 cancel [] ys zs e = e
 cancel (x ∷ xs) ys zs e = cancel xs ys zs (cc (e))
 
-module _ {S : Type 0} (mk : S → Event) where
+module _ {S : Type 0} (sh : Shape) (mk : S → Event) where
   -- these steps, one after another, each with the word that it finds
   abbrev pub Replays : State → List (S × ℕ) → State → Type 0
   Replays s [] last = s ≡ last
-  Replays s (x ∷ xs) last = (next : State) × (step s (mk x.0) ≡ Some (x.1, next)) × Replays next xs last
+  Replays s (x ∷ xs) last = (next : State) × (step sh s (mk x.0) ≡ Some (x.1, next)) × Replays next xs last
 
   -- after the same steps, the one more is made there
-  one_more : (s : State) (xs : List (S × ℕ)) (x : S × ℕ) (a b : State) → Replays s xs a → Replays s (xs ++ x ∷ []) b → step a (mk x.0) ≡ Some (x.1, b)
-  one_more s [] x a b here more = subst (λ (c : State). step c (mk x.0) ≡ Some (x.1, b)) here (subst (λ (c : State). step s (mk x.0) ≡ Some (x.1, c)) more.2 more.1)
+  one_more : (s : State) (xs : List (S × ℕ)) (x : S × ℕ) (a b : State) → Replays s xs a → Replays s (xs ++ x ∷ []) b → step sh a (mk x.0) ≡ Some (x.1, b)
+  one_more s [] x a b here more = subst (λ (c : State). step sh c (mk x.0) ≡ Some (x.1, b)) here (subst (λ (c : State). step sh s (mk x.0) ≡ Some (x.1, c)) more.2 more.1)
   one_more s (y ∷ ys) x a b here more =
       let same : here.0 ≡ more.0 = ap (λ (p : ℕ × State). p.1) (same_Some (y.1, here.0) (y.1, more.0) (sym here.1 ∙ more.1)) in
       one_more here.0 ys x a b here.2 (subst (λ (c : State). Replays c (ys ++ x ∷ []) b) (sym same) more.2)
@@ -29,42 +29,42 @@ module _ {S : Type 0} (mk : S → Event) where
   module _ (own : History → List (S × ℕ)) (Good : History → Type 0) (Same : History → History → Type 0) where
     -- a step is the seat's, and is told of it alone; or it is told of another for ever
     abbrev pub Turns : Type 0
-    Turns = (h : History) (x : Event) (r : ℕ × State) → Good h → step h.state x ≡ Some r
+    Turns = (h : History) (x : Event) (r : ℕ × State) → Good h → step sh h.state x ≡ Some r
         → ((e : S) × (x ≡ mk e) × (own (history_with h x (Some r)) ≡ own h ++ (e, r.0) ∷ []) × ((g : History) → Same h g → Same (history_with h x (Some r)) g))
-        ⊎ ((xs : List Event) → ¬ Same h (fold history_after (history_with h x (Some r)) xs))
+        ⊎ ((xs : List Event) → ¬ Same h (fold (history_after sh) (history_with h x (Some r)) xs))
 
-    module _ (turns : Turns) (good_more : (h : History) (x : Event) (r : ℕ × State) → Good h → step h.state x ≡ Some r → Good (history_with h x (Some r))) where
+    module _ (turns : Turns) (good_more : (h : History) (x : Event) (r : ℕ × State) → Good h → step sh h.state x ≡ Some r → Good (history_with h x (Some r))) where
       abbrev Walked : History → History → Type 0
       Walked h last = (xs : List (S × ℕ)) × (own last ≡ own h ++ xs) × Replays h.state xs last.state
 
       -- what follows of the steps after the first
       abbrev Walks : List Event → Type 0
-      Walks xs = (h : History) → Good h → Same h (fold history_after h xs) → Walked h (fold history_after h xs)
+      Walks xs = (h : History) → Good h → Same h (fold (history_after sh) h xs) → Walked h (fold (history_after sh) h xs)
 
-      walk_with : (x : Event) (xs : List Event) (h : History) (o : Option (ℕ × State)) → Walks xs → Good h → step h.state x ≡ o
-          → Same h (fold history_after (history_with h x o) xs) → Walked h (fold history_after (history_with h x o) xs)
+      walk_with : (x : Event) (xs : List Event) (h : History) (o : Option (ℕ × State)) → Walks xs → Good h → step sh h.state x ≡ o
+          → Same h (fold (history_after sh) (history_with h x o) xs) → Walked h (fold (history_after sh) (history_with h x o) xs)
       walk_with x xs h None walks good is same = walks h good same
       walk_with x xs h (Some r) walks good is same =
           let next = history_with h x (Some r) in
           ⊎_elim
           (λ (t : (e : S) × (x ≡ mk e) × (own next ≡ own h ++ (e, r.0) ∷ []) × ((g : History) → Same h g → Same next g)).
-          let w = walks next (good_more h x r good is) (t.3 (fold history_after next xs) same) in
-          let all : own (fold history_after next xs) ≡ own h ++ (t.0, r.0) ∷ w.0 = w.1 ∙ (ap (λ (l : List (S × ℕ)). l ++ w.0) t.2 ∙ append_assoc (own h) ((t.0, r.0) ∷ []) w.0) in
-          let walked : Walked h (fold history_after next xs) = ((t.0, r.0) ∷ w.0, all, (r.1, subst (λ (y : Event). step h.state y ≡ Some r) t.1 is, w.2)) in walked)
+          let w = walks next (good_more h x r good is) (t.3 (fold (history_after sh) next xs) same) in
+          let all : own (fold (history_after sh) next xs) ≡ own h ++ (t.0, r.0) ∷ w.0 = w.1 ∙ (ap (λ (l : List (S × ℕ)). l ++ w.0) t.2 ∙ append_assoc (own h) ((t.0, r.0) ∷ []) w.0) in
+          let walked : Walked h (fold (history_after sh) next xs) = ((t.0, r.0) ∷ w.0, all, (r.1, subst (λ (y : Event). step sh h.state y ≡ Some r) t.1 is, w.2)) in walked)
           (λ never. absurd (never xs same))
           (turns h x r good is)
 
       walk : (xs : List Event) → Walks xs
       walk [] h good same = ([], sym (append-nil (own h)), refl)
-      walk (x ∷ xs) h good same = walk_with x xs h (step h.state x) (walk xs) good refl same
+      walk (x ∷ xs) h good same = walk_with x xs h (step sh h.state x) (walk xs) good refl same
 
       -- of two runs that go on from a third and tell the same of all others, one by an entry more: its last step was made in the state after the other
-      pub last_step : (sh : Shape) (first es fs : List Event) (x : S × ℕ) → Begins first es → Begins first fs → Good (run_of sh first)
+      pub last_step : (first es fs : List Event) (x : S × ℕ) → Begins first es → Begins first fs → Good (run_of sh first)
           → Same (run_of sh first) (run_of sh es) → Same (run_of sh first) (run_of sh fs) → own (run_of sh fs) ≡ own (run_of sh es) ++ x ∷ []
-          → step (run_of sh es).state (mk x.0) ≡ Some (x.1, (run_of sh fs).state)
-      last_step sh first es fs x b c good same same' more =
+          → step sh (run_of sh es).state (mk x.0) ≡ Some (x.1, (run_of sh fs).state)
+      last_step first es fs x b c good same same' more =
           let h = run_of sh first in
-          let to = λ (gs : List Event) (a : Begins first gs). let e : run_of sh gs ≡ fold history_after h a.0 = ap (run_of sh) a.1 ∙ run_append sh first a.0 in e in
+          let to = λ (gs : List Event) (a : Begins first gs). let e : run_of sh gs ≡ fold (history_after sh) h a.0 = ap (run_of sh) a.1 ∙ run_append sh first a.0 in e in
           let goes = λ (gs : List Event) (a : Begins first gs) (s : Same h (run_of sh gs)).
           let w : Walked h (run_of sh gs) = subst (λ (g : History). Walked h g) (sym (to gs a)) (walk a.0 h good (subst (Same h) (to gs a) s)) in w in
           let w = goes es b same in

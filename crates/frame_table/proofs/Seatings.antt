@@ -1,5 +1,5 @@
 -- The table's rule where a pass is made, where one is given back, and what it says at the end.
-use Rattle.std.proofs.Common.{◌≡◌, ℕ, zero, suc, ◌+◌, ◌-◌, ◌<◌, ◌≤◌, ◌≢◌, Bool, true, false, cond, List, [], ◌∷◌, ◌++◌, map, set, replicate, slice_get, count_by, Some, None, sym, refl, ap, ◌∙◌, subst, ⊎_elim, inl, inr, ◌⊎◌, length, arith, append_assoc, append-nil}
+use Rattle.std.proofs.Common.{◌≡◌, ℕ, zero, suc, ◌+◌, ◌-◌, ◌<◌, ◌≤◌, ◌≢◌, Bool, true, false, cond, List, [], ◌∷◌, ◌++◌, map, set, get_or, replicate, count_by, sym, refl, ap, ◌∙◌, subst, ⊎_elim, inl, inr, ◌⊎◌, length, arith, append_assoc, append-nil}
 use Rattle.std.proofs.lemmas.List.{map-set}
 use Rattle.std.proofs.lemmas.List.Sums.{sum_by-append, sum_by-cons}
 use Rattle.std.proofs.lemmas.Option.{get_or_from_slice_get, slice_get_within}
@@ -10,28 +10,17 @@ use lib.ListN.{get_elem?}
 use Rattle.atomic_table.specs.Table.{Splits, Joins, Seen, Final}
 use Rattle.atomic_table.proofs.Lists.{at_set, at_map, at_longer, at_snoc, set_again, set_here, set_else}
 use Rattle.ksm_base.specs.declared.shape.Shape.{Shape}
-use Rattle.ksm_base.specs.Values.{frames_of}
 use Rattle.frame_core.specs.declared.event.Event.{Event}
-use Rattle.frame_core.specs.declared.frame.Frame.{Frame}
 use Rattle.frame_core.specs.declared.ledger.Ledger.{Ledger}
-use Rattle.frame_core.specs.declared.ledger.Note.{Note}
 use Rattle.frame_core.specs.declared.seat.Phase.{Phase}
 use Rattle.frame_core.specs.declared.seat.Phase.TheVariants.{Idle, Spent as spent_phase}
 use Rattle.frame_core.specs.State as core
 use Rattle.frame_core.specs.State.{place_word, count_in, life_in}
 use Rattle.frame_core.specs.Words.{words_of}
-use Rattle.frame_core.specs.Ledger.{ledger_of}
 use Rattle.frame_core.specs.Trace.{History, run_of, keeper_log_of}
 use Rattle.frame_core.specs.Rule as core_rule
 use Rattle.frame_core.specs.Rule.{is_on, readers_on}
-use Rattle.frame_core.proofs.Fitting.{get_inside}
-use Rattle.frame_core.proofs.Flat.{word_get, place_get}
-use Rattle.frame_core.proofs.Given.{run_shape}
-use Rattle.frame_core.proofs.Histories.{run_sound}
-use Rattle.frame_core.proofs.Lists.{count_set}
-use Rattle.frame_core.proofs.Moves.AtSeat.{count_at_most}
-use Rattle.frame_core.proofs.Notes.{note_at}
-use Rattle.frame_core.proofs.Packed.{count_packed, life_packed}
+use Rattle.frame_core.proofs.Above.{count_set, count_found, life_found, word_get, place_get}
 use Rattle.frame_table.specs.declared.view.Tally.{Tally}
 use Rattle.frame_table.specs.declared.view.View.{View}
 use Rattle.frame_table.specs.declared.view.View.TheVariants.{Keeper, Reader, Spent}
@@ -41,8 +30,8 @@ use Rattle.frame_table.specs.Rule.{Holds, IsAfter, IsInOrder, Tied, all_views, i
 use Rattle.frame_table.specs.Seats.{one_more, newcomer, one_less, Ends}
 use Rattle.frame_table.proofs.Looked.{got}
 use Rattle.frame_table.proofs.Orders.{begins_shorter, begins_whole, later_is, between, keeper_log_grows}
-use Rattle.frame_table.proofs.ReaderMay.{St, all_set, out_same}
-use Rattle.frame_table.proofs.KeeperMay.{seen, keeper_changes}
+use Rattle.frame_table.proofs.Making.{St, all_set, out_same, kept, seen}
+use Rattle.frame_table.proofs.KeeperMay.{keeper_retold}
 
 module _ (sh : Shape) where
   abbrev idle : View
@@ -99,6 +88,15 @@ longest_set events views i v w at still l =
     (λ here. longest_here events views i v w at (still ∙ (sym (ap order_of (one_view views i l.0 v l.1 here at l.2)) ∙ l.3)))
     (λ else. longest_else events views i w l else)
 
+-- a pass that was out is so no more
+out_less : (views : List View) (j : ℕ) (v w : View) → get_elem? views j ≡ some v → is_out v ≡ true → is_out w ≡ false → count_by is_out (set views j w) + 1 ≡ count_by is_out views
+out_less views j v w at out spent =
+    let here = got views j v at in
+    let e = count_set is_out views j v w (slice_get_within views j v here) in
+    let was : ◌≡◌ {A = ℕ} (cond (is_out (get_or views j v)) 1 0) 1 = ap (λ (b : Bool). cond b 1 0) (ap is_out (get_or_from_slice_get views j v v here) ∙ out) in
+    let now : ◌≡◌ {A = ℕ} (cond (is_out w) 1 0) 0 = ap (λ (b : Bool). cond b 1 0) spent in
+    omega (arith, e, was, now)
+
 module _ (sh : Shape) (k : Ledger) (tally : Tally) (log : KeeperLog) (order : List Event) where
   abbrev keeper : View
   keeper = Keeper sh k tally log order
@@ -109,8 +107,8 @@ module _ (sh : Shape) (k : Ledger) (tally : Tally) (log : KeeperLog) (order : Li
   retold t tally' next h at =
       let past = run_of sh h.events in
       let tied = seen sh t h 0 keeper at in
-      keeper_changes sh past past h.tally tally' t.words t.words (all_views sh tally t.views) keeper (Keeper sh k tally' log next)
-      (λ q. refl) refl h.after.words_are refl (refl, tied.1, refl, tied.3)
+      keeper_retold sh past h.tally tally' t.words (all_views sh tally t.views) keeper (Keeper sh k tally' log next)
+      refl (refl, tied.1, refl, tied.3)
       (at_longer t.views (replicate tally.unmade (Reader sh Idle [] [])) 0 keeper at)
       (subst (λ (x : Tally). IsAfter sh past h.tally t.words (all_views sh x t.views)) (sym tied.2) h.after)
 
@@ -179,7 +177,7 @@ module _ (sh : Shape) (k : Ledger) (tally : Tally) (log : KeeperLog) (order : Li
             (spent_is_idle sh past tally' t.words (all_views sh tally' views) q mine other at_all retold_all);
         out = omega (
           arith,
-          count_set is_out views (suc q) old Spent (got views (suc q) old there),
+          out_less views (suc q) old Spent there refl refl,
           out_same t.views 0 keeper next at refl,
           passes_out t h at,
         );
@@ -221,22 +219,13 @@ module _ (sh : Shape) (k : Ledger) (tally : Tally) (log : KeeperLog) (order : Li
         on_at_most_out f vs,
       )
 
-  ends_here : (s : core.State) → core_rule.Rule s → ((f : ℕ) → readers_on f s.seats ≡ 0) → Ends (ledger_of s) record { shape = s.shape; words = words_of s }
-  ends_here s rule free =
-      let there = λ (f : ℕ) (inside : f < frames_of s.shape). get_inside s.frames f (omega (arith, rule.frame_count)) in
-      let low = λ (f : ℕ) (fr : Frame) (at : slice_get s.frames f ≡ Some fr). let most = count_at_most s f fr at rule in let below : fr.count < 65536 =
-      omega (arith, most) in below in
-      let place = λ (p : ℕ) (inside : p < frames_of s.shape). get_inside s.places p (omega (arith, rule.place_count)) in
-      record {
-        counts = λ f inside. let fr = there f inside in let c = (rule.frames f fr.0 fr.1).counted in let same : fr.0.count ≡ fr.0.base =
-            omega (arith, c, free f) in
-            ap count_in (word_get s rule f fr.0 fr.1)
-            ∙ (count_packed fr.0.generation fr.0.count (low f fr.0 fr.1) ∙ (same ∙ ap (λ (n : Note). n.base) (sym (note_at s f fr.0 fr.1))));
-        generations = λ f inside. let fr = there f inside in
-            ap life_in (word_get s rule f fr.0 fr.1)
-            ∙ (life_packed fr.0.generation fr.0.count (low f fr.0 fr.1) ∙ ap (λ (n : Note). n.generation) (sym (note_at s f fr.0 fr.1)));
-        places = λ p inside. let o = place p inside in place_get s rule p o.0 o.1 ∙ ap place_word (sym (get_or_from_slice_get s.places p o.0 None o.1));
-      }
+  ends_here : (s : core.State) → core_rule.Rule sh s → ((f : ℕ) → readers_on f s.seats ≡ 0) → Ends s.ledger record { shape = sh; words = words_of s }
+  ends_here s rule free = record {
+    counts = λ f inside. let counted = (rule.frames f inside).counted in
+        ap count_in (word_get sh s rule f inside) ∙ (count_found sh s rule f inside ∙ omega (arith, counted, free f));
+    generations = λ f inside. ap life_in (word_get sh s rule f inside) ∙ life_found sh s rule f inside;
+    places = λ p inside. place_get sh s rule p inside;
+  }
 
   pub ends : (id : ℕ) (ws : List ℕ) (xs : List (Unit {0})) → tally.unmade ≡ 0 → tally.out ≡ 0 → Final (Seen (Holds sh) id keeper) ws xs → Ends k record { shape = sh; words = ws }
   ends (suc id) ws xs none_unmade none_out final = absurd (seen sh final.0 final.1.0 (suc id) keeper final.1.1)
@@ -252,5 +241,5 @@ module _ (sh : Shape) (k : Ledger) (tally : Tally) (log : KeeperLog) (order : Li
       let most : count_by (is_on f) (spent_phase ∷ s.seats) ≤ count_by is_out t.views =
       subst (λ (l : List Phase). count_by (is_on f) l ≤ count_by is_out t.views) phases (on_at_most_out f t.views) in
       let none : readers_on f s.seats ≡ 0 = omega (arith, some, most, passes_out t h final.1.1, none_out) in none in
-      subst (λ (x : Ledger × Shape × List ℕ). Ends x.0 record { shape = x.1; words = x.2 })
-      (λ i. (sym tied.1 i, run_shape sh h.shape h.events i, (sym h.after.words_are ∙ final.2) i)) (ends_here s (run_sound sh h.shape h.events).rule free)
+      subst (λ (x : Ledger × List ℕ). Ends x.0 record { shape = sh; words = x.1 })
+      (λ i. (sym tied.1 i, (sym h.after.words_are ∙ final.2) i)) (ends_here s (kept sh t h) free)

@@ -9,14 +9,14 @@ use Rattle.frame_core.specs.declared.event.Event.{Event}
 use Rattle.frame_core.specs.declared.seat.Phase.TheVariants.{Idle}
 use Rattle.frame_core.specs.State.{State}
 use Rattle.frame_core.specs.Trace.{History, history_with, run_of, log_of, keeper_log_of}
-use Rattle.frame_core.proofs.Given.{run_shape}
-use Rattle.frame_core.proofs.Histories.{run_sound}
+use Rattle.frame_core.proofs.Above.{run_rule}
 use Rattle.frame_table.specs.declared.view.View.{View}
 use Rattle.frame_table.specs.declared.view.View.TheVariants.{Keeper, Reader, Spent}
 use Rattle.frame_table.specs.Orders.{Begins, later}
 use Rattle.frame_table.specs.Rule.{Holds, Tied, IsInOrder, all_views}
 use Rattle.frame_table.specs.Truth.{Moment, IsOpen}
 use Rattle.frame_table.specs.Views.{phase_of, order_of}
+use Rattle.frame_table.proofs.Opening.{copied}
 use Rattle.frame_table.proofs.Orders.{begins_shorter, later_is, between, log_grows, keeper_log_grows}
 
 -- ---------------------------------------------------------------- the longest order of some views
@@ -46,13 +46,8 @@ view_inside [] i below = absurd (omega arith)
 view_inside (v ∷ vs) zero below = (v, refl)
 view_inside (v ∷ vs) (suc i) below = view_inside vs i (omega arith)
 
-in_copies : (n i : ℕ) (a v : View) → get_elem? (replicate n a) i ≡ some v → a ≡ v
-in_copies zero i a v at = absurd (some-ne-none v (sym at))
-in_copies (suc n) zero a v at = some-injective a v at
-in_copies (suc n) (suc i) a v at = in_copies n i a v at
-
 there_or_new : (vs : List View) (n i : ℕ) (a v : View) → get_elem? (vs ++ replicate n a) i ≡ some v → (get_elem? vs i ≡ some v) ⊎ (a ≡ v)
-there_or_new [] n i a v at = inr (in_copies n i a v at)
+there_or_new [] n i a v at = inr (copied n i a v at)
 there_or_new (w ∷ ws) n zero a v at = inl at
 there_or_new (w ∷ ws) n (suc i) a v at = there_or_new ws n i a v at
 
@@ -107,10 +102,8 @@ module _ (sh : Shape) (t : Moment) (h : Holds sh t) (j : ℕ) where
   how_many : length all ≡ suc sh.passes
   how_many =
       let s = (past h.events).state in
-      let rule = (run_sound sh h.shape h.events).rule in
-      let shape_is = run_shape sh h.shape h.events in
       let same : length (map phase_of all) ≡ suc (length s.seats) = ap length h.after.phases_are in
-      omega (arith, length-map all phase_of, same, rule.seat_count, ap (λ (x : Shape). x.passes) shape_is)
+      omega (arith, length-map all phase_of, same, (run_rule sh h.shape h.events).seat_count)
 
   pub reader_told : IsOpen j t → (r : ℕ) → r < sh.passes → suc r ≢ j → log_of r (past (longest_of others)).trace ≡ log_of r (past h.events).trace
   reader_told unspent r below ne =

@@ -3,7 +3,7 @@ use Rattle.std.specs.Prelude.{◌≡◌, ℕ, ◌<◌, List, [], ◌∷◌, ◌+
 use Rattle.ksm_base.specs.declared.shape.Shape.{Shape}
 use Rattle.frame_core.specs.declared.event.ReaderStep.TheVariants.{LoadPlace, LoadFrame, Exchange, Leave, LoadWord}
 use Rattle.frame_core.specs.State.{life_at, count_in, life_in}
-use Rattle.frame_table.specs.Seat.{nothing_known}
+use Rattle.frame_core.specs.Seat.{nothing_known}
 pub use Rattle.frame_table.specs.Views.{Log}
 use Rattle.frame_table.specs.declared.pass.Found.{Found}
 use Rattle.frame_table.specs.declared.pass.Found.TheVariants.{Held, Gone, Busy}

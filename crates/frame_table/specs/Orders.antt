@@ -19,4 +19,4 @@ pub record IsPresent (sh : Shape) (before after : List Event) (e : Event) (found
   pub since : List Event
   pub order : after ≡ (before ++ since) ++ e ∷ []
   pub next : State
-  pub finds : step (run_of sh (before ++ since)).state e ≡ Some (found, next)
+  pub finds : step sh (run_of sh (before ++ since)).state e ≡ Some (found, next)

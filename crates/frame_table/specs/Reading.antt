@@ -14,7 +14,8 @@ use Rattle.frame_core.specs.declared.seat.Phase.TheVariants.{Held}
 use Rattle.frame_core.specs.State.{life_at, count_in}
 use Rattle.frame_table.specs.declared.view.View.{View}
 use Rattle.frame_table.specs.declared.view.View.TheVariants.{Reader}
-use Rattle.frame_table.specs.Seat.{seat_after, reader_word}
+use Rattle.frame_core.specs.Seat.{seat_after}
+use Rattle.frame_table.specs.Seat.{reader_word}
 use Rattle.frame_table.specs.Orders.{IsPresent}
 use Rattle.frame_table.specs.Views.{Sat, IsIn, shape_in, order_in}
 

@@ -8,7 +8,7 @@ use Rattle.frame_table.specs.declared.view.View.TheVariants.{Reader}
 use Rattle.frame_table.specs.declared.pass.Round.{Round}
 use Rattle.frame_table.specs.declared.pass.Round.TheVariants.{Zero, Old, Lost, Won}
 use Rattle.frame_table.specs.Lookup.{IsAlive}
-use Rattle.frame_table.specs.Seat.{nothing_known}
+use Rattle.frame_core.specs.Seat.{nothing_known}
 use Rattle.frame_table.specs.Views.{Sat, sits, order_in}
 
 -- the seat after one load of the frame word, and an exchange where that was of the life named and had a reference

@@ -9,7 +9,7 @@ use Rattle.ksm_base.specs.Values.{IsShape}
 use Rattle.frame_core.specs.declared.event.Event.{Event}
 use Rattle.frame_core.specs.declared.seat.Phase.TheVariants.{Idle, Spent as spent_phase}
 use Rattle.frame_core.specs.Words.{words_of}
-use Rattle.frame_core.specs.Ledger.{ledger_of, first_ledger}
+use Rattle.frame_core.specs.Ledger.{first_ledger}
 use Rattle.frame_core.specs.Trace.{History, run_of, log_of, keeper_log_of}
 use Rattle.frame_table.specs.declared.view.Tally.{Tally}
 use Rattle.frame_table.specs.declared.view.View.{View}
@@ -29,7 +29,7 @@ all_views sh tally views = views ++ replicate tally.unmade (Reader sh Idle [] []
 -- what the view of a seat tells of its steps: the keeper has the seat 0, and the reader on the core's seat q has the seat q + 1; of a pass that was given
 -- back nothing is told
 abbrev pub Tied : Shape → History → Tally → ℕ → View → Type 0
-Tied sh h tally zero (Keeper sh' ledger tally' log order) = (sh' ≡ sh) × (ledger ≡ ledger_of h.state) × (tally' ≡ tally) × (log ≡ keeper_log_of h.trace)
+Tied sh h tally zero (Keeper sh' ledger tally' log order) = (sh' ≡ sh) × (ledger ≡ h.state.ledger) × (tally' ≡ tally) × (log ≡ keeper_log_of h.trace)
 Tied sh h tally (suc q) (Reader sh' phase log order) = (sh' ≡ sh) × (log ≡ log_of q h.trace)
 Tied sh h tally (suc q) Spent = Unit {0}
 Tied sh h tally _ _ = ⊥

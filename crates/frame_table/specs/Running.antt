@@ -13,7 +13,7 @@ use Rattle.frame_core.specs.declared.seat.Phase.{Phase}
 use Rattle.frame_core.specs.declared.seat.Phase.TheVariants.{Idle, Held}
 use Rattle.frame_core.specs.State.{place_word, count_in, life_in}
 use Rattle.frame_core.specs.Words.{words_of, frame_word_at, content_at}
-use Rattle.frame_core.specs.Ledger.{ledger_of, frame_at, named_at, IsWritable}
+use Rattle.frame_core.specs.Ledger.{frame_at, named_at, IsWritable}
 use Rattle.frame_core.specs.Rule as core
 use Rattle.frame_core.specs.Trace.{History, run_of, log_of, keeper_log_of, holders, HoldsRightly}
 use Rattle.frame_core.specs.Safe.{IsSafe, GivenUnheld}
@@ -25,7 +25,7 @@ use Rattle.frame_table.specs.Views.{Log, KeeperLog, order_of}
 
 -- the keeper's log is its part of the steps, and its ledger is what the words say
 pub record LedgerIs (sh : Shape) (h : History) (words : List ℕ) (ledger : Ledger) (log : KeeperLog) : Type 0 where
-  pub ledger_is : ledger ≡ ledger_of h.state
+  pub ledger_is : ledger ≡ h.state.ledger
   pub log_is : log ≡ keeper_log_of h.trace
   -- the count of a frame is the keeper's references and the holders together
   pub counts : (f : ℕ) → f < frames_of sh → count_in (slice_index words (frame_word_at (frames_of sh) f)) ≡ (frame_at ledger f).base + length (holders sh.passes f h.trace)
@@ -44,7 +44,7 @@ pub record RunsSafely (sh : Shape) (t : table.State (Unit {0}) View) : Type 0 wh
   pub events : List Event
   -- the words are those of the core after them, which keeps its rule
   pub words : t.words ≡ words_of (run_of sh events).state
-  pub rule : core.Rule (run_of sh events).state
+  pub rule : core.Rule sh (run_of sh events).state
   -- the keeper's view is the core's ledger; a pass has come as far as its seat of the core has, and logs its part; one that was given back is idle
   pub keeper : (sh' : Shape) (ledger : Ledger) (tally : Tally) (log : KeeperLog) (order : List Event)
       → get_elem? t.views 0 ≡ some (Keeper sh' ledger tally log order) → (sh' ≡ sh) × LedgerIs sh (run_of sh events) t.words ledger log
@@ -56,7 +56,7 @@ pub record RunsSafely (sh : Shape) (t : table.State (Unit {0}) View) : Type 0 wh
   pub longest : (j : ℕ) × (v : View) × (get_elem? t.views j ≡ some v) × (order_of v ≡ events)
   -- each raise and each opening of them found the frame without a holder, and after any number of them the core was safe
   pub given : GivenUnheld sh.passes (run_of sh events).trace
-  pub safe : (n : ℕ) → IsSafe (run_of sh (take n events))
+  pub safe : (n : ℕ) → IsSafe sh (run_of sh (take n events))
   -- a seat that holds, holds what its place named, in the present life, and what it has read is what was named and what is there
   pub holds : (q : ℕ) (aim : Aim) (known : List (Option ℕ)) (log : Log) (order : List Event)
       → get_elem? t.views (suc q) ≡ some (Reader sh (Held aim known) log order)

@@ -1,9 +1,13 @@
-use Rattle.std.proofs.Common.{rules, ◌≡◌, ◌<◌, eqb, arith, ap, subst, ◌∙◌, sym, refl}
+use Rattle.std.proofs.Common.{rules, ◌≡◌, ℕ, ◌<◌, [], ◌∷◌, ◌++◌, eqb, arith, ap, subst, ◌∙◌, sym, refl, append_assoc}
 use Rattle.ksm_base.specs.declared.shape.Shape.{Shape}
+use Rattle.frame_core.specs.declared.event.ReaderStep.TheVariants.{LoadFrame, Exchange}
+use Rattle.frame_core.specs.declared.seat.Life.{Life}
 use Rattle.frame_core.specs.declared.seat.Phase.TheVariants.{Idle}
-use Rattle.frame_table.specs.Seat.{aim_of}
-use Rattle.frame_table.specs.Views.{Log, IsIn, shape_in}
-use Rattle.frame_table.proofs.Looks.{Tries, begins, stands, goes_on, named}
+use Rattle.frame_core.specs.Seat.{aim_of}
+use Rattle.frame_table.specs.declared.pass.Round.TheVariants.{Zero, Old, Won}
+use Rattle.frame_table.specs.Lookup.{opening, IsAlive}
+use Rattle.frame_table.specs.Views.{Log, IsIn, shape_in, log_in, known_in}
+use Rattle.frame_table.proofs.Looks.{Tries, begins, stands, last_round, goes_on, named, same_table, ended}
 use Rattle.frame_table.proofs.pass.Pass.find.Goals as goal
 
 pub try_round-requires-clause-phase : goal.try_round-requires-clause-phase
@@ -35,4 +39,58 @@ rounds-init c =
       search rules,
       subst (λ (l : Log). Tries sh l c.args.place w 0 m) (ap (λ v. v.log) c.self.view_is)
           (begins sh c.args.place w me m idle c.load_place-named.ensures.step.0 some (omega (arith, c.tries-i-end.ensures))),
+    )
+
+pub returns-in-Zero : goal.returns-in-Zero
+returns-in-Zero c =
+    let sh = c.args.table.now.shape in
+    let w : ℕ = c.load_place-named.result in
+    let n : ℕ = c.in-Zero.field-0 in
+    let t = c.rounds.invariant.1 in
+    let more : c.rounds.i < sh.tries = omega (arith, c.tries-i-end.ensures.0) in
+    let g = last_round sh c.args.place w c.args.self.log c.rounds.i c.rounds.seat.me t (Zero n) c.try_round.new.seat.me more c.in-Zero.ensures.round in
+    let few = ended c.args.self.table c.args.table.now c.rounds.i w c.in-Some.life t.0 (sym c.of_word.ensures ∙ c.in-Some.is) more t.1 t.2 c.requires.own in (
+      same_table c.args.self.table c.args.table.now c.try_round.new.seat.table_id c.try_round.new.seat.me (c.in-Zero.ensures.seat.0 ∙ c.rounds.invariant.0) (ap shape_in g.1) c.requires.own,
+      (
+        opening c.args.place w t.0 ++ (LoadFrame, n) ∷ [],
+        ap log_in g.1 ∙ append_assoc c.args.self.log (opening c.args.place w t.0) ((LoadFrame, n) ∷ []),
+        (w, t.0, n, few, g.0, refl),
+      ),
+    )
+
+pub returns-in-Old : goal.returns-in-Old
+returns-in-Old c =
+    let sh = c.args.table.now.shape in
+    let w : ℕ = c.load_place-named.result in
+    let n : ℕ = c.in-Old.field-0 in
+    let t = c.rounds.invariant.1 in
+    let more : c.rounds.i < sh.tries = omega (arith, c.tries-i-end.ensures.0) in
+    let g = last_round sh c.args.place w c.args.self.log c.rounds.i c.rounds.seat.me t (Old n) c.try_round.new.seat.me more c.in-Old.ensures.round in
+    let few = ended c.args.self.table c.args.table.now c.rounds.i w c.in-Some.life t.0 (sym c.of_word.ensures ∙ c.in-Some.is) more t.1 t.2 c.requires.own in (
+      same_table c.args.self.table c.args.table.now c.try_round.new.seat.table_id c.try_round.new.seat.me (c.in-Old.ensures.seat.0 ∙ c.rounds.invariant.0) (ap shape_in g.2) c.requires.own,
+      (
+        opening c.args.place w t.0 ++ (LoadFrame, n) ∷ [],
+        ap log_in g.2 ∙ append_assoc c.args.self.log (opening c.args.place w t.0) ((LoadFrame, n) ∷ []),
+        (w, t.0, n, few, g.0, g.1, refl),
+      ),
+    )
+
+pub returns-in-Won : goal.returns-in-Won
+returns-in-Won c =
+    let sh = c.args.table.now.shape in
+    let w : ℕ = c.load_place-named.result in
+    let n : ℕ = c.in-Won.field-0 in
+    let t = c.rounds.invariant.1 in
+    let life = (named w c.in-Some.life (eqb w 0) refl (sym c.of_word.ensures ∙ c.in-Some.is)).1 in
+    let more : c.rounds.i < sh.tries = omega (arith, c.tries-i-end.ensures.0) in
+    let g = last_round sh c.args.place w c.args.self.log c.rounds.i c.rounds.seat.me t (Won n) c.try_round.new.seat.me more c.in-Won.ensures.round in
+    let few = ended c.args.self.table c.args.table.now c.rounds.i w c.in-Some.life t.0 (sym c.of_word.ensures ∙ c.in-Some.is) more t.1 t.2 c.requires.own in (
+      same_table c.args.self.table c.args.table.now c.try_round.new.seat.table_id c.try_round.new.seat.me (c.in-Won.ensures.seat.0 ∙ c.rounds.invariant.0) (ap shape_in g.1) c.requires.own,
+      refl,
+      ap known_in g.1,
+      (
+        opening c.args.place w t.0 ++ (LoadFrame, n) ∷ (Exchange, n) ∷ [],
+        ap log_in g.1 ∙ append_assoc c.args.self.log (opening c.args.place w t.0) ((LoadFrame, n) ∷ (Exchange, n) ∷ []),
+        (w, t.0, n, few, subst (λ (x : Life). IsAlive x.generation n) life g.0, ap (λ (x : Life). x.frame) (sym life), ap (λ (x : Life). x.generation) (sym life), refl),
+      ),
     )

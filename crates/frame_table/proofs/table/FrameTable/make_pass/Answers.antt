@@ -6,7 +6,7 @@ use Rattle.frame_table.specs.Rule.{Holds}
 use Rattle.frame_table.specs.Views.{Sat}
 use Rattle.frame_table.specs.Seats.{one_more, newcomer}
 use Rattle.frame_table.proofs.Allowed.{turned}
-use Rattle.frame_table.proofs.ReaderHalf.{frames_at_least}
+use Rattle.frame_core.proofs.Above.{frames_at_least}
 use Rattle.frame_table.proofs.Seatings.{may_make}
 use Rattle.frame_table.proofs.table.FrameTable.make_pass.Goals as goal
 

@@ -2,7 +2,7 @@ use Rattle.std.proofs.Common.{rules, ◌≡◌, ◌<◌, ◌%◌, ℕ, ap, subst
 use Rattle.ksm_base.specs.Values.{IsShape}
 use Rattle.frame_core.specs.declared.event.KeeperStep.TheVariants.{Publish}
 use Rattle.frame_table.specs.Keeping.{Keeps}
-use Rattle.frame_table.proofs.ReaderHalf.{frames_at_most}
+use Rattle.frame_core.proofs.Above.{frames_at_most}
 use Rattle.frame_table.proofs.KeeperCalls.{may_publish}
 use Rattle.frame_table.proofs.table.FrameTable.publish_at.Goals as goal
 

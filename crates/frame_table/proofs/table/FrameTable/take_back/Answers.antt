@@ -7,7 +7,7 @@ use Rattle.frame_table.specs.declared.view.View.TheVariants.{Spent}
 use Rattle.frame_table.specs.Rule.{Holds}
 use Rattle.frame_table.specs.Views.{Sat, IsIn, shape_in, log_in, order_in}
 use Rattle.frame_table.specs.Seats.{one_less}
-use Rattle.frame_table.proofs.ReaderHalf.{frames_at_least}
+use Rattle.frame_core.proofs.Above.{frames_at_least}
 use Rattle.frame_table.proofs.Seatings.{may_give}
 use Rattle.frame_table.proofs.table.FrameTable.take_back.Goals as goal
 

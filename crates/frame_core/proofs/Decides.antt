@@ -1,0 +1,104 @@
+-- The test of where a step of the keeper is allowed is met exactly where the ledger allows it.
+use Rattle.std.proofs.Common.{◌≡◌, ℕ, ◌<◌, ◌≤◌, ◌==◌, ◌&&◌, not, ltb, leb, Bool, true, false, Option, Some, None, ap, refl}
+use Rattle.std.proofs.lemmas.Bool.{and_parts, and_from, lt-ltb, ltb-true, le-leb, leb-true, eqb-true, eq-eqb}
+use Rattle.ksm_base.specs.declared.page.TheConstants.{PAGE_WORDS}
+use Rattle.ksm_base.specs.declared.shape.Shape.{Shape}
+use Rattle.ksm_base.specs.Values.{frames_of}
+use Rattle.frame_core.specs.declared.event.KeeperStep.{KeeperStep}
+use Rattle.frame_core.specs.declared.event.KeeperStep.TheVariants.{Reap, Put, Raise, Open, Add, Sub, Publish, Withdraw, Freeze, Word}
+use Rattle.frame_core.specs.declared.frame.Kind.{Kind}
+use Rattle.frame_core.specs.declared.frame.Kind.TheVariants.{Free, Filling, Private, Stable, Dying}
+use Rattle.frame_core.specs.declared.ledger.Ledger.{Ledger}
+use Rattle.frame_core.specs.declared.seat.Life.{Life}
+use Rattle.frame_core.specs.KeeperSteps.{is_free, is_filling, is_private, is_stable, is_dying, is_writable, is_readable, is_live, may_step}
+use Rattle.frame_core.specs.Ledger.{frame_at, named_at, IsWritable, IsReadable, IsLoose, MayStep}
+
+-- the test is met exactly where this is true
+abbrev pub Tests : Bool → Type 0 → Type 0
+Tests b P = (b ≡ true → P) × (P → b ≡ true)
+
+both : (a b : Bool) (P Q : Type 0) → Tests a P → Tests b Q → Tests (a && b) (P × Q)
+both a b P Q t u = ((λ e. let p = and_parts a b e in (t.0 p.0, u.0 p.1)), (λ h. and_from a b (t.1 h.0) (u.1 h.1)))
+
+three : (a b c : Bool) (P Q R : Type 0) → Tests a P → Tests b Q → Tests c R → Tests (a && (b && c)) (P × Q × R)
+three a b c P Q R t u v = let r = both b c Q R u v in (
+  (λ e. let p = and_parts a (b && c) e in let q = r.0 p.1 in (t.0 p.0, q.0, q.1)),
+  (λ h. and_from a (b && c) (t.1 h.0) (r.1 (h.1, h.2))),
+)
+
+four : (a b c d : Bool) (P Q R S : Type 0) → Tests a P → Tests b Q → Tests c R → Tests d S → Tests (a && (b && (c && d))) (P × Q × R × S)
+four a b c d P Q R S t u v w = let r = three b c d Q R S u v w in (
+  (λ e. let p = and_parts a (b && (c && d)) e in let q = r.0 p.1 in (t.0 p.0, q.0, q.1, q.2)),
+  (λ h. and_from a (b && (c && d)) (t.1 h.0) (r.1 (h.1, h.2, h.3))),
+)
+
+below : (i n : ℕ) → Tests (ltb i n) (i < n)
+below i n = (ltb-true i n, lt-ltb i n)
+
+at_most : (i n : ℕ) → Tests (leb i n) (i ≤ n)
+at_most i n = (leb-true i n, le-leb i n)
+
+free : (k : Kind) → Tests (is_free k) (k ≡ Free)
+free Free = ((λ e. refl), (λ e. refl))
+free k = ((λ e. absurd (cc (e))), (λ e. ap is_free e))
+
+filling : (k : Kind) → Tests (is_filling k) (k ≡ Filling)
+filling Filling = ((λ e. refl), (λ e. refl))
+filling k = ((λ e. absurd (cc (e))), (λ e. ap is_filling e))
+
+private : (k : Kind) → Tests (is_private k) (k ≡ Private)
+private Private = ((λ e. refl), (λ e. refl))
+private k = ((λ e. absurd (cc (e))), (λ e. ap is_private e))
+
+pub stable : (k : Kind) → Tests (is_stable k) (k ≡ Stable)
+stable Stable = ((λ e. refl), (λ e. refl))
+stable k = ((λ e. absurd (cc (e))), (λ e. ap is_stable e))
+
+dying : (k : Kind) → Tests (is_dying k) (k ≡ Dying)
+dying Dying = ((λ e. refl), (λ e. refl))
+dying k = ((λ e. absurd (cc (e))), (λ e. ap is_dying e))
+
+writable : (k : Kind) → Tests (is_writable k) (IsWritable k)
+writable Filling = ((λ e. tt), (λ h. refl))
+writable Private = ((λ e. tt), (λ h. refl))
+writable _ = ((λ e. absurd (cc (e))), (λ h. absurd h))
+
+readable : (k : Kind) → Tests (is_readable k) (IsReadable k)
+readable Private = ((λ e. tt), (λ h. refl))
+readable Stable = ((λ e. tt), (λ h. refl))
+readable Dying = ((λ e. tt), (λ h. refl))
+readable _ = ((λ e. absurd (cc (e))), (λ h. absurd h))
+
+negated : (b : Bool) (P : Type 0) → Tests b P → Tests (not b) (¬ P)
+negated true P t = ((λ e. absurd (cc (e))), (λ h. absurd (h (t.0 refl))))
+negated false P t = ((λ e h. let is = t.1 h in cc (is)), (λ h. refl))
+
+loose : (k : Ledger) (place : Option Life) → Tests (not (is_live k place)) (IsLoose k place)
+loose k None = ((λ e. tt), (λ h. refl))
+loose k (Some life) =
+    let note = frame_at k life.frame in
+    let kind = is_stable note.kind in
+    let same = note.generation == life.generation in
+    let live = both kind same (note.kind ≡ Stable) (note.generation ≡ life.generation) (stable note.kind)
+    (eqb-true note.generation life.generation, eq-eqb note.generation life.generation) in
+    let t = negated (kind && same) _ live in
+    ((λ e is at. t.0 e (at, is)), (λ h. t.1 (λ x. h x.1 x.0)))
+
+module _ (sh : Shape) (k : Ledger) where
+  abbrev here : ℕ → Type 0
+  here f = f < frames_of sh
+
+  frame : (f : ℕ) → Tests (ltb f (frames_of sh)) (here f)
+  frame f = below f (frames_of sh)
+
+  pub decides : (e : KeeperStep) → Tests (may_step sh k e) (MayStep sh k e)
+  decides (Reap f) = both _ _ (here f) _ (frame f) (dying (frame_at k f).kind)
+  decides (Put f i w) = three _ _ _ (here f) (i < PAGE_WORDS) _ (frame f) (below i PAGE_WORDS) (writable (frame_at k f).kind)
+  decides (Raise f) = both _ _ (here f) _ (frame f) (free (frame_at k f).kind)
+  decides (Open f) = both _ _ (here f) _ (frame f) (filling (frame_at k f).kind)
+  decides (Add f) = let base = (frame_at k f).base in three _ _ _ (here f) (1 ≤ base) (base ≤ 1023) (frame f) (at_most 1 base) (at_most base 1023)
+  decides (Sub f) = let base = (frame_at k f).base in both _ _ (here f) (1 ≤ base) (frame f) (at_most 1 base)
+  decides (Publish p f) = four _ _ _ _ (here p) (here f) _ _ (frame p) (frame f) (private (frame_at k f).kind) (loose k (named_at k p))
+  decides (Withdraw p) = both _ _ (here p) _ (frame p) (loose k (named_at k p))
+  decides (Freeze f) = both _ _ (here f) _ (frame f) (stable (frame_at k f).kind)
+  decides (Word f i) = three _ _ _ (here f) (i < PAGE_WORDS) _ (frame f) (below i PAGE_WORDS) (readable (frame_at k f).kind)
