@@ -1,0 +1,6 @@
+pub mod Answers
+pub mod Handles
+pub mod Keeping
+pub mod Owned
+pub mod Passes
+pub mod Things
