@@ -23,3 +23,4 @@ number_of answer.Holding = 17
 number_of answer.Idle = 18
 number_of answer.NoPass = 19
 number_of answer.PassesOut = 20
+number_of answer.Other = 21

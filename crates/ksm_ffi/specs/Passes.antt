@@ -99,3 +99,16 @@ abbrev pub Tells : Phase → Answer → ℕ → ℕ → ℕ → Type 0
 Tells (Held v) a place frame life = (a ≡ answer.Done) × (place ≡ v.place) × (frame ≡ v.frame) × (life ≡ v.generation)
 Tells (Idle v) a place frame life = a ≡ answer.Idle
 Tells Away a place frame life = Unit {0}
+
+-- what was found is read and left; where nothing was, the pass holds nothing
+abbrev pub ReadsAndLeaves : Found → List ℕ → Phase → Type 0
+ReadsAndLeaves (found.Held v) words after = (w : HeldView) × (p : PassView) × ReadsPage v words w × Leaves w p × (after ≡ Idle p)
+ReadsAndLeaves (found.Gone p w) words after = after ≡ Idle p
+ReadsAndLeaves (found.Busy p) words after = after ≡ Idle p
+
+-- a whole lookup: where a frame was found, its words are read, and the reference is given back
+abbrev pub LooksUpAll : Phase → ℕ → Answer → List ℕ → Phase → Type 0
+LooksUpAll (Idle v) place a words after = (frames_of v.table.shape ≤ place → Stays (Idle v) answer.Range a after)
+    × (place < frames_of v.table.shape → (f : Found) × LooksUp v place f × (a ≡ found_answer f) × ReadsAndLeaves f words after)
+LooksUpAll (Held v) place a words after = Stays (Held v) answer.Holding a after
+LooksUpAll Away place a words after = Unit {0}

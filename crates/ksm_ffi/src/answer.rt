@@ -41,6 +41,8 @@ pub enum Answer {
     NoPass = 19,
     /// Passes of the table are open.
     PassesOut = 20,
+    /// The pass is another table's.
+    Other = 21,
 }
 
 impl Answer {

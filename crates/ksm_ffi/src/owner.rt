@@ -9,6 +9,7 @@ ghost use Rattle.frame_core.specs.declared.event.KeeperStep.{KeeperStep};
 ghost use Rattle.ksm_base.specs.declared.shape.Shape.{Shape};
 ghost use Rattle.frame_table.specs.Named.{KeeperView};
 ghost use Rattle.ksm_ffi.specs.Keeping.{IsInside, Judges, Keeps, KeepsWord, TellsFrame, kind_number};
+ghost use Rattle.ksm_ffi.specs.Opening.{Lends, OpensTable, TakesBack};
 
 use crate::answer::Answer;
 use crate::reader::Reader;
@@ -28,7 +29,8 @@ pub struct Owner {
     keeper: Keeper,
     // What each place names.
     named: Vec<Option<Life>>,
-    // The passes that were never out, and those that came back.
+    // How many passes there are. Those that were never out, and those that came back.
+    count: usize,
     passes: Vec<Pass>,
     returned: Vec<Reader>,
 }
@@ -176,9 +178,9 @@ fn may_be_inside()
     ensures { (v : KeeperView) (e : KeeperStep) → May v e → IsInside v.table.shape e }
 {}
 
-// The calls of the keeper.
+// The calls of the keeper. What is not allowed is refused, and has changed nothing.
 impl Owner {
-    /// Takes one reference more on a frame.
+    /// Takes one reference more on a frame on which the keeper has 1 to 1,023.
     pub fn add(&mut self, frame: u32) -> Answer
         ensures { Keeps self.old (Add frame) result self.new }
     {
@@ -187,5 +189,231 @@ impl Owner {
         }
         self.keeper.add(&self.table, frame);
         Answer::Done
+    }
+
+    /// Gives one reference back. With the last one the frame is Dying.
+    pub fn sub(&mut self, frame: u32) -> Answer
+        ensures { Keeps self.old (Sub frame) result self.new }
+    {
+        if let Err(answer) = self.judge(KeeperStep::Sub(frame)) {
+            return answer;
+        }
+        self.keeper.sub(&self.table, frame);
+        Answer::Done
+    }
+
+    /// Takes a dying frame back, unless a reader has a reference on it.
+    pub fn reap(&mut self, frame: u32) -> Answer
+        ensures { Keeps self.old (Reap frame) result self.new }
+    {
+        if let Err(answer) = self.judge(KeeperStep::Reap(frame)) {
+            return answer;
+        }
+        if self.keeper.reap(&self.table, frame) {
+            Answer::Done
+        } else {
+            Answer::Used
+        }
+    }
+
+    /// Gives a free frame its next life.
+    pub fn raise(&mut self, frame: u32) -> Answer
+        ensures { Keeps self.old (Raise frame) result self.new }
+    {
+        if let Err(answer) = self.judge(KeeperStep::Raise(frame)) {
+            return answer;
+        }
+        self.keeper.raise(&self.table, frame);
+        Answer::Done
+    }
+
+    /// Stores the word `word` of a frame that is Filling or Private.
+    pub fn put(&mut self, frame: u32, word: usize, value: u64) -> Answer
+        ensures { Keeps self.old (Put frame word value) result self.new }
+    {
+        if let Err(answer) = self.judge(KeeperStep::Put { frame, word, value }) {
+            return answer;
+        }
+        self.keeper.put(&self.table, frame, word, value);
+        Answer::Done
+    }
+
+    /// Opens a frame that was filled, with one reference.
+    pub fn open_frame(&mut self, frame: u32) -> Answer
+        ensures { Keeps self.old (Open frame) result self.new }
+    {
+        if let Err(answer) = self.judge(KeeperStep::Open(frame)) {
+            return answer;
+        }
+        self.keeper.open(&self.table, frame);
+        Answer::Done
+    }
+
+    /// Names a private frame at a place.
+    pub fn publish(&mut self, place: u32, frame: u32) -> Answer
+        ensures { Keeps self.old (Publish place frame) result self.new }
+    {
+        if let Err(answer) = self.judge(KeeperStep::Publish { place, frame }) {
+            return answer;
+        }
+        self.keeper.publish(&self.table, place, frame);
+        let generation = self.keeper.generation(frame);
+        self.named[place as usize] = Some(Life { frame, generation });
+        Answer::Done
+    }
+
+    /// Empties a place.
+    pub fn withdraw(&mut self, place: u32) -> Answer
+        ensures { Keeps self.old (Withdraw place) result self.new }
+    {
+        if let Err(answer) = self.judge(KeeperStep::Withdraw(place)) {
+            return answer;
+        }
+        self.keeper.withdraw(&self.table, place);
+        self.named[place as usize] = None;
+        Answer::Done
+    }
+
+    /// Takes all of the keeper's references on a stable frame back, unless a reader has one.
+    pub fn freeze(&mut self, frame: u32) -> Answer
+        ensures { Keeps self.old (Freeze frame) result self.new }
+    {
+        if let Err(answer) = self.judge(KeeperStep::Freeze(frame)) {
+            return answer;
+        }
+        if self.keeper.freeze(&self.table, frame) {
+            Answer::Done
+        } else {
+            Answer::Used
+        }
+    }
+
+    /// Loads the word `word` of a frame that is Private, Stable or Dying.
+    pub fn word(&mut self, frame: u32, word: usize) -> (Answer, u64)
+        ensures { KeepsWord self.old frame word result.0 result.1 self.new }
+    {
+        if let Err(answer) = self.judge(KeeperStep::Word { frame, word }) {
+            return (answer, 0);
+        }
+        (Answer::Done, self.keeper.word(&self.table, frame, word))
+    }
+
+    /// What the keeper uses a frame for, how many references are its own, and the frame's life.
+    pub fn frame(&self, frame: u32) -> (Answer, u32, u64, u64)
+        ensures { TellsFrame self.now frame result.0 result.1 result.2 result.3 }
+    {
+        if frame >= self.table.places() {
+            return (Answer::Range, 0, 0, 0);
+        }
+        let keeper = &self.keeper;
+        (
+            Answer::Done,
+            kind_number(keeper.kind(frame)),
+            keeper.base(frame),
+            keeper.generation(frame),
+        )
+    }
+}
+
+// Opening and closing.
+impl Owner {
+    /// A table with all frames free and all places empty. It tells its passes from those of tables with other numbers.
+    pub fn open(alloc: Global, shape: Shape, number: u64) -> Result<Owner, Answer>
+        ensures { OpensTable shape result }
+    {
+        if !shape.check() {
+            return Err(Answer::Shape);
+        }
+        let frames = shape.frames() as usize;
+        let Ok(named) = vec![in alloc; None; frames] else {
+            return Err(Answer::Memory);
+        };
+        let Ok(returned) = Vec::with_capacity(alloc, shape.passes as usize) else {
+            return Err(Answer::Memory);
+        };
+        let Ok((table, keeper, passes)) = FrameTable::open(alloc, shape) else {
+            returned.destroy_empty();
+            return Err(Answer::Memory);
+        };
+        match Arc::new(alloc, table) {
+            Ok(table) => Ok(Owner {
+                table,
+                number,
+                keeper,
+                named,
+                count: shape.passes as usize,
+                passes,
+                returned,
+            }),
+            Err(failed) => {
+                drop(failed.value.close(keeper, passes));
+                returned.destroy_empty();
+                Err(Answer::Memory)
+            }
+        }
+    }
+
+    /// A pass that is not out: one of this table that never was, or else one that came back.
+    pub fn lend(&mut self) -> Result<Reader, Answer>
+        ensures keeper { self.new ≡ self.old }
+        ensures pass { Lends result }
+    {
+        let Ok(table) = Arc::try_clone(&self.table) else {
+            return Err(Answer::Memory);
+        };
+        if let Some(pass) = self.passes.pop() {
+            return Ok(Reader::new(table, self.number, pass));
+        }
+        drop(table);
+        match self.returned.pop() {
+            Some(reader) => Ok(reader),
+            None => Err(Answer::NoPass),
+        }
+    }
+
+    /// Takes a pass back, if it holds nothing and its table has the same number.
+    pub fn take_back(&mut self, reader: Reader) -> Result<(), (Answer, Reader)>
+        ensures keeper { self.new ≡ self.old }
+        ensures pass { TakesBack reader result }
+    {
+        if reader.number() != self.number {
+            return Err((Answer::Other, reader));
+        }
+        if !reader.is_idle() {
+            return Err((Answer::Holding, reader));
+        }
+        match self.returned.push(reader) {
+            Ok(()) => Ok(()),
+            Err(failed) => Err((Answer::Memory, failed.value)),
+        }
+    }
+
+    /// Whether no pass is out.
+    pub fn is_whole(&self) -> bool {
+        self.passes.len() == self.count.saturating_sub(self.returned.len())
+    }
+
+    /// Lets the table go, with its keeper and the passes that are not out. Its memory is freed with the last pass that is out.
+    pub fn retire(self) {
+        let Owner {
+            table,
+            number: _,
+            keeper,
+            named,
+            count: _,
+            mut passes,
+            mut returned,
+        } = self;
+        'passes: while let Some(pass) = passes.pop() {
+            let _kept_for_good = unsafe { ManuallyDrop::new_unchecked(pass) };
+        }
+        passes.destroy_empty();
+        'returned: while let Some(reader) = returned.pop() {
+            reader.retire();
+        }
+        returned.destroy_empty();
+        drop(named);
+        keeper.retire();
+        drop(table);
     }
 }

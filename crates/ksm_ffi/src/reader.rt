@@ -1,7 +1,7 @@
 //! A pass with its table. Each call gives the pass to the table's crate, and takes back what comes of it.
 ghost use Rattle.std.specs.Prelude.{◌≡◌, ◌↔◌, IsTrue};
 ghost use Rattle.ksm_ffi.specs.declared.reader.Phase.TheVariants.{Idle};
-ghost use Rattle.ksm_ffi.specs.Passes.{Finds, FindsEqual, GoesIdle, IsIdle, IsOf, Reads, ReadsAll, ReadsPage, Tells};
+ghost use Rattle.ksm_ffi.specs.Passes.{Finds, FindsEqual, GoesIdle, IsIdle, IsOf, LooksUpAll, Reads, ReadsAll, ReadsPage, Tells};
 
 use crate::answer::Answer;
 use frame_table::{Found, FoundEqual, FrameTable, Held, Pass, Why};
@@ -115,6 +115,37 @@ fn leave_in(table: &FrameTable, phase: Phase) -> (Answer, Phase)
     }
 }
 
+// A whole lookup: the words of the frame, which is not held any more.
+fn look_up_in(
+    table: &FrameTable,
+    phase: Phase,
+    place: u32,
+    words: &mut PageBytes,
+) -> (Answer, Phase)
+    requires own { IsOf table.now phase }
+    ensures looked { LooksUpAll phase place result.0 words.new result.1 }
+    ensures own { IsOf table.now result.1 }
+{
+    let pass = match phase {
+        Phase::Idle(pass) => pass,
+        Phase::Held(held) => return (Answer::Holding, Phase::Held(held)),
+        Phase::Away => unreachable!(),
+    };
+    if place >= table.places() {
+        return (Answer::Range, Phase::Idle(pass));
+    }
+    match pass.find(table, place) {
+        Found::Held(mut held) => {
+            *words = read_all(table, &mut held);
+            (Answer::Done, Phase::Idle(held.leave(table)))
+        }
+        Found::Gone(pass, Why::Vacant) => (Answer::Vacant, Phase::Idle(pass)),
+        Found::Gone(pass, Why::Zero) => (Answer::Zero, Phase::Idle(pass)),
+        Found::Gone(pass, Why::Generation) => (Answer::Life, Phase::Idle(pass)),
+        Found::Busy(pass) => (Answer::Busy, Phase::Idle(pass)),
+    }
+}
+
 impl Reader {
     /// A pass of this table, which has this number.
     pub fn new(table: Arc<FrameTable>, number: u64, pass: Pass) -> Reader
@@ -161,6 +192,17 @@ impl Reader {
     {
         let phase = replace(&mut self.phase, Phase::Away);
         let (answer, phase) = find_equal_in(&self.table, phase, place, page);
+        let away = replace(&mut self.phase, phase);
+        let Phase::Away = away else { unreachable!() };
+        answer
+    }
+
+    /// Looks a place up, loads every word of the frame that it names, and gives the reference back.
+    pub fn look_up(&mut self, place: u32, words: &mut PageBytes) -> Answer
+        ensures { LooksUpAll self.old place result words.new self.new }
+    {
+        let phase = replace(&mut self.phase, Phase::Away);
+        let (answer, phase) = look_up_in(&self.table, phase, place, words);
         let away = replace(&mut self.phase, phase);
         let Phase::Away = away else { unreachable!() };
         answer
