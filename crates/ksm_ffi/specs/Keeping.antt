@@ -62,3 +62,7 @@ kind_number Retired = 5
 abbrev pub TellsFrame : KeeperView → ℕ → Answer → ℕ → ℕ → ℕ → Type 0
 TellsFrame v f a kind base life = (f < frames_of v.table.shape → (a ≡ answer.Done) × (kind ≡ kind_number (frame_at v.ledger f).kind) × (base ≡ (frame_at v.ledger f).base) × (life ≡ (frame_at v.ledger f).generation))
     × (frames_of v.table.shape ≤ f → a ≡ answer.Range)
+
+-- the same, and the keeper is as it was
+abbrev pub TellsOf : KeeperView → ℕ → Answer → ℕ → ℕ → ℕ → KeeperView → Type 0
+TellsOf v f a kind base life w = TellsFrame v f a kind base life × (w ≡ v)

@@ -19,7 +19,9 @@ abbrev pub Lends : Result Phase Answer → Type 0
 Lends (Ok v) = IsIdle v
 Lends (Err a) = (a ≡ answer.NoPass) ⊎ (a ≡ answer.Memory)
 
--- a pass is taken back that holds nothing; one that is refused is the one that came
-abbrev pub TakesBack : Phase → Result (Unit {0}) (Answer × Phase) → Type 0
-TakesBack v (Ok u) = IsIdle v
-TakesBack v (Err e) = (e.1 ≡ v) × ((e.0 ≡ answer.Holding × ¬ IsIdle v) ⊎ ((e.0 ≡ answer.Other) ⊎ (e.0 ≡ answer.Memory)))
+-- whether a pass may come back to its table, and if not, why
+abbrev pub ReaderJudged : Phase → Answer → Type 0
+ReaderJudged v answer.Done = IsIdle v
+ReaderJudged v answer.Holding = ¬ IsIdle v
+ReaderJudged v answer.Other = Unit {0}
+ReaderJudged v a = ⊥

@@ -112,3 +112,7 @@ LooksUpAll (Idle v) place a words after = (frames_of v.table.shape ≤ place →
     × (place < frames_of v.table.shape → (f : Found) × LooksUp v place f × (a ≡ found_answer f) × ReadsAndLeaves f words after)
 LooksUpAll (Held v) place a words after = Stays (Held v) answer.Holding a after
 LooksUpAll Away place a words after = Unit {0}
+
+-- the same, and the pass is as it was
+abbrev pub TellsHold : Phase → Answer → ℕ → ℕ → ℕ → Phase → Type 0
+TellsHold v a place frame life after = Tells v a place frame life × (after ≡ v)

@@ -9,7 +9,7 @@ ghost use Rattle.frame_core.specs.declared.event.KeeperStep.{KeeperStep};
 ghost use Rattle.ksm_base.specs.declared.shape.Shape.{Shape};
 ghost use Rattle.frame_table.specs.Named.{KeeperView};
 ghost use Rattle.ksm_ffi.specs.Keeping.{IsInside, Judges, Keeps, KeepsWord, TellsFrame, kind_number};
-ghost use Rattle.ksm_ffi.specs.Opening.{Lends, OpensTable, TakesBack};
+ghost use Rattle.ksm_ffi.specs.Opening.{Lends, OpensTable, ReaderJudged};
 
 use crate::answer::Answer;
 use crate::reader::Reader;
@@ -288,30 +288,29 @@ impl Owner {
         }
     }
 
-    /// Loads the word `word` of a frame that is Private, Stable or Dying.
-    pub fn word(&mut self, frame: u32, word: usize) -> (Answer, u64)
-        ensures { KeepsWord self.old frame word result.0 result.1 self.new }
+    /// Loads the word `word` of a frame that is Private, Stable or Dying, to `value`.
+    pub fn word(&mut self, frame: u32, word: usize, value: &mut u64) -> Answer
+        ensures { KeepsWord self.old frame word result value.new self.new }
     {
         if let Err(answer) = self.judge(KeeperStep::Word { frame, word }) {
-            return (answer, 0);
+            return answer;
         }
-        (Answer::Done, self.keeper.word(&self.table, frame, word))
+        *value = self.keeper.word(&self.table, frame, word);
+        Answer::Done
     }
 
-    /// What the keeper uses a frame for, how many references are its own, and the frame's life.
-    pub fn frame(&self, frame: u32) -> (Answer, u32, u64, u64)
-        ensures { TellsFrame self.now frame result.0 result.1 result.2 result.3 }
+    /// Tells what the keeper uses a frame for, how many references are its own, and the frame's life.
+    pub fn frame(&self, frame: u32, kind: &mut u32, references: &mut u64, life: &mut u64) -> Answer
+        ensures { TellsFrame self.now frame result kind.new references.new life.new }
     {
         if frame >= self.table.places() {
-            return (Answer::Range, 0, 0, 0);
+            return Answer::Range;
         }
         let keeper = &self.keeper;
-        (
-            Answer::Done,
-            kind_number(keeper.kind(frame)),
-            keeper.base(frame),
-            keeper.generation(frame),
-        )
+        *kind = kind_number(keeper.kind(frame));
+        *references = keeper.base(frame);
+        *life = keeper.generation(frame);
+        Answer::Done
     }
 }
 
@@ -371,20 +370,30 @@ impl Owner {
         }
     }
 
-    /// Takes a pass back, if it holds nothing and its table has the same number.
-    pub fn take_back(&mut self, reader: Reader) -> Result<(), (Answer, Reader)>
-        ensures keeper { self.new ≡ self.old }
-        ensures pass { TakesBack reader result }
+    /// Whether a pass may come back: it holds nothing, and its table has the same number.
+    pub fn judge_back(&self, reader: &Reader) -> Answer
+        ensures { ReaderJudged reader.now result }
     {
         if reader.number() != self.number {
-            return Err((Answer::Other, reader));
+            return Answer::Other;
         }
+        if reader.is_idle() {
+            Answer::Done
+        } else {
+            Answer::Holding
+        }
+    }
+
+    /// Takes a pass back that may come back. Where there is no room for it, or it may not come back, it goes for good.
+    pub fn take_back(&mut self, reader: Reader)
+        ensures { self.new ≡ self.old }
+    {
         if !reader.is_idle() {
-            return Err((Answer::Holding, reader));
+            reader.retire();
+            return;
         }
-        match self.returned.push(reader) {
-            Ok(()) => Ok(()),
-            Err(failed) => Err((Answer::Memory, failed.value)),
+        if let Err(failed) = self.returned.push(reader) {
+            failed.value.retire();
         }
     }
 

@@ -208,29 +208,33 @@ impl Reader {
         answer
     }
 
-    /// Loads the word `i` of the frame that is held.
-    pub fn word(&mut self, i: usize) -> (Answer, u64)
-        ensures { Reads self.old i result.0 result.1 self.new }
+    /// Loads the word `i` of the frame that is held, to `word`.
+    pub fn word(&mut self, i: usize, word: &mut u64) -> Answer
+        ensures { Reads self.old i result word.new self.new }
     {
         match &mut self.phase {
             Phase::Held(held) => {
                 if i >= PAGE_WORDS {
-                    return (Answer::Range, 0);
+                    return Answer::Range;
                 }
-                (Answer::Done, held.word(&self.table, i))
+                *word = held.word(&self.table, i);
+                Answer::Done
             }
-            Phase::Idle(_) => (Answer::Idle, 0),
+            Phase::Idle(_) => Answer::Idle,
             Phase::Away => unreachable!(),
         }
     }
 
-    /// Loads every word of the frame that is held.
-    pub fn words(&mut self) -> (Answer, PageBytes)
-        ensures { ReadsAll self.old result.0 result.1 self.new }
+    /// Loads every word of the frame that is held, to `words`.
+    pub fn words(&mut self, words: &mut PageBytes) -> Answer
+        ensures { ReadsAll self.old result words.new self.new }
     {
         match &mut self.phase {
-            Phase::Held(held) => (Answer::Done, read_all(&self.table, held)),
-            Phase::Idle(_) => (Answer::Idle, [0; PAGE_WORDS]),
+            Phase::Held(held) => {
+                *words = read_all(&self.table, held);
+                Answer::Done
+            }
+            Phase::Idle(_) => Answer::Idle,
             Phase::Away => unreachable!(),
         }
     }
@@ -246,15 +250,17 @@ impl Reader {
         answer
     }
 
-    /// Where the frame that is held was found: its place, its frame and its life.
-    pub fn held(&self) -> (Answer, u32, u32, u64)
-        ensures { Tells self.now result.0 result.1 result.2 result.3 }
+    /// Tells where the frame that is held was found: its place, its frame and its life.
+    pub fn held(&self, place: &mut u32, frame: &mut u32, life: &mut u64) -> Answer
+        ensures { Tells self.now result place.new frame.new life.new }
     {
-        match &self.phase {
-            Phase::Held(held) => (Answer::Done, held.place(), held.frame(), held.generation()),
-            Phase::Idle(_) => (Answer::Idle, 0, 0, 0),
-            Phase::Away => (Answer::Idle, 0, 0, 0),
-        }
+        let Phase::Held(held) = &self.phase else {
+            return Answer::Idle;
+        };
+        *place = held.place();
+        *frame = held.frame();
+        *life = held.generation();
+        Answer::Done
     }
 
     /// Lets the pass go for good, and its part of the table.
