@@ -11,6 +11,7 @@ use crate::view::View;
 use atomic_table::Seat;
 use frame_core::{FrameWord, Kind, Life, Note};
 use std::marker::Model;
+use std::mem::ManuallyDrop;
 
 /// The keeper's seat, with what it knows of each frame. Contracts see which table it is of, the ledger and the log.
 ///
@@ -48,6 +49,14 @@ impl Keeper {
         ensures { result ≡ (frame_at self.now.ledger frame).base }
     {
         self.frames[frame as usize].base
+    }
+
+    /// How many times a frame was given: the life that it is in, or was in last.
+    pub fn generation(&self, frame: u32) -> u64
+        requires { frame < frames_of self.now.table.shape }
+        ensures { result ≡ (frame_at self.now.ledger frame).generation }
+    {
+        self.frames[frame as usize].generation
     }
 
     /// Takes one reference more on a frame on which the keeper has 1 to 1,023.
@@ -195,5 +204,13 @@ impl Keeper {
         ensures content { result ≡ slice_index (frame_at self.old.ledger frame).content i }
     {
         table.word_at(&mut self.seat, frame, i)
+    }
+
+    /// Ends the keeper where its table is not closed, as where passes are in other hands for good: its notes are freed, and no step of a keeper
+    /// is made any more. The table and its words stay as they are.
+    pub fn retire(self) {
+        let Keeper { seat, frames } = self;
+        drop(frames);
+        let _kept_for_good = unsafe { ManuallyDrop::new_unchecked(seat) };
     }
 }

@@ -1,0 +1,131 @@
+/*
+ * The frame table of ksmbook for C: pages that one thread keeps, and that other threads look up without a lock.
+ *
+ * A table has FRAMES and PLACES, as many of each. A frame has 8 words of 64 bits (a page of 64 bytes), a count of references, and a life:
+ * how many times it was given. A place is empty, or names a frame in one of its lives. A reader looks a place up and holds the frame that it
+ * names: the lookup takes a reference, if the frame is still in the life named and has one. While a reader holds a frame its life does not
+ * end and its words do not change. No lock is taken by anyone, and no call waits.
+ *
+ * One thread at a time is the KEEPER, by the table's handle. It gives a frame its next life (ksm_raise), fills it (ksm_put), opens it
+ * (ksm_open_frame) and names it at a place (ksm_publish). To take it back it gives its references back (ksm_sub, or ksm_freeze at once if no
+ * reader has one) and then reaps it (ksm_reap), which it may try as often as it likes until the last reader has left.
+ * A frame is FREE, FILLING, PRIVATE, STABLE, DYING or RETIRED; each call below says where it is allowed.
+ *
+ * What every call promises is proved of the code in the archive (crates/ksm_ffi). Each condition of a call is tested, and answered by a number.
+ * What nothing tests, and you must keep:
+ *   - a handle was set to KSM_TABLE_NONE or KSM_PASS_NONE before its first call, is no copy of another, and only these calls change it;
+ *   - a handle is in one call at a time. It may go from one thread to another where you order that (a lock, a thread's start or join, or an
+ *     atomic of sequential consistency). So each reader thread has a pass of its own, and one thread at a time has the table;
+ *   - the other pointers point to as much as is said here, none of it part of a handle; none of two pointers in a call is the same;
+ *   - no call is made from a signal handler, or in the child of a fork of a program with threads.
+ *
+ * Link out/libksm_ffi.a of crates/ksm_ffi (`rt lib` there makes it) and libc_c.a of the kit.
+ */
+#ifndef KSMBOOK_H
+#define KSMBOOK_H
+
+#include <stddef.h>
+#include <stdint.h>
+
+#ifdef __cplusplus
+extern "C" {
+#endif
+
+/* A table with its keeper, and a pass. Not open where `at` is NULL. */
+typedef struct ksm_table { void *at; } ksm_table;
+typedef struct ksm_pass { void *at; } ksm_pass;
+#define KSM_TABLE_NONE { NULL }
+#define KSM_PASS_NONE { NULL }
+
+/* How many words a page has. */
+#define KSM_PAGE_WORDS 8
+
+/* What a call answers. Below 10 it did what it was called for. */
+enum {
+    KSM_DONE = 0,        /* done; of a lookup: a frame is held */
+    KSM_VACANT = 1,      /* the place was empty; nothing is held */
+    KSM_ZERO = 2,        /* the frame had no reference; nothing is held */
+    KSM_LIFE = 3,        /* the frame was in another life than the place named; nothing is held */
+    KSM_BUSY = 4,        /* `tries` exchanges were lost to others; nothing is held */
+    KSM_DIFFERS = 5,     /* a frame is held, and a word of it is not the page's */
+    KSM_USED = 6,        /* a reader has a reference on the frame; it is as it was */
+    /* From here on the call was refused, and nothing has changed. */
+    KSM_CLOSED = 10,     /* the handle is not open */
+    KSM_KIND = 11,       /* the handle is one of the other kind */
+    KSM_OPEN = 12,       /* the handle that is to be opened is open */
+    KSM_SHAPE = 13,      /* a size is out of its range */
+    KSM_MEMORY = 14,     /* there is no memory */
+    KSM_RANGE = 15,      /* there is no such frame, place or word */
+    KSM_STATE = 16,      /* the frame or the place is in a state that does not allow the call */
+    KSM_HOLDING = 17,    /* the pass holds a frame */
+    KSM_IDLE = 18,       /* the pass holds nothing */
+    KSM_NO_PASS = 19,    /* all passes of the table are out */
+    KSM_PASSES_OUT = 20, /* passes of the table are out */
+    KSM_OTHER = 21       /* the pass is another table's */
+};
+
+/* What the keeper uses a frame for. */
+enum {
+    KSM_FRAME_FREE = 0,    /* it waits for its next life */
+    KSM_FRAME_FILLING = 1, /* it has a life, and no reference yet; its words may be stored */
+    KSM_FRAME_PRIVATE = 2, /* it has the keeper's references, and is named nowhere; its words may be stored */
+    KSM_FRAME_STABLE = 3,  /* it was named at a place; its words stay as they are until its life ends */
+    KSM_FRAME_DYING = 4,   /* the keeper has given its last reference back; readers may hold it still */
+    KSM_FRAME_RETIRED = 5  /* it has had its last life */
+};
+
+/*
+ * Opening and closing.
+ *
+ * ksm_table_open opens a table of nodes (1 to 4) times frames_per_node (1 to 256) frames, all FREE, and as many places, all empty; with so many
+ * passes (1 to 16); a frame is given last_generation times at most (1 to 2^40), and a lookup makes at most `tries` exchanges (1 to 64).
+ * `number` is what tells the table's passes from those of other tables: give each table that is open another.
+ * KSM_DONE, KSM_OPEN, KSM_SHAPE, KSM_MEMORY.
+ *
+ * ksm_table_close frees it. KSM_DONE, KSM_CLOSED, KSM_KIND, KSM_PASSES_OUT.
+ * ksm_pass_open takes a pass out of the table, which holds nothing. KSM_DONE, KSM_OPEN, KSM_CLOSED, KSM_KIND, KSM_NO_PASS, KSM_MEMORY.
+ * ksm_pass_close gives it back. KSM_DONE, KSM_CLOSED (either), KSM_KIND (either), KSM_HOLDING, KSM_OTHER.
+ * All four are for the thread that has the table.
+ */
+uint32_t ksm_table_open(ksm_table *table, uint64_t number, uint32_t nodes, uint32_t frames_per_node, uint32_t passes,
+                        uint64_t last_generation, uint32_t tries);
+uint32_t ksm_table_close(ksm_table *table);
+uint32_t ksm_pass_open(ksm_table *table, ksm_pass *pass);
+uint32_t ksm_pass_close(ksm_table *table, ksm_pass *pass);
+
+/*
+ * The keeper. Each of these may answer KSM_CLOSED, KSM_KIND, KSM_RANGE, or KSM_STATE where it is not allowed.
+ */
+uint32_t ksm_raise(ksm_table *table, uint32_t frame);                             /* FREE: its next life begins; FILLING then */
+uint32_t ksm_put(ksm_table *table, uint32_t frame, size_t i, uint64_t word);      /* FILLING, PRIVATE: stores word i */
+uint32_t ksm_open_frame(ksm_table *table, uint32_t frame);                        /* FILLING: one reference; PRIVATE then */
+uint32_t ksm_publish(ksm_table *table, uint32_t place, uint32_t frame);           /* PRIVATE: STABLE then. Not where the place names a
+                                                                                     frame that is STABLE in the life named */
+uint32_t ksm_withdraw(ksm_table *table, uint32_t place);                          /* empties the place; not where it names such a frame */
+uint32_t ksm_add(ksm_table *table, uint32_t frame);                               /* 1 to 1,023 references of the keeper: one more */
+uint32_t ksm_sub(ksm_table *table, uint32_t frame);                               /* from 1 on: one less; with the last, DYING then */
+uint32_t ksm_freeze(ksm_table *table, uint32_t frame);                            /* STABLE: all of the keeper's back, and DYING then, if no
+                                                                                     reader has one; else KSM_USED */
+uint32_t ksm_reap(ksm_table *table, uint32_t frame);                              /* DYING: FREE then, or RETIRED after its last life, if no
+                                                                                     reader has one; else KSM_USED */
+uint32_t ksm_load(ksm_table *table, uint32_t frame, size_t i, uint64_t *word);    /* PRIVATE, STABLE, DYING: loads word i */
+uint32_t ksm_frame(ksm_table *table, uint32_t frame, uint32_t *kind, uint64_t *references, uint64_t *life); /* of the keeper: any state */
+
+/*
+ * A pass. Each of these may answer KSM_CLOSED or KSM_KIND. The three lookups are for a pass that holds nothing (KSM_HOLDING), of a place that
+ * there is (KSM_RANGE); they answer KSM_DONE, KSM_VACANT, KSM_ZERO, KSM_LIFE or KSM_BUSY. The others are for one that holds a frame (KSM_IDLE).
+ */
+uint32_t ksm_find(ksm_pass *pass, uint32_t place);                                /* holds the frame that the place names */
+uint32_t ksm_find_equal(ksm_pass *pass, uint32_t place, const uint64_t page[8]);  /* the same, and compares its words with a page:
+                                                                                     KSM_DONE only if all are equal, else KSM_DIFFERS */
+uint32_t ksm_look_up(ksm_pass *pass, uint32_t place, uint64_t words[8]);          /* ksm_find, ksm_words and ksm_leave in one call */
+uint32_t ksm_word(ksm_pass *pass, size_t i, uint64_t *word);                      /* loads word i; KSM_RANGE */
+uint32_t ksm_words(ksm_pass *pass, uint64_t words[8]);                            /* loads every word */
+uint32_t ksm_held(ksm_pass *pass, uint32_t *place, uint32_t *frame, uint64_t *life); /* tells where it was found */
+uint32_t ksm_leave(ksm_pass *pass);                                               /* gives the frame back; the pass holds nothing then */
+
+#ifdef __cplusplus
+}
+#endif
+
+#endif

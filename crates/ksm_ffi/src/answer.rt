@@ -1,0 +1,55 @@
+//! The numbers that calls answer, which the header names.
+ghost use Rattle.std.specs.Prelude.{◌≡◌};
+ghost use Rattle.ksm_ffi.specs.Answers.{number_of};
+
+/// What a call answers. Below 10 it did what it was called for; from 10 on it was refused, and nothing has changed.
+#[derive(Clone, Copy, Debug, PartialEq, Eq)]
+pub enum Answer {
+    /// Done; of a lookup: a frame is held.
+    Done = 0,
+    /// The place was empty.
+    Vacant = 1,
+    /// The frame that the place named had no reference.
+    Zero = 2,
+    /// The frame was in another life than the place named.
+    Life = 3,
+    /// As many exchanges as `tries` were lost to others.
+    Busy = 4,
+    /// A frame is held, and a word of it is not the page's.
+    Differs = 5,
+    /// A reader has a reference on the frame.
+    Used = 6,
+    /// The handle is not open.
+    Closed = 10,
+    /// The handle stands for something else.
+    Kind = 11,
+    /// The handle that is to be opened is open.
+    Open = 12,
+    /// A size of the shape is out of its range.
+    Shape = 13,
+    /// There is no memory.
+    Memory = 14,
+    /// There is no such frame, place or word, or no room for all words of a page.
+    Range = 15,
+    /// The frame or the place is in a state that does not allow the call.
+    State = 16,
+    /// The pass holds a frame.
+    Holding = 17,
+    /// The pass holds nothing.
+    Idle = 18,
+    /// All passes of the table are out.
+    NoPass = 19,
+    /// Passes of the table are open.
+    PassesOut = 20,
+    /// The pass is another table's.
+    Other = 21,
+}
+
+impl Answer {
+    /// The number that C sees.
+    pub fn number(self) -> u32
+        ensures { result ≡ number_of self }
+    {
+        self as u32
+    }
+}

@@ -1,0 +1,85 @@
+//! What C holds: a pointer to a box, or null.
+ghost use Rattle.std.specs.Prelude.{◌≡◌, MatchOption};
+ghost use Rattle.std.specs.declared.option.Option.{Option};
+ghost use Rattle.std.specs.declared.option.Option.TheVariants.{None, Some};
+ghost use Rattle.ksm_ffi.specs.Handles.{handle_coded, handle_owns};
+ghost use Rattle.ksm_ffi.specs.declared.thing.Thing.{Thing};
+
+use crate::loose::Loose;
+use crate::thing::Thing;
+use std::alloc::Global;
+use std::marker::Model;
+use std::mem::replace;
+use std::ptr::null_mut;
+
+/// A handle, which is open or not. An open one owns what it stands for. C makes one that is not open of null.
+///
+/// Let go while it is open, it frees nothing.
+#[repr(C)]
+#[derive(Drop)]
+pub struct Handle {
+    at: *mut u8,
+    alloc: Global,
+    /// What the handle stands for; nothing where it is not open.
+    pub ghost thing: { Option Thing } by { handle_coded },
+}
+
+impl Model for Handle {
+    ghost also_owns = { λ h. handle_owns h.alloc h.at h.thing };
+}
+
+unsafe impl Send for Handle {}
+
+impl Handle {
+    fn empty(alloc: Global) -> Handle
+        ensures { result.thing ≡ None }
+    {
+        Handle {
+            at: null_mut(),
+            alloc,
+        }
+    }
+
+    fn of_loose(loose: Loose<Thing, Global>) -> Handle
+        ensures { result.thing ≡ Some loose.value }
+    {
+        let Loose { at, alloc } = loose;
+        Handle {
+            at: at as *mut u8,
+            alloc,
+        }
+    }
+
+    fn into_loose(self) -> Option<Loose<Thing, Global>>
+        ensures { MatchOption result (self.thing ≡ None) (λ l. self.thing ≡ Some l.value) }
+    {
+        let Handle { at, alloc } = self;
+        if at.is_null() {
+            None
+        } else {
+            Some(Loose {
+                at: at as *mut Thing,
+                alloc,
+            })
+        }
+    }
+
+    /// Takes what the handle stands for out of it. It is not open then.
+    pub(crate) fn take(&mut self, alloc: Global) -> Option<Box<Thing>>
+        ensures old { MatchOption result (self.old.thing ≡ None) (λ b. self.old.thing ≡ Some b.value) }
+        ensures new { self.new.thing ≡ None }
+    {
+        let held = replace(self, Handle::empty(alloc));
+        match held.into_loose() {
+            Some(loose) => Some(loose.into_box()),
+            None => None,
+        }
+    }
+
+    /// Opens the handle on this.
+    pub(crate) fn put(&mut self, thing: Box<Thing>)
+        ensures { self.new.thing ≡ Some thing.value }
+    {
+        *self = Handle::of_loose(Loose::of(thing));
+    }
+}

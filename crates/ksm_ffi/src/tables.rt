@@ -1,0 +1,347 @@
+//! Opening and closing, and the calls of the keeper, which one thread makes at a time.
+ghost use Rattle.std.specs.Prelude.{◌≡◌};
+ghost use Rattle.frame_core.specs.declared.event.KeeperStep.TheVariants.{Reap, Put, Raise, Open, Add, Sub, Publish, Withdraw, Freeze};
+ghost use Rattle.ksm_ffi.specs.Keeping.{Keeps, KeepsWord, TellsOf};
+ghost use Rattle.ksm_ffi.specs.Things.{Closes, ClosesPass, JudgesBack, LendsBox, OnTable, Opens, OpensPass, OpensThing};
+
+use crate::answer::Answer;
+use crate::handle::Handle;
+use crate::owner::Owner;
+use crate::reader::Reader;
+use crate::thing::Thing;
+use ksm_base::Shape;
+use std::alloc::Global;
+
+// A table in a box of its own.
+fn open_thing(alloc: Global, shape: Shape, number: u64) -> Result<Box<Thing>, Answer>
+    ensures { OpensThing shape result }
+{
+    let owner = Owner::open(alloc, shape, number)?;
+    match Box::new(alloc, Thing::Table(owner)) {
+        Ok(thing) => Ok(thing),
+        Err(failed) => {
+            failed.value.retire();
+            Err(Answer::Memory)
+        }
+    }
+}
+
+/// Opens a table with all frames free and all places empty. Passes are told from those of tables with other numbers.
+#[unsafe(no_mangle)]
+pub extern "C" fn ksm_table_open(
+    alloc: Global,
+    table: &mut Handle,
+    number: u64,
+    nodes: u32,
+    frames_per_node: u32,
+    passes: u32,
+    last_generation: u64,
+    tries: u32,
+) -> u32
+    ensures { Opens (record { nodes = nodes; frames_per_node = frames_per_node; passes = passes; last_generation = last_generation; tries = tries }) table.old.thing result table.new.thing }
+{
+    if let Some(thing) = table.take(alloc) {
+        table.put(thing);
+        return Answer::Open.number();
+    }
+    let shape = Shape {
+        nodes,
+        frames_per_node,
+        passes,
+        last_generation,
+        tries,
+    };
+    match open_thing(alloc, shape, number) {
+        Ok(thing) => {
+            table.put(thing);
+            Answer::Done.number()
+        }
+        Err(answer) => answer.number(),
+    }
+}
+
+/// Closes a table, if no pass of it is out, and frees its memory.
+#[unsafe(no_mangle)]
+pub extern "C" fn ksm_table_close(alloc: Global, table: &mut Handle) -> u32
+    ensures { Closes table.old.thing result table.new.thing }
+{
+    let Some(thing) = table.take(alloc) else {
+        return Answer::Closed.number();
+    };
+    let answer = match &*thing {
+        Thing::Table(owner) if owner.is_whole() => Answer::Done,
+        Thing::Table(_) => Answer::PassesOut,
+        Thing::Pass(_) => Answer::Kind,
+    };
+    if answer == Answer::Done {
+        Box::into_inner(thing).retire();
+    } else {
+        table.put(thing);
+    }
+    answer.number()
+}
+
+// Lends a pass of the table, in a box of its own.
+fn lend(alloc: Global, table: &mut Thing) -> Result<Box<Thing>, Answer>
+    ensures table { table.new ≡ table.old }
+    ensures pass { LendsBox table.old result }
+{
+    let Thing::Table(owner) = table else {
+        return Err(Answer::Kind);
+    };
+    match Box::new(alloc, Thing::Pass(owner.lend()?)) {
+        Ok(pass) => Ok(pass),
+        Err(failed) => {
+            failed.value.back_to(owner);
+            Err(Answer::Memory)
+        }
+    }
+}
+
+/// Opens a pass of the table.
+#[unsafe(no_mangle)]
+pub extern "C" fn ksm_pass_open(alloc: Global, table: &mut Handle, pass: &mut Handle) -> u32
+    ensures table { table.new.thing ≡ table.old.thing }
+    ensures pass { OpensPass table.old.thing pass.old.thing result pass.new.thing }
+{
+    if let Some(thing) = pass.take(alloc) {
+        pass.put(thing);
+        return Answer::Open.number();
+    }
+    let Some(mut thing) = table.take(alloc) else {
+        return Answer::Closed.number();
+    };
+    let lent = lend(alloc, &mut thing);
+    table.put(thing);
+    match lent {
+        Ok(lent) => {
+            pass.put(lent);
+            Answer::Done.number()
+        }
+        Err(answer) => answer.number(),
+    }
+}
+
+// Whether a pass may come back to a table, and if not, why.
+fn judge_back(table: &Thing, pass: &Thing) -> Answer
+    ensures { JudgesBack table.now pass.now result }
+{
+    match (table, pass) {
+        (_, Thing::Table(_)) => Answer::Kind,
+        (Thing::Pass(_), Thing::Pass(_)) => Answer::Kind,
+        (Thing::Table(owner), Thing::Pass(reader)) => owner.judge_back(reader),
+    }
+}
+
+// Gives a pass back that may come back.
+fn give_back(table: &mut Thing, pass: Thing)
+    ensures { table.new ≡ table.old }
+{
+    match table {
+        Thing::Table(owner) => pass.back_to(owner),
+        Thing::Pass(_) => pass.retire(),
+    }
+}
+
+/// Gives a pass that holds nothing back to its table.
+#[unsafe(no_mangle)]
+pub extern "C" fn ksm_pass_close(alloc: Global, table: &mut Handle, pass: &mut Handle) -> u32
+    ensures table { table.new.thing ≡ table.old.thing }
+    ensures pass { ClosesPass table.old.thing pass.old.thing result pass.new.thing }
+{
+    let Some(back) = pass.take(alloc) else {
+        return Answer::Closed.number();
+    };
+    if let Thing::Table(_) = &*back {
+        pass.put(back);
+        return Answer::Kind.number();
+    }
+    let Some(mut thing) = table.take(alloc) else {
+        pass.put(back);
+        return Answer::Closed.number();
+    };
+    let answer = judge_back(&thing, &back);
+    if answer == Answer::Done {
+        give_back(&mut thing, Box::into_inner(back));
+    } else {
+        pass.put(back);
+    }
+    table.put(thing);
+    answer.number()
+}
+
+/// Gives a free frame its next life: it is Filling then.
+#[unsafe(no_mangle)]
+pub extern "C" fn ksm_raise(alloc: Global, table: &mut Handle, frame: u32) -> u32
+    ensures { OnTable (λ v a w. Keeps v (Raise frame) a w) table.old.thing result table.new.thing }
+{
+    let Some(mut thing) = table.take(alloc) else {
+        return Answer::Closed.number();
+    };
+    let answer = match &mut *thing {
+        Thing::Table(owner) => owner.raise(frame),
+        Thing::Pass(_) => Answer::Kind,
+    };
+    table.put(thing);
+    answer.number()
+}
+
+/// Stores a word of a frame that is Filling or Private.
+#[unsafe(no_mangle)]
+pub extern "C" fn ksm_put(alloc: Global, table: &mut Handle, frame: u32, i: usize, word: u64) -> u32
+    ensures { OnTable (λ v a w. Keeps v (Put frame i word) a w) table.old.thing result table.new.thing }
+{
+    let Some(mut thing) = table.take(alloc) else {
+        return Answer::Closed.number();
+    };
+    let answer = match &mut *thing {
+        Thing::Table(owner) => owner.put(frame, i, word),
+        Thing::Pass(_) => Answer::Kind,
+    };
+    table.put(thing);
+    answer.number()
+}
+
+/// Opens a frame that is Filling: it is Private then, with one reference.
+#[unsafe(no_mangle)]
+pub extern "C" fn ksm_open_frame(alloc: Global, table: &mut Handle, frame: u32) -> u32
+    ensures { OnTable (λ v a w. Keeps v (Open frame) a w) table.old.thing result table.new.thing }
+{
+    let Some(mut thing) = table.take(alloc) else {
+        return Answer::Closed.number();
+    };
+    let answer = match &mut *thing {
+        Thing::Table(owner) => owner.open_frame(frame),
+        Thing::Pass(_) => Answer::Kind,
+    };
+    table.put(thing);
+    answer.number()
+}
+
+/// Names a private frame at a place: it is Stable then.
+#[unsafe(no_mangle)]
+pub extern "C" fn ksm_publish(alloc: Global, table: &mut Handle, place: u32, frame: u32) -> u32
+    ensures { OnTable (λ v a w. Keeps v (Publish place frame) a w) table.old.thing result table.new.thing }
+{
+    let Some(mut thing) = table.take(alloc) else {
+        return Answer::Closed.number();
+    };
+    let answer = match &mut *thing {
+        Thing::Table(owner) => owner.publish(place, frame),
+        Thing::Pass(_) => Answer::Kind,
+    };
+    table.put(thing);
+    answer.number()
+}
+
+/// Empties a place.
+#[unsafe(no_mangle)]
+pub extern "C" fn ksm_withdraw(alloc: Global, table: &mut Handle, place: u32) -> u32
+    ensures { OnTable (λ v a w. Keeps v (Withdraw place) a w) table.old.thing result table.new.thing }
+{
+    let Some(mut thing) = table.take(alloc) else {
+        return Answer::Closed.number();
+    };
+    let answer = match &mut *thing {
+        Thing::Table(owner) => owner.withdraw(place),
+        Thing::Pass(_) => Answer::Kind,
+    };
+    table.put(thing);
+    answer.number()
+}
+
+/// Takes one reference more on a frame.
+#[unsafe(no_mangle)]
+pub extern "C" fn ksm_add(alloc: Global, table: &mut Handle, frame: u32) -> u32
+    ensures { OnTable (λ v a w. Keeps v (Add frame) a w) table.old.thing result table.new.thing }
+{
+    let Some(mut thing) = table.take(alloc) else {
+        return Answer::Closed.number();
+    };
+    let answer = match &mut *thing {
+        Thing::Table(owner) => owner.add(frame),
+        Thing::Pass(_) => Answer::Kind,
+    };
+    table.put(thing);
+    answer.number()
+}
+
+/// Gives one reference back: with the last the frame is Dying.
+#[unsafe(no_mangle)]
+pub extern "C" fn ksm_sub(alloc: Global, table: &mut Handle, frame: u32) -> u32
+    ensures { OnTable (λ v a w. Keeps v (Sub frame) a w) table.old.thing result table.new.thing }
+{
+    let Some(mut thing) = table.take(alloc) else {
+        return Answer::Closed.number();
+    };
+    let answer = match &mut *thing {
+        Thing::Table(owner) => owner.sub(frame),
+        Thing::Pass(_) => Answer::Kind,
+    };
+    table.put(thing);
+    answer.number()
+}
+
+/// Takes all references of the keeper on a stable frame back, unless a reader has one: it is Dying then.
+#[unsafe(no_mangle)]
+pub extern "C" fn ksm_freeze(alloc: Global, table: &mut Handle, frame: u32) -> u32
+    ensures { OnTable (λ v a w. Keeps v (Freeze frame) a w) table.old.thing result table.new.thing }
+{
+    let Some(mut thing) = table.take(alloc) else {
+        return Answer::Closed.number();
+    };
+    let answer = match &mut *thing {
+        Thing::Table(owner) => owner.freeze(frame),
+        Thing::Pass(_) => Answer::Kind,
+    };
+    table.put(thing);
+    answer.number()
+}
+
+/// Takes a dying frame back, unless a reader has a reference: it is Free then, or Retired.
+#[unsafe(no_mangle)]
+pub extern "C" fn ksm_reap(alloc: Global, table: &mut Handle, frame: u32) -> u32
+    ensures { OnTable (λ v a w. Keeps v (Reap frame) a w) table.old.thing result table.new.thing }
+{
+    let Some(mut thing) = table.take(alloc) else {
+        return Answer::Closed.number();
+    };
+    let answer = match &mut *thing {
+        Thing::Table(owner) => owner.reap(frame),
+        Thing::Pass(_) => Answer::Kind,
+    };
+    table.put(thing);
+    answer.number()
+}
+
+/// Loads a word of a frame that is Private, Stable or Dying.
+#[unsafe(no_mangle)]
+pub extern "C" fn ksm_load(alloc: Global, table: &mut Handle, frame: u32, i: usize, word: &mut u64) -> u32
+    ensures { OnTable (λ v a w. KeepsWord v frame i a word.new w) table.old.thing result table.new.thing }
+{
+    let Some(mut thing) = table.take(alloc) else {
+        return Answer::Closed.number();
+    };
+    let answer = match &mut *thing {
+        Thing::Table(owner) => owner.word(frame, i, word),
+        Thing::Pass(_) => Answer::Kind,
+    };
+    table.put(thing);
+    answer.number()
+}
+
+/// Tells what the keeper uses a frame for, how many references are its own, and the frame's life.
+#[unsafe(no_mangle)]
+pub extern "C" fn ksm_frame(alloc: Global, table: &mut Handle, frame: u32, kind: &mut u32, references: &mut u64, life: &mut u64) -> u32
+    ensures { OnTable (λ v a w. TellsOf v frame a kind.new references.new life.new w) table.old.thing result table.new.thing }
+{
+    let Some(mut thing) = table.take(alloc) else {
+        return Answer::Closed.number();
+    };
+    let answer = match &mut *thing {
+        Thing::Table(owner) => owner.frame(frame, kind, references, life),
+        Thing::Pass(_) => Answer::Kind,
+    };
+    table.put(thing);
+    answer.number()
+}
