@@ -52,6 +52,7 @@ class Linux:
         return self.stat(left) if line == "stat" else None
 
     def registered(self, guest, number):
+        """A page that is registered, or none."""
         page = self.pages.get((int(guest), int(number)))
         return page if page and page.is_registered else None
 
@@ -72,6 +73,7 @@ class Linux:
     # Pages.
 
     def do_reg(self, guest, number, node, digits):
+        """Registers a page."""
         page = self.pages[int(guest), int(number)]
         if int(node) >= NODES:
             return "refused 11"
@@ -82,6 +84,7 @@ class Linux:
         return "ok"
 
     def do_put(self, guest, number, digits):
+        """Stores to a page."""
         page = self.registered(guest, number)
         if not page:
             return "refused 2"
@@ -89,6 +92,7 @@ class Linux:
         return "ok"
 
     def do_drop(self, guest, number):
+        """Drops a page."""
         page = self.registered(guest, number)
         if not page:
             return "refused 2"
@@ -97,10 +101,12 @@ class Linux:
         return "ok"
 
     def do_get(self, guest, number):
+        """Reads a page."""
         page = self.registered(guest, number)
         return page.content if page else "refused 2"
 
     def do_move(self, guest, number, node):
+        """Moves a page to a node."""
         page = self.registered(guest, number)
         if int(node) >= NODES:
             return "refused 11"
@@ -112,6 +118,7 @@ class Linux:
         return "ok"
 
     def do_unmerge(self, guest):
+        """Unmerges a guest."""
         own, before = self.of_guest(guest), len(self.shared())
         if not own:
             return "refused 2"
@@ -121,6 +128,7 @@ class Linux:
         return f"unmerged {before - len(self.shared())}"
 
     def do_mergeable(self, guest):
+        """Makes a guest mergeable."""
         own = self.of_guest(guest)
         for page in own:
             page.is_mergeable = True
@@ -129,20 +137,24 @@ class Linux:
     # Places. A line names one by a page that is merged there.
 
     def at_place(self, place):
+        """The page that names a place, where it is merged."""
         page = self.registered(*place.split(":")) if ":" in place else None
         return page if page and page.is_merged() else None
 
     def do_ticket(self, guest, number):
+        """The place of a page."""
         page = self.registered(guest, number)
         if not page:
             return "refused 2"
         return f"place {self.on_frame(page.frame)[0]}" if page.is_merged() else "private"
 
     def do_rmap(self, place):
+        """The pages of a place."""
         page = self.at_place(place)
         return " ".join(["rmap", *self.on_frame(page.frame)]) if page else "refused 10"
 
     def do_movedup(self, place, node):
+        """Migrates the frame of a place."""
         page = self.at_place(place)
         if int(node) >= NODES:
             return "refused 11"
@@ -154,6 +166,7 @@ class Linux:
     # The scan and the knobs.
 
     def do_scan(self, wanted=None):
+        """Whole passes, and then a batch of the steps that are left."""
         wanted = left = int(wanted) if wanted else self.visits
         in_a_pass = sum(page.is_registered and page.is_mergeable for page in self.pages.values())
         if self.ksmd.knobs["run"] != 1:
@@ -171,6 +184,7 @@ class Linux:
         return f"scanned {wanted}"
 
     def do_set(self, name, value):
+        """Writes a knob."""
         before = len(self.shared())
         if name == "pages_to_scan":
             self.visits = int(value)
@@ -184,6 +198,7 @@ class Linux:
         return f"unmerged {before - len(self.shared())}"
 
     def do_show(self, name):
+        """Reads a knob."""
         if name == "pages_to_scan":
             return str(self.visits)
         if name == "ksm_zero_pages":
@@ -199,7 +214,9 @@ class Linux:
         return " ".join(["stat", *(f"{name}={value}" for name, value in told.items())])
 
     def do_stat(self):
+        """The counters."""
         return self.stat(0)
 
     def do_nothing(self):
+        """A line that Linux does not have."""
         return "-"

@@ -17,6 +17,7 @@ import talk  # pylint: disable=wrong-import-position
 
 CACHE = os.environ.get("KSMBOOK_CACHE") or os.path.join(
     os.environ.get("XDG_CACHE_HOME") or os.path.expanduser("~/.cache"), "ksmbook", "kernel")
+DRIVER = os.path.join(HERE, "driver")
 BOOT_SECONDS = 600
 C_FLAGS = ["-std=c11", "-D_GNU_SOURCE", "-O2", "-Wall", "-Wextra", "-static"]
 # Two nodes of 256 MB, the processor on the first of them.
@@ -78,12 +79,21 @@ def kernel(name):
     return name if os.path.isfile(name) else fetch(name)
 
 
+def driver():
+    """The size of a page and the sources of the driver, by name."""
+    texts = {}
+    for name in sorted(os.listdir(DRIVER)):
+        with open(os.path.join(DRIVER, name), encoding="ascii") as file:
+            texts[name] = file.read()
+    return 8 * talk.page_words(), texts
+
+
 def build(root):
     """Builds the driver as the program /init of a root folder."""
-    sources = os.path.join(HERE, "driver")
-    files = sorted(name for name in os.listdir(sources) if name.endswith(".c"))
-    size = f"-DCONTENT={8 * talk.page_words()}"
-    subprocess.run(["cc", *C_FLAGS, size, "-o", os.path.join(root, "init"), *files], cwd=sources, check=True)
+    size, texts = driver()
+    files = [name for name in texts if name.endswith(".c")]
+    words = ["cc", *C_FLAGS, f"-DCONTENT={size}", "-o", os.path.join(root, "init"), *files]
+    subprocess.run(words, cwd=DRIVER, check=True)
 
 
 def pack(root, path):

@@ -10,7 +10,7 @@ the two replies then differ, the difference is
   skipped-volatile  smart scan, where only `unshared` is lower, and `volatile` higher by as much
   skipped-behind    smart scan, else
 
-Of scripts that do not keep to the profile only Linux's very reply is asked: what differs there is `modelled`, or
+Of scripts that do not keep to the profile only Linux's very reply is asked: what else differs there is `modelled`, or
 `not-modelled` behind a line that the model does not have.
 """
 
@@ -88,18 +88,19 @@ def name_of(line):
     without, told = counters(line.unskipped.text), counters(line.theirs)
     more = {name: told.get(name, 0) - count for name, count in without.items() if told.get(name) != count}
     waiting = more.get("unshared", 0)
-    return "skipped-volatile" if waiting < 0 and more == {"unshared": waiting, "volatile": -waiting} else "skipped-behind"
+    is_passed_over = waiting < 0 and more == {"unshared": waiting, "volatile": -waiting}
+    return "skipped-volatile" if is_passed_over else "skipped-behind"
 
 
 def judged_by_model(line, is_profiled):
     """The same of a line of which nothing is known."""
-    if not is_profiled and not line.is_same():
-        return ("not-modelled" if line.model.text is None else "modelled"), None
-    if line.model.text is None or not is_profiled:
+    if line.model.text is None and is_profiled:
         return None, None if line.is_same() else "the model does not have this line"
-    if line.ours not in ("-", line.unskipped.ours) and line.text != "nothing":
-        return None, f"ksmbook is to reply `{line.unskipped.ours}`"
-    return None if line.is_same() else name_of(line), None
+    if line.model.text is None:
+        return None if line.is_same() else "not-modelled", None
+    if line.ours in ("-", line.unskipped.ours) or line.text == "nothing":
+        return None if line.is_same() else name_of(line), None
+    return (None, f"ksmbook is to reply `{line.unskipped.ours}`") if is_profiled else ("modelled", None)
 
 
 def judged(line, known, is_profiled):
