@@ -17,6 +17,7 @@ import talk  # pylint: disable=wrong-import-position
 
 CACHE = os.environ.get("KSMBOOK_CACHE") or os.path.join(
     os.environ.get("XDG_CACHE_HOME") or os.path.expanduser("~/.cache"), "ksmbook", "kernel")
+DRIVER = os.path.join(HERE, "driver")
 BOOT_SECONDS = 600
 C_FLAGS = ["-std=c11", "-D_GNU_SOURCE", "-O2", "-Wall", "-Wextra", "-static"]
 # Two nodes of 256 MB, the processor on the first of them.
@@ -27,8 +28,18 @@ WORDS = ("console=ttyS0 quiet panic=-1 transparent_hugepage=never numa_balancing
          "no_timer_check")  # it fails where the host is busy
 
 
+# What is needed, and the package that has it.
+PACKAGES = {"qemu-system-x86_64": "qemu-system-x86", "cpio": "cpio", "cc": "gcc", "dpkg-deb": "dpkg", "apt-get": "apt",
+            "apt-cache": "apt"}
+SECURITY = "deb http://deb.debian.org/debian-security bookworm-security main"
+
+
 class Trouble(Exception):
     """What keeps the kernel from being run, in words for who runs it."""
+
+
+class Unfinished(Trouble):
+    """A boot that did not come to its end."""
 
 
 def package_of(line):
@@ -38,7 +49,8 @@ def package_of(line):
                             check=True).stdout
     names = [found.split()[0] for found in listed.splitlines()]
     if not names:
-        raise Trouble(f"no linux-image-{line}.*-cloud-amd64 in the archives (apt-get update?)")
+        raise Trouble(f"apt knows no linux-image-{line}.*-cloud-amd64: run `apt-get update`; Debian 12 has 6.12 in its "
+                      f"security archive (`{SECURITY}` in /etc/apt/sources.list)")
     ordered = subprocess.run(["sort", "--version-sort"], input="\n".join(names), capture_output=True, text=True,
                              check=True).stdout
     return ordered.split()[-1]
@@ -62,12 +74,26 @@ def fetch(line):
     return os.path.join(boot, name)
 
 
+def kernel(name):
+    """The path of a kernel: of a line of Debian's, or as it is given."""
+    return name if os.path.isfile(name) else fetch(name)
+
+
+def driver():
+    """The size of a page and the sources of the driver, by name."""
+    texts = {}
+    for name in sorted(os.listdir(DRIVER)):
+        with open(os.path.join(DRIVER, name), encoding="ascii") as file:
+            texts[name] = file.read()
+    return 8 * talk.page_words(), texts
+
+
 def build(root):
     """Builds the driver as the program /init of a root folder."""
-    sources = os.path.join(HERE, "driver")
-    files = sorted(name for name in os.listdir(sources) if name.endswith(".c"))
-    size = f"-DCONTENT={8 * talk.page_words()}"
-    subprocess.run(["cc", *C_FLAGS, size, "-o", os.path.join(root, "init"), *files], cwd=sources, check=True)
+    size, texts = driver()
+    files = [name for name in texts if name.endswith(".c")]
+    words = ["cc", *C_FLAGS, f"-DCONTENT={size}", "-o", os.path.join(root, "init"), *files]
+    subprocess.run(words, cwd=DRIVER, check=True)
 
 
 def pack(root, path):
@@ -80,9 +106,17 @@ def pack(root, path):
 
 
 def check_tools():
-    missing = [tool for tool in ("qemu-system-x86_64", "cpio", "cc", "dpkg-deb") if not shutil.which(tool)]
+    """Tells what is missing, and the command that installs it."""
+    missing = [tool for tool in PACKAGES if not shutil.which(tool)]
+    packages = {PACKAGES[tool] for tool in missing}
+    if shutil.which("cc") and not os.path.exists(subprocess.run(
+            ["cc", "-print-file-name=libc.a"], capture_output=True, text=True, check=True).stdout.strip()):
+        missing, packages = [*missing, "libc.a"], packages | {"libc6-dev"}
+    if "cc" in missing:
+        packages |= {"libc6-dev"}
     if missing:
-        raise Trouble(f"missing: {', '.join(missing)} (packages qemu-system-x86, cpio, gcc and libc6-dev, dpkg)")
+        raise Trouble(f"missing: {', '.join(missing)}. On Debian: "
+                      f"apt-get install --no-install-recommends {' '.join(sorted(packages))}")
 
 
 def boot(kernel, scripts, folder):
@@ -105,5 +139,5 @@ def boot(kernel, scripts, folder):
     if status or not lines or lines[-1] != "end":
         with open(log, errors="replace", encoding="ascii") as file:
             tail = file.read()[-2000:]
-        raise Trouble(f"the machine did not come to its end (status {status}): {lines[-1:]}\n{tail}")
+        raise Unfinished(f"the machine did not come to its end (status {status}): {lines[-1:]}\n{tail}")
     return lines

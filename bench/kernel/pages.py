@@ -77,22 +77,28 @@ class Pages:
         self.round = Round()
 
     def tree(self, node):
+        """The tree of a node."""
         return 0 if self.across else node
 
     def key(self, page, content=None):
+        """The tree and the content by which a page is found: its own, or another one."""
         return self.tree(page.node), content or page.content
 
     def is_crowd(self, content):
+        """Tells whether more pages than the limit may have the content."""
         return content in self.crowd_contents
 
     def has_dup(self, key):
+        """Tells whether there is a dup."""
         crowd = self.crowds.get(key, Crowd())
         return bool(self.merged[key] or crowd.full or crowd.part)
 
     def is_shared(self):
+        """Tells whether there is any dup."""
         return any(self.has_dup(key) for key in {*self.merged, *self.crowds})
 
     def has_merged_zeroes(self):
+        """Tells whether pages of zeroes are merged with each other."""
         return any(pages for (_, content), pages in self.merged.items() if content == self.zeroes)
 
     def count_of(self, content):
@@ -102,12 +108,15 @@ class Pages:
         ) + self.round.went[content]
 
     def own_pages(self, guest):
+        """The pages of a guest."""
         return [page for page in self.pages.values() if page.guest == guest]
 
     def mergeable_count(self):
+        """How many pages are mergeable."""
         return sum(page.is_mergeable for page in self.pages.values())
 
     def note_leaving(self, page):
+        """A page goes from its content."""
         key = self.key(page)
         page.is_zeroed = False
         self.merged[key].discard(page)
@@ -118,6 +127,7 @@ class Pages:
             self.round.is_fresh = False
 
     def note_coming(self, page):
+        """A page comes to its content."""
         key = self.key(page)
         if self.has_dup(key) or page.content in page.had:
             self.round.is_fresh = False
@@ -127,6 +137,7 @@ class Pages:
         self.round.came[key] += 1
 
     def limit_is_set(self, value):
+        """max_page_sharing is set, where that is allowed."""
         if value >= 2 and not self.is_shared():
             self.limit = value
 
@@ -159,6 +170,7 @@ class Pages:
         self.round = Round()
 
     def settle_crowd(self, key):
+        """What the pages of a crowded content are after two passes."""
         if self.round.went[key]:
             self.crowds[key].leave(self.limit)
         self.crowds[key].come(self.round.came[key], self.limit)
