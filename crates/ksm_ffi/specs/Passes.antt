@@ -1,9 +1,10 @@
 -- What a call does to a pass, and what it answers (own).
-use Rattle.std.specs.Prelude.{◌≡◌, ℕ, ◌<◌, ◌≤◌, List, slice_index}
+use Rattle.std.specs.Prelude.{◌≡◌, ℕ, ◌<◌, ◌≤◌, List, slice_index, Option, Some, None}
 use Rattle.ksm_base.specs.declared.page.TheConstants.{PAGE_WORDS}
 use Rattle.ksm_base.specs.Values.{frames_of}
 use Rattle.frame_table.specs.declared.pass.Found.{Found}
 use Rattle.frame_table.specs.declared.pass.Found.TheVariants as found
+use Rattle.frame_table.specs.declared.pass.Why.{Why}
 use Rattle.frame_table.specs.declared.pass.Why.TheVariants as why
 use Rattle.frame_table.specs.declared.equal.FoundEqual.{FoundEqual}
 use Rattle.frame_table.specs.declared.equal.FoundEqual.TheVariants as equal
@@ -15,18 +16,28 @@ use Rattle.ksm_ffi.specs.declared.answer.Answer.TheVariants as answer
 use Rattle.ksm_ffi.specs.declared.reader.Phase.{Phase}
 use Rattle.ksm_ffi.specs.declared.reader.Phase.TheVariants.{Idle, Held, Away}
 
+-- what a pass does: it is there, or its hold is
+abbrev pub phase_of : Option PassView → Option HeldView → Phase
+phase_of (Some p) None = Idle p
+phase_of None (Some h) = Held h
+phase_of _ _ = Away
+
 -- the pass is of this table; between calls it is with nobody else
 abbrev pub IsOf : TableName → Phase → Type 0
 IsOf t (Idle p) = p.table ≡ t
 IsOf t (Held h) = h.table ≡ t
 IsOf t Away = ⊥
 
+-- what is answered where there was nothing to hold
+abbrev pub why_answer_of : Why → Answer
+why_answer_of why.Vacant = answer.Vacant
+why_answer_of why.Zero = answer.Zero
+why_answer_of why.Generation = answer.Life
+
 -- what is answered to what a lookup found, and what the pass does then
 abbrev pub found_answer : Found → Answer
 found_answer (found.Held h) = answer.Done
-found_answer (found.Gone p why.Vacant) = answer.Vacant
-found_answer (found.Gone p why.Zero) = answer.Zero
-found_answer (found.Gone p why.Generation) = answer.Life
+found_answer (found.Gone p w) = why_answer_of w
 found_answer (found.Busy p) = answer.Busy
 
 abbrev pub found_phase : Found → Phase
@@ -37,9 +48,7 @@ found_phase (found.Busy p) = Idle p
 abbrev pub equal_answer : FoundEqual → Answer
 equal_answer (equal.Held h) = answer.Done
 equal_answer (equal.Differs h) = answer.Differs
-equal_answer (equal.Gone p why.Vacant) = answer.Vacant
-equal_answer (equal.Gone p why.Zero) = answer.Zero
-equal_answer (equal.Gone p why.Generation) = answer.Life
+equal_answer (equal.Gone p w) = why_answer_of w
 equal_answer (equal.Busy p) = answer.Busy
 
 abbrev pub equal_phase : FoundEqual → Phase
@@ -100,9 +109,13 @@ Tells (Held v) a place frame life = (a ≡ answer.Done) × (place ≡ v.place) �
 Tells (Idle v) a place frame life = a ≡ answer.Idle
 Tells Away a place frame life = Unit {0}
 
+-- each word of the page is read, and then the reference is given back
+abbrev pub ReadsThenLeaves : HeldView → List ℕ → PassView → Type 0
+ReadsThenLeaves v words p = (w : HeldView) × ReadsPage v words w × Leaves w p
+
 -- what was found is read and left; where nothing was, the pass holds nothing
 abbrev pub ReadsAndLeaves : Found → List ℕ → Phase → Type 0
-ReadsAndLeaves (found.Held v) words after = (w : HeldView) × (p : PassView) × ReadsPage v words w × Leaves w p × (after ≡ Idle p)
+ReadsAndLeaves (found.Held v) words after = (p : PassView) × ReadsThenLeaves v words p × (after ≡ Idle p)
 ReadsAndLeaves (found.Gone p w) words after = after ≡ Idle p
 ReadsAndLeaves (found.Busy p) words after = after ≡ Idle p
 

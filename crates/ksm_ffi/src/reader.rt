@@ -1,94 +1,60 @@
 //! A pass with its table. Each call gives the pass to the table's crate, and takes back what comes of it.
-ghost use Rattle.std.specs.Prelude.{◌≡◌, ◌↔◌, IsTrue};
+ghost use Rattle.std.specs.Prelude.{◌≡◌, ◌↔◌, IsTrue, Some, None};
 ghost use Rattle.ksm_ffi.specs.declared.reader.Phase.TheVariants.{Idle};
-ghost use Rattle.ksm_ffi.specs.Passes.{Finds, FindsEqual, GoesIdle, IsIdle, IsOf, LooksUpAll, Reads, ReadsAll, ReadsPage, Tells};
+ghost use Rattle.ksm_ffi.specs.Passes.{Finds, FindsEqual, GoesIdle, IsIdle, LooksUpAll, Reads, ReadsAll, ReadsPage, ReadsThenLeaves, Tells, why_answer_of};
 
 use crate::answer::Answer;
 use frame_table::{Found, FoundEqual, FrameTable, Held, Pass, Why};
 use ksm_base::{PAGE_WORDS, PageBytes};
 use std::marker::Model;
-use std::mem::{ManuallyDrop, replace};
+use std::mem::ManuallyDrop;
 use std::sync::Arc;
 
-/// What a pass does.
+/// What a pass does. Contracts speak of it; no value of it is made.
 pub enum Phase {
     /// It holds nothing.
     Idle(Pass),
     /// It holds a frame.
     Held(Held),
-    /// A call has it. Between calls no pass is away.
+    /// It is with a call.
     Away,
 }
 
-/// A pass, the table that it looks up, and that table's number.
+/// A pass, the table that it looks up, and that table's number. Between calls either the pass is there or its hold.
 pub struct Reader {
     table: Arc<FrameTable>,
     number: u64,
-    phase: Phase,
+    pass: Option<Pass>,
+    held: Option<Held>,
 }
 
 impl Model for Reader {
-    ghost use Rattle.std.specs.Prelude.{◌≡◌};
     ghost use Rattle.ksm_ffi.specs.declared.reader.Phase.{Phase};
-    ghost use Rattle.ksm_ffi.specs.Passes.{IsOf};
+    ghost use Rattle.ksm_ffi.specs.Passes.{IsOf, phase_of};
 
     ghost Value = { Phase };
 
-    ghost view = { λ r. r.phase };
+    ghost view = { λ r. phase_of r.pass r.held };
 
-    ghost invariant = { λ r. IsOf r.table.value r.phase };
+    ghost invariant = { λ r. IsOf r.table.value (phase_of r.pass r.held) };
 }
 
-
-// The reference was taken or not: what a lookup found, as a phase.
-fn find_in(table: &FrameTable, phase: Phase, place: u32) -> (Answer, Phase)
-    requires own { IsOf table.now phase }
-    ensures found { Finds phase place result.0 result.1 }
-    ensures own { IsOf table.now result.1 }
+// Puts the pass back where it was taken from.
+fn rest(slot: &mut Option<Pass>, pass: Pass)
+    requires { slot.old ≡ None }
+    ensures { slot.new ≡ Some pass }
 {
-    let pass = match phase {
-        Phase::Idle(pass) => pass,
-        Phase::Held(held) => return (Answer::Holding, Phase::Held(held)),
-        Phase::Away => unreachable!(),
-    };
-    if place >= table.places() {
-        return (Answer::Range, Phase::Idle(pass));
-    }
-    match pass.find(table, place) {
-        Found::Held(held) => (Answer::Done, Phase::Held(held)),
-        Found::Gone(pass, Why::Vacant) => (Answer::Vacant, Phase::Idle(pass)),
-        Found::Gone(pass, Why::Zero) => (Answer::Zero, Phase::Idle(pass)),
-        Found::Gone(pass, Why::Generation) => (Answer::Life, Phase::Idle(pass)),
-        Found::Busy(pass) => (Answer::Busy, Phase::Idle(pass)),
-    }
+    let gone = slot.replace(pass);
+    let None = gone else { unreachable!() };
 }
 
-fn find_equal_in(
-    table: &FrameTable,
-    phase: Phase,
-    place: u32,
-    page: &PageBytes,
-) -> (Answer, Phase)
-    requires own { IsOf table.now phase }
-    ensures found { FindsEqual phase place page.now result.0 result.1 }
-    ensures own { IsOf table.now result.1 }
+// Keeps a hold.
+fn keep(slot: &mut Option<Held>, held: Held)
+    requires { slot.old ≡ None }
+    ensures { slot.new ≡ Some held }
 {
-    let pass = match phase {
-        Phase::Idle(pass) => pass,
-        Phase::Held(held) => return (Answer::Holding, Phase::Held(held)),
-        Phase::Away => unreachable!(),
-    };
-    if place >= table.places() {
-        return (Answer::Range, Phase::Idle(pass));
-    }
-    match pass.find_equal(table, place, page) {
-        FoundEqual::Held(held) => (Answer::Done, Phase::Held(held)),
-        FoundEqual::Differs(held) => (Answer::Differs, Phase::Held(held)),
-        FoundEqual::Gone(pass, Why::Vacant) => (Answer::Vacant, Phase::Idle(pass)),
-        FoundEqual::Gone(pass, Why::Zero) => (Answer::Zero, Phase::Idle(pass)),
-        FoundEqual::Gone(pass, Why::Generation) => (Answer::Life, Phase::Idle(pass)),
-        FoundEqual::Busy(pass) => (Answer::Busy, Phase::Idle(pass)),
-    }
+    let gone = slot.replace(held);
+    let None = gone else { unreachable!() };
 }
 
 // Every word of the page.
@@ -103,49 +69,118 @@ fn read_all(table: &FrameTable, held: &mut Held) -> PageBytes
     words
 }
 
-fn leave_in(table: &FrameTable, phase: Phase) -> (Answer, Phase)
-    requires own { IsOf table.now phase }
-    ensures left { GoesIdle phase result.0 result.1 }
-    ensures own { IsOf table.now result.1 }
+// Every word of the page, and the reference is given back.
+fn read_and_leave(table: &FrameTable, held: Held, words: &mut PageBytes) -> Pass
+    requires own { held.table ≡ table.now }
+    ensures read { ReadsThenLeaves held words.new result }
+    ensures own { result.table ≡ table.now }
 {
-    match phase {
-        Phase::Held(held) => (Answer::Done, Phase::Idle(held.leave(table))),
-        Phase::Idle(pass) => (Answer::Idle, Phase::Idle(pass)),
-        Phase::Away => unreachable!(),
-    }
+    let mut held = held;
+    *words = read_all(table, &mut held);
+    held.leave(table)
 }
 
-// A whole lookup: the words of the frame, which is not held any more.
-fn look_up_in(
-    table: &FrameTable,
-    phase: Phase,
-    place: u32,
-    words: &mut PageBytes,
-) -> (Answer, Phase)
-    requires own { IsOf table.now phase }
-    ensures looked { LooksUpAll phase place result.0 words.new result.1 }
-    ensures own { IsOf table.now result.1 }
-{
-    let pass = match phase {
-        Phase::Idle(pass) => pass,
-        Phase::Held(held) => return (Answer::Holding, Phase::Held(held)),
-        Phase::Away => unreachable!(),
-    };
-    if place >= table.places() {
-        return (Answer::Range, Phase::Idle(pass));
-    }
-    match pass.find(table, place) {
-        Found::Held(mut held) => {
-            *words = read_all(table, &mut held);
-            (Answer::Done, Phase::Idle(held.leave(table)))
+// Lookups.
+impl Reader {
+    /// Looks a place up.
+    pub fn find(&mut self, place: u32) -> Answer
+        ensures { Finds self.old place result self.new }
+    {
+        let Some(pass) = self.pass.take() else {
+            return Answer::Holding;
+        };
+        if place >= self.table.places() {
+            rest(&mut self.pass, pass);
+            return Answer::Range;
         }
-        Found::Gone(pass, Why::Vacant) => (Answer::Vacant, Phase::Idle(pass)),
-        Found::Gone(pass, Why::Zero) => (Answer::Zero, Phase::Idle(pass)),
-        Found::Gone(pass, Why::Generation) => (Answer::Life, Phase::Idle(pass)),
-        Found::Busy(pass) => (Answer::Busy, Phase::Idle(pass)),
+        match pass.find(&self.table, place) {
+            Found::Held(held) => {
+                keep(&mut self.held, held);
+                Answer::Done
+            }
+            Found::Gone(pass, why) => {
+                rest(&mut self.pass, pass);
+                why_answer(why)
+            }
+            Found::Busy(pass) => {
+                rest(&mut self.pass, pass);
+                Answer::Busy
+            }
+        }
+    }
+
+    /// Looks a place up, and compares the frame's words with a page.
+    pub fn find_equal(&mut self, place: u32, page: &PageBytes) -> Answer
+        ensures { FindsEqual self.old place page.now result self.new }
+    {
+        let Some(pass) = self.pass.take() else {
+            return Answer::Holding;
+        };
+        if place >= self.table.places() {
+            rest(&mut self.pass, pass);
+            return Answer::Range;
+        }
+        match pass.find_equal(&self.table, place, page) {
+            FoundEqual::Held(held) => {
+                keep(&mut self.held, held);
+                Answer::Done
+            }
+            FoundEqual::Differs(held) => {
+                keep(&mut self.held, held);
+                Answer::Differs
+            }
+            FoundEqual::Gone(pass, why) => {
+                rest(&mut self.pass, pass);
+                why_answer(why)
+            }
+            FoundEqual::Busy(pass) => {
+                rest(&mut self.pass, pass);
+                Answer::Busy
+            }
+        }
+    }
+
+    /// Looks a place up, loads every word of the frame that it names, and gives the reference back.
+    pub fn look_up(&mut self, place: u32, words: &mut PageBytes) -> Answer
+        ensures { LooksUpAll self.old place result words.new self.new }
+    {
+        let Some(pass) = self.pass.take() else {
+            return Answer::Holding;
+        };
+        if place >= self.table.places() {
+            rest(&mut self.pass, pass);
+            return Answer::Range;
+        }
+        match pass.find(&self.table, place) {
+            Found::Held(held) => {
+                let pass = read_and_leave(&self.table, held, words);
+                rest(&mut self.pass, pass);
+                Answer::Done
+            }
+            Found::Gone(pass, why) => {
+                rest(&mut self.pass, pass);
+                why_answer(why)
+            }
+            Found::Busy(pass) => {
+                rest(&mut self.pass, pass);
+                Answer::Busy
+            }
+        }
     }
 }
 
+// The answer where there was nothing to hold.
+fn why_answer(why: Why) -> Answer
+    ensures { result ≡ why_answer_of why }
+{
+    match why {
+        Why::Vacant => Answer::Vacant,
+        Why::Zero => Answer::Zero,
+        Why::Generation => Answer::Life,
+    }
+}
+
+// Holds, and what becomes of a pass.
 impl Reader {
     /// A pass of this table, which has this number.
     pub fn new(table: Arc<FrameTable>, number: u64, pass: Pass) -> Reader
@@ -155,7 +190,8 @@ impl Reader {
         Reader {
             table,
             number,
-            phase: Phase::Idle(pass),
+            pass: Some(pass),
+            held: None,
         }
     }
 
@@ -168,93 +204,39 @@ impl Reader {
     pub fn is_idle(&self) -> bool
         ensures { IsTrue result ↔ IsIdle self.now }
     {
-        match &self.phase {
-            Phase::Idle(_) => true,
-            Phase::Held(_) => false,
-            Phase::Away => false,
-        }
-    }
-
-    /// Looks a place up.
-    pub fn find(&mut self, place: u32) -> Answer
-        ensures { Finds self.old place result self.new }
-    {
-        let phase = replace(&mut self.phase, Phase::Away);
-        let (answer, phase) = find_in(&self.table, phase, place);
-        let away = replace(&mut self.phase, phase);
-        let Phase::Away = away else { unreachable!() };
-        answer
-    }
-
-    /// Looks a place up, and compares the frame's words with a page.
-    pub fn find_equal(&mut self, place: u32, page: &PageBytes) -> Answer
-        ensures { FindsEqual self.old place page.now result self.new }
-    {
-        let phase = replace(&mut self.phase, Phase::Away);
-        let (answer, phase) = find_equal_in(&self.table, phase, place, page);
-        let away = replace(&mut self.phase, phase);
-        let Phase::Away = away else { unreachable!() };
-        answer
-    }
-
-    /// Looks a place up, loads every word of the frame that it names, and gives the reference back.
-    pub fn look_up(&mut self, place: u32, words: &mut PageBytes) -> Answer
-        ensures { LooksUpAll self.old place result words.new self.new }
-    {
-        let phase = replace(&mut self.phase, Phase::Away);
-        let (answer, phase) = look_up_in(&self.table, phase, place, words);
-        let away = replace(&mut self.phase, phase);
-        let Phase::Away = away else { unreachable!() };
-        answer
+        self.pass.is_some()
     }
 
     /// Loads the word `i` of the frame that is held, to `word`.
     pub fn word(&mut self, i: usize, word: &mut u64) -> Answer
         ensures { Reads self.old i result word.new self.new }
     {
-        match &mut self.phase {
-            Phase::Held(held) => {
-                if i >= PAGE_WORDS {
-                    return Answer::Range;
-                }
-                *word = held.word(&self.table, i);
-                Answer::Done
-            }
-            Phase::Idle(_) => Answer::Idle,
-            Phase::Away => unreachable!(),
+        let Some(held) = &mut self.held else {
+            return Answer::Idle;
+        };
+        if i >= PAGE_WORDS {
+            return Answer::Range;
         }
+        *word = held.word(&self.table, i);
+        Answer::Done
     }
 
     /// Loads every word of the frame that is held, to `words`.
     pub fn words(&mut self, words: &mut PageBytes) -> Answer
         ensures { ReadsAll self.old result words.new self.new }
     {
-        match &mut self.phase {
-            Phase::Held(held) => {
-                *words = read_all(&self.table, held);
-                Answer::Done
-            }
-            Phase::Idle(_) => Answer::Idle,
-            Phase::Away => unreachable!(),
-        }
-    }
-
-    /// Gives the reference back.
-    pub fn leave(&mut self) -> Answer
-        ensures { GoesIdle self.old result self.new }
-    {
-        let phase = replace(&mut self.phase, Phase::Away);
-        let (answer, phase) = leave_in(&self.table, phase);
-        let away = replace(&mut self.phase, phase);
-        let Phase::Away = away else { unreachable!() };
-        answer
+        let Some(held) = &mut self.held else {
+            return Answer::Idle;
+        };
+        *words = read_all(&self.table, held);
+        Answer::Done
     }
 
     /// Tells where the frame that is held was found: its place, its frame and its life.
     pub fn held(&self, place: &mut u32, frame: &mut u32, life: &mut u64) -> Answer
         ensures { Tells self.now result place.new frame.new life.new }
     {
-        let Phase::Held(held) = &self.phase else {
+        let Some(held) = &self.held else {
             return Answer::Idle;
         };
         *place = held.place();
@@ -263,14 +245,26 @@ impl Reader {
         Answer::Done
     }
 
+    /// Gives the reference back.
+    pub fn leave(&mut self) -> Answer
+        ensures { GoesIdle self.old result self.new }
+    {
+        let Some(held) = self.held.take() else {
+            return Answer::Idle;
+        };
+        rest(&mut self.pass, held.leave(&self.table));
+        Answer::Done
+    }
+
     /// Lets the pass go for good, and its part of the table.
     pub fn retire(self) {
         let Reader {
             table,
             number: _,
-            phase,
+            pass,
+            held,
         } = self;
         drop(table);
-        let _kept_for_good = unsafe { ManuallyDrop::new_unchecked(phase) };
+        let _kept_for_good = unsafe { ManuallyDrop::new_unchecked((pass, held)) };
     }
 }

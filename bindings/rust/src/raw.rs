@@ -1,0 +1,77 @@
+//! The calls of the archive, each with its number. All that is `unsafe` is here.
+//!
+//! A safe function here meets what `bindings/ksmbook.h` asks: a handle is made closed, is never copied, and is changed by these calls alone;
+//! `&mut` shows that it is in one call at a time; each other pointer is of a reference.
+
+use std::ffi::c_void;
+use std::ptr::null_mut;
+
+pub const DONE: u32 = 0;
+pub const VACANT: u32 = 1;
+pub const ZERO: u32 = 2;
+pub const LIFE: u32 = 3;
+pub const BUSY: u32 = 4;
+pub const DIFFERS: u32 = 5;
+pub const USED: u32 = 6;
+pub const SHAPE: u32 = 13;
+pub const MEMORY: u32 = 14;
+pub const RANGE: u32 = 15;
+pub const STATE: u32 = 16;
+pub const HOLDING: u32 = 17;
+pub const NO_PASS: u32 = 19;
+pub const PASSES_OUT: u32 = 20;
+pub const OTHER: u32 = 21;
+
+/// A handle of the archive.
+#[repr(C)]
+pub struct Handle {
+    at: *mut c_void,
+}
+
+impl Handle {
+    /// One that is not open.
+    pub const NONE: Handle = Handle { at: null_mut() };
+}
+
+// SAFETY: the archive's handle is proved to be one that may go to another thread.
+unsafe impl Send for Handle {}
+
+macro_rules! calls {
+    ($($safe:ident = $name:ident($($parameter:ident: $type:ty),*);)*) => {
+        unsafe extern "C" {
+            $(fn $name($($parameter: $type),*) -> u32;)*
+        }
+
+        $(
+            pub fn $safe($($parameter: $type),*) -> u32 {
+                // SAFETY: the head of this file.
+                unsafe { $name($($parameter),*) }
+            }
+        )*
+    };
+}
+
+calls! {
+    table_open = ksm_table_open(table: &mut Handle, number: u64, nodes: u32, frames_per_node: u32, passes: u32, last_generation: u64, tries: u32);
+    table_close = ksm_table_close(table: &mut Handle);
+    pass_open = ksm_pass_open(table: &mut Handle, pass: &mut Handle);
+    pass_close = ksm_pass_close(table: &mut Handle, pass: &mut Handle);
+    raise = ksm_raise(table: &mut Handle, frame: u32);
+    put = ksm_put(table: &mut Handle, frame: u32, i: usize, word: u64);
+    open_frame = ksm_open_frame(table: &mut Handle, frame: u32);
+    publish = ksm_publish(table: &mut Handle, place: u32, frame: u32);
+    withdraw = ksm_withdraw(table: &mut Handle, place: u32);
+    add = ksm_add(table: &mut Handle, frame: u32);
+    sub = ksm_sub(table: &mut Handle, frame: u32);
+    freeze = ksm_freeze(table: &mut Handle, frame: u32);
+    reap = ksm_reap(table: &mut Handle, frame: u32);
+    load = ksm_load(table: &mut Handle, frame: u32, i: usize, word: &mut u64);
+    frame = ksm_frame(table: &mut Handle, frame: u32, kind: &mut u32, references: &mut u64, life: &mut u64);
+    find = ksm_find(pass: &mut Handle, place: u32);
+    find_equal = ksm_find_equal(pass: &mut Handle, place: u32, page: &[u64; 8]);
+    look_up = ksm_look_up(pass: &mut Handle, place: u32, words: &mut [u64; 8]);
+    word = ksm_word(pass: &mut Handle, i: usize, word: &mut u64);
+    words = ksm_words(pass: &mut Handle, words: &mut [u64; 8]);
+    held = ksm_held(pass: &mut Handle, place: &mut u32, frame: &mut u32, life: &mut u64);
+    leave = ksm_leave(pass: &mut Handle);
+}
