@@ -151,25 +151,31 @@ fn nothing_is_said_of_memory(rt: HostRuntime) {
 
 const FOUR: &str = "ksmbook --nodes 1 --frames 4";
 
-/// Each end of a script. Where the output fails, it has what it took before that, and nothing more is sent.
+/// Each end of a script. Where the output fails, it has what it took before that, nothing more is sent, and nothing is said.
 #[test]
 fn each_end_has_its_status(rt: HostRuntime) -> Result<(), Fail> {
     let cases = [
-        ("", "", Status::Done),
-        ("reg 0 0 0 aa\n\nget 1 0", "ok\nrefused 2\n", Status::Done),
+        ("", "", Status::Done, ""),
+        (
+            "reg 0 0 0 aa\n\nget 1 0",
+            "ok\nrefused 2\n",
+            Status::Done,
+            "",
+        ),
         (
             "reg 0 0 0 aa\nfoo\nget 1 0\n",
             "ok\nbad line 2\n",
             Status::NotUnderstood,
+            "line 2, column 1: no line begins with this word: foo\n",
         ),
     ];
-    for (script, wanted, end) in cases {
+    for (script, wanted, end, why) in cases {
         for room in 0..=wanted.len() {
             let run = ended(&rt, rt.alloc(), FOUR, script, Some(room));
-            let status = if room == wanted.len() {
-                end
+            let (status, said) = if room == wanted.len() {
+                (end, why)
             } else {
-                Status::Broken
+                (Status::Broken, "")
             };
             assert_eq!(rt; run.0, status, "{script:?} {room}");
             assert_eq!(rt;
@@ -177,7 +183,7 @@ fn each_end_has_its_status(rt: HostRuntime) -> Result<(), Fail> {
                 &wanted.as_bytes()[..room],
                 "{script:?} {room}"
             );
-            assert_eq!(rt; run.2.as_str(), "");
+            assert_eq!(rt; run.2.as_str(), said, "{script:?} {room}");
         }
     }
     Ok(())
