@@ -1,4 +1,4 @@
-use Rattle.ksm_lines.proofs.Numbers.{IsReadTo}
+use Rattle.ksm_lines.specs.Digits.{IsReadTo}
 use Rattle.ksm_causes.proofs.word.value_of.Given as goal
 
 abbrev pub invariant-loop-byte : goal.invariant-loop-byte
