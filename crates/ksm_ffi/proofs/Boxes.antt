@@ -5,7 +5,7 @@ use mathlib.Core.Bool.{true, ◌&&◌}
 use seplogic.Ra.Ura.{Ura}
 use mir.Syntax.{impl, tnil, dnil, w64}
 use mir.Raw.{raw as bare}
-use mir.Val.{Val, vptr, vint, vstruct, vcons, vnil, of_list, has_ty, WT}
+use mir.Val.{Val, vint, vstruct, of_list, has_ty, WT}
 use base.Logic.{SProp, ent, via, snd∗, guard, guard_i}
 use types.Logic.{Logic, sem}
 use types.Kit.{Item, Goal, Seq, Step, step, ‵, given, ◌$◌, move, drop, fsplit, fjoin, fpick, fpack, feq_i, feq_l, use1, learn}

@@ -27,7 +27,12 @@ pub extern "C" fn ksm_find(alloc: Global, pass: &mut Handle, place: u32) -> u32
 
 /// Looks a place up, holds the frame that it names, and compares its words with a page.
 #[unsafe(no_mangle)]
-pub extern "C" fn ksm_find_equal(alloc: Global, pass: &mut Handle, place: u32, page: &PageBytes) -> u32
+pub extern "C" fn ksm_find_equal(
+    alloc: Global,
+    pass: &mut Handle,
+    place: u32,
+    page: &PageBytes,
+) -> u32
     ensures { OnPass (λ v a w. FindsEqual v place page.now a w) pass.old.thing result pass.new.thing }
 {
     let Some(mut thing) = pass.take(alloc) else {
@@ -43,7 +48,12 @@ pub extern "C" fn ksm_find_equal(alloc: Global, pass: &mut Handle, place: u32, p
 
 /// Looks a place up, loads every word of the frame that it names, and gives the frame back: three calls in one.
 #[unsafe(no_mangle)]
-pub extern "C" fn ksm_look_up(alloc: Global, pass: &mut Handle, place: u32, words: &mut PageBytes) -> u32
+pub extern "C" fn ksm_look_up(
+    alloc: Global,
+    pass: &mut Handle,
+    place: u32,
+    words: &mut PageBytes,
+) -> u32
     ensures { OnPass (λ v a w. LooksUpAll v place a words.new w) pass.old.thing result pass.new.thing }
 {
     let Some(mut thing) = pass.take(alloc) else {
@@ -91,7 +101,13 @@ pub extern "C" fn ksm_words(alloc: Global, pass: &mut Handle, words: &mut PageBy
 
 /// Tells the place, the frame and the life that are held.
 #[unsafe(no_mangle)]
-pub extern "C" fn ksm_held(alloc: Global, pass: &mut Handle, place: &mut u32, frame: &mut u32, life: &mut u64) -> u32
+pub extern "C" fn ksm_held(
+    alloc: Global,
+    pass: &mut Handle,
+    place: &mut u32,
+    frame: &mut u32,
+    life: &mut u64,
+) -> u32
     ensures { OnPass (λ v a w. TellsHold v a place.new frame.new life.new w) pass.old.thing result pass.new.thing }
 {
     let Some(mut thing) = pass.take(alloc) else {

@@ -316,7 +316,13 @@ pub extern "C" fn ksm_reap(alloc: Global, table: &mut Handle, frame: u32) -> u32
 
 /// Loads a word of a frame that is Private, Stable or Dying.
 #[unsafe(no_mangle)]
-pub extern "C" fn ksm_load(alloc: Global, table: &mut Handle, frame: u32, i: usize, word: &mut u64) -> u32
+pub extern "C" fn ksm_load(
+    alloc: Global,
+    table: &mut Handle,
+    frame: u32,
+    i: usize,
+    word: &mut u64,
+) -> u32
     ensures { OnTable (λ v a w. KeepsWord v frame i a word.new w) table.old.thing result table.new.thing }
 {
     let Some(mut thing) = table.take(alloc) else {
@@ -332,7 +338,14 @@ pub extern "C" fn ksm_load(alloc: Global, table: &mut Handle, frame: u32, i: usi
 
 /// Tells what the keeper uses a frame for, how many references are its own, and the frame's life.
 #[unsafe(no_mangle)]
-pub extern "C" fn ksm_frame(alloc: Global, table: &mut Handle, frame: u32, kind: &mut u32, references: &mut u64, life: &mut u64) -> u32
+pub extern "C" fn ksm_frame(
+    alloc: Global,
+    table: &mut Handle,
+    frame: u32,
+    kind: &mut u32,
+    references: &mut u64,
+    life: &mut u64,
+) -> u32
     ensures { OnTable (λ v a w. TellsOf v frame a kind.new references.new life.new w) table.old.thing result table.new.thing }
 {
     let Some(mut thing) = table.take(alloc) else {

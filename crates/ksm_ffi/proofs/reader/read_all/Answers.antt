@@ -1,4 +1,4 @@
-use Rattle.std.proofs.Common.{refl, ap, ◌∙◌, sym, arith, rules}
+use Rattle.std.proofs.Common.{refl, ap, ◌∙◌, arith, rules}
 use Rattle.frame_table.proofs.Compared.{same_hold, reads_more}
 use Rattle.ksm_ffi.proofs.Read.{one_more_read}
 use Rattle.ksm_ffi.proofs.reader.read_all.Goals as goal

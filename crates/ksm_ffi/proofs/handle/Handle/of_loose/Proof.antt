@@ -1,33 +1,25 @@
 -- `of_loose` moves two fields, and the box with them.
-use Rattle.std.proofs.Common.{◌≡◌, List, [], ◌∷◌, ◌++◌, refl, sym, subst, lit<}
-use mir.Syntax.{w64}
-use mir.Val.{Val, vint, vptr, vcons, vnil}
+use Rattle.std.proofs.Common.{List, [], ◌∷◌, ◌++◌, refl, sym, subst}
+use mir.Val.{Val, vptr}
 use base.Logic.{SProp, ent, emp, id⊢}
 use base.Fml.{ftrue}
 use prog.Wp.{WpFn}
-use types.Kit.{Item, ‵, raw, at_ret, ◌⊛◌, ◌$◌, ◌∵◌, !, qed, by, move, keep, drop, split, join, fsplit, fjoin, suffices, use0, use1, done}
-use types.Run.{lit, of_opd, bin, stop, fld, no_more, and_then, first, branches, exec, returns, enter}
-use types.ByLocal.{alloc_all, pass_all, free_all, look_at, get, get_in, sets, sets_last, env}
+use types.Kit.{‵, raw, ◌⊛◌, ◌$◌, ◌∵◌, !, qed, keep, drop, split, join, fsplit, fjoin, suffices, done}
+use types.Run.{of_opd, stop, fld, no_more, and_then, returns, enter}
+use types.ByLocal.{alloc_all, pass_all, free_all, look_at, get, get_in, sets}
 use types.Part.{agg, sub, whole}
-use types.Match.{live}
 use contract.Running.{tables}
-use denote.Exit.{yes, no}
+use denote.Exit.{yes}
 use denote.RattleType.{RattleType, owns}
-use denote.RawPtr.{Ptr, block_ptr, null_ptr, ptr_val, tests_null}
-use denote.Signature.{types_at, type_at, plain}
+use denote.RawPtr.{block_ptr}
+use denote.Signature.{type_at, plain}
 use denote.Steps.{nothing}
-use denote.Triple.Entry.{alive}
 use denote.Triple.Walked.{says, Stays, stay_dropped, walk_of, Goes-dropped, ends_at}
-use Rattle.core.proofs.alloc.Calls.{handle_tells}
-use Rattle.core.proofs.alloc.Shapes.{after}
-use Rattle.core.proofs.cell.Inside.{Good}
-use Rattle.core.proofs.option.Made.{Some-of, none_of}
 use Rattle.std.proofs.raw_atomic.Walks.{proved_at}
-use Rattle.std.specs.declared.option.Option.TheVariants.{None, Some}
+use Rattle.std.specs.declared.option.Option.TheVariants.{Some}
 use Rattle.std.specs.contracts.impls.GlobalAllocator.TheImpl.{ghosts}
-use Rattle.std_alloc.proofs.ResultValues.{and_tt}
-use Rattle.ksm_ffi.proofs.Values.{both, Loose, loose_good, loose_in, loose_out}
-use Rattle.ksm_ffi.proofs.Boxes.{Z, LZ, al, null_good, either_owned, handle_in, handle_out}
+use Rattle.ksm_ffi.proofs.Values.{both, Loose, loose_good, loose_out}
+use Rattle.ksm_ffi.proofs.Boxes.{Z, LZ, handle_in}
 use Rattle.ksm_ffi.specs.contracts.thing.Thing.{the_row as R}
 use Rattle.ksm_ffi.specs.contracts.handle.Handle.{the_row as Hr}
 use Rattle.ksm_ffi.specs.contracts.handle.Handle.of_loose as f

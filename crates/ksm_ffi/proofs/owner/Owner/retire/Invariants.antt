@@ -1,4 +1,3 @@
-use Rattle.std.proofs.Common.{ℕ}
 use Rattle.ksm_ffi.proofs.owner.Owner.retire.Given as goal
 
 abbrev pub decreases-passes : goal.decreases-passes
