@@ -1,8 +1,8 @@
 """What ksmd does, as mm/ksm.c of Linux 6.1 and 6.12 has it: each visit to a page, in order.
 
 Each method names the function of mm/ksm.c that it follows. Not here: swap, huge pages, forks and pages that are held
-from outside. Where a script comes to a dup on another node than its tree's (`migrate_nodes`), or would merge a page
-whose frame came since the pass began (it may still lie in a CPU's list, and then can't be merged), Unknown is raised.
+from outside. Where a script would merge a page whose frame came since the pass began (it may still lie in a CPU's list,
+and then can't be merged), Unknown is raised; also where one of two pages that make a dup is merged already.
 """
 
 import dataclasses
@@ -82,13 +82,15 @@ class Item:
 
 @dataclasses.dataclass(eq=False)
 class Dup:
-    """struct ksm_stable_node: a frame and its items. It is linked in a chain, or else in the tree of a memory node."""
+    """struct ksm_stable_node: a frame and its items. It is linked in a chain, or else in the tree of a memory node, or
+    else listed as one that migrates from tree to tree."""
     frame: Frame
     content: str
     tree: int
     items: list = dataclasses.field(default_factory=list)
     chain: "Chain | None" = None
     node: Node | None = None
+    migrates: bool = False
 
 
 @dataclasses.dataclass(eq=False)
@@ -112,7 +114,7 @@ class Ksmd:
         self.knobs = {"run": 0, "merge_across_nodes": 1, "max_page_sharing": 256, "use_zero_pages": 0,
                       "smart_scan": 0, "stable_node_chains_prune_millisecs": 0}
         self.stable, self.unstable = [Tree(), Tree()], [Tree(), Tree()]
-        self.passes, self.chains = 0, []
+        self.passes, self.chains, self.migrating = 0, [], []
         self.steps = None
 
     # The stable tree.
@@ -132,11 +134,24 @@ class Ksmd:
         for item in dup.items:
             item.dup = None
         dup.items.clear()
-        if dup.chain:
+        self.unlink(dup)
+        return False
+
+    def unlink(self, dup):
+        """stable_node_dup_del, and list_del of one that migrates"""
+        if dup.migrates:
+            self.migrating.remove(dup)
+        elif dup.chain:
             dup.chain.dups.remove(dup)
         else:
             self.stable[dup.tree].erase(dup.node)
-        return False
+        dup.migrates, dup.chain, dup.node = False, None, None
+
+    def migrate(self, dup):
+        """A dup that lies on another node than its tree's goes to the list `migrate_nodes`."""
+        self.unlink(dup)
+        dup.migrates = True
+        self.migrating.append(dup)
 
     def take_off(self, item):
         """remove_rmap_item_from_tree"""
@@ -183,35 +198,44 @@ class Ksmd:
             node = node.kids[side]
         return None, (parent, side)
 
-    def stay(self, dup):
-        """A dup that was moved to another node would go to another tree."""
-        if self.tree_of(dup.frame) != dup.tree:
-            raise Unknown("a dup on another node than its tree's")
-
     def search(self, page):
-        """stable_tree_search: a dup that has room."""
-        prunes = not self.knobs["stable_node_chains_prune_millisecs"]
-        node, dup = self.find(self.tree_of(page.frame), page.content, prunes)
-        if not node:
-            return None
-        self.stay(dup)
-        return dup if self.has_room(dup) else None
+        """stable_tree_search: a dup that has room. A page's own dup is filed where it migrates; and a dup that is found
+        on another node than its tree's leaves the tree."""
+        own, tree = page.frame.dup, self.tree_of(page.frame)
+        node, dup = self.find(tree, page.content, not self.knobs["stable_node_chains_prune_millisecs"])
+        if node and not (own and page.frame.mapped > 1):
+            if not self.has_room(dup):
+                return None
+            if self.tree_of(dup.frame) == dup.tree:
+                return dup
+            self.migrate(dup)
+            node, dup = self.find(tree, page.content, False) if own else (None, None)
+        if own:
+            self.link(own, tree, node, dup)
+        return own if own and self.has_room(own) else None
 
-    def insert(self, page):
-        """stable_tree_insert: a new dup, on the page's frame."""
-        tree = self.tree_of(page.frame)
-        dup = page.frame.dup = Dup(page.frame, page.content, tree)
-        node, place = self.find(tree, page.content, False)
+    def link(self, dup, tree, node, place):
+        """Files a dup: in a chain where its content has a node in the tree already, and else at a place of the tree."""
+        if dup.migrates:
+            self.unlink(dup)
+        dup.tree = tree
         if not node:
             dup.node = Node(dup)
             self.stable[tree].link(dup.node, *place)
-            return dup
+            return
         if isinstance(node.value, Dup):
             first, node.value = node.value, Chain(node)
             self.chains.append(node.value)
             node.value.add(first)
         node.value.add(dup)
-        return dup
+
+    def insert(self, page):
+        """stable_tree_insert: a new dup, on the page's frame."""
+        tree = self.tree_of(page.frame)
+        node, place = self.find(tree, page.content, False)
+        page.frame.dup = Dup(page.frame, page.content, tree)
+        self.link(page.frame.dup, tree, node, place)
+        return page.frame.dup
 
     # A visit.
 
@@ -242,14 +266,19 @@ class Ksmd:
 
     def meet(self, item):
         """unstable_tree_search_insert: the page waits, or makes a dup with one that waits. The tree is not in order
-        where pages were written since they came to it; and a search ends at one that is not there."""
+        where pages were written since they came to it. The search ends at a page that is not there, that has the same
+        frame, or that is equal and on another node."""
         tree, content = self.tree_of(item.page.frame), item.page.content
         parent, side, node = None, 0, self.unstable[tree].root
         while node:
             other = node.value
-            if not other.page.is_there() or other.page.content == content and self.tree_of(other.page.frame) != tree:
+            if not other.page.is_there() or other.page.frame is item.page.frame:
                 return
             if other.page.content == content:
+                if self.tree_of(other.page.frame) != tree:
+                    return
+                if other.page.is_merged() or item.page.is_merged():
+                    raise Unknown("a merged page makes a dup")
                 self.take_off(other)
                 dup = self.insert(item.page)
                 self.join(other, dup)
@@ -262,16 +291,16 @@ class Ksmd:
 
     def visit(self, item):
         """cmp_and_merge_page"""
-        if item.page.is_merged():
-            if item.dup is not item.page.frame.dup:
-                raise Unknown("a merged page whose item is not of its dup")
-            self.stay(item.dup)
-            return
-        if not self.is_61:
+        own = item.page.frame.dup
+        if own and not own.migrates and self.tree_of(own.frame) != own.tree:
+            self.migrate(own)
+        elif not own and not self.is_61:
             self.take_off(item)
             if self.has_changed(item) or self.becomes_zero(item):
                 return
-        dup = self.search(item.page)
+        dup = own if own and not own.migrates else self.search(item.page)
+        if own and dup is own and item.dup is own:
+            return
         self.take_off(item)
         if dup:
             self.join(item, dup)
@@ -308,6 +337,8 @@ class Ksmd:
             self.unstable[tree] = Tree()
         for page in (page for pages in self.guests for page in pages if page.frame):
             page.frame.is_drained = True
+        for dup in list(self.migrating) if not self.knobs["merge_across_nodes"] else []:
+            self.is_there(dup)
         for pages in self.guests:
             left_behind = []
             for page in pages:
@@ -348,7 +379,7 @@ class Ksmd:
 
     def forget_dups(self):
         """remove_all_stable_nodes, where none has an item."""
-        self.stable, self.chains = [Tree(), Tree()], []
+        self.stable, self.chains, self.migrating = [Tree(), Tree()], [], []
 
     # The files of sysfs.
 
