@@ -28,9 +28,11 @@ digits_encoded (b ∷ bytes) small =
 byte : (n : ℕ) → n % 256 < 256
 byte n = omega arith
 
+-- the encoding of a word's bytes is its digits
 pub word_encoded : (word : ℕ) → encode_lower (to_le_bytes w64 word) ≡ word_digits word
 word_encoded word = digits_encoded (to_le_bytes w64 word) (byte _, (byte _, (byte _, (byte _, (byte _, (byte _, (byte _, (byte _, tt))))))))
 
+-- what holds where a call succeeded holds of a success
 pub at_ok : {T E : Type 0} (r : Result T E) (P : Type 0) → IsOk r → OnOk r P → P
 at_ok (Ok x) P ok h = h
 at_ok (Err e) P ok h = absurd (search rules)
