@@ -41,6 +41,7 @@ is_plain_before block at fits none = λ k d lt is.
     let low : k < at = omega (arith, lt, length-take at block) in
     none k zero-le low (eq-eqb _ _ (get_or_default block k 0 d (omega arith) ∙ sym (get_or-take at block k d low) ∙ is))
 
+-- a block in which no newline was found is plain
 pub is_plain_block : (block : List ℕ) → Nowhere (Passes (is_byte 10) block) 0 (length block) → IsPlain block
 is_plain_block block none = λ k d lt is. none k zero-le lt (eq-eqb _ _ (get_or_default block k 0 d lt ∙ is))
 
@@ -50,6 +51,7 @@ up_to_end buffer n =
     let same : take (length (take n buffer)) buffer ≡ take n buffer = ap (λ k. take k buffer) (length-take n buffer) ∙ take_min n buffer in
     sym (take-append-drop (length (take n buffer)) buffer) ∙ ap (λ l. l ++ drop (length (take n buffer)) buffer) same
 
+-- two plain pieces of a line are one
 pub plain_with : (line part : List ℕ) → IsPlain line → IsPlain part → IsPlain (line ++ part)
 plain_with line part = All-append (λ byte. byte ≢ 10) line part
 

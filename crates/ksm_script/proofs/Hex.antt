@@ -39,6 +39,7 @@ byte n = let small : n % 256 < 256 = omega arith in record { fits = small }
 
 -- the bytes of a word, their halves in two vectors, and how these are woven into one
 module _ (word : ℕ) (bytes : List ℕ) (is : bytes ≡ to_le_bytes w64 word) where
+  -- each of them is a byte
   pub bytes_fit : Each1 (Fits w8) bytes
   bytes_fit = subst (Each1 (Fits w8)) (sym is) (byte _, (byte _, (byte _, (byte _, (byte _, (byte _, (byte _, (byte _, tt))))))))
 
@@ -48,9 +49,11 @@ module _ (word : ℕ) (bytes : List ℕ) (is : bytes ≡ to_le_bytes w64 word) w
   woven_is : (high low : List ℕ) → high ≡ map (λ b. b / 16) bytes → low ≡ map (λ b. b % 16) bytes → woven high low ≡ halves (to_le_bytes w64 word)
   woven_is high low h l = ap₂ woven h l ∙ ap (λ (v : List ℕ). woven (map (λ b. b / 16) v) (map (λ b. b % 16) v)) is
 
+  -- each half is the value of a digit
   pub woven_small : {high low : List ℕ} → high ≡ map (λ b. b / 16) bytes → low ≡ map (λ b. b % 16) bytes → All (λ v. v < 16) (woven high low)
   woven_small {high = high} {low = low} h l =
       subst (λ (v : List ℕ). All (λ x. x < 16) v) (sym (woven_is high low h l)) (halves_small (to_le_bytes w64 word) (subst (Each1 (Fits w8)) is bytes_fit))
 
+  -- their digits are those of the word
   pub woven_digits : {high low : List ℕ} → high ≡ map (λ b. b / 16) bytes → low ≡ map (λ b. b % 16) bytes → map (digit_glyph false) (woven high low) ≡ word_digits word
   woven_digits {high = high} {low = low} h l = ap (map (digit_glyph false)) (woven_is high low h l) ∙ halves_digits (to_le_bytes w64 word)
