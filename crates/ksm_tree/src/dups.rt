@@ -1,3 +1,5 @@
+//! All dups: they lie by their places (`slots.rt`), and are found by number and by content (`index.rt`, `groups.rt`).
+//! Every change goes through here, so that these agree.
 ghost use Rattle.std.specs.Prelude.{◌≡◌, ℕ, ◌+◌, ◌^◌, ◌<◌, ◌≤◌, [], ◌∷◌, ◌&&◌, not, true, false, None, Some, count_by, filter, find, length, is_some, option_copied, option_map, slice_get, IfErr, IfOk, OnErr, OnOk};
 ghost use Rattle.ksm_base.specs.Counting.{in_chain, leads_group};
 ghost use Rattle.ksm_base.specs.Rows.{same_page};

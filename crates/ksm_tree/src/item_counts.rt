@@ -1,3 +1,5 @@
+//! How many items stand at each place. The numbers lie apart from the items, side by side: a search for a dup to join
+//! reads no dup.
 ghost use Rattle.std.specs.Prelude.{◌≡◌, ◌==◌, ℕ, ◌<◌, ◌≤◌, IfErr, IfOk, IfSome, length, replicate, slice_set};
 ghost use Rattle.std.specs.List.{list_all};
 ghost use Rattle.ksm_tree.specs.Counts.{is_open as is_open_count, places_where};
