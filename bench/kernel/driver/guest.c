@@ -17,10 +17,13 @@
 
 #define AREA ((unsigned char *)0x100000000)
 
-enum { PAGE = 4096, BIND = 2, MOVE = 2, MOVE_ALL = 4, NODE_BITS = 64, KSM_FLAG = 21, ZERO_FLAG = 24 };
+enum {
+	PAGE = 4096, BIND = 2, MOVE = 2, MOVE_ALL = 4, NODE_BITS = 64, KSM_FLAG = 21, ZERO_FLAG = 24,
+	MERGE_ALL = 67 /* PR_SET_MEMORY_MERGE, which Linux has since 6.4 */
+};
 
 /* What a guest can be told to do, with its arguments, and what it answers. */
-enum deed { STORE, LOAD, TOUCH, DISCARD, MARK, HOLD, LOOK, LEAVE };
+enum deed { STORE, LOAD, TOUCH, DISCARD, MARK, MARK_ALL, HOLD, LOOK, LEAVE, FORK, END_FORK };
 
 struct order {
 	enum deed deed;
@@ -102,9 +105,26 @@ static void leave(int pipe_ends[2])
 	close(pipe_ends[1]);
 }
 
-static struct answer obey(const struct order *order)
+/* A copy of the process, which does nothing. */
+static int start_copy(pid_t *copy, int wire)
+{
+	*copy = fork();
+	if (*copy)
+		return *copy < 0 ? errno : 0;
+	close(wire);
+	for (;;)
+		pause();
+}
+
+static int end_copy(pid_t copy)
+{
+	return kill(copy, SIGKILL) || waitpid(copy, NULL, 0) != copy ? errno : 0;
+}
+
+static struct answer obey(const struct order *order, int wire)
 {
 	static int pipe_ends[2];
+	static pid_t copy;
 	struct answer answer = { 0 };
 	switch (order->deed) {
 	case STORE: answer.error = store(order); break;
@@ -112,9 +132,12 @@ static struct answer obey(const struct order *order)
 	case TOUCH: answer.error = touch(order); break;
 	case DISCARD: answer.error = madvise(address(order->slot), PAGE, MADV_DONTNEED) ? errno : 0; break;
 	case MARK: answer.error = mark(order); break;
+	case MARK_ALL: answer.error = prctl(MERGE_ALL, 1, 0, 0, 0) ? errno : 0; break;
 	case HOLD: answer.error = hold(order, pipe_ends); break;
 	case LOOK: answer.error = look(answer.content, pipe_ends); break;
 	case LEAVE: leave(pipe_ends); break;
+	case FORK: answer.error = start_copy(&copy, wire); break;
+	case END_FORK: answer.error = end_copy(copy); break;
 	}
 	return answer;
 }
@@ -145,7 +168,7 @@ static _Noreturn void live(size_t slots, int wire)
 	prctl(PR_SET_PDEATHSIG, SIGKILL);
 	while (write(wire, &answer, sizeof answer) == sizeof answer
 	       && read(wire, &order, sizeof order) == sizeof order)
-		answer = obey(&order);
+		answer = obey(&order, wire);
 	_exit(0);
 }
 
@@ -195,6 +218,8 @@ void guest_start(struct guest *guest)
 
 void guest_end(struct guest *guest)
 {
+	if (guest->has_copy)
+		must(guest, (struct order){ .deed = END_FORK });
 	close(guest->wire);
 	kill(guest->pid, SIGKILL);
 	waitpid(guest->pid, NULL, 0);
@@ -228,6 +253,17 @@ int guest_mark(struct guest *guest, size_t slot, size_t count, bool mergeable)
 {
 	struct order order = { .deed = MARK, .slot = slot, .count = count, .mergeable = mergeable };
 	return tell(guest, order).error;
+}
+
+int guest_mark_all(struct guest *guest)
+{
+	return tell(guest, (struct order){ .deed = MARK_ALL }).error;
+}
+
+void guest_fork(struct guest *guest)
+{
+	must(guest, (struct order){ .deed = FORK });
+	guest->has_copy = true;
 }
 
 void guest_hold(struct guest *guest, size_t slot)

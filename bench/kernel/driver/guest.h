@@ -18,6 +18,7 @@ struct guest {
 	size_t slots;
 	pid_t pid;
 	int wire;
+	bool has_copy;
 };
 
 /* Starts the process. Its area has no page yet, and is not mergeable. The process also has an empty area
@@ -41,6 +42,12 @@ void guest_discard(struct guest *guest, size_t slot);
 
 /* Makes pages mergeable or not, from a slot on. 0, or the error. */
 int guest_mark(struct guest *guest, size_t slot, size_t count, bool mergeable);
+
+/* Makes all memory of the process mergeable. 0, or the error. */
+int guest_mark_all(struct guest *guest);
+
+/* Copies the process. The copy does nothing, and ends with it. */
+void guest_fork(struct guest *guest);
 
 /* Takes a reference on a page from outside, as a reader does, until guest_leave. It is read by the reference. */
 void guest_hold(struct guest *guest, size_t slot);

@@ -1,8 +1,8 @@
 #include "ksm.h"
 
+#include <dirent.h>
 #include <errno.h>
 #include <fcntl.h>
-#include <stdio.h>
 #include <stdlib.h>
 #include <string.h>
 #include <time.h>
@@ -55,6 +55,40 @@ int ksm_write(const char *name, long value)
 	int error = dprintf(file, "%ld", value) < 0 ? errno : 0;
 	close(file);
 	return error;
+}
+
+static int is_file(const struct dirent *entry)
+{
+	return *entry->d_name != '.';
+}
+
+void ksm_files(FILE *out)
+{
+	struct dirent **entries;
+	int count = scandir(FOLDER, &entries, is_file, alphasort);
+	if (count < 0)
+		fail(FOLDER);
+	for (int i = 0; i < count; i++) {
+		fprintf(out, " %s", entries[i]->d_name);
+		free(entries[i]);
+	}
+	free(entries);
+}
+
+void ksm_process(pid_t pid, FILE *out)
+{
+	char path[64], text[256], name[64];
+	long value;
+	int length;
+	snprintf(path, sizeof path, "/proc/%d/ksm_merging_pages", pid);
+	if (read_text(path, text, sizeof text) > 0)
+		fprintf(out, " ksm_merging_pages=%ld", atol(text));
+	snprintf(path, sizeof path, "/proc/%d/ksm_stat", pid);
+	if (read_text(path, text, sizeof text) < 0)
+		return;
+	fprintf(out, " ksm_stat:");
+	for (char *at = text; sscanf(at, "%63s %ld%n", name, &value, &length) == 2; at += length)
+		fprintf(out, " %s=%ld", name, value);
 }
 
 static void find_ksmd(void)

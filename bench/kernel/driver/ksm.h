@@ -2,11 +2,18 @@
 #ifndef KSM_H
 #define KSM_H
 
+#include <stdio.h>
+#include <sys/types.h>
+
 /* A knob or counter of /sys/kernel/mm/ksm, or -1 where this kernel has none of the name. */
 long ksm_read(const char *name);
 
 /* Writes a knob. 0, or the error. */
 int ksm_write(const char *name, long value);
+
+/* Tells the files of /sys/kernel/mm/ksm, and what /proc has of KSM for a process. */
+void ksm_files(FILE *out);
+void ksm_process(pid_t pid, FILE *out);
 
 /* Finds ksmd and notes the knobs as the kernel has them. It is called once, before any call below, and tells
  * the kernel's own `pages_to_scan`, which is 0 from here on except in a batch. */

@@ -424,13 +424,51 @@ static void do_leave(char **words)
 	say("ok");
 }
 
+/* Each file of /sys/kernel/mm/ksm. */
+static void do_files(char **words)
+{
+	(void)words;
+	fprintf(out, "files");
+	ksm_files(out);
+	say("");
+}
+
+/* What the kernel tells of a guest's process. */
+static void do_process(char **words)
+{
+	struct guest *guest = guest_of(words[0]);
+	if (!guest)
+		return refuse(UNKNOWN_PAGE);
+	fprintf(out, "process");
+	ksm_process(guest->pid, out);
+	say("");
+}
+
+static void do_markall(char **words)
+{
+	struct guest *guest = guest_of(words[0]);
+	if (!guest)
+		return refuse(UNKNOWN_PAGE);
+	say_error(guest_mark_all(guest));
+}
+
+static void do_fork(char **words)
+{
+	struct guest *guest = guest_of(words[0]);
+	if (!guest || guest->has_copy)
+		return refuse(UNKNOWN_PAGE);
+	guest_fork(guest);
+	say("ok");
+}
+
 static const struct { const char *name; int words; void (*act)(char **); } forms[] = {
 	{ "reg", 5, do_reg }, { "drop", 3, do_drop }, { "put", 4, do_put }, { "get", 3, do_get },
 	{ "ticket", 3, do_ticket }, { "rmap", 2, do_rmap }, { "scan", 1, do_scan }, { "scan", 2, do_scan },
 	{ "nothing", 1, do_nothing }, { "unmerge", 2, do_unmerge }, { "mergeable", 2, do_mergeable },
 	{ "move", 4, do_move }, { "movedup", 3, do_movedup }, { "set", 3, do_set }, { "show", 2, do_show },
 	{ "stat", 1, do_stat }, { "frames", 1, do_frames }, { "hold", 3, do_hold }, { "look", 1, do_look },
-	{ "leave", 1, do_leave },
+	{ "leave", 1, do_leave }, { "files", 1, do_files }, { "process", 2, do_process },
+	{ "markall", 2, do_markall }, { "fork", 2, do_fork },
 };
 
 /* Splits a line into its words. */

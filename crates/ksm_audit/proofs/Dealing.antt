@@ -64,6 +64,7 @@ past_less deal word (u ∷ us) (suc i) v e less fits =
     let here = (fits zero u refl).few in
     let rest = past_less deal word us i v e less (λ j w d. fits (suc j) w d) in omega arith
 
+-- a number occurs in two lists as often as in both together
 pub times_append : (x : ℕ) (xs ys : List ℕ) → times x (xs ++ ys) ≡ times x xs + times x ys
 times_append x [] ys = omega arith
 times_append x (y ∷ xs) ys = let h = times_append x xs ys in omega arith
@@ -102,6 +103,7 @@ begins deal small = record { size = refl; small = small; parts = omega arith; pa
     one zero v e = subst (Fits deal 0) (some-injective _ v e) record { below = omega arith; few = omega arith; empty = λ none. refl; same = λ some. refl }
     one (suc j) v e = absurd (some-ne-none v (sym e))
 
+-- a worker that draws takes the next number, and no other has it
 pub draws : {S : Type 0} (deal : Deal) (slots id : ℕ) (v : Hand) (held : List (ℕ × S)) → v.past < v.parts
     → Allows (Dealt deal) slots id (v, held) 0 (λ n. (n + 1) % 2 ^ 64) (Draws (step slots 0 1 0 mathlib.Core.Option.none) (v, held))
 draws deal slots id v held may s h len at small =
@@ -139,6 +141,7 @@ draws deal slots id v held may s h len at small =
       (refl, mine.below, λ all x. sym (whole x deal n s.views id v at (h.parts ∙ sym (all ∙ ap (λ (d : Deal). d.workers + 1) same)) h.fits) ∙ h.each x),
     )
 
+-- the rest of a hand is split into one less and a worker's
 pub forks : {S : Type 0} (deal : Deal) (id : ℕ) (v : Hand) → 1 < v.parts → v.past < v.parts → Splits {S = S} (Dealt deal) id v (one_less v) (worker_hand v.deal)
 forks deal id v some_left less s h at =
     let a = one_less v in
@@ -160,6 +163,7 @@ still_fits : (deal : Deal) (word : ℕ) (views : List Hand) (id other : ℕ) (v 
 still_fits deal word views id other v w b all at apart there =
     ⊎_elim (λ (t : (other ≡ id) × (b ≡ w)). absurd (apart t.0)) (λ (t : (other ≢ id) × (get_elem? views other ≡ some w)). all other w t.1) (at_set views id other b w there)
 
+-- two workers' hands are put together as one
 pub merges : {S : Type 0} (deal : Deal) (id : ℕ) (v : Hand) (other : ℕ) (w : Hand) → 0 < v.parts → Joins {S = S} (Dealt deal) id v other w (both v w) spent_hand
 merges deal id v other w some_part s h at apart there =
     let a = both v w in

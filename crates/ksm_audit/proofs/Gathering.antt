@@ -67,6 +67,7 @@ lines_total_append p (x ∷ xs) ys = let h = lines_total_append p xs ys in omega
 abbrev pub AreFilled : List Job → List Row → Type 0
 AreFilled jobs rows = (p : ℕ) (row : Row) → slice_get rows p ≡ Some row → InJobs p row jobs ⊎ (lines_total p jobs ≡ 0)
 
+-- rows filled by the jobs so far, and by one more, are filled by them all
 pub filled_more : (js : List Job) (j : Job) (rows after : List Row) → AreFilled js rows → Fills j.lines.items rows after → AreFilled (js ++ j ∷ []) after
 filled_more js j rows after h fills p row e = ⊎_elim
     (λ (is : InLines p row j.lines.items). inl (jobs_last p row js j is))
@@ -99,6 +100,7 @@ gathers_none all before m nothing held = record {
   held = held;
 }
 
+-- one more job gathered adds its pass and its draws
 pub gathers_more : (all jobs rest : List Job) (j : Job) (before passes after : List PassView) (v : PassView) (m n : Sat) → Gathered all jobs before passes m → jobs ≡ rest ++ j ∷ []
     → j.pass ≡ Some v → after ≡ passes ++ v ∷ [] → n ≡ (both m.0 j.seat.me.0, m.1) → Gathered all rest before after n
 gathers_more all jobs rest j before passes after v m n g is has more joined = record {

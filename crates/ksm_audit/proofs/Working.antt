@@ -146,6 +146,7 @@ module _ (may : ℕ → Type 0) (place : ℕ) (v : PassView) (ls : List Line) (r
   pub same_table : w.table ≡ v.table
   same_table = ⊎_elim (λ (b : Before). ap (λ (x : PassView). x.table) b.1) (⊎_elim (λ (b : Refuses). ap (λ (x : PassView). x.table) b.1) (λ (b : Looks). b.2.2.0)) a
 
+-- there are as many places as lines
 pub as_many : (ls : List Line) → length (places_of ls) ≡ length ls
 as_many [] = refl
 as_many (l ∷ ls) = let h = as_many ls in omega arith

@@ -13,9 +13,11 @@ use Rattle.ksm_base.specs.Rows.{comes_before, same_page, InPlaceOrder, InPageOrd
 use Rattle.ksm_base.proofs.Pages.{apart_second, before_trans, before_differs, after_differs}
 use Rattle.ksm_base.proofs.Edits.{count_more, count_none}
 
+-- where all pairs of a list are related, its first is related to all behind it
 pub pairs_head : {X : Type 0} (R : X → X → Type 0) (x : X) (xs : List X) → AllPairs R (x ∷ xs) → All (R x) xs
 pairs_head R x xs pairs k d lt = pairs 0 (suc k) d (omega arith) (omega arith)
 
+-- where all pairs of a list are related, so are those behind the first
 pub pairs_tail : {X : Type 0} (R : X → X → Type 0) (x : X) (xs : List X) → AllPairs R (x ∷ xs) → AllPairs R xs
 pairs_tail R x xs pairs i j d lt in_range = pairs (suc i) (suc j) d (omega arith) (omega arith)
 
@@ -54,11 +56,13 @@ ordered_map f (r ∷ rs) keeps rise =
     (All-map (λ s. Before (f r) s) f rs (λ k d lt. rw (keeps r, keeps (get_or rs k d)) (rise 0 (suc k) d (omega arith) (omega arith))))
     (ordered_map f rs keeps (pairs_tail Before r rs rise))
 
+-- rows stay in the order of their pages where a change keeps each row's page
 pub ordered_change : (test : Row → Bool) (f : Row → Row) (rows : List Row) → ((r : Row) → (f r).page ≡ r.page) → InPageOrder rows
     → InPageOrder (change_rows test f rows)
 ordered_change test f rows keeps rise =
     ordered_map (λ r. if test r then f r else r) rows (λ r. cond_both (test r) (f r) r (λ x. x.page ≡ r.page) (λ _. keeps r) (λ _. refl)) rise
 
+-- rows stay in order where a page's row goes
 pub ordered_without : (page : GuestPage) (rows : List Row) → InPageOrder rows → InPageOrder (without_page page rows)
 ordered_without page rows rise = AllPairs-filter Before (λ r. not (same_page r.page page)) rows rise
 
@@ -107,9 +111,11 @@ one_of_page page (r ∷ rs) rise =
       | inr other ↦ let rest = one_of_page page rs (pairs_tail Before r rs rise) in grind (arith, more, other, rest)
     ]
 
+-- one dup's place is below the other's
 abbrev pub Lower : DupRow → DupRow → Type 0
 Lower d e = (d.place < e.place) × ((d.number == e.number) ≡ false)
 
+-- dups stay in the order of their places where some are left out
 pub ordered_filter : (p : DupRow → Bool) (dups : List DupRow) → InPlaceOrder dups → InPlaceOrder (filter p dups)
 ordered_filter p dups rise = AllPairs-filter Lower p dups rise
 

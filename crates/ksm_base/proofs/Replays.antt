@@ -14,10 +14,12 @@ pub answers_first : (b : BookState) (first later : List Entry) → AreAnswers b 
 answers_first b [] later h = tt
 answers_first b (e ∷ first) later h = (h.0, answers_first (after b e.0 e.1) first later h.1)
 
+-- the later part of a journal has the answers of the state that the first part leads to
 pub answers_later : (b : BookState) (first later : List Entry) → AreAnswers b (first ++ later) → AreAnswers (replay b first) later
 answers_later b [] later h = h
 answers_later b (e ∷ first) later h = answers_later (after b e.0 e.1) first later h.1
 
+-- a journal's parts, each with its answers from where it begins, make one journal with its answers
 pub answers_both : (b : BookState) (first later : List Entry) → AreAnswers b first → AreAnswers (replay b first) later → AreAnswers b (first ++ later)
 answers_both b [] later h k = k
 answers_both b (e ∷ first) later h k = (h.0, answers_both (after b e.0 e.1) first later h.1 k)

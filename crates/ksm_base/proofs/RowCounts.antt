@@ -18,6 +18,7 @@ change_none test f (r ∷ rs) none =
     let rest = change_none test f rs (All-tail (λ s. test s ≡ false) r rs none) in
     grind (arith, here, rest)
 
+-- a filter that all members pass keeps the list
 pub filter_all : {X : Type 0} (p : X → Bool) (xs : List X) → All (λ x. p x ≡ true) xs → filter p xs ≡ xs
 filter_all p [] all = refl
 filter_all p (x ∷ xs) all =

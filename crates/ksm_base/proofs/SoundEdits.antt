@@ -46,6 +46,7 @@ waits_less knobs r r' w w' of_r of_w waits none =
       | inr alone ↦ rw alone refl
     ]
 
+-- where a change lets no other row wait, still no content waits twice
 pub waiting_map : (knobs : Knobs) (f : Row → Row) (rows : List Row) → ((r : Row) → WaitsAs r (f r)) → NoneWaitsTwice knobs rows
     → NoneWaitsTwice knobs (map f rows)
 waiting_map knobs f rows like alone =
@@ -123,6 +124,7 @@ pub record IsCalmer (old new : Row) : Type 0 where
   pub bytes : private_state new.state ≡ false → new.bytes ≡ old.bytes
   pub mergeable : private_state new.state ≡ false → old.mergeable ≡ true → new.mergeable ≡ true
 
+-- a row that waits is not private
 pub waiting_not_private : (state : PageState) → waiting_state state ≡ true → private_state state ≡ false
 waiting_not_private Private waits = cc
 waiting_not_private Waiting waits = refl
@@ -282,6 +284,7 @@ none_merged b s none k d lt number merged =
     let stale = find_all (λ d. d.number == number) (λ d. has_items b.rows d ≡ false) b.dups item.0 item.1.stands (none_counted (has_items b.rows) b.dups none) in
     both_ways (has_items b.rows item.0) stale lives
 
+-- where no dup is shared, none has items
 pub no_dup_lives : (b : BookState) → shared_count b.rows b.dups ≡ 0 → filter (has_items b.rows) b.dups ≡ []
 no_dup_lives b none = filter_none (has_items b.rows) b.dups (none_counted (has_items b.rows) b.dups none)
 
@@ -291,6 +294,7 @@ becomes_private old new page is_private =
     let never : private_state new.state ≡ false → ⊥ = λ taken. true≢false (rw is_private at taken) in
     record { page = page; state = λ taken. absurd (never taken); home = λ taken. absurd (never taken); bytes = λ taken. absurd (never taken); mergeable = λ taken _. absurd (never taken) }
 
+-- a row that stays as it is waits no more than before
 pub stays_calm : (r : Row) → IsCalmer r r
 stays_calm r = record { page = refl; state = λ _. refl; home = λ _. refl; bytes = λ _. refl; mergeable = λ _ yet. yet }
 

@@ -46,6 +46,7 @@ sound_unshared (Some fault) k b s =
     sound_run (record b { rows = change_rows test unshared b.rows }) 0 (omega arith)
     (sound_changed b test unshared (λ r. becomes_private r (unshared r) refl refl) (unshared_home b) s)
 
+-- `set run` keeps the state sound
 pub sound_set_run : (b : BookState) (v : ℕ) (reply : Reply) → refusal b (SetRun v) ≡ None → IsSound b → IsSound (effect b (SetRun v) reply)
 sound_set_run b v Done accepted s = sound_run b v (ltb-false 2 v (refused_none (nat_lt 2 v) BadValue None accepted).0) s
 sound_set_run b v (Unmerged k stop) accepted s = sound_unshared stop k b s
@@ -58,6 +59,7 @@ within low high v inside =
     let both = and_parts (nat_le low v) (nat_le v high) (not-false (is_within low high v) inside) in
     (leb-true low v both.0, leb-true v high both.1)
 
+-- `set pages_to_scan` keeps the state sound
 pub sound_set_pages : (b : BookState) (v : ℕ) (reply : Reply) → refusal b (SetPagesToScan v) ≡ None → IsSound b
     → IsSound (effect b (SetPagesToScan v) reply)
 sound_set_pages b v reply accepted s =
@@ -105,6 +107,7 @@ settled_waits_not Waiting waits = cc
 settled_waits_not (Merged n) waits = cc
 settled_waits_not Zero waits = cc
 
+-- `set merge_across_nodes` keeps the state sound
 pub sound_set_across : (b : BookState) (v : ℕ) (reply : Reply) → refusal b (SetAcross v) ≡ None → IsSound b → IsSound (effect b (SetAcross v) reply)
 sound_set_across b v reply accepted s =
     let first = refused_none (nat_lt 1 v) BadValue _ accepted in
@@ -125,6 +128,7 @@ sound_set_across b v reply accepted s =
     (All-map (λ r. waiting_state r.state ≡ true → partner knobs (map settled b.rows) r ≡ None) settled b.rows (λ k d lt waits. absurd (settled_waits_not (get_or b.rows k d).state waits)))
     (sound_none_waiting (without_stale b) (sound_without_stale b s)))
 
+-- `set max_page_sharing` keeps the state sound
 pub sound_set_limit : (b : BookState) (v : ℕ) (reply : Reply) → refusal b (SetLimit v) ≡ None → IsSound b → IsSound (effect b (SetLimit v) reply)
 sound_set_limit b v reply accepted s =
     let first = refused_none (not (is_within 2 1024 v)) BadValue _ accepted in

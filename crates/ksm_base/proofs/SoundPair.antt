@@ -66,6 +66,7 @@ free_stale b stale s found =
           ];
     }
 
+-- the place that a new dup gets has no dup with items
 pub new_place_free : (b : BookState) → IsSound b → IsFree b (new_place (place_count b.shape) b.rows b.dups)
 new_place_free b s =
     let empty = empty_from 0 b.dups in
@@ -127,6 +128,7 @@ pub record WaitsFor (knobs : Knobs) (row w : Row) : Type 0 where
   pub tree : tree_of knobs w ≡ tree_of knobs row
   pub bytes : w.bytes ≡ row.bytes
 
+-- a row that passes the test for a waiting partner is one
 pub waits_tells : (knobs : Knobs) (row w : Row) → waits_for knobs row w ≡ true → WaitsFor knobs row w
 waits_tells knobs row w passes =
     let contents = and_parts _ (bytes_eq w.bytes row.bytes) passes in
@@ -139,6 +141,7 @@ waits_tells knobs row w passes =
       bytes = (bytes_eq-Decides w.bytes row.bytes).0 contents.1;
     }
 
+-- a waiting partner passes the test for one
 pub tells_waits : (knobs : Knobs) (row w : Row) → WaitsFor knobs row w → waits_for knobs row w ≡ true
 tells_waits knobs row w h =
     and_from _ (bytes_eq w.bytes row.bytes)
@@ -147,6 +150,7 @@ tells_waits knobs row w h =
     (eq-eqb (tree_of knobs w) (tree_of knobs row) h.tree))
     ((bytes_eq-Decides w.bytes row.bytes).1 h.bytes)
 
+-- the partner of a visited row may be merged with it
 pub partner_pairs : (b : BookState) (w row : Row) → IsSound b → IsVisited b row → partner b.knobs b.rows row ≡ Some w → IsPair b w row
 partner_pairs b w row s visited found =
     let p = waits_for b.knobs row in

@@ -35,6 +35,7 @@ settled_keeps Zero taken = refl
 pub settled_calmer : (r : Row) → IsCalmer r (settled r)
 settled_calmer r = record { page = refl; state = settled_keeps r.state; home = λ _. refl; bytes = λ _. refl; mergeable = λ _ yet. yet }
 
+-- a pass that begins, when no row waits any more, keeps the state sound
 pub sound_none_waiting : (b : BookState) → IsSound b → IsSound (with_none_waiting b)
 sound_none_waiting b s = sound_calmed b settled settled_calmer s.homes s
 
@@ -86,12 +87,14 @@ sound_visit_of b (Some row) found s =
     let done = row_visited b row in
     sound_ended_at_last (record done { cursor = Some row.page }) (sound_cursor done (Some row.page) (sound_row_visited b row (next_row_visited b row s found) s))
 
+-- visits keep the state sound
 pub sound_visits : (n : ℕ) (b : BookState) → IsSound b → IsSound (visits n b)
 sound_visits zero b s = s
 sound_visits (suc n) b s =
     let begun = visit_begun (visits n b) in
     sound_visit_of begun (next_row begun.cursor begun.rows) refl (sound_visit_begun (visits n b) (sound_visits n b s))
 
+-- a scan that stops for memory keeps the state sound
 pub sound_scan_stopped : (stop : Option Fault) (b : BookState) → IsSound b → IsSound (scan_stopped stop b)
 sound_scan_stopped None b s = s
 sound_scan_stopped (Some fault) b s = sound_visit_begun b s

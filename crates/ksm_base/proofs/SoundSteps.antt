@@ -72,6 +72,7 @@ pub sound_after : (b : BookState) (c : Command) (a : Answer) → IsSound b → I
 sound_after b c (Ok reply) s h = sound_effect b c reply (not_refused b c reply h) s
 sound_after b c (Err fault) s h = s
 
+-- the opening state is sound
 pub sound_opening : (shape : Shape) → IsShape shape → IsSound (opening shape)
 sound_opening shape small =
     record {

@@ -33,6 +33,7 @@ waiting_changed knobs test f rows like alone =
     waiting_map knobs (λ r. if test r then f r else r) rows
     (λ r. cond_both (test r) (f r) r (WaitsAs r) (λ _. like r) (λ _. record { page = refl; state = λ waits. waits; home = λ _. refl; bytes = λ _. refl })) alone
 
+-- a row that merges waits in no new way
 pub merged_waits : (number : ℕ) (r : Row) → WaitsAs r (record r { state = Merged number })
 merged_waits number r = record { page = refl; state = λ waits. absurd (false≢true waits); home = λ _. refl; bytes = λ _. refl }
 

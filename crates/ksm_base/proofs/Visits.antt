@@ -103,9 +103,11 @@ module _ (start : List Row) where
       let begun = visit_begun (visits n b) in
       comes_visit_of begun (next_row begun.cursor begun.rows) (comes_begun (visits n b) (comes_visits n b h))
 
+-- a visit that begins changes rows one by one
 pub rowwise_begun : (b : BookState) → IsRowwise b.rows (visit_begun b).rows
 rowwise_begun b = comes_begun b.rows b (none_changed b.rows)
 
+-- visits change rows one by one
 pub rowwise_visits : (n : ℕ) (b : BookState) → IsRowwise b.rows (visits n b).rows
 rowwise_visits n b = comes_visits b.rows n b (none_changed b.rows)
 

@@ -180,6 +180,7 @@ begun_goes_on b = begins (pass_ended_at_last b) (cond_both (is_some b.cursor && 
     begins x same = cond_both (is_none x.cursor) (with_none_waiting x) x (λ (y : BookState). GoOn b.rows y.rows)
         (λ _. subst (λ rows. GoOn rows (map settled x.rows)) same (settles x.rows)) (λ _. subst (λ rows. GoOn rows x.rows) same (λ cursor. (refl, λ left. left)))
 
+-- what is known of the runs ahead stays known as a visit begins
 pub known_begun : (b begun : BookState) (ahead : Ahead) → IsKnown b.rows ahead → begun ≡ visit_begun b → IsKnown begun.rows ahead
 known_begun b begun ahead known is = subst (λ (x : BookState). IsKnown x.rows ahead) (sym is) (kept_known b.rows (visit_begun b).rows (begun_goes_on b) ahead known)
 
@@ -225,6 +226,7 @@ settled_alone row alone = λ t. record row { state = by row.state alone t }
 
 -- ---------------------------------------------------------------- runs that were found
 
+-- a page is found exactly where a row is
 pub some_page : (o : Option Row) → is_some (page_of o) ≡ is_some o
 some_page None = refl
 some_page (Some r) = refl
@@ -253,6 +255,7 @@ pub run_at_page : (b : BookState) (run : Run) (page : GuestPage) → is_some b.c
 run_at_page b run page some over none next =
     (some, ap (λ (c : Option GuestPage). page_of (next_row c b.rows)) (sym (over.last ∙ ap (λ m. cursor_after m b.cursor b.rows) none)) ∙ sym over.next ∙ next)
 
+-- where no page is found, no row is
 pub none_found : (o : Option Row) → page_of o ≡ None → o ≡ None
 none_found None is = refl
 none_found (Some r) is = absurd (grind (arith, ap is_some is))

@@ -10,6 +10,7 @@ use Rattle.ksm_base.specs.State.{BookState, opening}
 pub rows_stored : (shape : Shape) (journal : List Entry) (b : BookState) → ReadsLastStored journal (replay (opening shape) journal).rows → IsLegal shape journal b → ReadsLastStored journal b.rows
 rows_stored shape journal b law legal = subst (λ (x : BookState). ReadsLastStored journal x.rows) (sym legal.leads) law
 
+-- a page that is read has the bytes that the journal says were stored last
 pub page_stored : (shape : Shape) (journal : List Entry) (b : BookState) (page : GuestPage) (read : Option (List ℕ))
     → ((bytes : List ℕ) → bytes_of page (replay (opening shape) journal) ≡ Some bytes → last_stored page journal ≡ Some bytes) → IsLegal shape journal b → read ≡ bytes_of page b
     → IfSome read (λ bytes. last_stored page journal ≡ Some bytes)

@@ -33,6 +33,7 @@ find_onward t cursor (r ∷ rows) done =
     let rest = find_onward t cursor rows (All-tail P r rows done) in
     λ i. cond (here i) (Some r) (rest i)
 
+-- where all rows up to the cursor fail a test, the first that passes behind it is the first of all
 pub found_onward : (t : Row → Bool) (cursor : Option GuestPage) (rows seen : List Row) (o : Option Row) → IsDoneTo t cursor rows → seen ≡ rows → o ≡ find (λ r. t r && after_cursor cursor r.page) seen → o ≡ find t rows
 found_onward t cursor rows seen o done same found = found ∙ ap (find (λ r. t r && after_cursor cursor r.page)) same ∙ find_onward t cursor rows done
 

@@ -48,6 +48,7 @@ visiting_kept b frames row goes left =
 
 -- ---------------------------------------------------------------- a run of visits
 
+-- a cursor that stands at a page stands at one after visits of the pass
 pub cursor_stands : (n : ℕ) (cursor : Option GuestPage) (rows : List Row) → is_some cursor ≡ true → is_some (cursor_after n cursor rows) ≡ true
 cursor_stands zero cursor rows some = some
 cursor_stands (suc n) cursor rows some = moved (cursor_after n cursor rows) (next_row (cursor_after n cursor rows) rows) (cursor_stands n cursor rows some)
@@ -56,6 +57,7 @@ cursor_stands (suc n) cursor rows some = moved (cursor_after n cursor rows) (nex
     moved at None h = h
     moved at (Some row) h = refl
 
+-- where a row is to be visited that stays as it is, there is one
 pub left_row : (o : Option Row) → IsLeft o → (row : Row) × (o ≡ Some row) × (stays row ≡ true)
 left_row None h = absurd h
 left_row (Some row) h = (row, refl, h)
@@ -101,6 +103,7 @@ performs_idle v w stands = record { made = made_none v.keeper w.keeper stands.ke
 
 -- ---------------------------------------------------------------- visits after visits
 
+-- n visits and then k are k + n visits
 pub visits_on : (n k : ℕ) (b : BookState) → visits (k + n) b ≡ visits k (visits n b)
 visits_on n zero b = let e : 0 + n ≡ n = omega arith in ap (λ m. visits m b) e
 visits_on n (suc k) b = (let e : suc k + n ≡ suc (k + n) = omega arith in ap (λ m. visits m b) e) ∙ ap visit (visits_on n k b)
@@ -108,6 +111,7 @@ visits_on n (suc k) b = (let e : suc k + n ≡ suc (k + n) = omega arith in ap (
 then_then : (x y z : Deed) → then_doing (then_doing x y) z ≡ then_doing x (then_doing y z)
 then_then x y z = λ t. record { steps = append_assoc x.steps y.steps z.steps t; frames = z.frames }
 
+-- the steps of k + n visits are those of n, and then those of k from there
 pub scanning_on : (n k : ℕ) (b : BookState) (frames : List (Option ℕ)) → scanning (k + n) b frames ≡ then_doing (scanning n b frames) (scanning k (visits n b)
     (scanning n b frames).frames)
 scanning_on n zero b frames = (let e : 0 + n ≡ n = omega arith in ap (λ m. scanning m b frames) e)

@@ -320,5 +320,6 @@ module _ (b : BookState) (k : Ledger) (s : IsSound b) (frames : List (Option ℕ
     empty = p.empty;
   }
 
+-- a sound book that lies lawfully by the invariant does so by what is promised
 pub lies_on : (b : BookState) (frames : List (Option ℕ)) (k : KeeperView) → IsSound b → LieLawfully b frames k → LieOn b frames k.ledger
 lies_on b frames k s lies = lie_on b k.ledger s frames lies

@@ -154,6 +154,7 @@ module _ (old begun : BookState) (row : Row) (begins : Begins old begun) (next :
     steps = λ passes. ap (then_doing (idle frames)) (visiting_idle frames passes);
   }
 
+-- a visit that leaves the settled rows as they are changes nothing but which rows wait
 pub one_quiet : (old begun gone new : BookState) (row : Row) (frames : List (Option ℕ)) → Begins old begun → next_row begun.cursor begun.rows ≡ Some row → IsQuiet begun row
     → gone ≡ row_visited begun row → map settled gone.rows ≡ map settled begun.rows → new ≡ visit_ended gone row.page → ChangesNothing 1 old new frames
 one_quiet old begun gone new row frames begins next quiet is rows ended =
@@ -162,6 +163,7 @@ one_quiet old begun gone new row frames begins next quiet is rows ended =
 
 -- ---------------------------------------------------------------- a run of visits
 
+-- a run of visits changes nothing but which rows wait
 pub run_quiet : (b new : BookState) (run : Run) (frames : List (Option ℕ)) → is_some b.cursor ≡ true → RunsOver b.rows b.cursor run → 1 ≤ run.visits → new ≡ visits run.visits b
     → ChangesNothing run.visits b new frames
 run_quiet b new run frames some over least is =

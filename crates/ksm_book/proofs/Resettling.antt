@@ -64,6 +64,7 @@ module _ (rows : List Row) where
   )
   each_more (x ∷ xs) f0 f1 f2 k0 k1 k2 row so_far r = (so_far.0, so_far.1, so_far.2, each_more xs so_far.1 f1 f2 so_far.0 k1 k2 row so_far.3 r)
 
+-- the first n + 1 rows are the first n and the one behind them
 pub taken_more : (xs : List Row) (n : ℕ) (row : Row) → slice_get xs n ≡ Some row → take (n + 1) xs ≡ take n xs ++ row ∷ []
 taken_more [] n row some = absurd (grind (arith, some))
 taken_more (r ∷ rs) zero row some = ap (λ (x : Row). x ∷ []) (same_Some r row some)
@@ -75,6 +76,7 @@ each_end : (xs : List Row) (v w w' : Mapped) → w'.keeper ≡ w.keeper → w'.l
 each_end [] v w w' keeper frames idle = record { keeper = keeper ∙ idle.keeper; frames = frames ∙ idle.frames }
 each_end (x ∷ xs) v w w' keeper frames h = (h.0, h.1, h.2, each_end xs (placed v.listed.rows h.1 h.0) w w' keeper frames h.3)
 
+-- an unmerging that ends changes no step that it made
 pub unmerged_end : (xs : List Row) (stop : Option Row) (v w w' : Mapped) → w'.keeper ≡ w.keeper → w'.listed.frames ≡ w.listed.frames
     → UnmergesTo xs (fault_of stop) v w → UnmergesTo xs (fault_of stop) v w'
 unmerged_end xs None v w w' keeper frames h = each_end xs v w w' keeper frames h

@@ -169,6 +169,7 @@ module _ (guest : ℕ) (stop : Option Row) where
 
 -- ---------------------------------------------------------------- merged rows that get frames of their own
 
+-- a row that was unshared is shared no more
 pub unshared_off : (guest : Option ℕ) (r : Row) → is_shared_of guest (unshared r) ≡ false
 unshared_off None r = refl
 unshared_off (Some g) r = and_false (is_of g r)
@@ -182,22 +183,26 @@ order_kept guest n rows now rise made = subst InPageOrder (sym (made ∙ all_bef
 pub next_is : (guest : Option ℕ) (n : ℕ) (rows now seen : List Row) (o : Option Row) → now ≡ first_changed (is_shared_of guest) unshared n rows → seen ≡ now → o ≡ find (is_shared_of guest) seen → slice_get (filter (is_shared_of guest) rows) n ≡ o
 next_is guest n rows now seen o made same found = sym (found ∙ ap (find (is_shared_of guest)) (same ∙ made) ∙ first_left (is_shared_of guest) unshared (λ r. refl) (unshared_off guest) n rows)
 
+-- to unshare the first shared row of a guest is one step of unsharing them all
 pub one_unshared : (guest : Option ℕ) (n : ℕ) (rows now : List Row) (row new : Row) → InPageOrder rows → now ≡ first_changed (is_shared_of guest) unshared n rows → new ≡ unshared row → find (is_shared_of guest) now ≡ Some row → change_row new.page (λ _. new) now ≡ first_changed (is_shared_of guest) unshared (n + 1) rows
 one_unshared guest n rows now row new rise made is found =
     (λ i. change_row (is i).page (λ _. is i) (made i))
     ∙ one_more (is_shared_of guest) unshared (λ r. refl) (unshared_off guest) n rows row rise (sym (ap (find (is_shared_of guest)) made) ∙ found)
     ∙ (let e : suc n ≡ n + 1 = omega arith in ap (λ k. first_changed (is_shared_of guest) unshared k rows) e)
 
+-- where no member is at an index, the list ends there or before
 pub none_past : {X : Type 0} (xs : List X) (n : ℕ) → slice_get xs n ≡ None → length xs ≤ n
 none_past [] n none = omega arith
 none_past (x ∷ xs) zero none = absurd (grind (arith, none))
 none_past (x ∷ xs) (suc n) none = omega (arith, none_past xs n none)
 
+-- where a member is at an index, the list goes past it
 pub some_within : {X : Type 0} (xs : List X) (n : ℕ) (x : X) → slice_get xs n ≡ Some x → n < length xs
 some_within [] n x some = absurd (grind (arith, some))
 some_within (y ∷ ys) zero x some = omega arith
 some_within (y ∷ ys) (suc n) x some = omega (arith, some_within ys n x some)
 
+-- what holds of all members holds of the one at an index
 pub all_some : {X : Type 0} (P : X → Type 0) (xs : List X) (n : ℕ) (x : X) → All P xs → slice_get xs n ≡ Some x → P x
 all_some P [] n x all some = absurd (grind (arith, some))
 all_some P (y ∷ ys) zero x all some = subst P (same_Some y x some) (All-head P y ys all)
@@ -208,6 +213,7 @@ homes_suc [] n row some = absurd (grind (arith, some))
 homes_suc (r ∷ rows) zero row some = ap (λ (x : Row). x.home ∷ []) (same_Some r row some)
 homes_suc (r ∷ rows) (suc n) row some = ap (λ l. r.home ∷ l) (homes_suc rows n row some)
 
+-- the homes of the first n + 1 rows are those of the first n and one more
 pub homes_more : (rows : List Row) (n : ℕ) (row : Row) → slice_get rows n ≡ Some row → map (λ r. r.home) (take (n + 1) rows) ≡ map (λ r. r.home) (take n rows) ++ row.home ∷ []
 homes_more rows n row some = (let e : n + 1 ≡ suc n = omega arith in ap (λ k. map (λ (r : Row). r.home) (take k rows)) e) ∙ homes_suc rows n row some
 
@@ -215,6 +221,7 @@ homes_more rows n row some = (let e : n + 1 ≡ suc n = omega arith in ap (λ k.
 pub find_known : (t : Row → Bool) (rows : List Row) (row : Row) → InPageOrder rows → find t rows ≡ Some row → row_at row.page rows ≡ Some row
 find_known t rows row rise found = find_all t (λ s. row_at s.page rows ≡ Some s) rows row found (each_at_page rows rise)
 
+-- a filter keeps no more rows than there are
 pub filter_fits : (t : Row → Bool) (rows : List Row) → length (filter t rows) ≤ length rows
 filter_fits t rows = omega (arith, length-filter t rows, count_by-le-length t rows)
 
@@ -247,6 +254,7 @@ none_left guest stop rows now made = subst (All (λ r. reached guest stop r ≡ 
         by true h = λ there. refl
         by false h = h refl
 
+-- a guest's rows unshared up to a stop are the state after its unmerging
 pub unmerged_state : (guest : ℕ) (lay mid new : Lay) (k : ℕ) (stop : Option Row) (cursor : Option GuestPage) (passes : ℕ) → InPageOrder lay.rows
     → mid ≡ record lay { rows = first_changed (is_shared_of (Some guest)) unshared k lay.rows; frames = mid.frames; keeper = mid.keeper }
     → IsStop (filter (is_shared_of (Some guest)) lay.rows) k stop
@@ -263,10 +271,12 @@ unmerged_state guest lay mid new k stop cursor passes rise made at gone =
 abbrev pub fault_of : Option Row → Option Fault
 fault_of stop = option_map (λ r. NoFrame r.home) stop
 
+-- where an unmerging stops, its answer says so
 pub is_unmerged : (rows : List Row) (k : ℕ) (stop : Option Row) → IsStop rows k stop → IsUnmerged rows (Ok (Unmerged k (fault_of stop)))
 is_unmerged rows k None at = at
 is_unmerged rows k (Some row) at = subst (λ o. MatchOption o ⊥ (λ r. row.home ≡ r.home)) (sym at) refl
 
+-- that answer is one that the definition allows
 pub unmerge_answer : (b : BookState) (guest k : ℕ) (stop : Option Row) → has_guest b guest ≡ true → IsStop (shared_rows (is_of guest) b) k stop → IsAnswerOrMemory b (Unmerge guest) (Ok (Unmerged k (fault_of stop)))
 unmerge_answer b guest k stop has at = subst (λ (h : Bool). IsAnswerUnless (refused_if (not h) UnknownPage None) b (Unmerge guest) (Ok (Unmerged k (fault_of stop)))) (sym has) (is_unmerged (shared_rows (is_of guest) b) k stop at)
 
@@ -278,6 +288,7 @@ gave_does v w nodes (Some row) h = let u = h.0 in let first = h.1 in let left = 
 
 -- ---------------------------------------------------------------- all pages
 
+-- the rows without those mapped from the zero page
 abbrev pub merged_at : List Row → List Row
 merged_at rows = filter (is_shared_of None) rows
 

@@ -30,6 +30,7 @@ use Rattle.ksm_layout.specs.Laid.{Lay, Joins, JoinsDup, Founds, new_dup, state_o
 use Rattle.ksm_layout.proofs.Found.{change_known}
 use Rattle.ksm_pages.proofs.Linking.{own_not_merged}
 
+-- the state of a dup's item is Merged with the dup's number
 pub state_of_item : (n : ℕ) (s : PageState) → merged_into n s ≡ true → s ≡ Merged n
 state_of_item n Private e = absurd (grind (arith, e))
 state_of_item n Waiting e = absurd (grind (arith, e))
@@ -42,6 +43,7 @@ item_is_merged n Waiting e = absurd (grind (arith, e))
 item_is_merged n (Merged d) e = refl
 item_is_merged n Zero e = absurd (grind (arith, e))
 
+-- a row that waits is not shared
 pub waiting_is_alone : (s : PageState) → waiting_state s ≡ true → shared_state s ≡ false
 waiting_is_alone Private e = refl
 waiting_is_alone Waiting e = refl
@@ -58,6 +60,7 @@ visited_at b row s found = find_all (λ r. r.mergeable && after_cursor b.cursor 
 item_at : (b : BookState) (n : ℕ) (item : Row) → IsSound b → find (λ r. merged_into n r.state) b.rows ≡ Some item → row_at item.page b.rows ≡ Some item
 item_at b n item s found = find_all (λ r. merged_into n r.state) (λ r. row_at r.page b.rows ≡ Some r) b.rows item found (each_at_page b.rows s.rows_rise)
 
+-- the partner of a row is the row of its page
 pub partner_at : (b : BookState) (row w : Row) → IsSound b → partner b.knobs b.rows row ≡ Some w → row_at w.page b.rows ≡ Some w
 partner_at b row w s found = find_all (waits_for b.knobs row) (λ r. row_at r.page b.rows ≡ Some r) b.rows w found (each_at_page b.rows s.rows_rise)
 
@@ -76,6 +79,7 @@ pub best_told : (o : Option DupRow) (number : ℕ) → Some number ≡ option_ma
 best_told None number told = cc
 best_told (Some d) number told = (d, refl, same_Some d.number number (sym told))
 
+-- where the number of no dup is told, there is none
 pub none_told : (o : Option DupRow) → None ≡ option_map (λ d. d.number) o → o ≡ None
 none_told None told = refl
 none_told (Some d) told = cc
@@ -98,6 +102,7 @@ joins_by lay cursor passes row item dup s next alone best found =
       room = (dup, find_all (is_best lay.knobs lay.rows lay.dups row) (Contains lay.dups) lay.dups dup best (all_contained lay.dups), is_item, (let r = j.room in let m = s.knobs.max_page_sharing.1 in omega (arith, r, m)));
     }
 
+-- a visited row may join the best dup
 pub best_joins : (lay : Lay) (cursor : Option GuestPage) (passes : ℕ) (row : Row) (dup : DupRow) → IsSound (state_of lay cursor passes) → next_row cursor lay.rows ≡ Some row → shared_state row.state ≡ false
     → best_dup lay.knobs lay.rows lay.dups row ≡ Some dup → JoinsDup lay row dup.number
 best_joins lay cursor passes row dup s next alone best = by (find (λ r. merged_into dup.number r.state) lay.rows) refl
@@ -231,6 +236,7 @@ module _ (lay : Lay) (cursor : Option GuestPage) (passes : ℕ) (row w : Row) (p
 pub visited_by : (b : BookState) (row : Row) (o : Option DupRow) → shared_state row.state ≡ false → best_dup b.knobs b.rows b.dups row ≡ o → row_visited b row ≡ handled o b row
 visited_by b row o alone best = ap (λ m. if m then b else handled (best_dup b.knobs b.rows b.dups row) b row) alone ∙ ap (λ x. handled x b row) best
 
+-- a row that was not unchanged is marked so, and becomes private
 pub marked_by : (b : BookState) (row : Row) → row.unchanged ≡ false → handled None b row ≡ record b { rows = change_row row.page (λ r. record r { unchanged = true; state = Private }) b.rows }
 marked_by b row changed = ap (λ u. if u then stayed b row else record b { rows = change_row row.page (λ r. record r { unchanged = true; state = Private }) b.rows }) changed
 
@@ -247,6 +253,7 @@ emptied_by b row is = ap (λ t. if t then record b { rows = change_row row.page 
 pub paired_by : (b : BookState) (row : Row) → is_for_zero b.knobs row ≡ false → stayed b row ≡ paired (partner b.knobs b.rows row) b row
 paired_by b row not_so = ap (λ t. if t then record b { rows = change_row row.page (λ r. record r { state = Zero }) b.rows } else paired (partner b.knobs b.rows row) b row) not_so
 
+-- a row that is for the zero page lets its frame go
 pub emptying_by : (b : BookState) (frames : List (Option ℕ)) (row : Row) → is_for_zero b.knobs row ≡ true → staying b frames row ≡ emptying (listed_in b frames) row
 emptying_by b frames row is = ap (λ t. if t then emptying (listed_in b frames) row else pairing (partner b.knobs b.rows row) b frames row) is
 

@@ -349,7 +349,7 @@ impl State {
             return Ok(false);
         };
         let row = self.row(page);
-        // Else a pass ended before the visit.
+        // False where a pass ended, and the next began, before this visit.
         let is_one_pass = self.cursor.is_some() == stood;
         let visited = self.visit_row(table, &row)?;
         let joined = matches!(visited, Visited::Joined);

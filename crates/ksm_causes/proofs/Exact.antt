@@ -358,9 +358,11 @@ none_good (byte ∷ bytes) words e = go (parts_in forms (byte ∷ bytes)) refl e
 
 -- ---- both
 
+-- no word of a line that writes a form has trouble
 pub good_line : (line : List ℕ) (form : Line) → Writes form line → IsNone (words_trouble (words_of line))
 good_line line form h = good_none form (words_of line) h
 
+-- a line none of whose words has trouble writes a form
 pub line_good : (line : List ℕ) → IsNone (words_trouble (words_of line)) → (form : Line) × Writes form line
 line_good line e =
     let part = split_part (λ byte. eqb byte 32) line in

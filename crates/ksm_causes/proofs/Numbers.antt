@@ -27,6 +27,7 @@ pub passes_all : (p q : ℕ → Bool) → ((byte : ℕ) → p byte ≡ true → 
 passes_all p q h [] i e = refl
 passes_all p q h (x ∷ xs) i e = rw (h x (first_true (p x) _ e)) (passes_all p q h xs (i + 1) (second_true (p x) _ e))
 
+-- where each byte passes one test, and with it another, none is found that fails the other
 pub no_byte_fails : (p q : ℕ → Bool) → ((byte : ℕ) → p byte ≡ true → q byte ≡ true) → (word : List ℕ) → list_all p word ≡ true
     → position (λ byte. not (q byte)) word ≡ None
 no_byte_fails p q h word e = position_from-zero (λ byte. not (q byte)) word ∙ passes_all p q h word 0 e
@@ -39,6 +40,7 @@ all_pass q (x ∷ xs) i e =
       | false ↦ λ h. absurd cc
     ] e
 
+-- where no byte is found that fails a test, each passes it
 pub each_passes : (q : ℕ → Bool) (word : List ℕ) → position (λ byte. not (q byte)) word ≡ None → list_all q word ≡ true
 each_passes q word e = all_pass q word 0 (sym (position_from-zero (λ byte. not (q byte)) word) ∙ e)
 
@@ -55,6 +57,7 @@ range_graphic low high byte above below e =
     let under : byte ≤ 126 = omega (arith, within.1) in
     rw (le-leb _ _ over, le-leb _ _ under) refl
 
+-- a digit is a byte that a line may have
 pub digit_graphic : (byte : ℕ) → is_ascii_digit byte ≡ true → is_ascii_graphic byte ≡ true
 digit_graphic byte e = range_graphic 48 57 byte (omega arith) (omega arith) e
 
@@ -68,6 +71,7 @@ zero_leads : (a b : Bool) → (a ≡ true → b ≡ false) → (a && b) ≡ fals
 zero_leads true b h = h refl
 zero_leads false b h = refl
 
+-- the greatest value of a number of the language is below 2^32
 pub most_small : (number : Number) → most number < 2 ^ 32
 most_small Guest = omega arith
 most_small Page = omega arith

@@ -41,10 +41,12 @@ pub none_mapped : (column : ℕ) (cause : Option Cause) → IsNone (option_map (
 none_mapped column None e = refl
 none_mapped column (Some cause) e = absurd cc
 
+-- where neither of two places tells a trouble, there is none in both
 pub none_or : (a b : Option Trouble) → IsNone (option_or a b) → IsNone a × IsNone b
 none_or None b e = (refl, e)
 none_or (Some trouble) b e = absurd cc
 
+-- no trouble in both is none in either
 pub both_none : (a b : Option Trouble) → IsNone a → IsNone b → IsNone (option_or a b)
 both_none a b e f = ap (λ t. option_or t b) e ∙ f
 
@@ -180,6 +182,7 @@ shown_named word e =
 
 -- ---- all parts
 
+-- a word that may stand in its place has no trouble
 pub word_stands : (part : Part) (column : ℕ) (word : List ℕ) → MayStand part word → IsNone (word_trouble part column word)
 word_stands (Number number) column word h =
     let wide : h.0 < 2 ^ 64 = omega (arith, most_small number, h.1) in
@@ -189,6 +192,7 @@ word_stands Content column word h = content_stands column word h
 word_stands Knob column word h = rw h.1 (knob_stands h.0 column)
 word_stands Shown column word h = rw h.1 (shown_stands h.0 column)
 
+-- a word without trouble may stand in its place
 pub stands_for : (part : Part) (column : ℕ) (word : List ℕ) → IsNone (word_trouble part column word) → MayStand part word
 stands_for (Number number) column word e = stands_for_number number word (none_mapped column (number_cause number word) (none_or _ _ e).1)
 stands_for Content column word e = stands_for_content column word (none_or _ _ e).1

@@ -34,15 +34,19 @@ use Rattle.ksm_ffi.specs.contracts.thing.Thing.{the_row as R}
 use Rattle.ksm_ffi.specs.contracts.handle.Handle as handle
 use Rattle.ksm_ffi.proofs.Values.{both}
 
+-- the type of what a handle's box keeps
 abbrev pub Z : RattleType
 Z = heap.the_row
 
+-- the laws of that type's layout
 abbrev pub LZ : Laws Z
 LZ = heap_laws.the_row_laws
 
+-- the allocator of the box
 abbrev pub al : Al
 al = record { row = Z; laws = LZ; g = ghosts; d = impl [] tnil dnil; drops = impl [] tnil dnil }
 
+-- a handle whose pointer is null is a good value
 pub null_good : (h : Val) → Good (layout Z) h → T (has_ty (layout Z) h && true) × WT (both (vint w64 0) h)
 null_good h fits = (and_tt (has_ty (layout Z) h) fits.0, (record { fits = lit< tt }, (fits.1, tt)))
 

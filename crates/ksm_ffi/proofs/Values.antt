@@ -25,6 +25,7 @@ use Rattle.std_alloc.specs.Box.Ownership.{box_owns}
 use Rattle.std_alloc.proofs.ResultValues.{and_tt}
 use Rattle.ksm_ffi.specs.contracts.loose.Loose as loose
 
+-- two values as one of two fields
 abbrev pub both : Val → Val → Val
 both v w = vstruct (vcons v (vcons w vnil))
 

@@ -42,6 +42,7 @@ entries_add ps ws [] (u ∷ ts) c t same = absurd (omega arith)
 entries_add ps ws (d ∷ cs) [] c t same = absurd (omega arith)
 entries_add ps ws (d ∷ cs) (u ∷ ts) c t same = ap (λ (es : List Entry). entry_of ps ws d.kind d u ∷ es) (entries_add ps ws cs ts c t (omega arith))
 
+-- there are as many entries as codes of commands
 pub length_entries : (ps : List StoredPage) (ws : List Entry) (cs : List CommandCode) (ts : List AnswerCode) → length ts ≡ length cs → length (entries_of ps ws cs ts) ≡ length cs
 length_entries ps ws [] ts same = refl
 length_entries ps ws (c ∷ cs) [] same = absurd (omega arith)
@@ -112,6 +113,7 @@ told_inside true d p w n tells = absurd (true≢false (sym tells))
 told_inside false true p w n tells = absurd (true≢false (sym tells))
 told_inside false false p w n tells = tt
 
+-- numbers of pages and of whole entries stay in range behind a code that needs neither
 pub inside_short : (p w : ℕ) (cs cs' : List CommandCode) (c : CommandCode) → AreInside p w cs → cs' ≡ cs ++ c ∷ [] → tells_all c.kind ≡ true → AreInside p w cs'
 inside_short p w cs cs' c all pushed tells =
     subst (AreInside p w) (sym pushed) (All-append (λ c. IsInside p w c.kind c.number) cs (c ∷ []) all (one_inside p w c (told_inside (is_whole c.kind) (is_beside c.kind) p w c.number tells)))
@@ -120,6 +122,7 @@ inside_short p w cs cs' c all pushed tells =
     one_inside p w c is zero d lt = is
     one_inside p w c is (suc k) d lt = absurd (omega arith)
 
+-- numbers stay in range behind a code whose page lies beside it
 pub inside_beside : (p p' w : ℕ) (cs cs' : List CommandCode) (c : CommandCode) → AreInside p w cs → cs' ≡ cs ++ c ∷ [] → p' ≡ suc p → c.number ≡ p → is_whole c.kind ≡ false → is_beside c.kind ≡ true
     → AreInside p' w cs'
 inside_beside p p' w cs cs' c all pushed more row off beside =

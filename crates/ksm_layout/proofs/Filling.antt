@@ -21,6 +21,7 @@ use Rattle.ksm_layout.proofs.Logs.{chained, one_step, puts_more, loads_more, wor
 use Rattle.ksm_layout.proofs.Moves.{filled}
 use Rattle.ksm_layout.proofs.Keeping.{spent_kept, add_keeps, sub_keeps, past_taken}
 
+-- a kind that tests as dying is Dying
 pub is_dying_kind : (x : Kind) → dying_kind x ≡ true → x ≡ Dying
 is_dying_kind Dying e = refl
 is_dying_kind Free e = absurd (grind (arith, e))
@@ -29,12 +30,15 @@ is_dying_kind Private e = absurd (grind (arith, e))
 is_dying_kind Stable e = absurd (grind (arith, e))
 is_dying_kind Retired e = absurd (grind (arith, e))
 
+-- a kind that tests as not dying is another
 pub not_dying_kind : (x : Kind) → dying_kind x ≡ false → ¬ (x ≡ Dying)
 not_dying_kind x e is = grind (arith, e, ap dying_kind is)
 
+-- the frames of a node end at the end of the table or before it
 pub node_end : (node nodes size : ℕ) → node < nodes → node * size + size ≤ nodes * size
 node_end node nodes size lt = grind arith
 
+-- a frame between a node's first and its last is on that node
 pub on_node : (node size g : ℕ) → node * size ≤ g → g < node * size + size → g / size ≡ node
 on_node node size g low high =
     let b : ℕ = g - node * size in
@@ -153,6 +157,7 @@ module _ (v w : KeeperView) (node : ℕ) (bytes : List ℕ) (g found : ℕ) (rea
 pub released : (v w : KeeperView) (g found : ℕ) → g < frames_of v.table.shape → w ≡ did v (Sub g) found → Keeps v w (Some g) None
 released v w g found inside is across rows frames dups p = subst (λ (z : KeeperView). Placed v.table.shape across z.ledger rows frames dups None) (sym is) (sub_keeps v.table.shape across v.ledger rows frames dups g inside found p)
 
+-- a reference given back ends no life
 pub released_spends : (v w : KeeperView) (g found : ℕ) → g < length v.ledger.frames → w ≡ did v (Sub g) found → spent v.ledger ≤ spent w.ledger
 released_spends v w g found within is =
     let o : Note = frame_at v.ledger g in
@@ -164,6 +169,7 @@ released_spends v w g found within is =
 pub shared : (v w : KeeperView) (g found : ℕ) → g < frames_of v.table.shape → (frame_at v.ledger g).kind ≡ Stable → w ≡ did v (Add g) found → Keeps v w None (Some g)
 shared v w g found inside stable is across rows frames dups p = subst (λ (z : KeeperView). Placed v.table.shape across z.ledger rows frames dups (Some g)) (sym is) (add_keeps v.table.shape across v.ledger rows frames dups g inside found p stable)
 
+-- a reference taken ends no life
 pub shared_spends : (v w : KeeperView) (g found : ℕ) → g < length v.ledger.frames → w ≡ did v (Add g) found → spent v.ledger ≤ spent w.ledger
 shared_spends v w g found within is =
     let o : Note = frame_at v.ledger g in

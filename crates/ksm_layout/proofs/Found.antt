@@ -57,6 +57,7 @@ change_nothing page f rows row rise found same =
 pub moved_page : (node : ℕ) (r : Row) → (moved node r).page ≡ r.page
 moved_page node r = cond_both (r.home == node) r (record r { home = node; state = Private }) (λ x. x.page ≡ r.page) (λ _. refl) (λ _. refl)
 
+-- a row that moves to the node where it is at home stays as it is
 pub moved_home : (node : ℕ) (r : Row) → r.home ≡ node → moved node r ≡ r
 moved_home node r same = ap (λ b. if b then r else record r { home = node; state = Private }) (eq-eqb r.home node same)
 

@@ -65,13 +65,16 @@ past_reaped : (c : Bool) (n : ℕ) → past_lives (cond c Retired Free) n ≡ n
 past_reaped true n = refl
 past_reaped false n = refl
 
+-- a frame that begins to die has as many past lives as before
 pub past_taken : (c : Bool) (kind : Kind) (n : ℕ) → past_lives kind n ≤ past_lives (cond c Dying kind) n
 past_taken true kind n = past_le kind n
 past_taken false kind n = omega arith
 
+-- the lives spent, where one frame's note is another, differ by those of this frame
 pub spent_set : (k : Ledger) (g : ℕ) (fr : Note) → g < length k.frames → spent (with_frame k g fr) + spent_on (frame_at k g) ≡ spent k + spent_on fr
 spent_set k g fr lt = sum_by-set spent_on k.frames g fr blank lt
 
+-- where a frame has spent no fewer lives, neither has the table
 pub spent_kept : (k : Ledger) (g : ℕ) (fr : Note) → g < length k.frames → spent_on (frame_at k g) ≤ spent_on fr → spent k ≤ spent (with_frame k g fr)
 spent_kept k g fr lt le = let e = spent_set k g fr lt in omega (arith, e, le)
 

@@ -40,6 +40,7 @@ module _ (sh : Shape) (across : ℕ) (v : KeeperView) (rows : List Row) (frames 
   pub kept : (w : KeeperView) (hand' : Option ℕ) → Keeps v w hand hand' → Placed sh across v.ledger rows frames dups hand → Placed sh across w.ledger rows frames dups hand'
   kept w hand' keeps p = subst (λ (s : Shape). Placed s across w.ledger rows frames dups hand') same (keeps across rows frames dups (at_table p))
 
+-- a keeper of the same table has its shape
 pub shape_same : (sh : Shape) (v w : KeeperView) → v.table.shape ≡ sh → w.table ≡ v.table → w.table.shape ≡ sh
 shape_same sh v w same e = ap (λ x. x.shape) e ∙ same
 
@@ -75,6 +76,7 @@ own_kind Waiting e = refl
 own_kind (Merged d) e = absurd (grind (arith, e))
 own_kind Zero e = absurd (grind (arith, e))
 
+-- a page that is not shared is no item of any dup
 pub own_item : (s : PageState) → shared_state s ≡ false → (n : ℕ) → merged_into n s ≡ false
 own_item OwnPage e n = refl
 own_item Waiting e n = refl
@@ -248,6 +250,7 @@ pub relaid_there : (p q : PagesView) (now : Lay) (v k : KeeperView) (rows : List
 relaid_there p q now v k rows rest view same frames = relaid p q now v k rows rest view same
     ∙ (λ t. record now { rows = rows; frames = (frames ∙ ap (λ (x : Lay). x.frames) view) t; keeper = k })
 
+-- where two changes each leave all but the rows and frames, both together do
 pub rest_again : (p q r : PagesView) → q ≡ record p { listed = q.listed } → r ≡ record q { listed = r.listed } → r ≡ record p { listed = r.listed }
 rest_again p q r first second = second ∙ ap (λ (z : PagesView). record z { listed = r.listed }) first
 

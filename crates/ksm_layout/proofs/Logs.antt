@@ -12,6 +12,7 @@ use Rattle.frame_table.specs.Named.{KeeperView}
 use Rattle.frame_table.specs.Kept.{did}
 use Rattle.ksm_layout.specs.Steps.{Log, replayed, IsNeeded, needed_after, given_by, Gives, Did, puts, loads}
 
+-- a log is replayed part by part
 pub replayed_append : (sh : Shape) (k : Ledger) (xs ys : Log) → replayed sh k (xs ++ ys) ≡ replayed sh (replayed sh k xs) ys
 replayed_append sh k [] ys = refl
 replayed_append sh k (x ∷ xs) ys = replayed_append sh (ledger_after sh k x.0 x.1) xs ys
@@ -39,6 +40,7 @@ chained u v w ms ns xs ys a b = record {
   gives = gives_append u.table.shape u.ledger ms ns xs ys a.gives (subst (λ (z : Shape × Ledger). Gives z.0 z.1 ns ys) (λ i. ((a.table i).shape, a.ledger i)) b.gives);
 }
 
+-- where the keeper stays as it is, nothing was done
 pub nothing_done : (v w : KeeperView) → w ≡ v → Did v w [] []
 nothing_done v w e = record { table = ap (λ x. x.table) e; log = ap (λ x. x.log) e ∙ sym (append-nil v.log); ledger = ap (λ x. x.ledger) e; gives = refl }
 
@@ -61,9 +63,11 @@ length_taken [] (suc i) h = absurd (omega arith)
 length_taken (x ∷ xs) zero h = refl
 length_taken (x ∷ xs) (suc i) h = ap suc (length_taken xs i (omega arith))
 
+-- a frame's first words are put, and then one more
 pub puts_more : (f i : ℕ) (ws : List ℕ) → i < length ws → puts f 0 (take (i + 1) ws) ≡ puts f 0 (take i ws) ++ (Put f i (get_or ws i 0), 0) ∷ []
 puts_more f i ws lt = ap (puts f 0) (take_more ws i 0 lt) ∙ puts_push f 0 (get_or ws i 0) (take i ws) ∙ ap (λ n. puts f 0 (take i ws) ++ (Put f n (get_or ws i 0), 0) ∷ []) (let e : 0 + length (take i ws) ≡ i = (let t = length_taken ws i (omega arith) in omega arith) in e)
 
+-- a frame's first words are loaded, and then one more
 pub loads_more : (f i : ℕ) (ws : List ℕ) → i < length ws → loads f 0 (take (i + 1) ws) ≡ loads f 0 (take i ws) ++ (Word f i, get_or ws i 0) ∷ []
 loads_more f i ws lt = ap (loads f 0) (take_more ws i 0 lt) ∙ loads_push f 0 (get_or ws i 0) (take i ws) ∙ ap (λ n. loads f 0 (take i ws) ++ (Word f n, get_or ws i 0) ∷ []) (let e : 0 + length (take i ws) ≡ i = (let t = length_taken ws i (omega arith) in omega arith) in e)
 
@@ -74,5 +78,6 @@ word_written (w ∷ ws) [] i same lt = absurd (omega arith)
 word_written (w ∷ ws) (c ∷ cs) zero same lt = refl
 word_written (w ∷ ws) (c ∷ cs) (suc i) same lt = ap (λ l. w ∷ l) (word_written ws cs i (omega arith) (omega arith)) ∙ (let e : suc (i + 1) ≡ suc i + 1 = omega arith in λ t. take (e t) (w ∷ ws) ++ drop (e t) (c ∷ cs))
 
+-- a list has all that it had before one came at its end
 pub contains_more : {X : Type 0} (xs : List X) (y x : X) → Contains xs x → Contains (xs ++ y ∷ []) x
 contains_more xs y x c = (c.0, omega (arith, c.1, length-append xs (y ∷ [])), get_or_append_left xs (y ∷ []) x c.0 c.1 ∙ c.2)

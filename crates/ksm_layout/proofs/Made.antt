@@ -19,6 +19,7 @@ use Rattle.frame_table.specs.Kept.{did}
 use Rattle.ksm_layout.specs.Steps.{Log, Did, Made, steps_of, stepped, dying_kind, dying_from, dying_on, puts}
 use Rattle.ksm_layout.proofs.Logs.{replayed_append}
 
+-- where the keeper stays as it is, no step was made
 pub made_none : (v w : KeeperView) → w ≡ v → Made v w []
 made_none v w e = record {
   part = [];
@@ -26,9 +27,11 @@ made_none v w e = record {
   are = refl;
 }
 
+-- one step of the keeper is the list of that step
 pub made_one : (v w : KeeperView) (e : KeeperStep) (found : ℕ) → w ≡ did v e found → Made v w (e ∷ [])
 made_one v w e found is = record { part = (e, found) ∷ []; after = is; are = refl }
 
+-- what was done, with its reaps, is steps that were made
 pub made_part : (v w : KeeperView) (nodes : List ℕ) (part : Log) → Did v w nodes part → Made v w (steps_of part)
 made_part v w nodes part d = record { part = part; after = λ i. record { table = d.table i; ledger = d.ledger i; log = d.log i }; are = refl }
 

@@ -138,5 +138,6 @@ free_not_dying e = subst is_free e tt
     is_free Free = Unit {0}
     is_free _ = ⊥
 
+-- a free frame is not a dying one
 pub other_frame : (k : Ledger) (f g : ℕ) → (frame_at k g).kind ≡ Free → (frame_at k f).kind ≡ Dying → f ≢ g
 other_frame k f g free dying same = free_not_dying (sym free ∙ ap (λ x. (frame_at k x).kind) (sym same) ∙ dying)

@@ -41,9 +41,11 @@ use Rattle.ksm_pages.specs.Listed.{frame_in, row_in, no_row, is_frame, instead, 
 abbrev pub one_at : ℕ → Option ℕ → ℕ
 one_at f o = cond (is_frame f o) 1 0
 
+-- a page on the frame counts once for it
 pub one_same : (f : ℕ) (o : Option ℕ) → o ≡ Some f → one_at f o ≡ 1
 one_same f o e = ap (one_at f) e ∙ ap (λ (b : Bool). cond b 1 0) (eq-eqb f f refl)
 
+-- a page that is not on the frame counts for nothing
 pub one_other : (f : ℕ) (o : Option ℕ) → o ≢ Some f → one_at f o ≡ 0
 one_other f None ne = refl
 one_other f (Some g) ne = ap (λ (b : Bool). cond b 1 0) (ne_eqb g f (λ e. ne (ap Some e)))
@@ -53,6 +55,7 @@ pub is_that : (f : ℕ) (o : Option ℕ) → is_frame f o ≡ true → o ≡ Som
 is_that f None here = absurd (grind (arith, here))
 is_that f (Some g) here = ap Some (eqb-true g f here)
 
+-- a page is on the frame, or it is not
 pub frame_cases : (f : ℕ) (o : Option ℕ) → (o ≡ Some f) ⊎ (o ≢ Some f)
 frame_cases f o = elim (cases_Bool (is_frame f o)) [
   | inl here ↦ inl (is_that f o here)
@@ -62,6 +65,7 @@ frame_cases f o = elim (cases_Bool (is_frame f o)) [
 pub uses_set : (f : ℕ) (frames : List (Option ℕ)) (i : ℕ) (g : Option ℕ) → i < length frames → uses f (set frames i g) + one_at f (get_or frames i None) ≡ uses f frames + one_at f g
 uses_set f frames i g lt = sum_by-set (one_at f) frames i g None lt
 
+-- a frame that one page is on is used
 pub uses_some : (frames : List (Option ℕ)) (i f : ℕ) → i < length frames → get_or frames i None ≡ Some f → 1 ≤ uses f frames
 uses_some frames i f lt e =
     let r : uses f (remove frames i) + one_at f (get_or frames i None) ≡ uses f frames = sum_by-remove (one_at f) frames i None lt in
@@ -391,6 +395,7 @@ all_with P d dups here there =
     (All-cons P d higher here
     (λ k x lt. (All-filter (λ e. nat_lt d.place e.place) Q dups there k x lt) (λ e. let l : d.place < (get_or higher k x).place = ltb-true _ _ (filter_passes (λ e. nat_lt d.place e.place) dups k x lt) in omega arith)))
 
+-- what holds of the dups that pass a filter holds of each dup that passes it
 pub filter_back : (t : DupRow → Bool) (P : DupRow → Type 0) (xs : List DupRow) → All P (filter t xs) → All (λ x. t x ≡ true → P x) xs
 filter_back t P [] h = λ k x lt. absurd (omega arith)
 filter_back t P (x ∷ xs) h = elim (cases_Bool (t x)) [

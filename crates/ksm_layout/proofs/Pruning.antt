@@ -36,9 +36,11 @@ all_live rows dups none = filter_all (has_items rows) dups (λ k x lt. live (ite
     live : (n : ℕ) → (n == 0) ≡ false → nat_lt 0 n ≡ true
     live n e = grind (arith, nat_tests, e)
 
+-- where no stale dup is found, all dups have items
 pub none_stale : (rows : List Row) (dups : List DupRow) → find (is_stale rows) dups ≡ None → filter (has_items rows) dups ≡ dups
 none_stale rows dups none = all_live rows dups (find_none (is_stale rows) dups none)
 
+-- where no stale dup is counted, all dups have items
 pub none_left : (rows : List Row) (dups : List DupRow) → count_by (is_stale rows) dups ≡ 0 → filter (has_items rows) dups ≡ dups
 none_left rows dups none = all_live rows dups (none_counted (is_stale rows) dups none)
 
@@ -83,6 +85,7 @@ pub dup_at : (o : Option DupRow) (place : ℕ) → Some place ≡ option_map (λ
 dup_at None place e = absurd (grind (arith, e))
 dup_at (Some d) place e = (d, refl, sym (same_Some place d.place e))
 
+-- where the place of no dup is told, there is none
 pub no_dup_at : (o : Option DupRow) → None ≡ option_map (λ d. d.place) o → o ≡ None
 no_dup_at None e = refl
 no_dup_at (Some d) e = absurd (grind (arith, e))
@@ -126,6 +129,7 @@ pub record Withdraws (v w : KeeperView) (rows : List Row) (before now : List Dup
 pub withdraws_none : (v : KeeperView) (rows : List Row) (dups : List DupRow) → Withdraws v v rows dups dups
 withdraws_none v rows dups = record { steps = []; made = made_none v v refl; whole = refl }
 
+-- the first stale dup, withdrawn from its place, is the next of those to withdraw
 pub withdraws_more : (v w w' : KeeperView) (rows : List Row) (before now : List DupRow) (d : DupRow) → InPlaceOrder now → find (is_stale rows) now ≡ Some d
     → Withdraws v w rows before now → Made w w' (withdrawing now d.place)
     → Withdraws v w' rows before (filter (elsewhere d.place) now)
@@ -140,6 +144,7 @@ withdraws_more v w w' rows before now d rise found so_far step =
           ∙ ap (λ ds. so_far.steps ++ map (λ (e : DupRow). Withdraw e.place) ds) (sym (first_stale rows now d rise found)) ∙ so_far.whole;
     }
 
+-- where no stale dup is left, all were withdrawn, in the order of their places
 pub withdraws_all : (v w : KeeperView) (rows : List Row) (before now : List DupRow) → All (λ d. is_stale rows d ≡ false) now → Withdraws v w rows before now
     → Made v w (map (λ d. Withdraw d.place) (filter (is_stale rows) before))
 withdraws_all v w rows before now none so_far =

@@ -18,6 +18,7 @@ set_inserted [] (suc i) x y le = absurd (omega arith)
 set_inserted (z ∷ zs) zero x y le = refl
 set_inserted (z ∷ zs) (suc i) x y le = ap (λ l. z ∷ l) (set_inserted zs i x y (omega arith))
 
+-- what was put in at an index and taken out there leaves the list as it was
 pub remove_inserted : {X : Type 0} (xs : List X) (i : ℕ) (x : X) → i ≤ length xs → remove (insert xs i x) i ≡ xs
 remove_inserted [] zero x le = refl
 remove_inserted [] (suc i) x le = absurd (omega arith)

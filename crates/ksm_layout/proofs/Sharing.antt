@@ -42,6 +42,7 @@ merged_is_shared Waiting e = absurd (grind (arith, e))
 merged_is_shared (Merged d) e = refl
 merged_is_shared Zero e = absurd (grind (arith, e))
 
+-- a merged page is not mapped from the zero page
 pub merged_not_zero : (s : PageState) → merged_state s ≡ true → zero_state s ≡ false
 merged_not_zero OwnPage e = absurd (grind (arith, e))
 merged_not_zero Waiting e = absurd (grind (arith, e))
@@ -139,9 +140,11 @@ has_none place [] e k x lt same = absurd (omega arith)
 has_none place (d ∷ ds) e zero x lt same = absurd (grind (arith, nat_tests, e, same))
 has_none place (d ∷ ds) e (suc k) x lt same = has_none place ds (grind (arith, e)) k x (omega arith) same
 
+-- a place where no dup stands names no frame
 pub not_taken : (sh : Shape) (across : ℕ) (k : Ledger) (rows : List Row) (frames : List (Option ℕ)) (dups : List DupRow) (place : ℕ) → Placed sh across k rows frames dups None → list_any (λ d. d.place == place) dups ≡ false → named_at k place ≡ None
 not_taken sh a k rows frames dups place p none = p.empty place (has_none place dups none)
 
+-- a vacant place names no frame, or one without a reference of its dup's items
 pub vacant_loose : (sh : Shape) (across : ℕ) (k : Ledger) (rows : List Row) (frames : List (Option ℕ)) (dups : List DupRow) (place : ℕ) → Placed sh across k rows frames dups None → IsVacant place rows dups → IsLoose k (named_at k place)
 vacant_loose sh a k rows frames dups place p vacant = elim (cases_Bool (list_any (λ d. d.place == place) dups)) [
   | inl taken ↦
@@ -192,6 +195,7 @@ sum_most (x ∷ xs) m h =
     let wide : length (x ∷ xs) * m ≡ m + length xs * m = grind arith in
     omega (arith, e, first, rest, wide)
 
+-- fewer than 2^50 dups were ever made, since each spent a life of a frame
 pub spent_most : (sh : Shape) (v : Listed) (dups : List DupRow) (knobs : Knobs) (next : ℕ) (k : KeeperView) → IsLaid sh v dups knobs next k → next ≤ 2 ^ 50
 spent_most sh v dups knobs next k h =
     let p = h.placed in
@@ -217,6 +221,7 @@ settled_lodges r = (refl, refl, by r.state)
     by (Merged d) = inl refl
     by Zero = inl refl
 
+-- a row that becomes mergeable lies on its frame as before
 pub flagged_lodges : (test : Row → Bool) (r : Row) → LodgesAs (if test r then record r { mergeable = true } else r) r
 flagged_lodges test r = cond_both (test r) (record r { mergeable = true }) r (λ x. LodgesAs x r) (λ _. (refl, refl, inl refl)) (λ _. (refl, refl, inl refl))
 

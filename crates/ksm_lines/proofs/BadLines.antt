@@ -12,6 +12,7 @@ use Rattle.ksm_lines.proofs.Lines.{line_again, line_takes}
 none_writes : (bytes : List ℕ) → (let none : Option Line = None in line_at (words_of bytes) ≡ none) → IsNoLine bytes
 none_writes bytes e form written = cc (sym e ∙ line_again form (words_of bytes) written)
 
+-- the bad lines of the worked list are no lines, and the good ones are
 pub bad_lines : BadLines
 bad_lines = record {
   capitals = none_writes (codes "STAT") refl;

@@ -5,6 +5,7 @@ use Rattle.std.proofs.Common.{◌≡◌, Bool, true, false, ◌&&◌, cond, Opti
 abbrev pub chosen : {A : Type 0} → Bool → A → Option A
 chosen b n = cond b (Some n) None
 
+-- a choice that gives a value was made, and of that value
 pub is_chosen : {A : Type 0} (b : Bool) (n i : A) → chosen b n ≡ Some i → (b ≡ true) × (i ≡ n)
 is_chosen true n i e = (refl, cc)
 is_chosen false n i e = absurd cc
@@ -13,10 +14,12 @@ pub not_chosen : {A : Type 0} (b : Bool) (n : A) → chosen b n ≡ None → b �
 not_chosen true n e = absurd cc
 not_chosen false n e = refl
 
+-- where both tests pass, the first does
 pub first_true : (a b : Bool) → (a && b) ≡ true → a ≡ true
 first_true true b e = refl
 first_true false b e = absurd cc
 
+-- where both tests pass, the second does
 pub second_true : (a b : Bool) → (a && b) ≡ true → b ≡ true
 second_true true b e = e
 second_true false b e = absurd cc

@@ -85,17 +85,21 @@ page_alone_again page words h = let p = page_again page [] words h in rw (p.is, 
 
 -- ---- what is read is written
 
+-- what comes out of two steps came out of the first, and out of the second from there
 pub bind_some : {A B : Type 0} (o : Option A) (f : A → Option B) (y : B) → (o >>= f) ≡ Some y → (x : A) × (o ≡ Some x) × (f x ≡ Some y)
 bind_some None f y e = absurd cc
 bind_some (Some x) f y e = (x, refl, e)
 
+-- what comes out of a map is the image of what went in
 pub mapped : {A B : Type 0} (o : Option A) (f : A → B) (y : B) → option_map f o ≡ Some y → (x : A) × (o ≡ Some x) × (f x ≡ y)
 mapped None f y e = absurd cc
 mapped (Some x) f y e = (x, refl, cc)
 
+-- values that are there and equal are equal
 pub some_is : {A : Type 0} (x y : A) → Some x ≡ Some y → x ≡ y
 some_is x y e = cc
 
+-- nothing is not something
 pub none_some : {A : Type 0} (x : A) → None ≡ Some x → ⊥
 none_some x e = absurd cc
 
@@ -105,6 +109,7 @@ pub record Word {A : Type 0} (read : List ℕ → Option A) (words : List (List 
   pub is : words ≡ word ∷ x.1
   pub reads : read word ≡ Some x.0
 
+-- a field that is read takes the first word and leaves the others
 pub field_takes : {A : Type 0} (read : List ℕ → Option A) (words : List (List ℕ)) (x : A × List (List ℕ)) → field read words ≡ Some x → Word read words x
 field_takes read [] x e = absurd cc
 field_takes read (w ∷ ws) x e =
@@ -112,9 +117,11 @@ field_takes read (w ∷ ws) x e =
     let is = some_is _ _ b.2 in
     record { word = w; is = ap (λ (rest : List (List ℕ)). w ∷ rest) (ap (λ p. p.1) is); reads = b.1 ∙ ap (λ p. Some p.0) is }
 
+-- a word that is read as a number writes it
 pub number_written : (n : ℕ) (word : List ℕ) → number_of word ≡ Some n → IsWritten (number n) word
 number_written n word e = number_takes (2 ^ 32) word n (omega arith) e
 
+-- a word that is read as a guest writes it
 pub guest_written : (n : ℕ) (word : List ℕ) → guest_of word ≡ Some n → IsWritten (guest n) word
 guest_written n word e = number_takes (2 ^ 16) word n (omega arith) e
 
@@ -126,6 +133,7 @@ pub record PageWords (words : List (List ℕ)) (x : GuestPage × List (List ℕ)
   pub guest_written : IsWritten (guest x.0.guest) guest_word
   pub page_written : IsWritten (number x.0.page) page_word
 
+-- a page is read from two words, its guest and its number
 pub page_takes : (words : List (List ℕ)) (x : GuestPage × List (List ℕ)) → page_at words ≡ Some x → PageWords words x
 page_takes words x e =
     let g = bind_some (field guest_of words) (λ g. field number_of g.1 >>= λ p. Some (record { guest = g.0; page = p.0 }, p.1)) x e in
@@ -142,10 +150,12 @@ page_takes words x e =
       page_written = number_written p.0.0 pw.word pw.reads;
     })
 
+-- a line that ends has no word left
 pub ended_takes : (words : List (List ℕ)) (x : Unit {0}) → ended words ≡ Some x → words ≡ []
 ended_takes [] x e = refl
 ended_takes (w ∷ ws) x e = absurd cc
 
+-- words that are equal write the same parts
 pub words_are : (parts : List Part) (words found : List (List ℕ)) → words ≡ found → AreWritten parts found → AreWritten parts words
 words_are parts words found is h = subst (λ (ws : List (List ℕ)). AreWritten parts ws) (sym is) h
 
@@ -153,9 +163,11 @@ words_are parts words found is h = subst (λ (ws : List (List ℕ)). AreWritten 
 pub behind_word : (words rest found : List (List ℕ)) (w : List ℕ) → words ≡ w ∷ rest → rest ≡ found → words ≡ w ∷ found
 behind_word words rest found w is same = is ∙ ap (λ (ws : List (List ℕ)). w ∷ ws) same
 
+-- the words behind a page follow its two
 pub behind_page : (words found : List (List ℕ)) (x : GuestPage × List (List ℕ)) (p : PageWords words x) → x.1 ≡ found → words ≡ p.guest_word ∷ p.page_word ∷ found
 behind_page words found x p same = p.is ∙ ap (λ (ws : List (List ℕ)). p.guest_word ∷ p.page_word ∷ ws) same
 
+-- a page alone is written by its two words
 pub page_alone_takes : (words : List (List ℕ)) (page : GuestPage) → page_alone words ≡ Some page → AreWritten (guest page.guest ∷ number page.page ∷ []) words
 page_alone_takes words page e =
     let p = bind_some (page_at words) (λ p. ended p.1 >>= λ end. Some p.0) page e in
@@ -165,6 +177,7 @@ page_alone_takes words page e =
     subst (λ (y : GuestPage). AreWritten (guest y.guest ∷ number y.page ∷ []) words) (some_is p.0.0 page end.2)
     (words_are (guest p.0.0.guest ∷ number p.0.0.page ∷ []) words (w.guest_word ∷ w.page_word ∷ []) is (w.guest_written, (w.page_written, tt)))
 
+-- what is read alone is read from the only word
 pub alone_takes : {A : Type 0} (read : List ℕ → Option A) (words : List (List ℕ)) (a : A) → alone read words ≡ Some a → (w : List ℕ) × (words ≡ w ∷ []) × (read w ≡ Some a)
 alone_takes read words a e =
     let x = bind_some (field read words) (λ x. ended x.1 >>= λ end. Some x.0) a e in
@@ -187,6 +200,7 @@ tested text found later knob word e =
 named_so : (found knob : Knob) (word : List ℕ) → word ≡ knob_name found → found ≡ knob → word ≡ knob_name knob
 named_so found knob word same is = same ∙ ap knob_name is
 
+-- a word that is read as a knob is its name
 pub knob_written : (knob : Knob) (word : List ℕ) → knob_of word ≡ Some knob → word ≡ knob_name knob
 knob_written knob word e =
     elim (tested (knob_name Run) Run _ knob word e) [
@@ -206,6 +220,7 @@ knob_written knob word e =
       ]
     ]
 
+-- a word that is read as a question is its name
 pub shown_written : (shown : Shown) (word : List ℕ) → shown_of word ≡ Some shown → word ≡ shown_name shown
 shown_written shown word e =
     elim (tested (shown_name ZeroPages) ZeroPages (option_map OfKnob (knob_of word)) shown word e) [

@@ -13,6 +13,7 @@ use Rattle.std.proofs.lemmas.List.Elements.{All-from_get_or}
 use Rattle.ksm_lines.proofs.Front.{passes_in}
 use Rattle.ksm_lines.proofs.Hex.{passes_below, passes_at}
 
+-- a list is what the map that changes nothing makes of it
 pub itself : (v : List ℕ) → v ≡ map (λ x. x) v
 itself [] = refl
 itself (x ∷ xs) = ap (λ r. x ∷ r) (itself xs)
@@ -21,6 +22,7 @@ itself (x ∷ xs) = ap (λ r. x ∷ r) (itself xs)
 pub joined : (h : ℕ → ℕ → ℕ) (f g : ℕ → ℕ) (v : List ℕ) {a b : List ℕ} → a ≡ map f v → b ≡ map g v → zip2 h a b ≡ map (λ x. h (f x) (g x)) v
 joined h f g v p q = zip2_of_maps h f g v p q
 
+-- a list of one value is the map of any list of its length to that value
 pub splat_is : (v : List ℕ) (n y : ℕ) → length v ≡ n → replicate n y ≡ map (λ _. y) v
 splat_is v n y e = splat_is_map v n y e
 
@@ -69,6 +71,7 @@ pub true_of : (b : Bool) → false ≡ not b → b ≡ true
 true_of true e = refl
 true_of false e = absurd cc
 
+-- where a test's contrary is true, the test is false
 pub false_of : (b : Bool) → true ≡ not b → b ≡ false
 false_of true e = absurd cc
 false_of false e = refl
@@ -129,6 +132,7 @@ module _ (text : List ℕ) (i : ℕ) (inside : 16 * i + 16 ≤ length text) (byt
 
 -- ---- the digits of a page, word by word
 
+-- where all digits of i words, and those of one more, are hexadecimal, all of i + 1 words are
 pub one_more : (text : List ℕ) (i : ℕ) → list_all is_ascii_hexdigit (take (16 * i) text) ≡ true → list_all is_ascii_hexdigit (digits_of_word text i) ≡ true
     → list_all is_ascii_hexdigit (take (16 * (i + 1)) text) ≡ true
 one_more text i before word =
@@ -136,6 +140,7 @@ one_more text i before word =
     ap (λ n. list_all is_ascii_hexdigit (take n text)) more ∙ ap (list_all is_ascii_hexdigit) (take-add (16 * i) 16 text)
     ∙ list_all-append is_ascii_hexdigit (take (16 * i) text) (digits_of_word text i) ∙ ap₂ (λ a b. a && b) before word
 
+-- where one word has another byte, the text has
 pub none_other : (text : List ℕ) (i : ℕ) → ((list_all is_ascii_hexdigit (digits_of_word text i) ≡ true) → ⊥) → list_all is_ascii_hexdigit text ≡ false
 none_other text i other =
     let rest = drop (16 * i) text in

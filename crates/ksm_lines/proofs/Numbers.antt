@@ -29,6 +29,7 @@ zero_alone : (a b : Bool) → (not a || b) ≡ true → a ≡ true → b ≡ tru
 zero_alone true b e h = e
 zero_alone false b e h = absurd cc
 
+-- a word that tests as plain has digits alone, and no zero before another digit
 pub plain_parts : (word : List ℕ) → is_plain word ≡ true → IsPlain word
 plain_parts word e =
     let digits_long = first_true (list_all is_ascii_digit word && ltb 0 (length word)) _ e in
@@ -68,6 +69,7 @@ module _ (word : List ℕ) (i value digit : ℕ) (lt : i < length word) (low : 4
   pub high_more : is_ascii_digit (get_or word i 0) ≡ true → 2 ^ 32 ≤ value * 10 + digit → IsHigh word
   high_more digits high = (i + 1, omega arith, list_all_more is_ascii_digit word i 0 lt ∙ ap₂ (λ a b. a && b) read.0 digits, subst (λ n. 2 ^ 32 ≤ n) value_more high)
 
+-- what is read up to the word's end is its number
 pub digits_whole : (word : List ℕ) (i value : ℕ) → length word ≤ i → IsReadTo i word value → digits_of word ≡ Some value
 digits_whole word i value whole read =
     let all : take i word ≡ word = take_all i word whole in
@@ -81,6 +83,7 @@ digits_whole word i value whole read =
 below_all : (n limit : ℕ) → n < limit → limit ≤ 2 ^ 64 → n < 2 ^ 64
 below_all n limit lt small = omega arith
 
+-- a word that is read as a number is that number's decimal, below the limit
 pub number_takes : (limit : ℕ) (word : List ℕ) (n : ℕ) → limit ≤ 2 ^ 64 → number_below limit word ≡ Some n → (n < limit) × (word ≡ decimal n)
 number_takes limit word n small e =
     let is = is_chosen (is_plain word && ltb (digits_value 10 word) limit) (digits_value 10 word) n e in
@@ -97,11 +100,13 @@ zero_short n lt e =
       | inr none ↦ let zero : n ≡ 0 = omega arith in ap length (decimal_digit n (omega arith))
     ]
 
+-- a number's decimal is plain
 pub decimal_plain : (n : ℕ) → n < 2 ^ 64 → is_plain (decimal n) ≡ true
 decimal_plain n lt =
     let tail = not_zero (eqb (get_or (decimal n) 0 0) 48) (eqb (length (decimal n)) 1) (λ h. eq-eqb _ _ (zero_short n lt (eqb-true _ _ h))) in
     rw (digits_decimal own n lt, lt-ltb _ _ (decimal_nonempty n lt), tail) refl
 
+-- a number's decimal is read as that number
 pub number_again : (limit n : ℕ) → limit ≤ 2 ^ 64 → n < limit → number_below limit (decimal n) ≡ Some n
 number_again limit n small lt =
     let wide : n < 2 ^ 64 = omega arith in

@@ -44,14 +44,17 @@ no_defaults (a ∷ rs) e rows =
       both_none _ _ (default_passes rows a parts.0) (ap (λ now. defaults_fault now rs) stays ∙ rest.1),
     )
 
+-- no option has a default that would add a row
 pub finished_is : (rows : List Row) → fold with_default rows rules ≡ rows
 finished_is rows = (no_defaults rules refl rows).0
 
+-- the defaults tell no fault
 pub defaults_pass : (rows : List Row) → defaults_fault rows rules ≡ []
 defaults_pass rows = (no_defaults rules refl rows).1
 
 -- ---- what is required
 
+-- the fault where one of the two options that must be given is not
 abbrev pub required_fault : Bool → Bool → Kinds
 required_fault nodes frames = cond (not nodes || (not frames || false)) (kind.MissingRequiredArgument ∷ []) []
 
@@ -71,6 +74,7 @@ whole words =
     or_else (walk_fault shape [] (walk_from (held [] None)) words) (or_else (settle_fault rules false end.held)
     (or_else (defaults_fault (settled rules end.held).rows rules) (check_fault shape (finished rules end.held) false)))
 
+-- the program's own name is passed over
 pub fault_is : (words : List Text) → fault_of ksmbook words ≡ whole (drop 1 words)
 fault_is words = go (end_of (walk_from (held [] None)) (drop 1 words)).stopped
   where

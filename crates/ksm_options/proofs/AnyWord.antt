@@ -165,6 +165,7 @@ abbrev pub Reading : Waiting → Text → Held → Type 0
 Reading waiting word h = (long_or_other rules waiting word (long_of word) h ≡ plain_word rules waiting word h)
     ⊎ ((s : Setting) × (settle_fault rules false h ≡ []) × ((word ≡ flag s) ⊎ ((text : Text) × (word ≡ flag s ++ 61 ∷ text))))
 
+-- a word that makes no fault is read in one of the ways of the definition
 pub word_cases : (waiting : Waiting) (word : Text) (rows : List Row) (pending : Option (Text × List Text))
     → flag_word_fault rules false (long_of word) word (held rows pending) ≡ [] → Reading waiting word (held rows pending)
 word_cases waiting word rows pending e = go (long_of word) refl e

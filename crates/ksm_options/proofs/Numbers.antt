@@ -69,14 +69,17 @@ setting_read k s given one o room fit is none value = go (text_of s given) refl
     go None e = none (is ∙ e)
     go (Some t) e = number_read k (most_of s) t o (value t (is ∙ e)) room (fit_of s given t fit e)
 
+-- a setting that was given has a number
 pub given_number : (s : Setting) (given : List Given) (o : Option ℕ) → o ≡ option_map number (text_of s given) → has s given ≡ true → IsSome o
 given_number s given o is e =
     let some = some_text s given e in
     subst IsSome (sym (is ∙ ap (option_map number) some.1)) refl
 
+-- the number of a setting's text is the value given
 pub value_given : (s : Setting) (given : List Given) (n : ℕ) → Some n ≡ option_map number (text_of s given) → value_of s given ≡ Some n
 value_given s given n is = ap (λ o. or_default o (default_of s)) (sym is)
 
+-- the value of a setting is the one given, or its default
 pub value_or : (s : Setting) (given : List Given) (o : Option ℕ) (d : ℕ) → o ≡ option_map number (text_of s given) → default_of s ≡ Some d → value_of s given ≡ Some (unwrap_or o d)
 value_or s given o d is default = ap (λ x. or_default x (default_of s)) (sym is) ∙ go o
   where
@@ -91,6 +94,7 @@ default_fits Passes n e = let is : 2 ≡ n = cc in (omega arith, omega arith)
 default_fits Tries n e = let is : 8 ≡ n = cc in (omega arith, omega arith)
 default_fits LastGeneration n e = let is : 1099511627776 ≡ n = cc in (omega arith, omega arith)
 
+-- a value that was given is in the setting's range
 pub value_fits : (s : Setting) (given : List Given) (n : ℕ) → AllFit given → value_of s given ≡ Some n → (1 ≤ n) × (n ≤ most_of s)
 value_fits s given n fit e = go (text_of s given) refl e
   where

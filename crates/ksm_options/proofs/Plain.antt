@@ -43,6 +43,7 @@ gives_written : (given : List Given) → Gives (written given) given
 gives_written [] = nothing
 gives_written (g ∷ rest) = apart g.0 g.1 (written rest) rest (gives_written rest)
 
+-- well-formed words tell what they give
 pub tells_of : (words : List Text) (given : List Given) → IsWellFormed words given → Tells words given
 tells_of words given w = record {
   gives = subst (λ ws. Gives ws given) (sym w.words_are) (gives_written given);

@@ -29,10 +29,12 @@ at_row_missing id change missing (r ∷ rs) e = go (bytes_eq r.id id) refl e (at
     go true is f more = cc
     go false is f more = ap (λ t. r ∷ t) (more f)
 
+-- a row stands for a setting exactly where it was given
 pub has_rows : (s : Setting) (given : List Given) → has_row (name_of s) (map row_for given) ≡ has s given
 has_rows s [] = refl
 has_rows s (g ∷ rest) = ap (λ b. is_of s g || b) (has_rows s rest)
 
+-- a setting used for the first time adds its row at the end
 pub use_more : (s : Setting) (text : Text) (given : List Given) → has s given ≡ false → after_use s text (map row_for given) ≡ map row_for (given ++ (s, text) ∷ [])
 use_more s text given new =
     let none : has_row (name_of s) (map row_for given) ≡ false = has_rows s given ∙ new in
@@ -41,6 +43,7 @@ use_more s text given new =
 
 -- ---- once each
 
+-- two texts that differ differ in either order
 pub is_of_sym : (a b : Text) → bytes_eq a b ≡ false → bytes_eq b a ≡ false
 is_of_sym a b e = go (bytes_eq b a) refl
   where
@@ -50,10 +53,12 @@ is_of_sym a b e = go (bytes_eq b a) refl
         cc
     go false is = refl
 
+-- where neither of two tests passes, each fails
 pub neither : (a b : Bool) → (a || b) ≡ false → (a ≡ false) × (b ≡ false)
 neither true b e = absurd (cc)
 neither false b e = (refl, e)
 
+-- settings given once each, and a new one, are given once each
 pub once_more : (s : Setting) (text : Text) (given : List Given) → IsOnce given → has s given ≡ false → IsOnce (given ++ (s, text) ∷ [])
 once_more s text [] once new = (refl, tt)
 once_more s text (g ∷ rest) once new =
@@ -61,12 +66,14 @@ once_more s text (g ∷ rest) once new =
     let other : is_of g.0 (s, text) ≡ false = is_of_sym (name_of g.0) (name_of s) parts.0 in
     (list_any-append (is_of g.0) rest ((s, text) ∷ []) ∙ ap₂ (λ a b. a || (b || false)) once.0 other, once_more s text rest once.1 parts.1)
 
+-- texts in their ranges, and a new one in its own, are in their ranges
 pub fit_more : (s : Setting) (text : Text) (given : List Given) → AllFit given → IsUnsignedIn 1 (most_of s) text → AllFit (given ++ (s, text) ∷ [])
 fit_more s text [] fit here = (here, tt)
 fit_more s text (g ∷ rest) fit here = (fit.0, fit_more s text rest fit.1 here)
 
 -- ---- a text that is no fault is new, and fits
 
+-- a text that makes no fault is of a setting not given before
 pub text_is_new : (s : Setting) (text : Text) (given : List Given) → text_fault s text (map row_for given) ≡ [] → has s given ≡ false
 text_is_new s text given e = sym (has_rows s given) ∙ go (has_row (name_of s) (map row_for given)) (first_none _ _ e)
   where
@@ -74,6 +81,7 @@ text_is_new s text given e = sym (has_rows s given) ∙ go (has_row (name_of s) 
     go true f = cc
     go false f = refl
 
+-- a text that makes no fault is in its setting's range
 pub text_fits : (s : Setting) (text : Text) (rows : List Row) → text_fault s text rows ≡ [] → IsUnsignedIn 1 (most_of s) text
 text_fits s text rows e = accepts-Accepts false (Unsigned 1 (most_of s)) text (go (accepts false (Unsigned 1 (most_of s)) text) (first_none _ _ (second_none _ _ e)))
   where
@@ -83,6 +91,7 @@ text_fits s text rows e = accepts-Accepts false (Unsigned 1 (most_of s)) text (g
 
 -- ---- what the rows tell
 
+-- the parser says that a setting was given exactly where it was
 pub given_is : (s : Setting) (given : List Given) → is_given (name_of s) (map row_for given) ≡ has s given
 given_is s [] = refl
 given_is s (g ∷ rest) = go (is_of s g) (given_is s rest)
@@ -92,6 +101,7 @@ given_is s (g ∷ rest) = go (is_of s g) (given_is s rest)
     go true e = refl
     go false e = e
 
+-- the parser finds the text that was given for a setting
 pub one_is : (s : Setting) (given : List Given) → one_of (name_of s) (map row_for given) ≡ option_map (λ g. g.1) (find (is_of s) given)
 one_is s [] = refl
 one_is s (g ∷ rest) = go (is_of s g) (one_is s rest)

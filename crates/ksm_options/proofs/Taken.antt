@@ -151,6 +151,7 @@ passes _ _ (apart s text words given gives) =
 
 -- ---- the whole
 
+-- words that tell settings make no fault
 pub no_fault : (words : List Text) (given : List Given) → Tells words given → fault_of ksmbook words ≡ []
 no_fault words given t =
     let all = passes (drop 1 words) given t.gives (walk_from (held [] None)) [] [] None refl refl refl t.once t.fit in

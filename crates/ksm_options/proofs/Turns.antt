@@ -12,9 +12,11 @@ use Rattle.ksm_options.specs.Settings.{Setting, Nodes, Frames, Passes, Tries, La
 use Rattle.ksm_options.proofs.Steps.{first_none, held, rules, second_none, shape, two_hyphens, waiting_for}
 use Rattle.ksm_options.proofs.AnyWord.{Reading, word_cases}
 
+-- what the parser does with a word, waiting or idle
 abbrev pub met : Bool → Waiting → Text → Held → Held × Step
 met b waiting word h = cond b (h, trailing 1) (long_or_other rules waiting word (long_of word) h)
 
+-- an idle parser takes without a fault two hyphens, or a setting's name, alone or with its value
 pub idle_turn : (rows : List Row) (pending : Option (Text × List Text)) (word : Text) → turn_fault shape [] (walk_from (held rows pending)) word ≡ []
     → (word ≡ two_hyphens)
     ⊎ ((s : Setting) × (settle_fault rules false (held rows pending) ≡ []) × ((word ≡ flag s) ⊎ ((text : Text) × (word ≡ flag s ++ 61 ∷ text))))
@@ -37,6 +39,7 @@ idle_turn rows pending word e = go (bytes_eq word two_hyphens) refl e
 
 -- ---- the word after `--NAME`
 
+-- a setting's name at the end of the words is an invalid value
 pub waiting_fault : (s : Setting) (rows : List Row) → settle_fault rules false (held rows (Some (name_of s, []))) ≡ kind.InvalidValue ∷ []
 waiting_fault Nodes rows = refl
 waiting_fault Frames rows = refl
@@ -44,6 +47,7 @@ waiting_fault Passes rows = refl
 waiting_fault Tries rows = refl
 waiting_fault LastGeneration rows = refl
 
+-- a word behind a setting's name is its text
 pub value_plain : (s : Setting) (rows : List Row) (word : Text)
     → ◌≡◌ {A = Held × Step} (plain_word rules (option (name_of s)) word (held rows (Some (name_of s, [])))) (held rows (Some (name_of s, word ∷ [])), next idle)
 value_plain Nodes rows word = refl
@@ -61,6 +65,7 @@ value_step s rows word none is =
     ap (λ b. let m = met b (option (name_of s)) word (held rows (Some (name_of s, []))) in after_step rules word (waiting_for s (held rows None)) m.0 m.1) none
     ∙ ap (λ (m : Held × Step). after_step rules word (waiting_for s (held rows None)) m.0 m.1) (is ∙ value_plain s rows word)
 
+-- a waiting parser takes without a fault two hyphens, or the text of its setting
 pub value_turn : (s : Setting) (rows : List Row) (word : Text) → turn_fault shape [] (waiting_for s (held rows None)) word ≡ []
     → (word ≡ two_hyphens) ⊎ (walked rules [] (waiting_for s (held rows None)) word ≡ walk_from (held rows (Some (name_of s, word ∷ []))))
 value_turn s rows word e = go (bytes_eq word two_hyphens) refl e
@@ -81,13 +86,16 @@ value_turn s rows word e = go (bytes_eq word two_hyphens) refl e
 
 -- ---- `--`
 
+-- the parser once two hyphens have come
 abbrev pub after_hyphens : Walk → Walk
 after_hyphens w = record w { is_trailing = true }
 
+-- two hyphens end the options of an idle parser
 pub hyphens_step : (h : Held) → walked rules [] (walk_from h) two_hyphens ≡ after_hyphens (walk_from h)
 unfolding clap_on_literals
 hyphens_step h = refl
 
+-- two hyphens end the options of a waiting parser
 pub waiting_hyphens : (s : Setting) (h : Held) → walked rules [] (waiting_for s h) two_hyphens ≡ after_hyphens (waiting_for s h)
 unfolding clap_on_literals
 waiting_hyphens s h = refl

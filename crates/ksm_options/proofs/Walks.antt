@@ -23,6 +23,7 @@ pub record Reads (before : List Given) (words : List Text) (end : Walk) : Type 0
   pub gives : Gives words given
   pub at_end : Settled (before ++ given) (settled_rows rules end.held.pending end.held.rows)
 
+-- where a walk along words ends
 abbrev pub end_of : Walk → List Text → Walk
 end_of w words = fold (walked rules []) w words
 

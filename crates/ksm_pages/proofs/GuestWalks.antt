@@ -190,6 +190,7 @@ module _ (p q : Row → Bool) (fewer : (r : Row) → q r ≡ true → p r ≡ tr
           let lt = rest (sym (ap (λ (c : Bool). cond c (Some r) (find p rows)) fails) ∙ found) in
           let m = counted q r rows false is in let n = counted p r rows false fails in omega (arith, lt, m, n)
 
+-- before the walk along a guest's rows begins, none has changed
 pub begun : (guest : ℕ) (stop : Option Row) (change : Row → Row) (rows : List Row) → changed_to guest stop change None rows ≡ rows
 begun guest stop change [] = refl
 begun guest stop change (r ∷ rows) = λ t. cond (and_false (is_of guest r && is_before stop r) t) (change r) r ∷ begun guest stop change rows t
@@ -333,9 +334,11 @@ fewer_left guest stop cursor rows row found = less (left guest stop cursor) (lef
 
 -- ---------------------------------------------------------------- all rows of a guest made mergeable
 
+-- a row as it is once it is mergeable
 abbrev pub as_mergeable : Row → Row
 as_mergeable r = record r { mergeable = true }
 
+-- rows of a guest before no stop are all rows of the guest
 pub every_row : (guest : ℕ) (change : Row → Row) (rows : List Row) → change_rows (λ r. is_of guest r && is_before None r) change rows ≡ change_rows (is_of guest) change rows
 every_row guest change [] = refl
 every_row guest change (r ∷ rows) = λ t. cond (and_true (is_of guest r) t) (change r) r ∷ every_row guest change rows t

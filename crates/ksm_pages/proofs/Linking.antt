@@ -38,6 +38,7 @@ use Rattle.ksm_base.proofs.Pages.{same_page_eq}
 
 -- ---------------------------------------------------------------- changes
 
+-- a row put in the stead of its page's own keeps every page
 pub keeps_page : (row : Row) (r : Row) → (if same_page r.page row.page then row else r).page ≡ r.page
 keeps_page row r = cond_both (same_page r.page row.page) row r (λ x. x.page ≡ r.page) (λ same. sym (same_page_eq r.page row.page same)) (λ _. refl)
 
@@ -116,6 +117,7 @@ own_not_merged Waiting e = refl
 own_not_merged (Merged d) e = absurd (true≢false e)
 own_not_merged Zero e = refl
 
+-- a state that is Merged with no number is not merged
 pub none_merged : (s : PageState) → ((number : ℕ) → s ≡ Merged number → ⊥) → merged_state s ≡ false
 none_merged Private other = refl
 none_merged Waiting other = refl
@@ -140,10 +142,12 @@ pub only_rows : (shape : Shape) (old now : DupsState) (knobs : Knobs) (listed mi
 only_rows shape old now knobs listed mid v dups next seen =
     (λ i. record { shape = shape; listed = listed; dups = dups i; knobs = knobs; next = next i }) ∙ ap (λ (p : PagesView). record p { listed = listed }) seen
 
+-- what follows from success and from failure follows
 pub either_way : {T E : Type 0} (P Q R : Type 0) (r : Result T E) → (P → R) → (Q → R) → OnOk r P → OnErr r Q → R
 either_way P Q R (Ok x) ok err p q = ok p
 either_way P Q R (Err e) ok err p q = err q
 
+-- two facts of a success make a third one of it
 pub ok_both : {T E : Type 0} (P Q R : Type 0) (r : Result T E) → (P → Q → R) → OnOk r P → OnOk r Q → OnOk r R
 ok_both P Q R (Ok x) both p q = both p q
 ok_both P Q R (Err e) both p q = tt
@@ -183,6 +187,7 @@ module _ (shape : Shape) (rows : List Row) (dups : DupsState) (linked : AreLinke
 
 -- ---------------------------------------------------------------- what is read from the dups
 
+-- the row of a dup found by its number is the dup row of that number
 pub row_numbered : (number : ℕ) (dups : List Dup) → option_map (λ d. d.row) (dup_of number dups) ≡ dup_numbered number (rows_of dups)
 row_numbered number dups = row_found (has_number number) (λ r. r.number == number) (λ d. refl) dups
 
@@ -190,6 +195,7 @@ place_of_row : (o : Option Dup) → option_map (λ d. d.row.place) o ≡ option_
 place_of_row None = refl
 place_of_row (Some d) = refl
 
+-- a dup found by its number stands where its row says
 pub place_numbered : (number : ℕ) (dups : List Dup) → option_map (λ d. d.row.place) (dup_of number dups) ≡ option_map (λ d. d.place) (dup_numbered number (rows_of dups))
 place_numbered number dups = place_of_row (dup_of number dups) ∙ ap (option_map (λ (r : DupRow). r.place)) (row_numbered number dups)
 
@@ -198,6 +204,7 @@ pub dup_placed : (o : Option DupRow) (p : ℕ) → option_map (λ d. d.place) o 
 dup_placed None p is = cc
 dup_placed (Some d) p is = (d, refl, same_Some d.place p is)
 
+-- where no place is told, there is no dup
 pub no_place : (o : Option DupRow) → option_map (λ d. d.place) o ≡ None → o ≡ None
 no_place None is = refl
 no_place (Some d) is = cc
@@ -218,6 +225,7 @@ module _ (knobs : Knobs) (rows : List Row) (s : DupsState) (row : Row) (tied : A
   pub best_number : option_map (λ d. d.row.number) (best_of (tree_of knobs row) row.bytes knobs.max_page_sharing s.dups) ≡ option_map (λ d. d.number) (best_dup knobs rows (rows_of s.dups) row)
   best_number = number_of_row (best_of (tree_of knobs row) row.bytes knobs.max_page_sharing s.dups) ∙ ap (option_map (λ (d : DupRow). d.number)) (best_found rows knobs row s.dups (tied_counted rows s.dups tied))
 
+-- a dup is found at a place exactly where a row stands there
 pub any_at : (place : ℕ) (dups : List Dup) → is_some (option_map (λ d. d.row.number) (dup_at place dups)) ≡ list_any (λ d. d.place == place) (rows_of dups)
 any_at place [] = refl
 any_at place (d ∷ dups) =
@@ -227,6 +235,7 @@ any_at place (d ∷ dups) =
       | inr away ↦ grind (arith, away, rest)
     ]
 
+-- the first stale dup by its items is the first by the rows
 pub stale_at : (rows : List Row) (dups : List Dup) → AreTied rows dups → option_map (λ d. d.row.place) (find is_stale dups) ≡ option_map (λ (r : DupRow). r.place) (find (is_stale_row rows) (rows_of dups))
 stale_at rows dups tied = place_of_row (find is_stale dups) ∙ ap (option_map (λ (r : DupRow). r.place)) (stale_alike rows dups (tied_counted rows dups tied))
 
@@ -242,6 +251,7 @@ vacant_at : (rows : List Row) (ds : List DupRow) (r : Option ℕ) (o : Option Du
 vacant_at rows ds r None rise found is = subst (λ x. IfSome x (λ place. IsVacant place rows ds)) (sym is) tt
 vacant_at rows ds r (Some e) rise found is = subst (λ x. IfSome x (λ place. IsVacant place rows ds)) (sym is) (stale_vacant rows ds e rise found)
 
+-- the place of a stale dup is vacant
 pub vacant_there : (rows : List Row) (s : DupsState) (r : Option ℕ) → AreDups s → AreTied rows s.dups → r ≡ option_map (λ d. d.row.place) (find is_stale s.dups) → IfSome r (λ place. IsVacant place rows (rows_of s.dups))
 vacant_there rows s r lawful tied is = vacant_at rows (rows_of s.dups) r (find (is_stale_row rows) (rows_of s.dups)) lawful.in_place_order refl (is ∙ stale_at rows s.dups tied)
 
@@ -249,6 +259,7 @@ vacant_there rows s r lawful tied is = vacant_at rows (rows_of s.dups) r (find (
 pub choice_seen : (shape : Shape) (rows : List Row) (s : DupsState) (c : Choice) → AreLinked shape rows s → choice_of s ≡ Some c → place_in c ≡ new_place (place_count shape) rows (rows_of s.dups)
 choice_seen shape rows s c linked is = choice_alike rows s c (tied_counted rows s.dups linked.tied) is ∙ ap (λ n. new_place n rows (rows_of s.dups)) linked.places
 
+-- where a new dup's place is within the table, one can be chosen
 pub choice_is_there : (shape : Shape) (rows : List Row) (s : DupsState) → AreLinked shape rows s → new_place (place_count shape) rows (rows_of s.dups) < place_count shape → is_some (choice_of s) ≡ true
 choice_is_there shape rows s linked room =
     choice_exists rows s (tied_counted rows s.dups linked.tied) (subst (λ n. new_place n rows (rows_of s.dups) < n) (sym linked.places) room)
@@ -315,9 +326,11 @@ found_room rows dups number (Some d) tied is room =
     let same : item_count rows d.row ≡ item_count rows room.0 = ap (λ n. count_by (λ r. merged_into n r.state) rows) (number_found number dups d is ∙ sym room.2) in
     (refl, omega (arith, counted, same, room.3))
 
+-- a dup with room is there
 pub known_room : (rows : List Row) (dups : List Dup) (number : ℕ) → AreTied rows dups → HasRoom rows (rows_of dups) number → is_some (dup_of number dups) ≡ true
 known_room rows dups number tied room = (found_room rows dups number (dup_of number dups) tied refl room).0
 
+-- a dup with room has fewer than 1,024 items
 pub fewer_room : (rows : List Row) (dups : List Dup) (number : ℕ) → AreTied rows dups → HasRoom rows (rows_of dups) number → length (items_numbered number dups) < 1024
 fewer_room rows dups number tied room = (found_room rows dups number (dup_of number dups) tied refl room).1
 

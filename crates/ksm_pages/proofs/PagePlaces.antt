@@ -53,6 +53,7 @@ place_from_position found q j is =
 position_from_place : (found : Entries) → AreApart found → (q : GuestPage) (j : ℕ) → StandsIn found q j → position (asks q) (keys_of found) ≡ Some j
 position_from_place found distinct q j stands = index-first (asks q) found j (own_first asks laws found j q stands.0 distinct stands.1)
 
+-- the index that the order tells of a page is where its entry stands
 pub place_of : (found : Entries) (order : Indices) → IsPaged found order → (q : GuestPage) (j : ℕ) → lookup (asks q) order ≡ Some j → StandsIn found q j
 place_of found order is q j looks = place_from_position found q j (sym (is.indexed q) ∙ looks)
 
@@ -80,6 +81,7 @@ no_index found order page none = by (lookup (asks page) order) (sym (lookup-map_
     by None e = refl
     by (Some i) e = absurd (never_some (sym e))
 
+-- a page that the order does not know has no entry
 pub no_entry : (found : Entries) (order : Indices) (page : GuestPage) → lookup (asks page) order ≡ None → lookup (asks page) (paged found order) ≡ None
 no_entry found order page none = lookup-map_values (entry_at found) (asks page) order ∙ ap (option_map (entry_at found)) none
 
@@ -165,6 +167,7 @@ module _ (found : Entries) (order rises : Indices) (page : GuestPage) (w : Entry
       by true same hit = absurd (never_some (sym none ∙ ap (λ k. lookup (asks k) order) (sym (page_is page q same)) ∙ hit))
       by false other hit = hit
 
+-- an entry added at the end, with its index in the order, is the page's
 pub inserts : (found made : Entries) (order rises : Indices) (page : GuestPage) (w : Entry) → IsPaged found order → lookup (asks page) order ≡ None
     → made ≡ found ++ (page, w) ∷ [] → AreApart found → AreApart made → rises ≡ insert_entry page_order order page (length found)
     → Rising rises → Updates page (Some (length found)) order rises
@@ -182,6 +185,7 @@ inserts found made order rises page w is none becomes was_distinct distinct put 
 
 -- ---------------------------------------------------------------- a page goes
 
+-- a page taken out of the order is taken out of what is seen
 pub remove_paged : (found : Entries) (test : GuestPage → Bool) (order : Indices) → paged found (remove_entry test order) ≡ remove_entry test (paged found order)
 remove_paged found test [] = refl
 remove_paged found test (e ∷ order) = by (test e.0) (remove_paged found test order)
@@ -364,6 +368,7 @@ stood_at found order page i o d is at read some =
           (slice_get-map value_of found i ∙ ap (option_map value_of) (sym read ∙ some))),
     )
 
+-- an entry swapped out, with the index told of the one that moved, is gone
 pub removes : (found made : Entries) (order gone told : Indices) (page : GuestPage) (i : ℕ) (d : GuestPage × Entry) → IsPaged found order → AreApart found
     → lookup (asks page) order ≡ Some i → made ≡ swap_remove found i d → AreApart made → Updates page None found made
     → gone ≡ remove_entry (asks page) order → Rising gone → Updates page None order gone
@@ -388,6 +393,7 @@ removes found made order gone told page i d is distinct at becomes distinct' fin
 
 -- ---------------------------------------------------------------- results
 
+-- where a call succeeded, what holds then holds of its success
 pub ok_so : {T E P : Type 0} (r : Result T E) → IsOk r → OnOk r P → P
 ok_so (Ok x) is h = h
 ok_so (Err e) is h = absurd (true≢false (sym is))

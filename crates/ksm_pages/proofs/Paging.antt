@@ -43,12 +43,15 @@ AreApart es = IsDistinct asks (keys_of es)
 abbrev pub Updates : {X : Type 0} → GuestPage → Option X → List (GuestPage × X) → List (GuestPage × X) → Type 0
 Updates page w old new = (q : GuestPage) → lookup (asks q) new ≡ cond (asks page q) w (lookup (asks q) old)
 
+-- the page of an entry
 abbrev pub page_of : GuestPage × Entry → GuestPage
 page_of e = e.0
 
+-- what an entry keeps of its page
 abbrev pub value_of : GuestPage × Entry → Entry
 value_of e = e.1
 
+-- an entry for where none is asked
 abbrev pub of_none : Entry
 of_none = entry_of no_row None
 
@@ -60,6 +63,7 @@ from_here start es = entries_between page_order start Unbounded es
 pub total : IsTotalOrder page_order
 total = total-law
 
+-- the test for the page asked for is an equivalence
 pub laws : IsEquivalence asks
 laws = eq_by_cmp_equiv total
 
@@ -74,14 +78,17 @@ equal_is = λ t p q. eq_is p q t
 pub page_is : (p q : GuestPage) → asks p q ≡ true → q ≡ p
 page_is p q is = same_page_eq q p (sym (asks_is p q) ∙ is)
 
+-- a page asks for itself
 pub own : (p : GuestPage) → asks p p ≡ true
 own p = laws.refl p
 
 -- ---------------------------------------------------------------- entries in order that find the same
 
+-- nothing is not something
 pub never_some : {X : Type 0} {x : X} → None ≡ Some x → ⊥
 never_some none = true≢false (sym (ap is_some none))
 
+-- sorted entries in which each page finds the same are the same
 pub same_entries : (es fs : Entries) → Sorted es → Sorted fs → ((q : GuestPage) → lookup (asks q) es ≡ lookup (asks q) fs) → es ≡ fs
 same_entries [] [] rise rise' same = refl
 same_entries [] (f ∷ fs) rise rise' same = absurd (never_some (same f.0 ∙ lookup_head (asks f.0) f fs (own f.0)))
@@ -117,10 +124,12 @@ same_entries (e ∷ es) (f ∷ fs) rise rise' same =
 
 -- ---------------------------------------------------------------- what is found
 
+-- the pages seen are those of the order
 pub keys_paged : (found : Entries) (order : Indices) → keys_of (paged found order) ≡ keys_of order
 keys_paged found [] = refl
 keys_paged found (e ∷ order) = ap (λ l. e.0 ∷ l) (keys_paged found order)
 
+-- what is seen stands in the order of the pages
 pub in_order : (found : Entries) (order : Indices) → IsPaged found order → Sorted (paged found order)
 in_order found order is = subst (IsStrictlySortedBy page_order) (sym (keys_paged found order)) is.sorted
 
@@ -138,6 +147,7 @@ value_at test found = by (position test (keys_of found)) refl
         let f = Found-position test found i at in
         sym (slice_get-get_or (values_of found) i of_none (omega (arith, f.within, length-values_of found))) ∙ sym f.value
 
+-- a page is found in what is seen as in the map
 pub found_by : (found : Entries) (order : Indices) → IsPaged found order → (q : GuestPage) → lookup (asks q) (paged found order) ≡ lookup (asks q) found
 found_by found order is q =
     lookup-map_values (entry_at found) (asks q) order ∙ ap (option_map (entry_at found)) (is.indexed q) ∙ value_at (asks q) found
@@ -150,6 +160,7 @@ entry_is found i v read = get_or_from_slice_get (values_of found) i v of_none re
 pub first_within : (found : Entries) (order rest : Indices) (e : GuestPage × ℕ) → AreWithin found order → order ≡ e ∷ rest → e.1 < length found
 first_within found order rest e are steps = All-head (λ (x : GuestPage × ℕ). x.1 < length found) e rest (subst (AreWithin found) steps are)
 
+-- what is left of a walk stands within the map
 pub rest_within : (found : Entries) (order rest : Indices) (e : GuestPage × ℕ) → AreWithin found order → order ≡ e ∷ rest → AreWithin found rest
 rest_within found order rest e are steps =
     All-tail (λ (x : GuestPage × ℕ). x.1 < length found) e rest (subst (AreWithin found) steps are)
@@ -162,6 +173,7 @@ got found order es page o seen is value =
 
 -- ---------------------------------------------------------------- an entry is put in the stead of another
 
+-- to set the value of a page that is not there changes nothing
 pub set_absent : {X : Type 0} (test : GuestPage → Bool) (es : List (GuestPage × X)) (w : X) → lookup test es ≡ None → set_value test es w ≡ es
 set_absent test [] w none = refl
 set_absent {X} test (e ∷ es) w none = by (test e.0) none (set_absent test es w)
@@ -232,6 +244,7 @@ keys_changed : (change : Row → Row) (es : Entries) → keys_of (changed_all ch
 keys_changed change [] = refl
 keys_changed change (e ∷ es) = ap (λ l. e.0 ∷ l) (keys_changed change es)
 
+-- a change of all entries in the map is the same change of what is seen
 pub changes : (change : Row → Row) (found made : Entries) (order : Indices) → IsPaged found order → made ≡ changed_all change found
     → Becomes made order (changed_all change (paged found order))
 changes change found made order is becomes = record {

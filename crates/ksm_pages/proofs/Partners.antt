@@ -113,12 +113,15 @@ settled_still Waiting = refl
 settled_still (Merged n) = refl
 settled_still Zero = refl
 
+-- where all rows are settled, none waits
 pub none_settled : (knobs : Knobs) (rows : List Row) → AreWaiting knobs (map settled rows) []
 none_settled knobs rows = none_waiting knobs (map settled rows) (All-map (λ r. waiting_state r.state ≡ false) settled rows (λ k d lt. settled_still (get_or rows k d).state))
 
+-- where all rows are unshared, none waits
 pub none_unshared : (knobs : Knobs) (rows : List Row) → AreWaiting knobs (map unshared rows) []
 none_unshared knobs rows = none_waiting knobs (map unshared rows) (All-map (λ r. waiting_state r.state ≡ false) unshared rows (λ k d lt. refl))
 
+-- a row that becomes mergeable waits no more and no less
 pub waiting_mergeable : (knobs : Knobs) (rows : List Row) (w : List WaitingPage) (test : Row → Bool) → AreWaiting knobs rows w → AreWaiting knobs (change_rows test (λ r. record r { mergeable = true }) rows) w
 waiting_mergeable knobs rows w test are = rows_changed knobs rows w are test (λ r. record r { mergeable = true }) (λ k d lt _. (refl, refl, refl, refl))
 

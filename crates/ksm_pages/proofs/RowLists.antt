@@ -22,21 +22,26 @@ pub use Rattle.ksm_pages.specs.Paged.{Entries, Sorted, asks}
 use Rattle.ksm_pages.specs.RowEntries.{row_of, frame_of, entry_of, listed}
 use Rattle.ksm_base.proofs.Pages.{same_page_eq, not_both, before_differs, before_trans}
 
+-- the order of the pages
 abbrev pub order : GuestPage → GuestPage → Ordering
 order = page_ord.ghosts.cmp
 
+-- the rows of entries
 abbrev pub rows_of : Entries → List Row
 rows_of es = map row_of es
 
+-- what asks for a page is the test for the same page
 pub asks_is : (p q : GuestPage) → asks p q ≡ same_page q p
 asks_is p q = grind (arith, nat_tests)
 
+-- the order of the map is the order of the pages
 pub less_is : (p q : GuestPage) → is_lt (order p q) ≡ comes_before p q
 less_is p q = grind (arith, nat_tests)
 
 greater_is : (p q : GuestPage) → is_gt (order p q) ≡ comes_before q p
 greater_is p q = grind (arith, nat_tests)
 
+-- a page that is less comes before
 pub before_is : (k q : GuestPage) → order k q ≡ Less → comes_before k q ≡ true
 before_is k q less = sym (less_is k q) ∙ ap is_lt less
 
@@ -50,6 +55,7 @@ less_so k q before = go (order k q) refl
 
 -- ---------------------------------------------------------------- entries that all come after a page
 
+-- a page comes before all of the entries
 abbrev pub After : GuestPage → Entries → Type 0
 After k es = AllByRecursion (λ y. order k y ≡ Less) (keys_of es)
 
@@ -77,6 +83,7 @@ none_changed k row [] after = refl
 none_changed k row (e ∷ es) after =
     ap (λ (b : Bool). cond b row (row_of e) ∷ change_row k (λ _. row) (rows_of es)) (before_differs k e.0 (before_is k e.0 after.0)) ∙ ap (λ l. row_of e ∷ l) (none_changed k row es after.1)
 
+-- a page before all entries has no row
 pub none_there : (k : GuestPage) (es : Entries) → After k es → row_at k (rows_of es) ≡ None
 none_there k [] after = refl
 none_there k (e ∷ es) after =
@@ -138,6 +145,7 @@ known_by k (e ∷ es) =
     by true rest = refl
     by false rest = rest
 
+-- a page without an entry has no row
 pub none_by : (k : GuestPage) (es : Entries) → lookup (asks k) es ≡ None → row_at k (rows_of es) ≡ None
 none_by k es none = go (row_at k (rows_of es)) (known_by k es ∙ ap is_some none)
   where
@@ -145,6 +153,7 @@ none_by k es none = go (row_at k (rows_of es)) (known_by k es ∙ ap is_some non
     go None e = refl
     go (Some r) e = absurd (grind (arith, e))
 
+-- a page without a row has no entry
 pub no_entry_by : (k : GuestPage) (es : Entries) → row_at k (rows_of es) ≡ None → lookup (asks k) es ≡ None
 no_entry_by k es none = go (lookup (asks k) es) (sym (known_by k es) ∙ ap is_some none)
   where
@@ -170,6 +179,7 @@ stands k v (e ∷ es) sorted found = beside (Stands (listed (e ∷ es)) k (row_o
     subst (Stands (listed (e ∷ es)) k (row_of (k, v)) v.frame) (sym p.next)
     (omega (arith, s.0), s.1, s.2, ap (λ (b : Bool). cond b (Some (row_of e)) (row_at k (rows_of es))) p.other ∙ s.3))
 
+-- an entry that is found stands for its page's row and frame
 pub stands_at : (k : GuestPage) (v : Entry) (es : Entries) → Sorted es → lookup (asks k) es ≡ Some v → StandsAt (listed es) k (row_of (k, v)) v.frame
 stands_at k v es sorted found = let s = stands k v es sorted found in record { inside = s.0; row_is = s.1; frame_is = s.2; found = s.3 }
 
@@ -310,6 +320,7 @@ pub record Came (old new : Listed) (row : Row) (frame : Option ℕ) : Type 0 whe
   pub within : rank row.page old.rows ≤ length old.rows
   pub known : is_some (row_at row.page new.rows) ≡ true
 
+-- an entry inserted is a row and a frame that came
 pub came : (es fs : Entries) (l : Listed) (row : Row) (frame : Option ℕ) → listed es ≡ l → Sorted es → row_at row.page l.rows ≡ None → fs ≡ insert_entry order es row.page (entry_of row frame) → Came l (listed fs) row frame
 came es fs l row frame is sorted none made =
     subst (λ v. Came v (listed fs) row frame) is (subst (λ x. Came (listed es) (listed x) row frame) (sym made)
@@ -322,6 +333,7 @@ pub record Replaced (old new : Listed) (row : Row) (frame : Option ℕ) : Type 0
   pub frames : new.frames ≡ set old.frames (rank row.page old.rows) frame
   pub changed : new.rows ≡ change_row row.page (λ _. row) old.rows
 
+-- an entry put in the stead of another is a row and a frame replaced
 pub replaced : (es fs : Entries) (l : Listed) (row : Row) (frame : Option ℕ) → listed es ≡ l → Sorted es → is_some (row_at row.page l.rows) ≡ true → fs ≡ set_value (asks row.page) es (entry_of row frame) → Replaced l (listed fs) row frame
 replaced es fs l row frame is sorted known made =
     subst (λ v. Replaced v (listed fs) row frame) is (subst (λ x. Replaced (listed es) (listed x) row frame) (sym made)
@@ -334,6 +346,7 @@ pub record Revised (old new : Listed) (row : Row) : Type 0 where
   pub frames : new.frames ≡ old.frames
   pub changed : new.rows ≡ change_row row.page (λ _. row) old.rows
 
+-- an entry with another row on its frame is a row revised
 pub revised : (es fs : Entries) (l : Listed) (row : Row) (v : Entry) → listed es ≡ l → Sorted es → lookup (asks row.page) es ≡ Some v → fs ≡ set_value (asks row.page) es (entry_of row v.frame) → Revised l (listed fs) row
 revised es fs l row v is sorted found made =
     subst (λ x. Revised x (listed fs) row) is (
@@ -353,6 +366,7 @@ pub record Went (old new : Listed) (page : GuestPage) : Type 0 where
   pub frames : new.frames ≡ remove old.frames (rank page old.rows)
   pub gone : new.rows ≡ without_page page old.rows
 
+-- an entry removed is a row and a frame that went
 pub went : (es fs : Entries) (l : Listed) (page : GuestPage) → listed es ≡ l → Sorted es → is_some (row_at page l.rows) ≡ true → fs ≡ remove_entry (asks page) es → Went l (listed fs) page
 went es fs l page is sorted known made =
     subst (λ v. Went v (listed fs) page) is (subst (λ x. Went (listed es) (listed x) page) (sym made)

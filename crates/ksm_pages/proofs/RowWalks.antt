@@ -36,6 +36,7 @@ lent_twice : (o : Option (Bor GuestPage × Bor Entry)) → option_map row_lent o
 lent_twice None = refl
 lent_twice (Some e) = refl
 
+-- the first entry that passes is of the first row that does
 pub row_found : (test : Row → Bool) (es : Entries) (l : Listed) (o : Option (Bor GuestPage × Bor Entry)) → listed es ≡ l → option_map deref_pair o ≡ find (λ e. test (row_of e)) es → option_map row_lent o ≡ find test l.rows
 row_found test es l o is found = lent_twice o ∙ ap (option_map row_of) found ∙ find_row test es ∙ ap (λ (v : Listed). find test v.rows) is
 
@@ -72,11 +73,13 @@ find_alike : {X : Type 0} (p q : X → Bool) (xs : List X) → ((x : X) → p x 
 find_alike p q [] alike = refl
 find_alike p q (x ∷ xs) alike = λ t. cond (alike x t) (Some x) (find_alike p q xs alike t)
 
+-- a walk from behind the cursor finds the first row after it
 pub find_after : (test : Row → Bool) (cursor : Option GuestPage) (es : Entries) → find (λ e. test (row_of e)) (entries_between page_order (start_after cursor) Unbounded es) ≡ find (λ e. test (row_of e) && after_cursor cursor (row_of e).page) es
 find_after test cursor es =
     find_filter (λ e. test (row_of e)) (λ e. range_contains page_order (start_after cursor) Unbounded e.0) es
     ∙ find_alike _ _ es (λ e. ap (λ b. test (row_of e) && b) (in_range cursor e.0))
 
+-- a walk from where a guest's pages begin finds its first row after the cursor
 pub find_from : (test : Row → Bool) (guest : ℕ) (cursor : Option GuestPage) (start : Bound GuestPage) → BeginsAt guest cursor start → (es : Entries)
     → find (λ e. test (row_of e)) (entries_between page_order start Unbounded es)
     ≡ find (λ e. test (row_of e) && (after_cursor cursor (row_of e).page && nat_le guest (row_of e).page.guest)) es

@@ -193,6 +193,7 @@ on_found : {T : Type 0} (X : Type 0) {P Q : T → Type 0} (o : Option T) → ((x
 on_found X None f h = absurd h
 on_found X (Some x) f h = f x h
 
+-- runs that lead to a page, and the run from there, lead on
 pub lead_on : (n : ℕ) (rows : List Row) (cursor : Option GuestPage) (runs : List Run) (k : ℕ) (at : Option GuestPage) (run : Run) (page : GuestPage)
     → LeadTo n rows cursor runs k at → IsRun k rows at run → run.next ≡ Some page → LeadTo n rows cursor (runs ++ run ∷ []) (k - run.visits - 1) (Some page)
 lead_on n rows cursor [] k at run page (left, here) is next = (

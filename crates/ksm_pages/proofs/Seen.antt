@@ -28,6 +28,7 @@ pub lodged_at : (lodgings : List (Option ℕ)) (o : Option DupRow) (p : ℕ) →
 lodged_at lodgings None p is = cc
 lodged_at lodgings (Some d) p is = ap (frame_in lodgings) (sym (same_Some d.place p is))
 
+-- where no dup is, no frame is lodged
 pub lodged_nowhere : (lodgings : List (Option ℕ)) (o : Option DupRow) → option_map (λ d. d.place) o ≡ None → None ≡ lodging_of lodgings o
 lodged_nowhere lodgings None is = refl
 lodged_nowhere lodgings (Some d) is = cc
@@ -40,6 +41,7 @@ seen_at of (r ∷ rows) [] i paired lt = absurd (omega (arith, paired))
 seen_at of (r ∷ rows) (own ∷ frames) zero paired lt = refl
 seen_at of (r ∷ rows) (own ∷ frames) (suc i) paired lt = seen_at of rows frames i (omega (arith, paired)) (omega arith)
 
+-- as many frames are seen as there are rows
 pub seen_paired : (of : ℕ → Option ℕ) (rows : List Row) (frames : List (Option ℕ)) → length frames ≡ length rows
     → length (frames_seen of rows frames) ≡ length rows
 seen_paired of [] frames paired = refl
@@ -140,6 +142,7 @@ merged_seen of Waiting number own is = cc
 merged_seen of (Merged n) number own is = ap of (eqb-true n number is)
 merged_seen of Zero number own is = cc
 
+-- a row that settles is seen on the frame where it was
 pub settled_seen : (of : ℕ → Option ℕ) (s : PageState) (own : Option ℕ) → frame_seen of (settled_state s) own ≡ frame_seen of s own
 settled_seen of Private own = refl
 settled_seen of Waiting own = refl
@@ -155,6 +158,7 @@ item_lies dups lodgings v page r frame number paired at merged =
     sym at.frame_is ∙ seen_at (lodging dups lodgings) v.rows v.frames (rank page v.rows) paired at.inside
     ∙ ap (λ (x : Row). frame_seen (lodging dups lodgings) x.state own) at.row_is ∙ merged_seen (lodging dups lodgings) r.state number own merged
 
+-- the items of a dup lie on the frame where it is lodged
 pub items_lie : (dups : List DupRow) (lodgings : List (Option ℕ)) (v : Listed) (number : ℕ) → InPageOrder v.rows → length v.frames ≡ length v.rows
     → ItemsLieOn (listed_seen dups lodgings v) number (lodging dups lodgings number)
 items_lie dups lodgings v number rise paired page r found merged =
@@ -185,6 +189,7 @@ seen_put dups now lodgings v w row own frame same rows frames is =
     (λ t. frames_seen (lodging (same t) lodgings) (rows t) (frames t)) ∙ seen_set (lodging dups lodgings) v.rows v.frames (rank row.page v.rows) row own
     ∙ ap (set (listed_seen dups lodgings v).frames (rank row.page v.rows)) is
 
+-- a row and a frame put at one index keep both lists of one length
 pub paired_put : (v w : Listed) (i : ℕ) (row : Row) (own : Option ℕ) → length v.frames ≡ length v.rows → w.rows ≡ set v.rows i row
     → w.frames ≡ set v.frames i own → length w.frames ≡ length w.rows
 paired_put v w i row own paired rows frames = ap length frames ∙ length-set v.frames i own ∙ paired ∙ sym (ap length rows ∙ length-set v.rows i row)
@@ -198,6 +203,7 @@ seen_put_there dups now lodgings v w row frame same rows frames is =
     (λ t. frames_seen (lodging (same t) lodgings) (rows t) (frames t)) ∙ seen_restated (lodging dups lodgings) v.rows v.frames (rank row.page v.rows) row
     ∙ ap (set (listed_seen dups lodgings v).frames (rank row.page v.rows)) is
 
+-- a row put at an index beside the same frames keeps both lists of one length
 pub paired_there : (v w : Listed) (i : ℕ) (row : Row) → length v.frames ≡ length v.rows → w.rows ≡ set v.rows i row → w.frames ≡ v.frames
     → length w.frames ≡ length w.rows
 paired_there v w i row paired rows frames = ap length frames ∙ paired ∙ sym (ap length rows ∙ length-set v.rows i row)
@@ -207,6 +213,7 @@ pub paired_mapped : (f : Row → Row) (v w : Listed) → length v.frames ≡ len
     → length w.frames ≡ length w.rows
 paired_mapped f v w paired rows frames = ap length frames ∙ paired ∙ sym (ap length rows ∙ length-map v.rows f)
 
+-- rows that change without leaving their frames are seen on them
 pub seen_kept : (of : ℕ → Option ℕ) (f : Row → Row) (v w : Listed) → w.rows ≡ map f v.rows → w.frames ≡ v.frames
     → All (λ r. (own : Option ℕ) → frame_seen of (f r).state own ≡ frame_seen of r.state own) v.rows
     → frames_seen of w.rows w.frames ≡ frames_seen of v.rows v.frames
@@ -238,6 +245,7 @@ paired_gone v w i paired rows frames = ap length frames ∙ removed v.rows v.fra
     removed (r ∷ rows) (h ∷ frames) zero paired = omega (arith, paired)
     removed (r ∷ rows) (h ∷ frames) (suc i) paired = ap suc (removed rows frames i (omega (arith, paired)))
 
+-- a row that goes takes its frame out of what is seen
 pub seen_gone : (dups now : List DupRow) (lodgings : List (Option ℕ)) (v w : Listed) (i : ℕ) → length v.frames ≡ length v.rows → now ≡ dups
     → w.rows ≡ remove v.rows i → w.frames ≡ remove v.frames i
     → frames_seen (lodging now lodgings) w.rows w.frames ≡ remove (listed_seen dups lodgings v).frames i
@@ -259,6 +267,7 @@ stood_before v one item row frame rise found rows frames there =
     ap (rank row.page) rows ∙ rank_mapped row.page (λ r. if same_page r.page item.page then item else r) v.rows (keeps_page item) in
     subst (StandsAt v row.page row) ((λ t. frame_in (sym frames t) (sym ranks t)) ∙ there.frame_is) (stands_where v row.page row rise found)
 
+-- a row that becomes mergeable is seen on the frame where it was
 pub mergeable_seen : (of : ℕ → Option ℕ) (test : Row → Bool) (r : Row) (own : Option ℕ)
     → frame_seen of (if test r then record r { mergeable = true } else r).state own ≡ frame_seen of r.state own
 mergeable_seen of test r own =
@@ -316,6 +325,7 @@ pub lodging_without : (dups : List DupRow) (lodgings : List (Option ℕ)) (place
 lodging_without dups lodgings place n away =
     ap (lodging_of lodgings) (find_kept (λ d. d.number == n) (elsewhere place) dups (dup_numbered n dups) refl (λ e is. apart place e (away e is)))
 
+-- a vacant place dropped changes no frame that is seen
 pub seen_dropped : (dups : List DupRow) (lodgings : List (Option ℕ)) (v : Listed) (place : ℕ) → IsVacant place v.rows dups
     → frames_seen (lodging (filter (elsewhere place) dups) lodgings) v.rows v.frames ≡ frames_seen (lodging dups lodgings) v.rows v.frames
 seen_dropped dups lodgings v place vacant =

@@ -63,6 +63,7 @@ settles k v (e ∷ es) sorted found =
       frames = ap (λ (b : Bool). map frame_of (cond b ((e.0, w) ∷ es) (e ∷ set_value (asks k) es w))) p.asked ∙ ap (λ l. frame_of e ∷ l) rest.frames;
     })
 
+-- an entry that settles changes its own row alone
 pub settles_one : (k : GuestPage) (es fs : Entries) → Sorted es → MatchOption (lookup (asks k) es) (fs ≡ es) (λ e. fs ≡ set_value (asks k) es (record e { state = settled_state e.state })) → Settles k es fs
 settles_one k es fs sorted set = by (lookup (asks k) es) refl set
   where
@@ -80,6 +81,7 @@ is_one_of pages r = list_any (λ p. same_page r.page p) pages
 abbrev pub calmed : List GuestPage → Row → Row
 calmed pages r = if is_one_of pages r then settled r else r
 
+-- before the first page settles, the rows are as they were
 pub none_calmed : (rows : List Row) → rows ≡ map (calmed []) rows
 none_calmed [] = refl
 none_calmed (r ∷ rows) = ap (λ l. r ∷ l) (none_calmed rows)
@@ -90,6 +92,7 @@ settled_twice Waiting = refl
 settled_twice (Merged d) = refl
 settled_twice Zero = refl
 
+-- the pages settled so far, and one more, are settled
 pub one_more_calmed : (done : List GuestPage) (page : GuestPage) (rows : List Row) → change_row page settled (map (calmed done) rows) ≡ map (calmed (done ++ page ∷ [])) rows
 one_more_calmed done page [] = refl
 one_more_calmed done page (r ∷ rows) = λ t. here t ∷ one_more_calmed done page rows t

@@ -205,6 +205,7 @@ and_true : (b : Bool) → (b && true) ≡ b
 and_true true = refl
 and_true false = refl
 
+-- what settles is counted as volatile, and no more as waiting
 pub tally_settled : (rows : List Row) (t : Tally) → IsTally rows t → IsTally (map settled rows) (record t { waiting = 0; volatile = t.volatile + t.pending; pending = 0 })
 tally_settled rows t are = record {
   mergeable = are.mergeable ∙ sym (mapped (λ r. r.mergeable) (λ r. r.mergeable) settled rows (λ r. refl));
@@ -215,6 +216,7 @@ tally_settled rows t are = record {
   zero = are.zero ∙ sym (mapped (λ r. zero_state r.state) (λ r. zero_state r.state) settled rows (λ r. still_zero r.state));
 }
 
+-- what is unshared is counted as volatile alone
 pub tally_unshared : (rows : List Row) (t : Tally) → IsTally rows t → IsTally (map unshared rows) (record t { merged = 0; waiting = 0; volatile = t.mergeable; pending = 0; zero = 0 })
 tally_unshared rows t are = record {
   mergeable = are.mergeable ∙ sym (mapped (λ r. r.mergeable) (λ r. r.mergeable) unshared rows (λ r. refl));

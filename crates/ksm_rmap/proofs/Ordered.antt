@@ -18,9 +18,11 @@ pub record IsOrder {X : Type 0} (before same : X → X → Bool) : Type 0 where
   pub same_refl : (x : X) → same x x ≡ true
   pub same_eq : (x y : X) → same x y ≡ true → x ≡ y
 
+-- where all pairs of a list are related, its first is related to all behind it
 pub pairs_head : {X : Type 0} (R : X → X → Type 0) (x : X) (xs : List X) → AllPairs R (x ∷ xs) → All (R x) xs
 pairs_head R x xs pairs k d lt = pairs 0 (suc k) d (omega arith) (omega arith)
 
+-- where all pairs of a list are related, so are those behind the first
 pub pairs_tail : {X : Type 0} (R : X → X → Type 0) (x : X) (xs : List X) → AllPairs R (x ∷ xs) → AllPairs R xs
 pairs_tail R x xs pairs i j d lt in_range = pairs (suc i) (suc j) d (omega arith) (omega arith)
 
@@ -39,6 +41,7 @@ filter_none p (x ∷ xs) none =
     let rest = filter_none p xs (All-tail (λ y. p y ≡ false) x xs none) in
     grind (arith, here, rest)
 
+-- a filter that all members pass keeps the list
 pub filter_all : {X : Type 0} (p : X → Bool) (xs : List X) → All (λ x. p x ≡ true) xs → filter p xs ≡ xs
 filter_all p [] each = refl
 filter_all p (x ∷ xs) each =

@@ -4,6 +4,7 @@ use Rattle.std.proofs.lemmas.Bool.Decides.{nat_tests}
 use Rattle.ksm_base.specs.Rows.{comes_before, same_page}
 use Rattle.ksm_rmap.proofs.Ordered.{IsOrder}
 
+-- pages have an order by guest and page
 pub pages_ordered : IsOrder comes_before same_page
 pages_ordered = record {
   trans = λ p q r first second. grind (arith, nat_tests);

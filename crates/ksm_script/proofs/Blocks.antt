@@ -21,6 +21,11 @@ taken_from n m a b buffer rest bytes room same split = rw (room, same) (go (n ==
     go false None = tt
     go false (Some xs) = ap (λ l. l ++ xs) split ∙ append_assoc bytes rest xs
 
+-- a buffer whose first byte is a newline
+pub begins_with : (buffer : List ℕ) → get_or buffer 0 0 ≡ 10 → 1 ≤ length buffer → buffer ≡ (10 ∷ []) ++ drop 1 buffer
+begins_with [] first some = absurd (omega (arith, some))
+begins_with (byte ∷ buffer) first some = ap (λ b. b ∷ buffer) first
+
 -- a buffer up to the first newline of its beginning
 pub up_to_newline : (buffer : List ℕ) (n at : ℕ) → at < length (take n buffer) → is_byte 10 (get_or (take n buffer) at 0) ≡ true
     → buffer ≡ (take at (take n buffer) ++ 10 ∷ []) ++ drop (at + 1) buffer
@@ -36,6 +41,7 @@ is_plain_before block at fits none = λ k d lt is.
     let low : k < at = omega (arith, lt, length-take at block) in
     none k zero-le low (eq-eqb _ _ (get_or_default block k 0 d (omega arith) ∙ sym (get_or-take at block k d low) ∙ is))
 
+-- a block in which no newline was found is plain
 pub is_plain_block : (block : List ℕ) → Nowhere (Passes (is_byte 10) block) 0 (length block) → IsPlain block
 is_plain_block block none = λ k d lt is. none k zero-le lt (eq-eqb _ _ (get_or_default block k 0 d lt ∙ is))
 
@@ -45,6 +51,7 @@ up_to_end buffer n =
     let same : take (length (take n buffer)) buffer ≡ take n buffer = ap (λ k. take k buffer) (length-take n buffer) ∙ take_min n buffer in
     sym (take-append-drop (length (take n buffer)) buffer) ∙ ap (λ l. l ++ drop (length (take n buffer)) buffer) same
 
+-- two plain pieces of a line are one
 pub plain_with : (line part : List ℕ) → IsPlain line → IsPlain part → IsPlain (line ++ part)
 plain_with line part = All-append (λ byte. byte ≢ 10) line part
 

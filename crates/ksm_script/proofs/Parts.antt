@@ -11,15 +11,18 @@ use Rattle.ksm_script.specs.declared.script.RunFault.{RunFault}
 use Rattle.ksm_script.specs.declared.script.RunFault.TheVariants.{Write}
 use Rattle.ksm_script.specs.Texts.{AppendsBroken, AppendsPart}
 
+-- what appended one part of a text, and then the next, appended both
 pub one_more : (a b c : Option (List ℕ)) (text : List ℕ) (n m : ℕ)
     → Appends a b (take n text) → Appends b c (take m (take (length text - n) (drop n text))) → Appends a c (take (n + m) text)
 one_more a b c text n m p q =
     let rest = subst (λ (t : List ℕ). Appends b c (take m t)) (take_rest text n) q in
     subst (Appends a c) (sym (take-add n m text)) (Appends-trans a b c _ _ p rest)
 
+-- what appended the first n bytes of a text appended a part of it
 pub part_of : (a b : Option (List ℕ)) (text : List ℕ) (n : ℕ) → Appends a b (take n text) → AppendsPart a b text
 part_of a b text n p = (take n text, drop n text, take-append-drop n text, p)
 
+-- what keeps what was appended has appended a part still
 pub part_kept : (a b c : Option (List ℕ)) (text : List ℕ) (n : ℕ)
     → Appends a b (take n text) → Keeps b c → AppendsPart a c text
 part_kept a b c text n p q = part_of a c text n (Appends-kept a b c _ p q)
@@ -75,6 +78,7 @@ pub whole_is : {A : Type 0} (r : Result A RunFault) (a b : Option (List ℕ)) (t
     → OnOk r (Appends a b text) → OnOk r (Appends a b wanted)
 whole_is r a b text wanted e = subst (λ t. OnOk r (Appends a b t)) e
 
+-- a part of one text is a part of an equal one
 pub part_is : {A : Type 0} (r : Result A RunFault) (a b : Option (List ℕ)) (text wanted : List ℕ) → text ≡ wanted
     → IfErr r (λ e. (e ≡ Write) × AppendsPart a b text) → IfErr r (λ e. (e ≡ Write) × AppendsPart a b wanted)
 part_is r a b text wanted e = subst (λ t. IfErr r (λ f. (f ≡ Write) × AppendsPart a b t)) e

@@ -27,6 +27,7 @@ module _ (slots : List (Option PassState)) (passes : List PassState) (is : slots
   pub there_is : AreThere slots
   there_is = is ∙ ap (λ (l : List PassState). map (λ s. Some s) l) (sym present_is)
 
+-- where no slot is empty, there are as many passes as slots
 pub as_many : (slots : List (Option PassState)) → AreThere slots → length (present slots) ≡ length slots
 as_many slots there = let e = ap (λ (l : List (Option PassState)). length l) there in let m = length-map (present slots) (λ (s : PassState). let o : Option PassState = Some s in o) in omega arith
 
@@ -40,11 +41,13 @@ own_set P [] k s all own = all
 own_set P (p ∷ passes) zero s all own = All-cons P s passes own (All-tail P p passes all)
 own_set P (p ∷ passes) (suc k) s all own = All-cons P p (set passes k s) (All-head P p passes all) (own_set P passes k s (All-tail P p passes all) own)
 
+-- what holds of all passes holds of the one at an index
 pub own_at : (P : PassState → Type 0) (passes : List PassState) (k : ℕ) (s : PassState) → All P passes → slice_get passes k ≡ Some s → P s
 own_at P [] k s all e = absurd (cc e)
 own_at P (p ∷ passes) zero s all e = let same : p ≡ s = cc e in subst P same (All-head P p passes all)
 own_at P (p ∷ passes) (suc k) s all e = own_at P passes k s (All-tail P p passes all) e
 
+-- a slot whose pass was taken out is empty
 pub emptied_at : (slots : List (Option PassState)) (k : ℕ) (s : PassState) → AreThere slots → slice_get (present slots) k ≡ Some s → slice_get (set slots k None) k ≡ Some None
 emptied_at slots k s there e = subst (λ (l : List (Option PassState)). slice_get (set l k None) k ≡ Some None) (sym there) (at (present slots) k s e)
   where
@@ -131,6 +134,7 @@ gaps_idle slots there = subst (λ (l : List (Option PassState)). gaps (map empti
     of (Idle v ∷ passes) = let h = of passes in omega arith
     of (Holding h ∷ passes) = of passes
 
+-- passes of one table end as idle passes of that table
 pub idle_own : (t : TableName) (passes : List PassState) → All (λ (s : PassState). table_of s ≡ t) passes → All (λ (v : PassView). v.table ≡ t) (idle_of passes)
 idle_own t [] own = All-nil (λ (v : PassView). v.table ≡ t)
 idle_own t (Idle v ∷ passes) own =
@@ -231,12 +235,14 @@ module _ (R : PassState → PassState → Type 0) where
   pub all_there : (slots next : List (Option PassState)) → AreThere slots → AllZip (λ o. InBoth R o) slots next → AreThere next × AllZip R (present slots) (present next)
   all_there slots next there z = zip_there (present slots) next (subst (λ (l : List (Option PassState)). AllZip (λ o. InBoth R o) l next) there z)
 
+-- what holds of the pass in each slot holds of all passes
 pub present_own : (P : PassState → Type 0) (slots : List (Option PassState)) → All (λ (o : Option PassState). IsSomeAnd o P) slots → All P (present slots)
 present_own P [] own = All-nil P
 present_own P (None ∷ slots) own = present_own P slots (All-tail (λ (o : Option PassState). IsSomeAnd o P) None slots own)
 present_own P (Some s ∷ slots) own =
     All-cons P s (present slots) (All-head (λ (o : Option PassState). IsSomeAnd o P) (Some s) slots own) (present_own P slots (All-tail (λ (o : Option PassState). IsSomeAnd o P) (Some s) slots own))
 
+-- passes that all end idle are idle
 pub ends_idle : (passes next : List PassState) → AllZip EndsIdle passes next → All IsIdle next
 ends_idle [] [] z = All-nil IsIdle
 ends_idle [] (s ∷ next) z = absurd z
@@ -244,6 +250,7 @@ ends_idle (p ∷ passes) [] z = absurd z
 ends_idle (p ∷ passes) (Idle v ∷ next) z = All-cons IsIdle (Idle v) next tt (ends_idle passes next z.1)
 ends_idle (p ∷ passes) (Holding h ∷ next) z = absurd z.0
 
+-- slots that all have the same pass are copies of it
 pub all_same : (x : PassState) (slots : List (Option PassState)) → All (λ (o : Option PassState). o ≡ Some x) slots → slots ≡ map (λ (s : PassState). let o : Option PassState = Some s in o) (replicate (length slots) x)
 all_same x [] all = refl
 all_same x (o ∷ slots) all =

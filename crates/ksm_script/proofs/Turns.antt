@@ -33,6 +33,7 @@ pub record IsSoFar (first now : Option (List ℕ)) (begun written : Option (List
   pub consumed : Consumes first now lines
   pub appended : Appends begun written text
 
+-- before the first line, nothing was read and nothing written
 pub nothing_yet : (reader writer : Option (List ℕ)) (state : ScriptState) → IsSoFar reader reader writer writer state state 1
 nothing_yet reader writer state =
     record { lines = []; text = []; count = 0; counted = refl; answered = none; consumed = Consumes-nil reader; appended = Appends-nil writer }
@@ -63,6 +64,7 @@ pub record IsRead (now next : Option (List ℕ)) (line : List ℕ) (end : LineEn
 abbrev found : LineEnd → Result LineEnd RunFault
 found end = Ok end
 
+-- a plain line that was taken from the input was read
 pub read_as : (now next : Option (List ℕ)) (line : List ℕ) (end : LineEnd) → ((bytes : List ℕ) × EndsAs end line bytes × Consumes now next bytes) → IsPlain line
     → (found end ≡ found Input → IsAtEnd next) → IsRead now next line end
 read_as now next line end read plain last =

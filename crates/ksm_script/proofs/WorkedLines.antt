@@ -65,6 +65,7 @@ module _ (s : ScriptState) (command : Command) (answer : Answer) where
   never : (IsAnswerOrMemory s.book command answer → ⊥) → (n : ScriptState) → ¬ (Commands command s (Some (reply_to answer)) n)
   never not n d = not (subst (IsAnswerOrMemory s.book command) (sym (reply_is answer d.0 d.2)) d.1)
 
+-- the lines of commands are answered as is written beside them
 pub command_lines : (t : TableName) → CommandLines t
 command_lines t =
     let s = start t in
@@ -174,6 +175,7 @@ memory_is v h (Idle w ∷ Holding x ∷ []) e z = let same : w ≡ v = cc e in �
 memory_is v h (Holding x ∷ q ∷ []) e z = absurd z.0
 memory_is v h (p ∷ q ∷ r ∷ next) e z = absurd z.1.1
 
+-- the lines of lookups are answered as is written beside them
 pub lookup_lines : (v : PassView) (h k : HeldView) → v.table.shape ≡ shape 1 4 → LookupLines v h k
 lookup_lines v h k is =
     let four : frames_of v.table.shape ≡ 4 = ap frames_of is in

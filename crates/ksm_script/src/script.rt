@@ -117,7 +117,11 @@ fn line_of<N: Naming>(session: &Session<N>, end: LineEnd) -> Result<Line, LineFa
     if end == LineEnd::TooLong {
         return Err(LineFault::Bad);
     }
-    read_line(session.line())
+    let line = session.line();
+    if line.is_empty() {
+        return Ok(Line::Empty);
+    }
+    read_line(line)
 }
 
 /// Writes the reply to a line, if it has one.

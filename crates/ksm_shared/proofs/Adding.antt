@@ -46,6 +46,7 @@ adds_goes log v e old len pre false is =
       rw is (ap length all),
     )
 
+-- the exchange that adds an entry to the log moves its length on by one
 pub adds_moves : (v : List Entry) (e : Entry) (old : ℕ) → length v ≡ old
     → Moves HasLength shown moved 0 (v, (no_nib, None)) (λ n. either (n == old) (old + 1) n) (Adds (step 0 old (old + 1) e) (v, (no_nib, None)))
 adds_moves v e old len cells log kept pre away =

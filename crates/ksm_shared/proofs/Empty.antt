@@ -25,6 +25,7 @@ none_owned log count (suc n) number fits lt = by (number == n) refl (λ below. n
         (λ i. entries_by (here i) (begins.1 i)) ∙ begins.2
     by false is rest = rest (grind (arith, nat_tests))
 
+-- where all callers are fresh, the log is empty
 pub nothing_owned : (count : ℕ) (log : List Owned) → OwnersBelow count log → CallersFit log count (fresh count) → log ≡ []
 nothing_owned count [] owners fits = refl
 nothing_owned count (o ∷ os) owners fits =

@@ -1,7 +1,7 @@
 -- What a call under the lock tells its share.
 use Rattle.std.proofs.Common.{◌≡◌, ◌⊎◌, ◌<◌, ℕ, Bool, true, false, if◌then◌else◌, List, [], ◌∷◌, ◌++◌, refl, sym, ap, ◌∙◌, subst, arith, Option, Some, None, Ok, Err, eq-eqb, inl, inr}
 use Rattle.std.proofs.lemmas.List.{append-nil}
-use Rattle.std.specs.Prelude.{MatchBool}
+use Rattle.std.specs.Prelude.{MatchResult, Result}
 use mathlib.Core.List.{IsPrefix}
 use Rattle.atomic_table.specs.Table.{Me}
 use Rattle.ksm_base.specs.declared.command.Command.{Command}
@@ -19,7 +19,7 @@ use Rattle.ksm_shared.specs.declared.seen.View.{View}
 use Rattle.ksm_shared.specs.Named.{PartsId}
 use Rattle.ksm_shared.specs.Seen.{entries, entries_by, Begins, OwnersBelow, caller, owned, first, added, book_view, IsShareSeat, IsBookSeat, Wrote}
 use Rattle.ksm_shared.specs.Locked.{made, made_by, said_of, part_of, state_seen, SeesOn, StepsAlone}
-use Rattle.ksm_shared.specs.Published.{list_of}
+use Rattle.ksm_shared.specs.Published.{ShownRow, list_of}
 use Rattle.ksm_shared.proofs.Beginnings.{prefix_self, prefix_trans}
 use Rattle.ksm_shared.proofs.Lists.{entries_by_append, entries_by_own, entries_append, owners_append}
 
@@ -57,9 +57,11 @@ pub new_journal : (j j' : List Entry) (log log' : List Owned) (number : ℕ) (c 
 new_journal j j' log log' number c r is now more =
     now ∙ journal_made j c r ∙ (λ i. is i ++ sym (entries_made number c r) i) ∙ sym (entries_append log (made_by number c r)) ∙ ap entries (sym more)
 
+-- a command's entry is owned by one of the callers
 pub new_owners : (count : ℕ) (log log' : List Owned) (number : ℕ) (c : Command) (r : Answer) → number < count → OwnersBelow count log → log' ≡ log ++ made_by number c r → OwnersBelow count log'
 new_owners count log log' number c r lt o is = subst (OwnersBelow count) (sym is) (owners_append count log (made_by number c r) o (owners_made count number c r lt))
 
+-- the book's seat still has the log and no caller after a caller's write
 pub book_seat_is : (bv sv sv' : View) (m : Me (Option Entry) View) (e : Option Entry) (count : ℕ) → IsBookSeat m → Wrote bv sv m.0 sv' e → bv.shares ≡ count → m ≡ (book_view m.0.log count, [])
 book_seat_is bv sv sv' m e count is w n = is ∙ ap (λ (k : ℕ). let x : Me (Option Entry) View = (book_view m.0.log k, []) in x) (ap (λ (v : View). v.shares) w.book_is ∙ n)
 
@@ -123,9 +125,11 @@ part_gains parts old new more x =
     ∙ entries_by_append old.number (old.seen ++ x.between) more
     ∙ ap (λ (l : List Entry). l ++ entries_by old.number more) (entries_by_append old.number old.seen x.between ∙ ap (λ (l : List Entry). part_of old ++ l) x.others ∙ append-nil (part_of old))
 
+-- a caller's part grows by the entry that it made
 pub part_grows : (parts : PartsId) (old new : Caller) (c : Command) (r : Answer) → SeesOn parts old new (made_by old.number c r) → part_of new ≡ part_of old ++ made c r
 part_grows parts old new c r x = part_gains parts old new (made_by old.number c r) x ∙ ap (λ (l : List Entry). part_of old ++ l) (own_made old.number c r)
 
+-- a caller's part stays where nothing was added
 pub part_stays : (parts : PartsId) (old new : Caller) → SeesOn parts old new [] → part_of new ≡ part_of old
 part_stays parts old new x = part_gains parts old new [] x ∙ append-nil (part_of old)
 
@@ -177,6 +181,7 @@ memory_fits b c (Err CrossesNodes) is = absurd (cc is)
 memory_fits b c (Err UnknownPlace) is = absurd (cc is)
 memory_fits b c (Err BadNode) is = absurd (cc is)
 
+-- with one caller the journal is its part, and its command a step from there
 pub steps_alone : States → Parts → (parts : PartsId) (old new : Caller) (c : Command) (r : Answer) → SeesOn parts old new (made_by old.number c r) → StepsAlone parts old new c r
 steps_alone states answers parts old new c r x one = by_memory (is_memory r) refl
   where
@@ -218,13 +223,15 @@ pub counters_seen : (parts : PartsId) (b : JournaledBook) (es : List Entry) → 
 counters_seen parts b es own journal legal = ap counters_of (legal.leads ∙ (λ i. replay (opening (own i).shape) (journal i)))
 
 -- where there was room the counters after all that was followed are shown, else those of before
-abbrev pub Shown : Bool → List Entry → List Entry → List Entry → Type 0
-Shown room old new journal = MatchBool room (new ≡ journal) (new ≡ old)
+abbrev pub Shown : Result (Unit {0}) ShownRow → List Entry → List Entry → List Entry → Type 0
+Shown room old new journal = MatchResult room (λ _. new ≡ journal) (λ (x : ShownRow). (x.reached.journal ≡ journal) × (new ≡ old))
 
-pub shows_all_or_old : (room : Bool) (old new journal es' : List Entry) → Shown room old new journal → journal ≡ es' → (new ≡ es') ⊎ (new ≡ old)
-shows_all_or_old true old new journal es' one all = inl (one ∙ all)
-shows_all_or_old false old new journal es' one all = inr one
+-- what is shown is all of the journal, or what was shown before
+pub shows_all_or_old : (room : Result (Unit {0}) ShownRow) (old new journal es' : List Entry) → Shown room old new journal → journal ≡ es' → (new ≡ es') ⊎ (new ≡ old)
+shows_all_or_old (Ok u) old new journal es' one all = inl (one ∙ all)
+shows_all_or_old (Err x) old new journal es' one all = inr one.1
 
-pub shown_begins : (room : Bool) (old new journal es es' more : List Entry) → Shown room old new journal → journal ≡ es' → IsPrefix old es → es' ≡ es ++ more → IsPrefix new es'
-shown_begins true old new journal es es' more one all begins grows = subst (λ (l : List Entry). IsPrefix l es') (sym (one ∙ all)) (prefix_self es')
-shown_begins false old new journal es es' more one all begins grows = subst (λ (l : List Entry). IsPrefix l es') (sym one) (prefix_trans old es es' begins (more, sym grows))
+-- what is shown begins the journal, before an entry and after it
+pub shown_begins : (room : Result (Unit {0}) ShownRow) (old new journal es es' more : List Entry) → Shown room old new journal → journal ≡ es' → IsPrefix old es → es' ≡ es ++ more → IsPrefix new es'
+shown_begins (Ok u) old new journal es es' more one all begins grows = subst (λ (l : List Entry). IsPrefix l es') (sym (one ∙ all)) (prefix_self es')
+shown_begins (Err x) old new journal es es' more one all begins grows = subst (λ (l : List Entry). IsPrefix l es') (sym one.1) (prefix_trans old es es' begins (more, sym grows))

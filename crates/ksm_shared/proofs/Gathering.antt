@@ -97,6 +97,7 @@ unfolding shared
 shared_total count log [] fits = refl
 shared_total count log (g ∷ cs) fits = let h = shared_total count log cs fits.1 in let p = ap length (part_whole g.number g.seen log fits.0.1) in omega (arith, h, p)
 
+-- callers that are as many as the book has, each once, gather the whole log
 pub gathered : (callers : ℕ) (log : List Owned) (cs : List Caller) → CallersFit log callers cs → ((number : ℕ) → times number cs ≤ 1) → OwnersBelow callers log → callers ≤ length cs → Gathered callers log cs
 gathered callers log cs fits once owners enough =
     let all = each_once callers cs once (let b = below_all log callers cs fits in omega arith) in record {
@@ -106,6 +107,7 @@ gathered callers log cs fits once owners enough =
       sum = shared_total callers log cs fits ∙ shared_all callers log cs owners all;
     }
 
+-- a log has as many entries as owners
 pub length-entries : (log : List Owned) → length (entries log) ≡ length log
 length-entries [] = refl
 length-entries (o ∷ os) = let h = length-entries os in omega arith

@@ -27,6 +27,7 @@ fits_set book log count views by w others mine j u e =
 as_known : (log mine : List Owned) (count shares : ℕ) (cs : List Caller) → mine ≡ log → shares ≡ count → CallersFit log count cs → CallersFit mine shares cs
 as_known log mine count shares cs a b = subst (λ (p : List Owned × ℕ). CallersFit p.0 p.1 cs) (λ i. (sym a i, sym b i))
 
+-- the rule holds of a book that has seen nothing
 pub begins : IsKept (book_view [] 0 ∷ [])
 begins = record { book = 0; log = []; count = 0; fits = one; once = λ number. omega arith; owners = tt }
   where
@@ -69,6 +70,7 @@ writes_views views id v e kp h at =
       owners = owners_append v.shares v.log (added v.callers e) k.owners (added_owners v.log v.shares v.callers e k.callers);
     }
 
+-- the book's seat may add an entry
 pub writes : (slots id : ℕ) (v : View) (held : List (ℕ × Option Entry)) (e : Option Entry) → v.is_book ≡ true
     → Allows Kept slots id (v, held) 0 (λ n. either (n == 0) 0 n) (Writes (step slots 0 0 0 (some e)) (v, held))
 writes slots id v held e kp s h len at small = (
@@ -79,6 +81,7 @@ writes slots id v held e kp s h len at small = (
   λ e' is. (ap (λ x. after v x) (some-injective e e' is), refl, knows s.views id v kp h at),
 )
 
+-- the book's seat may look at what was seen
 pub looks : (slots id : ℕ) (v : View) (held : List (ℕ × Option Entry)) → v.is_book ≡ true
     → Allows Kept slots id (v, held) 0 (λ n. n) (Looks (step slots 0 0 0 none) (v, held))
 looks slots id v held kp s h len at small = (after v None, keeps, tt, writes_views s.views id v None kp h at, (refl, refl, knows s.views id v kp h at))

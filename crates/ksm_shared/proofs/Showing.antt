@@ -20,6 +20,7 @@ Fits parts x v = IsPrefix v.journal x.reached.journal × (v.logbook ≡ parts.lo
 fits_at_first : (parts : PartsId) (x : ShownRow) → Fits parts x (nothing_seen parts)
 fits_at_first parts x = ((x.reached.journal, refl), refl)
 
+-- a reader that has seen nothing is admitted
 pub admits : (parts : PartsId) → Admits (RowsGoOn parts) (nothing_seen parts)
 admits parts x views k =
     (k.0, λ j u e. ⊎_elim (k.1 j u) (λ (t : nothing_seen parts ≡ u). subst (Fits parts x) t (fits_at_first parts x)) (at_snoc views (nothing_seen parts) u j e))

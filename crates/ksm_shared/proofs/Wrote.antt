@@ -12,6 +12,7 @@ use Rattle.ksm_shared.specs.Seen.{view_of, book_view, share_view, joined_view, c
 abbrev Me' : Type 0
 Me' = Me (Option Entry) View
 
+-- the book's seat and a share's, put together, are one view
 pub joined_is : (bm sm wm jm : Me') → IsBookSeat bm → IsShareSeat sm → wm ≡ (sm.0, [])
     → jm ≡ (view_of bm.0.is_book bm.0.log bm.0.shares (bm.0.callers ++ wm.0.callers), bm.1)
     → jm ≡ (joined_view bm.0.log bm.0.shares (first sm.0.callers).number (first sm.0.callers).seen, [])
@@ -25,6 +26,7 @@ book_seat m log count e = subst (λ (x : Me'). x ≡ (book_view x.0.log x.0.shar
 share_seat : (m : Me') (number : ℕ) (seen : List Owned) → m ≡ (share_view number seen, []) → IsShareSeat m
 share_seat m number seen e = subst (λ (x : Me'). x ≡ (share_view (first x.0.callers).number (first x.0.callers).seen, [])) (sym e) refl
 
+-- a write by the two seats together is the share's command
 pub wrote : (bm sm jm xm b2 s2 : Me') (e : Option Entry) (slots found : ℕ) → IsShareSeat sm
     → jm ≡ (joined_view bm.0.log bm.0.shares (first sm.0.callers).number (first sm.0.callers).seen, [])
     → Writes (step slots 0 0 0 (some e)) jm found xm
@@ -73,6 +75,7 @@ let_go bm jm xm b2 cs slots found b j w cut =
     nothing log [] = append-nil log
     nothing log (g ∷ cs) = append-nil log
 
+-- where nothing is left, all were taken
 pub all_taken : (xs ys rest : List Caller) (n : ℕ) → xs ≡ ys ++ rest → n ≡ length rest → n ≡ 0 → xs ≡ ys
 all_taken xs ys [] n e l z = e ∙ append-nil ys
 all_taken xs ys (g ∷ rest) n e l z = absurd (omega arith)

@@ -204,6 +204,7 @@ abbrev pub joined : ℕ → Option Dup → Option Dup → Option Dup
 joined limit acc None = acc
 joined limit acc (Some d) = if has_room limit d then Some (better acc d) else acc
 
+-- the best dup of those at places from here on
 abbrev pub folded : ℕ → List ℕ → ℕ → List Dup → Option Dup → List ℕ → Option Dup
 folded t b limit dups acc [] = acc
 folded t b limit dups acc (p ∷ places) = folded t b limit dups (joined limit acc (of_group t b (dup_at p dups))) places
@@ -217,6 +218,7 @@ least_of (Some d) = length d.items
 pub above_least : (items least limit above : ℕ) → items < 2 ^ 32 → least < 2 ^ 32 → limit < 2 ^ 32 → above ≡ (items + (2 ^ 32 - least)) % 2 ^ 32 → above < limit - least → least + above ≡ items
 above_least items least limit above fits least_fits limit_fits is within = omega arith
 
+-- one comparison tells too few items and too many
 pub out_of_room : (items least limit above : ℕ) → items < 2 ^ 32 → least < 2 ^ 32 → limit < 2 ^ 32 → above ≡ (items + (2 ^ 32 - least)) % 2 ^ 32 → limit - least ≤ above → (nat_lt items least || nat_le limit items) ≡ true
 out_of_room items least limit above fits least_fits limit_fits is outside = grind (arith, nat_tests)
 
@@ -226,13 +228,16 @@ stepped_over limit acc None outside = refl
 stepped_over limit None (Some d) outside = grind (arith, nat_tests, outside)
 stepped_over limit (Some best) (Some d) outside = grind (arith, nat_tests, outside)
 
+-- a dup with an item and below the limit is compared with the best so far
 pub stepped_to : (limit : ℕ) (acc : Option Dup) (d : Dup) → 1 ≤ length d.items → length d.items < limit → joined limit acc (Some d) ≡ Some (better acc d)
 stepped_to limit acc d least below = grind (arith, nat_tests, least, below)
 
+-- a dup with as many items as the best so far, or more, sets the number
 pub least_better : (acc : Option Dup) (d : Dup) → least_of acc ≤ length d.items → length (better acc d).items ≡ length d.items
 least_better None d least = refl
 least_better (Some best) d least = grind (arith, nat_tests, least)
 
+-- one place looked at is one step of the fold
 pub stepped : (t : ℕ) (b : List ℕ) (limit : ℕ) (dups : List Dup) (acc next : Option Dup) (places : List ℕ) (i : ℕ) → i < length places → joined limit acc (of_group t b (dup_at (get_or places i 0) dups)) ≡ next → folded t b limit dups next (drop (i + 1) places) ≡ folded t b limit dups acc (drop i places)
 stepped t b limit dups acc next places i within is =
     let rest : drop i places ≡ get_or places i 0 ∷ drop (i + 1) places = rw (add-one, drop-cons places i 0) in
@@ -247,6 +252,7 @@ stands_so t b (Some e) d is =
       | inr outside ↦ absurd (none-some d (sym (is ∙ (grind (arith, outside)))))
     ]
 
+-- a slot that cannot be joined leaves the best as it is
 pub passed_over_so : (t : ℕ) (b : List ℕ) (limit : ℕ) (acc slot : Option Dup) → joined limit acc slot ≡ acc → joined limit acc (of_group t b slot) ≡ acc
 passed_over_so t b limit acc None over = refl
 passed_over_so t b limit acc (Some d) over =
@@ -277,6 +283,7 @@ open_within limit places (d ∷ dups) below =
       | inr outside ↦ rw outside rest
     ]
 
+-- the places of dups to join are places of the tree
 pub candidates_within : (t : ℕ) (b : List ℕ) (limit places : ℕ) (dups : List Dup) (found : List ℕ) (is_chain : Bool) → All (λ r. r.place < places) (rows_of dups) → ArePlacesToJoin t b limit dups found is_chain → All (λ p. p < places) found
 candidates_within t b limit places dups found true below group = rw group (places_within t b places (rows_of dups) below)
 candidates_within t b limit places dups found false below opens = rw opens (open_within limit places dups below)

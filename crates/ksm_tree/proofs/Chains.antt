@@ -93,6 +93,7 @@ cond_peopled : (s : Bool) (v w : Option Places) → IsPeopled v → IsPeopled w 
 cond_peopled true v w first second = first
 cond_peopled false v w first second = second
 
+-- chains stay without an empty one where one is replaced by one with a dup
 pub peopled_changed : {S : Type 0} (key : Content) (old new : HashMap Content Places S) (w : Option Places) → UpdatesBy content_eq.ghosts.eq (content_eq.ghosts.eq key) old new w → AllPeopled old → IsPeopled w → AllPeopled new
 peopled_changed key old new w updates was is content =
     subst IsPeopled (sym (updates.0 content)) (cond_peopled (content_eq.ghosts.eq key content) w (get content_eq.ghosts.eq old content) is (was content))
@@ -100,6 +101,7 @@ peopled_changed key old new w updates was is content =
 pub none_peopled : IsPeopled None
 none_peopled chain is = absurd (none-some chain is)
 
+-- a chain with a place is not empty
 pub some_peopled : (chain : Places) → 0 < length chain.list.items → IsPeopled (Some chain)
 some_peopled chain more other is = subst (λ (p : Places). 0 < length p.list.items) (same_Some chain other is) more
 
@@ -107,6 +109,7 @@ some_peopled chain more other is = subst (λ (p : Places). 0 < length p.list.ite
 pub with_peopled : (place : ℕ) (places : List ℕ) → 0 < length (with_place place places)
 with_peopled place places = let n = length-append (filter (λ p. nat_lt p place) places) (place ∷ filter (λ p. nat_lt place p) places) in omega (arith, n)
 
+-- a list whose length is not zero has a member
 pub some_of : (xs : List ℕ) → (length xs == 0) ≡ false → 0 < length xs
 some_of xs more = grind (arith, nat_tests, more)
 
@@ -121,6 +124,7 @@ gone_peopled : (s : Bool) (v w : Option Places) → IsPeopled v → IsPeopled (c
 gone_peopled true v w is = none_peopled
 gone_peopled false v w is = is
 
+-- chains stay without an empty one where one goes
 pub peopled_gone : {S : Type 0} (key : Content) (old lent new : HashMap Content Places S) (w : Option Places) → UpdatesBy content_eq.ghosts.eq (content_eq.ghosts.eq key) old lent w → UpdatesBy content_eq.ghosts.eq (content_eq.ghosts.eq key) lent new None → AllPeopled old → AllPeopled new
 peopled_gone key old lent new w first second was content =
     let s = content_eq.ghosts.eq key content in

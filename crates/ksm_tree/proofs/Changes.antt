@@ -32,15 +32,18 @@ rows_append : (xs ys : List Dup) → rows_of (xs ++ ys) ≡ rows_of xs ++ rows_o
 rows_append [] ys = refl
 rows_append (x ∷ xs) ys = ap (λ rows. x.row ∷ rows) (rows_append xs ys)
 
+-- the row of a new dup is added to the rows
 pub rows_new : (dup : Dup) (dups : List Dup) → rows_of (with_new dup dups) ≡ with_dup dup.row (rows_of dups)
 rows_new dup dups =
     let p = dup.row.place in
     rows_append (filter (λ d. nat_lt d.row.place p) dups) (dup ∷ filter (λ d. nat_lt p d.row.place) dups)
     ∙ (λ i. rows_filtered (λ d. nat_lt d.row.place p) (λ r. nat_lt r.place p) (λ d. refl) dups i ++ dup.row ∷ rows_filtered (λ d. nat_lt p d.row.place) (λ r. nat_lt p r.place) (λ d. refl) dups i)
 
+-- a place that is dropped takes its row out of the rows
 pub rows_without : (p : ℕ) (dups : List Dup) → rows_of (without_place p dups) ≡ filter (λ r. not (r.place == p)) (rows_of dups)
 rows_without p dups = rows_filtered (λ d. not (stands_at p d)) (λ r. not (r.place == p)) (λ d. refl) dups
 
+-- other items at a place change no row
 pub rows_changed : (p : ℕ) (f : List GuestPage → List GuestPage) (dups : List Dup) → rows_of (change_at p f dups) ≡ rows_of dups
 rows_changed p f [] = refl
 rows_changed p f (d ∷ dups) =
@@ -50,6 +53,7 @@ rows_changed p f (d ∷ dups) =
       | inr away ↦ grind (arith, away, rest)
     ]
 
+-- other items of a dup change no row
 pub rows_items : (number : ℕ) (f : List GuestPage → List GuestPage) (dups : List Dup) → rows_of (change_items number f dups) ≡ rows_of dups
 rows_items number f [] = refl
 rows_items number f (d ∷ dups) =
@@ -59,6 +63,7 @@ rows_items number f (d ∷ dups) =
       | inr away ↦ grind (arith, away, rest)
     ]
 
+-- a page let out of its dup changes no row
 pub rows_out : (state : PageState) (page : GuestPage) (dups : List Dup) → rows_of (let_out state page dups) ≡ rows_of dups
 rows_out Private page dups = refl
 rows_out Waiting page dups = refl
@@ -96,6 +101,7 @@ agree_changed test by f (d ∷ dups) same =
     let rest = agree_changed test by f dups (All-tail (λ d. test d ≡ by d) d dups same) in
     grind (arith, here, rest)
 
+-- what holds of all rows holds of each dup's row
 pub all_rows : (P : DupRow → Type 0) (dups : List Dup) → All P (rows_of dups) → All (λ d. P d.row) dups
 all_rows P [] each = λ k d lt. absurd (omega arith)
 all_rows P (e ∷ dups) each = All-cons (λ d. P d.row) e dups (All-head P e.row (rows_of dups) each) (all_rows P dups (All-tail P e.row (rows_of dups) each))
@@ -107,9 +113,11 @@ one_dup q p dups rise is =
     let only = only_number q (rows_of dups) there.0 rise there.1 in
     all_rows (λ r. (r.number == q) ≡ (r.place == p)) dups (λ k d lt. only k d lt ∙ ap (λ n. (get_or (rows_of dups) k d).place == n) there.2)
 
+-- a dup found by its number is the one at its place
 pub number_place_found : (q p : ℕ) (dups : List Dup) → InPlaceOrder (rows_of dups) → row_place q (rows_of dups) ≡ Some p → dup_of q dups ≡ dup_at p dups
 number_place_found q p dups rise is = agree_found (has_number q) (stands_at p) dups (one_dup q p dups rise is)
 
+-- items changed by a dup's number are those at its place
 pub number_place_changed : (q p : ℕ) (f : List GuestPage → List GuestPage) (dups : List Dup) → InPlaceOrder (rows_of dups) → row_place q (rows_of dups) ≡ Some p → change_items q f dups ≡ change_at p f dups
 number_place_changed q p f dups rise is = agree_changed (has_number q) (stands_at p) f dups (one_dup q p dups rise is)
 
@@ -122,6 +130,7 @@ no_dup : (d : Option Dup) → option_map (λ e. e.row) d ≡ None → d ≡ None
 no_dup None is = refl
 no_dup (Some e) is = absurd (none-some e.row (sym is))
 
+-- a number without a place has no dup
 pub unknown_found : (q : ℕ) (dups : List Dup) → row_place q (rows_of dups) ≡ None → dup_of q dups ≡ None
 unknown_found q dups is = no_dup (dup_of q dups) (row_found (has_number q) (λ r. r.number == q) (λ d. refl) dups ∙ no_row (find (λ r. r.number == q) (rows_of dups)) is)
 
@@ -135,5 +144,6 @@ unknown_changed_from q f (d ∷ dups) is =
           grind (arith, away, rest)
     ]
 
+-- to change the items of a number without a place changes nothing
 pub unknown_changed : (q : ℕ) (f : List GuestPage → List GuestPage) (dups : List Dup) → row_place q (rows_of dups) ≡ None → dups ≡ change_items q f dups
 unknown_changed q f dups is = unknown_changed_from q f dups (unknown_found q dups is)

@@ -234,6 +234,7 @@ rows_fit k p (r ∷ rows) least above below rise =
     let rest = rows_fit (suc r.place) p rows (omega (arith, under)) (All-weaker (Comes r) (λ e. suc r.place ≤ e.place) (λ e h. let later = h.0 in omega (arith, later)) rows first) (All-tail (λ e. e.place < p) r rows below) (pairs_tail Comes r rows rise) in
     omega (arith, rest, here)
 
+-- there are at most 1,024 chains and 1,024 dups in them
 pub totals_few : (p : ℕ) (rows : List DupRow) (totals : Totals) → p ≤ 1024 → All (λ r. r.place < p) rows → InPlaceOrder rows → AreTotals rows totals → (totals.chains ≤ 1024) × (totals.dups ≤ 1024)
 totals_few p rows totals few below rise are =
     let fit = rows_fit 0 p rows (omega arith) (λ k d lt. omega arith) below rise in
@@ -243,6 +244,7 @@ totals_few p rows totals few below rise are =
     let second = are.dups in
     (omega (arith, first, chains, fit, few), omega (arith, second, dups, fit, few))
 
+-- the totals have room for each group as it is
 pub totals_tell : (t : ℕ) (b : List ℕ) (p : ℕ) (rows : List DupRow) (totals : Totals) → p ≤ 1024 → All (λ r. r.place < p) rows → InPlaceOrder rows → AreTotals rows totals → Tells (length (group_places t b rows)) totals
 totals_tell t b p rows totals few below rise are =
     let n = places_size t b rows in

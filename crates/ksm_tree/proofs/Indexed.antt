@@ -97,6 +97,7 @@ not_in_group p t b dups d rise found outside =
     ])
     (rows_of dups) (only_one p (rows_of dups) d.row rise (row_at_place p dups (Some d) found))
 
+-- what is so in each of two cases is so by the test between them
 pub cond_if : {X : Type 0} (s : Bool) (x y z : X) → (s ≡ true → z ≡ x) → (s ≡ false → z ≡ y) → z ≡ (if s then x else y)
 cond_if true x y z yes_case no_case = yes_case refl
 cond_if false x y z yes_case no_case = no_case refl

@@ -16,12 +16,14 @@ use Rattle.ksm_tree.specs.contracts.content.ContentPartialEq.TheImpl as content_
 eq_numbers : (m n : ℕ) → (m == n) ≡ (n == m)
 eq_numbers m n = grind (arith, nat_tests)
 
+-- bytes are compared in either order
 pub eq_bytes : (xs ys : List ℕ) → bytes_eq xs ys ≡ bytes_eq ys xs
 eq_bytes [] [] = refl
 eq_bytes [] (y ∷ ys) = refl
 eq_bytes (x ∷ xs) [] = refl
 eq_bytes (x ∷ xs) (y ∷ ys) = let rest = eq_bytes xs ys in grind (arith, nat_tests, rest)
 
+-- contents are equal where tree and bytes are
 pub same_content : (k q : Content) → content_eq.ghosts.eq k q ≡ (q.tree == k.tree && bytes_eq q.bytes k.bytes)
 same_content k q = λ i. eq_numbers k.tree q.tree i && eq_bytes k.bytes q.bytes i
 
@@ -42,6 +44,7 @@ pages_are (e ∷ es) = ap (λ l. e.1 ∷ l) (pages_are es)
 pub own_group : (t : ℕ) (b : List ℕ) (row : DupRow) → in_group t b row ≡ (t == row.tree && bytes_eq b row.bytes)
 own_group t b row = let swapped = eq_bytes row.bytes b in grind (arith, nat_tests, swapped)
 
+-- a dup is in the group of its own tree and bytes
 pub self_group : (row : DupRow) → in_group row.tree row.bytes row ≡ true
 self_group row = let bytes = (bytes_eq-Decides row.bytes row.bytes).1 refl in grind (arith, nat_tests, bytes)
 
@@ -49,5 +52,6 @@ self_group row = let bytes = (bytes_eq-Decides row.bytes row.bytes).1 refl in gr
 pub own_tree : (t : ℕ) (b : List ℕ) (row : DupRow) → in_group t b row ≡ true → row.tree ≡ t
 own_tree t b row inside = let tree = (and_parts (row.tree == t) (bytes_eq row.bytes b) inside).0 in grind (arith, nat_tests, tree)
 
+-- a dup of a group has the group's bytes
 pub own_bytes : (t : ℕ) (b : List ℕ) (row : DupRow) → in_group t b row ≡ true → row.bytes ≡ b
 own_bytes t b row inside = (bytes_eq-Decides row.bytes b).0 (and_parts (row.tree == t) (bytes_eq row.bytes b) inside).1

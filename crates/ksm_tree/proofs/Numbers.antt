@@ -13,10 +13,12 @@ pub at_ok : {T E : Type 0} {P : Type 0} (r : Result T E) → IsOk r → OnOk r P
 at_ok (Ok x) good holds = holds
 at_ok (Err e) bad holds = absurd (false≢true bad)
 
+-- what holds anyway holds of a failure
 pub on_err : {T E : Type 0} {P : Type 0} (r : Result T E) → P → OnErr r P
 on_err (Ok x) holds = tt
 on_err (Err e) holds = holds
 
+-- places have the order of numbers
 pub places_ordered : IsOrder nat_lt (λ p q. p == q)
 places_ordered = record {
   trans = λ p q r first second. grind (arith, nat_tests);

@@ -317,6 +317,7 @@ stale_absent p slots r stale within read none is =
     ] none in
     is ∙ where_absent is_stale_slot p slots within (ap is_stale_slot here ∙ fails) ∙ ap (without p) (sym is)
 
+-- a slot that has a dup is none of the empty places
 pub empty_absent : (p m : ℕ) (slots : List (Option Dup)) (r : Option Dup) (empty : List ℕ) → m + p + 1 ≡ length slots → r ≡ get_or slots p r → is_some r ≡ true → empty ≡ places_where is_empty_slot 0 (reverse slots) → empty ≡ without m empty
 empty_absent p m slots r empty at read some is =
     let within : p < length slots = omega (arith, at) in
@@ -361,6 +362,7 @@ count_within p slots counts counted within =
     let many = ap length counted ∙ length-map slots count_in in
     omega (arith, many, within)
 
+-- the count kept for a place is that of its dup's items
 pub count_read : (p n : ℕ) (slots : List (Option Dup)) (counts : List ℕ) → ArePlaced 0 slots → counts ≡ map count_in slots → n ≡ get_or counts p 0 → n ≡ count_in (dup_at p (present slots))
 count_read p n slots counts placed counted read =
     read
@@ -426,6 +428,7 @@ pub slot_read : (p : ℕ) (slots : List (Option Dup)) (r : Option Dup) (d : Dup)
 slot_read p slots r d placed known read is =
     get_or_default slots p None r (known_within p slots placed known) ∙ sym read ∙ is
 
+-- a slot at which a dup is seen is not empty
 pub slot_not_none : (p : ℕ) (slots : List (Option Dup)) (r : Option Dup) → ArePlaced 0 slots → is_some (dup_at p (present slots)) ≡ true → r ≡ get_or slots p r → r ≡ None → ⊥
 slot_not_none p slots r placed known read is =
     let here = read_dup p slots r placed (known_within p slots placed known) read ∙ is in
@@ -448,6 +451,7 @@ pub record HoldsDup (p : ℕ) (slots : List (Option Dup)) (s : SlotsState) (d : 
   pub filled : get_or slots p None ≡ Some d
   pub items : items_in (dup_at p s.dups) ≡ d.items
 
+-- what is read from such a slot is the dup of its place
 pub holds_dup : (p : ℕ) (slots : List (Option Dup)) (s : SlotsState) (r : Option Dup) (d : Dup) → slots_seen slots ≡ s → ArePlaced 0 slots → is_some (dup_at p s.dups) ≡ true → r ≡ get_or slots p r → r ≡ Some d → HoldsDup p slots s d
 holds_dup p slots s r d view placed known read is =
     let known_here : is_some (dup_at p (present slots)) ≡ true = rw (ap (λ t. t.dups) view) known in
@@ -466,6 +470,7 @@ slots_grown p n slots counts empty stale stale' d page within h filled is left r
     (counted_set p n slots counts (Some e) h.counted is)
     (left ∙ ap (without p) h.stales ∙ sym (where_without is_stale_slot 0 p p slots (Some e) (omega arith) within (grown_not_stale page d.items))) room
 
+-- a page that joins changes its dup's slot and count alone
 pub slots_joined : (p n : ℕ) (slots : List (Option Dup)) (counts : List ℕ) (empty stale : SmallVec ℕ) (d : Dup) (page : GuestPage) → p < length slots → AreSlots slots counts empty stale → get_or slots p None ≡ Some d → n ≡ length (with_item page d.items) → is_stale d ≡ false → AreSlots (set slots p (Some (record d { items = with_item page d.items }))) (set counts p n) empty stale
 slots_joined p n slots counts empty stale d page within h filled is live =
     let e : Dup = record d { items = with_item page d.items } in
@@ -497,6 +502,7 @@ slots_unlike p slots counts empty stale d page within h filled absent =
     (h.counted ∙ sym (map-set_same count_in slots p (Some e) None (ap length kept ∙ sym (ap count_in filled))))
     (h.stales ∙ sym (where_same is_stale_slot None 0 p slots (Some e) (same ∙ sym (ap is_stale_slot filled)))) refl
 
+-- a page that leaves a dup with items changes its slot and count alone
 pub slots_shrunk : (p n : ℕ) (slots : List (Option Dup)) (counts : List ℕ) (empty stale : SmallVec ℕ) (d : Dup) (page : GuestPage) → p < length slots → AreSlots slots counts empty stale → get_or slots p None ≡ Some d → n ≡ length (without_item page d.items) → true ≡ has_item page d.items → (length (without_item page d.items) == 0) ≡ false → AreSlots (set slots p (Some (record d { items = without_item page d.items }))) (set counts p n) empty stale
 slots_shrunk p n slots counts empty stale d page within h filled is found left =
     let e : Dup = record d { items = without_item page d.items } in
@@ -504,6 +510,7 @@ slots_shrunk p n slots counts empty stale d page within h filled is found left =
     (counted_set p n slots counts (Some e) h.counted is)
     (h.stales ∙ sym (where_same is_stale_slot None 0 p slots (Some e) (left ∙ sym (ap is_stale_slot filled ∙ had_item page d found)))) refl
 
+-- the last page that leaves makes the dup's place stale
 pub slots_staled : (p n : ℕ) (slots : List (Option Dup)) (counts : List ℕ) (empty stale stale' : SmallVec ℕ) (d : Dup) (page : GuestPage) → p < length slots → AreSlots slots counts empty stale → get_or slots p None ≡ Some d → n ≡ length (without_item page d.items) → (length (without_item page d.items) == 0) ≡ true → stale'.items ≡ with_place p stale.items → stale'.capacity ≡ stale.capacity → AreSlots (set slots p (Some (record d { items = without_item page d.items }))) (set counts p n) empty stale'
 slots_staled p n slots counts empty stale stale' d page within h filled is none more room =
     let e : Dup = record d { items = without_item page d.items } in
@@ -511,6 +518,7 @@ slots_staled p n slots counts empty stale stale' d page within h filled is none 
     (counted_set p n slots counts (Some e) h.counted is)
     (more ∙ ap (with_place p) h.stales ∙ sym (where_with is_stale_slot 0 p p slots (Some e) (omega arith) within none)) room
 
+-- there is room among the stale places for one more dup
 pub stale_has_room : (p : ℕ) (slots : List (Option Dup)) (counts : List ℕ) (empty stale : SmallVec ℕ) (d : Dup) (page : GuestPage) → p < length slots → AreSlots slots counts empty stale → get_or slots p None ≡ Some d → true ≡ has_item page d.items → length stale.items + 1 ≤ stale.capacity
 stale_has_room p slots counts empty stale d page within h filled found =
     let room = where_room is_stale_slot None 0 p slots within (ap is_stale_slot filled ∙ had_item page d found) in

@@ -10,6 +10,7 @@ use Rattle.ksm_tree.specs.Places.{with_place}
 use Rattle.ksm_tree.specs.Counts.{places_where}
 use Rattle.ksm_tree.specs.Slots.{slots_seen, present, count_in, is_empty_slot, is_stale_slot, ArePlaced, AreSlots}
 
+-- n empty slots
 abbrev pub none_of : ℕ → List (Option Dup)
 none_of n = replicate n None
 
@@ -21,6 +22,7 @@ range_next k p (suc n) is =
     let below : k < p = omega arith in
     grind (arith, nat_tests, rest, below)
 
+-- the first n numbers and the next one are the first n + 1
 pub range_more : (k p n : ℕ) → p ≡ k + n → with_place p (range_with_len k n) ≡ range_with_len k (n + 1)
 range_more k p n is = rw (add-one n) (range_next k p n is)
 
@@ -49,6 +51,7 @@ length_none : (n : ℕ) → length (none_of n) ≡ n
 length_none zero = refl
 length_none (suc n) = ap suc (length_none n)
 
+-- in empty slots no dup is seen
 pub none_seen : (n : ℕ) → slots_seen (none_of n) ≡ record { places = n; dups = [] }
 none_seen n i = record { places = length_none n i; dups = none_present n i }
 
@@ -56,6 +59,7 @@ none_counted : (n : ℕ) → replicate n 0 ≡ map count_in (none_of n)
 none_counted zero = refl
 none_counted (suc n) = ap (λ counts. 0 ∷ counts) (none_counted n)
 
+-- empty slots agree with their counts and places
 pub none_slots : (n : ℕ) (counts : List ℕ) (empty stale : SmallVec ℕ) → n ≤ 1024 → counts ≡ replicate n 0 → empty.items ≡ range_with_len 0 n → stale.items ≡ [] → n ≤ empty.capacity → n ≤ stale.capacity → AreSlots (none_of n) counts empty stale
 none_slots n counts empty stale few counted empties stales empty_room stale_room =
     record {
@@ -68,6 +72,7 @@ none_slots n counts empty stale few counted empties stales empty_room stale_room
       stale_room = rw length_none stale_room;
     }
 
+-- a range has as many numbers as its length
 pub length_range : (k n : ℕ) → length (range_with_len k n) ≡ n
 length_range k zero = refl
 length_range k (suc n) = ap suc (length_range (k + 1) n)

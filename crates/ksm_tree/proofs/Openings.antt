@@ -20,6 +20,7 @@ agree true false same = grind (arith, same)
 agree false true same = grind (arith, same)
 agree false false same = refl
 
+-- of two tests that differ, where one passes the other fails
 pub differ : (a b : Bool) → beq a b ≡ false → a ≡ true → b ≡ false
 differ true true apart opens = grind (arith, apart)
 differ false true apart opens = absurd (false≢true opens)
@@ -42,6 +43,7 @@ all_none : (n : ℕ) → list_all (λ n. n == 0) (replicate n 0) ≡ true
 all_none zero = refl
 all_none (suc n) = all_none n
 
+-- counts of empty places have no open place
 pub counts_begun : (limit n : ℕ) (places : SmallVec ℕ) → places.items ≡ [] → n ≤ places.capacity → AreCounts limit (replicate n 0) places
 counts_begun limit n places none room =
     record { opens = none ∙ sym (none_open limit 0 (replicate n 0) (all_none n)); room = rw length_zeroes room }
@@ -51,14 +53,17 @@ pub counts_same : (limit p n : ℕ) (counts : List ℕ) (places : SmallVec ℕ) 
 counts_same limit p n counts places same h =
     record { opens = h.opens ∙ sym (where_same (is_open limit) 0 0 p counts n same); room = rw length-set h.room }
 
+-- a place that opens is added to the open places
 pub counts_opened : (limit p n : ℕ) (counts : List ℕ) (places places' : SmallVec ℕ) → p < length counts → is_open limit n ≡ true → places'.items ≡ with_place p places.items → places'.capacity ≡ places.capacity → AreCounts limit counts places → AreCounts limit (set counts p n) places'
 counts_opened limit p n counts places places' within opens more room h =
     record { opens = more ∙ ap (with_place p) h.opens ∙ sym (where_with (is_open limit) 0 p p counts n (omega arith) within opens); room = rw (length-set, room) h.room }
 
+-- a place that closes goes from the open places
 pub counts_closed : (limit p n : ℕ) (counts : List ℕ) (places places' : SmallVec ℕ) → p < length counts → is_open limit n ≡ false → places'.items ≡ without p places.items → places'.capacity ≡ places.capacity → AreCounts limit counts places → AreCounts limit (set counts p n) places'
 counts_closed limit p n counts places places' within closes left room h =
     record { opens = left ∙ ap (without p) h.opens ∙ sym (where_without (is_open limit) 0 p p counts n (omega arith) within closes); room = rw (length-set, room) h.room }
 
+-- there is room among the open places for one more
 pub opens_with_room : (limit p : ℕ) (counts : List ℕ) (places : SmallVec ℕ) → p < length counts → is_open limit (get_or counts p 0) ≡ false → AreCounts limit counts places → length places.items + 1 ≤ places.capacity
 opens_with_room limit p counts places within closed h =
     let room = where_room (is_open limit) 0 0 p counts within closed in

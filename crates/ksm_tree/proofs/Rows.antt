@@ -12,6 +12,7 @@ use Rattle.ksm_rmap.proofs.Ordered.{pairs_head, pairs_tail, pairs_append, filter
 use Rattle.ksm_tree.specs.Index.{in_group, row_place, group_places}
 use Rattle.ksm_tree.specs.Places.{with_place, without}
 
+-- one dup's place is before the other's
 abbrev pub Comes : DupRow → DupRow → Type 0
 Comes d e = (d.place < e.place) × ((d.number == e.number) ≡ false)
 
@@ -119,6 +120,7 @@ group_joined t b row rows inside =
     let first : group_places t b (row ∷ higher) ≡ row.place ∷ group_places t b higher = grind (arith, inside) in
     front ∙ (λ i. low i ++ (first ∙ ap (λ ps. row.place ∷ ps) high) i)
 
+-- a new dup of another group takes its place out of a group, if that had it
 pub group_passed : (t : ℕ) (b : List ℕ) (row : DupRow) (rows : List DupRow) → InPlaceOrder rows → in_group t b row ≡ false → group_places t b (with_dup row rows) ≡ without row.place (group_places t b rows)
 group_passed t b row rows rise outside =
     let lower = filter (below row.place) rows in
@@ -150,6 +152,7 @@ place_new row rows fresh =
     let none = All-weaker F (λ r. numbered row.number r ≡ false) (λ r h. ne_eqb r.number row.number (λ e. omega (arith, h, e))) lower (All-filter (below row.place) F rows fresh) in
     ap (option_map (λ r. r.place)) (find_to (numbered row.number) row lower (filter (above row.place) rows) none (grind (arith, nat_tests)))
 
+-- a new dup changes the place of no other number that stays
 pub place_kept : (q : ℕ) (row : DupRow) (rows : List DupRow) → InPlaceOrder rows → (q == row.number) ≡ false → row_place q (with_dup row rows) ≡ row_place q (filter (elsewhere row.place) rows)
 place_kept q row rows rise other =
     let lower = filter (below row.place) rows in
@@ -166,6 +169,7 @@ found_in P test (x ∷ xs) e each found =
       | inr fails ↦ found_in P test xs e (All-tail P x xs each) (grind (arith, fails, found))
     ]
 
+-- what is found passes the test
 pub found_passes : {X : Type 0} (test : X → Bool) (xs : List X) (e : X) → find test xs ≡ Some e → test e ≡ true
 found_passes test [] e found = absurd (none-some e found)
 found_passes test (x ∷ xs) e found =
@@ -178,6 +182,7 @@ found_passes test (x ∷ xs) e found =
 abbrev pub IsOne : ℕ → DupRow → DupRow → Type 0
 IsOne p e r = ((r.place == p) ≡ (r.number == e.number)) × ((r.place == p) ≡ true → r ≡ e)
 
+-- one dup alone stands at a place
 pub only_one : (p : ℕ) (rows : List DupRow) (e : DupRow) → InPlaceOrder rows → find (λ r. r.place == p) rows ≡ Some e → All (IsOne p e) rows
 only_one p [] e rise found = absurd (none-some e found)
 only_one p (r ∷ rows) e rise found =
@@ -201,6 +206,7 @@ only_one p (r ∷ rows) e rise found =
 abbrev pub IsThat : ℕ → DupRow → DupRow → Type 0
 IsThat q e r = (r.number == q) ≡ (r.place == e.place)
 
+-- one dup alone has a number
 pub only_number : (q : ℕ) (rows : List DupRow) (e : DupRow) → InPlaceOrder rows → find (numbered q) rows ≡ Some e → All (IsThat q e) rows
 only_number q [] e rise found = absurd (none-some e found)
 only_number q (r ∷ rows) e rise found =
@@ -248,6 +254,7 @@ stayed p q e (r ∷ rows) other only =
       ]
     ]
 
+-- a dup that goes takes the place of its number alone
 pub place_gone : (p q : ℕ) (rows : List DupRow) (e : DupRow) → InPlaceOrder rows → find (λ r. r.place == p) rows ≡ Some e → row_place q (filter (elsewhere p) rows) ≡ (if q == e.number then None else row_place q rows)
 place_gone p q rows e rise found =
     let only = only_one p rows e rise found in

@@ -31,6 +31,7 @@ find_nothing test (x ∷ xs) none =
 abbrev pub pages_that : (Row → Bool) → List Row → List GuestPage
 pages_that test rows = map (λ r. r.page) (filter test rows)
 
+-- the pages that pass in two lists are those of both together
 pub pages_append : (test : Row → Bool) (xs ys : List Row) → pages_that test (xs ++ ys) ≡ pages_that test xs ++ pages_that test ys
 pages_append test [] ys = refl
 pages_append test (x ∷ xs) ys =

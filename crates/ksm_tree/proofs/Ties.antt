@@ -117,6 +117,7 @@ tied_count rows dups number d tied found =
     ap (λ o. length (items_in o)) found
     ∙ found_in (λ e. length e.items ≡ item_count rows e.row) (has_number number) dups d (tied_counted rows dups tied) found
 
+-- a dup found by its number has it
 pub number_found : (number : ℕ) (dups : List Dup) (d : Dup) → dup_of number dups ≡ Some d → d.row.number ≡ number
 number_found number dups d found = eqb-true d.row.number number (found_passes (has_number number) dups d found)
 

@@ -84,6 +84,7 @@ or_nothing : (o : Option Row) → option_or o None ≡ o
 or_nothing None = refl
 or_nothing (Some r) = refl
 
+-- a row inserted is found at its page, and other pages as before
 pub at_inserted : (row : Row) (rows : List Row) (q : GuestPage) → row_at q (with_row row rows) ≡ (if same_page row.page q then Some row else row_at q rows)
 at_inserted row rows q =
     let ahead = at_chosen (λ p. comes_before p row.page) q rows in
@@ -124,6 +125,7 @@ only_one : (o : Option GuestPage) (p q : GuestPage) → names p o ≡ true → s
 only_one None p q here other = absurd (false≢true here)
 only_one (Some w) p q here other = same_alike w p q here ∙ other
 
+-- the page told as waiting waits in that tree with that content
 pub look_up_found : (knobs : Knobs) (rows : List Row) (w : List WaitingPage) (t : ℕ) (b : List ℕ) (page : GuestPage) → AreWaiting knobs rows w
     → waiting_page t b w ≡ Some page → waits_there knobs t b (row_at page rows) ≡ true
 look_up_found knobs rows w t b page are is = sym (are t b page) ∙ ap (names page) is ∙ same_page_refl page

@@ -1,3 +1,10 @@
+//! The dups with their items, as visits, stores and the counters ask for them (mm/ksm: the stable trees).
+//!
+//! `Slots` has the dups by place, `Index` leads to the places. Each call changes both, and the invariant says that they agree: callers see
+//! one list, of the dups in the order of their places.
+//!
+//! A page that looks for a dup to join walks along its chain, which mostly has one dup. Of a long chain most dups are full. So while there
+//! is a long one, the open places of all contents are kept, and such a page walks along these if they are fewer.
 ghost use Rattle.std.specs.Prelude.{◌≡◌, ℕ, ◌+◌, ◌^◌, ◌<◌, ◌≤◌, [], ◌∷◌, ◌&&◌, not, true, false, None, Some, count_by, filter, find, length, is_some, option_copied, option_map, slice_get, if◌then◌else◌, IfErr, IfOk, OnErr, OnOk};
 ghost use Rattle.ksm_base.specs.Counting.{in_chain, leads_group};
 ghost use Rattle.ksm_base.specs.Rows.{same_page};

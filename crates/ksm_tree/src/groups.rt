@@ -1,3 +1,5 @@
+//! The groups, found by a hash of their content. How many are chains is kept beside them, so the counters of chains
+//! are read.
 ghost use Rattle.std.specs.Prelude.{◌≡◌, ℕ, List, [], ◌&&◌, ◌==◌, IfErr, OnOk, OnErr, bytes_eq, length, if◌then◌else◌};
 ghost use Rattle.ksm_tree.specs.Groups.{AllPeopled, chain_in};
 ghost use Rattle.ksm_tree.specs.Places.{with_place, without};

@@ -1,3 +1,4 @@
+//! What finds dups by number and by content. It has places alone, so each dup lies once.
 ghost use Rattle.std.specs.Prelude.{◌≡◌, ℕ, List, [], ◌&&◌, ◌==◌, not, None, Some, IfErr, OnErr, OnOk, bytes_eq, length, if◌then◌else◌};
 ghost use Rattle.ksm_tree.specs.Places.{with_place, without};
 ghost use Rattle.ksm_tree.specs.Totals.{IsRegrouped, Tells};

@@ -1,3 +1,8 @@
+//! How many items the dup at each place has, and which places are open: where a dup has an item and fewer than the limit.
+//!
+//! The counts stand by themselves, four bytes each, so a walk along a chain reads no dup but one that may be joined. The open places are
+//! kept only while they are asked for: a store to a merged page may open or close one, and where all chains are short that costs more
+//! than it saves.
 ghost use Rattle.std.specs.Prelude.{◌≡◌, ℕ, ◌<◌, ◌≤◌, IfErr, IfOk, IfSome, length, replicate, slice_set};
 ghost use Rattle.ksm_tree.specs.Counts.{is_open as is_open_count, places_where};
 

@@ -1,3 +1,5 @@
+//! The dups by their places, a slot for each: a place leads to its dup in one step, and room for all of them is taken
+//! once.
 ghost use Rattle.std.specs.Prelude.{◌≡◌, ℕ, ◌-◌, ◌<◌, ◌≤◌, [], true, false, None, Some, count_by, find, length, option_copied, option_map, is_some, slice_index_or, IfErr, IfOk, IfSome, OnErr, OnOk};
 ghost use Rattle.ksm_tree.specs.Choosing.{empty_place};
 ghost use Rattle.ksm_rmap.specs.Items.{has_item, with_item, without_item};

@@ -1,3 +1,4 @@
+//! The two counters of chains, which change with each group that grows or shrinks.
 ghost use Rattle.ksm_tree.specs.Totals.{IsRegrouped, Tells};
 ghost use Rattle.std.specs.Prelude.{◌≤◌, ◌+◌};
 
