@@ -23,7 +23,7 @@ impl Index {
     pub fn new(alloc: Global) -> Index
         ensures numbers { (q : ℕ) → place_of q result ≡ None }
         ensures groups { (t : ℕ) (b : List ℕ) → places_of t b result ≡ [] }
-        ensures totals { result.groups.totals ≡ record { chains = 0; dups = 0 } }
+        ensures totals { result.groups.totals ≡ record { chains = 0; dups = 0; longest = 0 } }
     {
         Index {
             numbers: HashMap::new(alloc),

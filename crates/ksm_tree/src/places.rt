@@ -65,6 +65,14 @@ impl Places {
         self.list.as_slice().last().copied()
     }
 
+    /// No places from now on.
+    pub fn clear(&mut self)
+        ensures none { self.new.list.items ≡ [] }
+        ensures capacity { self.new.list.capacity ≡ self.old.list.capacity }
+    {
+        self.list.clear();
+    }
+
     /// Takes room for one more place. The one fault is `Memory`, and then nothing changes.
     pub fn reserve(&mut self) -> Result<(), Fault>
         ensures kept { self.new.list.items ≡ self.old.list.items }

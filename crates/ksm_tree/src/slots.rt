@@ -81,11 +81,11 @@ impl Slots {
         self.counts.open_places(limit)
     }
 
-    /// The open dups are those of this limit from now on, if none has an item.
-    pub fn set_limit(&mut self, limit: u32)
+    /// The open places are kept from now on by this limit; by the limit 0 nothing has to be kept.
+    pub fn keep_open(&mut self, limit: u32)
         ensures { self.new ≡ self.old }
     {
-        self.counts.set_limit(limit);
+        self.counts.keep_open(limit);
     }
 
     /// The least place that no dup has.
