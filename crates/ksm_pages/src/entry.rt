@@ -1,6 +1,6 @@
 //! What the rows' map keeps of a row, under its page.
 
-ghost use Rattle.std.specs.Prelude.{◌≡◌};
+ghost use Rattle.std.specs.Prelude.{◌≡◌, ◌&&◌, not};
 ghost use Rattle.ksm_base.specs.Rows.{settled_state, shared_state};
 ghost use Rattle.ksm_pages.specs.Kept.{state_of};
 ghost use Rattle.ksm_pages.specs.RowEntries.{row_of, entry_of};
@@ -117,6 +117,13 @@ impl Entry {
         ensures { result ≡ shared_state self.now.state }
     {
         matches!(self.kind, Kind::Merged | Kind::Zero)
+    }
+
+    /// Whether a visit may change the row.
+    pub fn is_restless(&self) -> bool
+        ensures { result ≡ self.now.mergeable && not (shared_state self.now.state) }
+    {
+        self.mergeable && !self.is_shared()
     }
 
     /// Whether a search is for that row. The row itself is not made, so that a walk copies no row that it passes over.
