@@ -98,6 +98,9 @@ fn run_by<M: TakesLines<R, W>, N: Naming, T: Threads + Wait + Sync, R, W: Write>
         if end == LineEnd::Input && session.line().is_empty() {
             return Ok(End::AllRead);
         }
+        if end == LineEnd::Newline && session.line().is_empty() {
+            continue;
+        }
         let Ok(line) = line_of(session, end) else {
             write_reply(writer, &LineReply::BadLine(number))?;
             return Ok(End::BadLine(number));
@@ -117,11 +120,7 @@ fn line_of<N: Naming>(session: &Session<N>, end: LineEnd) -> Result<Line, LineFa
     if end == LineEnd::TooLong {
         return Err(LineFault::Bad);
     }
-    let line = session.line();
-    if line.is_empty() {
-        return Ok(Line::Empty);
-    }
-    read_line(line)
+    read_line(session.line())
 }
 
 /// Writes the reply to a line, if it has one.
