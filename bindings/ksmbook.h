@@ -61,7 +61,7 @@ enum {
     KSM_IDLE = 18,       /* the pass holds nothing */
     KSM_NO_PASS = 19,    /* all passes of the table are out */
     KSM_PASSES_OUT = 20, /* passes of the table are out */
-    KSM_OTHER = 21       /* the pass is another table's */
+    KSM_OTHER = 21       /* the pass has another table's number, or no pass of this table is out */
 };
 
 /* What the keeper uses a frame for. */
@@ -82,7 +82,8 @@ enum {
  * `number` is what tells the table's passes from those of other tables: give each table that is open another.
  * KSM_DONE, KSM_OPEN, KSM_SHAPE, KSM_MEMORY.
  *
- * ksm_table_close frees it. KSM_DONE, KSM_CLOSED, KSM_KIND, KSM_PASSES_OUT.
+ * ksm_table_close frees it where every pass that was taken out is back, and answers KSM_PASSES_OUT where one is not: a pass is back only by
+ * ksm_pass_close, so one that holds a frame, or was lost, keeps its table open. KSM_DONE, KSM_CLOSED, KSM_KIND, KSM_PASSES_OUT.
  * ksm_pass_open takes a pass out of the table, which holds nothing. KSM_DONE, KSM_OPEN, KSM_CLOSED, KSM_KIND, KSM_NO_PASS, KSM_MEMORY.
  * ksm_pass_close gives it back. KSM_DONE, KSM_CLOSED (either), KSM_KIND (either), KSM_HOLDING, KSM_OTHER.
  * All four are for the thread that has the table.

@@ -117,6 +117,11 @@ static void closed_and_kinds(void) {
     ANSWERS(KSM_OPEN, ksm_table_open(&table, 1, 1, 1, 1, 1, 1));
     ANSWERS(KSM_OPEN, ksm_pass_open(&table, &pass));
     ANSWERS(KSM_OTHER, ksm_pass_close(&other, &pass));
+    ksm_table twin = KSM_TABLE_NONE; /* of the same number, and none of its passes is out */
+    ANSWERS(KSM_DONE, ksm_table_open(&twin, 1, 1, 1, 1, 1, 1));
+    ANSWERS(KSM_OTHER, ksm_pass_close(&twin, &pass));
+    ANSWERS(KSM_DONE, ksm_table_close(&twin));
+    ANSWERS(KSM_PASSES_OUT, ksm_table_close(&table));
     ANSWERS(KSM_DONE, ksm_pass_close(&table, &pass));
     ANSWERS(KSM_CLOSED, ksm_pass_close(&table, &pass));
     ANSWERS(KSM_DONE, ksm_table_close(&other));

@@ -1,3 +1,5 @@
+//! A hold, which is a lookup that succeeded. It keeps where its frame word and its page stand, so neither a read nor
+//! the leave looks for them again. It must be spent, so no reference is lost.
 ghost use Rattle.std.specs.Prelude.{◌≡◌, ◌<◌};
 ghost use Rattle.ksm_base.specs.declared.page.TheConstants.{PAGE_WORDS as words_of_page};
 ghost use Rattle.frame_table.specs.Lookup.{ReadsWord, Leaves};

@@ -1,3 +1,5 @@
+//! A pass, which is a reader that holds nothing, and its lookups. A lookup takes the pass, and answers it back or as
+//! a hold: so no pass looks up while it holds.
 ghost use Rattle.std.specs.Prelude.{◌≡◌, ℕ, ◌<◌};
 ghost use Rattle.ksm_base.specs.Values.{frames_of};
 ghost use Rattle.frame_core.specs.declared.seat.Aim.{Aim};

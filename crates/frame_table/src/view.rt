@@ -1,3 +1,5 @@
+//! What each seat of a table knows, and the rule that joins it to the words. It is ghost: no value of a view is ever
+//! made.
 use atomic_table::TableRule;
 use frame_core::{Event, KeeperStep, Ledger, Phase, ReaderStep};
 use ksm_base::Shape;

@@ -1,5 +1,6 @@
 pub mod Answers
 pub mod Handles
+pub mod Homes
 pub mod Keeping
 pub mod Opening
 pub mod Owned

@@ -1,8 +1,9 @@
 -- What a call does to handles (own).
-use Rattle.std.specs.Prelude.{◌≡◌, ℕ, ◌⊎◌, Some, None, Option, Result, Ok, Err}
+use Rattle.std.specs.Prelude.{◌≡◌, ◌≢◌, ℕ, ◌⊎◌, Some, None, Option, Result, Ok, Err}
 use Rattle.std.specs.declared.boxed.Box.{Box}
 use Rattle.std.specs.declared.alloc.Global.{Global}
 use Rattle.ksm_base.specs.declared.shape.Shape.{Shape}
+use Rattle.ksm_base.specs.Values.{IsShape}
 use Rattle.frame_table.specs.Named.{KeeperView}
 use Rattle.ksm_ffi.specs.declared.answer.Answer.{Answer}
 use Rattle.ksm_ffi.specs.declared.answer.Answer.TheVariants as answer
@@ -10,68 +11,91 @@ use Rattle.ksm_ffi.specs.declared.reader.Phase.{Phase}
 use Rattle.ksm_ffi.specs.declared.thing.Thing.{Thing}
 use Rattle.ksm_ffi.specs.declared.thing.Thing.TheVariants.{Table, Pass}
 use Rattle.ksm_ffi.specs.Answers.{number_of}
-use Rattle.ksm_ffi.specs.Opening.{OpensTable, ReaderJudged}
+use Rattle.ksm_ffi.specs.Homes.{HomeView, Judged, LendsNone, all_back, one_back}
+use Rattle.ksm_ffi.specs.Opening.{IsNewOf, OpensNot}
 use Rattle.ksm_ffi.specs.Passes.{IsIdle}
 
 -- the handle is as it was, and this is why
 abbrev pub Keeps : Option Thing → Answer → ℕ → Option Thing → Type 0
 Keeps before a n after = (n ≡ number_of a) × (after ≡ before)
 
+-- the pass that a handle stands for
+abbrev pub reader_of : Thing → Option Phase
+reader_of (Pass v m) = Some v
+reader_of (Table v h) = None
+
 -- a call of a pass: refused where the handle is not open, or stands for something else
 abbrev pub OnPass : (Phase → Answer → Phase → Type 0) → Option Thing → ℕ → Option Thing → Type 0
 OnPass P None n after = Keeps None answer.Closed n after
-OnPass P (Some (Table v)) n after = Keeps (Some (Table v)) answer.Kind n after
-OnPass P (Some (Pass v)) n after = (a : Answer) × (w : Phase) × P v a w × (n ≡ number_of a) × (after ≡ Some (Pass w))
+OnPass P (Some (Table v h)) n after = Keeps (Some (Table v h)) answer.Kind n after
+OnPass P (Some (Pass v m)) n after = (a : Answer) × (w : Phase) × P v a w × (n ≡ number_of a) × (after ≡ Some (Pass w m))
 
 -- a call of a table's keeper
 abbrev pub OnTable : (KeeperView → Answer → KeeperView → Type 0) → Option Thing → ℕ → Option Thing → Type 0
 OnTable P None n after = Keeps None answer.Closed n after
-OnTable P (Some (Pass v)) n after = Keeps (Some (Pass v)) answer.Kind n after
-OnTable P (Some (Table v)) n after = (a : Answer) × (w : KeeperView) × P v a w × (n ≡ number_of a) × (after ≡ Some (Table w))
+OnTable P (Some (Pass v m)) n after = Keeps (Some (Pass v m)) answer.Kind n after
+OnTable P (Some (Table v h)) n after = (a : Answer) × (w : KeeperView) × P v a w × (n ≡ number_of a) × (after ≡ Some (Table w h))
 
 -- a table is opened, in a box
-abbrev pub OpensThing : Shape → Result (Box Thing Global) Answer → Type 0
-OpensThing sh (Ok b) = (v : KeeperView) × OpensTable sh (Ok v) × (b.value ≡ Table v)
-OpensThing sh (Err a) = OpensTable sh (Err a)
+abbrev pub OpensThing : Shape → ℕ → Result (Box Thing Global) Answer → Type 0
+OpensThing sh number (Ok b) = IsShape sh × ((v : KeeperView) × IsNewOf sh v × (b.value ≡ Table v (all_back number sh.passes)))
+OpensThing sh number (Err a) = OpensNot sh a
 
 -- a table is opened at a handle that is not open
-abbrev pub Opens : Shape → Option Thing → ℕ → Option Thing → Type 0
-Opens sh (Some x) n after = Keeps (Some x) answer.Open n after
-Opens sh None n after = ((v : KeeperView) × OpensTable sh (Ok v) × (n ≡ number_of answer.Done) × (after ≡ Some (Table v)))
-    ⊎ ((a : Answer) × OpensTable sh (Err a) × (n ≡ number_of a) × (after ≡ None))
+abbrev pub Opens : Shape → ℕ → Option Thing → ℕ → Option Thing → Type 0
+Opens sh number (Some x) n after = Keeps (Some x) answer.Open n after
+Opens sh number None n after = (IsShape sh × ((v : KeeperView) × IsNewOf sh v × (n ≡ number_of answer.Done) × (after ≡ Some (Table v (all_back number sh.passes)))))
+    ⊎ ((a : Answer) × OpensNot sh a × (n ≡ number_of a) × (after ≡ None))
 
--- a table is closed, or passes of it are out
+-- whether a table may be closed: no pass of it is out
+abbrev pub JudgesClose : HomeView → Answer → Type 0
+JudgesClose h a = (h.back ≡ h.count → a ≡ answer.Done) × (h.back ≢ h.count → a ≡ answer.PassesOut)
+
+-- a table is closed where no pass of it is out, and only there
 abbrev pub Closes : Option Thing → ℕ → Option Thing → Type 0
 Closes None n after = Keeps None answer.Closed n after
-Closes (Some (Pass v)) n after = Keeps (Some (Pass v)) answer.Kind n after
-Closes (Some (Table v)) n after = ((n ≡ number_of answer.Done) × (after ≡ None)) ⊎ Keeps (Some (Table v)) answer.PassesOut n after
+Closes (Some (Pass v m)) n after = Keeps (Some (Pass v m)) answer.Kind n after
+Closes (Some (Table v h)) n after = (h.back ≡ h.count → (n ≡ number_of answer.Done) × (after ≡ None)) × (h.back ≢ h.count → Keeps (Some (Table v h)) answer.PassesOut n after)
+
+-- a box with a pass that holds nothing, and the table's number; that pass is out then
+abbrev pub LendsBox : HomeView → Result (Box Thing Global) Answer → HomeView → Type 0
+LendsBox h (Ok b) after = (h ≡ one_back after) × ((v : Phase) × IsIdle v × (b.value ≡ Pass v h.number))
+LendsBox h (Err a) after = LendsNone h a after
+
+-- the same by what a handle stands for: refused where that is no table
+abbrev pub LendsThing : Thing → Result (Box Thing Global) Answer → Thing → Type 0
+LendsThing (Table v h) r after = (k : HomeView) × LendsBox h r k × (after ≡ Table v k)
+LendsThing (Pass v m) r after = (r ≡ Err answer.Kind) × (after ≡ Pass v m)
+
+-- a pass is opened, which is out then; or none is, since all are out, or for memory
+abbrev pub OpensOne : HomeView → ℕ → HomeView → Option Thing → Type 0
+OpensOne h n after pass = ((h ≡ one_back after) × (n ≡ number_of answer.Done) × ((v : Phase) × IsIdle v × (pass ≡ Some (Pass v h.number))))
+    ⊎ ((a : Answer) × LendsNone h a after × Keeps None a n pass)
 
 -- a pass of the table is opened at a handle that is not open
-abbrev pub OpensPass : Option Thing → Option Thing → ℕ → Option Thing → Type 0
-OpensPass table (Some x) n after = Keeps (Some x) answer.Open n after
-OpensPass None None n after = Keeps None answer.Closed n after
-OpensPass (Some (Pass v)) None n after = Keeps None answer.Kind n after
-OpensPass (Some (Table v)) None n after = ((w : Phase) × IsIdle w × (n ≡ number_of answer.Done) × (after ≡ Some (Pass w)))
-    ⊎ (Keeps None answer.NoPass n after ⊎ Keeps None answer.Memory n after)
-
--- a pass comes back to the table
-abbrev pub ClosesPass : Option Thing → Option Thing → ℕ → Option Thing → Type 0
-ClosesPass table None n after = Keeps None answer.Closed n after
-ClosesPass table (Some (Table v)) n after = Keeps (Some (Table v)) answer.Kind n after
-ClosesPass None (Some (Pass v)) n after = Keeps (Some (Pass v)) answer.Closed n after
-ClosesPass (Some (Pass w)) (Some (Pass v)) n after = Keeps (Some (Pass v)) answer.Kind n after
-ClosesPass (Some (Table w)) (Some (Pass v)) n after = (IsIdle v × (n ≡ number_of answer.Done) × (after ≡ None))
-    ⊎ ((¬ IsIdle v × Keeps (Some (Pass v)) answer.Holding n after) ⊎ Keeps (Some (Pass v)) answer.Other n after)
-
--- a box with a pass that holds nothing is lent by a table; refused where there is none, for memory, or by what is no table
-abbrev pub LendsBox : Thing → Result (Box Thing Global) Answer → Type 0
-LendsBox (Table v) (Ok b) = (w : Phase) × IsIdle w × (b.value ≡ Pass w)
-LendsBox (Table v) (Err a) = (a ≡ answer.NoPass) ⊎ (a ≡ answer.Memory)
-LendsBox (Pass v) (Ok b) = ⊥
-LendsBox (Pass v) (Err a) = a ≡ answer.Kind
+abbrev pub OpensPass : Option Thing → Option Thing → ℕ → Option Thing → Option Thing → Type 0
+OpensPass t (Some x) n table pass = (table ≡ t) × Keeps (Some x) answer.Open n pass
+OpensPass None None n table pass = (table ≡ None) × Keeps None answer.Closed n pass
+OpensPass (Some (Pass v m)) None n table pass = (table ≡ Some (Pass v m)) × Keeps None answer.Kind n pass
+OpensPass (Some (Table v h)) None n table pass = (k : HomeView) × OpensOne h n k pass × (table ≡ Some (Table v k))
 
 -- whether what a handle stands for may come back to what another stands for, as a pass to its table
 abbrev pub JudgesBack : Thing → Thing → Answer → Type 0
-JudgesBack t (Table v) a = a ≡ answer.Kind
-JudgesBack (Pass w) (Pass v) a = a ≡ answer.Kind
-JudgesBack (Table w) (Pass v) a = ReaderJudged v a
+JudgesBack (Table w h) (Pass v m) a = Judged h v m a
+JudgesBack _ _ a = a ≡ answer.Kind
+
+-- one pass more is back
+abbrev pub IsGivenBack : Thing → Thing → Type 0
+IsGivenBack (Table w h) after = after ≡ Table w (one_back h)
+IsGivenBack (Pass v m) after = ⊥
+
+-- the answer is the reason; the pass is back if it is Done, and else both are as they were
+abbrev pub GoesBack : Thing → Thing → Answer → Option Thing → Option Thing → Type 0
+GoesBack t p answer.Done table pass = ((u : Thing) × IsGivenBack t u × (table ≡ Some u)) × (pass ≡ None)
+GoesBack t p a table pass = (table ≡ Some t) × (pass ≡ Some p)
+
+-- a pass comes back to its table
+abbrev pub ClosesPass : Option Thing → Option Thing → ℕ → Option Thing → Option Thing → Type 0
+ClosesPass t None n table pass = (table ≡ t) × Keeps None answer.Closed n pass
+ClosesPass None (Some p) n table pass = (table ≡ None) × Keeps (Some p) answer.Closed n pass
+ClosesPass (Some t) (Some p) n table pass = (a : Answer) × JudgesBack t p a × (n ≡ number_of a) × GoesBack t p a table pass

@@ -6,6 +6,7 @@
 
 mod answer;
 mod handle;
+mod home;
 mod loose;
 mod owner;
 mod passes;
@@ -15,6 +16,7 @@ mod thing;
 
 pub use answer::Answer;
 pub use handle::Handle;
+pub use home::Home;
 pub use owner::Owner;
 pub use reader::{Phase, Reader};
 pub use thing::Thing;

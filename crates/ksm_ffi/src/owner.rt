@@ -1,38 +1,30 @@
 //! A table with its keeper: what the keeper may do is tested here, so that nothing is required of a caller.
-ghost use Rattle.std.specs.Prelude.{◌≡◌, ◌<◌, ◌↔◌, IsTrue, IfOk, IfErr, MatchResult, length};
-ghost use Rattle.ksm_base.specs.Values.{IsShape, frames_of};
+ghost use Rattle.std.specs.Prelude.{◌≡◌, ◌<◌, ◌↔◌, IsTrue, MatchResult, length};
+ghost use Rattle.ksm_base.specs.Values.{frames_of};
 ghost use Rattle.frame_core.specs.declared.event.KeeperStep.TheVariants.{Reap, Put, Raise, Open, Add, Sub, Publish, Withdraw, Freeze, Word};
 ghost use Rattle.frame_core.specs.Ledger.{IsLoose, IsReadable, IsWritable, frame_at, named_at};
 ghost use Rattle.frame_table.specs.Kept.{May};
-ghost use Rattle.frame_table.specs.Seats.{new_keeper};
 ghost use Rattle.frame_core.specs.declared.event.KeeperStep.{KeeperStep};
 ghost use Rattle.ksm_base.specs.declared.shape.Shape.{Shape};
 ghost use Rattle.frame_table.specs.Named.{KeeperView};
 ghost use Rattle.ksm_ffi.specs.Keeping.{IsInside, Judges, Keeps, KeepsWord, TellsFrame, kind_number};
-ghost use Rattle.ksm_ffi.specs.Opening.{Lends, OpensTable, ReaderJudged};
+ghost use Rattle.ksm_ffi.specs.Opening.{OpensTable};
 
 use crate::answer::Answer;
-use crate::reader::Reader;
+use crate::home::Home;
 use frame_core::{KeeperStep, Kind, Life};
-use frame_table::{FrameTable, Keeper, Pass};
+use frame_table::{FrameTable, Keeper};
 use ksm_base::{PAGE_WORDS, Shape};
 use std::alloc::Global;
 use std::marker::Model;
-use std::mem::ManuallyDrop;
 use std::sync::Arc;
 
-/// A table with its keeper, and the passes that are not out. Contracts see the keeper.
+/// A table with its keeper. Contracts see the keeper.
 pub struct Owner {
     table: Arc<FrameTable>,
-    // What tells the table from others.
-    number: u64,
     keeper: Keeper,
     // What each place names.
     named: Vec<Option<Life>>,
-    // How many passes there are. Those that were never out, and those that came back.
-    count: usize,
-    passes: Vec<Pass>,
-    returned: Vec<Reader>,
 }
 
 impl Model for Owner {
@@ -316,111 +308,34 @@ impl Owner {
 
 // Opening and closing.
 impl Owner {
-    /// A table with all frames free and all places empty. It tells its passes from those of tables with other numbers.
-    pub fn open(alloc: Global, shape: Shape, number: u64) -> Result<Owner, Answer>
-        ensures { OpensTable shape result }
+    /// A table with all frames free, all places empty and no pass out. It tells its passes from those of tables with other numbers.
+    pub fn open(alloc: Global, shape: Shape, number: u64) -> Result<(Owner, Home), Answer>
+        ensures { OpensTable shape number result }
     {
         if !shape.check() {
             return Err(Answer::Shape);
         }
-        let frames = shape.frames() as usize;
-        let Ok(named) = vec![in alloc; None; frames] else {
+        let Ok(named) = vec![in alloc; None; shape.frames() as usize] else {
             return Err(Answer::Memory);
         };
-        let Ok(returned) = Vec::with_capacity(alloc, shape.passes as usize) else {
+        let Some((table, keeper, home)) = Home::open(alloc, shape, number) else {
             return Err(Answer::Memory);
         };
-        let Ok((table, keeper, passes)) = FrameTable::open(alloc, shape) else {
-            returned.destroy_empty();
-            return Err(Answer::Memory);
+        let owner = Owner {
+            table,
+            keeper,
+            named,
         };
-        match Arc::new(alloc, table) {
-            Ok(table) => Ok(Owner {
-                table,
-                number,
-                keeper,
-                named,
-                count: shape.passes as usize,
-                passes,
-                returned,
-            }),
-            Err(failed) => {
-                drop(failed.value.close(keeper, passes));
-                returned.destroy_empty();
-                Err(Answer::Memory)
-            }
-        }
+        Ok((owner, home))
     }
 
-    /// A pass that is not out: one of this table that never was, or else one that came back.
-    pub fn lend(&mut self) -> Result<Reader, Answer>
-        ensures keeper { self.new ≡ self.old }
-        ensures pass { Lends result }
-    {
-        let Ok(table) = Arc::try_clone(&self.table) else {
-            return Err(Answer::Memory);
-        };
-        if let Some(pass) = self.passes.pop() {
-            return Ok(Reader::new(table, self.number, pass));
-        }
-        drop(table);
-        match self.returned.pop() {
-            Some(reader) => Ok(reader),
-            None => Err(Answer::NoPass),
-        }
-    }
-
-    /// Whether a pass may come back: it holds nothing, and its table has the same number.
-    pub fn judge_back(&self, reader: &Reader) -> Answer
-        ensures { ReaderJudged reader.now result }
-    {
-        if reader.number() != self.number {
-            return Answer::Other;
-        }
-        if reader.is_idle() {
-            Answer::Done
-        } else {
-            Answer::Holding
-        }
-    }
-
-    /// Takes a pass back that may come back. Where there is no room for it, or it may not come back, it goes for good.
-    pub fn take_back(&mut self, reader: Reader)
-        ensures { self.new ≡ self.old }
-    {
-        if !reader.is_idle() {
-            reader.retire();
-            return;
-        }
-        if let Err(failed) = self.returned.push(reader) {
-            failed.value.retire();
-        }
-    }
-
-    /// Whether no pass is out.
-    pub fn is_whole(&self) -> bool {
-        self.passes.len() == self.count.saturating_sub(self.returned.len())
-    }
-
-    /// Lets the table go, with its keeper and the passes that are not out. Its memory is freed with the last pass that is out.
+    /// Lets the keeper go, with its part of the table. The table's memory is freed with its last part.
     pub fn retire(self) {
         let Owner {
             table,
-            number: _,
             keeper,
             named,
-            count: _,
-            mut passes,
-            mut returned,
         } = self;
-        'passes: while let Some(pass) = passes.pop() {
-            let _kept_for_good = unsafe { ManuallyDrop::new_unchecked(pass) };
-        }
-        passes.destroy_empty();
-        'returned: while let Some(reader) = returned.pop() {
-            reader.retire();
-        }
-        returned.destroy_empty();
         drop(named);
         keeper.retire();
         drop(table);

@@ -18,8 +18,8 @@ pub extern "C" fn ksm_find(alloc: Global, pass: &mut Handle, place: u32) -> u32
         return Answer::Closed.number();
     };
     let answer = match &mut *thing {
-        Thing::Pass(reader) => reader.find(place),
-        Thing::Table(_) => Answer::Kind,
+        Thing::Pass(reader, _) => reader.find(place),
+        Thing::Table(_, _) => Answer::Kind,
     };
     pass.put(thing);
     answer.number()
@@ -39,8 +39,8 @@ pub extern "C" fn ksm_find_equal(
         return Answer::Closed.number();
     };
     let answer = match &mut *thing {
-        Thing::Pass(reader) => reader.find_equal(place, page),
-        Thing::Table(_) => Answer::Kind,
+        Thing::Pass(reader, _) => reader.find_equal(place, page),
+        Thing::Table(_, _) => Answer::Kind,
     };
     pass.put(thing);
     answer.number()
@@ -60,8 +60,8 @@ pub extern "C" fn ksm_look_up(
         return Answer::Closed.number();
     };
     let answer = match &mut *thing {
-        Thing::Pass(reader) => reader.look_up(place, words),
-        Thing::Table(_) => Answer::Kind,
+        Thing::Pass(reader, _) => reader.look_up(place, words),
+        Thing::Table(_, _) => Answer::Kind,
     };
     pass.put(thing);
     answer.number()
@@ -76,8 +76,8 @@ pub extern "C" fn ksm_word(alloc: Global, pass: &mut Handle, i: usize, word: &mu
         return Answer::Closed.number();
     };
     let answer = match &mut *thing {
-        Thing::Pass(reader) => reader.word(i, word),
-        Thing::Table(_) => Answer::Kind,
+        Thing::Pass(reader, _) => reader.word(i, word),
+        Thing::Table(_, _) => Answer::Kind,
     };
     pass.put(thing);
     answer.number()
@@ -92,8 +92,8 @@ pub extern "C" fn ksm_words(alloc: Global, pass: &mut Handle, words: &mut PageBy
         return Answer::Closed.number();
     };
     let answer = match &mut *thing {
-        Thing::Pass(reader) => reader.words(words),
-        Thing::Table(_) => Answer::Kind,
+        Thing::Pass(reader, _) => reader.words(words),
+        Thing::Table(_, _) => Answer::Kind,
     };
     pass.put(thing);
     answer.number()
@@ -114,8 +114,8 @@ pub extern "C" fn ksm_held(
         return Answer::Closed.number();
     };
     let answer = match &mut *thing {
-        Thing::Pass(reader) => reader.held(place, frame, life),
-        Thing::Table(_) => Answer::Kind,
+        Thing::Pass(reader, _) => reader.held(place, frame, life),
+        Thing::Table(_, _) => Answer::Kind,
     };
     pass.put(thing);
     answer.number()
@@ -130,8 +130,8 @@ pub extern "C" fn ksm_leave(alloc: Global, pass: &mut Handle) -> u32
         return Answer::Closed.number();
     };
     let answer = match &mut *thing {
-        Thing::Pass(reader) => reader.leave(),
-        Thing::Table(_) => Answer::Kind,
+        Thing::Pass(reader, _) => reader.leave(),
+        Thing::Table(_, _) => Answer::Kind,
     };
     pass.put(thing);
     answer.number()

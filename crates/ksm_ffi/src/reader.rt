@@ -20,10 +20,9 @@ pub enum Phase {
     Away,
 }
 
-/// A pass, the table that it looks up, and that table's number. Between calls either the pass is there or its hold.
+/// A pass, and the table that it looks up. Between calls either the pass is there or its hold.
 pub struct Reader {
     table: Arc<FrameTable>,
-    number: u64,
     pass: Option<Pass>,
     held: Option<Held>,
 }
@@ -57,16 +56,14 @@ fn keep(slot: &mut Option<Held>, held: Held)
     let None = gone else { unreachable!() };
 }
 
-// Every word of the page.
-fn read_all(table: &FrameTable, held: &mut Held) -> PageBytes
+// Loads every word of the page, to where the caller wants them: a copy of all words would cost a lookup twelve instructions.
+fn read_all(table: &FrameTable, held: &mut Held, words: &mut PageBytes)
     requires own { held.old.table ≡ table.now }
-    ensures { ReadsPage held.old result held.new }
+    ensures { ReadsPage held.old words.new held.new }
 {
-    let mut words = [0; PAGE_WORDS];
     'loads: for i in 0..PAGE_WORDS {
         words[i] = held.word(table, i);
     }
-    words
 }
 
 // Every word of the page, and the reference is given back.
@@ -76,7 +73,7 @@ fn read_and_leave(table: &FrameTable, held: Held, words: &mut PageBytes) -> Pass
     ensures own { result.table ≡ table.now }
 {
     let mut held = held;
-    *words = read_all(table, &mut held);
+    read_all(table, &mut held, words);
     held.leave(table)
 }
 
@@ -182,22 +179,16 @@ fn why_answer(why: Why) -> Answer
 
 // Holds, and what becomes of a pass.
 impl Reader {
-    /// A pass of this table, which has this number.
-    pub fn new(table: Arc<FrameTable>, number: u64, pass: Pass) -> Reader
+    /// A pass of this table.
+    pub fn new(table: Arc<FrameTable>, pass: Pass) -> Reader
         requires { pass.table ≡ table.value }
         ensures { result ≡ Idle pass }
     {
         Reader {
             table,
-            number,
             pass: Some(pass),
             held: None,
         }
-    }
-
-    /// The number of the pass's table.
-    pub fn number(&self) -> u64 {
-        self.number
     }
 
     /// Whether the pass holds nothing.
@@ -228,7 +219,7 @@ impl Reader {
         let Some(held) = &mut self.held else {
             return Answer::Idle;
         };
-        *words = read_all(&self.table, held);
+        read_all(&self.table, held, words);
         Answer::Done
     }
 
@@ -258,12 +249,7 @@ impl Reader {
 
     /// Lets the pass go for good, and its part of the table.
     pub fn retire(self) {
-        let Reader {
-            table,
-            number: _,
-            pass,
-            held,
-        } = self;
+        let Reader { table, pass, held } = self;
         drop(table);
         let _kept_for_good = unsafe { ManuallyDrop::new_unchecked((pass, held)) };
     }

@@ -2,22 +2,23 @@
 ghost use Rattle.std.specs.Prelude.{◌≡◌};
 ghost use Rattle.frame_core.specs.declared.event.KeeperStep.TheVariants.{Reap, Put, Raise, Open, Add, Sub, Publish, Withdraw, Freeze};
 ghost use Rattle.ksm_ffi.specs.Keeping.{Keeps, KeepsWord, TellsOf};
-ghost use Rattle.ksm_ffi.specs.Things.{Closes, ClosesPass, JudgesBack, LendsBox, OnTable, Opens, OpensPass, OpensThing};
+ghost use Rattle.ksm_ffi.specs.Things.{Closes, ClosesPass, IsGivenBack, JudgesBack, JudgesClose, LendsBox, LendsThing, OnTable, Opens, OpensPass, OpensThing};
+ghost use Rattle.ksm_ffi.specs.declared.answer.Answer.TheVariants as answer;
 
 use crate::answer::Answer;
 use crate::handle::Handle;
+use crate::home::Home;
 use crate::owner::Owner;
-use crate::reader::Reader;
 use crate::thing::Thing;
 use ksm_base::Shape;
 use std::alloc::Global;
 
 // A table in a box of its own.
 fn open_thing(alloc: Global, shape: Shape, number: u64) -> Result<Box<Thing>, Answer>
-    ensures { OpensThing shape result }
+    ensures { OpensThing shape number result }
 {
-    let owner = Owner::open(alloc, shape, number)?;
-    match Box::new(alloc, Thing::Table(owner)) {
+    let (owner, home) = Owner::open(alloc, shape, number)?;
+    match Box::new(alloc, Thing::Table(owner, home)) {
         Ok(thing) => Ok(thing),
         Err(failed) => {
             failed.value.retire();
@@ -38,7 +39,7 @@ pub extern "C" fn ksm_table_open(
     last_generation: u64,
     tries: u32,
 ) -> u32
-    ensures { Opens (record { nodes = nodes; frames_per_node = frames_per_node; passes = passes; last_generation = last_generation; tries = tries }) table.old.thing result table.new.thing }
+    ensures { Opens (record { nodes = nodes; frames_per_node = frames_per_node; passes = passes; last_generation = last_generation; tries = tries }) number table.old.thing result table.new.thing }
 {
     if let Some(thing) = table.take(alloc) {
         table.put(thing);
@@ -69,9 +70,8 @@ pub extern "C" fn ksm_table_close(alloc: Global, table: &mut Handle) -> u32
         return Answer::Closed.number();
     };
     let answer = match &*thing {
-        Thing::Table(owner) if owner.is_whole() => Answer::Done,
-        Thing::Table(_) => Answer::PassesOut,
-        Thing::Pass(_) => Answer::Kind,
+        Thing::Table(_, home) => judge_close(home),
+        Thing::Pass(_, _) => Answer::Kind,
     };
     if answer == Answer::Done {
         Box::into_inner(thing).retire();
@@ -81,28 +81,48 @@ pub extern "C" fn ksm_table_close(alloc: Global, table: &mut Handle) -> u32
     answer.number()
 }
 
-// Lends a pass of the table, in a box of its own.
-fn lend(alloc: Global, table: &mut Thing) -> Result<Box<Thing>, Answer>
-    ensures table { table.new ≡ table.old }
-    ensures pass { LendsBox table.old result }
+// Whether a table may be closed.
+fn judge_close(home: &Home) -> Answer
+    ensures { JudgesClose home.now result }
 {
-    let Thing::Table(owner) = table else {
-        return Err(Answer::Kind);
-    };
-    match Box::new(alloc, Thing::Pass(owner.lend()?)) {
+    if home.is_whole() {
+        Answer::Done
+    } else {
+        Answer::PassesOut
+    }
+}
+
+// Lends a pass of a table, in a box of its own.
+fn lend_boxed(alloc: Global, home: &mut Home) -> Result<Box<Thing>, Answer>
+    ensures { LendsBox home.old result home.new }
+{
+    let number = home.number();
+    match Box::new(alloc, Thing::Pass(home.lend()?, number)) {
         Ok(pass) => Ok(pass),
         Err(failed) => {
-            failed.value.back_to(owner);
+            let Some(reader) = failed.value.into_reader() else {
+                unreachable!()
+            };
+            home.take_back(reader);
             Err(Answer::Memory)
         }
+    }
+}
+
+// Lends a pass of what a handle stands for.
+fn lend(alloc: Global, table: &mut Thing) -> Result<Box<Thing>, Answer>
+    ensures { LendsThing table.old result table.new }
+{
+    match table {
+        Thing::Table(_, home) => lend_boxed(alloc, home),
+        Thing::Pass(_, _) => Err(Answer::Kind),
     }
 }
 
 /// Opens a pass of the table.
 #[unsafe(no_mangle)]
 pub extern "C" fn ksm_pass_open(alloc: Global, table: &mut Handle, pass: &mut Handle) -> u32
-    ensures table { table.new.thing ≡ table.old.thing }
-    ensures pass { OpensPass table.old.thing pass.old.thing result pass.new.thing }
+    ensures { OpensPass table.old.thing pass.old.thing result table.new.thing pass.new.thing }
 {
     if let Some(thing) = pass.take(alloc) {
         pass.put(thing);
@@ -127,35 +147,33 @@ fn judge_back(table: &Thing, pass: &Thing) -> Answer
     ensures { JudgesBack table.now pass.now result }
 {
     match (table, pass) {
-        (_, Thing::Table(_)) => Answer::Kind,
-        (Thing::Pass(_), Thing::Pass(_)) => Answer::Kind,
-        (Thing::Table(owner), Thing::Pass(reader)) => owner.judge_back(reader),
+        (Thing::Table(_, home), Thing::Pass(reader, number)) => home.judge_back(reader, *number),
+        _ => Answer::Kind,
     }
 }
 
 // Gives a pass back that may come back.
 fn give_back(table: &mut Thing, pass: Thing)
-    ensures { table.new ≡ table.old }
+    requires { JudgesBack table.old pass answer.Done }
+    ensures { IsGivenBack table.old table.new }
 {
+    let Some(reader) = pass.into_reader() else {
+        unreachable!()
+    };
     match table {
-        Thing::Table(owner) => pass.back_to(owner),
-        Thing::Pass(_) => pass.retire(),
+        Thing::Table(_, home) => home.take_back(reader),
+        Thing::Pass(_, _) => unreachable!(),
     }
 }
 
 /// Gives a pass that holds nothing back to its table.
 #[unsafe(no_mangle)]
 pub extern "C" fn ksm_pass_close(alloc: Global, table: &mut Handle, pass: &mut Handle) -> u32
-    ensures table { table.new.thing ≡ table.old.thing }
-    ensures pass { ClosesPass table.old.thing pass.old.thing result pass.new.thing }
+    ensures { ClosesPass table.old.thing pass.old.thing result table.new.thing pass.new.thing }
 {
     let Some(back) = pass.take(alloc) else {
         return Answer::Closed.number();
     };
-    if let Thing::Table(_) = &*back {
-        pass.put(back);
-        return Answer::Kind.number();
-    }
     let Some(mut thing) = table.take(alloc) else {
         pass.put(back);
         return Answer::Closed.number();
@@ -179,8 +197,8 @@ pub extern "C" fn ksm_raise(alloc: Global, table: &mut Handle, frame: u32) -> u3
         return Answer::Closed.number();
     };
     let answer = match &mut *thing {
-        Thing::Table(owner) => owner.raise(frame),
-        Thing::Pass(_) => Answer::Kind,
+        Thing::Table(owner, _) => owner.raise(frame),
+        Thing::Pass(_, _) => Answer::Kind,
     };
     table.put(thing);
     answer.number()
@@ -195,8 +213,8 @@ pub extern "C" fn ksm_put(alloc: Global, table: &mut Handle, frame: u32, i: usiz
         return Answer::Closed.number();
     };
     let answer = match &mut *thing {
-        Thing::Table(owner) => owner.put(frame, i, word),
-        Thing::Pass(_) => Answer::Kind,
+        Thing::Table(owner, _) => owner.put(frame, i, word),
+        Thing::Pass(_, _) => Answer::Kind,
     };
     table.put(thing);
     answer.number()
@@ -211,8 +229,8 @@ pub extern "C" fn ksm_open_frame(alloc: Global, table: &mut Handle, frame: u32) 
         return Answer::Closed.number();
     };
     let answer = match &mut *thing {
-        Thing::Table(owner) => owner.open_frame(frame),
-        Thing::Pass(_) => Answer::Kind,
+        Thing::Table(owner, _) => owner.open_frame(frame),
+        Thing::Pass(_, _) => Answer::Kind,
     };
     table.put(thing);
     answer.number()
@@ -227,8 +245,8 @@ pub extern "C" fn ksm_publish(alloc: Global, table: &mut Handle, place: u32, fra
         return Answer::Closed.number();
     };
     let answer = match &mut *thing {
-        Thing::Table(owner) => owner.publish(place, frame),
-        Thing::Pass(_) => Answer::Kind,
+        Thing::Table(owner, _) => owner.publish(place, frame),
+        Thing::Pass(_, _) => Answer::Kind,
     };
     table.put(thing);
     answer.number()
@@ -243,8 +261,8 @@ pub extern "C" fn ksm_withdraw(alloc: Global, table: &mut Handle, place: u32) ->
         return Answer::Closed.number();
     };
     let answer = match &mut *thing {
-        Thing::Table(owner) => owner.withdraw(place),
-        Thing::Pass(_) => Answer::Kind,
+        Thing::Table(owner, _) => owner.withdraw(place),
+        Thing::Pass(_, _) => Answer::Kind,
     };
     table.put(thing);
     answer.number()
@@ -259,8 +277,8 @@ pub extern "C" fn ksm_add(alloc: Global, table: &mut Handle, frame: u32) -> u32
         return Answer::Closed.number();
     };
     let answer = match &mut *thing {
-        Thing::Table(owner) => owner.add(frame),
-        Thing::Pass(_) => Answer::Kind,
+        Thing::Table(owner, _) => owner.add(frame),
+        Thing::Pass(_, _) => Answer::Kind,
     };
     table.put(thing);
     answer.number()
@@ -275,8 +293,8 @@ pub extern "C" fn ksm_sub(alloc: Global, table: &mut Handle, frame: u32) -> u32
         return Answer::Closed.number();
     };
     let answer = match &mut *thing {
-        Thing::Table(owner) => owner.sub(frame),
-        Thing::Pass(_) => Answer::Kind,
+        Thing::Table(owner, _) => owner.sub(frame),
+        Thing::Pass(_, _) => Answer::Kind,
     };
     table.put(thing);
     answer.number()
@@ -291,8 +309,8 @@ pub extern "C" fn ksm_freeze(alloc: Global, table: &mut Handle, frame: u32) -> u
         return Answer::Closed.number();
     };
     let answer = match &mut *thing {
-        Thing::Table(owner) => owner.freeze(frame),
-        Thing::Pass(_) => Answer::Kind,
+        Thing::Table(owner, _) => owner.freeze(frame),
+        Thing::Pass(_, _) => Answer::Kind,
     };
     table.put(thing);
     answer.number()
@@ -307,8 +325,8 @@ pub extern "C" fn ksm_reap(alloc: Global, table: &mut Handle, frame: u32) -> u32
         return Answer::Closed.number();
     };
     let answer = match &mut *thing {
-        Thing::Table(owner) => owner.reap(frame),
-        Thing::Pass(_) => Answer::Kind,
+        Thing::Table(owner, _) => owner.reap(frame),
+        Thing::Pass(_, _) => Answer::Kind,
     };
     table.put(thing);
     answer.number()
@@ -329,8 +347,8 @@ pub extern "C" fn ksm_load(
         return Answer::Closed.number();
     };
     let answer = match &mut *thing {
-        Thing::Table(owner) => owner.word(frame, i, word),
-        Thing::Pass(_) => Answer::Kind,
+        Thing::Table(owner, _) => owner.word(frame, i, word),
+        Thing::Pass(_, _) => Answer::Kind,
     };
     table.put(thing);
     answer.number()
@@ -352,8 +370,8 @@ pub extern "C" fn ksm_frame(
         return Answer::Closed.number();
     };
     let answer = match &mut *thing {
-        Thing::Table(owner) => owner.frame(frame, kind, references, life),
-        Thing::Pass(_) => Answer::Kind,
+        Thing::Table(owner, _) => owner.frame(frame, kind, references, life),
+        Thing::Pass(_, _) => Answer::Kind,
     };
     table.put(thing);
     answer.number()

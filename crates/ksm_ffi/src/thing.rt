@@ -1,34 +1,43 @@
 //! What a handle stands for.
 ghost use Rattle.std.specs.Prelude.{◌≡◌};
+ghost use Rattle.ksm_ffi.specs.Things.{reader_of};
 
+use crate::home::Home;
 use crate::owner::Owner;
 use crate::reader::Reader;
 use std::mem::ManuallyDrop;
 
 /// What a handle stands for.
 pub enum Thing {
-    /// A table with its keeper.
-    Table(Owner),
-    /// A pass.
-    Pass(Reader),
+    /// A table with its keeper, and its passes that are not out.
+    Table(Owner, Home),
+    /// A pass, and the number of its table.
+    Pass(Reader, u64),
 }
 
 impl Thing {
-    /// A pass goes back to its table.
-    pub fn back_to(self, table: &mut Owner)
-        ensures { table.new ≡ table.old }
+    /// The pass that it stands for; what else it is goes for good.
+    pub fn into_reader(self) -> Option<Reader>
+        ensures { result ≡ reader_of self }
     {
         match self {
-            Thing::Pass(reader) => table.take_back(reader),
-            Thing::Table(owner) => owner.retire(),
+            Thing::Pass(reader, _) => Some(reader),
+            Thing::Table(owner, home) => {
+                owner.retire();
+                home.retire();
+                None
+            }
         }
     }
 
     /// Lets it go for good.
     pub fn retire(self) {
         match self {
-            Thing::Table(owner) => owner.retire(),
-            Thing::Pass(reader) => reader.retire(),
+            Thing::Table(owner, home) => {
+                owner.retire();
+                home.retire();
+            }
+            Thing::Pass(reader, _) => reader.retire(),
         }
     }
 }

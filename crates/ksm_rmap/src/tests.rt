@@ -1,3 +1,4 @@
+//! Tests of the items through their calls.
 use super::*;
 use ksm_base::{Fault, GuestPage};
 use std::test::Fail;

@@ -1,38 +1,59 @@
--- Bytes in hexadecimal digits.
-use Rattle.std.proofs.Common.{◌≡◌, ℕ, ◌/◌, ◌%◌, ◌<◌, ◌==◌, false, List, [], ◌∷◌, Result, Ok, Err, rules, refl, arith}
-use Rattle.std.specs.Prelude.{slice_index, IsOk, OnOk}
-use Rattle.std.specs.Fmt.{digit_glyph}
-use Rattle.std.specs.Int.{w64, to_le_bytes}
-use Rattle.std.specs.List.{flat_map}
+-- Bytes in hexadecimal digits, many at once.
+use Rattle.std.proofs.Common.{◌≡◌, ◌∙◌, ℕ, zero, suc, ◌/◌, ◌%◌, ◌<◌, All, eqb, true, false, List, [], ◌∷◌, ◌++◌, map, Fits, w8, w64, refl, sym, ap, ap₂, subst, arith}
 use Rattle.std.proofs.lemmas.Bool.{eqb-true}
-use Rattle.hex.specs.Hex.{encode_lower, encode_with, lower_digits}
-use Rattle.ksm_lines.proofs.Hex.{passes_at}
+use Rattle.std.specs.Fmt.{digit_glyph}
+use Rattle.std.specs.Int.{to_le_bytes}
+use Rattle.std.specs.List.{flat_map}
+use lib.Lanes.{Each1, pick_l}
+use Rattle.ksm_lines.proofs.Hex.{passes_below, passes_at}
 use Rattle.ksm_script.specs.Texts.{byte_digits, word_digits}
 
--- each digit stands at its place of the crate's table
-table_digit : (d : ℕ) → d < 16 → slice_index lower_digits d ≡ digit_glyph false d
-table_digit d lt = eqb-true _ _ (passes_at (λ d. slice_index lower_digits d == digit_glyph false d) 16 d refl lt)
+-- what was computed of each of these values is another function of it, where the two agree on all values below a number
+pub agrees_below : (n : ℕ) (f g : ℕ → ℕ) (v : List ℕ) {a : List ℕ} → a ≡ map f v → All (λ x. x < n) v → passes_below (λ k. eqb (f k) (g k)) n ≡ true → a ≡ map g v
+agrees_below n f g v p small all = p ∙ of v small
+  where
+    of : (v : List ℕ) → All (λ x. x < n) v → map f v ≡ map g v
+    of [] h = refl
+    of (x ∷ xs) h = ap₂ (λ y ys. y ∷ ys) (eqb-true _ _ (passes_at (λ k. eqb (f k) (g k)) n x all (h 0 0 (omega arith)))) (of xs (λ k d lt. h (suc k) d (omega (arith, lt))))
 
-abbrev AreBytes : List ℕ → Type 0
-AreBytes [] = Unit {0}
-AreBytes (b ∷ bytes) = (b < 256) × AreBytes bytes
+-- the halves of each byte, the higher one first
+abbrev halves : List ℕ → List ℕ
+halves [] = []
+halves (b ∷ bytes) = b / 16 ∷ b % 16 ∷ halves bytes
 
-digits_encoded : (bytes : List ℕ) → AreBytes bytes → encode_lower bytes ≡ flat_map byte_digits bytes
-unfolding encode_with
-digits_encoded [] small = refl
-digits_encoded (b ∷ bytes) small =
-    let high : b / 16 < 16 = omega (arith, small.0) in
-    let low : b % 16 < 16 = omega arith in
-    rw (table_digit (b / 16) high, table_digit (b % 16) low, digits_encoded bytes small.1) refl
+halves_small : (bytes : List ℕ) → Each1 (Fits w8) bytes → All (λ v. v < 16) (halves bytes)
+halves_small [] fits = λ k d lt. absurd (omega (arith, lt))
+halves_small (b ∷ bytes) fits = of (halves_small bytes fits.1)
+  where
+    of : All (λ v. v < 16) (halves bytes) → All (λ v. v < 16) (b / 16 ∷ b % 16 ∷ halves bytes)
+    of h zero d lt = let small : b < 256 = fits.0.fits in omega (arith, small)
+    of h (suc zero) d lt = omega arith
+    of h (suc (suc k)) d lt = h k d (omega (arith, lt))
 
-byte : (n : ℕ) → n % 256 < 256
-byte n = omega arith
+halves_digits : (bytes : List ℕ) → map (digit_glyph false) (halves bytes) ≡ flat_map byte_digits bytes
+halves_digits [] = refl
+halves_digits (b ∷ bytes) = ap (λ (l : List ℕ). digit_glyph false (b / 16) ∷ digit_glyph false (b % 16) ∷ l) (halves_digits bytes)
 
--- the encoding of a word's bytes is its digits
-pub word_encoded : (word : ℕ) → encode_lower (to_le_bytes w64 word) ≡ word_digits word
-word_encoded word = digits_encoded (to_le_bytes w64 word) (byte _, (byte _, (byte _, (byte _, (byte _, (byte _, (byte _, (byte _, tt))))))))
+byte : (n : ℕ) → Fits w8 (n % 256)
+byte n = let small : n % 256 < 256 = omega arith in record { fits = small }
 
--- what holds where a call succeeded holds of a success
-pub at_ok : {T E : Type 0} (r : Result T E) (P : Type 0) → IsOk r → OnOk r P → P
-at_ok (Ok x) P ok h = h
-at_ok (Err e) P ok h = absurd (search rules)
+-- the bytes of a word, their halves in two vectors, and how these are woven into one
+module _ (word : ℕ) (bytes : List ℕ) (is : bytes ≡ to_le_bytes w64 word) where
+  -- each of them is a byte
+  pub bytes_fit : Each1 (Fits w8) bytes
+  bytes_fit = subst (Each1 (Fits w8)) (sym is) (byte _, (byte _, (byte _, (byte _, (byte _, (byte _, (byte _, (byte _, tt))))))))
+
+  abbrev woven : List ℕ → List ℕ → List ℕ
+  woven high low = pick_l 0 (high ++ low) (0 ∷ 8 ∷ 1 ∷ 9 ∷ 2 ∷ 10 ∷ 3 ∷ 11 ∷ 4 ∷ 12 ∷ 5 ∷ 13 ∷ 6 ∷ 14 ∷ 7 ∷ 15 ∷ [])
+
+  woven_is : (high low : List ℕ) → high ≡ map (λ b. b / 16) bytes → low ≡ map (λ b. b % 16) bytes → woven high low ≡ halves (to_le_bytes w64 word)
+  woven_is high low h l = ap₂ woven h l ∙ ap (λ (v : List ℕ). woven (map (λ b. b / 16) v) (map (λ b. b % 16) v)) is
+
+  -- each half is the value of a digit
+  pub woven_small : {high low : List ℕ} → high ≡ map (λ b. b / 16) bytes → low ≡ map (λ b. b % 16) bytes → All (λ v. v < 16) (woven high low)
+  woven_small {high = high} {low = low} h l =
+      subst (λ (v : List ℕ). All (λ x. x < 16) v) (sym (woven_is high low h l)) (halves_small (to_le_bytes w64 word) (subst (Each1 (Fits w8)) is bytes_fit))
+
+  -- their digits are those of the word
+  pub woven_digits : {high low : List ℕ} → high ≡ map (λ b. b / 16) bytes → low ≡ map (λ b. b % 16) bytes → map (digit_glyph false) (woven high low) ≡ word_digits word
+  woven_digits {high = high} {low = low} h l = ap (map (digit_glyph false)) (woven_is high low h l) ∙ halves_digits (to_le_bytes w64 word)

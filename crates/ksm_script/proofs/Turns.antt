@@ -1,10 +1,11 @@
 -- A run goes on by one line.
-use Rattle.std.proofs.Common.{◌≡◌, ◌≢◌, ℕ, ◌+◌, ◌≤◌, List, [], ◌∷◌, ◌++◌, length, Option, Some, Result, Ok, Err, ap, ◌∙◌, sym, subst, append_assoc, inl, inr, refl}
+use Rattle.std.proofs.Common.{◌≡◌, ◌≢◌, ℕ, ◌+◌, ◌≤◌, List, [], ◌∷◌, ◌++◌, length, Option, None, Some, Result, Ok, Err, ap, ◌∙◌, sym, subst, append_assoc, inl, inr, refl}
 use Rattle.std.specs.Io.KnownBytes.{Appends, Consumes, IsAtEnd, Keeps}
 use Rattle.std.proofs.lemmas.List.{append-nil}
 use Rattle.std.proofs.KnownBytes.{Appends-kept, Appends-nil, Appends-trans, Consumes-nil, Consumes-trans}
 use Rattle.ksm_script.specs.State.{ScriptState}
 use Rattle.ksm_lines.specs.declared.line.Line.{Line}
+use Rattle.ksm_lines.specs.declared.line.Line.TheVariants.{Empty}
 use Rattle.ksm_lines.specs.declared.line.LineFault.{LineFault}
 use Rattle.ksm_script.specs.declared.reply.LineReply.{LineReply}
 use Rattle.ksm_script.specs.declared.script.End.{End}
@@ -101,6 +102,17 @@ bad_of left TooLong line bad last = tt
 empty_of : (line : List ℕ) → length line ≡ 0 → line ≡ []
 empty_of [] nil = refl
 empty_of (byte ∷ line) nil = absurd (cc nil)
+
+-- a newline is neither the end of the input nor a byte too many
+pub newline_open : (end : LineEnd) → end ≡ Newline → (end ≢ Input) × (end ≢ TooLong)
+newline_open Newline is = ((λ e. absurd cc), (λ e. absurd cc))
+newline_open Input is = absurd cc
+newline_open TooLong is = absurd cc
+
+-- a line of no bytes is carried out with no reply
+pub nothing_done : (state : ScriptState) (line : List ℕ) (end : LineEnd) → end ≢ TooLong → length line ≡ 0 → IsDone state state line end Empty None
+nothing_done state line end short nil =
+    record { short = short; written = subst (λ l. Writes Empty l) (sym (empty_of line nil)) (refl, tt); answers = (refl, refl) }
 
 module _ (first now later : Option (List ℕ)) (begun written : Option (List ℕ)) (from state : ScriptState) (number : ℕ) (line : List ℕ) (end : LineEnd)
     (so : IsSoFar first now begun written from state number) (read : IsRead now later line end) where

@@ -1,11 +1,13 @@
 //! Texts that are put together from their ends.
-ghost use Rattle.std.specs.Prelude.{◌≡◌, ◌+◌, ◌*◌, ◌≤◌, ◌++◌, [], length, map, decimal};
+ghost use Rattle.std.specs.Prelude.{◌≡◌, ◌+◌, ◌*◌, ◌<◌, ◌≤◌, ◌++◌, [], All, false, length, map, decimal};
+ghost use Rattle.std.specs.Fmt.{digit_glyph};
 ghost use Rattle.ksm_script.specs.declared.line_text.TheConstants.{TEXT_ROOM as ROOM};
 ghost use Rattle.ksm_script.specs.Texts.{word_digits, content_text};
 
 use itoa::write_digits;
 use ksm_base::{PAGE_WORDS, PageBytes};
 use std::marker::Model;
+use std::simd::prelude::*;
 
 /// How many bytes a text has at most: the counters are 68 bytes of names and seven numbers of 20 digits, and a page has 16 digits a word.
 const TEXT_ROOM: usize = 208 + 16 * PAGE_WORDS;
@@ -28,14 +30,29 @@ impl Model for LineText {
     ghost invariant = { λ t. t.start ≤ ROOM };
 }
 
+/// The hexadecimal digit of each of these values.
+#[inline(always)]
+fn digits_of_values(values: u8x16) -> u8x16
+    requires long { length values ≡ 16 }
+    requires small { All (λ value. value < 16) values }
+    ensures { result ≡ map (digit_glyph false) values }
+{
+    let letters = values
+        .simd_gt(u8x16::splat(9))
+        .select(u8x16::splat(b'a' - 10), u8x16::splat(b'0'));
+    values + letters
+}
+
 /// The digits of a word of a page, from its lowest byte on.
 #[inline(always)]
 fn digits_of(word: u64) -> [u8; 16]
     ensures { result ≡ word_digits word }
 {
-    let mut digits = [0; 16];
-    let _ = hex::encode_to_slice(&word.to_le_bytes(), &mut digits);
-    digits
+    let bytes = u8x8::from_array(word.to_le_bytes());
+    let high = bytes >> u8x8::splat(4);
+    let low = bytes & u8x8::splat(15);
+    let values = high.shuffle(low, [0, 8, 1, 9, 2, 10, 3, 11, 4, 12, 5, 13, 6, 14, 7, 15]);
+    digits_of_values(values).to_array()
 }
 
 /// The digits of the words of a page.

@@ -98,6 +98,9 @@ fn run_by<M: TakesLines<R, W>, N: Naming, T: Threads + Wait + Sync, R, W: Write>
         if end == LineEnd::Input && session.line().is_empty() {
             return Ok(End::AllRead);
         }
+        if end == LineEnd::Newline && session.line().is_empty() {
+            continue;
+        }
         let Ok(line) = line_of(session, end) else {
             write_reply(writer, &LineReply::BadLine(number))?;
             return Ok(End::BadLine(number));

@@ -205,13 +205,14 @@ impl<N: Naming> Session<N> {
         ensures reply { result ≡ ticket_reply (is_known self.old.state.book page) (ticket_of page self.old.state.book) }
         ensures state { self.new.state ≡ self.old.state }
     {
+        // A page that is merged has a row, so the lock is taken once for it.
+        if let Some(place) = self.ksm.ticket(rt, &mut self.share, page) {
+            return LineReply::Place(place);
+        }
         if !self.ksm.registered(rt, &mut self.share, page) {
             return LineReply::Refused(Refusal::Book(Fault::UnknownPage));
         }
-        match self.ksm.ticket(rt, &mut self.share, page) {
-            None => LineReply::Private,
-            Some(place) => LineReply::Place(place),
-        }
+        LineReply::Private
     }
 
     fn mappers<R: Wait>(&mut self, rt: &R, place: u32) -> LineReply

@@ -1,7 +1,7 @@
 -- What a call under the lock tells its share.
 use Rattle.std.proofs.Common.{◌≡◌, ◌⊎◌, ◌<◌, ℕ, Bool, true, false, if◌then◌else◌, List, [], ◌∷◌, ◌++◌, refl, sym, ap, ◌∙◌, subst, arith, Option, Some, None, Ok, Err, eq-eqb, inl, inr}
 use Rattle.std.proofs.lemmas.List.{append-nil}
-use Rattle.std.specs.Prelude.{MatchBool}
+use Rattle.std.specs.Prelude.{MatchResult, Result}
 use mathlib.Core.List.{IsPrefix}
 use Rattle.atomic_table.specs.Table.{Me}
 use Rattle.ksm_base.specs.declared.command.Command.{Command}
@@ -19,7 +19,7 @@ use Rattle.ksm_shared.specs.declared.seen.View.{View}
 use Rattle.ksm_shared.specs.Named.{PartsId}
 use Rattle.ksm_shared.specs.Seen.{entries, entries_by, Begins, OwnersBelow, caller, owned, first, added, book_view, IsShareSeat, IsBookSeat, Wrote}
 use Rattle.ksm_shared.specs.Locked.{made, made_by, said_of, part_of, state_seen, SeesOn, StepsAlone}
-use Rattle.ksm_shared.specs.Published.{list_of}
+use Rattle.ksm_shared.specs.Published.{ShownRow, list_of}
 use Rattle.ksm_shared.proofs.Beginnings.{prefix_self, prefix_trans}
 use Rattle.ksm_shared.proofs.Lists.{entries_by_append, entries_by_own, entries_append, owners_append}
 
@@ -223,15 +223,15 @@ pub counters_seen : (parts : PartsId) (b : JournaledBook) (es : List Entry) → 
 counters_seen parts b es own journal legal = ap counters_of (legal.leads ∙ (λ i. replay (opening (own i).shape) (journal i)))
 
 -- where there was room the counters after all that was followed are shown, else those of before
-abbrev pub Shown : Bool → List Entry → List Entry → List Entry → Type 0
-Shown room old new journal = MatchBool room (new ≡ journal) (new ≡ old)
+abbrev pub Shown : Result (Unit {0}) ShownRow → List Entry → List Entry → List Entry → Type 0
+Shown room old new journal = MatchResult room (λ _. new ≡ journal) (λ (x : ShownRow). (x.reached.journal ≡ journal) × (new ≡ old))
 
 -- what is shown is all of the journal, or what was shown before
-pub shows_all_or_old : (room : Bool) (old new journal es' : List Entry) → Shown room old new journal → journal ≡ es' → (new ≡ es') ⊎ (new ≡ old)
-shows_all_or_old true old new journal es' one all = inl (one ∙ all)
-shows_all_or_old false old new journal es' one all = inr one
+pub shows_all_or_old : (room : Result (Unit {0}) ShownRow) (old new journal es' : List Entry) → Shown room old new journal → journal ≡ es' → (new ≡ es') ⊎ (new ≡ old)
+shows_all_or_old (Ok u) old new journal es' one all = inl (one ∙ all)
+shows_all_or_old (Err x) old new journal es' one all = inr one.1
 
 -- what is shown begins the journal, before an entry and after it
-pub shown_begins : (room : Bool) (old new journal es es' more : List Entry) → Shown room old new journal → journal ≡ es' → IsPrefix old es → es' ≡ es ++ more → IsPrefix new es'
-shown_begins true old new journal es es' more one all begins grows = subst (λ (l : List Entry). IsPrefix l es') (sym (one ∙ all)) (prefix_self es')
-shown_begins false old new journal es es' more one all begins grows = subst (λ (l : List Entry). IsPrefix l es') (sym one) (prefix_trans old es es' begins (more, sym grows))
+pub shown_begins : (room : Result (Unit {0}) ShownRow) (old new journal es es' more : List Entry) → Shown room old new journal → journal ≡ es' → IsPrefix old es → es' ≡ es ++ more → IsPrefix new es'
+shown_begins (Ok u) old new journal es es' more one all begins grows = subst (λ (l : List Entry). IsPrefix l es') (sym (one ∙ all)) (prefix_self es')
+shown_begins (Err x) old new journal es es' more one all begins grows = subst (λ (l : List Entry). IsPrefix l es') (sym one.1) (prefix_trans old es es' begins (more, sym grows))

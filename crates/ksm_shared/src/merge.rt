@@ -79,7 +79,7 @@ impl<N: Naming> Merge<N> {
         let table = &self.seen;
         write(&table.shared, &mut self.seat, &mut share.seat, &said);
         let counters = self.book.counters();
-        self.publisher.follow(rt, &said, counters);
+        let _ = self.publisher.follow(rt, &said, counters);
         Answer {
             result,
             row: self.publisher.newest(),

@@ -1,5 +1,5 @@
 //! What follows the journal under the lock, and publishes the counters after it.
-ghost use Rattle.std.specs.Prelude.{◌≡◌, ◌<◌, ◌≤◌, ◌++◌, [], IfOk, IfErr, MatchBool};
+ghost use Rattle.std.specs.Prelude.{◌≡◌, ◌<◌, ◌≤◌, ◌++◌, [], IfOk, IfErr, MatchResult};
 ghost use Rattle.ksm_base.specs.Counting.{counters_of};
 ghost use Rattle.ksm_base.specs.Journal.{AreAnswers, replay};
 ghost use Rattle.ksm_base.specs.State.{opening};
@@ -7,6 +7,7 @@ ghost use Rattle.ksm_shared.specs.Published.{IsRowOf, length_word, list_of};
 
 use crate::beginning::{Beginning, LengthWord, SeenJournal};
 use crate::naming::Naming;
+use crate::no_room::NoRoom;
 use crate::rows::{CountedRow, RowReader, Rows};
 use crate::seen::Entry;
 use ksm_base::{Counters, Fault};
@@ -77,13 +78,18 @@ impl<N: Naming> Publisher<N> {
         self.rows.newest().again()
     }
 
-    /// Follows the journal by its next entry, if there is one, and shows the counters after it, where there is room for their row. Answers
-    /// whether there was: where memory is refused readers take the row of before, and the next call shows all that they lack.
-    pub fn follow<R: Wait>(&mut self, rt: &R, next: &Option<Entry>, counters: Counters) -> bool
+    /// Follows the journal by its next entry, if there is one, and shows the counters after it. Where memory for their row is refused, readers
+    /// take the row of before, and the next call shows all that they lack.
+    pub fn follow<R: Wait>(
+        &mut self,
+        rt: &R,
+        next: &Option<Entry>,
+        counters: Counters,
+    ) -> Result<(), NoRoom>
         requires legal { AreAnswers (opening N.parts.frames.shape) (self.old.journal ++ list_of next.now) }
         requires counters { counters ≡ counters_of (replay (opening N.parts.frames.shape) (self.old.journal ++ list_of next.now)) }
         ensures journal { self.new.journal ≡ self.old.journal ++ list_of next.now }
-        ensures shown { MatchBool result (self.new.shown ≡ self.new.journal) (self.new.shown ≡ self.old.shown) }
+        ensures shown { MatchResult result (λ _. self.new.shown ≡ self.new.journal) (λ refused. (refused.reached.journal ≡ self.new.journal) × (self.new.shown ≡ self.old.shown)) }
     {
         go_on(rt, &self.word, &mut self.followed, next);
         let row = CountedRow::new(counters, self.followed.again());

@@ -1,10 +1,11 @@
 //! Rows of counters, and the two copies of the newest one that readers take with no lock.
-ghost use Rattle.std.specs.Prelude.{◌≡◌, ◌<◌, ◌^◌, ◌⊎◌, ◌++◌, ◌∷◌, [], drop, IfOk, MatchBool};
+ghost use Rattle.std.specs.Prelude.{◌≡◌, ◌<◌, ◌^◌, ◌⊎◌, ◌∷◌, [], drop, IfOk, MatchResult};
 ghost use mathlib.Core.List.{IsPrefix};
 ghost use Rattle.ksm_shared.specs.Published.{IsRowOf, ShownRow};
 
 use crate::beginning::Beginning;
 use crate::naming::Naming;
+use crate::no_room::{NoRoom, take_room};
 use core::mem::replace_with;
 use crossbeam_utils::rule::{Outcome, Protocol};
 use ksm_base::Counters;
@@ -178,19 +179,17 @@ impl<N: Naming> Rows<N> {
         &self.newest
     }
 
-    /// Shows the row, and answers whether there was room for it; where memory for it is refused, readers take the row of before.
-    pub fn show<R: Wait>(&mut self, rt: &R, row: CountedRow) -> bool
+    /// Shows the row. Where memory for it is refused, readers take the row of before.
+    pub fn show<R: Wait>(&mut self, rt: &R, row: CountedRow) -> Result<(), NoRoom>
         requires begins { IsPrefix self.old.reached.journal row.reached.journal }
         requires row { IsRowOf N.parts row }
-        ensures { MatchBool result (self.new ≡ row) (self.new ≡ self.old) }
+        ensures { MatchResult result (λ _. self.new ≡ row) (λ refused. (refused ≡ row) × (self.new ≡ self.old)) }
     {
         if let Some(copies) = &mut self.copies {
-            if !show_in(rt, copies, row.again()) {
-                return false;
-            }
+            show_in(rt, copies, row.again())?;
         }
         self.newest = row;
-        true
+        Ok(())
     }
 
     /// Ends the copies, once no reader is in them.
@@ -202,7 +201,9 @@ impl<N: Naming> Rows<N> {
         }
     }
 
-    /// Leaves the copies where they lie, for good. Their writer ends by a wait alone, and an opening that is refused has none.
+    /// Leaves the copies where they lie, for good. Their writer must be spent, and only a wait for its readers spends it; an opening has no
+    /// handle to wait by. What is left is never freed, so a reader in it would find its copy as it was. No run comes here, as a place is
+    /// refused only where all are taken; but no clause of `left_right` says so.
     pub fn leave(self) {
         let Rows { newest: _, copies } = self;
         let _left = unsafe { ManuallyDrop::new_unchecked(copies) };
@@ -227,26 +228,20 @@ fn new_reader<N: Naming>(writer: &RowWriter<N>) -> Result<RowReader<N>, AllocErr
 }
 
 // Shows the row in the copies, where there is room for it.
-fn show_in<N: Naming, R: Wait>(rt: &R, writer: &mut RowWriter<N>, row: CountedRow) -> bool
+fn show_in<N: Naming, R: Wait>(
+    rt: &R,
+    writer: &mut RowWriter<N>,
+    row: CountedRow,
+) -> Result<(), NoRoom>
     requires nothing { drop writer.old.behind writer.old.log.items ≡ [] }
     requires begins { IsPrefix writer.old.desk.shown.value.reached.journal row.reached.journal }
     requires row { IsRowOf N.parts row }
     ensures nothing { drop writer.new.behind writer.new.log.items ≡ [] }
-    ensures shown { MatchBool result (writer.new.desk.shown.value ≡ row) (writer.new.desk.shown.value ≡ writer.old.desk.shown.value) }
+    ensures shown { MatchResult result (λ _. writer.new.desk.shown.value ≡ row) (λ refused. (refused ≡ row) × (writer.new.desk.shown.value ≡ writer.old.desk.shown.value)) }
 {
-    let room = take_room(writer, row);
-    if room {
-        let _ = replace_with(writer, rt, publish);
-    }
-    room
-}
-
-// Takes room for a row behind the one that readers take, and puts it there. False where memory is refused; then it is let go.
-fn take_room<N: Naming>(writer: &mut RowWriter<N>, row: CountedRow) -> bool
-    ensures shown { writer.new.desk ≡ writer.old.desk }
-    ensures room { MatchBool result (drop writer.new.behind writer.new.log.items ≡ drop writer.old.behind writer.old.log.items ++ row ∷ []) (drop writer.new.behind writer.new.log.items ≡ drop writer.old.behind writer.old.log.items) }
-{
-    writer.append(row).is_ok()
+    take_room(writer, row)?;
+    let _ = replace_with(writer, rt, publish);
+    Ok(())
 }
 
 // Publishes the one row that is pending.

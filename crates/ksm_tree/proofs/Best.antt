@@ -284,9 +284,30 @@ open_within limit places (d ∷ dups) below =
     ]
 
 -- the places of dups to join are places of the tree
-pub candidates_within : (t : ℕ) (b : List ℕ) (limit places : ℕ) (dups : List Dup) (found : List ℕ) → All (λ r. r.place < places) (rows_of dups) → ArePlacesToJoin t b limit dups found → All (λ p. p < places) found
-candidates_within t b limit places dups found below (inl group) = rw group (places_within t b places (rows_of dups) below)
-candidates_within t b limit places dups found below (inr opens) = rw opens (open_within limit places dups below)
+pub candidates_within : (t : ℕ) (b : List ℕ) (limit places : ℕ) (dups : List Dup) (found : List ℕ) (is_chain : Bool) → All (λ r. r.place < places) (rows_of dups) → ArePlacesToJoin t b limit dups found is_chain → All (λ p. p < places) found
+candidates_within t b limit places dups found true below group = rw group (places_within t b places (rows_of dups) below)
+candidates_within t b limit places dups found false below opens = rw opens (open_within limit places dups below)
+
+-- at each place of a group stands a dup of it
+group_found : (t : ℕ) (b : List ℕ) (all dups : List Dup) → All (λ d. dup_at d.row.place all ≡ Some d) dups → All (λ p. of_group t b (dup_at p all) ≡ dup_at p all) (group_places t b (rows_of dups))
+group_found t b all [] found = λ k d lt. absurd (omega arith)
+group_found t b all (d ∷ dups) found =
+    let here = All-head (λ e. dup_at e.row.place all ≡ Some e) d dups found in
+    let rest = group_found t b all dups (All-tail (λ e. dup_at e.row.place all ≡ Some e) d dups found) in
+    elim (cases_Bool (in_group t b d.row)) [
+      | inl inside ↦
+          let is : of_group t b (Some d) ≡ Some d = rw inside refl in
+          rw inside (All-cons (λ p. of_group t b (dup_at p all) ≡ dup_at p all) d.row.place (group_places t b (rows_of dups)) (ap (of_group t b) here ∙ is ∙ sym here) rest)
+      | inr outside ↦ rw outside rest
+    ]
+
+-- so a dup of the chain needs no comparison
+pub candidate_is : (t : ℕ) (b : List ℕ) (limit : ℕ) (dups : List Dup) (found : List ℕ) (is_chain : Bool) (i : ℕ) → InPlaceOrder (rows_of dups) → ArePlacesToJoin t b limit dups found is_chain → i < length found
+    → (if is_chain then dup_at (get_or found i 0) dups else of_group t b (dup_at (get_or found i 0) dups)) ≡ of_group t b (dup_at (get_or found i 0) dups)
+candidate_is t b limit dups found true i rise group within =
+    let each : All (λ p. of_group t b (dup_at p dups) ≡ dup_at p dups) found = rw group (group_found t b dups dups (found_self dups rise)) in
+    sym (each i 0 within)
+candidate_is t b limit dups found false i rise opens within = refl
 
 kept_so : (t : ℕ) (b : List ℕ) (limit : ℕ) (acc : Option Dup) (d : Dup) → joined limit acc (of_group t b (Some d)) ≡ kept (may_join t b limit) acc d
 kept_so t b limit None d = grind arith
@@ -324,12 +345,12 @@ group_of_dups t b (d ∷ dups) =
     ]
 
 -- the walk over the places to join ends at the best dup
-pub folded_best : (t : ℕ) (b : List ℕ) (limit : ℕ) (dups : List Dup) (found : List ℕ) → InPlaceOrder (rows_of dups) → ArePlacesToJoin t b limit dups found → folded t b limit dups None found ≡ best_of t b limit dups
-folded_best t b limit dups found rise (inl group) =
+pub folded_best : (t : ℕ) (b : List ℕ) (limit : ℕ) (dups : List Dup) (found : List ℕ) (is_chain : Bool) → InPlaceOrder (rows_of dups) → ArePlacesToJoin t b limit dups found is_chain → folded t b limit dups None found ≡ best_of t b limit dups
+folded_best t b limit dups found true rise group =
     ap (folded t b limit dups None) (group ∙ group_of_dups t b dups)
     ∙ fold_passing t b limit (λ d. in_group t b d.row) (λ d outside. grind (arith, outside)) dups dups None (found_self dups rise)
     ∙ walk_top (may_join t b limit) dups
-folded_best t b limit dups found rise (inr opens) =
+folded_best t b limit dups found false rise opens =
     ap (folded t b limit dups None) opens
     ∙ fold_passing t b limit (λ d. is_open limit (length d.items)) (λ d outside. grind (arith, outside)) dups dups None (found_self dups rise)
     ∙ walk_top (may_join t b limit) dups

@@ -48,11 +48,6 @@ pub counts_begun : (limit n : ℕ) (places : SmallVec ℕ) → places.items ≡ 
 counts_begun limit n places none room =
     record { opens = none ∙ sym (none_open limit 0 (replicate n 0) (all_none n)); room = rw length_zeroes room }
 
--- so another limit may be taken
-pub counts_limited : (limit other : ℕ) (counts : List ℕ) (places : SmallVec ℕ) → list_all (λ n. n == 0) counts ≡ true → AreCounts limit counts places → AreCounts other counts places
-counts_limited limit other counts places none h =
-    record { opens = h.opens ∙ none_open limit 0 counts none ∙ sym (none_open other 0 counts none); room = h.room }
-
 -- a place where the number changes: it is open as before, or opens, or is open no more
 pub counts_same : (limit p n : ℕ) (counts : List ℕ) (places : SmallVec ℕ) → is_open limit n ≡ is_open limit (get_or counts p 0) → AreCounts limit counts places → AreCounts limit (set counts p n) places
 counts_same limit p n counts places same h =

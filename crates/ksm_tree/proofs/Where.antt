@@ -1,5 +1,5 @@
 -- The places at which a test is passed: what a change at one place does to them.
-use Rattle.std.proofs.Common.{◌≡◌, ℕ, zero, suc, ◌+◌, ◌<◌, ◌≤◌, Bool, true, false, List, [], ◌∷◌, length, get_or, set, refl, arith}
+use Rattle.std.proofs.Common.{◌≡◌, ℕ, zero, suc, ◌+◌, ◌<◌, ◌≤◌, Bool, true, false, List, [], ◌∷◌, length, get_or, set, take, add-one, refl, arith}
 use Rattle.std.specs.Prelude.{◌==◌, not, nat_lt, All, if◌then◌else◌}
 use Rattle.std.proofs.lemmas.Bool.Decides.{nat_tests}
 use Rattle.std.proofs.lemmas.List.Elements.{All-cons, All-weaker}
@@ -80,3 +80,39 @@ module _ {X : Type 0} (test : X → Bool) where
   where_room d k i [] within fails = absurd (omega arith)
   where_room d k zero (y ∷ xs) within fails = let short = where_short (suc k) xs in grind (arith, fails, short)
   where_room d k (suc i) (y ∷ xs) within fails = let so_far = where_room d (suc k) i xs (omega arith) fails in grind (arith, so_far)
+
+  -- the places among one element more: it passes, or fails
+  where_more : (d : X) (k p i : ℕ) (xs : List X) → p ≡ k + i → i < length xs → test (get_or xs i d) ≡ true → places_where test k (take (suc i) xs) ≡ with_place p (places_where test k (take i xs))
+  where_more d k p i [] is within passes = absurd (omega arith)
+  where_more d k p zero (y ∷ xs) is within passes = let e : p ≡ k = omega arith in grind (arith, nat_tests, passes, e)
+  where_more d k p (suc i) (y ∷ xs) is within passes =
+      let rest = places_where test (suc k) (take i xs) in
+      let new = places_where test (suc k) (take (suc i) xs) in
+      let so_far = where_more d (suc k) p i xs (omega arith) (omega arith) passes in
+      elim (test y) as (λ b. (if b then k ∷ new else new) ≡ with_place p (if b then k ∷ rest else rest)) [
+        | true ↦ grind (arith, nat_tests, so_far)
+        | false ↦ so_far
+      ]
+
+  where_no_more : (d : X) (k i : ℕ) (xs : List X) → i < length xs → test (get_or xs i d) ≡ false → places_where test k (take (suc i) xs) ≡ places_where test k (take i xs)
+  where_no_more d k i [] within fails = absurd (omega arith)
+  where_no_more d k zero (y ∷ xs) within fails = grind (arith, fails)
+  where_no_more d k (suc i) (y ∷ xs) within fails = let so_far = where_no_more d (suc k) i xs (omega arith) fails in grind (arith, so_far)
+
+  pub where_next : (d : X) (k p i : ℕ) (xs : List X) → p ≡ k + i → i < length xs → test (get_or xs i d) ≡ true → places_where test k (take (i + 1) xs) ≡ with_place p (places_where test k (take i xs))
+  where_next d k p i xs is within passes = rw (add-one i) (where_more d k p i xs is within passes)
+
+  pub where_not_next : (d : X) (k i : ℕ) (xs : List X) → i < length xs → test (get_or xs i d) ≡ false → places_where test k (take (i + 1) xs) ≡ places_where test k (take i xs)
+  where_not_next d k i xs within fails = rw (add-one i) (where_no_more d k i xs within fails)
+
+  take_short : (n : ℕ) (xs : List X) → length (take n xs) ≤ n
+  take_short zero [] = grind arith
+  take_short zero (x ∷ xs) = grind arith
+  take_short (suc n) [] = grind arith
+  take_short (suc n) (x ∷ xs) = let rest = take_short n xs in grind (arith, rest)
+
+  pub where_first_room : (k i : ℕ) (xs : List X) → i < length xs → length (places_where test k (take i xs)) + 1 ≤ length xs
+  where_first_room k i xs within =
+      let places = where_short k (take i xs) in
+      let short = take_short i xs in
+      omega (arith, places, short, within)

@@ -1,3 +1,4 @@
+//! What groups and waiting pages are found by: a tree and the bytes of a page, with a hash of its own.
 ghost use Rattle.std.specs.Prelude.{◌≡◌};
 ghost use Rattle.ksm_tree.specs.Digest.{digest_of, digest_with};
 

@@ -1,3 +1,4 @@
+//! A dup as it is kept: its items lie beside its row, so nobody walks along the rows for them.
 use ksm_base::DupRow;
 use ksm_rmap::Items;
 

@@ -1,4 +1,11 @@
-ghost use Rattle.std.specs.Prelude.{◌≡◌, ℕ, ◌+◌, ◌^◌, ◌<◌, ◌≤◌, [], ◌∷◌, ◌&&◌, not, true, false, None, Some, count_by, filter, find, length, is_some, option_copied, option_map, slice_get, IfErr, IfOk, OnErr, OnOk};
+//! The dups with their items, as visits, stores and the counters ask for them (mm/ksm: the stable trees).
+//!
+//! `Slots` has the dups by place, `Index` leads to the places. Each call changes both, and the invariant says that they agree: callers see
+//! one list, of the dups in the order of their places.
+//!
+//! A page that looks for a dup to join walks along its chain, which mostly has one dup. Of a long chain most dups are full. So while there
+//! is a long one, the open places of all contents are kept, and such a page walks along these if they are fewer.
+ghost use Rattle.std.specs.Prelude.{◌≡◌, ℕ, ◌+◌, ◌^◌, ◌<◌, ◌≤◌, [], ◌∷◌, ◌&&◌, not, true, false, None, Some, count_by, filter, find, length, is_some, option_copied, option_map, slice_get, if◌then◌else◌, IfErr, IfOk, OnErr, OnOk};
 ghost use Rattle.ksm_base.specs.Counting.{in_chain, leads_group};
 ghost use Rattle.ksm_base.specs.Rows.{same_page};
 ghost use Rattle.ksm_rmap.specs.Items.{has_item, with_item, without_item};
@@ -10,23 +17,24 @@ use crate::content::Content;
 use crate::dup::Dup;
 use crate::index::Index;
 use crate::slots::Slots;
-use ksm_base::{DupRow, Fault, GuestPage, PageBytes};
+use ksm_base::{DupRow, Fault, GuestPage, Knobs, PageBytes};
 use ksm_rmap::Items;
 use std::alloc::Global;
 use std::marker::Model;
 
-// So many open places are walked along before a group is looked for.
-const FEW_OPEN: usize = 8;
+// A chain of no more dups than this is walked along as a whole.
+const SHORT_CHAIN: usize = 16;
 
 /// The dups with their items, by place, by number, and by tree and bytes (mm/ksm, stable nodes and their chains).
 ///
-/// A look-up by number or by content costs a hash and a comparison, in the mean, and `best` the length of the chain too, or the number of dups that are not full, if that is less; what is counted is known. The hash has a fixed seed: where contents were picked that collide, a look-up costs a comparison for each. Room for every place is taken at the start, so only a new dup and a new item may want memory.
+/// A look-up by number or by content costs a hash and a comparison, in the mean, and `best` the length of the chain too, or, where a chain is long, the number of dups that are not full, if that is less; what is counted is known. The hash has a fixed seed: where contents were picked that collide, a look-up costs a comparison for each. Room for every place is taken at the start, so only a new dup and a new item may want memory.
 #[derive(Drop)]
 pub struct Dups {
     alloc: Global,
     slots: Slots,
     index: Index,
     next: u64,
+    limit: u32,
 }
 
 impl Model for Dups {
@@ -53,6 +61,7 @@ impl Dups {
             slots: Slots::open(alloc, places)?,
             index: Index::new(alloc),
             next: 0,
+            limit: Knobs::DEFAULT.max_page_sharing,
         })
     }
 
@@ -66,12 +75,12 @@ impl Dups {
         let mut least = 1;
         let mut room = limit.saturating_sub(least);
         let counts = self.slots.counts();
-        let places = self.places_to_join(tree, bytes, limit);
+        let (places, is_chain) = self.places_to_join(tree, bytes, limit);
         for place in places {
             let items = counts[*place as usize];
             // Fewer than the least wrap to more than there is room for, so one comparison is enough.
             if items.wrapping_sub(least) < room {
-                if let Some(dup) = self.at_of(*place, tree, bytes) {
+                if let Some(dup) = self.candidate(*place, is_chain, tree, bytes) {
                     best = Some(better(best, dup));
                     least = items;
                     room = limit - items;
@@ -137,6 +146,7 @@ impl Dups {
         }
         self.slots.put(Dup { row, items });
         self.next += 1;
+        self.keep_open();
         Ok(number)
     }
 
@@ -238,6 +248,7 @@ impl Dups {
             None => unreachable!(),
         }
         self.slots.clear(place);
+        self.keep_open();
     }
 
     /// How many dups have an item.
@@ -268,37 +279,43 @@ impl Dups {
         self.index.groups.totals.chains
     }
 
-    /// The limit with which `best` is mostly asked: it passes over the full dups of a chain then. It takes effect where no dup has an item.
+    /// The limit with which `best` is mostly asked: it passes over the full dups of a long chain then.
     pub fn set_limit(&mut self, limit: u32)
         ensures { self.new ≡ self.old }
     {
-        self.slots.set_limit(limit);
+        self.limit = limit;
+        self.keep_open();
     }
 
-    // The places among which a dup to join is looked for: the open ones where these are few, or fewer than the group has, else those of the group.
-    fn places_to_join(&self, tree: u32, bytes: &PageBytes, limit: u32) -> &[u32]
-        ensures { ArePlacesToJoin tree bytes.now limit self.now.dups result.now }
+    // The open places are kept while a chain is long: where none is, nobody asks for them.
+    fn keep_open(&mut self)
+        ensures { self.new ≡ self.old }
     {
-        let Some(open) = self.slots.open_places(limit) else {
-            return self.index.places(tree, bytes);
-        };
-        if open.len() <= FEW_OPEN {
-            return open;
-        }
+        let is_long = self.index.groups.totals.longest > SHORT_CHAIN;
+        self.slots.keep_open(if is_long { self.limit } else { 0 });
+    }
+
+    // The places among which a dup to join is looked for, and whether they are those of the chain. Of a long chain the open ones are
+    // enough, so all open ones are taken where these are fewer.
+    fn places_to_join(&self, tree: u32, bytes: &PageBytes, limit: u32) -> (&[u32], bool)
+        ensures { ArePlacesToJoin tree bytes.now limit self.now.dups result.0.now result.1 }
+    {
         let chain = self.index.places(tree, bytes);
-        if open.len() < chain.len() {
-            open
-        } else {
-            chain
+        if chain.len() <= SHORT_CHAIN {
+            return (chain, true);
+        }
+        match self.slots.open_places(limit) {
+            Some(open) if open.len() < chain.len() => (open, false),
+            _ => (chain, true),
         }
     }
 
-    // The dup at a place, if it is of that tree and these bytes.
-    fn at_of(&self, place: u32, tree: u32, bytes: &PageBytes) -> Option<&Dup>
-        ensures { option_copied result ≡ of_group tree bytes.now (dup_at place self.now.dups) }
+    // The dup at a place, if it is of that tree and these bytes, as each in the chain is.
+    fn candidate(&self, place: u32, is_chain: bool, tree: u32, bytes: &PageBytes) -> Option<&Dup>
+        ensures { option_copied result ≡ (if is_chain then dup_at place self.now.dups else of_group tree bytes.now (dup_at place self.now.dups)) }
     {
         let dup = self.slots.at(place)?;
-        if dup.row.tree == tree && dup.row.bytes == *bytes {
+        if is_chain || (dup.row.tree == tree && dup.row.bytes == *bytes) {
             Some(dup)
         } else {
             None

@@ -1,3 +1,5 @@
+//! The groups, found by a hash of their content. How many are chains is kept beside them, so the counters of chains
+//! are read.
 ghost use Rattle.std.specs.Prelude.{◌≡◌, ℕ, List, [], ◌&&◌, ◌==◌, IfErr, OnOk, OnErr, bytes_eq, length, if◌then◌else◌};
 ghost use Rattle.ksm_tree.specs.Groups.{AllPeopled, chain_in};
 ghost use Rattle.ksm_tree.specs.Places.{with_place, without};
@@ -22,11 +24,15 @@ impl Groups {
     /// No groups.
     pub fn new(alloc: Global) -> Groups
         ensures none { (t : ℕ) (b : List ℕ) → chain_in t b result.chains.entries ≡ [] }
-        ensures totals { result.totals ≡ record { chains = 0; dups = 0 } }
+        ensures totals { result.totals ≡ record { chains = 0; dups = 0; longest = 0 } }
     {
         Groups {
             chains: HashMap::new(alloc),
-            totals: Totals { chains: 0, dups: 0 },
+            totals: Totals {
+                chains: 0,
+                dups: 0,
+                longest: 0,
+            },
         }
     }
 
@@ -84,6 +90,10 @@ impl Groups {
     pub fn chain(&self, content: &Content) -> &[u32]
         ensures { result.now ≡ chain_in content.now.tree content.now.bytes self.now.chains.entries }
     {
+        // Where no dup stands, nothing is hashed.
+        if self.chains.is_empty() {
+            return &[];
+        }
         match self.chains.get(content) {
             Some(chain) => chain.list.as_slice(),
             None => &[],

@@ -1,3 +1,4 @@
+//! What finds dups by number and by content. It has places alone, so each dup lies once.
 ghost use Rattle.std.specs.Prelude.{◌≡◌, ℕ, List, [], ◌&&◌, ◌==◌, not, None, Some, IfErr, OnErr, OnOk, bytes_eq, length, if◌then◌else◌};
 ghost use Rattle.ksm_tree.specs.Places.{with_place, without};
 ghost use Rattle.ksm_tree.specs.Totals.{IsRegrouped, Tells};
@@ -22,7 +23,7 @@ impl Index {
     pub fn new(alloc: Global) -> Index
         ensures numbers { (q : ℕ) → place_of q result ≡ None }
         ensures groups { (t : ℕ) (b : List ℕ) → places_of t b result ≡ [] }
-        ensures totals { result.groups.totals ≡ record { chains = 0; dups = 0 } }
+        ensures totals { result.groups.totals ≡ record { chains = 0; dups = 0; longest = 0 } }
     {
         Index {
             numbers: HashMap::new(alloc),

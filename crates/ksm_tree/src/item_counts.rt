@@ -1,9 +1,13 @@
-ghost use Rattle.std.specs.Prelude.{◌≡◌, ◌==◌, ℕ, ◌<◌, ◌≤◌, IfErr, IfOk, IfSome, length, replicate, slice_set};
-ghost use Rattle.std.specs.List.{list_all};
+//! How many items the dup at each place has, and which places are open: where a dup has an item and fewer than the limit.
+//!
+//! The counts stand by themselves, four bytes each, so a walk along a chain reads no dup but one that may be joined. The open places are
+//! kept only while they are asked for: a store to a merged page may open or close one, and where all chains are short that costs more
+//! than it saves.
+ghost use Rattle.std.specs.Prelude.{◌≡◌, ℕ, ◌<◌, ◌≤◌, IfErr, IfOk, IfSome, length, replicate, slice_set};
 ghost use Rattle.ksm_tree.specs.Counts.{is_open as is_open_count, places_where};
 
 use crate::places::Places;
-use ksm_base::{Fault, Knobs};
+use ksm_base::Fault;
 use std::alloc::Global;
 use std::marker::Model;
 
@@ -36,7 +40,7 @@ impl Counts {
         let room = places as usize;
         Ok(Counts {
             each: vec![in alloc; 0; room]?,
-            limit: Knobs::DEFAULT.max_page_sharing,
+            limit: 0,
             open_at: Places::with_room(alloc, room)?,
         })
     }
@@ -58,13 +62,16 @@ impl Counts {
         Some(self.open_at.list.as_slice())
     }
 
-    /// The open places are those of this limit from now on, if there is no item at any place.
-    pub fn set_limit(&mut self, limit: u32)
+    /// The open places are kept from now on by this limit. By the limit 0 no place is open, and nothing has to be kept.
+    pub fn keep_open(&mut self, limit: u32)
+        requires { length self.old ≤ 1024 }
         ensures { self.new ≡ self.old }
     {
-        if limit != self.limit && are_none(self.each.as_slice()) {
-            self.limit = limit;
+        if limit == self.limit {
+            return;
         }
+        self.limit = limit;
+        open_anew(limit, self.each.as_slice(), &mut self.open_at);
     }
 
     /// There are so many items at a place from now on.
@@ -93,8 +100,17 @@ fn is_open(limit: u32, count: u32) -> bool
     1 <= count && count < limit
 }
 
-fn are_none(counts: &[u32]) -> bool
-    ensures { result ≡ list_all (λ n. n == 0) counts.now }
+/// The open places by a limit, in the stead of those that there were.
+fn open_anew(limit: u32, counts: &[u32], open_at: &mut Places)
+    requires few { length counts.now ≤ 1024 }
+    requires room { length counts.now ≤ open_at.old.list.capacity }
+    ensures opens { open_at.new.list.items ≡ places_where (is_open_count limit) 0 counts.now }
+    ensures capacity { open_at.new.list.capacity ≡ open_at.old.list.capacity }
 {
-    counts.iter().all(|count| *count == 0)
+    open_at.clear();
+    for place in 0..counts.len() as u32 {
+        if is_open(limit, counts[place as usize]) {
+            open_at.insert(place);
+        }
+    }
 }

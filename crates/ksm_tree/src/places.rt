@@ -1,3 +1,5 @@
+//! Sorted lists of places: of a group, of the open dups, of empty and of stale places. Most groups have few dups, so
+//! four places lie in the list itself.
 ghost use Rattle.std.specs.Prelude.{◌≡◌, ℕ, ◌+◌, ◌-◌, ◌<◌, ◌≤◌, List, [], true, ◌==◌, not, length, filter, IfErr, IfOk, IsTrue, OnOk, OnErr, AllPairs, nat_lt, slice_get, slice_index_or};
 ghost use Rattle.std.specs.List.{list_any};
 ghost use Rattle.smallvec.specs.SmallVec.{HasRoomFor};
@@ -61,6 +63,14 @@ impl Places {
         ensures { result ≡ slice_get self.now.list.items (length self.now.list.items - 1) }
     {
         self.list.as_slice().last().copied()
+    }
+
+    /// No places from now on.
+    pub fn clear(&mut self)
+        ensures none { self.new.list.items ≡ [] }
+        ensures capacity { self.new.list.capacity ≡ self.old.list.capacity }
+    {
+        self.list.clear();
     }
 
     /// Takes room for one more place. The one fault is `Memory`, and then nothing changes.

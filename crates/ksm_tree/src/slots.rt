@@ -1,3 +1,5 @@
+//! The dups by their places, a slot for each: a place leads to its dup in one step, and room for all of them is taken
+//! once.
 ghost use Rattle.std.specs.Prelude.{◌≡◌, ℕ, ◌-◌, ◌<◌, ◌≤◌, [], true, false, None, Some, count_by, find, length, option_copied, option_map, is_some, slice_index_or, IfErr, IfOk, IfSome, OnErr, OnOk};
 ghost use Rattle.ksm_tree.specs.Choosing.{empty_place};
 ghost use Rattle.ksm_rmap.specs.Items.{has_item, with_item, without_item};
@@ -79,11 +81,11 @@ impl Slots {
         self.counts.open_places(limit)
     }
 
-    /// The open dups are those of this limit from now on, if none has an item.
-    pub fn set_limit(&mut self, limit: u32)
+    /// The open places are kept from now on by this limit; by the limit 0 nothing has to be kept.
+    pub fn keep_open(&mut self, limit: u32)
         ensures { self.new ≡ self.old }
     {
-        self.counts.set_limit(limit);
+        self.counts.keep_open(limit);
     }
 
     /// The least place that no dup has.

@@ -1,3 +1,4 @@
+//! The two counters of chains, which change with each group that grows or shrinks.
 ghost use Rattle.ksm_tree.specs.Totals.{IsRegrouped, Tells};
 ghost use Rattle.std.specs.Prelude.{◌≤◌, ◌+◌};
 
@@ -6,6 +7,8 @@ ghost use Rattle.std.specs.Prelude.{◌≤◌, ◌+◌};
 pub struct Totals {
     pub chains: usize,
     pub dups: usize,
+    /// The most dups that a chain has had since there was none. Nothing is promised of it.
+    pub longest: usize,
 }
 
 impl Totals {
@@ -23,6 +26,9 @@ impl Totals {
         if after > 1 {
             totals.chains += 1;
             totals.dups += after;
+            totals.longest = totals.longest.max(after);
+        } else if totals.chains == 0 {
+            totals.longest = 0;
         }
         totals
     }

@@ -1,3 +1,4 @@
+//! The unstable tree. Nothing asks for an order of the waiting pages, so it is a map of hashes and no tree.
 ghost use Rattle.std.specs.Prelude.{◌≡◌, [], None, IfOk, IfErr, OnErr, is_some, map, true};
 ghost use Rattle.std.specs.Option.{unwrap_or};
 ghost use Rattle.ksm_tree.specs.Waits.{IsAdded, IsRemoved, waiting_page};

@@ -1,10 +1,10 @@
-use Rattle.std.proofs.Common.{refl, ap, ◌∙◌, arith, rules}
+use Rattle.std.proofs.Common.{ap, ◌∙◌, arith, rules}
 use Rattle.frame_table.proofs.Compared.{same_hold, reads_more}
 use Rattle.ksm_ffi.proofs.Read.{one_more_read}
 use Rattle.ksm_ffi.proofs.reader.read_all.Goals as goal
 
 pub loads-init : goal.loads-init
-loads-init c = record { own = c.requires.own; hold = same_hold c.args.held.now; read = λ k below. absurd (omega arith); count = refl }
+loads-init c = record { own = c.requires.own; hold = same_hold c.args.held.now; read = λ k below. absurd (omega arith); count = search rules }
 
 pub loads-preserved : goal.loads-preserved
 loads-preserved c = record {

@@ -1,10 +1,30 @@
-use Rattle.std.proofs.Common.{◌*◌, ◌∙◌, ap, sym, length}
-use Rattle.hex.specs.Hex.{encode_lower}
-use Rattle.ksm_script.proofs.Hex.{at_ok, word_encoded}
+use Rattle.std.proofs.Common.{◌≡◌, ◌∙◌, ◌/◌, ◌%◌, length, ap, refl}
+use borrow.Rule.Simd.Lanes.{act2}
+use borrow.Table.Row.{s_int}
+use mir.Syntax.{w8, bit_and, shr, unsigned}
+use Rattle.ksm_lines.proofs.Lanes.{agrees, itself, joined, splat_is}
+use Rattle.ksm_script.proofs.Hex.{bytes_fit, woven_small, woven_digits}
 use Rattle.ksm_script.proofs.line_text.digits_of.Goals as goal
+
+pub digits_of_values-requires-clause-small : goal.digits_of_values-requires-clause-small
+digits_of_values-requires-clause-small c =
+    let word = c.args.word in
+    let bytes = c.to_le_bytes-bytes.result in
+    let is = c.to_le_bytes-bytes.ensures in
+    let long : length bytes ≡ 8 = ap length is in
+    let high = joined (act2 (shr unsigned) (s_int w8) (s_int w8) (s_int w8)) _ _ bytes (itself bytes) (splat_is bytes 8 4 long) in
+    let low = joined (act2 bit_and (s_int w8) (s_int w8) (s_int w8)) _ _ bytes (itself bytes) (splat_is bytes 8 15 long) in
+    woven_small word bytes is
+    (agrees _ (λ b. b / 16) bytes high (bytes_fit word bytes is) refl) (agrees _ (λ b. b % 16) bytes low (bytes_fit word bytes is) refl)
 
 pub returns : goal.returns
 returns c =
-    let encoded = c.encode_to_slice.ensures in
-    let long = sym (ap (λ l. 2 * length l) c.to_le_bytes.ensures) in
-    at_ok _ _ (encoded.fits.1 long) encoded.written ∙ ap encode_lower c.to_le_bytes.ensures ∙ word_encoded c.args.word
+    let word = c.args.word in
+    let bytes = c.to_le_bytes-bytes.result in
+    let is = c.to_le_bytes-bytes.ensures in
+    let long : length bytes ≡ 8 = ap length is in
+    let high = joined (act2 (shr unsigned) (s_int w8) (s_int w8) (s_int w8)) _ _ bytes (itself bytes) (splat_is bytes 8 4 long) in
+    let low = joined (act2 bit_and (s_int w8) (s_int w8) (s_int w8)) _ _ bytes (itself bytes) (splat_is bytes 8 15 long) in
+    c.digits_of_values.ensures
+    ∙ woven_digits word bytes is
+    (agrees _ (λ b. b / 16) bytes high (bytes_fit word bytes is) refl) (agrees _ (λ b. b % 16) bytes low (bytes_fit word bytes is) refl)

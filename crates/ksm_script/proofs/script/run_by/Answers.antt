@@ -1,12 +1,12 @@
 use Rattle.std.proofs.Common.{rules, ◌≡◌, ◌≢◌, ◌++◌, length, inl, inr, ℕ, subst, sym}
-use Rattle.std.proofs.KnownBytes.{Appends-trans}
-use Rattle.ksm_script.specs.declared.input.LineEnd.TheVariants.{Input}
+use Rattle.std.proofs.KnownBytes.{Appends-nil, Appends-trans}
+use Rattle.ksm_script.specs.declared.input.LineEnd.TheVariants.{Input, Newline}
 use Rattle.ksm_script.specs.declared.reply.LineReply.TheVariants.{BadLine as bad_line}
 use Rattle.ksm_script.specs.Answering.{reply_text}
 use Rattle.ksm_script.specs.Replies.{text_of}
 use Rattle.ksm_script.specs.Texts.{AppendsPart}
 use Rattle.ksm_script.proofs.Parts.{broken_after}
-use Rattle.ksm_script.proofs.Turns.{IsDone, read_as, nothing_yet, in_state, answered_all, answered_last, goes_on, all_read, answered_to_bad, broke, ends_bad}
+use Rattle.ksm_script.proofs.Turns.{IsDone, read_as, nothing_yet, nothing_done, newline_open, in_state, answered_all, answered_last, goes_on, all_read, answered_to_bad, broke, ends_bad}
 use Rattle.ksm_script.proofs.script.run_by.Goals as goal
 
 pub lines-init : goal.lines-init
@@ -55,8 +55,8 @@ returns-then-is_empty-clause-goes g c =
     let empty : length c.read_next.new.self.line ≡ 0 = search rules in
     (so.text, all_read _ _ _ _ _ _ _ _ _ _ so read last empty, so.appended, read.last last)
 
-pub returns-then-eq-2-clause-goes : goal.returns-then-eq-2-clause-goes
-returns-then-eq-2-clause-goes g c =
+pub returns-then-eq-3-clause-goes : goal.returns-then-eq-3-clause-goes
+returns-then-eq-3-clause-goes g c =
     let now = c.in_ok-end.ensures in
     let so = in_state _ _ _ _ _ _ _ _ _ now.state now.kept c.lines.invariant in
     let read = read_as _ _ _ c.in_ok-end.end now.read now.plain now.end in
@@ -74,3 +74,13 @@ lines-preserved g c =
     let did : IsDone _ c.answer.new.self.state _ c.in_ok-end.end c.in-Ok.line c.answer.result =
     record { short = c.in-Ok.ensures.0; written = c.in-Ok.ensures.1; answers = c.answer.ensures.answers } in
     goes_on _ _ _ _ _ _ _ _ _ _ so read _ _ _ did _ open_end c.in_ok-write_answer.ensures.whole
+
+pub lines-preserved-then-is_empty-2 : goal.lines-preserved-then-is_empty-2
+lines-preserved-then-is_empty-2 g c =
+    let now = c.in_ok-end.ensures in
+    let so = in_state _ _ _ _ _ _ _ _ _ now.state now.kept c.lines.invariant in
+    let read = read_as _ _ _ c.in_ok-end.end now.read now.plain now.end in
+    let is : c.in_ok-end.end ≡ Newline = search rules in
+    let empty : length c.read_next.new.self.line ≡ 0 = search rules in
+    let ended = newline_open c.in_ok-end.end is in
+    goes_on _ _ _ _ _ _ _ _ _ _ so read _ _ _ (nothing_done _ _ _ ended.1 empty) _ ended.0 (Appends-nil _)

@@ -1,7 +1,7 @@
-use Rattle.std.proofs.Common.{rules, ◌∙◌, List, ap, length, subst, sym}
+use Rattle.std.proofs.Common.{rules, ◌∙◌, List, ap, length, subst}
 use mathlib.Core.List.{IsPrefix}
 use Rattle.ksm_base.specs.Journal.{Entry}
-use Rattle.ksm_shared.specs.Published.{IsRowOf, Reached, ShownRow}
+use Rattle.ksm_shared.specs.Published.{Reached}
 use Rattle.ksm_shared.proofs.Showing.{either_row}
 use Rattle.ksm_shared.proofs.reader.CounterReader.look.Goals as goal
 

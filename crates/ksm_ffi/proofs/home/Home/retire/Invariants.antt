@@ -1,4 +1,4 @@
-use Rattle.ksm_ffi.proofs.owner.Owner.retire.Given as goal
+use Rattle.ksm_ffi.proofs.home.Home.retire.Given as goal
 
 abbrev pub decreases-passes : goal.decreases-passes
 decreases-passes l = goal.left-passes l
