@@ -1,3 +1,4 @@
 pub mod Boxes
 pub mod Read
+pub mod Told
 pub mod Values

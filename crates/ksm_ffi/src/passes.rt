@@ -19,7 +19,7 @@ pub extern "C" fn ksm_find(alloc: Global, pass: &mut Handle, place: u32) -> u32
     };
     let answer = match &mut *thing {
         Thing::Pass(reader, _) => reader.find(place),
-        Thing::Table(_, _) => Answer::Kind,
+        _ => Answer::Kind,
     };
     pass.put(thing);
     answer.number()
@@ -40,7 +40,7 @@ pub extern "C" fn ksm_find_equal(
     };
     let answer = match &mut *thing {
         Thing::Pass(reader, _) => reader.find_equal(place, page),
-        Thing::Table(_, _) => Answer::Kind,
+        _ => Answer::Kind,
     };
     pass.put(thing);
     answer.number()
@@ -61,7 +61,7 @@ pub extern "C" fn ksm_look_up(
     };
     let answer = match &mut *thing {
         Thing::Pass(reader, _) => reader.look_up(place, words),
-        Thing::Table(_, _) => Answer::Kind,
+        _ => Answer::Kind,
     };
     pass.put(thing);
     answer.number()
@@ -77,7 +77,7 @@ pub extern "C" fn ksm_word(alloc: Global, pass: &mut Handle, i: usize, word: &mu
     };
     let answer = match &mut *thing {
         Thing::Pass(reader, _) => reader.word(i, word),
-        Thing::Table(_, _) => Answer::Kind,
+        _ => Answer::Kind,
     };
     pass.put(thing);
     answer.number()
@@ -93,7 +93,7 @@ pub extern "C" fn ksm_words(alloc: Global, pass: &mut Handle, words: &mut PageBy
     };
     let answer = match &mut *thing {
         Thing::Pass(reader, _) => reader.words(words),
-        Thing::Table(_, _) => Answer::Kind,
+        _ => Answer::Kind,
     };
     pass.put(thing);
     answer.number()
@@ -115,7 +115,7 @@ pub extern "C" fn ksm_held(
     };
     let answer = match &mut *thing {
         Thing::Pass(reader, _) => reader.held(place, frame, life),
-        Thing::Table(_, _) => Answer::Kind,
+        _ => Answer::Kind,
     };
     pass.put(thing);
     answer.number()
@@ -131,7 +131,7 @@ pub extern "C" fn ksm_leave(alloc: Global, pass: &mut Handle) -> u32
     };
     let answer = match &mut *thing {
         Thing::Pass(reader, _) => reader.leave(),
-        Thing::Table(_, _) => Answer::Kind,
+        _ => Answer::Kind,
     };
     pass.put(thing);
     answer.number()

@@ -1,4 +1,4 @@
-//! Opening and closing, and the calls of the keeper, which one thread makes at a time.
+//! Opening a table, closing it or a book, passes, and the calls of the keeper, which one thread makes at a time.
 ghost use Rattle.std.specs.Prelude.{◌≡◌};
 ghost use Rattle.frame_core.specs.declared.event.KeeperStep.TheVariants.{Reap, Put, Raise, Open, Add, Sub, Publish, Withdraw, Freeze};
 ghost use Rattle.ksm_ffi.specs.Keeping.{Keeps, KeepsWord, TellsOf};
@@ -71,6 +71,7 @@ pub extern "C" fn ksm_table_close(alloc: Global, table: &mut Handle) -> u32
     };
     let answer = match &*thing {
         Thing::Table(_, home) => judge_close(home),
+        Thing::Book(_, home) => judge_close(home),
         Thing::Pass(_, _) => Answer::Kind,
     };
     if answer == Answer::Done {
@@ -115,6 +116,7 @@ fn lend(alloc: Global, table: &mut Thing) -> Result<Box<Thing>, Answer>
 {
     match table {
         Thing::Table(_, home) => lend_boxed(alloc, home),
+        Thing::Book(_, home) => lend_boxed(alloc, home),
         Thing::Pass(_, _) => Err(Answer::Kind),
     }
 }
@@ -148,6 +150,7 @@ fn judge_back(table: &Thing, pass: &Thing) -> Answer
 {
     match (table, pass) {
         (Thing::Table(_, home), Thing::Pass(reader, number)) => home.judge_back(reader, *number),
+        (Thing::Book(_, home), Thing::Pass(reader, number)) => home.judge_back(reader, *number),
         _ => Answer::Kind,
     }
 }
@@ -162,6 +165,7 @@ fn give_back(table: &mut Thing, pass: Thing)
     };
     match table {
         Thing::Table(_, home) => home.take_back(reader),
+        Thing::Book(_, home) => home.take_back(reader),
         Thing::Pass(_, _) => unreachable!(),
     }
 }
@@ -198,7 +202,7 @@ pub extern "C" fn ksm_raise(alloc: Global, table: &mut Handle, frame: u32) -> u3
     };
     let answer = match &mut *thing {
         Thing::Table(owner, _) => owner.raise(frame),
-        Thing::Pass(_, _) => Answer::Kind,
+        _ => Answer::Kind,
     };
     table.put(thing);
     answer.number()
@@ -214,7 +218,7 @@ pub extern "C" fn ksm_put(alloc: Global, table: &mut Handle, frame: u32, i: usiz
     };
     let answer = match &mut *thing {
         Thing::Table(owner, _) => owner.put(frame, i, word),
-        Thing::Pass(_, _) => Answer::Kind,
+        _ => Answer::Kind,
     };
     table.put(thing);
     answer.number()
@@ -230,7 +234,7 @@ pub extern "C" fn ksm_open_frame(alloc: Global, table: &mut Handle, frame: u32) 
     };
     let answer = match &mut *thing {
         Thing::Table(owner, _) => owner.open_frame(frame),
-        Thing::Pass(_, _) => Answer::Kind,
+        _ => Answer::Kind,
     };
     table.put(thing);
     answer.number()
@@ -246,7 +250,7 @@ pub extern "C" fn ksm_publish(alloc: Global, table: &mut Handle, place: u32, fra
     };
     let answer = match &mut *thing {
         Thing::Table(owner, _) => owner.publish(place, frame),
-        Thing::Pass(_, _) => Answer::Kind,
+        _ => Answer::Kind,
     };
     table.put(thing);
     answer.number()
@@ -262,7 +266,7 @@ pub extern "C" fn ksm_withdraw(alloc: Global, table: &mut Handle, place: u32) ->
     };
     let answer = match &mut *thing {
         Thing::Table(owner, _) => owner.withdraw(place),
-        Thing::Pass(_, _) => Answer::Kind,
+        _ => Answer::Kind,
     };
     table.put(thing);
     answer.number()
@@ -278,7 +282,7 @@ pub extern "C" fn ksm_add(alloc: Global, table: &mut Handle, frame: u32) -> u32
     };
     let answer = match &mut *thing {
         Thing::Table(owner, _) => owner.add(frame),
-        Thing::Pass(_, _) => Answer::Kind,
+        _ => Answer::Kind,
     };
     table.put(thing);
     answer.number()
@@ -294,7 +298,7 @@ pub extern "C" fn ksm_sub(alloc: Global, table: &mut Handle, frame: u32) -> u32
     };
     let answer = match &mut *thing {
         Thing::Table(owner, _) => owner.sub(frame),
-        Thing::Pass(_, _) => Answer::Kind,
+        _ => Answer::Kind,
     };
     table.put(thing);
     answer.number()
@@ -310,7 +314,7 @@ pub extern "C" fn ksm_freeze(alloc: Global, table: &mut Handle, frame: u32) -> u
     };
     let answer = match &mut *thing {
         Thing::Table(owner, _) => owner.freeze(frame),
-        Thing::Pass(_, _) => Answer::Kind,
+        _ => Answer::Kind,
     };
     table.put(thing);
     answer.number()
@@ -326,7 +330,7 @@ pub extern "C" fn ksm_reap(alloc: Global, table: &mut Handle, frame: u32) -> u32
     };
     let answer = match &mut *thing {
         Thing::Table(owner, _) => owner.reap(frame),
-        Thing::Pass(_, _) => Answer::Kind,
+        _ => Answer::Kind,
     };
     table.put(thing);
     answer.number()
@@ -348,7 +352,7 @@ pub extern "C" fn ksm_load(
     };
     let answer = match &mut *thing {
         Thing::Table(owner, _) => owner.word(frame, i, word),
-        Thing::Pass(_, _) => Answer::Kind,
+        _ => Answer::Kind,
     };
     table.put(thing);
     answer.number()
@@ -371,7 +375,7 @@ pub extern "C" fn ksm_frame(
     };
     let answer = match &mut *thing {
         Thing::Table(owner, _) => owner.frame(frame, kind, references, life),
-        Thing::Pass(_, _) => Answer::Kind,
+        _ => Answer::Kind,
     };
     table.put(thing);
     answer.number()

@@ -1,0 +1,9 @@
+-- The pages merged into a dup are told one after another.
+use Rattle.std.proofs.Common.{◌≡◌, ℕ, ◌+◌, ◌<◌, List, [], ◌∷◌, ◌++◌, length, get_or, set, take, map, sym, ap, ◌∙◌}
+use Rattle.std.proofs.lemmas.List.{take_more_set, map_more}
+use Rattle.ksm_base.specs.declared.page.GuestPage.{GuestPage}
+use Rattle.ksm_ffi.specs.Books.{packed}
+
+-- one page more stands behind those that were told
+pub one_more_told : (ns : List ℕ) (ps : List GuestPage) (i x : ℕ) (p : GuestPage) → i < length ns → i < length ps → x ≡ packed p → p ≡ get_or ps i p → take i ns ≡ map packed (take i ps) → take (i + 1) (set ns i x) ≡ map packed (take (i + 1) ps)
+one_more_told ns ps i x p a b is at told = take_more_set ns i x a ∙ (ap (λ (l : List ℕ). l ++ x ∷ []) told ∙ (ap (λ (y : ℕ). map packed (take i ps) ++ y ∷ []) (is ∙ ap packed at) ∙ sym (map_more packed ps i p b)))

@@ -1,0 +1,10 @@
+use Rattle.std.proofs.Common.{◌≡◌, take, map, length}
+use Rattle.ksm_ffi.specs.Books.{packed}
+use Rattle.ksm_ffi.proofs.bound.Bound.mappers.Given as goal
+
+-- the pages told so far
+abbrev pub invariant-pages : goal.invariant-pages
+invariant-pages l = record {
+  told : take l.i l.pages ≡ map packed (take l.i l.found.items);
+  count : length l.pages ≡ length l.fn.pages;
+}
