@@ -1,7 +1,7 @@
 """A machine with the real kernel: Debian's packages under software emulation, and the driver as its only program.
 
 All of it lies in a cache folder outside the repository: $KSMBOOK_CACHE, or else ksmbook/kernel in
-$XDG_CACHE_HOME or ~/.cache.
+$XDG_CACHE_HOME or ~/.cache. A boot may take 600 seconds, or $KSMBOOK_BOOT_SECONDS.
 """
 
 import os
@@ -18,7 +18,7 @@ import talk  # pylint: disable=wrong-import-position
 CACHE = os.environ.get("KSMBOOK_CACHE") or os.path.join(
     os.environ.get("XDG_CACHE_HOME") or os.path.expanduser("~/.cache"), "ksmbook", "kernel")
 DRIVER = os.path.join(HERE, "driver")
-BOOT_SECONDS = 600
+BOOT_SECONDS = int(os.environ.get("KSMBOOK_BOOT_SECONDS", "600"))
 C_FLAGS = ["-std=c11", "-D_GNU_SOURCE", "-O2", "-Wall", "-Wextra", "-static"]
 # Two nodes of 256 MB, the processor on the first of them.
 MACHINE = ["-accel", "tcg", "-m", "512", "-smp", "1", "-display", "none", "-no-reboot", "-nodefaults",
