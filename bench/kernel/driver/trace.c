@@ -55,7 +55,7 @@ void trace_counters(void)
 	char text[256];
 	if (!is_traced)
 		return;
-	append("trace_marker", "ksm: read\n");
+	append("trace_marker", "ksm: read at rest\n");
 	snprintf(text, sizeof text, "ksm: full_scans=%ld pages_shared=%ld pages_sharing=%ld ksm_zero_pages=%ld\n",
 		ksm_read("full_scans"), ksm_read("pages_shared"), ksm_read("pages_sharing"),
 		ksm_read("ksm_zero_pages"));
