@@ -231,7 +231,9 @@ def nothing_of_contents() -> str:
                 outputs.append(file.read())
     end(child)
     assert text.returncode == told.returncode == 0, (text, told)
-    assert json.loads(told.stdout)["heaviest"][0]["copies"] == 40, told
+    # a child has zeroes of its own, as many as its parent's heap left
+    heaviest = [heavy["copies"] for heavy in json.loads(told.stdout)["heaviest"] if not heavy["is_zeroes"]]
+    assert heaviest[0] == 40, told
     for output in outputs:
         assert f"{secret:x}" not in output.lower() and str(secret) not in output
     assert not re.search(r"\b[0-9a-f]{32}\b", "".join(outputs[:4])), "a digest"
