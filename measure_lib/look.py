@@ -82,7 +82,7 @@ class Look:
 
     def once(self, progress: Progress) -> None:
         """Reads every page once, and counts it."""
-        for owner, seen in enumerate(self.seen):
+        for owner, seen in self.alive():
             with self.whole(owner, seen), opened(seen.process) as files:
                 lies_on = nodes.Nodes(seen.process.pid, files.folder, self.nodes)
                 for area, first, letters, digests in self.walk(seen, files, progress):
@@ -92,10 +92,11 @@ class Look:
 
     def twice(self, seconds: float, progress: Progress) -> None:
         """Reads every page, waits, reads it again, and counts it where it has not changed."""
-        kept = [self.first_of_two(owner, seen, progress) for owner, seen in enumerate(self.seen)]
+        kept = {owner: self.first_of_two(owner, seen, progress) for owner, seen in self.alive()}
+        self.earlier_size = sum(earlier.size() for earlier in kept.values())
         progress.wait(seconds)
-        for owner, (seen, earlier) in enumerate(zip(self.seen, kept)):
-            self.earlier_size += earlier.size()
+        for owner, seen in self.alive():
+            earlier = kept[owner]
             with self.whole(owner, seen), opened(seen.process) as files:
                 self.second_of_two(owner, earlier, files, progress)
                 seen.grown = space_of(files.folder, self.only_marked).pages - seen.space.pages
@@ -128,12 +129,14 @@ class Look:
             progress.advance(count, seen.process.name)
         self.are_nodes_told &= lies_on.is_told
 
+    def alive(self) -> Iterator[tuple[int, Seen]]:
+        """The processes by their numbers, but for those that have ended before their turn."""
+        return ((owner, seen) for owner, seen in enumerate(self.seen) if not seen.has_ended)
+
     @contextlib.contextmanager
     def whole(self, owner: int, seen: Seen) -> Iterator[None]:
         """What is done in it is done to a process that goes on, or else the process is left out."""
         try:
-            if seen.has_ended:
-                raise Ended
             yield
         except (Ended, PermissionError):
             seen.has_ended, seen.pages = True, 0
