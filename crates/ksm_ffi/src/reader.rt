@@ -56,7 +56,7 @@ fn keep(slot: &mut Option<Held>, held: Held)
     let None = gone else { unreachable!() };
 }
 
-// Loads every word of the page, to where the caller wants them: a copy of all words would cost a lookup twelve instructions.
+// Loads every word of the page, to where the caller wants them, so that they are not copied on their way.
 fn read_all(table: &FrameTable, held: &mut Held, words: &mut PageBytes)
     requires own { held.old.table ≡ table.now }
     ensures { ReadsPage held.old words.new held.new }
