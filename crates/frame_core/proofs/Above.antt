@@ -1,5 +1,5 @@
 -- What the table of words above is proved from: lists, the parts of a frame word, the words of a state, where steps are allowed, and runs.
-pub use Rattle.frame_core.proofs.Lists.{get_set, get_inside, each_set, in_replicate, count_set, count_one}
+pub use Rattle.frame_core.proofs.Lists.{get_set, count_set}
 pub use Rattle.frame_core.proofs.Packed.{count_packed, life_packed}
 pub use Rattle.frame_core.proofs.Decides.{decides}
 pub use Rattle.frame_core.proofs.Frames.{base_at_most}

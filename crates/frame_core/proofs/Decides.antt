@@ -1,17 +1,7 @@
 -- The test of where a step of the keeper is allowed is met exactly where the ledger allows it.
 use Rattle.std.proofs.Common.{◌≡◌, ℕ, ◌<◌, ◌≤◌, ◌==◌, ◌&&◌, not, ltb, leb, Bool, true, false, Option, Some, None, ap, refl}
 use Rattle.std.proofs.lemmas.Bool.{and_parts, and_from, lt-ltb, ltb-true, le-leb, leb-true, eqb-true, eq-eqb}
-use Rattle.ksm_base.specs.declared.page.TheConstants.{PAGE_WORDS}
-use Rattle.ksm_base.specs.declared.shape.Shape.{Shape}
-use Rattle.ksm_base.specs.Values.{frames_of}
-use Rattle.frame_core.specs.declared.event.KeeperStep.{KeeperStep}
-use Rattle.frame_core.specs.declared.event.KeeperStep.TheVariants.{Reap, Put, Raise, Open, Add, Sub, Publish, Withdraw, Freeze, Word}
-use Rattle.frame_core.specs.declared.frame.Kind.{Kind}
-use Rattle.frame_core.specs.declared.frame.Kind.TheVariants.{Free, Filling, Private, Stable, Dying}
-use Rattle.frame_core.specs.declared.ledger.Ledger.{Ledger}
-use Rattle.frame_core.specs.declared.seat.Life.{Life}
-use Rattle.frame_core.specs.KeeperSteps.{is_free, is_filling, is_private, is_stable, is_dying, is_writable, is_readable, is_live, may_step}
-use Rattle.frame_core.specs.Ledger.{frame_at, named_at, IsWritable, IsReadable, IsLoose, MayStep}
+use Rattle.frame_core.proofs.Names.{PAGE_WORDS, Shape, frames_of, KeeperStep, Reap, Put, Raise, Open, Add, Sub, Publish, Withdraw, Freeze, Word, Kind, Free, Filling, Private, Stable, Dying, Ledger, Life, is_free, is_filling, is_private, is_stable, is_dying, is_writable, is_readable, is_live, may_step, frame_at, named_at, IsWritable, IsReadable, IsLoose, MayStep}
 
 -- the test is met exactly where this is true
 abbrev pub Tests : Bool → Type 0 → Type 0
@@ -91,6 +81,7 @@ module _ (sh : Shape) (k : Ledger) where
   frame : (f : ℕ) → Tests (ltb f (frames_of sh)) (here f)
   frame f = below f (frames_of sh)
 
+  -- the test of where a step of the keeper is allowed is met exactly where the ledger allows it
   pub decides : (e : KeeperStep) → Tests (may_step sh k e) (MayStep sh k e)
   decides (Reap f) = both _ _ (here f) _ (frame f) (dying (frame_at k f).kind)
   decides (Put f i w) = three _ _ _ (here f) (i < PAGE_WORDS) _ (frame f) (below i PAGE_WORDS) (writable (frame_at k f).kind)

@@ -1,15 +1,7 @@
 -- The keeper's steps in a state: a test of where each is allowed, the word that it finds, and the references on the frames after it.
 -- What the keeper knows after it is `ledger_after`. Source: own.
 use Rattle.std.specs.Prelude.{ℕ, ◌+◌, ◌-◌, Bool, true, false, ◌&&◌, ◌||◌, not, ◌==◌, nat_lt, nat_le, cond, List, slice_index, slice_set, Option, None, Some}
-use Rattle.ksm_base.specs.declared.page.TheConstants.{PAGE_WORDS}
-use Rattle.ksm_base.specs.declared.shape.Shape.{Shape}
-use Rattle.ksm_base.specs.Values.{frames_of}
-use Rattle.frame_core.specs.declared.event.KeeperStep.{KeeperStep}
-use Rattle.frame_core.specs.declared.event.KeeperStep.TheVariants.{Reap, Put, Raise, Open, Add, Sub, Publish, Withdraw, Freeze, Word}
-use Rattle.frame_core.specs.declared.frame.Kind.{Kind}
-use Rattle.frame_core.specs.declared.frame.Kind.TheVariants.{Free, Filling, Private, Stable, Dying}
-use Rattle.frame_core.specs.declared.ledger.Ledger.{Ledger}
-use Rattle.frame_core.specs.declared.seat.Life.{Life}
+use Rattle.frame_core.specs.Terms.{PAGE_WORDS, Shape, frames_of, KeeperStep, Reap, Put, Raise, Open, Add, Sub, Publish, Withdraw, Freeze, Word, Kind, Free, Filling, Private, Stable, Dying, Ledger, Life}
 use Rattle.frame_core.specs.State.{State, frame_word, count_in}
 use Rattle.frame_core.specs.Ledger.{frame_at, named_at}
 
@@ -67,8 +59,8 @@ abbrev pub count_at : State → ℕ → ℕ
 count_at s f = slice_index s.counts f
 
 -- the word of a frame
-abbrev pub word_of : State → ℕ → ℕ
-word_of s f = frame_word (frame_at s.ledger f).generation (count_at s f)
+abbrev pub frame_word_of : State → ℕ → ℕ
+frame_word_of s f = frame_word (frame_at s.ledger f).generation (count_at s f)
 
 -- the word that a step finds: 0 for a plain store
 abbrev pub keeper_finds : State → KeeperStep → ℕ
@@ -76,12 +68,12 @@ keeper_finds s (Put f i w) = 0
 keeper_finds s (Publish p f) = 0
 keeper_finds s (Withdraw p) = 0
 keeper_finds s (Word f i) = slice_index (frame_at s.ledger f).content i
-keeper_finds s (Reap f) = word_of s f
-keeper_finds s (Raise f) = word_of s f
-keeper_finds s (Open f) = word_of s f
-keeper_finds s (Add f) = word_of s f
-keeper_finds s (Sub f) = word_of s f
-keeper_finds s (Freeze f) = word_of s f
+keeper_finds s (Reap f) = frame_word_of s f
+keeper_finds s (Raise f) = frame_word_of s f
+keeper_finds s (Open f) = frame_word_of s f
+keeper_finds s (Add f) = frame_word_of s f
+keeper_finds s (Sub f) = frame_word_of s f
+keeper_finds s (Freeze f) = frame_word_of s f
 
 -- one reference more on a frame, and one less
 abbrev pub counted_up : List ℕ → ℕ → List ℕ

@@ -1,3 +1,4 @@
+pub mod Names
 pub mod Looked
 pub mod Orders
 pub mod Making

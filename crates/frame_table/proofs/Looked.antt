@@ -5,6 +5,7 @@ use mathlib.Core.Option.{some, some-injective, some-ne-none}
 use lib.ListN.{get_elem?}
 
 module _ {A : Type 0} where
+  -- what `get_elem?` finds, `slice_get` finds
   pub got : (xs : List A) (i : ℕ) (x : A) → get_elem? xs i ≡ some x → slice_get xs i ≡ Some x
   got [] i x e = absurd (some-ne-none x (sym e))
   got (y ∷ ys) zero x e = ap Some (some-injective y x e)

@@ -1,12 +1,10 @@
 -- Logs that are no lookup.
 use Rattle.std.proofs.Common.{◌≡◌, ℕ, ◌<◌, List, [], ◌∷◌, ◌++◌, map, length, ap, sym, ◌∙◌, arith}
-use Rattle.frame_core.specs.declared.event.ReaderStep.{ReaderStep}
-use Rattle.frame_core.specs.declared.event.ReaderStep.TheVariants.{LoadFrame, Exchange}
-use Rattle.frame_core.specs.State.{life_at, count_in, life_in}
-use Rattle.frame_table.specs.Lookup.{Log, AllLost, IsAlive, opening}
+use Rattle.frame_core.proofs.Names.{ReaderStep, LoadFrame, Exchange, life_at, count_in, life_in}
+use Rattle.frame_table.specs.Lookup.{ReaderLog, AllLost, IsAlive, lookup_so_far}
 use Rattle.frame_table.specs.Worked.{named, loads, finds}
 
-words : {a b : Log} → a ≡ b → map (λ x. x.1) a ≡ map (λ x. x.1) b
+words : {a b : ReaderLog} → a ≡ b → map (λ x. x.1) a ≡ map (λ x. x.1) b
 words e = ap (map (λ (x : ReaderStep × ℕ). x.1)) e
 
 -- a round that was made is none of those that were lost
@@ -19,8 +17,8 @@ module _ (word : ℕ) where
 
   -- ---------------------------------------------------------------- a load at the end
 
-  abbrev loaded : List (ℕ × ℕ) → ℕ → Log
-  loaded xs last = opening 1 word xs ++ (LoadFrame, last) ∷ []
+  abbrev loaded : List (ℕ × ℕ) → ℕ → ReaderLog
+  loaded xs last = lookup_so_far 1 word xs ++ (LoadFrame, last) ∷ []
 
   pub zero_after_all_tries : (xs : List (ℕ × ℕ)) (last : ℕ) → length xs < 2
       → ¬ (named ∷ loads 3 2 ∷ finds 3 1 ∷ loads 3 1 ∷ finds 3 2 ∷ loads 3 0 ∷ [] ≡ loaded xs last)
@@ -60,31 +58,31 @@ module _ (word : ℕ) where
 
   -- ---------------------------------------------------------------- all tries lost
 
-  pub busy_one_try : (xs : List (ℕ × ℕ)) → length xs ≡ 2 → ¬ (named ∷ loads 3 2 ∷ finds 3 1 ∷ [] ≡ opening 1 word xs)
+  pub busy_one_try : (xs : List (ℕ × ℕ)) → length xs ≡ 2 → ¬ (named ∷ loads 3 2 ∷ finds 3 1 ∷ [] ≡ lookup_so_far 1 word xs)
   busy_one_try [] two e = cc (two)
   busy_one_try (x ∷ []) two e = cc (two)
   busy_one_try (x ∷ y ∷ xs) two e = cc (e)
 
   pub busy_three_tries : (xs : List (ℕ × ℕ)) → length xs ≡ 2
-      → ¬ (named ∷ loads 3 2 ∷ finds 3 1 ∷ loads 3 1 ∷ finds 3 2 ∷ loads 3 2 ∷ finds 3 1 ∷ [] ≡ opening 1 word xs)
+      → ¬ (named ∷ loads 3 2 ∷ finds 3 1 ∷ loads 3 1 ∷ finds 3 2 ∷ loads 3 2 ∷ finds 3 1 ∷ [] ≡ lookup_so_far 1 word xs)
   busy_three_tries [] two e = cc (two)
   busy_three_tries (x ∷ []) two e = cc (two)
   busy_three_tries (x ∷ y ∷ []) two e = cc (e)
   busy_three_tries (x ∷ y ∷ z ∷ xs) two e = omega (arith, two)
 
-  pub busy_no_loss : (xs : List (ℕ × ℕ)) → AllLost life xs → ¬ (named ∷ loads 3 2 ∷ finds 3 1 ∷ loads 3 1 ∷ finds 3 1 ∷ [] ≡ opening 1 word xs)
+  pub busy_no_loss : (xs : List (ℕ × ℕ)) → AllLost life xs → ¬ (named ∷ loads 3 2 ∷ finds 3 1 ∷ loads 3 1 ∷ finds 3 1 ∷ [] ≡ lookup_so_far 1 word xs)
   busy_no_loss [] lost e = cc (e)
   busy_no_loss (x ∷ []) lost e = cc (e)
   busy_no_loss (x ∷ y ∷ xs) lost e = made life xs y lost.2 (cc (words e))
 
-  pub busy_from_zero : (xs : List (ℕ × ℕ)) → AllLost life xs → ¬ (named ∷ loads 3 0 ∷ finds 3 1 ∷ loads 3 1 ∷ finds 3 2 ∷ [] ≡ opening 1 word xs)
+  pub busy_from_zero : (xs : List (ℕ × ℕ)) → AllLost life xs → ¬ (named ∷ loads 3 0 ∷ finds 3 1 ∷ loads 3 1 ∷ finds 3 2 ∷ [] ≡ lookup_so_far 1 word xs)
   busy_from_zero [] lost e = cc (e)
   busy_from_zero (x ∷ xs) lost e = let w : 196608 ≡ x.0 = cc (words e) in lost.0.0 (sym (ap count_in w))
 
   -- ---------------------------------------------------------------- a hold
 
-  abbrev held : List (ℕ × ℕ) → ℕ → Log
-  held xs last = opening 1 word xs ++ (LoadFrame, last) ∷ (Exchange, last) ∷ []
+  abbrev held : List (ℕ × ℕ) → ℕ → ReaderLog
+  held xs last = lookup_so_far 1 word xs ++ (LoadFrame, last) ∷ (Exchange, last) ∷ []
 
   pub held_uncompared : (xs : List (ℕ × ℕ)) (last : ℕ) → AllLost life xs → IsAlive 3 last → ¬ (named ∷ loads 4 2 ∷ finds 4 2 ∷ [] ≡ held xs last)
   held_uncompared [] last lost alive e = let w : 262146 ≡ last = cc (words e) in let n : 4 ≡ 3 = ap life_in w ∙ alive.1 in omega (arith, n)

@@ -9,28 +9,14 @@ use native.Mathlib.Decide.{ℕ_discrete}
 use lib.ListN.{get_elem?}
 use Rattle.atomic_table.specs.Table.{Splits, Joins, Seen, Final}
 use Rattle.atomic_table.proofs.Lists.{at_set, at_map, at_longer, at_snoc, set_again, set_here, set_else}
-use Rattle.ksm_base.specs.declared.shape.Shape.{Shape}
-use Rattle.frame_core.specs.declared.event.Event.{Event}
-use Rattle.frame_core.specs.declared.ledger.Ledger.{Ledger}
-use Rattle.frame_core.specs.declared.seat.Phase.{Phase}
-use Rattle.frame_core.specs.declared.seat.Phase.TheVariants.{Idle, Spent as spent_phase}
+use Rattle.frame_core.proofs.Names.{Shape, Event, Ledger, Phase, Idle, Spent as spent_phase, place_word, count_in, life_in, words_of, History, run_of, keeper_log_of, is_on, readers_on}
 use Rattle.frame_core.specs.State as core
-use Rattle.frame_core.specs.State.{place_word, count_in, life_in}
-use Rattle.frame_core.specs.Words.{words_of}
-use Rattle.frame_core.specs.Trace.{History, run_of, keeper_log_of}
 use Rattle.frame_core.specs.Rule as core_rule
-use Rattle.frame_core.specs.Rule.{is_on, readers_on}
 use Rattle.frame_core.proofs.Above.{count_set, count_found, life_found, word_get, place_get}
-use Rattle.frame_table.specs.declared.view.Tally.{Tally}
-use Rattle.frame_table.specs.declared.view.View.{View}
-use Rattle.frame_table.specs.declared.view.View.TheVariants.{Keeper, Reader, Spent}
-use Rattle.frame_table.specs.Views.{Log, KeeperLog, phase_of, order_of, tally_of}
-use Rattle.frame_table.specs.Orders.{Begins, later}
-use Rattle.frame_table.specs.Rule.{Holds, IsAfter, IsInOrder, Tied, all_views, is_out}
-use Rattle.frame_table.specs.Seats.{one_more, newcomer, one_less, Ends}
+use Rattle.frame_table.proofs.Names.{Tally, View, Keeper, Reader, Spent, ReaderLog, KeeperLog, phase_of, order_of, tally_of, Begins, later, Moment, Holds, IsAfter, IsInOrder, Tied, all_views, is_out, one_more, newcomer, one_less, Ends}
 use Rattle.frame_table.proofs.Looked.{got}
 use Rattle.frame_table.proofs.Orders.{begins_shorter, begins_whole, later_is, between, keeper_log_grows}
-use Rattle.frame_table.proofs.Making.{St, all_set, out_same, kept, seen}
+use Rattle.frame_table.proofs.Making.{all_set, out_same, kept, seen}
 use Rattle.frame_table.proofs.KeeperMay.{keeper_retold}
 
 module _ (sh : Shape) where
@@ -42,7 +28,7 @@ module _ (sh : Shape) where
   one_idle_less (suc n) few = let e : suc n - 1 ≡ n = omega arith in ap (λ (m : ℕ). idle ∷ replicate m idle) e
 
   -- a pass that was given back is as one that is idle
-  spent_is_idle : (h : History) (tally : Tally) (words : List ℕ) (views : List View) (q : ℕ) (log : Log) (order : List Event)
+  spent_is_idle : (h : History) (tally : Tally) (words : List ℕ) (views : List View) (q : ℕ) (log : ReaderLog) (order : List Event)
       → get_elem? views (suc q) ≡ some (Reader sh Idle log order) → IsAfter sh h tally words views → IsAfter sh h tally words (set views (suc q) Spent)
   spent_is_idle h tally words views q log order at is = record {
     words_are = is.words_are;
@@ -102,7 +88,7 @@ module _ (sh : Shape) (k : Ledger) (tally : Tally) (log : KeeperLog) (order : Li
   keeper = Keeper sh k tally log order
 
   -- the keeper's view tells another tally, of as many passes that are still to be made
-  retold : (t : St) (tally' : Tally) (next : List Event) (h : Holds sh t) → get_elem? t.views 0 ≡ some keeper
+  retold : (t : Moment) (tally' : Tally) (next : List Event) (h : Holds sh t) → get_elem? t.views 0 ≡ some keeper
       → IsAfter sh (run_of sh h.events) tally' t.words (set (all_views sh tally t.views) 0 (Keeper sh k tally' log next))
   retold t tally' next h at =
       let past = run_of sh h.events in
@@ -112,11 +98,12 @@ module _ (sh : Shape) (k : Ledger) (tally : Tally) (log : KeeperLog) (order : Li
       (at_longer t.views (replicate tally.unmade (Reader sh Idle [] [])) 0 keeper at)
       (subst (λ (x : Tally). IsAfter sh past h.tally t.words (all_views sh x t.views)) (sym tied.2) h.after)
 
-  passes_out : (t : St) (h : Holds sh t) → get_elem? t.views 0 ≡ some keeper → count_by is_out t.views ≡ tally.out
+  passes_out : (t : Moment) (h : Holds sh t) → get_elem? t.views 0 ≡ some keeper → count_by is_out t.views ≡ tally.out
   passes_out t h at = h.out ∙ ap (λ (x : Tally). x.out) (sym (seen sh t h 0 keeper at).2)
 
   -- ---------------------------------------------------------------- a pass is made
 
+  -- a pass that is still to be made may be made
   pub may_make : (id : ℕ) → 0 < tally.unmade → Splits (Holds sh) id keeper (one_more keeper) (newcomer keeper)
   may_make (suc id) few t h at = absurd (seen sh t h (suc id) keeper at)
   may_make zero few t h at =
@@ -154,7 +141,7 @@ module _ (sh : Shape) (k : Ledger) (tally : Tally) (log : KeeperLog) (order : Li
               (begins_shorter order other events first second few) second (sym mine ∙ all)),
         ))
 
-  given_here : (t : St) (q : ℕ) (mine : Log) (other : List Event) → 0 < tally.out → Holds sh t → get_elem? t.views 0 ≡ some keeper → get_elem? (set t.views 0 (one_less keeper (Reader sh Idle mine other))) (suc q) ≡ some (Reader sh Idle mine other)
+  given_here : (t : Moment) (q : ℕ) (mine : ReaderLog) (other : List Event) → 0 < tally.out → Holds sh t → get_elem? t.views 0 ≡ some keeper → get_elem? (set t.views 0 (one_less keeper (Reader sh Idle mine other))) (suc q) ≡ some (Reader sh Idle mine other)
       → Holds sh record { words = t.words; homes = t.homes; views = set (set t.views 0 (one_less keeper (Reader sh Idle mine other))) (suc q) Spent }
   given_here t q mine other few h at there =
       let tally' : Tally = tally_of tally.unmade (tally.out - 1) in
@@ -191,7 +178,8 @@ module _ (sh : Shape) (k : Ledger) (tally : Tally) (log : KeeperLog) (order : Li
             (λ ne. longest_else h.events views (suc q) Spent (longest_else h.events t.views 0 next h.longest ne) else));
       }
 
-  pub may_give : (id other : ℕ) (mine : Log) (met : List Event) → 0 < tally.out → Joins (Holds sh) id keeper other (Reader sh Idle mine met) (one_less keeper (Reader sh Idle mine met)) Spent
+  -- a pass that is idle may be given back
+  pub may_give : (id other : ℕ) (mine : ReaderLog) (met : List Event) → 0 < tally.out → Joins (Holds sh) id keeper other (Reader sh Idle mine met) (one_less keeper (Reader sh Idle mine met)) Spent
   may_give (suc id) other mine met few t h at apart there = absurd (seen sh t h (suc id) keeper at)
   may_give zero zero mine met few t h at apart there = absurd (apart refl)
   may_give zero (suc q) mine met few t h at apart there = given_here t q mine met few h at there
@@ -227,6 +215,7 @@ module _ (sh : Shape) (k : Ledger) (tally : Tally) (log : KeeperLog) (order : Li
     places = λ p inside. place_get sh s rule p inside;
   }
 
+  -- where all passes are back, each count is the keeper's own references
   pub ends : (id : ℕ) (ws : List ℕ) (xs : List (Unit {0})) → tally.unmade ≡ 0 → tally.out ≡ 0 → Final (Seen (Holds sh) id keeper) ws xs → Ends k record { shape = sh; words = ws }
   ends (suc id) ws xs none_unmade none_out final = absurd (seen sh final.0 final.1.0 (suc id) keeper final.1.1)
   ends zero ws xs none_unmade none_out final =

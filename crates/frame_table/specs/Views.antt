@@ -1,20 +1,14 @@
 -- What a seat of the table knows, read part by part (own).
 use Rattle.std.specs.Prelude.{◌≡◌, ℕ, List, [], Option}
 use Rattle.atomic_table.specs.Table.{Me}
-use Rattle.ksm_base.specs.declared.shape.Shape.{Shape}
-use Rattle.frame_core.specs.declared.event.Event.{Event}
-use Rattle.frame_core.specs.declared.event.KeeperStep.{KeeperStep}
-use Rattle.frame_core.specs.declared.event.ReaderStep.{ReaderStep}
-use Rattle.frame_core.specs.declared.ledger.Ledger.{Ledger}
-use Rattle.frame_core.specs.declared.seat.Phase.{Phase}
-use Rattle.frame_core.specs.declared.seat.Phase.TheVariants.{Idle, Held, Spent as spent_phase}
+use Rattle.frame_core.specs.Terms.{Shape, Event, KeeperStep, ReaderStep, Ledger, Phase, Idle, Held, Spent as spent_phase}
 use Rattle.frame_table.specs.declared.view.Tally.{Tally}
 use Rattle.frame_table.specs.declared.view.View.{View}
 use Rattle.frame_table.specs.declared.view.View.TheVariants.{Keeper, Reader, Spent}
 
 -- steps of a reader, each with the word that it found
-abbrev pub Log : Type 0
-Log = List (ReaderStep × ℕ)
+abbrev pub ReaderLog : Type 0
+ReaderLog = List (ReaderStep × ℕ)
 
 -- steps of the keeper, each with the word that it found
 abbrev pub KeeperLog : Type 0
@@ -50,12 +44,12 @@ shape_of Spent = no_shape
 abbrev pub shape_in : Sat → Shape
 shape_in m = shape_of m.0
 
-abbrev pub entries : View → Log
+abbrev pub entries : View → ReaderLog
 entries (Reader sh phase log order) = log
 entries _ = []
 
 -- what a reader's seat has done
-abbrev pub log_in : Sat → Log
+abbrev pub log_in : Sat → ReaderLog
 log_in m = entries m.0
 
 abbrev pub words_known : View → List (Option ℕ)
@@ -67,7 +61,7 @@ abbrev pub known_in : Sat → List (Option ℕ)
 known_in m = words_known m.0
 
 -- a reader's seat
-abbrev pub sits : Shape → Phase → Log → List Event → Sat
+abbrev pub sits : Shape → Phase → ReaderLog → List Event → Sat
 sits sh phase log order = (Reader sh phase log order, [])
 
 -- the seat is a reader's that has come so far
