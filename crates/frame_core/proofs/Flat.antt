@@ -81,6 +81,10 @@ words_set (m ∷ notes) (b ∷ counts) (suc f) n c e = ap (λ (l : List ℕ). fr
 
 -- ---------------------------------------------------------------- the words of a state
 
+-- a word that is written as it was leaves the words as they were
+pub as_it_was : (s : State) (i n : ℕ) → get_or (words_of s) i 0 ≡ n → set (words_of s) i n ≡ words_of s
+as_it_was s i n is = ap (set (words_of s) i) (sym is) ∙ set-get_or (words_of s) i 0
+
 module _ (sh : Shape) (s : State) (rule : Rule sh s) where
   abbrev F : ℕ
   F = frames_of sh

@@ -3,7 +3,7 @@ use Rattle.std.proofs.Common.{◌≡◌, ℕ, ◌+◌, ◌-◌, ◌%◌, ◌^◌
 use mathlib.Core.Option.{none}
 use prog.Atomic.{either}
 use Rattle.atomic_table.specs.Table.{State, Step, step, Allows}
-use Rattle.frame_core.proofs.Names.{Shape, count_in}
+use Rattle.frame_table.proofs.CoreNames.{Shape, count_in}
 use Rattle.frame_table.proofs.Names.{View, Sat, Holds}
 
 abbrev pub Tells : Type 1

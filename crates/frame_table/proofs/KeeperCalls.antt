@@ -3,7 +3,7 @@ use Rattle.std.proofs.Common.{◌≡◌, ℕ, ◌+◌, ◌-◌, ◌*◌, ◌%◌
 use mathlib.Core.Option.{none as unsaid}
 use prog.Atomic.{either}
 use Rattle.atomic_table.specs.Table.{step, Allows}
-use Rattle.frame_core.proofs.Names.{PAGE_WORDS, Shape, frames_of, KeeperStep, Reap, Put, Raise, Open, Add, Sub, Publish, Withdraw, Freeze, Word, Ledger, place_word, frame_word, life_in, frame_word_at, content_at, frame_at, MayStep}
+use Rattle.frame_table.proofs.CoreNames.{PAGE_WORDS, Shape, frames_of, KeeperStep, Reap, Put, Raise, Open, Add, Sub, Publish, Withdraw, Freeze, Word, Ledger, place_word, frame_word, life_in, frame_word_at, content_at, frame_at, MayStep}
 use Rattle.frame_table.proofs.Names.{Holds, Sat, IsKeeper, shape_in, ledger_in, tally_in, keeper_log, order_in, Keeps, keeper_word, keeper_written, found_by, knows, reaps, puts, raises, opens, adds, subs, publishes, withdraws, freezes, shows}
 use Rattle.frame_table.proofs.Allowed.{turned, weaker, MayLoad, MayStore, MayExchange, MayAdd, MaySubOne, one_less_word}
 use Rattle.frame_table.proofs.KeeperMay.{keeper_may}

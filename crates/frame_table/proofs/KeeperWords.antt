@@ -1,9 +1,8 @@
 -- A step of the keeper changes one word of the table, and is told what it found there.
 use Rattle.std.proofs.Common.{◌≡◌, ℕ, ◌+◌, ◌-◌, ◌<◌, ◌≤◌, ◌==◌, Bool, true, false, cond, eqb, set, get_or, Some, None, refl, ap, sym, subst, ◌∙◌, arith}
-use Rattle.std.proofs.lemmas.List.{set-get_or}
 use Rattle.std.proofs.lemmas.Bool.{eqb-true, eqb-false, eq-eqb, ne_eqb}
-use Rattle.frame_core.proofs.Names.{Shape, frames_of, KeeperStep, Reap, Put, Raise, Open, Add, Sub, Publish, Withdraw, Freeze, Word, Kind, Free, Filling, Ledger, State, frame_word, count_in, words_of, frame_word_at, content_at, count_at, frame_word_of, keeper_finds, frame_at, with_frame, MayStep, reaped, filled, raised, opened, added, lowered, shown, frozen, after_keeper, Rule, CountFits, GenerationFits}
-use Rattle.frame_core.proofs.Above.{base_at_most, count_at_most, life_low, count_found, life_found, word_get, content_get, word_set, note_set, content_set, place_set, words_same}
+use Rattle.frame_table.proofs.CoreNames.{Shape, frames_of, KeeperStep, Reap, Put, Raise, Open, Add, Sub, Publish, Withdraw, Freeze, Word, Kind, Free, Filling, Ledger, State, frame_word, count_in, words_of, frame_word_at, content_at, count_at, frame_word_of, keeper_finds, frame_at, with_frame, MayStep, reaped, filled, raised, opened, added, lowered, shown, frozen, after_keeper, Rule, CountFits, GenerationFits}
+use Rattle.frame_core.proofs.Above.{as_it_was, base_at_most, count_at_most, life_low, count_found, life_found, word_get, content_get, word_set, note_set, content_set, place_set, words_same}
 use Rattle.frame_table.specs.Keeping.{keeper_word, keeper_written, found_by, knows}
 
 -- the word that a step leaves, what it is told, and what it knew of that
@@ -25,14 +24,10 @@ module _ (sh : Shape) (s : State) (rule : Rule sh s) where
   on_word e n is left found told =
       (ap (λ (m : ℕ). set (words_of s) (keeper_word F e) (keeper_written k e m)) is ∙ left, ap (found_by e) is ∙ found, told)
 
-  -- a word that is written as it was
-  as_it_was : (i n : ℕ) → get_or (words_of s) i 0 ≡ n → set (words_of s) i n ≡ words_of s
-  as_it_was i n is = ap (set (words_of s) i) (sym is) ∙ set-get_or (words_of s) i 0
-
   reaps : (f : ℕ) (b : Bool) → f < F → set (words_of s) (frame_word_at F f) (frame_word_of s f)
       ≡ words_of record { ledger = cond b (with_frame k f (reaped sh.last_generation (frame_at k f))) k; counts = s.counts; seats = s.seats }
   reaps f true below = note_set sh s rule f (frame_word_of s f) (reaped sh.last_generation (frame_at k f)) below refl refl
-  reaps f false below = as_it_was (frame_word_at F f) (frame_word_of s f) (word_get sh s rule f below)
+  reaps f false below = as_it_was s (frame_word_at F f) (frame_word_of s f) (word_get sh s rule f below)
 
   -- two words of one life are equal exactly where their counts are
   same_life : (f c : ℕ) (b : Bool) → f < F → (count_in (frame_word_of s f) == c) ≡ b → eqb (frame_word_of s f) (frame_word (frame_at k f).generation c) ≡ b
@@ -44,7 +39,7 @@ module _ (sh : Shape) (s : State) (rule : Rule sh s) where
   freezes : (f : ℕ) (b : Bool) → f < F → set (words_of s) (frame_word_at F f) (cond b (frame_word (frame_at k f).generation 0) (frame_word_of s f))
       ≡ words_of record { ledger = cond b (with_frame k f (frozen (frame_at k f))) k; counts = cond b (set s.counts f 0) s.counts; seats = s.seats }
   freezes f true below = word_set sh s rule f (frame_word (frame_at k f).generation 0) 0 (frozen (frame_at k f)) below refl refl
-  freezes f false below = as_it_was (frame_word_at F f) (frame_word_of s f) (word_get sh s rule f below)
+  freezes f false below = as_it_was s (frame_word_at F f) (frame_word_of s f) (word_get sh s rule f below)
 
   -- the word of a frame without a reference
   empty_word : (f : ℕ) → count_at s f ≡ 0 → frame_word_of s f ≡ frame_word (frame_at k f).generation 0
@@ -89,4 +84,4 @@ module _ (sh : Shape) (s : State) (rule : Rule sh s) where
       refl (life_found sh s rule f may.0, base_at_most note.kind note.base (rule.frames f may.0).base)
   keeper_words (Word f i) may =
       let here = content_get sh s rule f i may.0 may.1 in
-      on_word (Word f i) (get_or (frame_at k f).content i 0) here (as_it_was (content_at F f i) _ here) refl refl
+      on_word (Word f i) (get_or (frame_at k f).content i 0) here (as_it_was s (content_at F f i) _ here) refl refl

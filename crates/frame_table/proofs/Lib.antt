@@ -1,3 +1,5 @@
+pub mod Above
+pub mod CoreNames
 pub mod Names
 pub mod Looked
 pub mod Orders

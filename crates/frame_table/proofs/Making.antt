@@ -5,7 +5,7 @@ use Rattle.std.proofs.lemmas.Option.{slice_get_within, get_or_from_slice_get}
 use mathlib.Core.Option.{some}
 use lib.ListN.{get_elem?}
 use Rattle.atomic_table.proofs.Lists.{at_set, at_map, at_longer, set_here}
-use Rattle.frame_core.proofs.Names.{Shape, Event, Phase, Idle, Spent as spent_phase, phase_at, step, words_of, History, run_of}
+use Rattle.frame_table.proofs.CoreNames.{Shape, Event, Phase, Idle, Spent as spent_phase, phase_at, step, words_of, History, run_of}
 use Rattle.frame_core.specs.State as core
 use Rattle.frame_core.specs.Rule as core_rule
 use Rattle.frame_core.proofs.Above.{count_set, run_rule, run_step}

@@ -1,8 +1,9 @@
 -- Beginnings of one list, and what is told of a seat's steps at the beginnings of a run.
 use Rattle.std.proofs.Common.{◌≡◌, ℕ, zero, suc, ◌≤◌, Bool, true, false, cond, eqb, leb, List, [], ◌∷◌, ◌++◌, length, Option, Some, None, fold, refl, ap, sym, subst, ◌∙◌, arith, append_assoc, append-nil, length-append}
 use Rattle.std.proofs.lemmas.Bool.{leb-true, leb-false}
+use Rattle.std.proofs.lemmas.List.{nil_from_length}
 use Rattle.std.proofs.lemmas.List.Sums.{fold-append}
-use Rattle.frame_core.proofs.Names.{Shape, Event, State, step, History, first_history, history_after, history_with, run_of, log_of, keeper_log_of}
+use Rattle.frame_table.proofs.CoreNames.{Shape, Event, State, step, History, first_history, history_after, history_with, run_of, log_of, keeper_log_of}
 use Rattle.frame_core.specs.declared.event.Event.TheVariants as event
 use Rattle.frame_table.proofs.Names.{View, Keeper, Reader, Begins, later, IsInOrder}
 
@@ -54,10 +55,6 @@ later_is P xs ys first second = later_case P xs ys (leb (length ys) (length xs))
 
 -- ---------------------------------------------------------------- logs grow
 
--- a run goes on where its first events have led
-pub run_append : (sh : Shape) (es fs : List Event) → run_of sh (es ++ fs) ≡ fold (history_after sh) (run_of sh es) fs
-run_append sh es fs = fold-append (history_after sh) (first_history sh) es fs
-
 module _ {A : Type 0} (part : History → List A) (grows : (h : History) (e : Event) (r : ℕ × State) → Begins (part h) (part (history_with h e (Some r)))) where
   with_more : (h : History) (e : Event) (o : Option (ℕ × State)) → Begins (part h) (part (history_with h e o))
   with_more h e None = begins_itself (part h)
@@ -73,7 +70,7 @@ module _ {A : Type 0} (part : History → List A) (grows : (h : History) (e : Ev
   -- what a run tells of a seat goes on from what a beginning of it tells
   pub part_grows : (sh : Shape) (es fs : List Event) → Begins es fs → Begins (part (run_of sh es)) (part (run_of sh fs))
   part_grows sh es fs b =
-      subst (λ (h : History). Begins (part (run_of sh es)) (part h)) (sym (run_append sh es b.0) ∙ ap (run_of sh) (sym b.1)) (fold_grows sh b.0 (run_of sh es))
+      subst (λ (h : History). Begins (part (run_of sh es)) (part h)) (sym (fold-append (history_after sh) (first_history sh) es b.0) ∙ ap (run_of sh) (sym b.1)) (fold_grows sh b.0 (run_of sh es))
 
   -- where the beginning of a run tells as much as the run does, so does all between
   pub between : (sh : Shape) (es fs gs : List Event) → Begins es fs → Begins fs gs → part (run_of sh es) ≡ part (run_of sh gs) → part (run_of sh fs) ≡ part (run_of sh es)

@@ -3,7 +3,7 @@ use Rattle.std.proofs.Common.{◌≡◌, ℕ, ◌+◌, ◌-◌, ◌%◌, ◌^◌
 use Rattle.std.proofs.lemmas.Bool.{eqb-true, lt-ltb}
 use prog.Atomic.{either}
 use Rattle.atomic_table.specs.Table.{carried_after}
-use Rattle.frame_core.proofs.Names.{PAGE_WORDS, Shape, frames_of, Event, LoadPlace, LoadFrame, Exchange, Leave, LoadWord, Aim, Idle, Placed, Counted, Held, frame_word, frame_word_at, content_at}
+use Rattle.frame_table.proofs.CoreNames.{PAGE_WORDS, Shape, frames_of, Event, LoadPlace, LoadFrame, Exchange, Leave, LoadWord, Aim, Idle, Placed, Counted, Held, frame_word, frame_word_at, content_at}
 use Rattle.frame_table.proofs.Names.{ReaderLog, sits, StepsNow, loads_place, loads_frame, exchanges, leaves, loads_word}
 use Rattle.frame_table.proofs.Allowed.{MayLoad, MayExchange, MaySubOne, one_less_word}
 use Rattle.frame_table.proofs.ReaderMay.{reader_may}

@@ -1,7 +1,7 @@
 -- Whatever the table is, a step of a reader that the core allows keeps the table's rule.
 use Rattle.std.proofs.Common.{◌≡◌, ℕ, zero, suc, ◌<◌, ◌≢◌, true, Bool, cond, eqb, List, [], ◌∷◌, ◌++◌, set, get_or, slice_set, refl, ap, sym, subst, ◌∙◌, eq-eqb, ne_eqb}
 use Rattle.atomic_table.specs.Table.{keeps, Allows}
-use Rattle.frame_core.proofs.Names.{Shape, Event, ReaderStep, Phase, Spent as spent_phase, words_of, History, run_of, log_of, may_read, seat_after}
+use Rattle.frame_table.proofs.CoreNames.{Shape, Event, ReaderStep, Phase, Spent as spent_phase, words_of, History, run_of, log_of, may_read, seat_after}
 use Rattle.frame_core.specs.declared.event.Event.TheVariants as event
 use Rattle.frame_core.specs.State as core
 use Rattle.frame_table.proofs.Names.{Tally, View, Keeper, Reader, Spent, reader_word, written, ReaderLog, sits, Holds, Tied, StepsNow, tells, IsReaderStep}

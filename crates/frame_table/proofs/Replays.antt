@@ -1,10 +1,10 @@
 -- Two runs that go on from one state by steps of one seat, and tell the same of all others: the longer log of the seat is that of the longer run.
 use Rattle.std.proofs.Common.{◌≡◌, ℕ, List, [], ◌∷◌, ◌++◌, ◌⊎◌, Option, Some, None, fold, refl, ap, sym, subst, ◌∙◌, ⊎_elim, append_assoc, append-nil}
 use Rattle.std.proofs.lemmas.List.{append_cancel_left}
+use Rattle.std.proofs.lemmas.List.Sums.{fold-append}
 use Rattle.std.proofs.lemmas.Option.{same_Some}
-use Rattle.frame_core.proofs.Names.{Shape, Event, State, step, History, history_after, history_with, run_of}
+use Rattle.frame_table.proofs.CoreNames.{Shape, Event, State, step, History, first_history, history_after, history_with, run_of}
 use Rattle.frame_table.specs.Orders.{Begins}
-use Rattle.frame_table.proofs.Orders.{run_append}
 
 module _ {S : Type 0} (sh : Shape) (mk : S → Event) where
   -- these steps, one after another, each with the word that it finds
@@ -57,7 +57,7 @@ module _ {S : Type 0} (sh : Shape) (mk : S → Event) where
           → step sh (run_of sh es).state (mk x.0) ≡ Some (x.1, (run_of sh fs).state)
       last_step first es fs x b c good same same' more =
           let h = run_of sh first in
-          let to = λ (gs : List Event) (a : Begins first gs). let e : run_of sh gs ≡ fold (history_after sh) h a.0 = ap (run_of sh) a.1 ∙ run_append sh first a.0 in e in
+          let to = λ (gs : List Event) (a : Begins first gs). let e : run_of sh gs ≡ fold (history_after sh) h a.0 = ap (run_of sh) a.1 ∙ fold-append (history_after sh) (first_history sh) first a.0 in e in
           let goes = λ (gs : List Event) (a : Begins first gs) (s : Same h (run_of sh gs)).
           let w : Walked h (run_of sh gs) = subst (λ (g : History). Walked h g) (sym (to gs a)) (walk a.0 h good (subst (Same h) (to gs a) s)) in w in
           let w = goes es b same in

@@ -3,15 +3,10 @@ use Rattle.std.proofs.Common.{◌≡◌, ℕ, suc, ◌<◌, ◌≤◌, List, tak
 use Rattle.std.proofs.lemmas.Option.{slice_get_within, get_or_from_slice_get}
 use mathlib.Core.Option.{some}
 use lib.ListN.{get_elem?}
-use Rattle.frame_core.proofs.Names.{PAGE_WORDS, Shape, frames_of, Event, Kind, Stable, Dying, Ledger, Aim, Held, State, count_in, life_in, words_of, frame_word_at, frame_at, IsWritable, Rule, SeatRule, MayBeHeld, is_on, phase_at, History, run_of, keeper_log_of, IsSafe}
-use Rattle.frame_core.proofs.Above.{referenced, count_found, life_found, word_get, content_get, place_get, run_safe, run_given}
+use Rattle.frame_table.proofs.CoreNames.{PAGE_WORDS, Shape, frames_of, Event, Ledger, Aim, Held, State, count_in, life_in, words_of, frame_word_at, frame_at, IsWritable, Rule, SeatRule, is_on, phase_at, History, run_of, keeper_log_of, IsSafe}
+use Rattle.frame_core.proofs.Above.{not_held, referenced, count_found, life_found, word_get, content_get, place_get, run_safe, run_given}
 use Rattle.frame_table.proofs.Names.{Tally, Keeper, Spent, Moment, Holds, KeeperLog, TheTableRunsSafely, LedgerIs, HoldIs}
 use Rattle.frame_table.proofs.Making.{kept, seen, seated, phase_is}
-
-held_unwritten : (kind : Kind) → MayBeHeld kind → ¬ IsWritable kind
-held_unwritten Stable held written = written
-held_unwritten Dying held written = written
-held_unwritten _ held written = held
 
 -- what is known of the words, in a state of the core
 module _ (sh : Shape) (h : History) (rule : Rule sh h.state) where
@@ -87,5 +82,5 @@ runs_safely sh t h =
       );
       unwritten = λ ledger tally log met q aim known mine order keeper at.
           let there = (held sh (past sh t h) rule q aim known (phase_is sh t h q _ at)).1.kind in
-          subst (λ (k : Ledger). ¬ IsWritable (frame_at k aim.life.frame).kind) (sym (seen sh t h 0 _ keeper).1) (held_unwritten _ there);
+          subst (λ (k : Ledger). ¬ IsWritable (frame_at k aim.life.frame).kind) (sym (seen sh t h 0 _ keeper).1) (λ written. not_held _ written there);
     }

@@ -9,7 +9,7 @@ use native.Mathlib.Decide.{ℕ_discrete}
 use lib.ListN.{get_elem?}
 use Rattle.atomic_table.specs.Table.{Splits, Joins, Seen, Final}
 use Rattle.atomic_table.proofs.Lists.{at_set, at_map, at_longer, at_snoc, set_again, set_here, set_else}
-use Rattle.frame_core.proofs.Names.{Shape, Event, Ledger, Phase, Idle, Spent as spent_phase, place_word, count_in, life_in, words_of, History, run_of, keeper_log_of, is_on, readers_on}
+use Rattle.frame_table.proofs.CoreNames.{Shape, Event, Ledger, Phase, Idle, Spent as spent_phase, count_in, life_in, words_of, History, run_of, keeper_log_of, is_on, readers_on}
 use Rattle.frame_core.specs.State as core
 use Rattle.frame_core.specs.Rule as core_rule
 use Rattle.frame_core.proofs.Above.{count_set, count_found, life_found, word_get, place_get}

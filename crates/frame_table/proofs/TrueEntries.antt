@@ -7,7 +7,7 @@ use mathlib.Core.Logic.{dite}
 use native.Mathlib.Decide.{ℕ_discrete}
 use lib.ListN.{get_elem?}
 use Rattle.atomic_table.proofs.Lists.{set_here, set_else}
-use Rattle.frame_core.proofs.Names.{Shape, Event, ReaderStep, KeeperStep, Phase, Spent as spent_phase, State, step, Rule, words_of, History, history_after, history_with, run_of, log_of, keeper_log_of, phase_at, may_read, seat_after}
+use Rattle.frame_table.proofs.CoreNames.{Shape, Event, ReaderStep, KeeperStep, Phase, Spent as spent_phase, State, step, Rule, words_of, History, history_after, history_with, run_of, log_of, keeper_log_of, phase_at, may_read, seat_after}
 use Rattle.frame_core.specs.declared.event.Event.TheVariants as event
 use Rattle.frame_core.proofs.Above.{seat_there, if_made, step_keeps, run_rule}
 use Rattle.frame_table.proofs.Names.{View, Keeper, Reader, Spent, Begins, Holds, reader_word, written, IsReaderStep, Moment, IsOpen, IsTrueEntry, ReadersLogIsTrue, KeepersLogIsTrue, ReaderLog, KeeperLog}

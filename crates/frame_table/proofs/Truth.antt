@@ -4,7 +4,7 @@ use Rattle.std.proofs.lemmas.List.{length-map}
 use mathlib.Core.Option.{some, some-injective, some-ne-none}
 use lib.ListN.{get_elem?}
 use Rattle.atomic_table.proofs.Lists.{at_set, set_else}
-use Rattle.frame_core.proofs.Names.{Shape, Event, Idle, State, History, history_with, run_of, log_of, keeper_log_of}
+use Rattle.frame_table.proofs.CoreNames.{Shape, Event, Idle, State, History, history_with, run_of, log_of, keeper_log_of}
 use Rattle.frame_core.proofs.Above.{run_rule}
 use Rattle.frame_table.proofs.Names.{View, Keeper, Reader, Spent, Begins, later, Holds, Tied, IsInOrder, all_views, Moment, IsOpen, phase_of, order_of}
 use Rattle.frame_table.proofs.Making.{seen}

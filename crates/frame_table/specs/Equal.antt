@@ -1,6 +1,6 @@
 -- What a comparison of a page with the words of a hold says (own).
 use Rattle.std.specs.Prelude.{◌≡◌, ℕ, ◌<◌, Bool, true, false, List, [], ◌∷◌, ◌++◌, slice_index, slice_index_or, slice_set, Option, Some, None}
-use Rattle.frame_core.specs.Terms.{PAGE_WORDS, LoadWord}
+use Rattle.frame_table.specs.Terms.{PAGE_WORDS, LoadWord}
 use Rattle.frame_table.specs.declared.pass.Found.TheVariants.{Held as found_held, Gone as found_gone, Busy as found_busy}
 use Rattle.frame_table.specs.declared.equal.FoundEqual.{FoundEqual}
 use Rattle.frame_table.specs.declared.equal.FoundEqual.TheVariants.{Held, Differs, Gone, Busy}

@@ -1,7 +1,7 @@
 -- What each step of the keeper tells its seat (own).
 use Rattle.std.specs.Prelude.{◌≡◌, ℕ, Some, ◌+◌, ◌-◌, ◌%◌, ◌<◌, ◌≤◌, ◌==◌, cond, List, [], ◌∷◌, ◌++◌, slice_index}
 use Rattle.atomic_table.specs.Table.{Step}
-use Rattle.frame_core.specs.Terms.{PAGE_WORDS, frames_of, Event, KeeperStep, Reap, Put, Raise, Open, Add, Sub, Publish, Withdraw, Freeze, Word, Ledger}
+use Rattle.frame_table.specs.Terms.{PAGE_WORDS, frames_of, Event, KeeperStep, Reap, Put, Raise, Open, Add, Sub, Publish, Withdraw, Freeze, Word, Ledger}
 use Rattle.frame_core.specs.declared.event.Event.TheVariants as event
 use Rattle.frame_core.specs.State.{place_word, frame_word, count_in, life_in}
 use Rattle.frame_core.specs.Words.{frame_word_at, content_at}

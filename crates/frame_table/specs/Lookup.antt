@@ -1,6 +1,6 @@
 -- What a lookup adds to its pass's log, and which answer shows which log.
 use Rattle.std.specs.Prelude.{◌≡◌, ℕ, ◌<◌, List, [], ◌∷◌, ◌++◌, length, slice_index_or, slice_set, Some, None}
-use Rattle.frame_core.specs.Terms.{Shape, LoadPlace, LoadFrame, Exchange, Leave, LoadWord}
+use Rattle.frame_table.specs.Terms.{Shape, LoadPlace, LoadFrame, Exchange, Leave, LoadWord}
 use Rattle.frame_core.specs.State.{life_at, count_in, life_in}
 use Rattle.frame_core.specs.Seat.{nothing_known}
 pub use Rattle.frame_table.specs.Views.{ReaderLog}

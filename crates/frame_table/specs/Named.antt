@@ -1,6 +1,6 @@
 -- What contracts see of a table, its passes, its holds and its keeper, and of a table that was closed (own).
 use Rattle.std.specs.Prelude.{ℕ, List, Option}
-use Rattle.frame_core.specs.Terms.{Shape, KeeperStep, ReaderStep, Ledger}
+use Rattle.frame_table.specs.Terms.{Shape, KeeperStep, ReaderStep, Ledger}
 use Rattle.atomic_table.specs.Seated.{TableId}
 
 -- which table it is, and its shape

@@ -1,7 +1,7 @@
 -- What each step of a reader tells its seat (own).
 use Rattle.std.specs.Prelude.{◌≡◌, ℕ, ◌<◌, ◌≤◌, List, [], ◌∷◌, ◌++◌, slice_index_or, Option, Some, None}
 use Rattle.atomic_table.specs.Table.{Step}
-use Rattle.frame_core.specs.Terms.{PAGE_WORDS, Shape, frames_of, Event, ReaderStep, LoadPlace, LoadFrame, Exchange, Leave, LoadWord, Aim, Phase, Held}
+use Rattle.frame_table.specs.Terms.{PAGE_WORDS, Shape, frames_of, Event, ReaderStep, LoadPlace, LoadFrame, Exchange, Leave, LoadWord, Aim, Phase, Held}
 use Rattle.frame_core.specs.declared.event.Event.TheVariants as event
 use Rattle.frame_core.specs.State.{life_at, count_in}
 use Rattle.frame_table.specs.declared.view.View.{View}

@@ -3,7 +3,7 @@ use Rattle.std.specs.Prelude.{◌≡◌, ℕ, suc, ◌+◌, ◌<◌, ◌≤◌, 
 use mathlib.Core.Option.{some}
 use lib.ListN.{get_elem?}
 use Rattle.atomic_table.specs.Table as table
-use Rattle.frame_core.specs.Terms.{PAGE_WORDS, Shape, frames_of, Event, Ledger, Aim, Phase, Idle, Held}
+use Rattle.frame_table.specs.Terms.{PAGE_WORDS, Shape, frames_of, Event, Ledger, Aim, Phase, Idle, Held}
 use Rattle.frame_core.specs.State.{place_word, count_in, life_in}
 use Rattle.frame_core.specs.Words.{words_of, frame_word_at, content_at}
 use Rattle.frame_core.specs.Ledger.{frame_at, named_at, IsWritable}

@@ -1,6 +1,6 @@
 -- The word of the table on which a step of a reader works, and what it leaves there (own).
 use Rattle.std.specs.Prelude.{ℕ, ◌+◌, ◌-◌, ◌==◌, cond}
-use Rattle.frame_core.specs.Terms.{Shape, frames_of, ReaderStep, LoadPlace, LoadFrame, Exchange, Leave, LoadWord, Phase}
+use Rattle.frame_table.specs.Terms.{Shape, frames_of, ReaderStep, LoadPlace, LoadFrame, Exchange, Leave, LoadWord, Phase}
 use Rattle.frame_core.specs.Seat.{frame_of, loaded_by}
 use Rattle.frame_core.specs.Words.{frame_word_at, content_at}
 

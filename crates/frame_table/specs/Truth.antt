@@ -3,7 +3,7 @@ use Rattle.std.specs.Prelude.{◌≡◌, ℕ, suc, ◌≢◌, [], ◌∷◌, ◌
 use mathlib.Core.Option.{some}
 use lib.ListN.{get_elem?}
 use Rattle.atomic_table.specs.Table as table
-use Rattle.frame_core.specs.Terms.{Shape, Event, ReaderStep, KeeperStep, Ledger, Phase}
+use Rattle.frame_table.specs.Terms.{Shape, Event, ReaderStep, KeeperStep, Ledger, Phase}
 use Rattle.frame_core.specs.declared.event.Event.TheVariants as event
 use Rattle.frame_core.specs.State.{State}
 use Rattle.frame_core.specs.Steps.{step}

@@ -1,7 +1,7 @@
 -- What a seat of the table knows, read part by part (own).
 use Rattle.std.specs.Prelude.{◌≡◌, ℕ, List, [], Option}
 use Rattle.atomic_table.specs.Table.{Me}
-use Rattle.frame_core.specs.Terms.{Shape, Event, KeeperStep, ReaderStep, Ledger, Phase, Idle, Held, Spent as spent_phase}
+use Rattle.frame_table.specs.Terms.{Shape, Event, KeeperStep, ReaderStep, Ledger, Phase, Idle, Held, Spent as spent_phase}
 use Rattle.frame_table.specs.declared.view.Tally.{Tally}
 use Rattle.frame_table.specs.declared.view.View.{View}
 use Rattle.frame_table.specs.declared.view.View.TheVariants.{Keeper, Reader, Spent}

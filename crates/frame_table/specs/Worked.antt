@@ -1,6 +1,6 @@
 -- Worked lookups, by which the definitions of a lookup are tried: what its steps found, one after another. Own.
 use Rattle.std.specs.Prelude.{ℕ, [], ◌∷◌, replicate, Some}
-use Rattle.frame_core.specs.Terms.{PAGE_WORDS, Shape, ReaderStep, LoadPlace, LoadFrame, Exchange, Stable, Ledger}
+use Rattle.frame_table.specs.Terms.{PAGE_WORDS, Shape, ReaderStep, LoadPlace, LoadFrame, Exchange, Stable, Ledger}
 use Rattle.frame_core.specs.State.{frame_word}
 use Rattle.frame_table.specs.Named.{TableName, PassView, ClosedView}
 use Rattle.frame_table.specs.Views.{ReaderLog}

@@ -37,7 +37,15 @@ impl Model for Held {
 
     ghost view = { λ h. record { table = record { id = h.seat.table_id; shape = shape_in h.seat.me }; log = log_in h.seat.me; place = h.place; frame = h.frame; generation = h.generation; known = known_in h.seat.me } };
 
-    ghost invariant = { λ h. record { seat : IsIn (shape_in h.seat.me) (held (aim_at h.place h.frame h.generation) (known_in h.seat.me)) h.seat.me; frame : h.frame < frames_of (shape_in h.seat.me); known : length (known_in h.seat.me) ≡ words_of_page; word : h.word ≡ frame_word_at (frames_of (shape_in h.seat.me)) h.frame; word_within : h.word < h.seat.table_id.words; page : h.page ≡ page_at (frames_of (shape_in h.seat.me)) h.frame; page_within : h.page + words_of_page ≤ h.seat.table_id.words } };
+    ghost invariant = { λ h. record {
+      seat : IsIn (shape_in h.seat.me) (held (aim_at h.place h.frame h.generation) (known_in h.seat.me)) h.seat.me;
+      frame : h.frame < frames_of (shape_in h.seat.me);
+      known : length (known_in h.seat.me) ≡ words_of_page;
+      word : h.word ≡ frame_word_at (frames_of (shape_in h.seat.me)) h.frame;
+      word_within : h.word < h.seat.table_id.words;
+      page : h.page ≡ page_at (frames_of (shape_in h.seat.me)) h.frame;
+      page_within : h.page + words_of_page ≤ h.seat.table_id.words;
+    } };
 }
 
 impl Held {

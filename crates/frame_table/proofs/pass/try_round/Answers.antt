@@ -1,5 +1,5 @@
 use Rattle.std.proofs.Common.{ap, sym, ◌∙◌}
-use Rattle.frame_core.proofs.Names.{frames_of, count_in, frame_word_at}
+use Rattle.frame_table.proofs.CoreNames.{frames_of, count_in, frame_word_at}
 use Rattle.frame_table.proofs.Looks.{counted}
 use Rattle.frame_table.proofs.pass.try_round.Goals as goal
 

@@ -1,5 +1,5 @@
 use Rattle.std.proofs.Common.{[], ◌∷◌, refl, sym, subst, arith}
-use Rattle.frame_core.proofs.Names.{LoadPlace, Shape}
+use Rattle.frame_table.proofs.CoreNames.{LoadPlace, Shape}
 use Rattle.frame_table.proofs.Names.{IsZero, IsOld, named, loads}
 use Rattle.frame_table.proofs.worked.lookups_told_why.Goals as goal
 

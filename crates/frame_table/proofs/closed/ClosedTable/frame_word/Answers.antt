@@ -1,6 +1,6 @@
 use Rattle.std.proofs.Common.{◌≡◌, ℕ, ◌+◌, ◌*◌, get_or, ap, ◌∙◌, arith}
 use Rattle.std.specs.Mem.Slots.{slots_items}
-use Rattle.frame_core.proofs.Names.{frames_of, LINE_WORDS, frame_word_at}
+use Rattle.frame_table.proofs.CoreNames.{frames_of, LINE_WORDS, frame_word_at}
 use Rattle.frame_table.specs.Named.{ClosedView}
 use Rattle.frame_table.proofs.Looked.{found_at}
 use Rattle.frame_table.proofs.closed.ClosedTable.frame_word.Goals as goal

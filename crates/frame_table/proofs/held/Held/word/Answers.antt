@@ -1,5 +1,5 @@
 use Rattle.std.proofs.Common.{◌≡◌, ap, ◌∙◌, subst, sym}
-use Rattle.frame_core.proofs.Names.{Shape, frames_of, page_at, Held as held, aim_at}
+use Rattle.frame_table.proofs.CoreNames.{Shape, frames_of, page_at, Held as held, aim_at}
 use Rattle.frame_table.specs.Views.{IsIn, shape_in, known_in}
 use Rattle.frame_table.proofs.held.Held.word.Goals as goal
 

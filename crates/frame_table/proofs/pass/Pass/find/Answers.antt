@@ -1,5 +1,5 @@
 use Rattle.std.proofs.Common.{rules, ◌≡◌, ℕ, ◌<◌, [], ◌∷◌, ◌++◌, eqb, arith, ap, subst, ◌∙◌, sym, refl, append_assoc}
-use Rattle.frame_core.proofs.Names.{Shape, LoadFrame, Exchange, Life, Idle, aim_of}
+use Rattle.frame_table.proofs.CoreNames.{Shape, LoadFrame, Exchange, Life, Idle, aim_of}
 use Rattle.frame_table.proofs.Names.{Zero, Old, Won, lookup_so_far, IsAlive, ReaderLog, IsIn, shape_in, log_in, known_in}
 use Rattle.frame_table.proofs.Looks.{Tries, begins, stands, last_round, goes_on, word_names, same_table, tried_so_far}
 use Rattle.frame_table.proofs.pass.Pass.find.Goals as goal

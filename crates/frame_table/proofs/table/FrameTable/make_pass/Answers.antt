@@ -1,5 +1,5 @@
 use Rattle.std.proofs.Common.{rules, ◌≡◌, ◌≤◌, ℕ, refl, ap, ◌∙◌, arith}
-use Rattle.frame_core.proofs.Names.{Shape, frames_of}
+use Rattle.frame_table.proofs.CoreNames.{Shape, frames_of}
 use Rattle.atomic_table.specs.Table.{Splits}
 use Rattle.frame_table.proofs.Names.{Holds, Sat, one_more, newcomer}
 use Rattle.frame_table.proofs.Allowed.{turned}

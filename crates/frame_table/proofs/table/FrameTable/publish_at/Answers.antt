@@ -1,5 +1,5 @@
 use Rattle.std.proofs.Common.{rules, ◌≡◌, ◌<◌, ◌%◌, ℕ, ap, subst, refl, arith}
-use Rattle.frame_core.proofs.Names.{IsShape, Publish}
+use Rattle.frame_table.proofs.CoreNames.{IsShape, Publish}
 use Rattle.frame_table.specs.Keeping.{Keeps}
 use Rattle.frame_core.proofs.Above.{frames_at_most}
 use Rattle.frame_table.proofs.KeeperCalls.{may_publish}

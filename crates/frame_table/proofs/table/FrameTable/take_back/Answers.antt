@@ -1,5 +1,5 @@
 use Rattle.std.proofs.Common.{rules, ◌≡◌, ◌≤◌, sym, ap, ◌∙◌, arith, subst}
-use Rattle.frame_core.proofs.Names.{Shape, frames_of, Idle}
+use Rattle.frame_table.proofs.CoreNames.{Shape, frames_of, Idle}
 use Rattle.atomic_table.specs.Table.{Joins}
 use Rattle.frame_table.proofs.Names.{Spent, Holds, Sat, IsIn, shape_in, log_in, order_in, one_less}
 use Rattle.frame_core.proofs.Above.{frames_at_least}
