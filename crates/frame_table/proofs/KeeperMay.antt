@@ -4,7 +4,6 @@ use Rattle.std.proofs.lemmas.List.{map-set}
 use mathlib.Core.Option.{some}
 use lib.ListN.{get_elem?}
 use Rattle.atomic_table.specs.Table.{keeps, Allows}
-use Rattle.atomic_table.proofs.Lists.{at_set}
 use Rattle.frame_table.proofs.CoreNames.{Shape, frames_of, Event, KeeperStep, Ledger, Phase, Spent as spent_phase, keeper_finds, ledger_after, MayStep, step, only_if, after_keeper, words_of, History, run_of, log_of, keeper_log_of}
 use Rattle.frame_core.specs.declared.event.Event.TheVariants as event
 use Rattle.frame_core.specs.State as core
@@ -12,6 +11,7 @@ use Rattle.frame_core.specs.Rule as core_rule
 use Rattle.frame_core.proofs.Above.{decides}
 use Rattle.frame_table.proofs.Names.{Tally, View, Keeper, Reader, Spent, KeeperLog, keeps_ledger, phase_of, Holds, IsAfter, Tied, Keeps, keeper_word, keeper_written, found_by, knows, IsKeeperStep}
 use Rattle.frame_table.proofs.KeeperWords.{keeper_words}
+use Rattle.frame_table.proofs.Looked.{each_put}
 use Rattle.frame_table.proofs.Making.{kept, seen, ran, present, made}
 use Rattle.frame_table.proofs.Orders.{begins_itself}
 
@@ -47,9 +47,7 @@ pub keeper_retold : (sh : Shape) (h : History) (tally tally' : Tally) (words : L
 keeper_retold sh h tally tally' words views v w keeper told at is = record {
   words_are = is.words_are;
   phases_are = map-set phase_of views 0 w ∙ (ap (λ (l : List Phase). set l 0 (phase_of w)) is.phases_are ∙ (λ i. keeper i ∷ h.state.seats));
-  tied = λ j v of. ⊎_elim (λ (k : (j ≡ 0) × (w ≡ v)). subst (λ (x : ℕ × View). Tied sh h tally' x.0 x.1) (λ i. (sym k.0 i, k.1 i)) told)
-      (λ (k : (j ≢ 0) × (get_elem? views j ≡ some v)). tied_beside_keeper sh h h tally tally' j v (λ q. refl) k.0 (is.tied j v k.1))
-      (at_set views 0 j w v of);
+  tied = each_put (Tied sh h tally') views 0 w told (λ j x ne of. tied_beside_keeper sh h h tally tally' j x (λ q. refl) ne (is.tied j x of));
 }
 
 -- an operation that leaves what the step leaves may make a step of the keeper, whatever the table is

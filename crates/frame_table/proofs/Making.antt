@@ -4,13 +4,13 @@ use Rattle.std.proofs.lemmas.List.{map-set, set-append_left}
 use Rattle.std.proofs.lemmas.Option.{slice_get_within, get_or_from_slice_get}
 use mathlib.Core.Option.{some}
 use lib.ListN.{get_elem?}
-use Rattle.atomic_table.proofs.Lists.{at_set, at_map, at_longer, set_here}
+use Rattle.atomic_table.proofs.Lists.{at_map, at_longer, set_here}
 use Rattle.frame_table.proofs.CoreNames.{Shape, Event, Phase, Idle, Spent as spent_phase, phase_at, step, words_of, History, run_of}
 use Rattle.frame_core.specs.State as core
 use Rattle.frame_core.specs.Rule as core_rule
 use Rattle.frame_core.proofs.Above.{count_set, run_rule, run_step}
 use Rattle.frame_table.proofs.Names.{Tally, View, Reader, Begins, IsPresent, phase_of, order_of, Moment, Holds, IsInOrder, Tied, all_views, is_out}
-use Rattle.frame_table.proofs.Looked.{got}
+use Rattle.frame_table.proofs.Looked.{got, each_put}
 use Rattle.frame_table.proofs.Orders.{in_order_more}
 
 -- one view is another
@@ -89,14 +89,10 @@ module _ (sh : Shape) (t : Moment) (h : Holds sh t) where
             words_are = words ∙ ap (λ (x : History). words_of x.state) (sym ran);
             phases_are = ap (map phase_of) same ∙ (map-set phase_of all j w ∙ (ap (λ (l : List Phase). set l j (phase_of w)) h.after.phases_are
                 ∙ (phases ∙ ap (λ (x : History). spent_phase ∷ x.state.seats) (sym ran))));
-            tied = λ i x of. subst (λ (g : History). Tied sh g h.tally i x) (sym ran) (⊎_elim
-                (λ (a : (i ≡ j) × (w ≡ x)). subst (λ (y : ℕ × View). Tied sh next h.tally y.0 y.1) (λ k. (sym a.0 k, a.1 k)) told)
-                (λ (a : (i ≢ j) × (get_elem? all i ≡ some x)). others i x a.0 (h.after.tied i x a.1))
-                (at_set all j i w x (subst (λ (l : List View). get_elem? l i ≡ some x) same of)));
+            tied = λ i x of. subst (λ (g : History). Tied sh g h.tally i x) (sym ran) (each_put (Tied sh next h.tally) all j w told
+                (λ k y ne there. others k y ne (h.after.tied k y there)) i x (subst (λ (l : List View). get_elem? l i ≡ some x) same of));
           };
           out = out_same t.views j v w at out ∙ h.out;
-          orders = λ i x of. ⊎_elim (λ (a : (i ≡ j) × (w ≡ x)). subst (λ (y : ℕ × View). IsInOrder sh events y.0 y.1) (λ k. (sym a.0 k, a.1 k)) ordered)
-              (λ (a : (i ≢ j) × (get_elem? t.views i ≡ some x)). in_order_more sh h.events (this ∷ []) i x (h.orders i x a.1))
-              (at_set t.views j i w x of);
+          orders = each_put (IsInOrder sh events) t.views j w ordered (λ i x ne there. in_order_more sh h.events (this ∷ []) i x (h.orders i x there));
           longest = (j, w, set_here t.views j w (slice_get_within t.views j v (got t.views j v at)), order);
         }

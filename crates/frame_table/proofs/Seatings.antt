@@ -8,13 +8,13 @@ use mathlib.Core.Logic.{dite}
 use native.Mathlib.Decide.{ℕ_discrete}
 use lib.ListN.{get_elem?}
 use Rattle.atomic_table.specs.Table.{Splits, Joins, Seen, Final}
-use Rattle.atomic_table.proofs.Lists.{at_set, at_map, at_longer, at_snoc, set_again, set_here, set_else}
+use Rattle.atomic_table.proofs.Lists.{at_map, at_longer, at_snoc, set_again, set_here, set_else}
 use Rattle.frame_table.proofs.CoreNames.{Shape, Event, Ledger, Phase, Idle, Spent as spent_phase, count_in, life_in, words_of, History, run_of, keeper_log_of, is_on, readers_on}
 use Rattle.frame_core.specs.State as core
 use Rattle.frame_core.specs.Rule as core_rule
 use Rattle.frame_core.proofs.Above.{count_set, count_found, life_found, word_get, place_get}
 use Rattle.frame_table.proofs.Names.{Tally, View, Keeper, Reader, Spent, ReaderLog, KeeperLog, phase_of, order_of, tally_of, Begins, later, Moment, Holds, IsAfter, IsInOrder, Tied, all_views, is_out, one_more, newcomer, one_less, Ends}
-use Rattle.frame_table.proofs.Looked.{got}
+use Rattle.frame_table.proofs.Looked.{got, each_put}
 use Rattle.frame_table.proofs.Orders.{begins_shorter, begins_whole, later_is, between, keeper_log_grows}
 use Rattle.frame_table.proofs.Making.{all_set, out_same, kept, seen}
 use Rattle.frame_table.proofs.KeeperMay.{keeper_retold}
@@ -34,8 +34,7 @@ module _ (sh : Shape) where
     words_are = is.words_are;
     phases_are = map-set phase_of views (suc q) Spent
         ∙ (set_again (map phase_of views) (suc q) Idle (at_map phase_of views (suc q) (Reader sh Idle log order) at) ∙ is.phases_are);
-    tied = λ j v of. ⊎_elim (λ (k : (j ≡ suc q) × (Spent ≡ v)). subst (λ (x : ℕ × View). Tied sh h tally x.0 x.1) (λ i. (sym k.0 i, k.1 i)) tt)
-        (λ (k : (j ≢ suc q) × (get_elem? views j ≡ some v)). is.tied j v k.1) (at_set views (suc q) j Spent v of);
+    tied = each_put (Tied sh h tally) views (suc q) Spent tt (λ j v ne of. is.tied j v of);
   }
 
 -- ---------------------------------------------------------------- the orders, where a view changes
@@ -45,12 +44,6 @@ apart q e = omega (arith, e)
 
 abbrev Longest : List Event → List View → Type 0
 Longest events views = (j : ℕ) × (v : View) × (get_elem? views j ≡ some v) × (order_of v ≡ events)
-
-orders_set : (sh : Shape) (events : List Event) (views : List View) (i : ℕ) (w : View) → ((j : ℕ) (v : View) → get_elem? views j ≡ some v → IsInOrder sh events j v)
-    → IsInOrder sh events i w → (j : ℕ) (v : View) → get_elem? (set views i w) j ≡ some v → IsInOrder sh events j v
-orders_set sh events views i w orders new j v at =
-    ⊎_elim (λ (k : (j ≡ i) × (w ≡ v)). subst (λ (x : ℕ × View). IsInOrder sh events x.0 x.1) (λ y. (sym k.0 y, k.1 y)) new)
-    (λ (k : (j ≢ i) × (get_elem? views j ≡ some v)). orders j v k.1) (at_set views i j w v at)
 
 -- a pass that is new has seen nothing
 new_in_order : (sh : Shape) (events : List Event) (j : ℕ) (v : View) → idle sh ≡ v → IsInOrder sh events j v
@@ -119,7 +112,7 @@ module _ (sh : Shape) (k : Ledger) (tally : Tally) (log : KeeperLog) (order : Li
         tally = tally';
         after = subst (IsAfter sh (run_of sh h.events) tally' t.words) (sym same) (retold t tally' order h at);
         out = omega (arith, sum_by-append (λ (v : View). cond (is_out v) 1 0) views (idle sh ∷ []), out_same t.views 0 keeper next at refl, passes_out t h at);
-        orders = λ j v of. ⊎_elim (orders_set sh h.events t.views 0 next h.orders (h.orders 0 keeper at) j v) (new_in_order sh h.events j v) (at_snoc views (idle sh) v j of);
+        orders = λ j v of. ⊎_elim (each_put (IsInOrder sh h.events) t.views 0 next (h.orders 0 keeper at) (λ k x ne. h.orders k x) j v) (new_in_order sh h.events j v) (at_snoc views (idle sh) v j of);
         longest = let l = longest_set h.events t.views 0 keeper next at refl h.longest in (l.0, l.1, at_longer views (idle sh ∷ []) l.0 l.1 l.2, l.3);
       }
 
@@ -168,7 +161,8 @@ module _ (sh : Shape) (k : Ledger) (tally : Tally) (log : KeeperLog) (order : Li
           out_same t.views 0 keeper next at refl,
           passes_out t h at,
         );
-        orders = orders_set sh h.events views (suc q) Spent (orders_set sh h.events t.views 0 next h.orders (joined h.events other first.0 second.0 first.1 tied.3)) tt;
+        orders = each_put (IsInOrder sh h.events) views (suc q) Spent tt
+            (λ j v ne. each_put (IsInOrder sh h.events) t.views 0 next (joined h.events other first.0 second.0 first.1 tied.3) (λ k x other_view. h.orders k x) j v);
         longest = dite (ℕ_discrete h.longest.0 (suc q))
             (λ here. let is : other ≡ h.events = sym (ap order_of (one_view t.views (suc q) h.longest.0 old h.longest.1 here was h.longest.2)) ∙ h.longest.3 in
             longest_else h.events views (suc q) Spent (longest_here h.events t.views 0 keeper next at (longer_is h.events other first.0 second.0 (inr is))) (apart q))

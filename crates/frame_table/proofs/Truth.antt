@@ -3,10 +3,11 @@ use Rattle.std.proofs.Common.{◌≡◌, ℕ, zero, suc, ◌<◌, ◌≤◌, ◌
 use Rattle.std.proofs.lemmas.List.{length-map}
 use mathlib.Core.Option.{some, some-injective, some-ne-none}
 use lib.ListN.{get_elem?}
-use Rattle.atomic_table.proofs.Lists.{at_set, set_else}
+use Rattle.atomic_table.proofs.Lists.{set_else}
 use Rattle.frame_table.proofs.CoreNames.{Shape, Event, Idle, State, History, history_with, run_of, log_of, keeper_log_of}
 use Rattle.frame_core.proofs.Above.{run_rule}
 use Rattle.frame_table.proofs.Names.{View, Keeper, Reader, Spent, Begins, later, Holds, Tied, IsInOrder, all_views, Moment, IsOpen, phase_of, order_of}
+use Rattle.frame_table.proofs.Looked.{each_put}
 use Rattle.frame_table.proofs.Making.{seen}
 use Rattle.frame_table.proofs.Opening.{copied}
 use Rattle.frame_table.proofs.Orders.{begins_shorter, later_is, between, log_grows, keeper_log_grows}
@@ -62,10 +63,8 @@ module _ (sh : Shape) (t : Moment) (h : Holds sh t) (j : ℕ) where
 
   -- what the others have seen is a beginning of all steps
   pub seen_begins : Begins (longest_of others) h.events
-  seen_begins = longest_begins others h.events (λ i v at. ⊎_elim
-      (λ (k : (i ≡ j) × (Spent ≡ v)). subst (λ (w : View). Begins (order_of w) h.events) k.1 (h.events, refl))
-      (λ (k : (i ≢ j) × (get_elem? t.views i ≡ some v)). order_begins sh (past h.events) h.tally h.events i v (h.orders i v k.1) (seen sh t h i v k.1))
-      (at_set t.views j i Spent v at))
+  seen_begins = longest_begins others h.events (each_put (λ i v. Begins (order_of v) h.events) t.views j Spent (h.events, refl)
+      (λ i v ne at. order_begins sh (past h.events) h.tally h.events i v (h.orders i v at) (seen sh t h i v at)))
 
   -- what is told of a part of the trace by an order that another has, is told by the longest of them
   told : {A : Type 0} (part : History → List A) → ((g : History) (e : Event) (r : ℕ × State) → Begins (part g) (part (history_with g e (Some r))))

@@ -44,21 +44,15 @@ shape_of Spent = no_shape
 abbrev pub shape_in : Sat → Shape
 shape_in m = shape_of m.0
 
-abbrev pub entries : View → ReaderLog
-entries (Reader sh phase log order) = log
-entries _ = []
-
 -- what a reader's seat has done
 abbrev pub log_in : Sat → ReaderLog
-log_in m = entries m.0
-
-abbrev pub words_known : View → List (Option ℕ)
-words_known (Reader sh (Held aim known) log order) = known
-words_known _ = []
+log_in (Reader sh phase log order, slots) = log
+log_in _ = []
 
 -- the words that a seat has read in its hold
 abbrev pub known_in : Sat → List (Option ℕ)
-known_in m = words_known m.0
+known_in (Reader sh (Held aim known) log order, slots) = known
+known_in _ = []
 
 -- a reader's seat
 abbrev pub sits : Shape → Phase → ReaderLog → List Event → Sat
@@ -71,29 +65,20 @@ IsIn sh phase m = m ≡ sits sh phase (log_in m) (order_in m)
 abbrev pub nothing_noted : Ledger
 nothing_noted = record { frames = []; places = [] }
 
-abbrev pub ledger_of_view : View → Ledger
-ledger_of_view (Keeper sh ledger tally log order) = ledger
-ledger_of_view _ = nothing_noted
-
 -- what the keeper's seat knows
 abbrev pub ledger_in : Sat → Ledger
-ledger_in m = ledger_of_view m.0
-
-abbrev pub tally_of_view : View → Tally
-tally_of_view (Keeper sh ledger tally log order) = tally
-tally_of_view _ = record { unmade = 0; out = 0 }
+ledger_in (Keeper sh ledger tally log order, slots) = ledger
+ledger_in _ = nothing_noted
 
 -- how many passes there are, by the keeper's seat
 abbrev pub tally_in : Sat → Tally
-tally_in m = tally_of_view m.0
-
-abbrev pub keeper_entries : View → KeeperLog
-keeper_entries (Keeper sh ledger tally log order) = log
-keeper_entries _ = []
+tally_in (Keeper sh ledger tally log order, slots) = tally
+tally_in _ = record { unmade = 0; out = 0 }
 
 -- what the keeper's seat has done
 abbrev pub keeper_log : Sat → KeeperLog
-keeper_log m = keeper_entries m.0
+keeper_log (Keeper sh ledger tally log order, slots) = log
+keeper_log _ = []
 
 -- the keeper's seat
 abbrev pub keeps_ledger : Shape → Ledger → Tally → KeeperLog → List Event → Sat
