@@ -1,5 +1,5 @@
 -- Whatever the table is, a step of the keeper that the core allows keeps the table's rule.
-use Rattle.std.proofs.Common.{◌≡◌, ℕ, zero, suc, ◌<◌, ◌≢◌, Bool, List, [], ◌∷◌, ◌++◌, set, get_or, Some, refl, ap, sym, subst, ◌∙◌, ⊎_elim}
+use Rattle.std.proofs.Common.{◌≡◌, ℕ, zero, suc, ◌<◌, ◌≢◌, Bool, List, [], ◌∷◌, ◌++◌, set, get_or, Some, refl, ap, sym, subst, ◌∙◌}
 use Rattle.std.proofs.lemmas.List.{map-set}
 use mathlib.Core.Option.{some}
 use lib.ListN.{get_elem?}

@@ -1,5 +1,5 @@
 -- A step of the core that one seat has made keeps the table's rule.
-use Rattle.std.proofs.Common.{◌≡◌, ℕ, suc, ◌≢◌, Bool, cond, List, [], ◌∷◌, ◌++◌, replicate, map, set, get_or, slice_get, count_by, Some, ap, sym, subst, ◌∙◌, ⊎_elim, arith}
+use Rattle.std.proofs.Common.{◌≡◌, ℕ, suc, ◌≢◌, Bool, cond, List, [], ◌∷◌, ◌++◌, replicate, map, set, get_or, slice_get, count_by, Some, ap, sym, subst, ◌∙◌, arith}
 use Rattle.std.proofs.lemmas.List.{map-set, set-append_left}
 use Rattle.std.proofs.lemmas.Option.{slice_get_within, get_or_from_slice_get}
 use mathlib.Core.Option.{some}
