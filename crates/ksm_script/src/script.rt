@@ -1,5 +1,5 @@
 //! Runs of a session over a reader and a writer.
-ghost use Rattle.std.specs.Prelude.{◌≡◌, All, Some, OnOk, IfErr};
+ghost use Rattle.std.specs.Prelude.{◌≡◌, All, Ok, Some, true, false, OnOk, IfErr};
 ghost use Rattle.std.specs.Io.Buffered.{reader_remaining, writer_contents};
 ghost use Rattle.std.specs.Io.KnownBytes.{Appends};
 ghost use Rattle.ksm_script.specs.declared.reply.LineReply.{LineReply};
@@ -7,7 +7,7 @@ ghost use Rattle.ksm_script.specs.Answering.{reply_text};
 ghost use Rattle.ksm_script.specs.Replies.{text_of};
 ghost use Rattle.ksm_script.specs.Lookups.{IsIdle};
 ghost use Rattle.ksm_script.specs.LastLine.{EndsBad};
-ghost use Rattle.ksm_script.specs.Script.{Goes, IsReadAs, Runs, streams};
+ghost use Rattle.ksm_script.specs.Script.{AnsweredOne, AnsweredPart, Goes, IsReadAs, Runs, streams};
 ghost use Rattle.ksm_script.specs.Texts.{AppendsPart};
 
 use crate::input::{ByBlocks, ByBytes, LineEnd, TakesLines};
@@ -94,6 +94,10 @@ fn run_by<M: TakesLines<R, W>, N: Naming, T: Threads + Wait + Sync, R, W: Write>
     ensures line { EndsBad (M.remaining reader.old) (M.remaining reader.new) session.new.line result }
 {
     'lines: for number in 1..u64::MAX {
+        let answered = answer_whole::<M, N, T, R, W>(rt, reader, writer, session)?;
+        if answered {
+            continue;
+        }
         let end = session.read_next::<M, R, W>(reader, writer)?;
         if end == LineEnd::Input && session.line().is_empty() {
             return Ok(End::AllRead);
@@ -111,6 +115,28 @@ fn run_by<M: TakesLines<R, W>, N: Naming, T: Threads + Wait + Sync, R, W: Write>
         }
     }
     Err(RunFault::Read)
+}
+
+/// Answers the next line at once, if it is at hand and one of the forms; tells whether it did. Else nothing is read.
+#[inline(always)]
+fn answer_whole<M: TakesLines<R, W>, N: Naming, T: Threads + Wait + Sync, R, W: Write>(
+    rt: &T,
+    reader: &mut R,
+    writer: &mut W,
+    session: &mut Session<N>,
+) -> Result<bool, RunFault>
+    ensures answered { result ≡ Ok true → AnsweredOne (streams (M.remaining reader.old) (M.remaining reader.new) (W.contents writer.old) (W.contents writer.new))
+        session.old.state session.new.state }
+    ensures none { result ≡ Ok false → (session.new ≡ session.old) × (reader.new ≡ reader.old) × (writer.new ≡ writer.old) }
+    ensures fault { IfErr result (λ e. (e ≡ RunFault.Write)
+        × AnsweredPart (streams (M.remaining reader.old) (M.remaining reader.new) (W.contents writer.old) (W.contents writer.new))
+        session.old.state session.new.state) }
+{
+    let Some(line) = M::take_whole(reader) else {
+        return Ok(false);
+    };
+    write_answer(writer, session.answer(rt, line))?;
+    Ok(true)
 }
 
 /// The line that was read last, if it is not too long and one of the forms.

@@ -1,4 +1,4 @@
-use Rattle.std.proofs.Common.{rules, ◌≡◌, ◌≢◌, ◌++◌, length, inl, inr, ℕ, subst, sym}
+use Rattle.std.proofs.Common.{rules, ◌≡◌, ◌≢◌, ◌++◌, Bool, ap, length, inl, inr, ℕ, subst, sym}
 use Rattle.std.proofs.KnownBytes.{Appends-nil, Appends-trans}
 use Rattle.ksm_script.specs.declared.input.LineEnd.TheVariants.{Input, Newline}
 use Rattle.ksm_script.specs.declared.reply.LineReply.TheVariants.{BadLine as bad_line}
@@ -6,16 +6,24 @@ use Rattle.ksm_script.specs.Answering.{reply_text}
 use Rattle.ksm_script.specs.Replies.{text_of}
 use Rattle.ksm_script.specs.Texts.{AppendsPart}
 use Rattle.ksm_script.proofs.Parts.{broken_after}
-use Rattle.ksm_script.proofs.Turns.{IsDone, read_as, nothing_yet, nothing_done, newline_open, in_state, answered_all, answered_last, goes_on, all_read, answered_to_bad, broke, ends_bad}
+use Rattle.ksm_script.proofs.Turns.{IsDone, told_so, not_answered, one_more, one_broken, read_as, nothing_yet, nothing_done, newline_open, in_state, answered_all, answered_last, goes_on, all_read, answered_to_bad, broke, ends_bad}
 use Rattle.ksm_script.proofs.script.run_by.Goals as goal
 
 pub lines-init : goal.lines-init
 lines-init g c = nothing_yet _ _ _
 
+pub returns-in_err-answered-clause-goes : goal.returns-in_err-answered-clause-goes
+returns-in_err-answered-clause-goes g c =
+    broke _ _ _ c.from_residual.result (search rules) (one_broken _ _ _ _ _ _ _ _ _ _ c.lines.invariant c.in_err-answered.ensures.fault.1)
+
+pub lines-preserved-then-answered : goal.lines-preserved-then-answered
+lines-preserved-then-answered g c =
+    one_more _ _ _ _ _ _ _ _ _ _ c.lines.invariant (c.in_ok-answered.ensures.answered (ap (λ (b : Bool). told_so b) c.if-answered.true))
+
 pub returns-in_err-write_reply-clause-goes : goal.returns-in_err-write_reply-clause-goes
 returns-in_err-write_reply-clause-goes g c =
     let now = c.in_ok-end.ensures in
-    let so = in_state _ _ _ _ _ _ _ _ _ now.state now.kept c.lines.invariant in
+    let so = in_state _ _ _ _ _ _ _ _ _ now.state now.kept (not_answered g.M.TakesLines.remaining g.W.Write.contents _ _ _ _ _ _ _ _ _ _ _ c.in_ok-answered.ensures.none c.if-answered.false c.lines.invariant) in
     let read = read_as _ _ _ c.in_ok-end.end now.read now.plain now.end in
     let part = subst (λ (n : ℕ). AppendsPart (g.W.Write.contents c.read_next.new.writer) (g.W.Write.contents c.write_reply.new.writer) (text_of (bad_line n))) (sym so.counted) c.in_err-write_reply.ensures.fault.1 in
     broke _ _ _ c.from_residual-in_err-write_reply.result (search rules)
@@ -24,21 +32,21 @@ returns-in_err-write_reply-clause-goes g c =
 pub returns-in_default-clause-goes : goal.returns-in_default-clause-goes
 returns-in_default-clause-goes g c =
     let now = c.in_ok-end.ensures in
-    let so = in_state _ _ _ _ _ _ _ _ _ now.state now.kept c.lines.invariant in
+    let so = in_state _ _ _ _ _ _ _ _ _ now.state now.kept (not_answered g.M.TakesLines.remaining g.W.Write.contents _ _ _ _ _ _ _ _ _ _ _ c.in_ok-answered.ensures.none c.if-answered.false c.lines.invariant) in
     let read = read_as _ _ _ c.in_ok-end.end now.read now.plain now.end in
     (so.text, so.count, sym so.counted, answered_to_bad _ _ _ _ _ _ _ _ _ _ so read c.in_default.field-0 c.in_default.ensures, Appends-trans _ _ _ so.text _ so.appended c.in_ok-write_reply.ensures.whole)
 
 pub returns-in_default-clause-line : goal.returns-in_default-clause-line
 returns-in_default-clause-line g c =
     let now = c.in_ok-end.ensures in
-    let so = in_state _ _ _ _ _ _ _ _ _ now.state now.kept c.lines.invariant in
+    let so = in_state _ _ _ _ _ _ _ _ _ now.state now.kept (not_answered g.M.TakesLines.remaining g.W.Write.contents _ _ _ _ _ _ _ _ _ _ _ c.in_ok-answered.ensures.none c.if-answered.false c.lines.invariant) in
     let read = read_as _ _ _ c.in_ok-end.end now.read now.plain now.end in
     ends_bad _ _ _ _ _ _ _ _ _ _ so read c.in_default.field-0 c.in_default.ensures
 
 pub returns-in_err-write_answer-clause-goes : goal.returns-in_err-write_answer-clause-goes
 returns-in_err-write_answer-clause-goes g c =
     let now = c.in_ok-end.ensures in
-    let so = in_state _ _ _ _ _ _ _ _ _ now.state now.kept c.lines.invariant in
+    let so = in_state _ _ _ _ _ _ _ _ _ now.state now.kept (not_answered g.M.TakesLines.remaining g.W.Write.contents _ _ _ _ _ _ _ _ _ _ _ c.in_ok-answered.ensures.none c.if-answered.false c.lines.invariant) in
     let read = read_as _ _ _ c.in_ok-end.end now.read now.plain now.end in
     let did : IsDone _ c.answer.new.self.state _ c.in_ok-end.end c.in-Ok.line c.answer.result =
     record { short = c.in-Ok.ensures.0; written = c.in-Ok.ensures.1; answers = c.answer.ensures.answers } in
@@ -49,7 +57,7 @@ returns-in_err-write_answer-clause-goes g c =
 pub returns-then-is_empty-clause-goes : goal.returns-then-is_empty-clause-goes
 returns-then-is_empty-clause-goes g c =
     let now = c.in_ok-end.ensures in
-    let so = in_state _ _ _ _ _ _ _ _ _ now.state now.kept c.lines.invariant in
+    let so = in_state _ _ _ _ _ _ _ _ _ now.state now.kept (not_answered g.M.TakesLines.remaining g.W.Write.contents _ _ _ _ _ _ _ _ _ _ _ c.in_ok-answered.ensures.none c.if-answered.false c.lines.invariant) in
     let read = read_as _ _ _ c.in_ok-end.end now.read now.plain now.end in
     let last : c.in_ok-end.end ≡ Input = search rules in
     let empty : length c.read_next.new.self.line ≡ 0 = search rules in
@@ -58,7 +66,7 @@ returns-then-is_empty-clause-goes g c =
 pub returns-then-eq-3-clause-goes : goal.returns-then-eq-3-clause-goes
 returns-then-eq-3-clause-goes g c =
     let now = c.in_ok-end.ensures in
-    let so = in_state _ _ _ _ _ _ _ _ _ now.state now.kept c.lines.invariant in
+    let so = in_state _ _ _ _ _ _ _ _ _ now.state now.kept (not_answered g.M.TakesLines.remaining g.W.Write.contents _ _ _ _ _ _ _ _ _ _ _ c.in_ok-answered.ensures.none c.if-answered.false c.lines.invariant) in
     let read = read_as _ _ _ c.in_ok-end.end now.read now.plain now.end in
     let last : c.in_ok-end.end ≡ Input = search rules in
     let did : IsDone _ c.answer.new.self.state _ c.in_ok-end.end c.in-Ok.line c.answer.result =
@@ -69,7 +77,7 @@ pub lines-preserved : goal.lines-preserved
 lines-preserved g c =
     let open_end : c.in_ok-end.end ≢ Input = search rules in
     let now = c.in_ok-end.ensures in
-    let so = in_state _ _ _ _ _ _ _ _ _ now.state now.kept c.lines.invariant in
+    let so = in_state _ _ _ _ _ _ _ _ _ now.state now.kept (not_answered g.M.TakesLines.remaining g.W.Write.contents _ _ _ _ _ _ _ _ _ _ _ c.in_ok-answered.ensures.none c.if-answered.false c.lines.invariant) in
     let read = read_as _ _ _ c.in_ok-end.end now.read now.plain now.end in
     let did : IsDone _ c.answer.new.self.state _ c.in_ok-end.end c.in-Ok.line c.answer.result =
     record { short = c.in-Ok.ensures.0; written = c.in-Ok.ensures.1; answers = c.answer.ensures.answers } in
@@ -78,7 +86,7 @@ lines-preserved g c =
 pub lines-preserved-then-is_empty-2 : goal.lines-preserved-then-is_empty-2
 lines-preserved-then-is_empty-2 g c =
     let now = c.in_ok-end.ensures in
-    let so = in_state _ _ _ _ _ _ _ _ _ now.state now.kept c.lines.invariant in
+    let so = in_state _ _ _ _ _ _ _ _ _ now.state now.kept (not_answered g.M.TakesLines.remaining g.W.Write.contents _ _ _ _ _ _ _ _ _ _ _ c.in_ok-answered.ensures.none c.if-answered.false c.lines.invariant) in
     let read = read_as _ _ _ c.in_ok-end.end now.read now.plain now.end in
     let is : c.in_ok-end.end ≡ Newline = search rules in
     let empty : length c.read_next.new.self.line ≡ 0 = search rules in
