@@ -145,10 +145,6 @@ fn take_block<R: Read>(reader: &mut BufReader<R>, line: &mut LineBuffer) -> Opti
     ensures source { reader_inner reader.new ≡ reader_inner reader.old }
 {
     let buffer = reader.buffer();
-    if let [b'\n', ..] = buffer {
-        reader.consume(1);
-        return Some(LineEnd::Newline);
-    }
     let block = &buffer[..buffer.len().min(line.room())];
     match memchr(b'\n', block) {
         Some(at) => {

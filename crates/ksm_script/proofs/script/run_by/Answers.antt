@@ -1,5 +1,7 @@
-use Rattle.std.proofs.Common.{rules, ◌≡◌, ◌≢◌, ◌++◌, Bool, ap, length, inl, inr, ℕ, subst, sym}
+use Rattle.std.proofs.Common.{rules, ◌≡◌, ◌≢◌, ◌++◌, Bool, ap, length, inl, inr, ℕ, List, [], subst, sym}
 use Rattle.std.proofs.KnownBytes.{Appends-nil, Appends-trans}
+use Rattle.std.proofs.lemmas.List.{append-nil}
+use Rattle.std.specs.Io.KnownBytes.{Consumes}
 use Rattle.ksm_script.specs.declared.input.LineEnd.TheVariants.{Input, Newline}
 use Rattle.ksm_script.specs.declared.reply.LineReply.TheVariants.{BadLine as bad_line}
 use Rattle.ksm_script.specs.Answering.{reply_text}
@@ -48,8 +50,8 @@ returns-in_err-write_answer-clause-goes g c =
     let now = c.in_ok-end.ensures in
     let so = in_state _ _ _ _ _ _ _ _ _ now.state now.kept (not_answered g.M.TakesLines.remaining g.W.Write.contents _ _ _ _ _ _ _ _ _ _ _ c.in_ok-answered.ensures.none c.if-answered.false c.lines.invariant) in
     let read = read_as _ _ _ c.in_ok-end.end now.read now.plain now.end in
-    let did : IsDone _ c.answer.new.self.state _ c.in_ok-end.end c.in-Ok.line c.answer.result =
-    record { short = c.in-Ok.ensures.0; written = c.in-Ok.ensures.1; answers = c.answer.ensures.answers } in
+    let did : IsDone _ c.answer-reply.new.self.state _ c.in_ok-end.end c.in-Ok.line c.answer-reply.result =
+    record { short = c.in-Ok.ensures.0; written = c.in-Ok.ensures.1; answers = c.answer-reply.ensures.answers } in
     let broken = c.in_err-write_answer.ensures.fault in
     broke _ _ _ c.from_residual-in_err-write_answer.result (search rules)
     (inl (so.text, broken.1, answered_last _ _ _ _ _ _ _ _ _ _ so read _ _ _ did broken.1 broken.2, broken_after _ _ _ so.text _ so.appended broken.3))
@@ -69,9 +71,9 @@ returns-then-eq-3-clause-goes g c =
     let so = in_state _ _ _ _ _ _ _ _ _ now.state now.kept (not_answered g.M.TakesLines.remaining g.W.Write.contents _ _ _ _ _ _ _ _ _ _ _ c.in_ok-answered.ensures.none c.if-answered.false c.lines.invariant) in
     let read = read_as _ _ _ c.in_ok-end.end now.read now.plain now.end in
     let last : c.in_ok-end.end ≡ Input = search rules in
-    let did : IsDone _ c.answer.new.self.state _ c.in_ok-end.end c.in-Ok.line c.answer.result =
-    record { short = c.in-Ok.ensures.0; written = c.in-Ok.ensures.1; answers = c.answer.ensures.answers } in
-    (so.text ++ reply_text c.answer.result, answered_all _ _ _ _ _ _ _ _ _ _ so read _ _ _ did, Appends-trans _ _ _ so.text _ so.appended c.in_ok-write_answer.ensures.whole, read.last last)
+    let did : IsDone _ c.answer-reply.new.self.state _ c.in_ok-end.end c.in-Ok.line c.answer-reply.result =
+    record { short = c.in-Ok.ensures.0; written = c.in-Ok.ensures.1; answers = c.answer-reply.ensures.answers } in
+    (so.text ++ reply_text c.answer-reply.result, answered_all _ _ _ _ _ _ _ _ _ _ so read _ _ _ did, Appends-trans _ _ _ so.text _ so.appended c.in_ok-write_answer.ensures.whole, read.last last)
 
 pub lines-preserved : goal.lines-preserved
 lines-preserved g c =
@@ -79,8 +81,8 @@ lines-preserved g c =
     let now = c.in_ok-end.ensures in
     let so = in_state _ _ _ _ _ _ _ _ _ now.state now.kept (not_answered g.M.TakesLines.remaining g.W.Write.contents _ _ _ _ _ _ _ _ _ _ _ c.in_ok-answered.ensures.none c.if-answered.false c.lines.invariant) in
     let read = read_as _ _ _ c.in_ok-end.end now.read now.plain now.end in
-    let did : IsDone _ c.answer.new.self.state _ c.in_ok-end.end c.in-Ok.line c.answer.result =
-    record { short = c.in-Ok.ensures.0; written = c.in-Ok.ensures.1; answers = c.answer.ensures.answers } in
+    let did : IsDone _ c.answer-reply.new.self.state _ c.in_ok-end.end c.in-Ok.line c.answer-reply.result =
+    record { short = c.in-Ok.ensures.0; written = c.in-Ok.ensures.1; answers = c.answer-reply.ensures.answers } in
     goes_on _ _ _ _ _ _ _ _ _ _ so read _ _ _ did _ open_end c.in_ok-write_answer.ensures.whole
 
 pub lines-preserved-then-is_empty-2 : goal.lines-preserved-then-is_empty-2
@@ -92,3 +94,9 @@ lines-preserved-then-is_empty-2 g c =
     let empty : length c.read_next.new.self.line ≡ 0 = search rules in
     let ended = newline_open c.in_ok-end.end is in
     goes_on _ _ _ _ _ _ _ _ _ _ so read _ _ _ (nothing_done _ _ _ ended.1 empty) _ ended.0 (Appends-nil _)
+
+pub returns-clause-goes : goal.returns-clause-goes
+returns-clause-goes g c =
+    let so = c.lines.invariant in
+    let consumed = subst (λ (t : List ℕ). Consumes (g.M.TakesLines.remaining c.args.reader.now) (g.M.TakesLines.remaining c.lines.reader) t) (sym (append-nil so.lines)) so.consumed in
+    (so.text, so.count, [], (search rules), (search rules), (so.lines, so.answered, consumed), so.appended)
