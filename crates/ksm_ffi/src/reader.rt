@@ -39,13 +39,12 @@ impl Model for Reader {
     ghost invariant = { λ r. IsOf r.table.value (phase_of r.pass r.held) };
 }
 
-// Puts the pass back where it was taken from.
+// Puts the pass back where it was taken from. That nothing is there is proved, and so not tested.
 fn rest(slot: &mut Option<Pass>, pass: Pass)
     requires { slot.old ≡ None }
     ensures { slot.new ≡ Some pass }
 {
-    let gone = slot.replace(pass);
-    let None = gone else { unreachable!() };
+    let _none = unsafe { ManuallyDrop::new_unchecked(slot.replace(pass)) };
 }
 
 // Keeps a hold.
@@ -143,16 +142,21 @@ impl Reader {
         ensures looked { LooksUpAll self.old place result words.new self.new }
         ensures kept { result ≢ answer.Done → words.new ≡ words.old }
     {
-        let Some(pass) = self.pass.take() else {
+        let Some(_) = &self.pass else {
             return Answer::Holding;
         };
-        if place >= self.table.places() {
+        let Some(pass) = self.pass.take() else {
+            unreachable!()
+        };
+        // Found once: behind a step of a word the compiler would look where the table stands anew.
+        let table: &FrameTable = &self.table;
+        if place >= table.places() {
             rest(&mut self.pass, pass);
             return Answer::Range;
         }
-        match pass.find(&self.table, place) {
+        match pass.find(table, place) {
             Found::Held(held) => {
-                let pass = read_and_leave(&self.table, held, words);
+                let pass = read_and_leave(table, held, words);
                 rest(&mut self.pass, pass);
                 Answer::Done
             }
