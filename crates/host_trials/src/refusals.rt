@@ -9,71 +9,32 @@ use std::test::Fail;
 const WORDS: &str = "ksmbook --nodes 2 --frames 2 --passes 1";
 
 /// Lines with their replies, and why those that are refused are. They have each refusal but that of memory.
-const ROWS: [(&str, &str, &str); 27] = [
-    ("set merge_across_nodes 0", "ok", ""),
-    (
-        "get 0 0",
-        "refused 2",
-        "there is no such page, or no page of the guest",
-    ),
-    ("reg 0 0 0 aa", "ok", ""),
-    (
-        "reg 0 0 0 aa",
-        "refused 3",
-        "the page is registered already",
-    ),
-    ("reg 0 1 0 aa", "ok", ""),
-    ("reg 0 2 0 bb", "refused 4", "no frame of node 0 is free"),
-    ("reg 0 2 2 bb", "refused 11", "there is no such node"),
-    ("scan 4", "refused 5", "no scan runs while run is not 1"),
-    (
-        "set run 3",
-        "refused 7",
-        "the value is out of the knob's range",
-    ),
-    ("set run 1", "ok", ""),
-    ("scan 4", "scanned 4", ""),
-    (
-        "set max_page_sharing 2",
-        "refused 6",
-        "the knob stays as it is while pages are shared",
-    ),
-    (
-        "rmap 1",
-        "refused 10",
-        "no dup with pages stands at the place, or there is no such place",
-    ),
-    (
-        "movedup 0 1",
-        "refused 9",
-        "the dup would cross nodes while merge_across_nodes is 0",
-    ),
-    ("find 0 0", "held 0 1", ""),
-    (
-        "find 0 0",
-        "refused 13",
-        "the pass holds a frame, or at an audit each pass does",
-    ),
-    (
-        "audit",
-        "refused 13",
-        "the pass holds a frame, or at an audit each pass does",
-    ),
-    ("movedup 0 0", "refused 8", "a pass holds the frame"),
-    ("leave 0", "ok", ""),
-    ("leave 0", "refused 14", "the pass holds no frame"),
-    ("look 1", "refused 12", "there is no such pass"),
-    ("reg 0 2 0 bb", "ok", ""),
-    ("reg 1 0 1 cc", "ok", ""),
-    ("reg 1 1 1 dd", "ok", ""),
-    (
-        "unmerge 0",
-        "unmerged 0 refused 4",
-        "no frame of node 0 is free",
-    ),
-    ("move 0 0 1", "refused 4", "no frame of node 1 is free"),
-    ("", "", ""),
-];
+const ROWS: &str = "set merge_across_nodes 0|ok|
+get 0 0|refused 2|there is no such page, or no page of the guest
+reg 0 0 0 aa|ok|
+reg 0 0 0 aa|refused 3|the page is registered already
+reg 0 1 0 aa|ok|
+reg 0 2 0 bb|refused 4|no frame of node 0 is free
+reg 0 2 2 bb|refused 11|there is no such node
+scan 4|refused 5|no scan runs while run is not 1
+set run 3|refused 7|the value is out of the knob's range
+set run 1|ok|
+scan 4|scanned 4|
+set max_page_sharing 2|refused 6|the knob stays as it is while pages are shared
+rmap 1|refused 10|no dup with pages stands at the place, or there is no such place
+movedup 0 1|refused 9|the dup would cross nodes while merge_across_nodes is 0
+find 0 0|held 0 1|
+find 0 0|refused 13|the pass holds a frame, or at an audit each pass does
+audit|refused 13|the pass holds a frame, or at an audit each pass does
+movedup 0 0|refused 8|a pass holds the frame
+leave 0|ok|
+leave 0|refused 14|the pass holds no frame
+look 1|refused 12|there is no such pass
+reg 0 2 0 bb|ok|
+reg 1 0 1 cc|ok|
+reg 1 1 1 dd|ok|
+unmerge 0|unmerged 0 refused 4|no frame of node 0 is free
+move 0 0 1|refused 4|no frame of node 1 is free";
 
 /// Each refusal is said behind its reply, with the number of its line and the line; and what is printed is the same where none is said.
 #[test]
@@ -81,12 +42,17 @@ fn each_refusal_is_said(rt: HostRuntime) -> Result<(), Fail> {
     let mut script = String::new(rt.alloc());
     let mut replies = String::new(rt.alloc());
     let mut sentences = String::new(rt.alloc());
-    for (i, (line, reply, why)) in ROWS.iter().enumerate() {
-        let number = i + 1;
+    let mut number = 0u32;
+    for row in ROWS.split('\n') {
+        let Some((line, told)) = row.split_once('|') else {
+            return Err(Fail::from("a row"));
+        };
+        let Some((reply, why)) = told.split_once('|') else {
+            return Err(Fail::from("a reply"));
+        };
+        number = number.saturating_add(1);
         write!(script, "{line}\n")?;
-        if !reply.is_empty() {
-            write!(replies, "{reply}\n")?;
-        }
+        write!(replies, "{reply}\n")?;
         if let Some((_, refusal)) = reply.split_once("refused ") {
             write!(
                 sentences,

@@ -1,7 +1,6 @@
 -- The sentences that say why a line was refused (own).
 use Rattle.std.specs.Prelude.{ℕ, List, [], ◌∷◌, Option, None, Some, codes, decimal, option_map}
 use Rattle.std.specs.List.{concat}
-use Rattle.ksm_base.specs.declared.fault.Fault.{Fault}
 use Rattle.ksm_base.specs.declared.fault.Fault.TheVariants.{Memory, UnknownPage, AlreadyRegistered, NoFrame, NotRunning, SharedPages, BadValue, InUse, CrossesNodes, UnknownPlace, BadNode}
 use Rattle.ksm_script.specs.declared.refusal.Refusal.{Refusal}
 use Rattle.ksm_script.specs.declared.refusal.Refusal.TheVariants.{Book, NoPass, Holding, NotHolding}

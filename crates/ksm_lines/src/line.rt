@@ -1,5 +1,5 @@
 //! The lines of the language.
-ghost use Rattle.std.specs.Prelude.{◌≡◌, IfOk, IfSome, Ok, option_map};
+ghost use Rattle.std.specs.Prelude.{◌≡◌, IfOk, Ok, option_map};
 ghost use Rattle.ksm_lines.specs.declared.line.Line.{Line};
 ghost use Rattle.ksm_lines.specs.Grammar.{Writes, words_of};
 ghost use Rattle.ksm_lines.specs.declared.line.Line.TheVariants.{Get as line_get, Ticket as line_ticket, Look as line_look, Leave as line_leave};
@@ -122,35 +122,114 @@ pub fn read_line(bytes: &[u8]) -> Result<Line, LineFault>
     told_line(bytes)
 }
 
-/// The line that the bytes are, told by their words.
+// Each arm is the call that gives the line. A line in an arm of its own would be cleared before each line that is read.
+
+/// The line that the bytes are. The lines that come by the million are told by their first bytes.
 #[inline(always)]
 fn told_line(bytes: &[u8]) -> Result<Line, LineFault>
     ensures { Gives result (line_at (words_of bytes.now)) }
 {
-    if let Some(told) = told_at_once(bytes) {
-        return told;
+    match bytes {
+        [b'p', ..] => store_or_other(bytes),
+        [b'g', ..] => get_or_other(bytes),
+        [b'f', ..] => find_or_other(bytes),
+        [b'l', b'o', ..] => look_or_other(bytes),
+        [b'l', ..] => leave_or_other(bytes),
+        [b'e', ..] => equal_or_other(bytes),
+        [b't', ..] => ticket_or_other(bytes),
+        [b'r', b'e', ..] => register_or_other(bytes),
+        [b's', ..] => stat_or_other(bytes),
+        _ => told_by_words(bytes),
     }
+}
+
+/// The line that the bytes are, told by its first word.
+fn told_by_words(bytes: &[u8]) -> Result<Line, LineFault>
+    ensures { Gives result (line_at (words_of bytes.now)) }
+{
     let (name, left) = cut(bytes);
     named(name, left)
 }
 
-/// The same of a line that begins as those do that come by the million: it is told by its first bytes.
-#[inline(always)]
-fn told_at_once(bytes: &[u8]) -> Option<Result<Line, LineFault>>
-    ensures { IfSome result (λ told. Gives told (line_at (words_of bytes.now))) }
+fn store_or_other(bytes: &[u8]) -> Result<Line, LineFault>
+    ensures { Gives result (line_at (words_of bytes.now)) }
 {
-    match bytes {
-        [b'p', ..] => Some(store(Some(behind_name(bytes, b"put ")?))),
-        [b'g', ..] => Some(get(Some(behind_name(bytes, b"get ")?))),
-        [b's', ..] => is_name(bytes, b"stat").then_some(Ok(Line::Stat)),
-        [b'f', ..] => Some(find(Some(behind_name(bytes, b"find ")?))),
-        [b'l', b'o', ..] => Some(look(Some(behind_name(bytes, b"look ")?))),
-        [b'l', ..] => Some(leave(Some(behind_name(bytes, b"leave ")?))),
-        [b'e', ..] => Some(equal(Some(behind_name(bytes, b"equal ")?))),
-        [b't', ..] => Some(ticket(Some(behind_name(bytes, b"ticket ")?))),
-        [b'r', b'e', ..] => Some(register(Some(behind_name(bytes, b"reg ")?))),
-        _ => None,
+    match behind_name(bytes, b"put ") {
+        Some(left) => store(Some(left)),
+        None => told_by_words(bytes),
     }
+}
+
+fn get_or_other(bytes: &[u8]) -> Result<Line, LineFault>
+    ensures { Gives result (line_at (words_of bytes.now)) }
+{
+    match behind_name(bytes, b"get ") {
+        Some(left) => get(Some(left)),
+        None => told_by_words(bytes),
+    }
+}
+
+fn find_or_other(bytes: &[u8]) -> Result<Line, LineFault>
+    ensures { Gives result (line_at (words_of bytes.now)) }
+{
+    match behind_name(bytes, b"find ") {
+        Some(left) => find(Some(left)),
+        None => told_by_words(bytes),
+    }
+}
+
+fn look_or_other(bytes: &[u8]) -> Result<Line, LineFault>
+    ensures { Gives result (line_at (words_of bytes.now)) }
+{
+    match behind_name(bytes, b"look ") {
+        Some(left) => look(Some(left)),
+        None => told_by_words(bytes),
+    }
+}
+
+fn leave_or_other(bytes: &[u8]) -> Result<Line, LineFault>
+    ensures { Gives result (line_at (words_of bytes.now)) }
+{
+    match behind_name(bytes, b"leave ") {
+        Some(left) => leave(Some(left)),
+        None => told_by_words(bytes),
+    }
+}
+
+fn equal_or_other(bytes: &[u8]) -> Result<Line, LineFault>
+    ensures { Gives result (line_at (words_of bytes.now)) }
+{
+    match behind_name(bytes, b"equal ") {
+        Some(left) => equal(Some(left)),
+        None => told_by_words(bytes),
+    }
+}
+
+fn ticket_or_other(bytes: &[u8]) -> Result<Line, LineFault>
+    ensures { Gives result (line_at (words_of bytes.now)) }
+{
+    match behind_name(bytes, b"ticket ") {
+        Some(left) => ticket(Some(left)),
+        None => told_by_words(bytes),
+    }
+}
+
+fn register_or_other(bytes: &[u8]) -> Result<Line, LineFault>
+    ensures { Gives result (line_at (words_of bytes.now)) }
+{
+    match behind_name(bytes, b"reg ") {
+        Some(left) => register(Some(left)),
+        None => told_by_words(bytes),
+    }
+}
+
+fn stat_or_other(bytes: &[u8]) -> Result<Line, LineFault>
+    ensures { Gives result (line_at (words_of bytes.now)) }
+{
+    if is_name(bytes, b"stat") {
+        return Ok(Line::Stat);
+    }
+    told_by_words(bytes)
 }
 
 /// The line that begins with a name.
