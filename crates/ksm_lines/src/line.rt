@@ -1,13 +1,14 @@
 //! The lines of the language.
-ghost use Rattle.std.specs.Prelude.{◌≡◌, IfOk, Ok};
+ghost use Rattle.std.specs.Prelude.{◌≡◌, IfOk, IfSome, Ok, option_map};
 ghost use Rattle.ksm_lines.specs.declared.line.Line.{Line};
 ghost use Rattle.ksm_lines.specs.Grammar.{Writes, words_of};
-ghost use Rattle.ksm_lines.specs.Reading.{Gives, words_left};
+ghost use Rattle.ksm_lines.specs.declared.line.Line.TheVariants.{Get as line_get, Ticket as line_ticket, Look as line_look, Leave as line_leave};
+ghost use Rattle.ksm_lines.specs.Reading.{Gives, alone, number_of, page_alone, words_left};
 ghost use Rattle.ksm_lines.specs.Forms.{forms, managing_forms, look_up_forms, line_at, named_line, name_alone, register_at, store_at, scan_at, move_page_at, move_dup_at, set_at, find_at, equal_at};
 
 use crate::field::{
-    behind_name, content_alone, cut, ended, guest_alone, is, knob, number, number_alone, page,
-    page_alone, shown_alone,
+    behind_name, content_alone, cut, ended, guest_alone, is, is_name, knob, number, number_alone,
+    page, page_alone, shown_alone,
 };
 use crate::knob::{Knob, Shown};
 use ksm_base::{GuestPage, PageBytes};
@@ -121,31 +122,35 @@ pub fn read_line(bytes: &[u8]) -> Result<Line, LineFault>
     told_line(bytes)
 }
 
-/// The line that the bytes are, told by their words. The lines that come by the million are told by their first bytes.
+/// The line that the bytes are, told by their words.
 #[inline(always)]
 fn told_line(bytes: &[u8]) -> Result<Line, LineFault>
     ensures { Gives result (line_at (words_of bytes.now)) }
 {
-    if let Some(left) = behind_name(bytes, b"put ") {
-        return store(Some(left));
-    }
-    if let Some(left) = behind_name(bytes, b"get ") {
-        return page_alone(Some(left)).map(|page| Line::Get { page });
-    }
-    if let Some(left) = behind_name(bytes, b"find ") {
-        return find(Some(left));
-    }
-    if let Some(left) = behind_name(bytes, b"look ") {
-        return number_alone(Some(left)).map(|pass| Line::Look { pass });
-    }
-    if let Some(left) = behind_name(bytes, b"leave ") {
-        return number_alone(Some(left)).map(|pass| Line::Leave { pass });
-    }
-    if let Some(left) = behind_name(bytes, b"ticket ") {
-        return page_alone(Some(left)).map(|page| Line::Ticket { page });
+    if let Some(told) = told_at_once(bytes) {
+        return told;
     }
     let (name, left) = cut(bytes);
     named(name, left)
+}
+
+/// The same of a line that begins as those do that come by the million: it is told by its first bytes.
+#[inline(always)]
+fn told_at_once(bytes: &[u8]) -> Option<Result<Line, LineFault>>
+    ensures { IfSome result (λ told. Gives told (line_at (words_of bytes.now))) }
+{
+    match bytes {
+        [b'p', ..] => Some(store(Some(behind_name(bytes, b"put ")?))),
+        [b'g', ..] => Some(get(Some(behind_name(bytes, b"get ")?))),
+        [b's', ..] => is_name(bytes, b"stat").then_some(Ok(Line::Stat)),
+        [b'f', ..] => Some(find(Some(behind_name(bytes, b"find ")?))),
+        [b'l', b'o', ..] => Some(look(Some(behind_name(bytes, b"look ")?))),
+        [b'l', ..] => Some(leave(Some(behind_name(bytes, b"leave ")?))),
+        [b'e', ..] => Some(equal(Some(behind_name(bytes, b"equal ")?))),
+        [b't', ..] => Some(ticket(Some(behind_name(bytes, b"ticket ")?))),
+        [b'r', b'e', ..] => Some(register(Some(behind_name(bytes, b"reg ")?))),
+        _ => None,
+    }
 }
 
 /// The line that begins with a name.
@@ -156,7 +161,7 @@ fn named(name: &[u8], left: Option<&[u8]>) -> Result<Line, LineFault>
         return store(left);
     }
     if is(name, "get") {
-        return page_alone(left).map(|page| Line::Get { page });
+        return get(left);
     }
     if is(name, "reg") {
         return register(left);
@@ -168,7 +173,7 @@ fn named(name: &[u8], left: Option<&[u8]>) -> Result<Line, LineFault>
         return alone(Line::Empty, left);
     }
     if is(name, "ticket") {
-        return page_alone(left).map(|page| Line::Ticket { page });
+        return ticket(left);
     }
     if is(name, "rmap") {
         return number_alone(left).map(|place| Line::Mappers { place });
@@ -221,10 +226,10 @@ fn looking_up(name: &[u8], left: Option<&[u8]>) -> Result<Line, LineFault>
         return equal(left);
     }
     if is(name, "look") {
-        return number_alone(left).map(|pass| Line::Look { pass });
+        return look(left);
     }
     if is(name, "leave") {
-        return number_alone(left).map(|pass| Line::Leave { pass });
+        return leave(left);
     }
     if is(name, "audit") {
         return alone(Line::Audit, left);
@@ -255,6 +260,30 @@ fn store(left: Option<&[u8]>) -> Result<Line, LineFault>
     let (page, left) = page(left)?;
     let bytes = content_alone(left)?;
     Ok(Line::Store { page, bytes })
+}
+
+fn get(left: Option<&[u8]>) -> Result<Line, LineFault>
+    ensures { Gives result (option_map (λ page. line_get page) (page_alone (words_left left.entry))) }
+{
+    page_alone(left).map(|page| Line::Get { page })
+}
+
+fn ticket(left: Option<&[u8]>) -> Result<Line, LineFault>
+    ensures { Gives result (option_map (λ page. line_ticket page) (page_alone (words_left left.entry))) }
+{
+    page_alone(left).map(|page| Line::Ticket { page })
+}
+
+fn look(left: Option<&[u8]>) -> Result<Line, LineFault>
+    ensures { Gives result (option_map (λ pass. line_look pass) (alone number_of (words_left left.entry))) }
+{
+    number_alone(left).map(|pass| Line::Look { pass })
+}
+
+fn leave(left: Option<&[u8]>) -> Result<Line, LineFault>
+    ensures { Gives result (option_map (λ pass. line_leave pass) (alone number_of (words_left left.entry))) }
+{
+    number_alone(left).map(|pass| Line::Leave { pass })
 }
 
 fn scan(left: Option<&[u8]>) -> Result<Line, LineFault>
