@@ -8,6 +8,8 @@ import threading
 TOP = os.path.dirname(os.path.dirname(os.path.abspath(__file__)))
 PROGRAM = os.path.join(TOP, "crates", "ksm_tool", "out", "ksm_tool")
 PLAIN = os.path.join(TOP, "bench", "plain", "target", "release", "plain")
+# at a terminal as elsewhere, the programs that are measured and compared tell no refusals in words
+os.environ["KSMBOOK_EXPLAIN"] = "0"
 
 
 def page_words():

@@ -1,5 +1,5 @@
 /*
- * The frame table of ksmbook for C: pages that one thread keeps, and that other threads look up without a lock.
+ * The frame table and the book of ksmbook for C: pages that one thread keeps, and that other threads look up without a lock.
  *
  * A table has FRAMES and PLACES, as many of each. A frame has 8 words of 64 bits (a page of 64 bytes), a count of references, and a life:
  * how many times it was given. A place is empty, or names a frame in one of its lives. A reader looks a place up and holds the frame that it
@@ -11,7 +11,11 @@
  * reader has one) and then reaps it (ksm_reap), which it may try as often as it likes until the last reader has left.
  * A frame is FREE, FILLING, PRIVATE, STABLE, DYING or RETIRED; each call below says where it is allowed.
  *
+ * Or a BOOK keeps the frames: the pages of guests, of which those that read the same are merged (ksm_book_open, below). Its handle is that of
+ * its table: passes are taken out of it, and it is closed, by the same calls; of the keeper's calls it allows none (KSM_KIND).
+ *
  * What every call promises is proved of the code in the archive (crates/ksm_ffi). Each condition of a call is tested, and answered by a number.
+ * A call writes to its other pointers with KSM_DONE alone, but for two calls of a book that say so; with any other number all is as it was there.
  * What nothing tests, and you must keep:
  *   - a handle was set to KSM_TABLE_NONE or KSM_PASS_NONE before its first call, is no copy of another, and only these calls change it;
  *   - a handle is in one call at a time. It may go from one thread to another where you order that (a lock, a thread's start or join, or an
@@ -31,7 +35,7 @@
 extern "C" {
 #endif
 
-/* A table with its keeper, and a pass. Not open where `at` is NULL. */
+/* A table with its keeper or its book, and a pass. Not open where `at` is NULL. */
 typedef struct ksm_table { void *at; } ksm_table;
 typedef struct ksm_pass { void *at; } ksm_pass;
 #define KSM_TABLE_NONE { NULL }
@@ -49,9 +53,10 @@ enum {
     KSM_BUSY = 4,        /* `tries` exchanges were lost to others; nothing is held */
     KSM_DIFFERS = 5,     /* a frame is held, and a word of it is not the page's */
     KSM_USED = 6,        /* a reader has a reference on the frame; it is as it was */
+    KSM_NOTHING = 7,     /* of a book: there is no such page, or no dup for it; nothing is told */
     /* From here on the call was refused, and nothing has changed. */
     KSM_CLOSED = 10,     /* the handle is not open */
-    KSM_KIND = 11,       /* the handle is one of the other kind */
+    KSM_KIND = 11,       /* the handle stands for something else: a pass, a table, or a book */
     KSM_OPEN = 12,       /* the handle that is to be opened is open */
     KSM_SHAPE = 13,      /* a size is out of its range */
     KSM_MEMORY = 14,     /* there is no memory */
@@ -61,7 +66,20 @@ enum {
     KSM_IDLE = 18,       /* the pass holds nothing */
     KSM_NO_PASS = 19,    /* all passes of the table are out */
     KSM_PASSES_OUT = 20, /* passes of the table are out */
-    KSM_OTHER = 21       /* the pass has another table's number, or no pass of this table is out */
+    KSM_OTHER = 21,      /* the pass has another table's number, or no pass of this table is out */
+    KSM_COMMAND = 22,    /* there is no command of this kind */
+    /* Why a book refuses a command. No page, dup, knob or counter has changed; the journal has an entry of it, and a frame that nobody held
+       any more may have been taken back. With KSM_MEMORY there is no entry. */
+    KSM_UNKNOWN_PAGE = 32,       /* the page, or a page of the guest, is not registered */
+    KSM_ALREADY_REGISTERED = 33, /* the page is registered */
+    KSM_NO_FRAME = 34,           /* no frame of the node is free */
+    KSM_NOT_RUNNING = 35,        /* a scan while `run` is not 1 */
+    KSM_SHARED_PAGES = 36,       /* the knob does not change while pages are shared */
+    KSM_BAD_VALUE = 37,          /* the value is out of its knob's range */
+    KSM_IN_USE = 38,             /* somebody holds the frame of the dup */
+    KSM_CROSSES_NODES = 39,      /* the dup was to move to another node, while pages are not merged across nodes */
+    KSM_UNKNOWN_PLACE = 40,      /* no dup with items stands at the place */
+    KSM_BAD_NODE = 41            /* there is no such node */
 };
 
 /* What the keeper uses a frame for. */
@@ -111,6 +129,73 @@ uint32_t ksm_reap(ksm_table *table, uint32_t frame);                            
                                                                                      reader has one; else KSM_USED */
 uint32_t ksm_load(ksm_table *table, uint32_t frame, size_t i, uint64_t *word);    /* PRIVATE, STABLE, DYING: loads word i */
 uint32_t ksm_frame(ksm_table *table, uint32_t frame, uint32_t *kind, uint64_t *references, uint64_t *life); /* of the keeper: any state */
+
+/*
+ * A book: which page of which guest reads what, and which pages are merged into which frame ("dup"). What a command does, to the last counter,
+ * is in docs/MODEL.md, and is proved; the state after it is that of the definitions.
+ */
+
+/* What a command is. */
+enum {
+    KSM_REGISTER = 1,           /* guest, page, node, bytes: a new page with these bytes */
+    KSM_DROP = 2,               /* guest, page: the page goes */
+    KSM_STORE = 3,              /* guest, page, bytes: the page gets these bytes */
+    KSM_SCAN = 4,               /* visits: so many visits of the scan */
+    KSM_PRUNE = 5,              /* every dup without items goes */
+    KSM_UNMERGE = 6,            /* guest: its pages are unmerged, and visited no more */
+    KSM_MERGEABLE = 7,          /* guest: its pages are visited again */
+    KSM_MOVE_PAGE = 8,          /* guest, page, node: the page gets a frame of this node */
+    KSM_MOVE_DUP = 9,           /* value (its place), node: the dup gets another frame of this node */
+    KSM_SET_RUN = 10,           /* value: 0 to 2 */
+    KSM_SET_PAGES_TO_SCAN = 11, /* value: 1 to 1,000,000 */
+    KSM_SET_ACROSS = 12,        /* value: merge_across_nodes, 0 or 1 */
+    KSM_SET_LIMIT = 13,         /* value: max_page_sharing, 2 to 1,024 */
+    KSM_SET_ZERO_PAGES = 14     /* value: use_zero_pages, 0 or 1 */
+};
+
+/* A command. Fields that its kind does not name do not count. */
+typedef struct ksm_command {
+    uint16_t kind;
+    uint16_t guest;
+    uint32_t page;
+    uint64_t visits;
+    uint32_t node;
+    uint32_t value;
+    uint64_t bytes[8];
+} ksm_command;
+
+/* What a command did: how many (visits made, dups pruned, pages unmerged; else 0), with which number it stopped (KSM_MEMORY of a scan,
+   KSM_NO_FRAME of an unmerging; else 0), and the node of which no frame was free (for KSM_NO_FRAME, as an answer too; else 0). */
+typedef struct ksm_made {
+    uint64_t count;
+    uint32_t stop;
+    uint32_t node;
+} ksm_made;
+
+/* The counters, by the names of the kernel's documentation (docs/MODEL.md). */
+typedef struct ksm_counters {
+    uint64_t shared, sharing, unshared, volatile_pages, zero, chains, dups, full_scans;
+} ksm_counters;
+
+/*
+ * ksm_book_open opens a book without pages, on a table of its own, as ksm_table_open does. ksm_table_close closes it.
+ * Each of the others may answer KSM_CLOSED or KSM_KIND.
+ *
+ * ksm_book_apply does a command: KSM_DONE, KSM_COMMAND, KSM_MEMORY, or a number from KSM_UNKNOWN_PAGE on. `made` is written with KSM_NO_FRAME too.
+ * ksm_book_read loads the bytes of a page: those stored last. KSM_DONE, KSM_NOTHING.
+ * ksm_book_ticket tells the place of the dup into which a page is merged, where passes can look it up. KSM_DONE, KSM_NOTHING.
+ * ksm_book_mappers tells the pages merged into the dup at a place, ascending, each as guest * 2^32 + page, to pages[0 .. *count], and how many
+ * they are. KSM_DONE; KSM_RANGE, which writes *count alone, where `room` is smaller; KSM_NOTHING, KSM_MEMORY. `pages` points to `room` numbers,
+ * and is not NULL.
+ * ksm_book_counters counts. KSM_DONE.
+ */
+uint32_t ksm_book_open(ksm_table *book, uint64_t number, uint32_t nodes, uint32_t frames_per_node, uint32_t passes,
+                       uint64_t last_generation, uint32_t tries);
+uint32_t ksm_book_apply(ksm_table *book, const ksm_command *command, ksm_made *made);
+uint32_t ksm_book_read(ksm_table *book, uint16_t guest, uint32_t page, uint64_t bytes[8]);
+uint32_t ksm_book_ticket(ksm_table *book, uint16_t guest, uint32_t page, uint32_t *place);
+uint32_t ksm_book_mappers(ksm_table *book, uint32_t place, uint64_t *pages, size_t room, uint64_t *count);
+uint32_t ksm_book_counters(ksm_table *book, ksm_counters *counters);
 
 /*
  * A pass. Each of these may answer KSM_CLOSED or KSM_KIND. The three lookups are for a pass that holds nothing (KSM_HOLDING), of a place that

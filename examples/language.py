@@ -107,22 +107,24 @@ KNOBS = [
 ZERO_PAGES = "ksm_zero_pages"
 KNOB_NAMES = [knob.name for knob in KNOBS]
 
-# the number of a refusal: its name, and where it is given
+# the number of a refusal: what ksmbook says of it (NODE is a number there), and where it is given
 REFUSALS = {
-    1: ("no memory", "a growth of memory was refused; the line may be sent again"),
-    2: ("unknown page", "there is no such page, or no page of the guest"),
-    3: ("already registered", "the page is there"),
-    4: ("no frame", "no frame of the node is free: each is in use, held by a pass, or retired"),
-    5: ("not running", "scan while run is not 1"),
-    6: ("shared pages", "merge_across_nodes or max_page_sharing set to another value while shared is above 0"),
-    7: ("bad value", "a value of a knob out of its range"),
-    8: ("in use", "movedup while a pass holds the frame"),
-    9: ("crosses nodes", "movedup to another node while merge_across_nodes is 0"),
-    10: ("unknown place", "there is no dup with pages at the place; for find and equal, there is no such place"),
-    11: ("bad node", "there is no such node"),
-    12: ("no pass", "there is no pass K"),
-    13: ("holding", "find or equal with a pass that holds a frame; audit where each pass holds one"),
-    14: ("not holding", "look or leave with a pass that holds none"),
+    1: ("memory was refused, and the line may be sent again", "any line that needs memory"),
+    2: ("there is no such page, or no page of the guest", "any line that names a page or a guest, reg aside"),
+    3: ("the page is registered already", "reg"),
+    4: ("no frame of node NODE is free", "each is in use, held by a pass, or retired"),
+    5: ("no scan runs while run is not 1", "scan"),
+    6: ("the knob stays as it is while pages are shared",
+        "merge_across_nodes or max_page_sharing set to another value while shared is above 0"),
+    7: ("the value is out of the knob's range", "set"),
+    8: ("a pass holds the frame", "movedup"),
+    9: ("the dup would cross nodes while merge_across_nodes is 0", "movedup to another node"),
+    10: ("no dup with pages stands at the place, or there is no such place",
+         "the first for rmap and movedup, the second for find and equal"),
+    11: ("there is no such node", "any line that names a node"),
+    12: ("there is no such pass", "any line that names a pass"),
+    13: ("the pass holds a frame, or at an audit each pass does", "find, equal and audit"),
+    14: ("the pass holds no frame", "look and leave"),
 }
 
 # why a lookup found nothing
@@ -349,6 +351,11 @@ def form_of(line: str) -> Form | None:
     """The form of a good line; None of an empty one."""
     words = line.split(" ")
     return next((form for form in FORMS if form.name == words[0] and len(form.parts) == len(words) - 1), None)
+
+
+def quoted(line: bytes) -> str:
+    """A good line as it is quoted."""
+    return _quote(line)
 
 
 def refusal_in(reply: str) -> int | None:

@@ -1,4 +1,4 @@
-//! Pages that one thread keeps, and that other threads look up without a lock.
+//! Pages that one thread keeps, and that other threads look up without a lock; and the book of pages that are merged ([`Book`]).
 //!
 //! A [`Table`] has frames and places, as many of each. A frame has a [`Page`], and a life: how many times it was given. The keeper, who has the
 //! table, gives frames and names them at places; readers, who have a [`Pass`] each, look places up and hold the frames that they name. While a
@@ -28,8 +28,10 @@ use std::marker::PhantomData;
 use std::mem::ManuallyDrop;
 use std::sync::atomic::{AtomicU64, Ordering};
 
+mod book;
 mod raw;
 
+pub use book::{Book, Command, Counters, Fault, GuestPage, Reply};
 use raw::Handle;
 
 /// How many words a page has.
@@ -146,6 +148,10 @@ pub struct Table {
 // What the number of the next table is, which tells its passes from those of others.
 static NEXT_NUMBER: AtomicU64 = AtomicU64::new(0);
 
+fn next_number() -> u64 {
+    NEXT_NUMBER.fetch_add(1, Ordering::Relaxed)
+}
+
 fn done(answer: u32) -> Result<(), Refused> {
     match answer {
         raw::DONE => Ok(()),
@@ -170,8 +176,7 @@ impl Table {
     pub fn open(shape: Shape) -> Result<Table, Refused> {
         let mut handle = Handle::NONE;
         let Shape { nodes, frames_per_node, passes, last_generation, tries } = shape;
-        let number = NEXT_NUMBER.fetch_add(1, Ordering::Relaxed);
-        done(raw::table_open(&mut handle, number, nodes, frames_per_node, passes, last_generation, tries))?;
+        done(raw::table_open(&mut handle, next_number(), nodes, frames_per_node, passes, last_generation, tries))?;
         Ok(Table { handle, one_thread: PhantomData })
     }
 
@@ -182,14 +187,12 @@ impl Table {
 
     /// Takes a pass out of the table.
     pub fn pass(&mut self) -> Result<Pass, Refused> {
-        let mut handle = Handle::NONE;
-        done(raw::pass_open(&mut self.handle, &mut handle))?;
-        Ok(Pass { handle, one_thread: PhantomData })
+        Pass::of(&mut self.handle)
     }
 
     /// Gives a pass back. One of another table comes back.
-    pub fn take_back(&mut self, mut pass: Pass) -> Result<(), (Refused, Pass)> {
-        done(raw::pass_close(&mut self.handle, &mut pass.handle)).map_err(|refused| (refused, pass))
+    pub fn take_back(&mut self, pass: Pass) -> Result<(), (Refused, Pass)> {
+        pass.back_to(&mut self.handle)
     }
 
     /// Gives a free frame its next life: it is [`Kind::Filling`] then.
@@ -312,6 +315,17 @@ fn gone(answer: u32) -> Result<Option<Gone>, Refused> {
 }
 
 impl Pass {
+    // A pass of what has passes: a table, or a book.
+    fn of(table: &mut Handle) -> Result<Pass, Refused> {
+        let mut handle = Handle::NONE;
+        done(raw::pass_open(table, &mut handle))?;
+        Ok(Pass { handle, one_thread: PhantomData })
+    }
+
+    fn back_to(mut self, table: &mut Handle) -> Result<(), (Refused, Pass)> {
+        done(raw::pass_close(table, &mut self.handle)).map_err(|refused| (refused, self))
+    }
+
     // A hold that was forgotten is given up by the next lookup.
     fn ready(&mut self) {
         let _ = raw::leave(&mut self.handle);

@@ -1,17 +1,7 @@
 -- The test of where a step of the keeper is allowed is met exactly where the ledger allows it.
 use Rattle.std.proofs.Common.{◌≡◌, ℕ, ◌<◌, ◌≤◌, ◌==◌, ◌&&◌, not, ltb, leb, Bool, true, false, Option, Some, None, ap, refl}
 use Rattle.std.proofs.lemmas.Bool.{and_parts, and_from, lt-ltb, ltb-true, le-leb, leb-true, eqb-true, eq-eqb}
-use Rattle.ksm_base.specs.declared.page.TheConstants.{PAGE_WORDS}
-use Rattle.ksm_base.specs.declared.shape.Shape.{Shape}
-use Rattle.ksm_base.specs.Values.{frames_of}
-use Rattle.frame_core.specs.declared.event.KeeperStep.{KeeperStep}
-use Rattle.frame_core.specs.declared.event.KeeperStep.TheVariants.{Reap, Put, Raise, Open, Add, Sub, Publish, Withdraw, Freeze, Word}
-use Rattle.frame_core.specs.declared.frame.Kind.{Kind}
-use Rattle.frame_core.specs.declared.frame.Kind.TheVariants.{Free, Filling, Private, Stable, Dying}
-use Rattle.frame_core.specs.declared.ledger.Ledger.{Ledger}
-use Rattle.frame_core.specs.declared.seat.Life.{Life}
-use Rattle.frame_core.specs.KeeperSteps.{is_free, is_filling, is_private, is_stable, is_dying, is_writable, is_readable, is_live, may_step}
-use Rattle.frame_core.specs.Ledger.{frame_at, named_at, IsWritable, IsReadable, IsLoose, MayStep}
+use Rattle.frame_core.proofs.Names.{PAGE_WORDS, Shape, frames_of, KeeperStep, Reap, Put, Raise, Open, Add, Sub, Publish, Withdraw, Freeze, Word, Kind, Free, Filling, Private, Stable, Dying, Retired, Ledger, Life, is_kind, is_writable, is_readable, is_live, may_step, frame_at, named_at, IsWritable, IsReadable, IsLoose, MayStep}
 
 -- the test is met exactly where this is true
 abbrev pub Tests : Bool → Type 0 → Type 0
@@ -38,25 +28,15 @@ below i n = (ltb-true i n, lt-ltb i n)
 at_most : (i n : ℕ) → Tests (leb i n) (i ≤ n)
 at_most i n = (leb-true i n, le-leb i n)
 
-free : (k : Kind) → Tests (is_free k) (k ≡ Free)
-free Free = ((λ e. refl), (λ e. refl))
-free k = ((λ e. absurd (cc (e))), (λ e. ap is_free e))
-
-filling : (k : Kind) → Tests (is_filling k) (k ≡ Filling)
-filling Filling = ((λ e. refl), (λ e. refl))
-filling k = ((λ e. absurd (cc (e))), (λ e. ap is_filling e))
-
-private : (k : Kind) → Tests (is_private k) (k ≡ Private)
-private Private = ((λ e. refl), (λ e. refl))
-private k = ((λ e. absurd (cc (e))), (λ e. ap is_private e))
-
-pub stable : (k : Kind) → Tests (is_stable k) (k ≡ Stable)
-stable Stable = ((λ e. refl), (λ e. refl))
-stable k = ((λ e. absurd (cc (e))), (λ e. ap is_stable e))
-
-dying : (k : Kind) → Tests (is_dying k) (k ≡ Dying)
-dying Dying = ((λ e. refl), (λ e. refl))
-dying k = ((λ e. absurd (cc (e))), (λ e. ap is_dying e))
+-- the kind is this one
+kind : (k j : Kind) → Tests (is_kind k j) (j ≡ k)
+kind Free Free = ((λ e. refl), (λ e. refl))
+kind Filling Filling = ((λ e. refl), (λ e. refl))
+kind Private Private = ((λ e. refl), (λ e. refl))
+kind Stable Stable = ((λ e. refl), (λ e. refl))
+kind Dying Dying = ((λ e. refl), (λ e. refl))
+kind Retired Retired = ((λ e. refl), (λ e. refl))
+kind k j = ((λ e. absurd (cc (e))), (λ e. ap (is_kind k) e))
 
 writable : (k : Kind) → Tests (is_writable k) (IsWritable k)
 writable Filling = ((λ e. tt), (λ h. refl))
@@ -77,11 +57,11 @@ loose : (k : Ledger) (place : Option Life) → Tests (not (is_live k place)) (Is
 loose k None = ((λ e. tt), (λ h. refl))
 loose k (Some life) =
     let note = frame_at k life.frame in
-    let kind = is_stable note.kind in
+    let kinds = is_kind Stable note.kind in
     let same = note.generation == life.generation in
-    let live = both kind same (note.kind ≡ Stable) (note.generation ≡ life.generation) (stable note.kind)
+    let live = both kinds same (note.kind ≡ Stable) (note.generation ≡ life.generation) (kind Stable note.kind)
     (eqb-true note.generation life.generation, eq-eqb note.generation life.generation) in
-    let t = negated (kind && same) _ live in
+    let t = negated (kinds && same) _ live in
     ((λ e is at. t.0 e (at, is)), (λ h. t.1 (λ x. h x.1 x.0)))
 
 module _ (sh : Shape) (k : Ledger) where
@@ -91,14 +71,15 @@ module _ (sh : Shape) (k : Ledger) where
   frame : (f : ℕ) → Tests (ltb f (frames_of sh)) (here f)
   frame f = below f (frames_of sh)
 
+  -- the test of where a step of the keeper is allowed is met exactly where the ledger allows it
   pub decides : (e : KeeperStep) → Tests (may_step sh k e) (MayStep sh k e)
-  decides (Reap f) = both _ _ (here f) _ (frame f) (dying (frame_at k f).kind)
+  decides (Reap f) = both _ _ (here f) _ (frame f) (kind Dying (frame_at k f).kind)
   decides (Put f i w) = three _ _ _ (here f) (i < PAGE_WORDS) _ (frame f) (below i PAGE_WORDS) (writable (frame_at k f).kind)
-  decides (Raise f) = both _ _ (here f) _ (frame f) (free (frame_at k f).kind)
-  decides (Open f) = both _ _ (here f) _ (frame f) (filling (frame_at k f).kind)
+  decides (Raise f) = both _ _ (here f) _ (frame f) (kind Free (frame_at k f).kind)
+  decides (Open f) = both _ _ (here f) _ (frame f) (kind Filling (frame_at k f).kind)
   decides (Add f) = let base = (frame_at k f).base in three _ _ _ (here f) (1 ≤ base) (base ≤ 1023) (frame f) (at_most 1 base) (at_most base 1023)
   decides (Sub f) = let base = (frame_at k f).base in both _ _ (here f) (1 ≤ base) (frame f) (at_most 1 base)
-  decides (Publish p f) = four _ _ _ _ (here p) (here f) _ _ (frame p) (frame f) (private (frame_at k f).kind) (loose k (named_at k p))
+  decides (Publish p f) = four _ _ _ _ (here p) (here f) _ _ (frame p) (frame f) (kind Private (frame_at k f).kind) (loose k (named_at k p))
   decides (Withdraw p) = both _ _ (here p) _ (frame p) (loose k (named_at k p))
-  decides (Freeze f) = both _ _ (here f) _ (frame f) (stable (frame_at k f).kind)
+  decides (Freeze f) = both _ _ (here f) _ (frame f) (kind Stable (frame_at k f).kind)
   decides (Word f i) = three _ _ _ (here f) (i < PAGE_WORDS) _ (frame f) (below i PAGE_WORDS) (readable (frame_at k f).kind)

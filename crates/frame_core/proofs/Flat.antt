@@ -3,17 +3,7 @@ use Rattle.std.proofs.Common.{◌≡◌, ℕ, ◌+◌, ◌*◌, ◌<◌, List, [
 use Rattle.std.specs.List.{flat_map}
 use Rattle.std.proofs.lemmas.List.{length-append, length-map, map-set, set-append_left, set-get_or, get_or-append-add, get_or_append_left, get_or-map}
 use Rattle.std.proofs.Math.Nat.{suc-mul}
-use Rattle.ksm_base.specs.declared.page.TheConstants.{PAGE_WORDS}
-use Rattle.ksm_base.specs.declared.shape.Shape.{Shape}
-use Rattle.ksm_base.specs.Values.{frames_of}
-use Rattle.frame_core.specs.declared.frame.TheConstants.{LINE_WORDS}
-use Rattle.frame_core.specs.declared.ledger.Note.{Note}
-use Rattle.frame_core.specs.declared.seat.Life.{Life}
-use Rattle.frame_core.specs.State.{State, place_word, frame_word}
-use Rattle.frame_core.specs.KeeperSteps.{count_at, word_of}
-use Rattle.frame_core.specs.Ledger.{blank, frame_at, named_at, with_frame}
-use Rattle.frame_core.specs.Words.{frame_words, line_of, page_of, pages_of, words_of, frame_word_at, content_at}
-use Rattle.frame_core.specs.Rule.{Rule}
+use Rattle.frame_core.proofs.Names.{PAGE_WORDS, Shape, frames_of, LINE_WORDS, Note, Life, State, place_word, frame_word, count_at, frame_word_of, blank, frame_at, named_at, with_frame, frame_words, line_of, page_of, pages_of, words_of, frame_word_at, content_at, Rule}
 
 module _ {A : Type 0} where
   -- a write past the first part
@@ -91,6 +81,10 @@ words_set (m ∷ notes) (b ∷ counts) (suc f) n c e = ap (λ (l : List ℕ). fr
 
 -- ---------------------------------------------------------------- the words of a state
 
+-- a word that is written as it was leaves the words as they were
+pub as_it_was : (s : State) (i n : ℕ) → get_or (words_of s) i 0 ≡ n → set (words_of s) i n ≡ words_of s
+as_it_was s i n is = ap (set (words_of s) i) (sym is) ∙ set-get_or (words_of s) i 0
+
 module _ (sh : Shape) (s : State) (rule : Rule sh s) where
   abbrev F : ℕ
   F = frames_of sh
@@ -123,7 +117,7 @@ module _ (sh : Shape) (s : State) (rule : Rule sh s) where
   pages_fit i below = (rule.frames i (omega (arith, below, rule.frame_count))).content
 
   -- what stands there
-  pub word_get : (f : ℕ) → f < F → get_or (words_of s) (frame_word_at F f) 0 ≡ word_of s f
+  pub word_get : (f : ℕ) → f < F → get_or (words_of s) (frame_word_at F f) 0 ≡ frame_word_of s f
   word_get f below =
       let moved : frame_word_at F f ≡ length places + (f * LINE_WORDS + 0) = omega (arith, places_long) in
       ap (λ (m : ℕ). get_or (words_of s) m 0) moved
@@ -132,6 +126,7 @@ module _ (sh : Shape) (s : State) (rule : Rule sh s) where
       ∙ (flat_get line_of LINE_WORDS 0 words f 0 (λ i below. refl) (omega (arith, below, all_words)) (omega arith)
       ∙ words_get s.ledger.frames s.counts f same_long)))
 
+  -- the content word i of the frame f stands where its page has it
   pub content_get : (f i : ℕ) → f < F → i < PAGE_WORDS → get_or (words_of s) (content_at F f i) 0 ≡ get_or (frame_at s.ledger f).content i 0
   content_get f i below inside =
       let n : ℕ = f * PAGE_WORDS + i in
@@ -142,6 +137,7 @@ module _ (sh : Shape) (s : State) (rule : Rule sh s) where
       ∙ (get_or-append-add (replicate LINE_WORDS 0) pages n 0
       ∙ flat_get page_of PAGE_WORDS blank s.ledger.frames f i pages_fit (omega (arith, below, rule.frame_count)) inside)))
 
+  -- the word of the place p stands at p
   pub place_get : (p : ℕ) → p < F → get_or (words_of s) p 0 ≡ place_word (named_at s.ledger p)
   place_get p below =
       get_or_append_left places (lines ++ pages_of s.ledger.frames) 0 p (omega (arith, below, places_long))
@@ -167,6 +163,7 @@ module _ (sh : Shape) (s : State) (rule : Rule sh s) where
   note_set f v note below is same = word_set f v (count_at s f) note below is same
       ∙ ap (λ (c : List ℕ). words_of record { ledger = with_frame s.ledger f note; counts = c; seats = s.seats }) (set-get_or s.counts f 0)
 
+  -- the word of the frame f becomes that of another count, in the same life
   pub count_set : (f v count : ℕ) → f < F → v ≡ frame_word (frame_at s.ledger f).generation count
       → set (words_of s) (frame_word_at F f) v ≡ words_of (record s { counts = set s.counts f count })
   count_set f v count below is = word_set f v count (frame_at s.ledger f) below is refl

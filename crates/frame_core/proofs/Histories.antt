@@ -1,27 +1,9 @@
 -- Every run keeps the rule, its state and its trace go together, and so it is safe.
-use Rattle.std.proofs.Common.{◌≡◌, ℕ, ◌+◌, ◌<◌, ◌≢◌, Bool, true, false, cond, List, [], ◌∷◌, ◌++◌, Option, Some, None, length, take, get_or, slice_get, count_by, replicate, fold, zero, suc, subst, sym, ap, ◌∙◌, refl, arith}
+use Rattle.std.proofs.Common.{◌≡◌, ℕ, ◌+◌, ◌<◌, ◌≢◌, Bool, true, false, cond, List, [], ◌∷◌, ◌++◌, Option, Some, None, length, get_or, slice_get, count_by, replicate, fold, zero, suc, subst, sym, ap, ◌∙◌, refl, arith}
 use Rattle.std.specs.List.{range_with_len}
-use Rattle.std.proofs.lemmas.List.Sums.{sum_by-cons, length-filter, fold_more, fold_push}
-use Rattle.ksm_base.specs.declared.page.TheConstants.{PAGE_WORDS}
-use Rattle.ksm_base.specs.declared.shape.Shape.{Shape}
-use Rattle.ksm_base.specs.Values.{IsShape, frames_of}
-use Rattle.frame_core.specs.declared.event.Event.{Event}
-use Rattle.frame_core.specs.declared.event.Event.TheVariants.{Keeper}
-use Rattle.frame_core.specs.declared.event.KeeperStep.{KeeperStep}
-use Rattle.frame_core.specs.declared.event.KeeperStep.TheVariants.{Put, Raise, Open}
-use Rattle.frame_core.specs.declared.frame.Kind.{Kind}
-use Rattle.frame_core.specs.declared.seat.Aim.{Aim}
-use Rattle.frame_core.specs.declared.seat.Life.{Life}
-use Rattle.frame_core.specs.declared.seat.Phase.{Phase}
-use Rattle.frame_core.specs.declared.seat.Phase.TheVariants.{Idle, Held, Spent}
-use Rattle.frame_core.specs.KeeperSteps.{count_at, may_step}
-use Rattle.frame_core.specs.Ledger.{blank, frame_at, MayStep}
-use Rattle.frame_core.specs.Rule.{Rule, CountFits, MayBeHeld, SeatRule, is_on, readers_on}
-use Rattle.frame_core.specs.Safe.{IsSafe, WasUnheld, GivenUnheld}
-use Rattle.frame_core.specs.Seat.{phase_at}
-use Rattle.frame_core.specs.State.{State}
-use Rattle.frame_core.specs.Steps.{step, after, only_if}
-use Rattle.frame_core.specs.Trace.{History, first_history, history_after, history_with, run_of, held_by, holders, is_frame, life_of, HoldsRightly}
+use Rattle.std.proofs.lemmas.List.Sums.{sum_by-cons, length-filter, fold_push}
+use Rattle.std.proofs.lemmas.List.{nil_from_length}
+use Rattle.frame_core.proofs.Names.{PAGE_WORDS, Shape, IsShape, frames_of, Event, Keeper, KeeperStep, Put, Raise, Open, Kind, Aim, Life, Phase, Idle, Held, Spent, count_at, may_step, blank, frame_at, MayStep, Rule, CountFits, MayBeHeld, SeatRule, is_on, readers_on, IsSafe, WasUnheld, GivenUnheld, phase_at, State, step, only_if, History, first_history, history_after, history_with, run_of, held_by, holders, is_frame, life_of, HoldsRightly}
 use Rattle.frame_core.proofs.Decides.{decides}
 use Rattle.frame_core.proofs.Frames.{not_held}
 use Rattle.frame_core.proofs.Keeps.{step_keeps, first_rule}
@@ -82,18 +64,7 @@ run_rule sh valid events = (run_sound sh valid events).rule
 
 -- ---------------------------------------------------------------- a run, one event further
 
-state_added : (h : History) (e : Event) (o : Option (ℕ × State)) → (history_with h e o).state ≡ after h.state o
-state_added h e None = refl
-state_added h e (Some r) = refl
-
-pub run_state_more : (sh : Shape) (events : List Event) (i : ℕ) (d : Event) (s : State) → i < length events → s ≡ (run_of sh (take i events)).state
-    → after s (step sh s (get_or events i d)) ≡ (run_of sh (take (i + 1) events)).state
-run_state_more sh events i d s below is =
-    let h = run_of sh (take i events) in
-    let e = get_or events i d in
-    ap (λ (x : State). after x (step sh x e)) is
-    ∙ sym (ap (λ (h : History). h.state) (fold_more (history_after sh) (first_history sh) events i d below) ∙ state_added h e (step sh h.state e))
-
+-- a step that was made after these events makes of their run this one
 pub run_step : (sh : Shape) (events : List Event) (e : Event) (r : ℕ × State) → step sh (run_of sh events).state e ≡ Some r
     → run_of sh (events ++ e ∷ []) ≡ record { state = r.1; trace = record { event = e; word = r.0 } ∷ (run_of sh events).trace }
 run_step sh events e r is = fold_push (history_after sh) (first_history sh) events e ∙ ap (history_with (run_of sh events) e) is
@@ -116,11 +87,6 @@ held_on life named seat f Idle told = ap (is_frame f) told
 held_on life named seat f Spent told = ap (is_frame f) told
 held_on life named seat f _ told = ap (is_frame f) told.0
 
--- a list of no length is empty
-empty : {A : Type 0} (xs : List A) → length xs ≡ 0 → xs ≡ []
-empty [] e = refl
-empty (x ∷ xs) e = absurd (omega arith)
-
 -- an allowed step of the keeper
 allowed : (sh : Shape) (s : State) (e : KeeperStep) (b : Bool) (a : ℕ × State) → may_step sh s.ledger e ≡ b → only_if b a ≢ None → MayStep sh s.ledger e
 allowed sh s e true a is some = (decides sh s.ledger e).0 is
@@ -136,7 +102,7 @@ module _ (sh : Shape) (h : History) (sound : Sound sh h) where
       (held_on (tale_of h.trace).life (tale_of h.trace).named ((tale_of h.trace).seat j) f (phase_at h.state j) (sound.told.seats j))))
 
   none_held : (f : ℕ) → f < frames_of sh → count_at h.state f ≡ 0 → holders sh.passes f h.trace ≡ []
-  none_held f below none = empty (holders sh.passes f h.trace) (omega (arith, holders_count f, (sound.rule.frames f below).counted, none))
+  none_held f below none = nil_from_length (holders sh.passes f h.trace) (omega (arith, holders_count f, (sound.rule.frames f below).counted, none))
 
   holds_rightly : (seat : ℕ) (aim : Aim) (known : List (Option ℕ)) → phase_at h.state seat ≡ Held aim known → HoldsRightly seat aim h.trace
   holds_rightly seat aim known at =
@@ -172,6 +138,7 @@ was_unheld sh h sound e r is = tt
 abbrev Given : Shape → History → Type 0
 Given sh h = Sound sh h × GivenUnheld sh.passes h.trace
 
+-- each frame that was raised or opened in a run had no holder then
 pub run_given : (sh : Shape) → IsShape sh → (events : List Event) → GivenUnheld sh.passes (run_of sh events).trace
 run_given sh valid events =
     (run_all sh (Given sh) (λ h e r here is. (sound_more sh h e r here.0 is, (was_unheld sh h here.0 e r is, here.1))) (first_history sh) events (first_sound sh valid, tt)).1

@@ -1,33 +1,12 @@
 -- Every step keeps the rule, and the first state meets it.
 use Rattle.std.proofs.Common.{◌≡◌, ℕ, ◌+◌, ◌-◌, ◌*◌, ◌/◌, ◌%◌, ◌<◌, ◌≤◌, ◌≢◌, ◌==◌, leb, not, Bool, true, false, cond, List, get_or, set, slice_get, Option, Some, None, replicate, length, zero, suc, subst, sym, ap, ◌∙◌, refl, arith, ⊎_elim, get_or-set_same}
 use Rattle.std.proofs.lemmas.Bool.{eqb-true, eqb-false, eq-eqb, ne_eqb, and_parts, not-true, leb-false, ltb-true}
-use Rattle.std.proofs.lemmas.Option.{same_Some}
+use Rattle.std.proofs.lemmas.Option.{same_Some, slice_get-get_or}
 use Rattle.std.proofs.lemmas.List.{length-replicate}
 use Rattle.std.proofs.lemmas.List.Folds.{sum_by-replicate}
-use Rattle.ksm_base.specs.declared.page.TheConstants.{PAGE_WORDS}
-use Rattle.ksm_base.specs.declared.shape.Shape.{Shape}
-use Rattle.ksm_base.specs.Values.{IsShape, frames_of}
-use Rattle.frame_core.specs.declared.event.Event.{Event}
+use Rattle.frame_core.proofs.Names.{PAGE_WORDS, Shape, IsShape, frames_of, Event, KeeperStep, Reap, Put, Raise, Open, Add, Sub, Publish, Withdraw, Freeze, Word, ReaderStep, LoadPlace, LoadFrame, Exchange, Leave, LoadWord, Kind, Filling, Private, Stable, Dying, Ledger, Note, Aim, Life, Phase, Idle, Placed, Counted, Held, Spent, State, place_word, life_at, frame_word, count_in, life_in, blank, first_ledger, frame_at, named_at, with_frame, MayStep, reaped, raised, opened, added, lowered, filled, shown, frozen, count_at, frame_word_of, keeper_finds, may_step, counted_up, phase_at, aim_of, nothing_known, is_referenced, may_read, reader_finds, seat_after, reader_counts, first_state, after_keeper, after_reader, only_if, step, after, Rule, FrameRule, LifeRule, IsNamed, SeatRule, MayBeNamed, MayBeHeld, KnownFits, CountFits, GenerationFits, readers_on, is_on}
 use Rattle.frame_core.specs.declared.event.Event.TheVariants as event
-use Rattle.frame_core.specs.declared.event.KeeperStep.{KeeperStep}
-use Rattle.frame_core.specs.declared.event.KeeperStep.TheVariants.{Reap, Put, Raise, Open, Add, Sub, Publish, Withdraw, Freeze, Word}
-use Rattle.frame_core.specs.declared.event.ReaderStep.{ReaderStep}
-use Rattle.frame_core.specs.declared.event.ReaderStep.TheVariants.{LoadPlace, LoadFrame, Exchange, Leave, LoadWord}
-use Rattle.frame_core.specs.declared.frame.Kind.{Kind}
-use Rattle.frame_core.specs.declared.frame.Kind.TheVariants.{Filling, Private, Stable, Dying}
-use Rattle.frame_core.specs.declared.ledger.Ledger.{Ledger}
-use Rattle.frame_core.specs.declared.ledger.Note.{Note}
-use Rattle.frame_core.specs.declared.seat.Aim.{Aim}
-use Rattle.frame_core.specs.declared.seat.Life.{Life}
-use Rattle.frame_core.specs.declared.seat.Phase.{Phase}
-use Rattle.frame_core.specs.declared.seat.Phase.TheVariants.{Idle, Placed, Counted, Held, Spent}
-use Rattle.frame_core.specs.State.{State, place_word, life_at, frame_word, count_in, life_in}
-use Rattle.frame_core.specs.Ledger.{blank, first_ledger, frame_at, named_at, with_frame, MayStep, reaped, raised, opened, added, lowered, filled, shown, frozen}
-use Rattle.frame_core.specs.KeeperSteps.{count_at, word_of, keeper_finds, may_step, counted_up}
-use Rattle.frame_core.specs.Seat.{phase_at, aim_of, nothing_known, is_referenced, may_read, reader_finds, seat_after, reader_counts}
-use Rattle.frame_core.specs.Steps.{first_state, after_keeper, after_reader, only_if, step, after}
-use Rattle.frame_core.specs.Rule.{Rule, FrameRule, LifeRule, IsNamed, SeatRule, MayBeNamed, MayBeHeld, KnownFits, CountFits, GenerationFits, readers_on, is_on}
-use Rattle.frame_core.proofs.Lists.{get_set, get_inside, in_replicate, count_set, count_one}
+use Rattle.frame_core.proofs.Lists.{get_set, in_replicate, count_set, count_one}
 use Rattle.frame_core.proofs.Packed.{count_packed, life_packed, parts_of_word}
 use Rattle.frame_core.proofs.Decides.{decides}
 use Rattle.frame_core.proofs.Fitting.{frames_at_most, count_at_most}
@@ -39,25 +18,25 @@ module _ (sh : Shape) (s : State) (rule : Rule sh s) where
   k = s.ledger
 
   -- the count in the word of a frame is its count
-  pub count_found : (f : ℕ) → f < frames_of sh → count_in (word_of s f) ≡ count_at s f
+  pub count_found : (f : ℕ) → f < frames_of sh → count_in (frame_word_of s f) ≡ count_at s f
   count_found f below = count_packed (frame_at k f).generation (count_at s f) (omega (arith, count_at_most sh s rule f below))
 
   -- and the life in it is its life
-  pub life_found : (f : ℕ) → f < frames_of sh → life_in (word_of s f) ≡ (frame_at k f).generation
+  pub life_found : (f : ℕ) → f < frames_of sh → life_in (frame_word_of s f) ≡ (frame_at k f).generation
   life_found f below = life_packed (frame_at k f).generation (count_at s f) (omega (arith, count_at_most sh s rule f below))
 
   -- ---------------------------------------------------------------- the keeper's steps
 
-  reap_cases : (f : ℕ) (b : Bool) → f < frames_of sh → (frame_at k f).kind ≡ Dying → (count_in (word_of s f) == 0) ≡ b
+  reap_cases : (f : ℕ) (b : Bool) → f < frames_of sh → (frame_at k f).kind ≡ Dying → (count_in (frame_word_of s f) == 0) ≡ b
       → Rule sh record { ledger = cond b (with_frame k f (reaped sh.last_generation (frame_at k f))) k; counts = s.counts; seats = s.seats }
   reap_cases f true below kind is = frame_noted sh s rule f (reaped sh.last_generation (frame_at k f)) below
-      (reap_kept _ _ _ _ (rule.frames f below) kind (sym (count_found f below) ∙ eqb-true (count_in (word_of s f)) 0 is))
+      (reap_kept _ _ _ _ (rule.frames f below) kind (sym (count_found f below) ∙ eqb-true (count_in (frame_word_of s f)) 0 is))
   reap_cases f false below kind is = rule
 
-  freeze_cases : (f : ℕ) (b : Bool) → f < frames_of sh → (frame_at k f).kind ≡ Stable → (count_in (word_of s f) == (frame_at k f).base) ≡ b
+  freeze_cases : (f : ℕ) (b : Bool) → f < frames_of sh → (frame_at k f).kind ≡ Stable → (count_in (frame_word_of s f) == (frame_at k f).base) ≡ b
       → Rule sh record { ledger = cond b (with_frame k f (frozen (frame_at k f))) k; counts = cond b (set s.counts f 0) s.counts; seats = s.seats }
   freeze_cases f true below kind is = frame_changed sh s rule f (frozen (frame_at k f)) 0 below
-      (freeze_kept _ _ _ _ (rule.frames f below) kind (sym (count_found f below) ∙ eqb-true (count_in (word_of s f)) (frame_at k f).base is))
+      (freeze_kept _ _ _ _ (rule.frames f below) kind (sym (count_found f below) ∙ eqb-true (count_in (frame_word_of s f)) (frame_at k f).base is))
   freeze_cases f false below kind is = rule
 
   -- the life in which a private frame is named
@@ -71,7 +50,7 @@ module _ (sh : Shape) (s : State) (rule : Rule sh s) where
       record { inside = below; first = given.0; past = omega arith; named = λ same. tt }
 
   pub keeper_keeps : (e : KeeperStep) → MayStep sh k e → Rule sh (after_keeper sh s e (keeper_finds s e))
-  keeper_keeps (Reap f) may = reap_cases f (count_in (word_of s f) == 0) may.0 may.1 refl
+  keeper_keeps (Reap f) may = reap_cases f (count_in (frame_word_of s f) == 0) may.0 may.1 refl
   keeper_keeps (Put f i w) may = frame_noted sh s rule f (filled i w (frame_at k f)) may.0 (put_kept _ _ _ _ (rule.frames f may.0) i w may.2)
   keeper_keeps (Raise f) may = frame_noted sh s rule f (raised (frame_at k f)) may.0 (raise_kept _ _ _ _ (rule.frames f may.0) may.1)
   keeper_keeps (Open f) may = frame_changed sh s rule f (opened (frame_at k f)) (count_at s f + 1) may.0 (open_kept _ _ _ _ (rule.frames f may.0) may.1)
@@ -83,7 +62,7 @@ module _ (sh : Shape) (s : State) (rule : Rule sh s) where
       (frame_noted sh s rule f (shown (frame_at k f)) may.1 (show_kept _ _ _ _ (rule.frames f may.1) may.2)) p (Some life) may.0
       (λ x e. subst (IsNamed sh (with_frame k f (shown (frame_at k f)))) (same_Some life x e) (named_life f may.1 may.2))
   keeper_keeps (Withdraw p) may = place_changed sh s rule p None may.0 (λ life e. absurd (cc (e)))
-  keeper_keeps (Freeze f) may = freeze_cases f (count_in (word_of s f) == (frame_at k f).base) may.0 may.1 refl
+  keeper_keeps (Freeze f) may = freeze_cases f (count_in (frame_word_of s f) == (frame_at k f).base) may.0 may.1 refl
   keeper_keeps (Word f i) may = rule
 
   -- ---------------------------------------------------------------- a reader's steps
@@ -126,11 +105,11 @@ module _ (sh : Shape) (s : State) (rule : Rule sh s) where
         let r = rule.places p life is in
         subst (Moves q Idle at there) (sym (aimed p life r)) (moved q Idle at there (Placed record { place = p; life = life } 0) (λ f. refl) (r, omega (arith, rule.shape.tries_low)))
 
-    load_frame : (aim : Aim) (failures : ℕ) (b : Bool) (at : phase_at s q ≡ Placed aim failures) → is_referenced aim.life.generation (word_of s aim.life.frame) ≡ b
-        → Moves q (Placed aim failures) at there (cond b (Counted aim failures (count_in (word_of s aim.life.frame))) Idle)
+    load_frame : (aim : Aim) (failures : ℕ) (b : Bool) (at : phase_at s q ≡ Placed aim failures) → is_referenced aim.life.generation (frame_word_of s aim.life.frame) ≡ b
+        → Moves q (Placed aim failures) at there (cond b (Counted aim failures (count_in (frame_word_of s aim.life.frame))) Idle)
     load_frame aim failures false at is = moved q (Placed aim failures) at there Idle (λ f. refl) tt
     load_frame aim failures true at is =
-        let n = word_of s aim.life.frame in
+        let n = frame_word_of s aim.life.frame in
         let r = mine q (Placed aim failures) at there in
         let some = eqb-false (count_in n) 0 (not-true (count_in n == 0) (and_parts (not (count_in n == 0)) (life_in n == aim.life.generation) is).0) in
         let most = count_at_most sh s rule aim.life.frame r.0.inside in
@@ -141,7 +120,7 @@ module _ (sh : Shape) (s : State) (rule : Rule sh s) where
     known_more : (known : List (Option ℕ)) (content : List ℕ) (i : ℕ) → i < length content → KnownFits known content
         → KnownFits (set known i (Some (get_or content i 0))) content
     known_more known content i below fits j v e = ⊎_elim
-        (λ (h : (j ≡ i) × (Some (get_or content i 0) ≡ Some v)). ap (λ (x : ℕ). slice_get content x) h.0 ∙ get_inside content i 0 below ∙ h.1)
+        (λ (h : (j ≡ i) × (Some (get_or content i 0) ≡ Some v)). ap (λ (x : ℕ). slice_get content x) h.0 ∙ slice_get-get_or content i 0 below ∙ h.1)
         (λ (h : (j ≢ i) × (slice_get known j ≡ Some (Some v))). fits j v h.1)
         (get_set known i j (Some (get_or content i 0)) (Some v) e)
 
@@ -185,7 +164,7 @@ module _ (sh : Shape) (s : State) (rule : Rule sh s) where
     }
 
     exchange : (aim : Aim) (failures count : ℕ) (b c : Bool) → phase_at s q ≡ Counted aim failures count
-        → (word_of s aim.life.frame == frame_word aim.life.generation count) ≡ b → leb sh.tries (failures + 1) ≡ c → Exchanges aim failures b c
+        → (frame_word_of s aim.life.frame == frame_word aim.life.generation count) ≡ b → leb sh.tries (failures + 1) ≡ c → Exchanges aim failures b c
     exchange aim failures count true c at is more =
         let f = aim.life.frame in
         let note = frame_at k f in
@@ -193,7 +172,7 @@ module _ (sh : Shape) (s : State) (rule : Rule sh s) where
         let frame = rule.frames f r.0.inside in
         let most = count_at_most sh s rule f r.0.inside in
         let both = parts_of_word note.generation aim.life.generation (count_at s f) count (omega (arith, most)) (omega (arith, r.3))
-        (eqb-true (word_of s f) (frame_word aim.life.generation count) is) in
+        (eqb-true (frame_word_of s f) (frame_word aim.life.generation count) is) in
         let one : 1 ≤ count_at s f = omega (arith, both.1, r.2) in
         let yes : ◌≡◌ {A = ℕ} (cond (f == f) 1 0) 1 = ap (λ (b : Bool). cond b 1 0) (eq-eqb f f refl) in
         let was : ◌≡◌ {A = ℕ} (cond (is_on f (phase_at s q)) 1 0) 0 = ap (λ (x : Phase). cond (is_on f x) 1 0) at in
@@ -245,7 +224,7 @@ module _ (sh : Shape) (s : State) (rule : Rule sh s) where
       seats = set s.seats q (seat_after sh e phase (reader_finds s e phase));
     }
     reads (LoadPlace p) Idle at may = load_place p (named_at k p) refl at
-    reads LoadFrame (Placed aim failures) at may = load_frame aim failures (is_referenced aim.life.generation (word_of s aim.life.frame)) at refl
+    reads LoadFrame (Placed aim failures) at may = load_frame aim failures (is_referenced aim.life.generation (frame_word_of s aim.life.frame)) at refl
     reads Exchange (Counted aim failures count) at may = exchange aim failures count _ (leb sh.tries (failures + 1)) at refl refl
     reads Leave (Held aim known) at may = leave aim known at
     reads (LoadWord i) (Held aim known) at may = load_word i aim known at (ltb-true i PAGE_WORDS may)
@@ -261,6 +240,7 @@ pub if_made : {A : Type 0} (b : Bool) (a r : A) (P : A → Type 0) → only_if b
 if_made true a r P e h = subst P (same_Some a r e) (h refl)
 if_made false a r P e h = absurd (cc (e))
 
+-- a step that is made keeps the rule
 pub step_keeps : (sh : Shape) (s : State) (e : Event) (r : ℕ × State) → step sh s e ≡ Some r → Rule sh s → Rule sh r.1
 step_keeps sh s (event.Reader q e) r is rule = if_made (may_read sh e (phase_at s q)) _ r (λ x. Rule sh x.1) is (reader_keeps sh s rule q e)
 step_keeps sh s (event.Keeper e) r is rule = if_made (may_step sh s.ledger e) _ r (λ x. Rule sh x.1) is (λ may. keeper_keeps sh s rule e ((decides sh s.ledger e).0 may))
@@ -270,9 +250,11 @@ after_option : (sh : Shape) (s : State) (o : Option (ℕ × State)) → ((r : �
 after_option sh s None h rule = rule
 after_option sh s (Some r) h rule = h r refl
 
+-- the state after an event, allowed or not, keeps the rule
 pub after_keeps : (sh : Shape) (s : State) (e : Event) → Rule sh s → Rule sh (after s (step sh s e))
 after_keeps sh s e rule = after_option sh s (step sh s e) (λ r is. step_keeps sh s e r is rule) rule
 
+-- the first state meets the rule
 pub first_rule : (sh : Shape) → IsShape sh → Rule sh (first_state sh)
 first_rule sh valid =
     let n = frames_of sh in

@@ -2,9 +2,11 @@
 use Rattle.std.proofs.Common.{◌≡◌, ℕ, ◌<◌, arith}
 use Rattle.frame_core.specs.State.{frame_word, count_in, life_in}
 
+-- the count in a frame word is the one that was packed
 pub count_packed : (generation count : ℕ) → count < 65536 → count_in (frame_word generation count) ≡ count
 count_packed generation count low = omega arith
 
+-- the life in a frame word is the one that was packed
 pub life_packed : (generation count : ℕ) → count < 65536 → life_in (frame_word generation count) ≡ generation
 life_packed generation count low = omega arith
 

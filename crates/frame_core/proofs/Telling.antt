@@ -2,31 +2,10 @@
 use Rattle.std.proofs.Common.{◌≡◌, ℕ, ◌+◌, ◌-◌, ◌*◌, ◌%◌, ◌<◌, ◌≢◌, ◌==◌, ◌&&◌, not, leb, Bool, true, false, cond, if◌then◌else◌, List, [], ◌∷◌, length, get_or, set, Option, Some, None, slice_get, subst, sym, ap, ◌∙◌, refl, ⊎_elim, arith}
 use Rattle.std.proofs.lemmas.Bool.{eq-eqb, eqb-true, ne_eqb, cases_eq, and_parts, ltb-true}
 use Rattle.std.proofs.lemmas.List.Elements.{All-nil, All-cons}
-use Rattle.std.proofs.lemmas.Option.{same_Some}
-use Rattle.ksm_base.specs.declared.page.TheConstants.{PAGE_WORDS}
-use Rattle.ksm_base.specs.declared.shape.Shape.{Shape}
-use Rattle.ksm_base.specs.Values.{frames_of}
-use Rattle.frame_core.specs.declared.event.Event.{Event}
+use Rattle.std.proofs.lemmas.Option.{same_Some, slice_get-get_or}
+use Rattle.frame_core.proofs.Names.{PAGE_WORDS, Shape, frames_of, Event, KeeperStep, Reap, Put, Raise, Open, Add, Sub, Publish, Withdraw, Freeze, Word, ReaderStep, LoadPlace, LoadFrame, Exchange, Leave, LoadWord, Free, Filling, Private, Dying, Retired, Ledger, Note, Life, Aim, Phase, Idle, Placed, Counted, Held, Spent, State, place_word, frame_word, count_in, life_in, blank, frame_at, named_at, with_frame, IsWritable, MayStep, reaped, raised, opened, added, lowered, filled, shown, frozen, frame_word_of, keeper_finds, may_step, phase_at, nothing_known, aim_of, is_referenced, may_read, reader_finds, seat_after, reader_counts, after_keeper, step, Entry, frame_in, Rule, IsNamed, HeldRule, SeatRule, MayBeNamed, MayBeHeld}
 use Rattle.frame_core.specs.declared.event.Event.TheVariants as event
-use Rattle.frame_core.specs.declared.event.KeeperStep.{KeeperStep}
-use Rattle.frame_core.specs.declared.event.KeeperStep.TheVariants.{Reap, Put, Raise, Open, Add, Sub, Publish, Withdraw, Freeze, Word}
-use Rattle.frame_core.specs.declared.event.ReaderStep.{ReaderStep}
-use Rattle.frame_core.specs.declared.event.ReaderStep.TheVariants.{LoadPlace, LoadFrame, Exchange, Leave, LoadWord}
-use Rattle.frame_core.specs.declared.frame.Kind.TheVariants.{Free, Filling, Private, Dying, Retired}
-use Rattle.frame_core.specs.declared.ledger.Ledger.{Ledger}
-use Rattle.frame_core.specs.declared.ledger.Note.{Note}
-use Rattle.frame_core.specs.declared.seat.Life.{Life}
-use Rattle.frame_core.specs.declared.seat.Aim.{Aim}
-use Rattle.frame_core.specs.declared.seat.Phase.{Phase}
-use Rattle.frame_core.specs.declared.seat.Phase.TheVariants.{Idle, Placed, Counted, Held, Spent}
-use Rattle.frame_core.specs.State.{State, place_word, frame_word, count_in, life_in}
-use Rattle.frame_core.specs.Ledger.{blank, frame_at, named_at, with_frame, IsWritable, MayStep, reaped, raised, opened, added, lowered, filled, shown, frozen}
-use Rattle.frame_core.specs.KeeperSteps.{word_of, keeper_finds, may_step}
-use Rattle.frame_core.specs.Seat.{phase_at, nothing_known, aim_of, is_referenced, may_read, reader_finds, seat_after, reader_counts}
-use Rattle.frame_core.specs.Steps.{after_keeper, step}
-use Rattle.frame_core.specs.Trace.{Entry, frame_in}
-use Rattle.frame_core.specs.Rule.{Rule, IsNamed, HeldRule, SeatRule, MayBeNamed, MayBeHeld}
-use Rattle.frame_core.proofs.Lists.{each_set, get_set, get_inside}
+use Rattle.frame_core.proofs.Lists.{each_set, get_set}
 use Rattle.frame_core.proofs.Decides.{decides}
 use Rattle.frame_core.proofs.Fitting.{frames_at_most}
 use Rattle.frame_core.proofs.Changes.{seat_there}
@@ -242,7 +221,7 @@ module _ (sh : Shape) (s : State) (T : Tale) (rule : Rule sh s) (told : Told s T
 -- a step of the keeper that is allowed
 tell_keeper : (sh : Shape) (s : State) (t : List Entry) (e : KeeperStep) → Rule sh s → Told s (tale_of t) → MayStep sh s.ledger e
     → Told (after_keeper sh s e (keeper_finds s e)) (tale_of (record { event = event.Keeper e; word = keeper_finds s e } ∷ t))
-tell_keeper sh s t (Reap f) rule told may = tell_reap sh s (tale_of t) rule told f (count_in (word_of s f) == 0) may.0
+tell_keeper sh s t (Reap f) rule told may = tell_reap sh s (tale_of t) rule told f (count_in (frame_word_of s f) == 0) may.0
 tell_keeper sh s t (Put f i w) rule told may = tell_put sh s (tale_of t) rule told f i w may.0 may.2
 tell_keeper sh s t (Raise f) rule told may = tell_raise sh s (tale_of t) rule told f may.0
 tell_keeper sh s t (Open f) rule told may = tell_open sh s (tale_of t) rule told f _ may.0 may.1
@@ -254,7 +233,7 @@ tell_keeper sh s t (Sub f) rule told may =
 tell_keeper sh s t (Publish p f) rule told may = tell_publish sh s (tale_of t) rule told p f may.0 may.1 may.2
 tell_keeper sh s t (Withdraw p) rule told may = tell_withdraw sh s (tale_of t) rule told p may.0
 tell_keeper sh s t (Freeze f) rule told may =
-    tell_if sh s (tale_of t) rule told f (frozen (frame_at s.ledger f)) (set s.counts f 0) s.counts (count_in (word_of s f) == (frame_at s.ledger f).base) may.0
+    tell_if sh s (tale_of t) rule told f (frozen (frame_at s.ledger f)) (set s.counts f 0) s.counts (count_in (frame_word_of s f) == (frame_at s.ledger f).base) may.0
     record { generation = refl; content = refl; kind = λ h. absurd h }
 tell_keeper sh s t (Word f i) rule told may = told
 
@@ -338,7 +317,7 @@ module _ (sh : Shape) (s : State) (t : List Entry) (rule : Rule sh s) (told : To
       let note = frame_at s.ledger aim.life.frame in
       let w = get_or note.content i 0 in
       let frame = told.frames aim.life.frame in
-      let there = get_inside note.content i 0 (omega (arith, below, (rule.frames aim.life.frame r.0.inside).content)) in
+      let there = slice_get-get_or note.content i 0 (omega (arith, below, (rule.frames aim.life.frame r.0.inside).content)) in
       let was = m.1.was_named i in
       let was' : T.named aim.life.frame note.generation i ≡ Some was.0 = subst (λ (g : ℕ). T.named aim.life.frame g i ≡ Some was.0) r.1.same was.1 in
       let is : was.0 ≡ w = frame.named_as i was.0 w was' there in (
@@ -355,11 +334,11 @@ module _ (sh : Shape) (s : State) (t : List Entry) (rule : Rule sh s) (told : To
       tell_seat _ _ (λ j b. record (T.seat j) { loaded = if b then Some (p, w) else (T.seat j).loaded; given = λ f. if b then false else (T.seat j).given f })
       (λ j. refl) (loaded_told p (named_at s.ledger p) refl at)
   tell_reader LoadFrame (Placed aim failures) at may =
-      let w = word_of s aim.life.frame in
+      let w = frame_word_of s aim.life.frame in
       tell_seat _ _ (λ j b. record (T.seat j) { counted = if b then w else (T.seat j).counted }) (λ j. refl)
       (counted_told w aim failures (is_referenced aim.life.generation w) refl at)
   tell_reader Exchange (Counted aim failures count) at may =
-      let w = word_of s aim.life.frame in
+      let w = frame_word_of s aim.life.frame in
       tell_seat _ _ (λ j b. record (T.seat j) {
         held = if b && w == (T.seat j).counted then frame_in (T.seat j).loaded else (T.seat j).held;
         read = if b then [] else (T.seat j).read;
@@ -375,6 +354,7 @@ module _ (sh : Shape) (s : State) (t : List Entry) (rule : Rule sh s) (told : To
 
 -- ---------------------------------------------------------------- any step
 
+-- where state and trace go together, they do so after each step that is made
 pub told_step : (sh : Shape) (s : State) (t : List Entry) (e : Event) (r : ℕ × State) → Rule sh s → Told s (tale_of t) → step sh s e ≡ Some r
     → Told r.1 (tale_of (record { event = e; word = r.0 } ∷ t))
 told_step sh s t (event.Reader q e) r rule told is =

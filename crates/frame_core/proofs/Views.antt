@@ -1,15 +1,6 @@
 -- After every event, what the keeper knows is as its ledger says, and what the other seats know is as it was.
 use Rattle.std.proofs.Common.{◌≡◌, ℕ, Bool, true, false, subst, refl}
-use Rattle.ksm_base.specs.declared.shape.Shape.{Shape}
-use Rattle.frame_core.specs.declared.event.Event.{Event}
-use Rattle.frame_core.specs.declared.event.Event.TheVariants.{Reader, Keeper}
-use Rattle.frame_core.specs.declared.event.KeeperStep.{KeeperStep}
-use Rattle.frame_core.specs.Knowing.{FollowsLedger, LedgerTells, ChangesOwnView}
-use Rattle.frame_core.specs.KeeperSteps.{may_step, keeper_finds}
-use Rattle.frame_core.specs.Ledger.{ledger_after}
-use Rattle.frame_core.specs.Seat.{phase_at, may_read, reader_finds, seat_after}
-use Rattle.frame_core.specs.State.{State}
-use Rattle.frame_core.specs.Steps.{step, answer, after, only_if, after_keeper}
+use Rattle.frame_core.proofs.Names.{Shape, Event, Reader, Keeper, KeeperStep, FollowsLedger, LedgerTells, ChangesOwnView, may_step, keeper_finds, ledger_after, phase_at, may_read, reader_finds, seat_after, State, step, answer, after, only_if, after_keeper}
 use Rattle.frame_core.proofs.Decides.{decides}
 use Rattle.frame_core.proofs.Lists.{get_set_else}
 
@@ -24,6 +15,7 @@ follows sh s e false is = record {
   after = λ found h. absurd (cc (h));
 }
 
+-- each step of the keeper is allowed, and leads, as the ledger says
 pub ledger_tells : (sh : Shape) (s : State) (e : Event) → LedgerTells sh s e (answer (step sh s e)) (after s (step sh s e))
 ledger_tells sh s (Reader q e) = tt
 ledger_tells sh s (Keeper e) = follows sh s e (may_step sh s.ledger e) refl
@@ -32,6 +24,7 @@ own : (s : State) (e : Event) (b : Bool) (a : ℕ × State) → ChangesOwnView s
 own s e true a made same = made
 own s e false a made same = same
 
+-- an event leaves what other seats know as it was
 pub changes_own_view : (sh : Shape) (s : State) (e : Event) → ChangesOwnView s e (after s (step sh s e))
 changes_own_view sh s (Reader q e) = own s (Reader q e) (may_read sh e (phase_at s q)) _
     (refl, λ k ne. get_set_else s.seats q k (seat_after sh e (phase_at s q) (reader_finds s e (phase_at s q))) ne) (refl, λ k ne. refl)

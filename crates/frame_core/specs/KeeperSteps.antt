@@ -1,63 +1,45 @@
 -- The keeper's steps in a state: a test of where each is allowed, the word that it finds, and the references on the frames after it.
 -- What the keeper knows after it is `ledger_after`. Source: own.
 use Rattle.std.specs.Prelude.{ℕ, ◌+◌, ◌-◌, Bool, true, false, ◌&&◌, ◌||◌, not, ◌==◌, nat_lt, nat_le, cond, List, slice_index, slice_set, Option, None, Some}
-use Rattle.ksm_base.specs.declared.page.TheConstants.{PAGE_WORDS}
-use Rattle.ksm_base.specs.declared.shape.Shape.{Shape}
-use Rattle.ksm_base.specs.Values.{frames_of}
-use Rattle.frame_core.specs.declared.event.KeeperStep.{KeeperStep}
-use Rattle.frame_core.specs.declared.event.KeeperStep.TheVariants.{Reap, Put, Raise, Open, Add, Sub, Publish, Withdraw, Freeze, Word}
-use Rattle.frame_core.specs.declared.frame.Kind.{Kind}
-use Rattle.frame_core.specs.declared.frame.Kind.TheVariants.{Free, Filling, Private, Stable, Dying}
-use Rattle.frame_core.specs.declared.ledger.Ledger.{Ledger}
-use Rattle.frame_core.specs.declared.seat.Life.{Life}
+use Rattle.frame_core.specs.Terms.{PAGE_WORDS, Shape, frames_of, KeeperStep, Reap, Put, Raise, Open, Add, Sub, Publish, Withdraw, Freeze, Word, Kind, Free, Filling, Private, Stable, Dying, Retired, Ledger, Life}
 use Rattle.frame_core.specs.State.{State, frame_word, count_in}
 use Rattle.frame_core.specs.Ledger.{frame_at, named_at}
 
 -- ---------------------------------------------------------------- where a step is allowed
 
-abbrev pub is_free : Kind → Bool
-is_free Free = true
-is_free _ = false
-
-abbrev pub is_filling : Kind → Bool
-is_filling Filling = true
-is_filling _ = false
-
-abbrev pub is_private : Kind → Bool
-is_private Private = true
-is_private _ = false
-
-abbrev pub is_stable : Kind → Bool
-is_stable Stable = true
-is_stable _ = false
-
-abbrev pub is_dying : Kind → Bool
-is_dying Dying = true
-is_dying _ = false
+-- the kind is this one
+abbrev pub is_kind : Kind → Kind → Bool
+is_kind Free Free = true
+is_kind Filling Filling = true
+is_kind Private Private = true
+is_kind Stable Stable = true
+is_kind Dying Dying = true
+is_kind Retired Retired = true
+is_kind _ _ = false
 
 abbrev pub is_writable : Kind → Bool
-is_writable kind = is_filling kind || is_private kind
+is_writable kind = is_kind Filling kind || is_kind Private kind
 
 abbrev pub is_readable : Kind → Bool
-is_readable kind = is_private kind || (is_stable kind || is_dying kind)
+is_readable kind = is_kind Private kind || (is_kind Stable kind || is_kind Dying kind)
 
 -- the place names a frame that is stable in the life named
 abbrev pub is_live : Ledger → Option Life → Bool
 is_live k None = false
-is_live k (Some life) = is_stable (frame_at k life.frame).kind && (frame_at k life.frame).generation == life.generation
+is_live k (Some life) = is_kind Stable (frame_at k life.frame).kind && (frame_at k life.frame).generation == life.generation
 
 -- the test of `MayStep`
 abbrev pub may_step : Shape → Ledger → KeeperStep → Bool
-may_step sh k (Reap f) = nat_lt f (frames_of sh) && is_dying (frame_at k f).kind
+may_step sh k (Reap f) = nat_lt f (frames_of sh) && is_kind Dying (frame_at k f).kind
 may_step sh k (Put f i w) = nat_lt f (frames_of sh) && (nat_lt i PAGE_WORDS && is_writable (frame_at k f).kind)
-may_step sh k (Raise f) = nat_lt f (frames_of sh) && is_free (frame_at k f).kind
-may_step sh k (Open f) = nat_lt f (frames_of sh) && is_filling (frame_at k f).kind
+may_step sh k (Raise f) = nat_lt f (frames_of sh) && is_kind Free (frame_at k f).kind
+may_step sh k (Open f) = nat_lt f (frames_of sh) && is_kind Filling (frame_at k f).kind
 may_step sh k (Add f) = nat_lt f (frames_of sh) && (nat_le 1 (frame_at k f).base && nat_le (frame_at k f).base 1023)
 may_step sh k (Sub f) = nat_lt f (frames_of sh) && nat_le 1 (frame_at k f).base
 may_step sh k (Publish p f) =
-    nat_lt p (frames_of sh) && (nat_lt f (frames_of sh) && (is_private (frame_at k f).kind && not (is_live k (named_at k p))))
+    nat_lt p (frames_of sh) && (nat_lt f (frames_of sh) && (is_kind Private (frame_at k f).kind && not (is_live k (named_at k p))))
 may_step sh k (Withdraw p) = nat_lt p (frames_of sh) && not (is_live k (named_at k p))
-may_step sh k (Freeze f) = nat_lt f (frames_of sh) && is_stable (frame_at k f).kind
+may_step sh k (Freeze f) = nat_lt f (frames_of sh) && is_kind Stable (frame_at k f).kind
 may_step sh k (Word f i) = nat_lt f (frames_of sh) && (nat_lt i PAGE_WORDS && is_readable (frame_at k f).kind)
 
 -- ---------------------------------------------------------------- what a step finds and leaves
@@ -67,8 +49,8 @@ abbrev pub count_at : State → ℕ → ℕ
 count_at s f = slice_index s.counts f
 
 -- the word of a frame
-abbrev pub word_of : State → ℕ → ℕ
-word_of s f = frame_word (frame_at s.ledger f).generation (count_at s f)
+abbrev pub frame_word_of : State → ℕ → ℕ
+frame_word_of s f = frame_word (frame_at s.ledger f).generation (count_at s f)
 
 -- the word that a step finds: 0 for a plain store
 abbrev pub keeper_finds : State → KeeperStep → ℕ
@@ -76,12 +58,12 @@ keeper_finds s (Put f i w) = 0
 keeper_finds s (Publish p f) = 0
 keeper_finds s (Withdraw p) = 0
 keeper_finds s (Word f i) = slice_index (frame_at s.ledger f).content i
-keeper_finds s (Reap f) = word_of s f
-keeper_finds s (Raise f) = word_of s f
-keeper_finds s (Open f) = word_of s f
-keeper_finds s (Add f) = word_of s f
-keeper_finds s (Sub f) = word_of s f
-keeper_finds s (Freeze f) = word_of s f
+keeper_finds s (Reap f) = frame_word_of s f
+keeper_finds s (Raise f) = frame_word_of s f
+keeper_finds s (Open f) = frame_word_of s f
+keeper_finds s (Add f) = frame_word_of s f
+keeper_finds s (Sub f) = frame_word_of s f
+keeper_finds s (Freeze f) = frame_word_of s f
 
 -- one reference more on a frame, and one less
 abbrev pub counted_up : List ℕ → ℕ → List ℕ

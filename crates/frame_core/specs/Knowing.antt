@@ -1,11 +1,6 @@
 -- What each seat knows: an event changes the view of its own seat alone, and the keeper's is enough to tell where its steps are allowed and what follows. Source: own.
 use Rattle.std.specs.Prelude.{ℕ, ◌≡◌, ◌≢◌, ◌↔◌, slice_get}
-use Rattle.ksm_base.specs.declared.shape.Shape.{Shape}
-use Rattle.frame_core.specs.declared.event.Event.{Event}
-use Rattle.frame_core.specs.declared.event.Event.TheVariants.{Reader, Keeper}
-use Rattle.frame_core.specs.declared.event.KeeperStep.{KeeperStep}
-use Rattle.frame_core.specs.declared.event.Step.{Step}
-use Rattle.frame_core.specs.declared.event.Step.TheVariants.{Done, NotAllowed}
+use Rattle.frame_core.specs.Terms.{Shape, Event, Reader, Keeper, KeeperStep, Step, Done, NotAllowed}
 use Rattle.frame_core.specs.State.{State}
 use Rattle.frame_core.specs.Ledger.{MayStep, ledger_after}
 

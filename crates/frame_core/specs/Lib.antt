@@ -1,3 +1,4 @@
+pub mod Terms
 pub mod State
 pub mod Ledger
 pub mod KeeperSteps

@@ -1,15 +1,6 @@
 -- The rule of the protocol: what is true of words, keeper and seats between any two steps, and is kept by each. Source: own.
 use Rattle.std.specs.Prelude.{ℕ, ◌≡◌, ◌+◌, ◌<◌, ◌≤◌, Bool, false, ◌==◌, List, length, slice_get, count_by, Option, Some}
-use Rattle.ksm_base.specs.Values.{IsShape, frames_of}
-use Rattle.ksm_base.specs.declared.page.TheConstants.{PAGE_WORDS}
-use Rattle.ksm_base.specs.declared.shape.Shape.{Shape}
-use Rattle.frame_core.specs.declared.frame.Kind.{Kind}
-use Rattle.frame_core.specs.declared.frame.Kind.TheVariants.{Free, Filling, Private, Stable, Dying, Retired}
-use Rattle.frame_core.specs.declared.ledger.Ledger.{Ledger}
-use Rattle.frame_core.specs.declared.ledger.Note.{Note}
-use Rattle.frame_core.specs.declared.seat.Life.{Life}
-use Rattle.frame_core.specs.declared.seat.Phase.{Phase}
-use Rattle.frame_core.specs.declared.seat.Phase.TheVariants.{Idle, Placed, Counted, Held, Spent}
+use Rattle.frame_core.specs.Terms.{IsShape, frames_of, PAGE_WORDS, Shape, Kind, Free, Filling, Private, Stable, Dying, Retired, Ledger, Note, Life, Phase, Idle, Placed, Counted, Held, Spent}
 use Rattle.frame_core.specs.State.{State}
 use Rattle.frame_core.specs.Ledger.{frame_at, named_at}
 use Rattle.frame_core.specs.KeeperSteps.{count_at}

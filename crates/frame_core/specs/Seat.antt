@@ -1,23 +1,19 @@
 -- A reader's steps, by the phase of its seat: where each is allowed, the word that it finds, how far the seat is after it, and the references on the frames.
 -- Source: mm/ksm (a lookup takes a reference unless the count is zero, and checks that the page is still the node's); the steps are own.
 use Rattle.std.specs.Prelude.{ℕ, ◌+◌, ◌==◌, ◌&&◌, not, nat_lt, nat_le, Bool, true, false, cond, List, replicate, slice_index, slice_index_or, slice_set, Option, Some, None}
-use Rattle.ksm_base.specs.declared.page.TheConstants.{PAGE_WORDS}
-use Rattle.ksm_base.specs.declared.shape.Shape.{Shape}
-use Rattle.ksm_base.specs.Values.{frames_of}
-use Rattle.frame_core.specs.declared.event.ReaderStep.{ReaderStep}
-use Rattle.frame_core.specs.declared.event.ReaderStep.TheVariants.{LoadPlace, LoadFrame, Exchange, Leave, LoadWord}
-use Rattle.frame_core.specs.declared.seat.Aim.{Aim}
-use Rattle.frame_core.specs.declared.seat.Phase.{Phase}
-use Rattle.frame_core.specs.declared.seat.Phase.TheVariants.{Idle, Placed, Counted, Held, Spent}
+use Rattle.frame_core.specs.Terms.{PAGE_WORDS, Shape, frames_of, ReaderStep, LoadPlace, LoadFrame, Exchange, Leave, LoadWord, Aim, Phase, Idle, Placed, Counted, Held, Spent}
 use Rattle.frame_core.specs.State.{State, place_word, life_at, frame_word, count_in, life_in}
 use Rattle.frame_core.specs.Ledger.{frame_at, named_at}
-use Rattle.frame_core.specs.KeeperSteps.{word_of, counted_up, counted_down}
+use Rattle.frame_core.specs.KeeperSteps.{frame_word_of, counted_up, counted_down}
 
 -- how far a seat has come; a seat that there is not is as one that was given back
 abbrev pub phase_at : State → ℕ → Phase
 phase_at s q = slice_index_or s.seats q Spent
 
--- what a lookup is after that found this word at this place
+-- what a lookup is after that found this frame in this life at this place, and that found this word there
+abbrev pub aim_at : ℕ → ℕ → ℕ → Aim
+aim_at place frame generation = record { place = place; life = record { frame = frame; generation = generation } }
+
 abbrev pub aim_of : ℕ → ℕ → Aim
 aim_of p w = record { place = p; life = life_at w }
 
@@ -54,9 +50,9 @@ may_read sh _ _ = false
 abbrev pub reader_finds : State → ReaderStep → Phase → ℕ
 reader_finds s (LoadPlace p) phase = place_word (named_at s.ledger p)
 reader_finds s (LoadWord i) phase = slice_index (frame_at s.ledger (frame_of phase)).content i
-reader_finds s LoadFrame phase = word_of s (frame_of phase)
-reader_finds s Exchange phase = word_of s (frame_of phase)
-reader_finds s Leave phase = word_of s (frame_of phase)
+reader_finds s LoadFrame phase = frame_word_of s (frame_of phase)
+reader_finds s Exchange phase = frame_word_of s (frame_of phase)
+reader_finds s Leave phase = frame_word_of s (frame_of phase)
 
 -- how far the seat is after a step that found the word n: the failure that makes `tries` of them ends the lookup
 abbrev pub seat_after : Shape → ReaderStep → Phase → ℕ → Phase

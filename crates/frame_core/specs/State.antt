@@ -1,9 +1,7 @@
 -- The core state: what the keeper knows, the references on each frame, and how far each reader has come; and how words of the table are packed.
 -- Source: own, after mm/ksm (a stable node has no reference on its page).
 use Rattle.std.specs.Prelude.{ℕ, ◌+◌, ◌*◌, ◌/◌, ◌%◌, List, Option, None, Some}
-use Rattle.frame_core.specs.declared.ledger.Ledger.{Ledger}
-use Rattle.frame_core.specs.declared.seat.Life.{Life}
-use Rattle.frame_core.specs.declared.seat.Phase.{Phase}
+use Rattle.frame_core.specs.Terms.{Ledger, Life, Phase}
 
 -- the keeper's ledger tells of each frame all but its count, and what each place names
 pub record State : Type 0 where

@@ -1,14 +1,7 @@
 -- The step relation of the frame protocol, as a function: the word that a step finds and the state after it, or None where it is not allowed. Source: own.
 use Rattle.std.specs.Prelude.{ℕ, Bool, if◌then◌else◌, replicate, slice_set, Option, None, Some}
-use Rattle.ksm_base.specs.declared.shape.Shape.{Shape}
-use Rattle.ksm_base.specs.Values.{frames_of}
-use Rattle.frame_core.specs.declared.event.Event.{Event}
+use Rattle.frame_core.specs.Terms.{Shape, frames_of, Event, KeeperStep, ReaderStep, Step, Done, NotAllowed, Idle}
 use Rattle.frame_core.specs.declared.event.Event.TheVariants as event
-use Rattle.frame_core.specs.declared.event.KeeperStep.{KeeperStep}
-use Rattle.frame_core.specs.declared.event.ReaderStep.{ReaderStep}
-use Rattle.frame_core.specs.declared.event.Step.{Step}
-use Rattle.frame_core.specs.declared.event.Step.TheVariants.{Done, NotAllowed}
-use Rattle.frame_core.specs.declared.seat.Phase.TheVariants.{Idle}
 use Rattle.frame_core.specs.State.{State}
 use Rattle.frame_core.specs.Ledger.{first_ledger, ledger_after}
 use Rattle.frame_core.specs.KeeperSteps.{may_step, keeper_finds, keeper_counts}

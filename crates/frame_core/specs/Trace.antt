@@ -1,14 +1,7 @@
 -- What was done, the newest step first, and what can be told from it: lives, holders, words stored and words read. No count and no phase is read here. Source: own.
 use Rattle.std.specs.Prelude.{ℕ, ◌≡◌, ◌+◌, ◌<◌, Bool, true, false, ◌&&◌, ◌==◌, if◌then◌else◌, List, [], ◌∷◌, ◌++◌, filter, All, Option, None, Some, fold}
 use Rattle.std.specs.List.{range_with_len}
-use Rattle.ksm_base.specs.declared.shape.Shape.{Shape}
-use Rattle.frame_core.specs.declared.event.Event.{Event}
-use Rattle.frame_core.specs.declared.event.Event.TheVariants.{Reader, Keeper}
-use Rattle.frame_core.specs.declared.event.ReaderStep.{ReaderStep}
-use Rattle.frame_core.specs.declared.event.KeeperStep.{KeeperStep}
-use Rattle.frame_core.specs.declared.event.ReaderStep.TheVariants.{LoadPlace, LoadFrame, Exchange, Leave, LoadWord}
-use Rattle.frame_core.specs.declared.event.KeeperStep.TheVariants.{Put, Raise, Open, Publish}
-use Rattle.frame_core.specs.declared.seat.Aim.{Aim}
+use Rattle.frame_core.specs.Terms.{Shape, Event, Reader, Keeper, ReaderStep, KeeperStep, LoadPlace, LoadFrame, Exchange, Leave, LoadWord, Put, Raise, Open, Publish, Aim}
 use Rattle.frame_core.specs.State.{State, place_word, life_at}
 use Rattle.frame_core.specs.Steps.{first_state, step}
 

@@ -1,9 +1,7 @@
 -- The words of a state as one list. Source: own.
 use Rattle.std.specs.Prelude.{ℕ, ◌+◌, ◌-◌, ◌*◌, List, [], ◌∷◌, ◌++◌, map, replicate}
 use Rattle.std.specs.List.{flat_map}
-use Rattle.ksm_base.specs.declared.page.TheConstants.{PAGE_WORDS}
-use Rattle.frame_core.specs.declared.frame.TheConstants.{LINE_WORDS}
-use Rattle.frame_core.specs.declared.ledger.Note.{Note}
+use Rattle.frame_core.specs.Terms.{PAGE_WORDS, LINE_WORDS, Note}
 use Rattle.frame_core.specs.State.{State, place_word, frame_word}
 
 -- the frame words, by the generations and the counts

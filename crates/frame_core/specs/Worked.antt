@@ -1,13 +1,6 @@
 -- Worked runs of the least table, one frame, one place and one seat: what is told from their traces. Own.
 use Rattle.std.specs.Prelude.{ℕ, List, [], ◌∷◌, ◌++◌, Some}
-use Rattle.ksm_base.specs.declared.shape.Shape.{Shape}
-use Rattle.frame_core.specs.declared.event.Event.{Event}
-use Rattle.frame_core.specs.declared.event.Event.TheVariants.{Reader, Keeper}
-use Rattle.frame_core.specs.declared.event.ReaderStep.TheVariants.{LoadPlace, LoadFrame, Exchange, LoadWord}
-use Rattle.frame_core.specs.declared.event.KeeperStep.TheVariants.{Put, Raise, Open, Add, Sub, Reap, Publish}
-use Rattle.frame_core.specs.declared.frame.Kind.TheVariants.{Private}
-use Rattle.frame_core.specs.declared.ledger.Ledger.{Ledger}
-use Rattle.frame_core.specs.declared.seat.Aim.{Aim}
+use Rattle.frame_core.specs.Terms.{Shape, Event, Reader, Keeper, LoadPlace, LoadFrame, Exchange, LoadWord, Put, Raise, Open, Add, Sub, Reap, Publish, Private, Ledger}
 use Rattle.frame_core.specs.Trace.{Entry, History, run_of}
 
 abbrev pub least : Shape
@@ -38,9 +31,6 @@ held = published ++ begins ++ Reader 0 Exchange ∷ Reader 0 (LoadWord 1) ∷ gi
 -- the seat has taken the frame 0 in its life 1, which the place 0 named
 abbrev pub taken : List Event
 taken = published ++ begins ++ Reader 0 Exchange ∷ []
-
-abbrev pub aim_at : ℕ → ℕ → ℕ → Aim
-aim_at place frame generation = record { place = place; life = record { frame = frame; generation = generation } }
 
 -- then this step was made, and found this word
 abbrev pub and_then : Event → ℕ → List Entry

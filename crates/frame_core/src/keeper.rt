@@ -36,11 +36,7 @@ impl Machine {
         let notes = &self.notes;
         match step {
             KeeperStep::Reap(f) => f < count && matches!(notes[f as usize].kind, Kind::Dying),
-            KeeperStep::Put {
-                frame: f,
-                word,
-                value: _,
-            } => {
+            KeeperStep::Put { frame: f, word, .. } => {
                 f < count
                     && word < PAGE_WORDS
                     && matches!(notes[f as usize].kind, Kind::Filling | Kind::Private)
@@ -79,13 +75,7 @@ impl Machine {
         ensures { result ≡ keeper_finds self.now.state step }
     {
         match step {
-            KeeperStep::Put {
-                frame: _,
-                word: _,
-                value: _,
-            } => 0,
-            KeeperStep::Publish { place: _, frame: _ } => 0,
-            KeeperStep::Withdraw(_) => 0,
+            KeeperStep::Put { .. } | KeeperStep::Publish { .. } | KeeperStep::Withdraw(_) => 0,
             KeeperStep::Word { frame, word } => self.notes[frame as usize].content[word],
             KeeperStep::Reap(frame)
             | KeeperStep::Raise(frame)
@@ -156,7 +146,7 @@ impl Machine {
                     self.counts[f as usize] = 0;
                 }
             }
-            KeeperStep::Word { frame: _, word: _ } => {}
+            KeeperStep::Word { .. } => {}
         }
     }
 

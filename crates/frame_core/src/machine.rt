@@ -2,7 +2,7 @@
 ghost use Rattle.std.specs.Prelude.{◌≡◌, ◌<◌, length, slice_get, IfOk};
 ghost use Rattle.ksm_base.specs.Values.{IsShape, frames_of};
 ghost use Rattle.frame_core.specs.Bounds.{FrameFits, Fits};
-ghost use Rattle.frame_core.specs.KeeperSteps.{count_at, word_of};
+ghost use Rattle.frame_core.specs.KeeperSteps.{count_at, frame_word_of};
 ghost use Rattle.frame_core.specs.Ledger.{frame_at};
 ghost use Rattle.frame_core.specs.Seat.{phase_at};
 ghost use Rattle.frame_core.specs.Steps.{first_state, step, answer, after};
@@ -74,7 +74,7 @@ impl Machine {
         requires frame { frame < length self.now.state.ledger.frames }
         requires count { frame < length self.now.state.counts }
         requires fits { FrameFits (frame_at self.now.state.ledger frame) (count_at self.now.state frame) }
-        ensures { result ≡ word_of self.now.state frame }
+        ensures { result ≡ frame_word_of self.now.state frame }
     {
         let word = FrameWord {
             generation: self.notes[frame as usize].generation,

@@ -4,8 +4,9 @@ ghost use Rattle.frame_core.specs.declared.event.Event.TheVariants.{Reader, Keep
 ghost use Rattle.frame_core.specs.declared.event.KeeperStep.TheVariants.{Raise, Open};
 ghost use Rattle.frame_core.specs.declared.event.ReaderStep.TheVariants.{Leave, LoadWord};
 ghost use Rattle.frame_core.specs.Safe.{IsSafe, GivenUnheld};
+ghost use Rattle.frame_core.specs.Seat.{aim_at};
 ghost use Rattle.frame_core.specs.Trace.{life_of, holders, named_word, words_read, given_since, HoldsRightly};
-ghost use Rattle.frame_core.specs.Worked.{least, trace_of, published, two_lives, held, taken, aim_at, and_then, taken_and_writable};
+ghost use Rattle.frame_core.specs.Worked.{least, trace_of, published, two_lives, held, taken, and_then, taken_and_writable};
 
 /// Two lives in one word: the exchange fails though the count is the one that was loaded, so nobody holds the frame in its second life,
 /// which was named nowhere.

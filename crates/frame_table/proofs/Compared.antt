@@ -3,14 +3,11 @@ use Rattle.std.proofs.Common.{◌≡◌, ℕ, ◌+◌, ◌<◌, List, [], ◌∷
 use mathlib.Core.Logic.{dite}
 use native.Mathlib.Decide.{ℕ_discrete}
 use Rattle.frame_core.specs.declared.event.ReaderStep.TheVariants.{LoadWord}
-use Rattle.frame_table.specs.Named.{HeldView}
-use Rattle.frame_table.specs.Views.{Log}
-use Rattle.frame_table.specs.Lookup.{ReadsWord}
-use Rattle.frame_table.specs.Equal.{SameHold, IsRead, word_steps, known_after}
+use Rattle.frame_table.proofs.Names.{HeldView, ReaderLog, ReadsWord, SameHold, IsRead, word_steps, known_after}
 
 steps_more : (xs : List (ℕ × ℕ)) (i word : ℕ) → word_steps (xs ++ (i, word) ∷ []) ≡ word_steps xs ++ (LoadWord i, word) ∷ []
 steps_more [] i word = refl
-steps_more (x ∷ xs) i word = ap (λ (l : Log). (LoadWord x.0, x.1) ∷ l) (steps_more xs i word)
+steps_more (x ∷ xs) i word = ap (λ (l : ReaderLog). (LoadWord x.0, x.1) ∷ l) (steps_more xs i word)
 
 known_more : (known : List (Option ℕ)) (xs : List (ℕ × ℕ)) (i word : ℕ) → known_after known (xs ++ (i, word) ∷ []) ≡ set (known_after known xs) i (Some word)
 known_more known [] i word = refl
@@ -25,7 +22,7 @@ pub reads_more : (v w x : HeldView) (i word : ℕ) → SameHold v w → ReadsWor
 reads_more v w x i word h r =
     let xs = h.0 in
     let read = λ (z : HeldView). let next : HeldView = record z { log = z.log ++ (LoadWord i, word) ∷ []; known = set z.known i (Some word) } in next in
-    let log : (v.log ++ word_steps xs) ++ (LoadWord i, word) ∷ [] ≡ v.log ++ word_steps (xs ++ (i, word) ∷ []) = append_assoc v.log (word_steps xs) _ ∙ ap (λ (l : Log). v.log ++ l) (sym (steps_more xs i word)) in
+    let log : (v.log ++ word_steps xs) ++ (LoadWord i, word) ∷ [] ≡ v.log ++ word_steps (xs ++ (i, word) ∷ []) = append_assoc v.log (word_steps xs) _ ∙ ap (λ (l : ReaderLog). v.log ++ l) (sym (steps_more xs i word)) in
     let known : set (known_after v.known xs) i (Some word) ≡ known_after v.known (xs ++ (i, word) ∷ []) = sym (known_more v.known xs i word) in
     (xs ++ (i, word) ∷ [], r.0 ∙ (ap read h.1 ∙ λ j. let z : HeldView = record v { log = log j; known = known j } in z))
 

@@ -3,19 +3,9 @@ use Rattle.std.proofs.Common.{◌≡◌, ℕ, ◌+◌, ◌-◌, ◌*◌, ◌%◌
 use mathlib.Core.Option.{none as unsaid}
 use prog.Atomic.{either}
 use Rattle.atomic_table.specs.Table.{step, Allows}
-use Rattle.ksm_base.specs.declared.page.TheConstants.{PAGE_WORDS}
-use Rattle.ksm_base.specs.declared.shape.Shape.{Shape}
-use Rattle.ksm_base.specs.Values.{frames_of}
-use Rattle.frame_core.specs.declared.event.KeeperStep.{KeeperStep}
-use Rattle.frame_core.specs.declared.event.KeeperStep.TheVariants.{Reap, Put, Raise, Open, Add, Sub, Publish, Withdraw, Freeze, Word}
-use Rattle.frame_core.specs.declared.ledger.Ledger.{Ledger}
-use Rattle.frame_core.specs.State.{place_word, frame_word, life_in}
-use Rattle.frame_core.specs.Words.{frame_word_at, content_at}
-use Rattle.frame_core.specs.Ledger.{frame_at, MayStep}
-use Rattle.frame_table.specs.Rule.{Holds}
-use Rattle.frame_table.specs.Views.{Sat, IsKeeper, shape_in, ledger_in, tally_in, keeper_log, order_in}
-use Rattle.frame_table.specs.Keeping.{Keeps, keeper_word, keeper_written, found_by, knows, reaps, puts, raises, opens, adds, subs, publishes, withdraws, freezes, shows}
-use Rattle.frame_table.proofs.Allowed.{turned, weaker, MayLoad, MayStore, MayExchange, MayAdd, MaySubOne, lowered}
+use Rattle.frame_table.proofs.CoreNames.{PAGE_WORDS, Shape, frames_of, KeeperStep, Reap, Put, Raise, Open, Add, Sub, Publish, Withdraw, Freeze, Word, Ledger, place_word, frame_word, life_in, frame_word_at, content_at, frame_at, MayStep}
+use Rattle.frame_table.proofs.Names.{Holds, Sat, IsKeeper, shape_in, ledger_in, tally_in, keeper_log, order_in, Keeps, keeper_word, keeper_written, found_by, knows, reaps, puts, raises, opens, adds, subs, publishes, withdraws, freezes, shows}
+use Rattle.frame_table.proofs.Allowed.{turned, weaker, MayLoad, MayStore, MayExchange, MayAdd, MaySubOne, one_less_word}
 use Rattle.frame_table.proofs.KeeperMay.{keeper_may}
 
 raised : (n d : ℕ) → d ≤ 65536 → n < 18446744073709486080 → (n + d) % 18446744073709551616 ≡ n + d
@@ -65,24 +55,30 @@ module _ (slots id : ℕ) (key sh : Shape) (me : Sat) (at : ℕ) (keeper : IsKee
       let one : f ≡ g = one_frame (frames_of sh) f g (sym is ∙ (is' ∙ (word (frames_of (shape_in me)) g ∙ ap (λ (s : Shape). frame_word_at (frames_of s) g) shape))) in
       subst (λ (x : ℕ). Keeps (e x) me n m) one (subst (λ (w : ℕ). Keeps (e f) me w m) (found f n) keeps))
 
+  -- the keeper may load the word of a dying frame
   pub may_reap : (f : ℕ) → at ≡ frame_word_at (frames_of sh) f → MayStep sh k (Reap f) → MayLoad reaps slots id key at me
   may_reap f is may = at_frame_word Reap f (λ n. n) (λ F g. refl) (λ g n. refl) is may (λ n small told. refl)
 
+  -- the keeper may add a life to the word of a free frame
   pub may_raise : (f : ℕ) → at ≡ frame_word_at (frames_of sh) f → MayStep sh k (Raise f) → MayAdd raises slots id 65536 key at me
   may_raise f is may = at_frame_word Raise f (λ n. (n + 65536) % 2 ^ 64) (λ F g. refl) (λ g n. refl) is may
       (λ n small told. raised n 65536 (omega arith) (omega (arith, told.0, told.1)))
 
+  -- the keeper may add one to the word of a frame that it fills
   pub may_open : (f : ℕ) → at ≡ frame_word_at (frames_of sh) f → MayStep sh k (Open f) → MayAdd opens slots id 1 key at me
   may_open f is may = at_frame_word Open f (λ n. (n + 1) % 2 ^ 64) (λ F g. refl) (λ g n. refl) is may
       (λ n small told. raised n 1 (omega arith) (omega (arith, told.0, told.1)))
 
+  -- the keeper may add one to the word of a frame on which it has a reference
   pub may_add : (f : ℕ) → at ≡ frame_word_at (frames_of sh) f → MayStep sh k (Add f) → MayAdd adds slots id 1 key at me
   may_add f is may = at_frame_word Add f (λ n. (n + 1) % 2 ^ 64) (λ F g. refl) (λ g n. refl) is may
       (λ n small told. raised n 1 (omega arith) (omega (arith, told)))
 
+  -- the keeper may take one from the word of a frame on which it has a reference
   pub may_sub : (f : ℕ) → at ≡ frame_word_at (frames_of sh) f → MayStep sh k (Sub f) → MaySubOne subs slots id key at me
-  may_sub f is may = at_frame_word Sub f (λ n. (n + (2 ^ 64 - 1)) % 2 ^ 64) (λ F g. refl) (λ g n. refl) is may (λ n small told. lowered n told small)
+  may_sub f is may = at_frame_word Sub f (λ n. (n + (2 ^ 64 - 1)) % 2 ^ 64) (λ F g. refl) (λ g n. refl) is may (λ n small told. one_less_word n told small)
 
+  -- the keeper may exchange the word of a stable frame for one without a reference
   pub may_freeze : (f alone none : ℕ) → at ≡ frame_word_at (frames_of sh) f → MayStep sh k (Freeze f)
       → alone ≡ frame_word (frame_at k f).generation (frame_at k f).base % 2 ^ 64 → none ≡ frame_word (frame_at k f).generation 0 % 2 ^ 64
       → MayExchange freezes slots id alone none key at me
@@ -99,10 +95,12 @@ module _ (slots id : ℕ) (key sh : Shape) (me : Sat) (at : ℕ) (keeper : IsKee
   same_word f i g j is below below' shape is' =
       one_word (frames_of sh) f i g j below below' (sym is ∙ (is' ∙ ap (λ (s : Shape). content_at (frames_of s) g j) shape))
 
+  -- the keeper may store a word of a page that it may write
   pub may_put : (f i w : ℕ) → at ≡ content_at (frames_of sh) f i → MayStep sh k (Put f i w) → MayStore puts slots id w key at me
   may_put f i w is may = makes (Put f i w) (λ n. w) (λ n. puts (step slots at w 0 unsaid) me w) is may (λ n small told. refl) (λ n m shape keeps g j below is'.
       let one = same_word f i g j is may.1 below shape is' in subst (λ (x : ℕ × ℕ). Keeps (Put x.0 x.1 w) me 0 m) (λ y. (one.0 y, one.1 y)) keeps)
 
+  -- the keeper may load a word of a page that it may read
   pub may_show : (f i : ℕ) → at ≡ content_at (frames_of sh) f i → MayStep sh k (Word f i) → MayLoad shows slots id key at me
   may_show f i is may = makes (Word f i) (λ n. n) (shows (step slots at 0 0 unsaid) me) is may (λ n small told. refl) (λ n m shape keeps g j below is'.
       let one = same_word f i g j is may.1 below shape is' in subst (λ (x : ℕ × ℕ). Keeps (Word x.0 x.1) me n m) (λ y. (one.0 y, one.1 y)) keeps)
@@ -115,6 +113,7 @@ module _ (slots id : ℕ) (key sh : Shape) (me : Sat) (at : ℕ) (keeper : IsKee
       makes (Publish at f) (λ n. w) (λ n. publishes (step slots at w 0 unsaid) me w) refl may (λ n small told. named (frame_at k f).generation f w low told is)
       (λ n m shape keeps q at_q. subst (λ (x : ℕ × ℕ). Keeps (Publish x.0 x.1) me 0 m) (λ y. (at_q y, one y)) keeps)
 
+  -- the keeper may empty a place that is loose
   pub may_withdraw : MayStep sh k (Withdraw at) → MayStore withdraws slots id 0 key at me
   may_withdraw may = makes (Withdraw at) (λ n. 0) (λ n. withdraws (step slots at 0 0 unsaid) me 0) refl may (λ n small told. refl)
       (λ n m shape keeps q at_q. subst (λ (x : ℕ). Keeps (Withdraw x) me 0 m) at_q keeps)

@@ -1,34 +1,17 @@
 -- Whatever the table is, a step of the keeper that the core allows keeps the table's rule.
-use Rattle.std.proofs.Common.{◌≡◌, ℕ, zero, suc, ◌<◌, ◌≢◌, Bool, List, [], ◌∷◌, ◌++◌, set, get_or, Some, refl, ap, sym, subst, ◌∙◌, ⊎_elim}
+use Rattle.std.proofs.Common.{◌≡◌, ℕ, zero, suc, ◌<◌, ◌≢◌, Bool, List, [], ◌∷◌, ◌++◌, set, get_or, Some, refl, ap, sym, subst, ◌∙◌}
 use Rattle.std.proofs.lemmas.List.{map-set}
 use mathlib.Core.Option.{some}
 use lib.ListN.{get_elem?}
 use Rattle.atomic_table.specs.Table.{keeps, Allows}
-use Rattle.atomic_table.proofs.Lists.{at_set}
-use Rattle.ksm_base.specs.declared.shape.Shape.{Shape}
-use Rattle.ksm_base.specs.Values.{frames_of}
-use Rattle.frame_core.specs.declared.event.Event.{Event}
+use Rattle.frame_table.proofs.CoreNames.{Shape, frames_of, Event, KeeperStep, Ledger, Phase, Spent as spent_phase, keeper_finds, ledger_after, MayStep, step, only_if, after_keeper, words_of, History, run_of, log_of, keeper_log_of}
 use Rattle.frame_core.specs.declared.event.Event.TheVariants as event
-use Rattle.frame_core.specs.declared.event.KeeperStep.{KeeperStep}
-use Rattle.frame_core.specs.declared.ledger.Ledger.{Ledger}
-use Rattle.frame_core.specs.declared.seat.Phase.{Phase}
-use Rattle.frame_core.specs.declared.seat.Phase.TheVariants.{Spent as spent_phase}
 use Rattle.frame_core.specs.State as core
-use Rattle.frame_core.specs.KeeperSteps.{keeper_finds}
-use Rattle.frame_core.specs.Ledger.{ledger_after, MayStep}
 use Rattle.frame_core.specs.Rule as core_rule
-use Rattle.frame_core.specs.Steps.{step, only_if, after_keeper}
-use Rattle.frame_core.specs.Words.{words_of}
-use Rattle.frame_core.specs.Trace.{History, run_of, log_of, keeper_log_of}
 use Rattle.frame_core.proofs.Above.{decides}
-use Rattle.frame_table.specs.declared.view.Tally.{Tally}
-use Rattle.frame_table.specs.declared.view.View.{View}
-use Rattle.frame_table.specs.declared.view.View.TheVariants.{Keeper, Reader, Spent}
-use Rattle.frame_table.specs.Views.{KeeperLog, keeps_ledger, phase_of}
-use Rattle.frame_table.specs.Rule.{Holds, IsAfter, Tied}
-use Rattle.frame_table.specs.Keeping.{Keeps, keeper_word, keeper_written, found_by, knows}
-use Rattle.frame_table.specs.Steps.{IsKeeperStep}
+use Rattle.frame_table.proofs.Names.{Tally, View, Keeper, Reader, Spent, KeeperLog, keeps_ledger, phase_of, Holds, IsAfter, Tied, Keeps, keeper_word, keeper_written, found_by, knows, IsKeeperStep}
 use Rattle.frame_table.proofs.KeeperWords.{keeper_words}
+use Rattle.frame_table.proofs.Looked.{each_put}
 use Rattle.frame_table.proofs.Making.{kept, seen, ran, present, made}
 use Rattle.frame_table.proofs.Orders.{begins_itself}
 
@@ -37,6 +20,7 @@ keeper_step : (sh : Shape) (s : core.State) (e : KeeperStep) → MayStep sh s.le
 keeper_step sh s e may =
     let made : ℕ × core.State = (keeper_finds s e, after_keeper sh s e (keeper_finds s e)) in ap (λ (b : Bool). only_if b made) ((decides sh s.ledger e).1 may)
 
+-- a step of the keeper that the ledger allows is the core's
 pub keeper_step_is : (sh : Shape) (s : core.State) (e : KeeperStep) → core_rule.Rule sh s → MayStep sh s.ledger e → IsKeeperStep sh s e
 keeper_step_is sh s e rule may = let one = keeper_words sh s rule e may in record {
   found = keeper_finds s e;
@@ -50,12 +34,12 @@ keeper_step_is sh s e rule may = let one = keeper_words sh s rule e may in recor
 }
 
 -- of a seat that is not the keeper's, what is told does not speak of the keeper
-pub others_tied : (sh : Shape) (h g : History) (tally tally' : Tally) (j : ℕ) (v : View) → ((q : ℕ) → log_of q g.trace ≡ log_of q h.trace) → j ≢ 0
+pub tied_beside_keeper : (sh : Shape) (h g : History) (tally tally' : Tally) (j : ℕ) (v : View) → ((q : ℕ) → log_of q g.trace ≡ log_of q h.trace) → j ≢ 0
     → Tied sh h tally j v → Tied sh g tally' j v
-others_tied sh h g tally tally' zero v same ne tied = absurd (ne refl)
-others_tied sh h g tally tally' (suc q) (Reader sh' phase log order) same ne tied = (tied.0, tied.1 ∙ sym (same q))
-others_tied sh h g tally tally' (suc q) Spent same ne tied = tt
-others_tied sh h g tally tally' (suc q) (Keeper sh' ledger t log order) same ne tied = absurd tied
+tied_beside_keeper sh h g tally tally' zero v same ne tied = absurd (ne refl)
+tied_beside_keeper sh h g tally tally' (suc q) (Reader sh' phase log order) same ne tied = (tied.0, tied.1 ∙ sym (same q))
+tied_beside_keeper sh h g tally tally' (suc q) Spent same ne tied = tt
+tied_beside_keeper sh h g tally tally' (suc q) (Keeper sh' ledger t log order) same ne tied = absurd tied
 
 -- the keeper's view tells another tally
 pub keeper_retold : (sh : Shape) (h : History) (tally tally' : Tally) (words : List ℕ) (views : List View) (v w : View)
@@ -63,11 +47,10 @@ pub keeper_retold : (sh : Shape) (h : History) (tally tally' : Tally) (words : L
 keeper_retold sh h tally tally' words views v w keeper told at is = record {
   words_are = is.words_are;
   phases_are = map-set phase_of views 0 w ∙ (ap (λ (l : List Phase). set l 0 (phase_of w)) is.phases_are ∙ (λ i. keeper i ∷ h.state.seats));
-  tied = λ j v of. ⊎_elim (λ (k : (j ≡ 0) × (w ≡ v)). subst (λ (x : ℕ × View). Tied sh h tally' x.0 x.1) (λ i. (sym k.0 i, k.1 i)) told)
-      (λ (k : (j ≢ 0) × (get_elem? views j ≡ some v)). others_tied sh h h tally tally' j v (λ q. refl) k.0 (is.tied j v k.1))
-      (at_set views 0 j w v of);
+  tied = each_put (Tied sh h tally') views 0 w told (λ j x ne of. tied_beside_keeper sh h h tally tally' j x (λ q. refl) ne (is.tied j x of));
 }
 
+-- an operation that leaves what the step leaves may make a step of the keeper, whatever the table is
 pub keeper_may : (slots : ℕ) (e : KeeperStep) (f : ℕ → ℕ) (log : KeeperLog) (order : List Event) (sh : Shape) (k : Ledger) (tally : Tally) (id : ℕ) → MayStep sh k e
     → ((n : ℕ) → n < 18446744073709551616 → knows k e (found_by e n) → f n ≡ keeper_written k e n)
     → Allows (Holds sh) slots id (keeps_ledger sh k tally log order) (keeper_word (frames_of sh) e) f (λ n. Keeps e (keeps_ledger sh k tally log order) (found_by e n))
@@ -96,7 +79,7 @@ keeper_may slots e f log order sh k tally zero may writes t h size at small =
       keeps,
       tt,
       made sh t h 0 v w at this r is i (f n) words refl refl refl (refl, (λ j. ledger_after sh (tied.1 j) e (found j)), tied.2, logged)
-          (λ j x ne. others_tied sh past record { state = r.1; trace = record { event = this; word = r.0 } ∷ past.trace } h.tally h.tally j x (λ q. refl) ne)
+          (λ j x ne. tied_beside_keeper sh past record { state = r.1; trace = record { event = this; word = r.0 } ∷ past.trace } h.tally h.tally j x (λ q. refl) ne)
           (begins_itself events, logged ∙ ap (λ (g : History). keeper_log_of g.trace) (sym (ran sh t h 0 v w at this r is))),
       (refl, knew, present sh t h 0 v w at this r is order (found_by e n) (h.orders 0 v at).0 found),
     )

@@ -1,21 +1,8 @@
 -- A step of the keeper changes one word of the table, and is told what it found there.
 use Rattle.std.proofs.Common.{◌≡◌, ℕ, ◌+◌, ◌-◌, ◌<◌, ◌≤◌, ◌==◌, Bool, true, false, cond, eqb, set, get_or, Some, None, refl, ap, sym, subst, ◌∙◌, arith}
-use Rattle.std.proofs.lemmas.List.{set-get_or}
 use Rattle.std.proofs.lemmas.Bool.{eqb-true, eqb-false, eq-eqb, ne_eqb}
-use Rattle.ksm_base.specs.declared.shape.Shape.{Shape}
-use Rattle.ksm_base.specs.Values.{frames_of}
-use Rattle.frame_core.specs.declared.event.KeeperStep.{KeeperStep}
-use Rattle.frame_core.specs.declared.event.KeeperStep.TheVariants.{Reap, Put, Raise, Open, Add, Sub, Publish, Withdraw, Freeze, Word}
-use Rattle.frame_core.specs.declared.frame.Kind.{Kind}
-use Rattle.frame_core.specs.declared.frame.Kind.TheVariants.{Free, Filling}
-use Rattle.frame_core.specs.declared.ledger.Ledger.{Ledger}
-use Rattle.frame_core.specs.State.{State, frame_word, count_in}
-use Rattle.frame_core.specs.Words.{words_of, frame_word_at, content_at}
-use Rattle.frame_core.specs.KeeperSteps.{count_at, word_of, keeper_finds}
-use Rattle.frame_core.specs.Ledger.{frame_at, with_frame, MayStep, reaped, filled, raised, opened, added, lowered, shown, frozen}
-use Rattle.frame_core.specs.Steps.{after_keeper}
-use Rattle.frame_core.specs.Rule.{Rule, CountFits, GenerationFits}
-use Rattle.frame_core.proofs.Above.{base_at_most, count_at_most, life_low, count_found, life_found, word_get, content_get, word_set, note_set, content_set, place_set, words_same}
+use Rattle.frame_table.proofs.CoreNames.{Shape, frames_of, KeeperStep, Reap, Put, Raise, Open, Add, Sub, Publish, Withdraw, Freeze, Word, Kind, Free, Filling, Ledger, State, frame_word, count_in, words_of, frame_word_at, content_at, count_at, frame_word_of, keeper_finds, frame_at, with_frame, MayStep, reaped, filled, raised, opened, added, lowered, shown, frozen, after_keeper, Rule, CountFits, GenerationFits}
+use Rattle.frame_core.proofs.Above.{as_it_was, base_at_most, count_at_most, life_low, count_found, life_found, word_get, content_get, word_set, note_set, content_set, place_set, words_same}
 use Rattle.frame_table.specs.Keeping.{keeper_word, keeper_written, found_by, knows}
 
 -- the word that a step leaves, what it is told, and what it knew of that
@@ -37,53 +24,50 @@ module _ (sh : Shape) (s : State) (rule : Rule sh s) where
   on_word e n is left found told =
       (ap (λ (m : ℕ). set (words_of s) (keeper_word F e) (keeper_written k e m)) is ∙ left, ap (found_by e) is ∙ found, told)
 
-  -- a word that is written as it was
-  as_it_was : (i n : ℕ) → get_or (words_of s) i 0 ≡ n → set (words_of s) i n ≡ words_of s
-  as_it_was i n is = ap (set (words_of s) i) (sym is) ∙ set-get_or (words_of s) i 0
-
-  reaps : (f : ℕ) (b : Bool) → f < F → set (words_of s) (frame_word_at F f) (word_of s f)
+  reaps : (f : ℕ) (b : Bool) → f < F → set (words_of s) (frame_word_at F f) (frame_word_of s f)
       ≡ words_of record { ledger = cond b (with_frame k f (reaped sh.last_generation (frame_at k f))) k; counts = s.counts; seats = s.seats }
-  reaps f true below = note_set sh s rule f (word_of s f) (reaped sh.last_generation (frame_at k f)) below refl refl
-  reaps f false below = as_it_was (frame_word_at F f) (word_of s f) (word_get sh s rule f below)
+  reaps f true below = note_set sh s rule f (frame_word_of s f) (reaped sh.last_generation (frame_at k f)) below refl refl
+  reaps f false below = as_it_was s (frame_word_at F f) (frame_word_of s f) (word_get sh s rule f below)
 
   -- two words of one life are equal exactly where their counts are
-  same_life : (f c : ℕ) (b : Bool) → f < F → (count_in (word_of s f) == c) ≡ b → eqb (word_of s f) (frame_word (frame_at k f).generation c) ≡ b
-  same_life f c true below is = eq-eqb (word_of s f) (frame_word (frame_at k f).generation c)
-      (ap (frame_word (frame_at k f).generation) (sym (count_found sh s rule f below) ∙ eqb-true (count_in (word_of s f)) c is))
-  same_life f c false below is = ne_eqb (word_of s f) (frame_word (frame_at k f).generation c)
-      (λ e. eqb-false (count_in (word_of s f)) c is (count_found sh s rule f below ∙ omega (arith, e)))
+  same_life : (f c : ℕ) (b : Bool) → f < F → (count_in (frame_word_of s f) == c) ≡ b → eqb (frame_word_of s f) (frame_word (frame_at k f).generation c) ≡ b
+  same_life f c true below is = eq-eqb (frame_word_of s f) (frame_word (frame_at k f).generation c)
+      (ap (frame_word (frame_at k f).generation) (sym (count_found sh s rule f below) ∙ eqb-true (count_in (frame_word_of s f)) c is))
+  same_life f c false below is = ne_eqb (frame_word_of s f) (frame_word (frame_at k f).generation c)
+      (λ e. eqb-false (count_in (frame_word_of s f)) c is (count_found sh s rule f below ∙ omega (arith, e)))
 
-  freezes : (f : ℕ) (b : Bool) → f < F → set (words_of s) (frame_word_at F f) (cond b (frame_word (frame_at k f).generation 0) (word_of s f))
+  freezes : (f : ℕ) (b : Bool) → f < F → set (words_of s) (frame_word_at F f) (cond b (frame_word (frame_at k f).generation 0) (frame_word_of s f))
       ≡ words_of record { ledger = cond b (with_frame k f (frozen (frame_at k f))) k; counts = cond b (set s.counts f 0) s.counts; seats = s.seats }
   freezes f true below = word_set sh s rule f (frame_word (frame_at k f).generation 0) 0 (frozen (frame_at k f)) below refl refl
-  freezes f false below = as_it_was (frame_word_at F f) (word_of s f) (word_get sh s rule f below)
+  freezes f false below = as_it_was s (frame_word_at F f) (frame_word_of s f) (word_get sh s rule f below)
 
   -- the word of a frame without a reference
-  empty_word : (f : ℕ) → count_at s f ≡ 0 → word_of s f ≡ frame_word (frame_at k f).generation 0
+  empty_word : (f : ℕ) → count_at s f ≡ 0 → frame_word_of s f ≡ frame_word (frame_at k f).generation 0
   empty_word f none = ap (frame_word (frame_at k f).generation) none
 
+  -- each step of the keeper that is allowed finds and leaves the words of the states before and after it
   pub keeper_words : (e : KeeperStep) → MayStep sh k e → OneWord sh s e
-  keeper_words (Reap f) may = on_word (Reap f) (word_of s f) (word_get sh s rule f may.0) (reaps f (count_in (word_of s f) == 0) may.0) refl tt
+  keeper_words (Reap f) may = on_word (Reap f) (frame_word_of s f) (word_get sh s rule f may.0) (reaps f (count_in (frame_word_of s f) == 0) may.0) refl tt
   keeper_words (Put f i w) may = (content_set sh s rule f i w (filled i w (frame_at k f)) may.0 may.1 refl refl, refl, tt)
   keeper_words (Raise f) may =
       let frame = rule.frames f may.0 in
       let none : CountFits Free (count_at s f) = subst (λ (x : Kind). CountFits x (count_at s f)) may.1 frame.count_fits in
       let low : GenerationFits sh.last_generation Free (frame_at k f).generation =
       subst (λ (x : Kind). GenerationFits sh.last_generation x (frame_at k f).generation) may.1 frame.generation in
-      on_word (Raise f) (word_of s f) (word_get sh s rule f may.0)
-      (note_set sh s rule f (word_of s f + 65536) (raised (frame_at k f)) may.0 (omega arith) refl) refl
+      on_word (Raise f) (frame_word_of s f) (word_get sh s rule f may.0)
+      (note_set sh s rule f (frame_word_of s f + 65536) (raised (frame_at k f)) may.0 (omega arith) refl) refl
       (empty_word f none, omega (arith, low, rule.shape.generation_high))
   keeper_words (Open f) may =
       let none : CountFits Filling (count_at s f) = subst (λ (x : Kind). CountFits x (count_at s f)) may.1 (rule.frames f may.0).count_fits in
-      on_word (Open f) (word_of s f) (word_get sh s rule f may.0)
-      (word_set sh s rule f (word_of s f + 1) (count_at s f + 1) (opened (frame_at k f)) may.0 (omega arith) refl) refl (empty_word f none, life_low sh s rule f may.0)
-  keeper_words (Add f) may = on_word (Add f) (word_of s f) (word_get sh s rule f may.0)
-      (word_set sh s rule f (word_of s f + 1) (count_at s f + 1) (added (frame_at k f)) may.0 (omega arith) refl) refl
+      on_word (Open f) (frame_word_of s f) (word_get sh s rule f may.0)
+      (word_set sh s rule f (frame_word_of s f + 1) (count_at s f + 1) (opened (frame_at k f)) may.0 (omega arith) refl) refl (empty_word f none, life_low sh s rule f may.0)
+  keeper_words (Add f) may = on_word (Add f) (frame_word_of s f) (word_get sh s rule f may.0)
+      (word_set sh s rule f (frame_word_of s f + 1) (count_at s f + 1) (added (frame_at k f)) may.0 (omega arith) refl) refl
       (omega (arith, count_at_most sh s rule f may.0, life_low sh s rule f may.0))
   keeper_words (Sub f) may =
       let some : 1 ≤ count_at s f = omega (arith, may.1, (rule.frames f may.0).counted) in
-      on_word (Sub f) (word_of s f) (word_get sh s rule f may.0)
-      (word_set sh s rule f (word_of s f - 1) (count_at s f - 1) (lowered (frame_at k f)) may.0 (omega (arith, some)) refl) refl
+      on_word (Sub f) (frame_word_of s f) (word_get sh s rule f may.0)
+      (word_set sh s rule f (frame_word_of s f - 1) (count_at s f - 1) (lowered (frame_at k f)) may.0 (omega (arith, some)) refl) refl
       (omega (arith, some, count_found sh s rule f may.0))
   keeper_words (Publish p f) may =
       let note = shown (frame_at k f) in (
@@ -94,10 +78,10 @@ module _ (sh : Shape) (s : State) (rule : Rule sh s) where
   keeper_words (Withdraw p) may = (place_set sh s rule p None k.frames may.0 refl, refl, tt)
   keeper_words (Freeze f) may =
       let note = frame_at k f in
-      let b : Bool = count_in (word_of s f) == note.base in
-      on_word (Freeze f) (word_of s f) (word_get sh s rule f may.0)
-      (ap (λ (c : Bool). set (words_of s) (frame_word_at F f) (cond c (frame_word note.generation 0) (word_of s f))) (same_life f note.base b may.0 refl) ∙ freezes f b may.0)
+      let b : Bool = count_in (frame_word_of s f) == note.base in
+      on_word (Freeze f) (frame_word_of s f) (word_get sh s rule f may.0)
+      (ap (λ (c : Bool). set (words_of s) (frame_word_at F f) (cond c (frame_word note.generation 0) (frame_word_of s f))) (same_life f note.base b may.0 refl) ∙ freezes f b may.0)
       refl (life_found sh s rule f may.0, base_at_most note.kind note.base (rule.frames f may.0).base)
   keeper_words (Word f i) may =
       let here = content_get sh s rule f i may.0 may.1 in
-      on_word (Word f i) (get_or (frame_at k f).content i 0) here (as_it_was (content_at F f i) _ here) refl refl
+      on_word (Word f i) (get_or (frame_at k f).content i 0) here (as_it_was s (content_at F f i) _ here) refl refl

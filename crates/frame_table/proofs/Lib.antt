@@ -1,3 +1,6 @@
+pub mod Above
+pub mod CoreNames
+pub mod Names
 pub mod Looked
 pub mod Orders
 pub mod Making

@@ -2,40 +2,27 @@
 use Rattle.std.proofs.Common.{◌≡◌, ℕ, ◌+◌, ◌<◌, ◌≤◌, eqb, nat_le, Bool, true, false, cond, Some, None, List, [], ◌∷◌, ◌++◌, length, sym, refl, ap, ◌∙◌, subst, arith, ne_eqb, eq-eqb, append_assoc, length-append}
 use Rattle.std.proofs.lemmas.Bool.{lt-leb, eqb-false}
 use Rattle.std.proofs.lemmas.Option.{same_Some}
-use Rattle.ksm_base.specs.declared.shape.Shape.{Shape}
-use Rattle.frame_core.specs.declared.seat.Life.{Life}
-use Rattle.frame_core.specs.declared.seat.Aim.{Aim}
-use Rattle.frame_core.specs.declared.seat.Phase.{Phase}
-use Rattle.frame_core.specs.declared.seat.Phase.TheVariants.{Idle, Placed, Counted}
-use Rattle.frame_core.specs.declared.event.ReaderStep.TheVariants.{LoadPlace, LoadFrame, Exchange}
-use Rattle.frame_table.specs.declared.pass.Round.{Round}
-use Rattle.frame_table.specs.declared.pass.Round.TheVariants.{Lost}
-use Rattle.frame_table.specs.declared.view.View.TheVariants.{Reader}
-use Rattle.frame_table.specs.Rounds.{GoesRound}
-use Rattle.frame_table.specs.Lookup.{rounds, IsAlive, AllLost, GoesOn, opening}
-use Rattle.frame_table.specs.Named.{TableName}
+use Rattle.frame_table.proofs.CoreNames.{Shape, Life, Aim, Phase, Idle, Placed, Counted, LoadPlace, LoadFrame, Exchange, life_at, frame_word, count_in, life_in, aim_of, is_referenced}
+use Rattle.frame_table.proofs.Names.{Round, Lost, Reader, GoesRound, rounds, IsAlive, AllLost, GoesOn, lookup_so_far, TableName, ReaderLog, Sat, sits, log_in, order_in, shape_in, IsIn, reader_after, Steps}
 use Rattle.atomic_table.specs.Seated.{TableId}
-use Rattle.frame_core.specs.State.{life_at, frame_word, count_in, life_in}
-use Rattle.frame_core.specs.Seat.{aim_of, is_referenced}
-use Rattle.frame_table.specs.Views.{Log, Sat, sits, log_in, order_in, shape_in, IsIn}
-use Rattle.frame_table.specs.Reading.{reader_after, Steps}
 
 -- from the value of a seat, what `IsIn` says
-pub is_in : (sh : Shape) (phase : Phase) (log : Log) (m : Sat) → m ≡ sits sh phase log (order_in m) → IsIn sh phase m
-is_in sh phase log m e = e ∙ ap (λ (l : Log). sits sh phase l (order_in m)) (sym (ap log_in e))
+pub is_in : (sh : Shape) (phase : Phase) (log : ReaderLog) (m : Sat) → m ≡ sits sh phase log (order_in m) → IsIn sh phase m
+is_in sh phase log m e = e ∙ ap (λ (l : ReaderLog). sits sh phase l (order_in m)) (sym (ap log_in e))
 
 -- after i rounds that were lost
-abbrev pub Tries : Shape → Log → ℕ → ℕ → ℕ → Sat → Type 0
+abbrev pub Tries : Shape → ReaderLog → ℕ → ℕ → ℕ → Sat → Type 0
 Tries sh log p w i m = (xs : List (ℕ × ℕ)) × AllLost (life_at w).generation xs × (length xs ≡ i)
-    × (m ≡ sits sh (cond (nat_le sh.tries i) Idle (Placed (aim_of p w) i)) (log ++ opening p w xs) (order_in m))
+    × (m ≡ sits sh (cond (nat_le sh.tries i) Idle (Placed (aim_of p w) i)) (log ++ lookup_so_far p w xs) (order_in m))
 
 module _ (sh : Shape) (p w : ℕ) where
   abbrev at : ℕ → Phase
   at i = Placed (aim_of p w) i
 
+  -- after the load of a place that names something no try is made yet
   pub begins : (me m : Sat) → IsIn sh Idle me → Steps (LoadPlace p) me w m → ¬ (w ≡ 0) → 1 ≤ sh.tries → Tries sh (log_in me) p w 0 m
   begins me m is s some_word some_try =
-      let log : Log = log_in me ++ (LoadPlace p, w) ∷ [] in
+      let log : ReaderLog = log_in me ++ (LoadPlace p, w) ∷ [] in
       let e : m ≡ sits sh (cond (eqb w 0) Idle (at 0)) log (order_in m) = s ∙ ap (λ (x : Sat). (reader_after (LoadPlace p) x.0 w (order_in m), x.1)) is in (
         [],
         tt,
@@ -43,13 +30,14 @@ module _ (sh : Shape) (p w : ℕ) where
         e ∙ (ap (λ (b : Bool). sits sh (cond b Idle (at 0)) log (order_in m)) (ne_eqb w 0 some_word) ∙ ap (λ (b : Bool). sits sh (cond b Idle (at 0)) log (order_in m)) (sym (lt-leb sh.tries 0 (omega arith)))),
       )
 
-  module _ (log : Log) (i : ℕ) (m : Sat) (t : Tries sh log p w i m) where
-    abbrev so_far : Log
-    so_far = log ++ opening p w t.0
+  module _ (log : ReaderLog) (i : ℕ) (m : Sat) (t : Tries sh log p w i m) where
+    abbrev so_far : ReaderLog
+    so_far = log ++ lookup_so_far p w t.0
 
     here : i < sh.tries → m ≡ sits sh (at i) so_far (order_in m)
     here more = t.3 ∙ ap (λ (b : Bool). sits sh (cond b Idle (at i)) so_far (order_in m)) (lt-leb sh.tries i more)
 
+    -- after fewer rounds than tries the seat is after what the place named
     pub stands : i < sh.tries → IsIn sh (at i) m
     stands more = is_in sh (at i) so_far m (here more)
 
@@ -63,23 +51,24 @@ module _ (sh : Shape) (p w : ℕ) where
 
     rounds_more : (xs : List (ℕ × ℕ)) (c d : ℕ) → rounds (xs ++ (c, d) ∷ []) ≡ rounds xs ++ (LoadFrame, c) ∷ (Exchange, d) ∷ []
     rounds_more [] c d = refl
-    rounds_more (z ∷ zs) c d = ap (λ (l : Log). (LoadFrame, z.0) ∷ (Exchange, z.1) ∷ l) (rounds_more zs c d)
+    rounds_more (z ∷ zs) c d = ap (λ (l : ReaderLog). (LoadFrame, z.0) ∷ (Exchange, z.1) ∷ l) (rounds_more zs c d)
 
+    -- after a round that was lost one try more is made
     pub goes_on : (m' : Sat) (c d : ℕ) → i < sh.tries → GoesRound m.0 (Lost c d) m' → Tries sh log p w (i + 1) m'
     goes_on m' c d more goes =
         let g = last_round (Lost c d) m' more goes in
         let n = t.2 in
         let xs : List (ℕ × ℕ) = t.0 ++ (c, d) ∷ [] in
         let phase : Phase = cond (nat_le sh.tries (i + 1)) Idle (at (i + 1)) in
-        let same : so_far ++ (LoadFrame, c) ∷ (Exchange, d) ∷ [] ≡ log ++ opening p w xs = append_assoc log (opening p w t.0) _
-        ∙ ap (λ (l : Log). log ++ (LoadPlace p, w) ∷ l) (sym (rounds_more t.0 c d)) in
-        (xs, lost_more (life_at w).generation t.0 c d t.1 g.0 g.1, omega (arith, length-append t.0 ((c, d) ∷ [])), g.2 ∙ ap (λ (l : Log). sits sh phase l (order_in m')) same)
+        let same : so_far ++ (LoadFrame, c) ∷ (Exchange, d) ∷ [] ≡ log ++ lookup_so_far p w xs = append_assoc log (lookup_so_far p w t.0) _
+        ∙ ap (λ (l : ReaderLog). log ++ (LoadPlace p, w) ∷ l) (sym (rounds_more t.0 c d)) in
+        (xs, lost_more (life_at w).generation t.0 c d t.1 g.0 g.1, omega (arith, length-append t.0 ((c, d) ∷ [])), g.2 ∙ ap (λ (l : ReaderLog). sits sh phase l (order_in m')) same)
 
 -- a frame word of the life named, with a reference, was loaded
 pub counted : (sh : Shape) (aim : Aim) (failures n : ℕ) (me m : Sat) → IsIn sh (Placed aim failures) me → Steps LoadFrame me n m
     → IsAlive aim.life.generation n → (n ≡ frame_word aim.life.generation (count_in n)) × IsIn sh (Counted aim failures (count_in n)) m
 counted sh aim failures n me m is s alive =
-    let log : Log = log_in me ++ (LoadFrame, n) ∷ [] in
+    let log : ReaderLog = log_in me ++ (LoadFrame, n) ∷ [] in
     let test : is_referenced aim.life.generation n ≡ true = rw (ne_eqb (count_in n) 0 alive.0, eq-eqb (life_in n) aim.life.generation alive.1) refl in
     let e : m ≡ sits sh (cond (is_referenced aim.life.generation n) (Counted aim failures (count_in n)) Idle) log (order_in m) = s
     ∙ ap (λ (x : Sat). (reader_after LoadFrame x.0 n (order_in m), x.1)) is in (
@@ -89,9 +78,9 @@ counted sh aim failures n me m is s alive =
     )
 
 -- what the word of a place names, where it names something
-pub named : (w : ℕ) (life : Life) (b : Bool) → eqb w 0 ≡ b → cond b None (Some (life_at w)) ≡ Some life → ¬ (w ≡ 0) × (life_at w ≡ life)
-named w life true is e = absurd (cc (e))
-named w life false is e = (eqb-false w 0 is, same_Some (life_at w) life e)
+pub word_names : (w : ℕ) (life : Life) (b : Bool) → eqb w 0 ≡ b → cond b None (Some (life_at w)) ≡ Some life → ¬ (w ≡ 0) × (life_at w ≡ life)
+word_names w life true is e = absurd (cc (e))
+word_names w life false is e = (eqb-false w 0 is, same_Some (life_at w) life e)
 
 -- the table that a seat is of, after a round
 pub same_table : (mine now : TableName) (id : TableId) (m : Sat) → id ≡ now.id → shape_in m ≡ now.shape → mine ≡ now
@@ -99,7 +88,7 @@ pub same_table : (mine now : TableName) (id : TableId) (m : Sat) → id ≡ now.
 same_table mine now id m ids shapes own = (λ i. record { id = ids i; shape = shapes i }) ∙ sym own
 
 -- a lookup that ended in the round i
-pub ended : (mine now : TableName) (i w : ℕ) (life : Life) (xs : List (ℕ × ℕ)) → cond (eqb w 0) None (Some (life_at w)) ≡ Some life → i < now.shape.tries
+pub tried_so_far : (mine now : TableName) (i w : ℕ) (life : Life) (xs : List (ℕ × ℕ)) → cond (eqb w 0) None (Some (life_at w)) ≡ Some life → i < now.shape.tries
     → AllLost (life_at w).generation xs → length xs ≡ i → mine ≡ now → GoesOn mine.shape w xs
-ended mine now i w life xs names more lost long own =
-    ((named w life (eqb w 0) refl names).0, lost, omega (arith, more, long, ap (λ (t : TableName). t.shape.tries) own))
+tried_so_far mine now i w life xs names more lost long own =
+    ((word_names w life (eqb w 0) refl names).0, lost, omega (arith, more, long, ap (λ (t : TableName). t.shape.tries) own))

@@ -1,39 +1,24 @@
 -- A step of the core that one seat has made keeps the table's rule.
-use Rattle.std.proofs.Common.{◌≡◌, ℕ, suc, ◌≢◌, Bool, cond, List, [], ◌∷◌, ◌++◌, replicate, map, set, get_or, slice_get, count_by, Some, ap, sym, subst, ◌∙◌, ⊎_elim, arith}
+use Rattle.std.proofs.Common.{◌≡◌, ℕ, suc, ◌≢◌, Bool, cond, List, [], ◌∷◌, ◌++◌, replicate, map, set, get_or, slice_get, count_by, Some, ap, sym, subst, ◌∙◌, arith}
 use Rattle.std.proofs.lemmas.List.{map-set, set-append_left}
 use Rattle.std.proofs.lemmas.Option.{slice_get_within, get_or_from_slice_get}
 use mathlib.Core.Option.{some}
 use lib.ListN.{get_elem?}
-use Rattle.atomic_table.specs.Table.{State}
-use Rattle.atomic_table.proofs.Lists.{at_set, at_map, at_longer, set_here}
-use Rattle.ksm_base.specs.declared.shape.Shape.{Shape}
-use Rattle.frame_core.specs.declared.event.Event.{Event}
-use Rattle.frame_core.specs.declared.seat.Phase.{Phase}
-use Rattle.frame_core.specs.declared.seat.Phase.TheVariants.{Idle, Spent as spent_phase}
+use Rattle.atomic_table.proofs.Lists.{at_map, at_longer, set_here}
+use Rattle.frame_table.proofs.CoreNames.{Shape, Event, Phase, Idle, Spent as spent_phase, phase_at, step, words_of, History, run_of}
 use Rattle.frame_core.specs.State as core
-use Rattle.frame_core.specs.Seat.{phase_at}
-use Rattle.frame_core.specs.Steps.{step}
-use Rattle.frame_core.specs.Words.{words_of}
-use Rattle.frame_core.specs.Trace.{History, run_of}
 use Rattle.frame_core.specs.Rule as core_rule
 use Rattle.frame_core.proofs.Above.{count_set, run_rule, run_step}
-use Rattle.frame_table.specs.declared.view.Tally.{Tally}
-use Rattle.frame_table.specs.declared.view.View.{View}
-use Rattle.frame_table.specs.declared.view.View.TheVariants.{Reader}
-use Rattle.frame_table.specs.Orders.{Begins, IsPresent}
-use Rattle.frame_table.specs.Views.{phase_of, order_of}
-use Rattle.frame_table.specs.Rule.{Holds, IsInOrder, Tied, all_views, is_out}
-use Rattle.frame_table.proofs.Looked.{got}
+use Rattle.frame_table.proofs.Names.{Tally, View, Reader, Begins, IsPresent, phase_of, order_of, Moment, Holds, IsInOrder, Tied, all_views, is_out}
+use Rattle.frame_table.proofs.Looked.{got, each_put}
 use Rattle.frame_table.proofs.Orders.{in_order_more}
-
-abbrev pub St : Type 0
-St = State (Unit {0}) View
 
 -- one view is another
 pub all_set : (sh : Shape) (tally : Tally) (views : List View) (j : ℕ) (v w : View) → get_elem? views j ≡ some v
     → all_views sh tally (set views j w) ≡ set (all_views sh tally views) j w
 all_set sh tally views j v w at = sym (set-append_left views (replicate tally.unmade (Reader sh Idle [] [])) j w (slice_get_within views j v (got views j v at)))
 
+-- as many passes are out where a view changes that stays in or out
 pub out_same : (views : List View) (j : ℕ) (v w : View) → get_elem? views j ≡ some v → is_out w ≡ is_out v → count_by is_out (set views j w) ≡ count_by is_out views
 out_same views j v w at same =
     let here = got views j v at in
@@ -42,7 +27,7 @@ out_same views j v w at same =
     let b : ◌≡◌ {A = ℕ} (cond (is_out w) 1 0) (cond (is_out (get_or views j v)) 1 0) = ap (λ (b : Bool). cond b 1 0) (same ∙ sym (ap is_out was)) in
     omega (arith, e, b)
 
-module _ (sh : Shape) (t : St) (h : Holds sh t) where
+module _ (sh : Shape) (t : Moment) (h : Holds sh t) where
   abbrev past : History
   past = run_of sh h.events
 
@@ -65,6 +50,7 @@ module _ (sh : Shape) (t : St) (h : Holds sh t) where
   seated q v at = got past.state.seats q (phase_of v)
       (subst (λ (l : List Phase). get_elem? l (suc q) ≡ some (phase_of v)) h.after.phases_are (at_map phase_of all (suc q) v (at_all (suc q) v at)))
 
+  -- the core's seat has come as far as the view says
   pub phase_is : (q : ℕ) (v : View) → get_elem? t.views (suc q) ≡ some v → phase_at past.state q ≡ phase_of v
   phase_is q v at = get_or_from_slice_get past.state.seats q (phase_of v) spent_phase (seated q v at)
 
@@ -75,6 +61,7 @@ module _ (sh : Shape) (t : St) (h : Holds sh t) where
     abbrev pub events : List Event
     events = h.events ++ this ∷ []
 
+    -- the run that has this step too
     pub ran : run_of sh events ≡ next
     ran = run_step sh h.events this r is
 
@@ -87,6 +74,7 @@ module _ (sh : Shape) (t : St) (h : Holds sh t) where
       finds = subst (λ (l : List Event). step sh (run_of sh l).state this ≡ Some (n, r.1)) first.1 (is ∙ ap (λ (m : ℕ). Some (m, r.1)) (sym found));
     }
 
+    -- the table keeps its rule once a seat has made a step of the core
     pub made : (i m : ℕ) → set t.words i m ≡ words_of r.1 → is_out w ≡ is_out v → order_of w ≡ events
         → set (spent_phase ∷ past.state.seats) j (phase_of w) ≡ spent_phase ∷ r.1.seats
         → Tied sh next h.tally j w → ((i : ℕ) (x : View) → i ≢ j → Tied sh past h.tally i x → Tied sh next h.tally i x) → IsInOrder sh events j w
@@ -101,14 +89,10 @@ module _ (sh : Shape) (t : St) (h : Holds sh t) where
             words_are = words ∙ ap (λ (x : History). words_of x.state) (sym ran);
             phases_are = ap (map phase_of) same ∙ (map-set phase_of all j w ∙ (ap (λ (l : List Phase). set l j (phase_of w)) h.after.phases_are
                 ∙ (phases ∙ ap (λ (x : History). spent_phase ∷ x.state.seats) (sym ran))));
-            tied = λ i x of. subst (λ (g : History). Tied sh g h.tally i x) (sym ran) (⊎_elim
-                (λ (a : (i ≡ j) × (w ≡ x)). subst (λ (y : ℕ × View). Tied sh next h.tally y.0 y.1) (λ k. (sym a.0 k, a.1 k)) told)
-                (λ (a : (i ≢ j) × (get_elem? all i ≡ some x)). others i x a.0 (h.after.tied i x a.1))
-                (at_set all j i w x (subst (λ (l : List View). get_elem? l i ≡ some x) same of)));
+            tied = λ i x of. subst (λ (g : History). Tied sh g h.tally i x) (sym ran) (each_put (Tied sh next h.tally) all j w told
+                (λ k y ne there. others k y ne (h.after.tied k y there)) i x (subst (λ (l : List View). get_elem? l i ≡ some x) same of));
           };
           out = out_same t.views j v w at out ∙ h.out;
-          orders = λ i x of. ⊎_elim (λ (a : (i ≡ j) × (w ≡ x)). subst (λ (y : ℕ × View). IsInOrder sh events y.0 y.1) (λ k. (sym a.0 k, a.1 k)) ordered)
-              (λ (a : (i ≢ j) × (get_elem? t.views i ≡ some x)). in_order_more sh h.events (this ∷ []) i x (h.orders i x a.1))
-              (at_set t.views j i w x of);
+          orders = each_put (IsInOrder sh events) t.views j w ordered (λ i x ne there. in_order_more sh h.events (this ∷ []) i x (h.orders i x there));
           longest = (j, w, set_here t.views j w (slice_get_within t.views j v (got t.views j v at)), order);
         }

@@ -6,21 +6,8 @@ use Rattle.std.specs.List.{flat_map}
 use mathlib.Core.Option.{some, some-injective, some-ne-none}
 use lib.ListN.{get_elem?}
 use Rattle.atomic_table.specs.Table as table
-use Rattle.ksm_base.specs.declared.page.TheConstants.{PAGE_WORDS}
-use Rattle.frame_core.specs.declared.frame.TheConstants.{LINE_WORDS}
-use Rattle.ksm_base.specs.declared.shape.Shape.{Shape}
-use Rattle.ksm_base.specs.Values.{IsShape, frames_of}
-use Rattle.frame_core.specs.declared.seat.Phase.{Phase}
-use Rattle.frame_core.specs.declared.seat.Phase.TheVariants.{Idle, Spent as spent_phase}
-use Rattle.frame_core.specs.Ledger.{blank}
-use Rattle.frame_core.specs.State.{place_word}
-use Rattle.frame_core.specs.Steps.{first_state}
-use Rattle.frame_core.specs.Words.{frame_words, words_of, words_for, line_of, page_of}
-use Rattle.frame_core.specs.Trace.{first_history}
-use Rattle.frame_table.specs.declared.view.View.{View}
-use Rattle.frame_table.specs.declared.view.View.TheVariants.{Reader}
-use Rattle.frame_table.specs.Views.{phase_of, tally_of}
-use Rattle.frame_table.specs.Rule.{Holds, Tied, IsInOrder, all_views, first_view}
+use Rattle.frame_table.proofs.CoreNames.{PAGE_WORDS, LINE_WORDS, Shape, IsShape, frames_of, Phase, Idle, Spent as spent_phase, blank, place_word, first_state, frame_words, words_of, words_for, line_of, page_of, first_history}
+use Rattle.frame_table.proofs.Names.{View, Reader, phase_of, tally_of, Holds, Tied, IsInOrder, all_views, first_view}
 
 -- so many blocks of zeros are zeros
 flat_zeros : {A : Type 0} (g : A → List ℕ) (w n : ℕ) (a : A) → g a ≡ replicate w 0 → flat_map g (replicate n a) ≡ replicate (n * w) 0
@@ -80,7 +67,3 @@ may_begin sh fits = record {
   orders = first_order sh;
   longest = (0, first_view sh, refl, refl);
 }
-
-module _ {A : Type 0} where
-  pub replicate_more : (n : ℕ) (a : A) → replicate n a ++ a ∷ [] ≡ replicate (n + 1) a
-  replicate_more n a = replicate-append-replicate n 1 a

@@ -3,26 +3,19 @@ use Rattle.std.proofs.Common.{◌≡◌, ℕ, ◌+◌, ◌-◌, ◌%◌, ◌^◌
 use Rattle.std.proofs.lemmas.Bool.{eqb-true, lt-ltb}
 use prog.Atomic.{either}
 use Rattle.atomic_table.specs.Table.{carried_after}
-use Rattle.ksm_base.specs.declared.page.TheConstants.{PAGE_WORDS}
-use Rattle.ksm_base.specs.declared.shape.Shape.{Shape}
-use Rattle.ksm_base.specs.Values.{frames_of}
-use Rattle.frame_core.specs.declared.event.Event.{Event}
-use Rattle.frame_core.specs.declared.event.ReaderStep.TheVariants.{LoadPlace, LoadFrame, Exchange, Leave, LoadWord}
-use Rattle.frame_core.specs.declared.seat.Aim.{Aim}
-use Rattle.frame_core.specs.declared.seat.Phase.TheVariants.{Idle, Placed, Counted, Held}
-use Rattle.frame_core.specs.State.{frame_word}
-use Rattle.frame_core.specs.Words.{frame_word_at, content_at}
-use Rattle.frame_table.specs.Views.{Log, sits}
-use Rattle.frame_table.specs.Reading.{StepsNow, loads_place, loads_frame, exchanges, leaves, loads_word}
-use Rattle.frame_table.proofs.Allowed.{MayLoad, MayExchange, MaySubOne, lowered}
+use Rattle.frame_table.proofs.CoreNames.{PAGE_WORDS, Shape, frames_of, Event, LoadPlace, LoadFrame, Exchange, Leave, LoadWord, Aim, Idle, Placed, Counted, Held, frame_word, frame_word_at, content_at}
+use Rattle.frame_table.proofs.Names.{ReaderLog, sits, StepsNow, loads_place, loads_frame, exchanges, leaves, loads_word}
+use Rattle.frame_table.proofs.Allowed.{MayLoad, MayExchange, MaySubOne, one_less_word}
 use Rattle.frame_table.proofs.ReaderMay.{reader_may}
 
-module _ (slots id : ℕ) (sh : Shape) (log : Log) (order : List Event) where
+module _ (slots id : ℕ) (sh : Shape) (log : ReaderLog) (order : List Event) where
+  -- an idle pass may load a place
   pub may_load_place : (p : ℕ) → p < frames_of sh → MayLoad loads_place slots id sh p (sits sh Idle log order)
   may_load_place p below t h size at small =
       let r = reader_may slots (LoadPlace p) Idle log order (λ n. n) sh id (lt-ltb p (frames_of sh) below) (λ n small told. refl) t h size at small in
       (r.0, r.1, r.2, r.3, λ o is. subst (λ (k : ℕ). StepsNow (LoadPlace k) (sits sh Idle log order) (get_or t.words p 0) (r.0, carried_after [] r.1)) is r.4)
 
+  -- a pass that was told a place may load the word of the frame named
   pub may_load_frame : (aim : Aim) (failures : ℕ)
       → MayLoad loads_frame slots id sh (frame_word_at (frames_of sh) aim.life.frame) (sits sh (Placed aim failures) log order)
   may_load_frame aim failures t h size at small =
@@ -32,6 +25,7 @@ module _ (slots id : ℕ) (sh : Shape) (log : Log) (order : List Event) where
   exchanged n c true is = let e : n ≡ c = eqb-true n c is in ap (λ (m : ℕ). m + 1) (sym e)
   exchanged n c false is = refl
 
+  -- a pass that was told a frame word may exchange it for one more
   pub may_exchange : (aim : Aim) (failures count loaded : ℕ) → loaded ≡ frame_word aim.life.generation count
       → MayExchange exchanges slots id loaded (loaded + 1) sh (frame_word_at (frames_of sh) aim.life.frame) (sits sh (Counted aim failures count) log order)
   may_exchange aim failures count loaded is =
@@ -42,11 +36,12 @@ module _ (slots id : ℕ) (sh : Shape) (log : Log) (order : List Event) where
       (λ n small told. exchanged n w (eqb n w) refl) t h size at small in
       (r.0, r.1, r.2, r.3, λ is. r.4))
 
+  -- a pass that holds may take one from the frame word
   pub may_leave : (aim : Aim) (known : List (Option ℕ))
       → MaySubOne leaves slots id sh (frame_word_at (frames_of sh) aim.life.frame) (sits sh (Held aim known) log order)
   may_leave aim known t h size at small =
       let r = reader_may slots Leave (Held aim known) log order (λ n. (n + (2 ^ 64 - 1)) % 2 ^ 64) sh id refl
-      (λ n small told. lowered n told small) t h size at small in (r.0, r.1, r.2, r.3, λ is. r.4)
+      (λ n small told. one_less_word n told small) t h size at small in (r.0, r.1, r.2, r.3, λ is. r.4)
 
   -- which word of the page a word of the table is
   pub may_load_word : (aim : Aim) (known : List (Option ℕ)) (i : ℕ) → i < PAGE_WORDS → MayLoad loads_word slots id sh (content_at (frames_of sh) aim.life.frame i) (sits sh (Held aim known) log order)

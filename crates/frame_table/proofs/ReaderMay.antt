@@ -1,38 +1,25 @@
 -- Whatever the table is, a step of a reader that the core allows keeps the table's rule.
 use Rattle.std.proofs.Common.{◌≡◌, ℕ, zero, suc, ◌<◌, ◌≢◌, true, Bool, cond, eqb, List, [], ◌∷◌, ◌++◌, set, get_or, slice_set, refl, ap, sym, subst, ◌∙◌, eq-eqb, ne_eqb}
 use Rattle.atomic_table.specs.Table.{keeps, Allows}
-use Rattle.ksm_base.specs.declared.shape.Shape.{Shape}
-use Rattle.frame_core.specs.declared.event.Event.{Event}
+use Rattle.frame_table.proofs.CoreNames.{Shape, Event, ReaderStep, Phase, Spent as spent_phase, words_of, History, run_of, log_of, may_read, seat_after}
 use Rattle.frame_core.specs.declared.event.Event.TheVariants as event
-use Rattle.frame_core.specs.declared.event.ReaderStep.{ReaderStep}
-use Rattle.frame_core.specs.declared.seat.Phase.{Phase}
-use Rattle.frame_core.specs.declared.seat.Phase.TheVariants.{Spent as spent_phase}
 use Rattle.frame_core.specs.State as core
-use Rattle.frame_core.specs.Words.{words_of}
-use Rattle.frame_core.specs.Trace.{History, run_of, log_of}
-use Rattle.frame_core.specs.Seat.{may_read, seat_after}
-use Rattle.frame_table.specs.declared.view.Tally.{Tally}
-use Rattle.frame_table.specs.declared.view.View.{View}
-use Rattle.frame_table.specs.declared.view.View.TheVariants.{Keeper, Reader, Spent}
-use Rattle.frame_table.specs.Seat.{reader_word, written}
-use Rattle.frame_table.specs.Views.{Log, sits}
-use Rattle.frame_table.specs.Rule.{Holds, Tied}
-use Rattle.frame_table.specs.Reading.{StepsNow, tells}
-use Rattle.frame_table.specs.Steps.{IsReaderStep}
+use Rattle.frame_table.proofs.Names.{Tally, View, Keeper, Reader, Spent, reader_word, written, ReaderLog, sits, Holds, Tied, StepsNow, tells, IsReaderStep}
 use Rattle.frame_table.proofs.Making.{kept, seen, phase_is, ran, present, made}
 use Rattle.frame_table.proofs.Orders.{begins_itself}
 use Rattle.frame_table.proofs.ReaderWords.{reader_step_is}
 
 -- a reader's step leaves what the other views tell
-others_tied : (sh : Shape) (h : History) (tally : Tally) (q : ℕ) (e : ReaderStep) (r : ℕ × core.State) → r.1.ledger ≡ h.state.ledger
+tied_beside_reader : (sh : Shape) (h : History) (tally : Tally) (q : ℕ) (e : ReaderStep) (r : ℕ × core.State) → r.1.ledger ≡ h.state.ledger
     → (j : ℕ) (v : View) → j ≢ suc q → Tied sh h tally j v → Tied sh (record { state = r.1; trace = record { event = event.Reader q e; word = r.0 } ∷ h.trace }) tally j v
-others_tied sh h tally q e r same zero (Keeper sh' ledger tally' log order) ne tied = (tied.0, tied.1 ∙ sym same, tied.2, tied.3)
-others_tied sh h tally q e r same (suc p) (Reader sh' phase log order) ne tied =
+tied_beside_reader sh h tally q e r same zero (Keeper sh' ledger tally' log order) ne tied = (tied.0, tied.1 ∙ sym same, tied.2, tied.3)
+tied_beside_reader sh h tally q e r same (suc p) (Reader sh' phase log order) ne tied =
     (tied.0, tied.1 ∙ sym (ap (λ (b : Bool). cond b (log_of p h.trace ++ (e, r.0) ∷ []) (log_of p h.trace)) (ne_eqb q p (λ k. ne (ap suc (sym k))))))
-others_tied sh h tally q e r same (suc p) Spent ne tied = tt
-others_tied sh h tally q e r same _ _ ne tied = absurd tied
+tied_beside_reader sh h tally q e r same (suc p) Spent ne tied = tt
+tied_beside_reader sh h tally q e r same _ _ ne tied = absurd tied
 
-pub reader_may : (slots : ℕ) (e : ReaderStep) (phase : Phase) (log : Log) (order : List Event) (f : ℕ → ℕ) (sh : Shape) (id : ℕ) → may_read sh e phase ≡ true
+-- an operation that leaves what the step leaves may make a step of a reader, whatever the table is
+pub reader_may : (slots : ℕ) (e : ReaderStep) (phase : Phase) (log : ReaderLog) (order : List Event) (f : ℕ → ℕ) (sh : Shape) (id : ℕ) → may_read sh e phase ≡ true
     → ((n : ℕ) → n < 18446744073709551616 → tells sh e phase n → f n ≡ written e phase n)
     → Allows (Holds sh) slots id (sits sh phase log order) (reader_word sh e phase) f (StepsNow e (sits sh phase log order))
 reader_may slots e phase log order f sh zero may writes t h size at small = absurd (seen sh t h 0 (Reader sh phase log order) at)
@@ -60,7 +47,7 @@ reader_may slots e phase log order f sh (suc q) may writes t h size at small =
       made sh t h (suc q) v w at this r half.steps i (f n)
           ((λ k. set (h.after.words_are k) i (writes n small told k)) ∙ (ap (λ (m : ℕ). set (words_of s) i (written e phase m)) found ∙ half.words)) refl refl
           (ap (λ (l : List Phase). spent_phase ∷ l) (ap (λ (m : ℕ). slice_set s.seats q (seat_after sh e phase m)) found ∙ sym half.seats))
-          (refl, logged) (λ j x ne. others_tied sh past h.tally q e r half.ledger j x ne)
+          (refl, logged) (λ j x ne. tied_beside_reader sh past h.tally q e r half.ledger j x ne)
           (begins_itself events, logged ∙ ap (λ (g : History). log_of q g.trace) (sym (ran sh t h (suc q) v w at this r half.steps))),
       (refl, told, (q, present sh t h (suc q) v w at this r half.steps order n (h.orders (suc q) v at).0 found)),
     )

@@ -1,17 +1,10 @@
 -- Two runs that go on from one state by steps of one seat, and tell the same of all others: the longer log of the seat is that of the longer run.
 use Rattle.std.proofs.Common.{◌≡◌, ℕ, List, [], ◌∷◌, ◌++◌, ◌⊎◌, Option, Some, None, fold, refl, ap, sym, subst, ◌∙◌, ⊎_elim, append_assoc, append-nil}
+use Rattle.std.proofs.lemmas.List.{append_cancel_left}
+use Rattle.std.proofs.lemmas.List.Sums.{fold-append}
 use Rattle.std.proofs.lemmas.Option.{same_Some}
-use Rattle.ksm_base.specs.declared.shape.Shape.{Shape}
-use Rattle.frame_core.specs.declared.event.Event.{Event}
-use Rattle.frame_core.specs.State.{State}
-use Rattle.frame_core.specs.Steps.{step}
-use Rattle.frame_core.specs.Trace.{History, history_after, history_with, run_of}
+use Rattle.frame_table.proofs.CoreNames.{Shape, Event, State, step, History, first_history, history_after, history_with, run_of}
 use Rattle.frame_table.specs.Orders.{Begins}
-use Rattle.frame_table.proofs.Orders.{run_append}
-
-cancel : {A : Type 0} (xs ys zs : List A) → xs ++ ys ≡ xs ++ zs → ys ≡ zs
-cancel [] ys zs e = e
-cancel (x ∷ xs) ys zs e = cancel xs ys zs (cc (e))
 
 module _ {S : Type 0} (sh : Shape) (mk : S → Event) where
   -- these steps, one after another, each with the word that it finds
@@ -64,10 +57,10 @@ module _ {S : Type 0} (sh : Shape) (mk : S → Event) where
           → step sh (run_of sh es).state (mk x.0) ≡ Some (x.1, (run_of sh fs).state)
       last_step first es fs x b c good same same' more =
           let h = run_of sh first in
-          let to = λ (gs : List Event) (a : Begins first gs). let e : run_of sh gs ≡ fold (history_after sh) h a.0 = ap (run_of sh) a.1 ∙ run_append sh first a.0 in e in
+          let to = λ (gs : List Event) (a : Begins first gs). let e : run_of sh gs ≡ fold (history_after sh) h a.0 = ap (run_of sh) a.1 ∙ fold-append (history_after sh) (first_history sh) first a.0 in e in
           let goes = λ (gs : List Event) (a : Begins first gs) (s : Same h (run_of sh gs)).
           let w : Walked h (run_of sh gs) = subst (λ (g : History). Walked h g) (sym (to gs a)) (walk a.0 h good (subst (Same h) (to gs a) s)) in w in
           let w = goes es b same in
           let v = goes fs c same' in
-          let entries : v.0 ≡ w.0 ++ x ∷ [] = cancel (own h) v.0 (w.0 ++ x ∷ []) (sym v.1 ∙ (more ∙ (ap (λ (l : List (S × ℕ)). l ++ x ∷ []) w.1 ∙ append_assoc (own h) w.0 (x ∷ [])))) in
+          let entries : v.0 ≡ w.0 ++ x ∷ [] = append_cancel_left (own h) v.0 (w.0 ++ x ∷ []) (sym v.1 ∙ (more ∙ (ap (λ (l : List (S × ℕ)). l ++ x ∷ []) w.1 ∙ append_assoc (own h) w.0 (x ∷ [])))) in
           one_more h.state w.0 x (run_of sh es).state (run_of sh fs).state w.2 (subst (λ (l : List (S × ℕ)). Replays h.state l (run_of sh fs).state) entries v.2)

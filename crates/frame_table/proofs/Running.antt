@@ -3,34 +3,10 @@ use Rattle.std.proofs.Common.{◌≡◌, ℕ, suc, ◌<◌, ◌≤◌, List, tak
 use Rattle.std.proofs.lemmas.Option.{slice_get_within, get_or_from_slice_get}
 use mathlib.Core.Option.{some}
 use lib.ListN.{get_elem?}
-use Rattle.ksm_base.specs.declared.page.TheConstants.{PAGE_WORDS}
-use Rattle.ksm_base.specs.declared.shape.Shape.{Shape}
-use Rattle.ksm_base.specs.Values.{frames_of}
-use Rattle.frame_core.specs.declared.event.Event.{Event}
-use Rattle.frame_core.specs.declared.frame.Kind.{Kind}
-use Rattle.frame_core.specs.declared.frame.Kind.TheVariants.{Stable, Dying}
-use Rattle.frame_core.specs.declared.ledger.Ledger.{Ledger}
-use Rattle.frame_core.specs.declared.seat.Aim.{Aim}
-use Rattle.frame_core.specs.declared.seat.Phase.TheVariants.{Held}
-use Rattle.frame_core.specs.State.{State, count_in, life_in}
-use Rattle.frame_core.specs.Words.{words_of, frame_word_at}
-use Rattle.frame_core.specs.Ledger.{frame_at, IsWritable}
-use Rattle.frame_core.specs.Rule.{Rule, SeatRule, MayBeHeld, is_on}
-use Rattle.frame_core.specs.Seat.{phase_at}
-use Rattle.frame_core.specs.Trace.{History, run_of, keeper_log_of}
-use Rattle.frame_core.specs.Safe.{IsSafe}
-use Rattle.frame_core.proofs.Above.{referenced, count_found, life_found, word_get, content_get, place_get, run_safe, run_given}
-use Rattle.frame_table.specs.declared.view.Tally.{Tally}
-use Rattle.frame_table.specs.declared.view.View.TheVariants.{Keeper, Spent}
-use Rattle.frame_table.specs.Rule.{Holds}
-use Rattle.frame_table.specs.Views.{KeeperLog}
-use Rattle.frame_table.specs.Running.{TheTableRunsSafely, LedgerIs, HoldIs}
-use Rattle.frame_table.proofs.Making.{St, kept, seen, seated, phase_is}
-
-held_unwritten : (kind : Kind) → MayBeHeld kind → ¬ IsWritable kind
-held_unwritten Stable held written = written
-held_unwritten Dying held written = written
-held_unwritten _ held written = held
+use Rattle.frame_table.proofs.CoreNames.{PAGE_WORDS, Shape, frames_of, Event, Ledger, Aim, Held, State, count_in, life_in, words_of, frame_word_at, frame_at, IsWritable, Rule, SeatRule, is_on, phase_at, History, run_of, keeper_log_of, IsSafe}
+use Rattle.frame_core.proofs.Above.{not_held, referenced, count_found, life_found, word_get, content_get, place_get, run_safe, run_given}
+use Rattle.frame_table.proofs.Names.{Tally, Keeper, Spent, Moment, Holds, KeeperLog, TheTableRunsSafely, LedgerIs, HoldIs}
+use Rattle.frame_table.proofs.Making.{kept, seen, seated, phase_is}
 
 -- what is known of the words, in a state of the core
 module _ (sh : Shape) (h : History) (rule : Rule sh h.state) where
@@ -71,7 +47,7 @@ module _ (sh : Shape) (h : History) (rule : Rule sh h.state) where
             content_get sh s rule f i r.0.inside inside ∙ get_or_from_slice_get (frame_at s.ledger f).content i w 0 here;
       }
 
-module _ (sh : Shape) (t : St) (h : Holds sh t) where
+module _ (sh : Shape) (t : Moment) (h : Holds sh t) where
   abbrev past : History
   past = run_of sh h.events
 
@@ -84,6 +60,7 @@ module _ (sh : Shape) (t : St) (h : Holds sh t) where
             (λ i. (sym h.after.words_are i, sym tied.1 i, sym tied.3 i)) (ledger_is sh past (kept sh t h) (run_safe sh h.shape h.events)),
       )
 
+-- the rule of the table says that it runs safely
 pub runs_safely : TheTableRunsSafely
 runs_safely sh t h =
     let safe = run_safe sh h.shape h.events in
@@ -105,5 +82,5 @@ runs_safely sh t h =
       );
       unwritten = λ ledger tally log met q aim known mine order keeper at.
           let there = (held sh (past sh t h) rule q aim known (phase_is sh t h q _ at)).1.kind in
-          subst (λ (k : Ledger). ¬ IsWritable (frame_at k aim.life.frame).kind) (sym (seen sh t h 0 _ keeper).1) (held_unwritten _ there);
+          subst (λ (k : Ledger). ¬ IsWritable (frame_at k aim.life.frame).kind) (sym (seen sh t h 0 _ keeper).1) (λ written. not_held _ written there);
     }

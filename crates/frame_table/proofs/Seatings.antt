@@ -8,29 +8,15 @@ use mathlib.Core.Logic.{dite}
 use native.Mathlib.Decide.{ℕ_discrete}
 use lib.ListN.{get_elem?}
 use Rattle.atomic_table.specs.Table.{Splits, Joins, Seen, Final}
-use Rattle.atomic_table.proofs.Lists.{at_set, at_map, at_longer, at_snoc, set_again, set_here, set_else}
-use Rattle.ksm_base.specs.declared.shape.Shape.{Shape}
-use Rattle.frame_core.specs.declared.event.Event.{Event}
-use Rattle.frame_core.specs.declared.ledger.Ledger.{Ledger}
-use Rattle.frame_core.specs.declared.seat.Phase.{Phase}
-use Rattle.frame_core.specs.declared.seat.Phase.TheVariants.{Idle, Spent as spent_phase}
+use Rattle.atomic_table.proofs.Lists.{at_map, at_longer, at_snoc, set_again, set_here, set_else}
+use Rattle.frame_table.proofs.CoreNames.{Shape, Event, Ledger, Phase, Idle, Spent as spent_phase, count_in, life_in, words_of, History, run_of, keeper_log_of, is_on, readers_on}
 use Rattle.frame_core.specs.State as core
-use Rattle.frame_core.specs.State.{place_word, count_in, life_in}
-use Rattle.frame_core.specs.Words.{words_of}
-use Rattle.frame_core.specs.Trace.{History, run_of, keeper_log_of}
 use Rattle.frame_core.specs.Rule as core_rule
-use Rattle.frame_core.specs.Rule.{is_on, readers_on}
 use Rattle.frame_core.proofs.Above.{count_set, count_found, life_found, word_get, place_get}
-use Rattle.frame_table.specs.declared.view.Tally.{Tally}
-use Rattle.frame_table.specs.declared.view.View.{View}
-use Rattle.frame_table.specs.declared.view.View.TheVariants.{Keeper, Reader, Spent}
-use Rattle.frame_table.specs.Views.{Log, KeeperLog, phase_of, order_of, tally_of}
-use Rattle.frame_table.specs.Orders.{Begins, later}
-use Rattle.frame_table.specs.Rule.{Holds, IsAfter, IsInOrder, Tied, all_views, is_out}
-use Rattle.frame_table.specs.Seats.{one_more, newcomer, one_less, Ends}
-use Rattle.frame_table.proofs.Looked.{got}
+use Rattle.frame_table.proofs.Names.{Tally, View, Keeper, Reader, Spent, ReaderLog, KeeperLog, phase_of, order_of, tally_of, Begins, later, Moment, Holds, IsAfter, IsInOrder, Tied, all_views, is_out, one_more, newcomer, one_less, Ends}
+use Rattle.frame_table.proofs.Looked.{got, each_put}
 use Rattle.frame_table.proofs.Orders.{begins_shorter, begins_whole, later_is, between, keeper_log_grows}
-use Rattle.frame_table.proofs.Making.{St, all_set, out_same, kept, seen}
+use Rattle.frame_table.proofs.Making.{all_set, out_same, kept, seen}
 use Rattle.frame_table.proofs.KeeperMay.{keeper_retold}
 
 module _ (sh : Shape) where
@@ -42,14 +28,13 @@ module _ (sh : Shape) where
   one_idle_less (suc n) few = let e : suc n - 1 ≡ n = omega arith in ap (λ (m : ℕ). idle ∷ replicate m idle) e
 
   -- a pass that was given back is as one that is idle
-  spent_is_idle : (h : History) (tally : Tally) (words : List ℕ) (views : List View) (q : ℕ) (log : Log) (order : List Event)
+  spent_is_idle : (h : History) (tally : Tally) (words : List ℕ) (views : List View) (q : ℕ) (log : ReaderLog) (order : List Event)
       → get_elem? views (suc q) ≡ some (Reader sh Idle log order) → IsAfter sh h tally words views → IsAfter sh h tally words (set views (suc q) Spent)
   spent_is_idle h tally words views q log order at is = record {
     words_are = is.words_are;
     phases_are = map-set phase_of views (suc q) Spent
         ∙ (set_again (map phase_of views) (suc q) Idle (at_map phase_of views (suc q) (Reader sh Idle log order) at) ∙ is.phases_are);
-    tied = λ j v of. ⊎_elim (λ (k : (j ≡ suc q) × (Spent ≡ v)). subst (λ (x : ℕ × View). Tied sh h tally x.0 x.1) (λ i. (sym k.0 i, k.1 i)) tt)
-        (λ (k : (j ≢ suc q) × (get_elem? views j ≡ some v)). is.tied j v k.1) (at_set views (suc q) j Spent v of);
+    tied = each_put (Tied sh h tally) views (suc q) Spent tt (λ j v ne of. is.tied j v of);
   }
 
 -- ---------------------------------------------------------------- the orders, where a view changes
@@ -59,12 +44,6 @@ apart q e = omega (arith, e)
 
 abbrev Longest : List Event → List View → Type 0
 Longest events views = (j : ℕ) × (v : View) × (get_elem? views j ≡ some v) × (order_of v ≡ events)
-
-orders_set : (sh : Shape) (events : List Event) (views : List View) (i : ℕ) (w : View) → ((j : ℕ) (v : View) → get_elem? views j ≡ some v → IsInOrder sh events j v)
-    → IsInOrder sh events i w → (j : ℕ) (v : View) → get_elem? (set views i w) j ≡ some v → IsInOrder sh events j v
-orders_set sh events views i w orders new j v at =
-    ⊎_elim (λ (k : (j ≡ i) × (w ≡ v)). subst (λ (x : ℕ × View). IsInOrder sh events x.0 x.1) (λ y. (sym k.0 y, k.1 y)) new)
-    (λ (k : (j ≢ i) × (get_elem? views j ≡ some v)). orders j v k.1) (at_set views i j w v at)
 
 -- a pass that is new has seen nothing
 new_in_order : (sh : Shape) (events : List Event) (j : ℕ) (v : View) → idle sh ≡ v → IsInOrder sh events j v
@@ -102,7 +81,7 @@ module _ (sh : Shape) (k : Ledger) (tally : Tally) (log : KeeperLog) (order : Li
   keeper = Keeper sh k tally log order
 
   -- the keeper's view tells another tally, of as many passes that are still to be made
-  retold : (t : St) (tally' : Tally) (next : List Event) (h : Holds sh t) → get_elem? t.views 0 ≡ some keeper
+  retold : (t : Moment) (tally' : Tally) (next : List Event) (h : Holds sh t) → get_elem? t.views 0 ≡ some keeper
       → IsAfter sh (run_of sh h.events) tally' t.words (set (all_views sh tally t.views) 0 (Keeper sh k tally' log next))
   retold t tally' next h at =
       let past = run_of sh h.events in
@@ -112,11 +91,12 @@ module _ (sh : Shape) (k : Ledger) (tally : Tally) (log : KeeperLog) (order : Li
       (at_longer t.views (replicate tally.unmade (Reader sh Idle [] [])) 0 keeper at)
       (subst (λ (x : Tally). IsAfter sh past h.tally t.words (all_views sh x t.views)) (sym tied.2) h.after)
 
-  passes_out : (t : St) (h : Holds sh t) → get_elem? t.views 0 ≡ some keeper → count_by is_out t.views ≡ tally.out
+  passes_out : (t : Moment) (h : Holds sh t) → get_elem? t.views 0 ≡ some keeper → count_by is_out t.views ≡ tally.out
   passes_out t h at = h.out ∙ ap (λ (x : Tally). x.out) (sym (seen sh t h 0 keeper at).2)
 
   -- ---------------------------------------------------------------- a pass is made
 
+  -- a pass that is still to be made may be made
   pub may_make : (id : ℕ) → 0 < tally.unmade → Splits (Holds sh) id keeper (one_more keeper) (newcomer keeper)
   may_make (suc id) few t h at = absurd (seen sh t h (suc id) keeper at)
   may_make zero few t h at =
@@ -132,7 +112,7 @@ module _ (sh : Shape) (k : Ledger) (tally : Tally) (log : KeeperLog) (order : Li
         tally = tally';
         after = subst (IsAfter sh (run_of sh h.events) tally' t.words) (sym same) (retold t tally' order h at);
         out = omega (arith, sum_by-append (λ (v : View). cond (is_out v) 1 0) views (idle sh ∷ []), out_same t.views 0 keeper next at refl, passes_out t h at);
-        orders = λ j v of. ⊎_elim (orders_set sh h.events t.views 0 next h.orders (h.orders 0 keeper at) j v) (new_in_order sh h.events j v) (at_snoc views (idle sh) v j of);
+        orders = λ j v of. ⊎_elim (each_put (IsInOrder sh h.events) t.views 0 next (h.orders 0 keeper at) (λ k x ne. h.orders k x) j v) (new_in_order sh h.events j v) (at_snoc views (idle sh) v j of);
         longest = let l = longest_set h.events t.views 0 keeper next at refl h.longest in (l.0, l.1, at_longer views (idle sh ∷ []) l.0 l.1 l.2, l.3);
       }
 
@@ -154,7 +134,7 @@ module _ (sh : Shape) (k : Ledger) (tally : Tally) (log : KeeperLog) (order : Li
               (begins_shorter order other events first second few) second (sym mine ∙ all)),
         ))
 
-  given_here : (t : St) (q : ℕ) (mine : Log) (other : List Event) → 0 < tally.out → Holds sh t → get_elem? t.views 0 ≡ some keeper → get_elem? (set t.views 0 (one_less keeper (Reader sh Idle mine other))) (suc q) ≡ some (Reader sh Idle mine other)
+  given_here : (t : Moment) (q : ℕ) (mine : ReaderLog) (other : List Event) → 0 < tally.out → Holds sh t → get_elem? t.views 0 ≡ some keeper → get_elem? (set t.views 0 (one_less keeper (Reader sh Idle mine other))) (suc q) ≡ some (Reader sh Idle mine other)
       → Holds sh record { words = t.words; homes = t.homes; views = set (set t.views 0 (one_less keeper (Reader sh Idle mine other))) (suc q) Spent }
   given_here t q mine other few h at there =
       let tally' : Tally = tally_of tally.unmade (tally.out - 1) in
@@ -181,7 +161,8 @@ module _ (sh : Shape) (k : Ledger) (tally : Tally) (log : KeeperLog) (order : Li
           out_same t.views 0 keeper next at refl,
           passes_out t h at,
         );
-        orders = orders_set sh h.events views (suc q) Spent (orders_set sh h.events t.views 0 next h.orders (joined h.events other first.0 second.0 first.1 tied.3)) tt;
+        orders = each_put (IsInOrder sh h.events) views (suc q) Spent tt
+            (λ j v ne. each_put (IsInOrder sh h.events) t.views 0 next (joined h.events other first.0 second.0 first.1 tied.3) (λ k x other_view. h.orders k x) j v);
         longest = dite (ℕ_discrete h.longest.0 (suc q))
             (λ here. let is : other ≡ h.events = sym (ap order_of (one_view t.views (suc q) h.longest.0 old h.longest.1 here was h.longest.2)) ∙ h.longest.3 in
             longest_else h.events views (suc q) Spent (longest_here h.events t.views 0 keeper next at (longer_is h.events other first.0 second.0 (inr is))) (apart q))
@@ -191,7 +172,8 @@ module _ (sh : Shape) (k : Ledger) (tally : Tally) (log : KeeperLog) (order : Li
             (λ ne. longest_else h.events views (suc q) Spent (longest_else h.events t.views 0 next h.longest ne) else));
       }
 
-  pub may_give : (id other : ℕ) (mine : Log) (met : List Event) → 0 < tally.out → Joins (Holds sh) id keeper other (Reader sh Idle mine met) (one_less keeper (Reader sh Idle mine met)) Spent
+  -- a pass that is idle may be given back
+  pub may_give : (id other : ℕ) (mine : ReaderLog) (met : List Event) → 0 < tally.out → Joins (Holds sh) id keeper other (Reader sh Idle mine met) (one_less keeper (Reader sh Idle mine met)) Spent
   may_give (suc id) other mine met few t h at apart there = absurd (seen sh t h (suc id) keeper at)
   may_give zero zero mine met few t h at apart there = absurd (apart refl)
   may_give zero (suc q) mine met few t h at apart there = given_here t q mine met few h at there
@@ -227,6 +209,7 @@ module _ (sh : Shape) (k : Ledger) (tally : Tally) (log : KeeperLog) (order : Li
     places = λ p inside. place_get sh s rule p inside;
   }
 
+  -- where all passes are back, each count is the keeper's own references
   pub ends : (id : ℕ) (ws : List ℕ) (xs : List (Unit {0})) → tally.unmade ≡ 0 → tally.out ≡ 0 → Final (Seen (Holds sh) id keeper) ws xs → Ends k record { shape = sh; words = ws }
   ends (suc id) ws xs none_unmade none_out final = absurd (seen sh final.0 final.1.0 (suc id) keeper final.1.1)
   ends zero ws xs none_unmade none_out final =

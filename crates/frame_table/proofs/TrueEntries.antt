@@ -7,34 +7,16 @@ use mathlib.Core.Logic.{dite}
 use native.Mathlib.Decide.{ℕ_discrete}
 use lib.ListN.{get_elem?}
 use Rattle.atomic_table.proofs.Lists.{set_here, set_else}
-use Rattle.ksm_base.specs.declared.shape.Shape.{Shape}
-use Rattle.frame_core.specs.declared.event.Event.{Event}
+use Rattle.frame_table.proofs.CoreNames.{Shape, Event, ReaderStep, KeeperStep, Phase, Spent as spent_phase, State, step, Rule, words_of, History, history_after, history_with, run_of, log_of, keeper_log_of, phase_at, may_read, seat_after}
 use Rattle.frame_core.specs.declared.event.Event.TheVariants as event
-use Rattle.frame_core.specs.declared.event.ReaderStep.{ReaderStep}
-use Rattle.frame_core.specs.declared.event.KeeperStep.{KeeperStep}
-use Rattle.frame_core.specs.declared.seat.Phase.{Phase}
-use Rattle.frame_core.specs.declared.seat.Phase.TheVariants.{Spent as spent_phase}
-use Rattle.frame_core.specs.State.{State}
-use Rattle.frame_core.specs.Steps.{step}
-use Rattle.frame_core.specs.Rule.{Rule}
-use Rattle.frame_core.specs.Words.{words_of}
-use Rattle.frame_core.specs.Trace.{History, history_after, history_with, run_of, log_of, keeper_log_of}
-use Rattle.frame_core.specs.Seat.{phase_at, may_read, seat_after}
 use Rattle.frame_core.proofs.Above.{seat_there, if_made, step_keeps, run_rule}
-use Rattle.frame_table.specs.declared.view.View.{View}
-use Rattle.frame_table.specs.declared.view.View.TheVariants.{Keeper, Reader, Spent}
-use Rattle.frame_table.specs.Orders.{Begins}
-use Rattle.frame_table.specs.Rule.{Holds}
-use Rattle.frame_table.specs.Seat.{reader_word, written}
-use Rattle.frame_table.specs.Steps.{IsReaderStep}
-use Rattle.frame_table.specs.Truth.{Moment, IsOpen, IsTrueEntry, ReadersLogIsTrue, KeepersLogIsTrue}
-use Rattle.frame_table.specs.Views.{Log, KeeperLog}
+use Rattle.frame_table.proofs.Names.{View, Keeper, Reader, Spent, Begins, Holds, reader_word, written, IsReaderStep, Moment, IsOpen, IsTrueEntry, ReadersLogIsTrue, KeepersLogIsTrue, ReaderLog, KeeperLog}
 use Rattle.frame_table.proofs.Looked.{got}
 use Rattle.frame_table.proofs.Orders.{fold_grows, log_grows, keeper_log_grows}
-use Rattle.frame_table.proofs.Making.{phase_is}
+use Rattle.frame_table.proofs.Making.{phase_is, seen as tied_at}
 use Rattle.frame_table.proofs.ReaderWords.{reader_step_is}
 use Rattle.frame_table.proofs.Replays.{last_step}
-use Rattle.frame_table.proofs.Truth.{longest_of, seen_begins, reader_told, keeper_told, tied_at}
+use Rattle.frame_table.proofs.Truth.{longest_of, seen_begins, reader_told, keeper_told}
 
 -- ---------------------------------------------------------------- steps that were made
 
@@ -59,9 +41,9 @@ module _ (sh : Shape) where
   other_reader h p e r xs same =
       let next = history_with h (event.Reader p e) (Some r) in
       let last = fold (history_after sh) next xs in
-      let log : Log = log_of p h.trace in
+      let log : ReaderLog = log_of p h.trace in
       let mine : log_of p next.trace ≡ log ++ (e, r.0) ∷ [] = ap (λ (b : Bool). cond b (log ++ (e, r.0) ∷ []) log) (eq-eqb p p refl) in
-      no_more log (log_of p last.trace) (e, r.0) (subst (λ (l : Log). Begins l (log_of p last.trace)) mine (fold_grows (λ (g : History). log_of p g.trace) (log_grows p) sh xs next)) same
+      no_more log (log_of p last.trace) (e, r.0) (subst (λ (l : ReaderLog). Begins l (log_of p last.trace)) mine (fold_grows (λ (g : History). log_of p g.trace) (log_grows p) sh xs next)) same
 
   keepers_step : (h : History) (k : KeeperStep) (r : ℕ × State) (xs : List Event)
       → keeper_log_of h.trace ≡ keeper_log_of (fold (history_after sh) (history_with h (event.Keeper k) (Some r)) xs).trace → ⊥
@@ -83,7 +65,7 @@ module _ (sh : Shape) where
 
     mine : (h : History) (p : ℕ) (e : ReaderStep) (r : ℕ × State) → p ≡ q → Turn h (event.Reader p e) r
     mine h p e r here =
-        let log : Log = log_of q h.trace in
+        let log : ReaderLog = log_of q h.trace in
         inl (
           e,
           ap (λ (k : ℕ). event.Reader k e) here,
@@ -132,7 +114,7 @@ module _ (sh : Shape) (t t' : Moment) (h : Holds sh t) (h' : Holds sh t') (j : �
   keeper' : 0 ≢ j → keeper_log_of (run_of sh seen).trace ≡ keeper_log_of (run_of sh h'.events).trace
   keeper' ne = subst (λ (l : List View). keeper_log_of (run_of sh (longest_of l)).trace ≡ keeper_log_of (run_of sh h'.events).trace) same_others (keeper_told sh t' h' j ne)
 
-made_by_reader : (sh : Shape) (t t' : Moment) (q : ℕ) (phase phase' : Phase) (log : Log) (order order' : List Event) (e : ReaderStep) (n : ℕ) (h : Holds sh t) (h' : Holds sh t')
+made_by_reader : (sh : Shape) (t t' : Moment) (q : ℕ) (phase phase' : Phase) (log : ReaderLog) (order order' : List Event) (e : ReaderStep) (n : ℕ) (h : Holds sh t) (h' : Holds sh t')
     → IsOpen (suc q) t → get_elem? t.views (suc q) ≡ some (Reader sh phase log order) → t'.views ≡ set t.views (suc q) (Reader sh phase' (log ++ (e, n) ∷ []) order')
     → step sh (run_of sh h.events).state (event.Reader q e) ≡ Some (n, (run_of sh h'.events).state)
 made_by_reader sh t t' q phase phase' log order order' e n h h' unspent at is =
@@ -141,13 +123,13 @@ made_by_reader sh t t' q phase phase' log order order' e n h h' unspent at is =
     let j : ℕ = suc q in
     let apart : 0 ≢ j = λ x. omega (arith, x) in
     let other = λ (r : ℕ) (ne : r ≢ q). let a : suc r ≢ j = λ x. ne (omega (arith, x)) in a in
-    let old = (tied_at sh t h j j v at).1 in
-    let new = (tied_at sh t' h' j j w (at' sh t t' h h' j v w at is)).1 in
+    let old = (tied_at sh t h j v at).1 in
+    let new = (tied_at sh t' h' j w (at' sh t t' h h' j v w at is)).1 in
     last_step sh (λ (x : ReaderStep). event.Reader q x) (λ (g : History). log_of q g.trace) (Good sh) (Same sh q) (turns sh q) (good_more sh)
     (seen sh t t' h h' j v w at is) h.events h'.events (e, n) (seen_begins sh t h j) (begins' sh t t' h h' j v w at is) (run_rule sh h.shape (seen sh t t' h h' j v w at is))
     (keeper_told sh t h j apart, λ r few ne. reader_told sh t h j unspent r few (other r ne))
     (keeper' sh t t' h h' j v w at is apart, λ r few ne. readers' sh t t' h h' j v w at is unspent r few (other r ne))
-    (sym new ∙ ap (λ (l : Log). l ++ (e, n) ∷ []) old)
+    (sym new ∙ ap (λ (l : ReaderLog). l ++ (e, n) ∷ []) old)
 
 -- ---------------------------------------------------------------- the entry
 
@@ -169,6 +151,7 @@ entry_is sh s next t t' q phase phase' e n rule words words' at at' is =
       phase_is = sym at' ∙ (ap (λ (l : List Phase). get_or l q spent_phase) seats ∙ get_or-set_same s.seats q (seat_after sh e phase n) spent_phase (seat_there sh e s q may));
     }
 
+-- no log of a reader lies
 pub readers_log_is_true : ReadersLogIsTrue
 readers_log_is_true sh t t' q phase phase' log order order' e n h h' unspent at is =
     let v : View = Reader sh phase log order in
@@ -179,12 +162,13 @@ readers_log_is_true sh t t' q phase phase' log order order' e n h h' unspent at 
     (phase_is sh t h q v at) (phase_is sh t' h' q w (at' sh t t' h h' (suc q) v w at is))
     (made_by_reader sh t t' q phase phase' log order order' e n h h' unspent at is)
 
+-- no log of the keeper lies
 pub keepers_log_is_true : KeepersLogIsTrue
 keepers_log_is_true sh t t' ledger ledger' tally tally' log order order' e n h h' unspent at is =
     let v : View = Keeper sh ledger tally log order in
     let w : View = Keeper sh ledger' tally' (log ++ (e, n) ∷ []) order' in
-    let old = tied_at sh t h 0 0 v at in
-    let new = tied_at sh t' h' 0 0 w (at' sh t t' h h' 0 v w at is) in
+    let old = tied_at sh t h 0 v at in
+    let new = tied_at sh t' h' 0 w (at' sh t t' h h' 0 v w at is) in
     let apart = λ (r : ℕ). let a : suc r ≢ 0 = λ x. omega (arith, x) in a in
     let steps = last_step sh event.Keeper (λ (g : History). keeper_log_of g.trace) (Good sh) (SameReaders sh) (keeper_turns sh) (good_more sh)
     (seen sh t t' h h' 0 v w at is) h.events h'.events (e, n) (seen_begins sh t h 0) (begins' sh t t' h h' 0 v w at is) (run_rule sh h.shape (seen sh t t' h h' 0 v w at is))

@@ -3,24 +3,18 @@ use Rattle.std.proofs.Common.{◌≡◌, ℕ, zero, suc, ◌<◌, ◌≤◌, ◌
 use Rattle.std.proofs.lemmas.List.{length-map}
 use mathlib.Core.Option.{some, some-injective, some-ne-none}
 use lib.ListN.{get_elem?}
-use Rattle.atomic_table.proofs.Lists.{at_set, at_longer, set_else}
-use Rattle.ksm_base.specs.declared.shape.Shape.{Shape}
-use Rattle.frame_core.specs.declared.event.Event.{Event}
-use Rattle.frame_core.specs.declared.seat.Phase.TheVariants.{Idle}
-use Rattle.frame_core.specs.State.{State}
-use Rattle.frame_core.specs.Trace.{History, history_with, run_of, log_of, keeper_log_of}
+use Rattle.atomic_table.proofs.Lists.{set_else}
+use Rattle.frame_table.proofs.CoreNames.{Shape, Event, Idle, State, History, history_with, run_of, log_of, keeper_log_of}
 use Rattle.frame_core.proofs.Above.{run_rule}
-use Rattle.frame_table.specs.declared.view.View.{View}
-use Rattle.frame_table.specs.declared.view.View.TheVariants.{Keeper, Reader, Spent}
-use Rattle.frame_table.specs.Orders.{Begins, later}
-use Rattle.frame_table.specs.Rule.{Holds, Tied, IsInOrder, all_views}
-use Rattle.frame_table.specs.Truth.{Moment, IsOpen}
-use Rattle.frame_table.specs.Views.{phase_of, order_of}
+use Rattle.frame_table.proofs.Names.{View, Keeper, Reader, Spent, Begins, later, Holds, Tied, IsInOrder, all_views, Moment, IsOpen, phase_of, order_of}
+use Rattle.frame_table.proofs.Looked.{each_put}
+use Rattle.frame_table.proofs.Making.{seen}
 use Rattle.frame_table.proofs.Opening.{copied}
 use Rattle.frame_table.proofs.Orders.{begins_shorter, later_is, between, log_grows, keeper_log_grows}
 
 -- ---------------------------------------------------------------- the longest order of some views
 
+-- the longest order of these views
 abbrev pub longest_of : List View → List Event
 longest_of [] = []
 longest_of (v ∷ vs) = later (order_of v) (longest_of vs)
@@ -67,14 +61,10 @@ module _ (sh : Shape) (t : Moment) (h : Holds sh t) (j : ℕ) where
   abbrev pub others : List View
   others = set t.views j Spent
 
-  pub tied_at : (i : ℕ) (v : View) → get_elem? t.views i ≡ some v → Tied sh (past h.events) h.tally i v
-  tied_at i v at = h.after.tied i v (at_longer t.views (replicate h.tally.unmade (Reader sh Idle [] [])) i v at)
-
+  -- what the others have seen is a beginning of all steps
   pub seen_begins : Begins (longest_of others) h.events
-  seen_begins = longest_begins others h.events (λ i v at. ⊎_elim
-      (λ (k : (i ≡ j) × (Spent ≡ v)). subst (λ (w : View). Begins (order_of w) h.events) k.1 (h.events, refl))
-      (λ (k : (i ≢ j) × (get_elem? t.views i ≡ some v)). order_begins sh (past h.events) h.tally h.events i v (h.orders i v k.1) (tied_at i v k.1))
-      (at_set t.views j i Spent v at))
+  seen_begins = longest_begins others h.events (each_put (λ i v. Begins (order_of v) h.events) t.views j Spent (h.events, refl)
+      (λ i v ne at. order_begins sh (past h.events) h.tally h.events i v (h.orders i v at) (seen sh t h i v at)))
 
   -- what is told of a part of the trace by an order that another has, is told by the longest of them
   told : {A : Type 0} (part : History → List A) → ((g : History) (e : Event) (r : ℕ × State) → Begins (part g) (part (history_with g e (Some r))))
@@ -105,6 +95,7 @@ module _ (sh : Shape) (t : Moment) (h : Holds sh t) (j : ℕ) where
       let same : length (map phase_of all) ≡ suc (length s.seats) = ap length h.after.phases_are in
       omega (arith, length-map all phase_of, same, (run_rule sh h.shape h.events).seat_count)
 
+  -- what the others have seen has all steps of each other pass
   pub reader_told : IsOpen j t → (r : ℕ) → r < sh.passes → suc r ≢ j → log_of r (past (longest_of others)).trace ≡ log_of r (past h.events).trace
   reader_told unspent r below ne =
       let v = view_inside all (suc r) (omega (arith, below, how_many)) in
@@ -121,6 +112,7 @@ module _ (sh : Shape) (t : Moment) (h : Holds sh t) (j : ℕ) where
       (longest_most others 0 (Keeper sh' ledger t' log order) (set_else t.views j 0 Spent ne ∙ at)) (sym is.1 ∙ tied.3)
   keeper_told_by _ ne at is tied = absurd tied
 
+  -- what the others have seen has all steps of the keeper
   pub keeper_told : 0 ≢ j → keeper_log_of (past (longest_of others)).trace ≡ keeper_log_of (past h.events).trace
   keeper_told ne =
       let v = view_inside all 0 (omega (arith, how_many)) in

@@ -1,15 +1,14 @@
 -- What a comparison of a page with the words of a hold says (own).
 use Rattle.std.specs.Prelude.{◌≡◌, ℕ, ◌<◌, Bool, true, false, List, [], ◌∷◌, ◌++◌, slice_index, slice_index_or, slice_set, Option, Some, None}
-use Rattle.ksm_base.specs.declared.page.TheConstants.{PAGE_WORDS}
-use Rattle.frame_core.specs.declared.event.ReaderStep.TheVariants.{LoadWord}
+use Rattle.frame_table.specs.Terms.{PAGE_WORDS, LoadWord}
 use Rattle.frame_table.specs.declared.pass.Found.TheVariants.{Held as found_held, Gone as found_gone, Busy as found_busy}
 use Rattle.frame_table.specs.declared.equal.FoundEqual.{FoundEqual}
 use Rattle.frame_table.specs.declared.equal.FoundEqual.TheVariants.{Held, Differs, Gone, Busy}
 use Rattle.frame_table.specs.Named.{PassView, HeldView}
-use Rattle.frame_table.specs.Lookup.{Log, LooksUp}
+use Rattle.frame_table.specs.Lookup.{ReaderLog, LooksUp}
 
 -- the loads of these words, each by its number
-abbrev pub word_steps : List (ℕ × ℕ) → Log
+abbrev pub word_steps : List (ℕ × ℕ) → ReaderLog
 word_steps [] = []
 word_steps (x ∷ xs) = (LoadWord x.0, x.1) ∷ word_steps xs
 

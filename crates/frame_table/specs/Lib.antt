@@ -1,3 +1,4 @@
+pub mod Terms
 pub mod Named
 pub mod Kept
 pub mod Seat

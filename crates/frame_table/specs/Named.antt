@@ -1,9 +1,6 @@
 -- What contracts see of a table, its passes, its holds and its keeper, and of a table that was closed (own).
 use Rattle.std.specs.Prelude.{ℕ, List, Option}
-use Rattle.ksm_base.specs.declared.shape.Shape.{Shape}
-use Rattle.frame_core.specs.declared.event.KeeperStep.{KeeperStep}
-use Rattle.frame_core.specs.declared.event.ReaderStep.{ReaderStep}
-use Rattle.frame_core.specs.declared.ledger.Ledger.{Ledger}
+use Rattle.frame_table.specs.Terms.{Shape, KeeperStep, ReaderStep, Ledger}
 use Rattle.atomic_table.specs.Seated.{TableId}
 
 -- which table it is, and its shape

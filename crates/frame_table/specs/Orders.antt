@@ -1,7 +1,6 @@
 -- The order of the steps of all seats, as each seat knows it (own).
 use Rattle.std.specs.Prelude.{◌≡◌, ℕ, nat_le, cond, List, [], ◌∷◌, ◌++◌, length, Some}
-use Rattle.ksm_base.specs.declared.shape.Shape.{Shape}
-use Rattle.frame_core.specs.declared.event.Event.{Event}
+use Rattle.frame_table.specs.Terms.{Shape, Event}
 use Rattle.frame_core.specs.State.{State}
 use Rattle.frame_core.specs.Steps.{step}
 use Rattle.frame_core.specs.Trace.{run_of}

@@ -1,16 +1,8 @@
 -- What each step of a reader tells its seat (own).
 use Rattle.std.specs.Prelude.{◌≡◌, ℕ, ◌<◌, ◌≤◌, List, [], ◌∷◌, ◌++◌, slice_index_or, Option, Some, None}
 use Rattle.atomic_table.specs.Table.{Step}
-use Rattle.ksm_base.specs.declared.page.TheConstants.{PAGE_WORDS}
-use Rattle.ksm_base.specs.declared.shape.Shape.{Shape}
-use Rattle.ksm_base.specs.Values.{frames_of}
-use Rattle.frame_core.specs.declared.event.Event.{Event}
+use Rattle.frame_table.specs.Terms.{PAGE_WORDS, Shape, frames_of, Event, ReaderStep, LoadPlace, LoadFrame, Exchange, Leave, LoadWord, Aim, Phase, Held}
 use Rattle.frame_core.specs.declared.event.Event.TheVariants as event
-use Rattle.frame_core.specs.declared.event.ReaderStep.{ReaderStep}
-use Rattle.frame_core.specs.declared.event.ReaderStep.TheVariants.{LoadPlace, LoadFrame, Exchange, Leave, LoadWord}
-use Rattle.frame_core.specs.declared.seat.Aim.{Aim}
-use Rattle.frame_core.specs.declared.seat.Phase.{Phase}
-use Rattle.frame_core.specs.declared.seat.Phase.TheVariants.{Held}
 use Rattle.frame_core.specs.State.{life_at, count_in}
 use Rattle.frame_table.specs.declared.view.View.{View}
 use Rattle.frame_table.specs.declared.view.View.TheVariants.{Reader}

@@ -1,7 +1,6 @@
 -- One round of a lookup (own).
 use Rattle.std.specs.Prelude.{◌≡◌, ◌+◌, nat_le, cond, [], ◌∷◌, ◌++◌}
-use Rattle.frame_core.specs.declared.seat.Phase.TheVariants.{Idle, Placed, Held}
-use Rattle.frame_core.specs.declared.event.ReaderStep.TheVariants.{LoadFrame, Exchange}
+use Rattle.frame_table.specs.Terms.{Idle, Placed, Held, LoadFrame, Exchange}
 use Rattle.frame_core.specs.State.{count_in, life_in}
 use Rattle.frame_table.specs.declared.view.View.{View}
 use Rattle.frame_table.specs.declared.view.View.TheVariants.{Reader}

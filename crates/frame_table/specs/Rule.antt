@@ -4,10 +4,7 @@ use Rattle.std.specs.Prelude.{◌≡◌, ℕ, zero, suc, Bool, true, false, List
 use mathlib.Core.Option.{some}
 use lib.ListN.{get_elem?}
 use Rattle.atomic_table.specs.Table as table
-use Rattle.ksm_base.specs.declared.shape.Shape.{Shape}
-use Rattle.ksm_base.specs.Values.{IsShape}
-use Rattle.frame_core.specs.declared.event.Event.{Event}
-use Rattle.frame_core.specs.declared.seat.Phase.TheVariants.{Idle, Spent as spent_phase}
+use Rattle.frame_table.specs.Terms.{Shape, IsShape, Event, Idle, Spent as spent_phase}
 use Rattle.frame_core.specs.Words.{words_of}
 use Rattle.frame_core.specs.Ledger.{first_ledger}
 use Rattle.frame_core.specs.Trace.{History, run_of, log_of, keeper_log_of}

@@ -3,14 +3,7 @@ use Rattle.std.specs.Prelude.{◌≡◌, ℕ, suc, ◌+◌, ◌<◌, ◌≤◌, 
 use mathlib.Core.Option.{some}
 use lib.ListN.{get_elem?}
 use Rattle.atomic_table.specs.Table as table
-use Rattle.ksm_base.specs.declared.page.TheConstants.{PAGE_WORDS}
-use Rattle.ksm_base.specs.declared.shape.Shape.{Shape}
-use Rattle.ksm_base.specs.Values.{frames_of}
-use Rattle.frame_core.specs.declared.event.Event.{Event}
-use Rattle.frame_core.specs.declared.ledger.Ledger.{Ledger}
-use Rattle.frame_core.specs.declared.seat.Aim.{Aim}
-use Rattle.frame_core.specs.declared.seat.Phase.{Phase}
-use Rattle.frame_core.specs.declared.seat.Phase.TheVariants.{Idle, Held}
+use Rattle.frame_table.specs.Terms.{PAGE_WORDS, Shape, frames_of, Event, Ledger, Aim, Phase, Idle, Held}
 use Rattle.frame_core.specs.State.{place_word, count_in, life_in}
 use Rattle.frame_core.specs.Words.{words_of, frame_word_at, content_at}
 use Rattle.frame_core.specs.Ledger.{frame_at, named_at, IsWritable}
@@ -21,7 +14,7 @@ use Rattle.frame_table.specs.declared.view.Tally.{Tally}
 use Rattle.frame_table.specs.declared.view.View.{View}
 use Rattle.frame_table.specs.declared.view.View.TheVariants.{Keeper, Reader, Spent}
 use Rattle.frame_table.specs.Rule.{Holds, IsInOrder}
-use Rattle.frame_table.specs.Views.{Log, KeeperLog, order_of}
+use Rattle.frame_table.specs.Views.{ReaderLog, KeeperLog, order_of}
 
 -- the keeper's log is its part of the steps, and its ledger is what the words say
 pub record LedgerIs (sh : Shape) (h : History) (words : List ℕ) (ledger : Ledger) (log : KeeperLog) : Type 0 where
@@ -48,7 +41,7 @@ pub record RunsSafely (sh : Shape) (t : table.State (Unit {0}) View) : Type 0 wh
   -- the keeper's view is the core's ledger; a pass has come as far as its seat of the core has, and logs its part; one that was given back is idle
   pub keeper : (sh' : Shape) (ledger : Ledger) (tally : Tally) (log : KeeperLog) (order : List Event)
       → get_elem? t.views 0 ≡ some (Keeper sh' ledger tally log order) → (sh' ≡ sh) × LedgerIs sh (run_of sh events) t.words ledger log
-  pub reader : (q : ℕ) (sh' : Shape) (phase : Phase) (log : Log) (order : List Event) → get_elem? t.views (suc q) ≡ some (Reader sh' phase log order)
+  pub reader : (q : ℕ) (sh' : Shape) (phase : Phase) (log : ReaderLog) (order : List Event) → get_elem? t.views (suc q) ≡ some (Reader sh' phase log order)
       → (sh' ≡ sh) × (slice_get (run_of sh events).state.seats q ≡ Some phase) × (log ≡ log_of q (run_of sh events).trace)
   pub given_back : (q : ℕ) → get_elem? t.views (suc q) ≡ some Spent → slice_get (run_of sh events).state.seats q ≡ Some Idle
   -- what a seat has seen is a beginning of them, with all steps of its own, and the seat of the last has seen all
@@ -58,11 +51,11 @@ pub record RunsSafely (sh : Shape) (t : table.State (Unit {0}) View) : Type 0 wh
   pub given : GivenUnheld sh.passes (run_of sh events).trace
   pub safe : (n : ℕ) → IsSafe sh (run_of sh (take n events))
   -- a seat that holds, holds what its place named, in the present life, and what it has read is what was named and what is there
-  pub holds : (q : ℕ) (aim : Aim) (known : List (Option ℕ)) (log : Log) (order : List Event)
+  pub holds : (q : ℕ) (aim : Aim) (known : List (Option ℕ)) (log : ReaderLog) (order : List Event)
       → get_elem? t.views (suc q) ≡ some (Reader sh (Held aim known) log order)
       → HoldsRightly q aim (run_of sh events).trace × HoldIs sh t.words aim known
   -- a frame that the keeper may write is held by no seat
-  pub unwritten : (ledger : Ledger) (tally : Tally) (kept : KeeperLog) (seen : List Event) (q : ℕ) (aim : Aim) (known : List (Option ℕ)) (log : Log)
+  pub unwritten : (ledger : Ledger) (tally : Tally) (kept : KeeperLog) (seen : List Event) (q : ℕ) (aim : Aim) (known : List (Option ℕ)) (log : ReaderLog)
       (order : List Event) → get_elem? t.views 0 ≡ some (Keeper sh ledger tally kept seen)
       → get_elem? t.views (suc q) ≡ some (Reader sh (Held aim known) log order) → ¬ IsWritable (frame_at ledger aim.life.frame).kind
 

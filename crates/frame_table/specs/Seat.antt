@@ -1,16 +1,8 @@
 -- The word of the table on which a step of a reader works, and what it leaves there (own).
 use Rattle.std.specs.Prelude.{ℕ, ◌+◌, ◌-◌, ◌==◌, cond}
-use Rattle.ksm_base.specs.declared.shape.Shape.{Shape}
-use Rattle.ksm_base.specs.Values.{frames_of}
-use Rattle.frame_core.specs.declared.event.ReaderStep.{ReaderStep}
-use Rattle.frame_core.specs.declared.event.ReaderStep.TheVariants.{LoadPlace, LoadFrame, Exchange, Leave, LoadWord}
-use Rattle.frame_core.specs.declared.seat.Aim.{Aim}
-use Rattle.frame_core.specs.declared.seat.Phase.{Phase}
+use Rattle.frame_table.specs.Terms.{Shape, frames_of, ReaderStep, LoadPlace, LoadFrame, Exchange, Leave, LoadWord, Phase}
 use Rattle.frame_core.specs.Seat.{frame_of, loaded_by}
 use Rattle.frame_core.specs.Words.{frame_word_at, content_at}
-
-abbrev pub aim_at : ℕ → ℕ → ℕ → Aim
-aim_at p f g = record { place = p; life = record { frame = f; generation = g } }
 
 -- the word that a step works on
 abbrev pub reader_word : Shape → ReaderStep → Phase → ℕ

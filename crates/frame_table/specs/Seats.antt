@@ -1,9 +1,6 @@
 -- What opening and closing say, and how a pass is made and given back (own).
 use Rattle.std.specs.Prelude.{◌≡◌, ℕ, ◌+◌, ◌-◌, ◌<◌, List, [], replicate, slice_index}
-use Rattle.ksm_base.specs.declared.shape.Shape.{Shape}
-use Rattle.ksm_base.specs.Values.{frames_of}
-use Rattle.frame_core.specs.declared.ledger.Ledger.{Ledger}
-use Rattle.frame_core.specs.declared.seat.Phase.TheVariants.{Idle}
+use Rattle.frame_table.specs.Terms.{Shape, frames_of, Ledger, Idle}
 use Rattle.frame_core.specs.State.{place_word, count_in, life_in}
 use Rattle.frame_core.specs.Words.{frame_word_at}
 use Rattle.frame_core.specs.Ledger.{first_ledger, frame_at, named_at}

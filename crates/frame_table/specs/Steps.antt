@@ -1,11 +1,6 @@
 -- Each step of a seat is the core's step of the same name: what it finds, what it leaves, and what the seat and the keeper know then (own).
 use Rattle.std.specs.Prelude.{◌≡◌, ℕ, true, slice_index, slice_set, Some}
-use Rattle.ksm_base.specs.declared.shape.Shape.{Shape}
-use Rattle.ksm_base.specs.Values.{frames_of}
-use Rattle.frame_core.specs.declared.event.Event.TheVariants.{Reader, Keeper}
-use Rattle.frame_core.specs.declared.event.ReaderStep.{ReaderStep}
-use Rattle.frame_core.specs.declared.event.KeeperStep.{KeeperStep}
-use Rattle.frame_core.specs.declared.seat.Phase.{Phase}
+use Rattle.frame_table.specs.Terms.{Shape, frames_of, Reader, Keeper, ReaderStep, KeeperStep, Phase}
 use Rattle.frame_core.specs.State.{State}
 use Rattle.frame_core.specs.Steps.{step}
 use Rattle.frame_core.specs.Words.{words_of}

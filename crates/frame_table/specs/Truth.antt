@@ -3,13 +3,8 @@ use Rattle.std.specs.Prelude.{◌≡◌, ℕ, suc, ◌≢◌, [], ◌∷◌, ◌
 use mathlib.Core.Option.{some}
 use lib.ListN.{get_elem?}
 use Rattle.atomic_table.specs.Table as table
-use Rattle.ksm_base.specs.declared.shape.Shape.{Shape}
-use Rattle.frame_core.specs.declared.event.Event.{Event}
+use Rattle.frame_table.specs.Terms.{Shape, Event, ReaderStep, KeeperStep, Ledger, Phase}
 use Rattle.frame_core.specs.declared.event.Event.TheVariants as event
-use Rattle.frame_core.specs.declared.event.ReaderStep.{ReaderStep}
-use Rattle.frame_core.specs.declared.event.KeeperStep.{KeeperStep}
-use Rattle.frame_core.specs.declared.ledger.Ledger.{Ledger}
-use Rattle.frame_core.specs.declared.seat.Phase.{Phase}
 use Rattle.frame_core.specs.State.{State}
 use Rattle.frame_core.specs.Steps.{step}
 use Rattle.frame_core.specs.Words.{words_of}
@@ -20,7 +15,7 @@ use Rattle.frame_table.specs.declared.view.View.TheVariants.{Keeper, Reader, Spe
 use Rattle.frame_table.specs.Rule.{Holds}
 use Rattle.frame_core.specs.Seat.{may_read, seat_after}
 use Rattle.frame_table.specs.Seat.{reader_word, written}
-use Rattle.frame_table.specs.Views.{Log, KeeperLog}
+use Rattle.frame_table.specs.Views.{ReaderLog, KeeperLog}
 
 abbrev pub Moment : Type 0
 Moment = table.State (Unit {0}) View
@@ -44,7 +39,7 @@ pub record IsTrueEntry (sh : Shape) (t t' : Moment) (phase phase' : Phase) (e : 
   pub phase_is : phase' ≡ seat_after sh e phase found
 
 abbrev pub ReadersLogIsTrue : Type 0
-ReadersLogIsTrue = (sh : Shape) (t t' : Moment) (q : ℕ) (phase phase' : Phase) (log : Log) (order order' : List Event) (e : ReaderStep) (found : ℕ)
+ReadersLogIsTrue = (sh : Shape) (t t' : Moment) (q : ℕ) (phase phase' : Phase) (log : ReaderLog) (order order' : List Event) (e : ReaderStep) (found : ℕ)
     → Holds sh t → Holds sh t' → IsOpen (suc q) t → get_elem? t.views (suc q) ≡ some (Reader sh phase log order)
     → t'.views ≡ slice_set t.views (suc q) (Reader sh phase' (log ++ (e, found) ∷ []) order')
     → IsTrueEntry sh t t' phase phase' e found

@@ -1,20 +1,14 @@
 -- What a seat of the table knows, read part by part (own).
 use Rattle.std.specs.Prelude.{◌≡◌, ℕ, List, [], Option}
 use Rattle.atomic_table.specs.Table.{Me}
-use Rattle.ksm_base.specs.declared.shape.Shape.{Shape}
-use Rattle.frame_core.specs.declared.event.Event.{Event}
-use Rattle.frame_core.specs.declared.event.KeeperStep.{KeeperStep}
-use Rattle.frame_core.specs.declared.event.ReaderStep.{ReaderStep}
-use Rattle.frame_core.specs.declared.ledger.Ledger.{Ledger}
-use Rattle.frame_core.specs.declared.seat.Phase.{Phase}
-use Rattle.frame_core.specs.declared.seat.Phase.TheVariants.{Idle, Held, Spent as spent_phase}
+use Rattle.frame_table.specs.Terms.{Shape, Event, KeeperStep, ReaderStep, Ledger, Phase, Idle, Held, Spent as spent_phase}
 use Rattle.frame_table.specs.declared.view.Tally.{Tally}
 use Rattle.frame_table.specs.declared.view.View.{View}
 use Rattle.frame_table.specs.declared.view.View.TheVariants.{Keeper, Reader, Spent}
 
 -- steps of a reader, each with the word that it found
-abbrev pub Log : Type 0
-Log = List (ReaderStep × ℕ)
+abbrev pub ReaderLog : Type 0
+ReaderLog = List (ReaderStep × ℕ)
 
 -- steps of the keeper, each with the word that it found
 abbrev pub KeeperLog : Type 0
@@ -50,24 +44,18 @@ shape_of Spent = no_shape
 abbrev pub shape_in : Sat → Shape
 shape_in m = shape_of m.0
 
-abbrev pub entries : View → Log
-entries (Reader sh phase log order) = log
-entries _ = []
-
 -- what a reader's seat has done
-abbrev pub log_in : Sat → Log
-log_in m = entries m.0
-
-abbrev pub words_known : View → List (Option ℕ)
-words_known (Reader sh (Held aim known) log order) = known
-words_known _ = []
+abbrev pub log_in : Sat → ReaderLog
+log_in (Reader sh phase log order, slots) = log
+log_in _ = []
 
 -- the words that a seat has read in its hold
 abbrev pub known_in : Sat → List (Option ℕ)
-known_in m = words_known m.0
+known_in (Reader sh (Held aim known) log order, slots) = known
+known_in _ = []
 
 -- a reader's seat
-abbrev pub sits : Shape → Phase → Log → List Event → Sat
+abbrev pub sits : Shape → Phase → ReaderLog → List Event → Sat
 sits sh phase log order = (Reader sh phase log order, [])
 
 -- the seat is a reader's that has come so far
@@ -77,29 +65,20 @@ IsIn sh phase m = m ≡ sits sh phase (log_in m) (order_in m)
 abbrev pub nothing_noted : Ledger
 nothing_noted = record { frames = []; places = [] }
 
-abbrev pub ledger_of_view : View → Ledger
-ledger_of_view (Keeper sh ledger tally log order) = ledger
-ledger_of_view _ = nothing_noted
-
 -- what the keeper's seat knows
 abbrev pub ledger_in : Sat → Ledger
-ledger_in m = ledger_of_view m.0
-
-abbrev pub tally_of_view : View → Tally
-tally_of_view (Keeper sh ledger tally log order) = tally
-tally_of_view _ = record { unmade = 0; out = 0 }
+ledger_in (Keeper sh ledger tally log order, slots) = ledger
+ledger_in _ = nothing_noted
 
 -- how many passes there are, by the keeper's seat
 abbrev pub tally_in : Sat → Tally
-tally_in m = tally_of_view m.0
-
-abbrev pub keeper_entries : View → KeeperLog
-keeper_entries (Keeper sh ledger tally log order) = log
-keeper_entries _ = []
+tally_in (Keeper sh ledger tally log order, slots) = tally
+tally_in _ = record { unmade = 0; out = 0 }
 
 -- what the keeper's seat has done
 abbrev pub keeper_log : Sat → KeeperLog
-keeper_log m = keeper_entries m.0
+keeper_log (Keeper sh ledger tally log order, slots) = log
+keeper_log _ = []
 
 -- the keeper's seat
 abbrev pub keeps_ledger : Shape → Ledger → Tally → KeeperLog → List Event → Sat

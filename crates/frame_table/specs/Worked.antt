@@ -1,14 +1,9 @@
 -- Worked lookups, by which the definitions of a lookup are tried: what its steps found, one after another. Own.
 use Rattle.std.specs.Prelude.{ℕ, [], ◌∷◌, replicate, Some}
-use Rattle.ksm_base.specs.declared.page.TheConstants.{PAGE_WORDS}
-use Rattle.ksm_base.specs.declared.shape.Shape.{Shape}
-use Rattle.frame_core.specs.declared.event.ReaderStep.{ReaderStep}
-use Rattle.frame_core.specs.declared.event.ReaderStep.TheVariants.{LoadPlace, LoadFrame, Exchange}
-use Rattle.frame_core.specs.declared.frame.Kind.TheVariants.{Stable}
-use Rattle.frame_core.specs.declared.ledger.Ledger.{Ledger}
+use Rattle.frame_table.specs.Terms.{PAGE_WORDS, Shape, ReaderStep, LoadPlace, LoadFrame, Exchange, Stable, Ledger}
 use Rattle.frame_core.specs.State.{frame_word}
 use Rattle.frame_table.specs.Named.{TableName, PassView, ClosedView}
-use Rattle.frame_table.specs.Views.{Log}
+use Rattle.frame_table.specs.Views.{ReaderLog}
 
 -- two frames, and two tries
 abbrev pub two_tries : Shape
@@ -26,7 +21,7 @@ abbrev pub finds : ℕ → ℕ → ReaderStep × ℕ
 finds life count = (Exchange, frame_word life count)
 
 -- a pass of the table, which has done this
-abbrev pub pass_of : TableName → Log → PassView
+abbrev pub pass_of : TableName → ReaderLog → PassView
 pass_of t log = record { table = t; log = log }
 
 -- one frame, which the keeper has opened in its life 1, with one reference, and named at its one place

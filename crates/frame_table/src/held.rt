@@ -30,14 +30,22 @@ impl Model for Held {
     ghost use Rattle.frame_core.specs.declared.seat.Phase.TheVariants.{Held as held};
     ghost use Rattle.frame_core.specs.Words.{frame_word_at, page_at};
     ghost use Rattle.frame_table.specs.Named.{HeldView};
-    ghost use Rattle.frame_table.specs.Seat.{aim_at};
+    ghost use Rattle.frame_core.specs.Seat.{aim_at};
     ghost use Rattle.frame_table.specs.Views.{IsIn, log_in, shape_in, known_in};
 
     ghost Value = { HeldView };
 
     ghost view = { λ h. record { table = record { id = h.seat.table_id; shape = shape_in h.seat.me }; log = log_in h.seat.me; place = h.place; frame = h.frame; generation = h.generation; known = known_in h.seat.me } };
 
-    ghost invariant = { λ h. IsIn (shape_in h.seat.me) (held (aim_at h.place h.frame h.generation) (known_in h.seat.me)) h.seat.me × (h.frame < frames_of (shape_in h.seat.me)) × (length (known_in h.seat.me) ≡ words_of_page) × (h.word ≡ frame_word_at (frames_of (shape_in h.seat.me)) h.frame) × (h.word < h.seat.table_id.words) × (h.page ≡ page_at (frames_of (shape_in h.seat.me)) h.frame) × (h.page + words_of_page ≤ h.seat.table_id.words) };
+    ghost invariant = { λ h. record {
+      seat : IsIn (shape_in h.seat.me) (held (aim_at h.place h.frame h.generation) (known_in h.seat.me)) h.seat.me;
+      frame : h.frame < frames_of (shape_in h.seat.me);
+      known : length (known_in h.seat.me) ≡ words_of_page;
+      word : h.word ≡ frame_word_at (frames_of (shape_in h.seat.me)) h.frame;
+      word_within : h.word < h.seat.table_id.words;
+      page : h.page ≡ page_at (frames_of (shape_in h.seat.me)) h.frame;
+      page_within : h.page + words_of_page ≤ h.seat.table_id.words;
+    } };
 }
 
 impl Held {

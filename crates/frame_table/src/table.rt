@@ -57,7 +57,15 @@ impl Model for FrameTable {
 
     ghost view = { λ t. record { id = t.table.shared.table_id; shape = t.shape } };
 
-    ghost invariant = { λ t. (t.table.shared.key ≡ t.shape) × (t.table.shared.table_id.words ≡ words_for (frames_of t.shape)) × (t.table.shared.table_id.slots ≡ 0) × IsShape t.shape × (t.places ≡ frames_of t.shape) × (t.places ≤ 1024) × (t.pages ≡ page_at (frames_of t.shape) 0) };
+    ghost invariant = { λ t. record {
+      key : t.table.shared.key ≡ t.shape;
+      words : t.table.shared.table_id.words ≡ words_for (frames_of t.shape);
+      slots : t.table.shared.table_id.slots ≡ 0;
+      shape : IsShape t.shape;
+      places : t.places ≡ frames_of t.shape;
+      few : t.places ≤ 1024;
+      pages : t.pages ≡ page_at (frames_of t.shape) 0;
+    } };
 }
 
 impl FrameTable {

@@ -55,7 +55,7 @@ fn each_cause_is_said(rt: HostRuntime) -> Result<(), Fail> {
             return Err(Fail::from("a row"));
         };
         let host = Host::new(rt.alloc(), "ksmbook --nodes 1 --frames 1", line, None);
-        let outcome = run_on(&host, &rt);
+        let outcome = run_on(&host, &rt, &host);
         let (printed, said) = host.told();
         let wanted = format!(in rt.alloc(); "line 1, column {why}\n")?;
         assert_eq!(rt; outcome.status(), Status::NotUnderstood, "{line:?}");
@@ -78,7 +78,7 @@ fn a_long_line_is_said(rt: HostRuntime) -> Result<(), Fail> {
         line.as_str(),
         None,
     );
-    let outcome = run_on(&host, &rt);
+    let outcome = run_on(&host, &rt, &host);
     let (printed, said) = host.told();
     assert_eq!(rt; outcome.status(), Status::NotUnderstood);
     assert_eq!(rt; printed.as_slice(), b"bad line 1\n".as_slice());

@@ -20,7 +20,7 @@ fn ended<T: Threads + Wait + Sync>(
     room: Option<usize>,
 ) -> (Status, Vec<u8>, String) {
     let host = Host::new(alloc, words, input, room);
-    let outcome = run_on(&host, threads);
+    let outcome = run_on(&host, threads, &host);
     let (printed, said) = host.told();
     (outcome.status(), printed, said)
 }
@@ -261,6 +261,7 @@ fn played_by<T: Threads + Wait + Sync, I: Read + Drop>(
         &host,
         threads,
         words.as_slice(),
+        false,
         &mut reader,
         writer,
     );

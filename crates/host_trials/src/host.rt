@@ -3,7 +3,7 @@ use std::alloc::{Alloc, Allocator, Global};
 use std::cell::RefCell;
 use std::env::FillError;
 use std::fmt::Display;
-use std::io::{self, BufRead, ErrorKind, Lines, Write};
+use std::io::{self, BufRead, ErrorKind, IsTerminal, Lines, Write};
 use std::rt::Env;
 
 /// What the program meets. Its output takes `room` bytes, then fails once, and would take all after that; without a room it takes all.
@@ -13,6 +13,8 @@ pub struct Host<'a> {
     words: &'a str,
     input: &'a str,
     room: RefCell<Option<usize>>,
+    explain: Option<&'a str>,
+    is_terminal: bool,
     printed: RefCell<Vec<u8>>,
     said: RefCell<String>,
 }
@@ -25,9 +27,18 @@ impl<'a> Host<'a> {
             words,
             input,
             room: RefCell::new(room),
+            explain: None,
+            is_terminal: false,
             printed: RefCell::new(Vec::new(alloc)),
             said: RefCell::new(String::new(alloc)),
         }
+    }
+
+    /// The same host with this value of the one variable that it has, and with a terminal for standard error or none.
+    pub fn explaining(mut self, value: Option<&'a str>, is_terminal: bool) -> Host<'a> {
+        self.explain = value;
+        self.is_terminal = is_terminal;
+        self
     }
 
     /// What was printed, and what was said on standard error.
@@ -58,6 +69,15 @@ pub fn taken(room: &mut Option<usize>, bytes: usize) -> io::Result<usize> {
     }
 }
 
+/// Copies bytes to the front of a buffer, if they fit.
+fn filled(bytes: &[u8], buffer: &mut [u8]) -> Result<usize, FillError> {
+    if bytes.len() > buffer.len() {
+        return Err(FillError::TooLong);
+    }
+    buffer[..bytes.len()].copy_from_slice(bytes);
+    Ok(bytes.len())
+}
+
 impl Alloc for Host<'_> {
     type A = Global;
 
@@ -76,15 +96,14 @@ impl Env for Host<'_> {
         } else {
             word.as_bytes()
         };
-        if bytes.len() > buffer.len() {
-            return Err(FillError::TooLong);
-        }
-        buffer[..bytes.len()].copy_from_slice(bytes);
-        Ok(bytes.len())
+        filled(bytes, buffer)
     }
 
-    fn var(&self, _name: &str, _buffer: &mut [u8]) -> Result<usize, FillError> {
-        Err(FillError::NotPresent)
+    fn var(&self, name: &str, buffer: &mut [u8]) -> Result<usize, FillError> {
+        match self.explain {
+            Some(value) if name == "KSMBOOK_EXPLAIN" => filled(value.as_bytes(), buffer),
+            _ => Err(FillError::NotPresent),
+        }
     }
 
     fn var_at(&self, _i: usize, _buffer: &mut [u8]) -> Result<usize, FillError> {
@@ -140,5 +159,11 @@ impl Eprint for Host<'_> {
     fn eprintln<D: Display + Drop>(&self, value: D) -> io::Result<()> {
         self.eprint(value)?;
         self.eprint("\n")
+    }
+}
+
+impl IsTerminal for Host<'_> {
+    fn is_terminal(&self) -> bool {
+        self.is_terminal
     }
 }

@@ -7,3 +7,5 @@ mod causes;
 mod ends;
 #[cfg(test)]
 mod host;
+#[cfg(test)]
+mod refusals;

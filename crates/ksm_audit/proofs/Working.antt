@@ -3,7 +3,7 @@ use Rattle.std.proofs.Common.{◌≡◌, ◌≢◌, ℕ, ◌+◌, ◌<◌, ◌�
 use Rattle.std.proofs.lemmas.Bool.Decides.{nat_tests}
 use Rattle.ksm_base.specs.declared.shape.Shape.{Shape}
 use Rattle.frame_table.specs.Named.{TableName, PassView}
-use Rattle.frame_table.specs.Lookup.{Log}
+use Rattle.frame_table.specs.Lookup.{ReaderLog}
 use Rattle.ksm_audit.specs.declared.report.Row.{Row}
 use Rattle.ksm_audit.specs.declared.job.Line.{Line}
 use Rattle.ksm_audit.specs.declared.claims.Deal.{Deal}
@@ -94,10 +94,10 @@ pub places_more : (lines : List Line) (place : ℕ) (row : Row) → places_of (l
 places_more [] place row = refl
 places_more (l ∷ ls) place row = ap (λ (ps : List ℕ). l.place ∷ ps) (places_more ls place row)
 
-lookups_more : (sh : Shape) (ls : List Line) (place : ℕ) (row : Row) (log here : Log) → AreLookups sh ls log → IsLookup sh place row here → AreLookups sh (ls ++ line place row ∷ []) (log ++ here)
-lookups_more sh [] place row log here are is = (here, [], ap (λ (l : Log). l ++ here) are ∙ sym (append-nil here), is, refl)
+lookups_more : (sh : Shape) (ls : List Line) (place : ℕ) (row : Row) (log here : ReaderLog) → AreLookups sh ls log → IsLookup sh place row here → AreLookups sh (ls ++ line place row ∷ []) (log ++ here)
+lookups_more sh [] place row log here are is = (here, [], ap (λ (l : ReaderLog). l ++ here) are ∙ sym (append-nil here), is, refl)
 lookups_more sh (l ∷ ls) place row log here are is =
-    (are.0, are.1 ++ here, ap (λ (x : Log). x ++ here) are.2 ∙ append_assoc are.0 are.1 here, are.3, lookups_more sh ls place row are.1 here are.4 is)
+    (are.0, are.1 ++ here, ap (λ (x : ReaderLog). x ++ here) are.2 ∙ append_assoc are.0 are.1 here, are.3, lookups_more sh ls place row are.1 here are.4 is)
 
 pub made_nothing : (v : PassView) → Made v [] v
 made_nothing v = (refl, ([], sym (append-nil v.log), refl))
@@ -107,7 +107,7 @@ made_more v w x ls place row made visit =
     let added = made.1.0 in
     let here = visit.1.0 in
     let is = subst (λ (t : TableName). IsLookup t.shape place row here) made.0 visit.1.2 in
-    (visit.0 ∙ made.0, (added ++ here, visit.1.1 ∙ ap (λ (l : Log). l ++ here) made.1.1 ∙ append_assoc v.log added here, lookups_more v.table.shape ls place row added here made.1.2 is))
+    (visit.0 ∙ made.0, (added ++ here, visit.1.1 ∙ ap (λ (l : ReaderLog). l ++ here) made.1.1 ∙ append_assoc v.log added here, lookups_more v.table.shape ls place row added here made.1.2 is))
 
 module _ (may : ℕ → Type 0) (place : ℕ) (v : PassView) (ls : List Line) (r : Option ℕ) (w : PassView) (ls' : List Line) (r' : Option ℕ) (a : Answers may place v ls r w ls' r') where
   abbrev Before : Type 0

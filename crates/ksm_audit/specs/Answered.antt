@@ -7,7 +7,7 @@ use Rattle.ksm_base.specs.Values.{frames_of}
 use Rattle.frame_core.specs.declared.event.ReaderStep.{ReaderStep}
 use Rattle.frame_core.specs.declared.event.ReaderStep.TheVariants.{LoadPlace}
 use Rattle.frame_table.specs.Named.{PassView}
-use Rattle.frame_table.specs.Lookup.{Log}
+use Rattle.frame_table.specs.Lookup.{ReaderLog}
 use Rattle.ksm_audit.specs.declared.report.Row.{Row}
 use Rattle.ksm_audit.specs.declared.job.Line.{Line}
 use Rattle.ksm_audit.specs.declared.auditing.AuditFault.{AuditFault}
@@ -22,7 +22,7 @@ is_load p (LoadPlace q) = if q == p then 1 else 0
 is_load p _ = 0
 
 -- how often a log loads the place: a lookup does so once
-abbrev pub loads : ℕ → Log → ℕ
+abbrev pub loads : ℕ → ReaderLog → ℕ
 loads p [] = 0
 loads p (e ∷ log) = is_load p e.0 + loads p log
 
@@ -37,7 +37,7 @@ Gains v w = (lines : List Line) × Made v lines w
 
 -- what the pass did meanwhile has a whole lookup of the place that ended with this row
 abbrev pub Shows : ℕ → Row → PassView → PassView → Type 0
-Shows place row v w = (before here after : Log) × (w.log ≡ v.log ++ (before ++ (here ++ after))) × IsLookup v.table.shape place row here
+Shows place row v w = (before here after : ReaderLog) × (w.log ≡ v.log ++ (before ++ (here ++ after))) × IsLookup v.table.shape place row here
 
 -- R holds of the elements of two lists at some place
 abbrev pub SomeZip : {A B : Type 0} → (A → B → Type 0) → List A → List B → Type 0

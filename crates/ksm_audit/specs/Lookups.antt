@@ -6,12 +6,12 @@ use Rattle.frame_core.specs.declared.event.ReaderStep.TheVariants.{LoadWord, Lea
 use Rattle.frame_table.specs.declared.pass.Why.TheVariants.{Vacant, Zero, Generation}
 use Rattle.frame_table.specs.Named.{PassView, HeldView}
 use Rattle.frame_table.specs.Equal.{IsRead}
-use Rattle.frame_table.specs.Lookup.{Log, IsVacant, IsZero, IsOld, IsBusy, IsFound, Adds}
+use Rattle.frame_table.specs.Lookup.{ReaderLog, IsVacant, IsZero, IsOld, IsBusy, IsFound, Adds}
 use Rattle.ksm_audit.specs.declared.report.Row.{Row}
 use Rattle.ksm_audit.specs.declared.report.Row.TheVariants.{Found, Gone, Busy}
 
 -- the loads of these words of a page, the first of which has the number i
-abbrev pub word_loads : ℕ → List ℕ → Log
+abbrev pub word_loads : ℕ → List ℕ → ReaderLog
 word_loads i [] = []
 word_loads i (w ∷ ws) = (LoadWord i, w) ∷ word_loads (i + 1) ws
 
@@ -23,8 +23,8 @@ pub record ReadsPage (v : HeldView) (bytes : List ℕ) (w : HeldView) : Type 0 w
   pub same : (i word : ℕ) → i < PAGE_WORDS → IsRead v i word → slice_index bytes i ≡ word
 
 -- the steps of one lookup of the place, which ends with this row: a hold reads each word and is left
-abbrev pub IsLookup : Shape → ℕ → Row → Log → Type 0
-IsLookup sh place (Found generation bytes) log = (first : Log) × (frame back : ℕ) × (length bytes ≡ PAGE_WORDS) × IsFound sh place frame generation first × (log ≡ first ++ (word_loads 0 bytes ++ (Leave, back) ∷ []))
+abbrev pub IsLookup : Shape → ℕ → Row → ReaderLog → Type 0
+IsLookup sh place (Found generation bytes) log = (first : ReaderLog) × (frame back : ℕ) × (length bytes ≡ PAGE_WORDS) × IsFound sh place frame generation first × (log ≡ first ++ (word_loads 0 bytes ++ (Leave, back) ∷ []))
 IsLookup sh place (Gone Vacant) log = IsVacant place log
 IsLookup sh place (Gone Zero) log = IsZero sh place log
 IsLookup sh place (Gone Generation) log = IsOld sh place log

@@ -6,7 +6,7 @@ use Rattle.atomic_table.specs.Seated.{TableId}
 use Rattle.ksm_base.specs.declared.shape.Shape.{Shape}
 use Rattle.ksm_base.specs.Values.{frames_of}
 use Rattle.frame_table.specs.Named.{TableName, PassView}
-use Rattle.frame_table.specs.Lookup.{Log, Adds}
+use Rattle.frame_table.specs.Lookup.{ReaderLog, Adds}
 use Rattle.ksm_audit.specs.declared.claims.Deal.{Deal}
 use Rattle.ksm_audit.specs.declared.claims.Hand.{Hand}
 use Rattle.ksm_audit.specs.declared.report.Row.{Row}
@@ -37,9 +37,9 @@ abbrev pub places_of : List Line → List ℕ
 places_of lines = map (λ (l : Line). l.place) lines
 
 -- whole lookups, one after another: of each line its place and its row
-abbrev pub AreLookups : Shape → List Line → Log → Type 0
+abbrev pub AreLookups : Shape → List Line → ReaderLog → Type 0
 AreLookups sh [] log = log ≡ []
-AreLookups sh (l ∷ ls) log = (here rest : Log) × (log ≡ here ++ rest) × IsLookup sh l.place l.row here × AreLookups sh ls rest
+AreLookups sh (l ∷ ls) log = (here rest : ReaderLog) × (log ≡ here ++ rest) × IsLookup sh l.place l.row here × AreLookups sh ls rest
 
 -- the pass made these lookups
 abbrev pub Made : PassView → List Line → PassView → Type 0

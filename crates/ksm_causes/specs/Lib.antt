@@ -1,4 +1,5 @@
 pub mod Forms
+pub mod Refusals
 pub mod Sizes
 pub mod Troubles
 pub mod Sentences

@@ -1,13 +1,15 @@
-//! Why a line of the script language is bad: where, and for which cause.
+//! Why a line of the script language is bad, where and for which cause; and why a line is refused.
 #![tactic(auto)]
 
 mod cause;
 mod line;
 mod part;
+mod refused;
 mod said;
 mod word;
 
 pub use cause::{Cause, Trouble};
 pub use line::cause_of;
 pub use part::{Number, Part};
+pub use refused::Refused;
 pub use said::BadLine;

@@ -169,7 +169,7 @@ impl Display for Quote<'_> {
 
 /// A word, cut where it is long.
 #[derive(Drop)]
-struct Word<'a>(&'a [u8]);
+pub(crate) struct Word<'a>(pub(crate) &'a [u8]);
 
 impl Display for Word<'_> {
     ghost output = { λ word. Some (shortened word.0.now) };

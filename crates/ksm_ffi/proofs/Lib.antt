@@ -1,3 +1,5 @@
 pub mod Boxes
 pub mod Read
+pub mod Seen
+pub mod Told
 pub mod Values

@@ -1,8 +1,10 @@
 pub mod Answers
+pub mod Books
 pub mod Handles
 pub mod Homes
 pub mod Keeping
 pub mod Opening
 pub mod Owned
 pub mod Passes
+pub mod Requests
 pub mod Things

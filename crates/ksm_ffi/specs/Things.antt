@@ -9,11 +9,17 @@ use Rattle.ksm_ffi.specs.declared.answer.Answer.{Answer}
 use Rattle.ksm_ffi.specs.declared.answer.Answer.TheVariants as answer
 use Rattle.ksm_ffi.specs.declared.reader.Phase.{Phase}
 use Rattle.ksm_ffi.specs.declared.thing.Thing.{Thing}
-use Rattle.ksm_ffi.specs.declared.thing.Thing.TheVariants.{Table, Pass}
+use Rattle.ksm_ffi.specs.declared.thing.Thing.TheVariants.{Table, Book, Pass}
+use Rattle.ksm_base.specs.declared.command.Command.{Command}
+use Rattle.ksm_book.specs.Carried.{JournaledBook}
+use Rattle.ksm_ffi.specs.declared.request.Request.{Request}
+use Rattle.ksm_ffi.specs.declared.request.Made.{Made}
 use Rattle.ksm_ffi.specs.Answers.{number_of}
+use Rattle.ksm_ffi.specs.Books.{Applies, IsOpening}
 use Rattle.ksm_ffi.specs.Homes.{HomeView, Judged, LendsNone, all_back, one_back}
 use Rattle.ksm_ffi.specs.Opening.{IsNewOf, OpensNot}
 use Rattle.ksm_ffi.specs.Passes.{IsIdle}
+use Rattle.ksm_ffi.specs.Requests.{commanded}
 
 -- the handle is as it was, and this is why
 abbrev pub Keeps : Option Thing → Answer → ℕ → Option Thing → Type 0
@@ -23,18 +29,51 @@ Keeps before a n after = (n ≡ number_of a) × (after ≡ before)
 abbrev pub reader_of : Thing → Option Phase
 reader_of (Pass v m) = Some v
 reader_of (Table v h) = None
+reader_of (Book b h) = None
 
 -- a call of a pass: refused where the handle is not open, or stands for something else
 abbrev pub OnPass : (Phase → Answer → Phase → Type 0) → Option Thing → ℕ → Option Thing → Type 0
 OnPass P None n after = Keeps None answer.Closed n after
 OnPass P (Some (Table v h)) n after = Keeps (Some (Table v h)) answer.Kind n after
+OnPass P (Some (Book b h)) n after = Keeps (Some (Book b h)) answer.Kind n after
 OnPass P (Some (Pass v m)) n after = (a : Answer) × (w : Phase) × P v a w × (n ≡ number_of a) × (after ≡ Some (Pass w m))
 
 -- a call of a table's keeper
 abbrev pub OnTable : (KeeperView → Answer → KeeperView → Type 0) → Option Thing → ℕ → Option Thing → Type 0
 OnTable P None n after = Keeps None answer.Closed n after
 OnTable P (Some (Pass v m)) n after = Keeps (Some (Pass v m)) answer.Kind n after
+OnTable P (Some (Book b h)) n after = Keeps (Some (Book b h)) answer.Kind n after
 OnTable P (Some (Table v h)) n after = (a : Answer) × (w : KeeperView) × P v a w × (n ≡ number_of a) × (after ≡ Some (Table w h))
+
+-- a call of a book
+abbrev pub OnBook : (JournaledBook → Answer → JournaledBook → Type 0) → Option Thing → ℕ → Option Thing → Type 0
+OnBook P None n after = Keeps None answer.Closed n after
+OnBook P (Some (Pass v m)) n after = Keeps (Some (Pass v m)) answer.Kind n after
+OnBook P (Some (Table v h)) n after = Keeps (Some (Table v h)) answer.Kind n after
+OnBook P (Some (Book b h)) n after = (a : Answer) × (w : JournaledBook) × P b a w × (n ≡ number_of a) × (after ≡ Some (Book w h))
+
+-- what is told of a book, which is as it was
+abbrev pub SeesBook : (JournaledBook → Answer → Type 0) → JournaledBook → Answer → JournaledBook → Type 0
+SeesBook P b a w = P b a × (w ≡ b)
+
+-- a command that C gave is done; refused where there is none of its kind
+abbrev pub AppliesSome : JournaledBook → Option Command → Answer → Made → JournaledBook → Type 0
+AppliesSome b (Some c) a made w = Applies b c a made w
+AppliesSome b None a made w = (a ≡ answer.Command) × (w ≡ b)
+
+abbrev pub AppliesRequest : JournaledBook → Request → Answer → Made → JournaledBook → Type 0
+AppliesRequest b r a made w = AppliesSome b (commanded r) a made w
+
+-- a book is opened, in a box
+abbrev pub OpensBookThing : Shape → ℕ → Result (Box Thing Global) Answer → Type 0
+OpensBookThing sh number (Ok x) = IsShape sh × ((b : JournaledBook) × IsOpening sh b × (x.value ≡ Book b (all_back number sh.passes)))
+OpensBookThing sh number (Err a) = OpensNot sh a
+
+-- a book is opened at a handle that is not open
+abbrev pub OpensBookAt : Shape → ℕ → Option Thing → ℕ → Option Thing → Type 0
+OpensBookAt sh number (Some x) n after = Keeps (Some x) answer.Open n after
+OpensBookAt sh number None n after = (IsShape sh × ((b : JournaledBook) × IsOpening sh b × (n ≡ number_of answer.Done) × (after ≡ Some (Book b (all_back number sh.passes)))))
+    ⊎ ((a : Answer) × OpensNot sh a × (n ≡ number_of a) × (after ≡ None))
 
 -- a table is opened, in a box
 abbrev pub OpensThing : Shape → ℕ → Result (Box Thing Global) Answer → Type 0
@@ -47,15 +86,25 @@ Opens sh number (Some x) n after = Keeps (Some x) answer.Open n after
 Opens sh number None n after = (IsShape sh × ((v : KeeperView) × IsNewOf sh v × (n ≡ number_of answer.Done) × (after ≡ Some (Table v (all_back number sh.passes)))))
     ⊎ ((a : Answer) × OpensNot sh a × (n ≡ number_of a) × (after ≡ None))
 
--- whether a table may be closed: no pass of it is out
-abbrev pub JudgesClose : HomeView → Answer → Type 0
-JudgesClose h a = (h.back ≡ h.count → a ≡ answer.Done) × (h.back ≢ h.count → a ≡ answer.PassesOut)
+-- whether no pass of a table is out
+abbrev pub JudgesHome : HomeView → Answer → Type 0
+JudgesHome h a = (h.back ≡ h.count → a ≡ answer.Done) × (h.back ≢ h.count → a ≡ answer.PassesOut)
 
--- a table is closed where no pass of it is out, and only there
+-- whether what a handle stands for may be closed: a table, or a book with its table, where no pass is out
+abbrev pub JudgesClose : Thing → Answer → Type 0
+JudgesClose (Table v h) a = JudgesHome h a
+JudgesClose (Book b h) a = JudgesHome h a
+JudgesClose (Pass v m) a = a ≡ answer.Kind
+
+-- it is closed if the answer is Done, and else it is as it was
+abbrev pub ClosesIf : Answer → Thing → Option Thing → Type 0
+ClosesIf answer.Done t after = after ≡ None
+ClosesIf a t after = after ≡ Some t
+
+-- a table, or a book with its table, is closed where no pass of it is out, and only there
 abbrev pub Closes : Option Thing → ℕ → Option Thing → Type 0
 Closes None n after = Keeps None answer.Closed n after
-Closes (Some (Pass v m)) n after = Keeps (Some (Pass v m)) answer.Kind n after
-Closes (Some (Table v h)) n after = (h.back ≡ h.count → (n ≡ number_of answer.Done) × (after ≡ None)) × (h.back ≢ h.count → Keeps (Some (Table v h)) answer.PassesOut n after)
+Closes (Some t) n after = (a : Answer) × JudgesClose t a × (n ≡ number_of a) × ClosesIf a t after
 
 -- a box with a pass that holds nothing, and the table's number; that pass is out then
 abbrev pub LendsBox : HomeView → Result (Box Thing Global) Answer → HomeView → Type 0
@@ -65,6 +114,7 @@ LendsBox h (Err a) after = LendsNone h a after
 -- the same by what a handle stands for: refused where that is no table
 abbrev pub LendsThing : Thing → Result (Box Thing Global) Answer → Thing → Type 0
 LendsThing (Table v h) r after = (k : HomeView) × LendsBox h r k × (after ≡ Table v k)
+LendsThing (Book b h) r after = (k : HomeView) × LendsBox h r k × (after ≡ Book b k)
 LendsThing (Pass v m) r after = (r ≡ Err answer.Kind) × (after ≡ Pass v m)
 
 -- a pass is opened, which is out then; or none is, since all are out, or for memory
@@ -78,15 +128,18 @@ OpensPass t (Some x) n table pass = (table ≡ t) × Keeps (Some x) answer.Open 
 OpensPass None None n table pass = (table ≡ None) × Keeps None answer.Closed n pass
 OpensPass (Some (Pass v m)) None n table pass = (table ≡ Some (Pass v m)) × Keeps None answer.Kind n pass
 OpensPass (Some (Table v h)) None n table pass = (k : HomeView) × OpensOne h n k pass × (table ≡ Some (Table v k))
+OpensPass (Some (Book b h)) None n table pass = (k : HomeView) × OpensOne h n k pass × (table ≡ Some (Book b k))
 
 -- whether what a handle stands for may come back to what another stands for, as a pass to its table
 abbrev pub JudgesBack : Thing → Thing → Answer → Type 0
 JudgesBack (Table w h) (Pass v m) a = Judged h v m a
+JudgesBack (Book b h) (Pass v m) a = Judged h v m a
 JudgesBack _ _ a = a ≡ answer.Kind
 
 -- one pass more is back
 abbrev pub IsGivenBack : Thing → Thing → Type 0
 IsGivenBack (Table w h) after = after ≡ Table w (one_back h)
+IsGivenBack (Book b h) after = after ≡ Book b (one_back h)
 IsGivenBack (Pass v m) after = ⊥
 
 -- the answer is the reason; the pass is back if it is Done, and else both are as they were

@@ -19,6 +19,8 @@ pub enum Answer {
     Differs = 5,
     /// A reader has a reference on the frame.
     Used = 6,
+    /// There is no such page, or no dup for it, so nothing is told.
+    Nothing = 7,
     /// The handle is not open.
     Closed = 10,
     /// The handle stands for something else.
@@ -43,6 +45,28 @@ pub enum Answer {
     PassesOut = 20,
     /// The pass is another table's.
     Other = 21,
+    /// There is no command of this kind.
+    Command = 22,
+    /// The page, or the guest, is not registered.
+    UnknownPage = 32,
+    /// The page is registered.
+    AlreadyRegistered = 33,
+    /// No frame of the node is free.
+    NoFrame = 34,
+    /// A scan while `run` is not 1.
+    NotRunning = 35,
+    /// The knob does not change while pages are shared.
+    SharedPages = 36,
+    /// The value is out of its knob's range.
+    BadValue = 37,
+    /// Somebody holds the frame of the dup.
+    InUse = 38,
+    /// The dup was to move to another node, while pages are not merged across nodes.
+    CrossesNodes = 39,
+    /// No dup with items stands at the place.
+    UnknownPlace = 40,
+    /// There is no such node.
+    BadNode = 41,
 }
 
 impl Answer {

@@ -1,5 +1,5 @@
 //! A table with its keeper: what the keeper may do is tested here, so that nothing is required of a caller.
-ghost use Rattle.std.specs.Prelude.{◌≡◌, ◌<◌, ◌↔◌, IsTrue, MatchResult, length};
+ghost use Rattle.std.specs.Prelude.{◌≡◌, ◌≢◌, ◌<◌, ◌↔◌, IsTrue, MatchResult, length};
 ghost use Rattle.ksm_base.specs.Values.{frames_of};
 ghost use Rattle.frame_core.specs.declared.event.KeeperStep.TheVariants.{Reap, Put, Raise, Open, Add, Sub, Publish, Withdraw, Freeze, Word};
 ghost use Rattle.frame_core.specs.Ledger.{IsLoose, IsReadable, IsWritable, frame_at, named_at};
@@ -9,6 +9,7 @@ ghost use Rattle.ksm_base.specs.declared.shape.Shape.{Shape};
 ghost use Rattle.frame_table.specs.Named.{KeeperView};
 ghost use Rattle.ksm_ffi.specs.Keeping.{IsInside, Judges, Keeps, KeepsWord, TellsFrame, kind_number};
 ghost use Rattle.ksm_ffi.specs.Opening.{OpensTable};
+ghost use Rattle.ksm_ffi.specs.declared.answer.Answer.TheVariants as answer;
 
 use crate::answer::Answer;
 use crate::home::Home;
@@ -282,7 +283,8 @@ impl Owner {
 
     /// Loads the word `word` of a frame that is Private, Stable or Dying, to `value`.
     pub fn word(&mut self, frame: u32, word: usize, value: &mut u64) -> Answer
-        ensures { KeepsWord self.old frame word result value.new self.new }
+        ensures loaded { KeepsWord self.old frame word result value.new self.new }
+        ensures kept { result ≢ answer.Done → value.new ≡ value.old }
     {
         if let Err(answer) = self.judge(KeeperStep::Word { frame, word }) {
             return answer;
@@ -293,7 +295,8 @@ impl Owner {
 
     /// Tells what the keeper uses a frame for, how many references are its own, and the frame's life.
     pub fn frame(&self, frame: u32, kind: &mut u32, references: &mut u64, life: &mut u64) -> Answer
-        ensures { TellsFrame self.now frame result kind.new references.new life.new }
+        ensures told { TellsFrame self.now frame result kind.new references.new life.new }
+        ensures kept { result ≢ answer.Done → (kind.new ≡ kind.old) × (references.new ≡ references.old) × (life.new ≡ life.old) }
     {
         if frame >= self.table.places() {
             return Answer::Range;

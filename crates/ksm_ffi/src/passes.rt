@@ -1,5 +1,5 @@
 //! The calls of a pass: lookups, and what they hold. Each thread that looks up has a pass of its own.
-ghost use Rattle.std.specs.Prelude.{◌≡◌};
+ghost use Rattle.std.specs.Prelude.{◌≡◌, ◌≢◌};
 ghost use Rattle.ksm_ffi.specs.Passes.{Finds, FindsEqual, GoesIdle, LooksUpAll, Reads, ReadsAll, TellsHold};
 ghost use Rattle.ksm_ffi.specs.Things.{OnPass};
 
@@ -19,7 +19,7 @@ pub extern "C" fn ksm_find(alloc: Global, pass: &mut Handle, place: u32) -> u32
     };
     let answer = match &mut *thing {
         Thing::Pass(reader, _) => reader.find(place),
-        Thing::Table(_, _) => Answer::Kind,
+        _ => Answer::Kind,
     };
     pass.put(thing);
     answer.number()
@@ -40,7 +40,7 @@ pub extern "C" fn ksm_find_equal(
     };
     let answer = match &mut *thing {
         Thing::Pass(reader, _) => reader.find_equal(place, page),
-        Thing::Table(_, _) => Answer::Kind,
+        _ => Answer::Kind,
     };
     pass.put(thing);
     answer.number()
@@ -54,14 +54,15 @@ pub extern "C" fn ksm_look_up(
     place: u32,
     words: &mut PageBytes,
 ) -> u32
-    ensures { OnPass (λ v a w. LooksUpAll v place a words.new w) pass.old.thing result pass.new.thing }
+    ensures looked { OnPass (λ v a w. LooksUpAll v place a words.new w) pass.old.thing result pass.new.thing }
+    ensures kept { result ≢ 0 → words.new ≡ words.old }
 {
     let Some(mut thing) = pass.take(alloc) else {
         return Answer::Closed.number();
     };
     let answer = match &mut *thing {
         Thing::Pass(reader, _) => reader.look_up(place, words),
-        Thing::Table(_, _) => Answer::Kind,
+        _ => Answer::Kind,
     };
     pass.put(thing);
     answer.number()
@@ -70,14 +71,15 @@ pub extern "C" fn ksm_look_up(
 /// Loads the word `i` of the frame that is held.
 #[unsafe(no_mangle)]
 pub extern "C" fn ksm_word(alloc: Global, pass: &mut Handle, i: usize, word: &mut u64) -> u32
-    ensures { OnPass (λ v a w. Reads v i a word.new w) pass.old.thing result pass.new.thing }
+    ensures read { OnPass (λ v a w. Reads v i a word.new w) pass.old.thing result pass.new.thing }
+    ensures kept { result ≢ 0 → word.new ≡ word.old }
 {
     let Some(mut thing) = pass.take(alloc) else {
         return Answer::Closed.number();
     };
     let answer = match &mut *thing {
         Thing::Pass(reader, _) => reader.word(i, word),
-        Thing::Table(_, _) => Answer::Kind,
+        _ => Answer::Kind,
     };
     pass.put(thing);
     answer.number()
@@ -86,14 +88,15 @@ pub extern "C" fn ksm_word(alloc: Global, pass: &mut Handle, i: usize, word: &mu
 /// Loads every word of the frame that is held.
 #[unsafe(no_mangle)]
 pub extern "C" fn ksm_words(alloc: Global, pass: &mut Handle, words: &mut PageBytes) -> u32
-    ensures { OnPass (λ v a w. ReadsAll v a words.new w) pass.old.thing result pass.new.thing }
+    ensures read { OnPass (λ v a w. ReadsAll v a words.new w) pass.old.thing result pass.new.thing }
+    ensures kept { result ≢ 0 → words.new ≡ words.old }
 {
     let Some(mut thing) = pass.take(alloc) else {
         return Answer::Closed.number();
     };
     let answer = match &mut *thing {
         Thing::Pass(reader, _) => reader.words(words),
-        Thing::Table(_, _) => Answer::Kind,
+        _ => Answer::Kind,
     };
     pass.put(thing);
     answer.number()
@@ -108,14 +111,15 @@ pub extern "C" fn ksm_held(
     frame: &mut u32,
     life: &mut u64,
 ) -> u32
-    ensures { OnPass (λ v a w. TellsHold v a place.new frame.new life.new w) pass.old.thing result pass.new.thing }
+    ensures told { OnPass (λ v a w. TellsHold v a place.new frame.new life.new w) pass.old.thing result pass.new.thing }
+    ensures kept { result ≢ 0 → (place.new ≡ place.old) × (frame.new ≡ frame.old) × (life.new ≡ life.old) }
 {
     let Some(mut thing) = pass.take(alloc) else {
         return Answer::Closed.number();
     };
     let answer = match &mut *thing {
         Thing::Pass(reader, _) => reader.held(place, frame, life),
-        Thing::Table(_, _) => Answer::Kind,
+        _ => Answer::Kind,
     };
     pass.put(thing);
     answer.number()
@@ -131,7 +135,7 @@ pub extern "C" fn ksm_leave(alloc: Global, pass: &mut Handle) -> u32
     };
     let answer = match &mut *thing {
         Thing::Pass(reader, _) => reader.leave(),
-        Thing::Table(_, _) => Answer::Kind,
+        _ => Answer::Kind,
     };
     pass.put(thing);
     answer.number()

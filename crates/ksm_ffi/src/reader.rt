@@ -1,6 +1,7 @@
 //! A pass with its table. Each call gives the pass to the table's crate, and takes back what comes of it.
-ghost use Rattle.std.specs.Prelude.{◌≡◌, ◌↔◌, IsTrue, Some, None};
+ghost use Rattle.std.specs.Prelude.{◌≡◌, ◌≢◌, ◌↔◌, IsTrue, Some, None};
 ghost use Rattle.ksm_ffi.specs.declared.reader.Phase.TheVariants.{Idle};
+ghost use Rattle.ksm_ffi.specs.declared.answer.Answer.TheVariants as answer;
 ghost use Rattle.ksm_ffi.specs.Passes.{Finds, FindsEqual, GoesIdle, IsIdle, LooksUpAll, Reads, ReadsAll, ReadsPage, ReadsThenLeaves, Tells, why_answer_of};
 
 use crate::answer::Answer;
@@ -38,13 +39,12 @@ impl Model for Reader {
     ghost invariant = { λ r. IsOf r.table.value (phase_of r.pass r.held) };
 }
 
-// Puts the pass back where it was taken from.
+// Puts the pass back where it was taken from. That nothing is there is proved, and so not tested.
 fn rest(slot: &mut Option<Pass>, pass: Pass)
     requires { slot.old ≡ None }
     ensures { slot.new ≡ Some pass }
 {
-    let gone = slot.replace(pass);
-    let None = gone else { unreachable!() };
+    let _none = unsafe { ManuallyDrop::new_unchecked(slot.replace(pass)) };
 }
 
 // Keeps a hold.
@@ -139,18 +139,24 @@ impl Reader {
 
     /// Looks a place up, loads every word of the frame that it names, and gives the reference back.
     pub fn look_up(&mut self, place: u32, words: &mut PageBytes) -> Answer
-        ensures { LooksUpAll self.old place result words.new self.new }
+        ensures looked { LooksUpAll self.old place result words.new self.new }
+        ensures kept { result ≢ answer.Done → words.new ≡ words.old }
     {
-        let Some(pass) = self.pass.take() else {
+        let Some(_) = &self.pass else {
             return Answer::Holding;
         };
-        if place >= self.table.places() {
+        let Some(pass) = self.pass.take() else {
+            unreachable!()
+        };
+        // Found once: behind a step of a word the compiler would look where the table stands anew.
+        let table: &FrameTable = &self.table;
+        if place >= table.places() {
             rest(&mut self.pass, pass);
             return Answer::Range;
         }
-        match pass.find(&self.table, place) {
+        match pass.find(table, place) {
             Found::Held(held) => {
-                let pass = read_and_leave(&self.table, held, words);
+                let pass = read_and_leave(table, held, words);
                 rest(&mut self.pass, pass);
                 Answer::Done
             }
@@ -200,7 +206,8 @@ impl Reader {
 
     /// Loads the word `i` of the frame that is held, to `word`.
     pub fn word(&mut self, i: usize, word: &mut u64) -> Answer
-        ensures { Reads self.old i result word.new self.new }
+        ensures read { Reads self.old i result word.new self.new }
+        ensures kept { result ≢ answer.Done → word.new ≡ word.old }
     {
         let Some(held) = &mut self.held else {
             return Answer::Idle;
@@ -214,7 +221,8 @@ impl Reader {
 
     /// Loads every word of the frame that is held, to `words`.
     pub fn words(&mut self, words: &mut PageBytes) -> Answer
-        ensures { ReadsAll self.old result words.new self.new }
+        ensures read { ReadsAll self.old result words.new self.new }
+        ensures kept { result ≢ answer.Done → words.new ≡ words.old }
     {
         let Some(held) = &mut self.held else {
             return Answer::Idle;
@@ -225,7 +233,8 @@ impl Reader {
 
     /// Tells where the frame that is held was found: its place, its frame and its life.
     pub fn held(&self, place: &mut u32, frame: &mut u32, life: &mut u64) -> Answer
-        ensures { Tells self.now result place.new frame.new life.new }
+        ensures told { Tells self.now result place.new frame.new life.new }
+        ensures kept { result ≢ answer.Done → (place.new ≡ place.old) × (frame.new ≡ frame.old) × (life.new ≡ life.old) }
     {
         let Some(held) = &self.held else {
             return Answer::Idle;

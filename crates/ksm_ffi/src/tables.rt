@@ -1,8 +1,8 @@
-//! Opening and closing, and the calls of the keeper, which one thread makes at a time.
-ghost use Rattle.std.specs.Prelude.{◌≡◌};
+//! Opening a table, closing it or a book, passes, and the calls of the keeper, which one thread makes at a time.
+ghost use Rattle.std.specs.Prelude.{◌≡◌, ◌≢◌};
 ghost use Rattle.frame_core.specs.declared.event.KeeperStep.TheVariants.{Reap, Put, Raise, Open, Add, Sub, Publish, Withdraw, Freeze};
 ghost use Rattle.ksm_ffi.specs.Keeping.{Keeps, KeepsWord, TellsOf};
-ghost use Rattle.ksm_ffi.specs.Things.{Closes, ClosesPass, IsGivenBack, JudgesBack, JudgesClose, LendsBox, LendsThing, OnTable, Opens, OpensPass, OpensThing};
+ghost use Rattle.ksm_ffi.specs.Things.{Closes, ClosesPass, IsGivenBack, JudgesBack, JudgesClose, JudgesHome, LendsBox, LendsThing, OnTable, Opens, OpensPass, OpensThing};
 ghost use Rattle.ksm_ffi.specs.declared.answer.Answer.TheVariants as answer;
 
 use crate::answer::Answer;
@@ -69,10 +69,7 @@ pub extern "C" fn ksm_table_close(alloc: Global, table: &mut Handle) -> u32
     let Some(thing) = table.take(alloc) else {
         return Answer::Closed.number();
     };
-    let answer = match &*thing {
-        Thing::Table(_, home) => judge_close(home),
-        Thing::Pass(_, _) => Answer::Kind,
-    };
+    let answer = judge_close(&thing);
     if answer == Answer::Done {
         Box::into_inner(thing).retire();
     } else {
@@ -81,14 +78,25 @@ pub extern "C" fn ksm_table_close(alloc: Global, table: &mut Handle) -> u32
     answer.number()
 }
 
-// Whether a table may be closed.
-fn judge_close(home: &Home) -> Answer
-    ensures { JudgesClose home.now result }
+// Whether no pass of a table is out.
+fn judge_home(home: &Home) -> Answer
+    ensures { JudgesHome home.now result }
 {
     if home.is_whole() {
         Answer::Done
     } else {
         Answer::PassesOut
+    }
+}
+
+// Whether what a handle stands for may be closed, and if not, why.
+fn judge_close(thing: &Thing) -> Answer
+    ensures { JudgesClose thing.now result }
+{
+    match thing {
+        Thing::Table(_, home) => judge_home(home),
+        Thing::Book(_, home) => judge_home(home),
+        Thing::Pass(_, _) => Answer::Kind,
     }
 }
 
@@ -115,6 +123,7 @@ fn lend(alloc: Global, table: &mut Thing) -> Result<Box<Thing>, Answer>
 {
     match table {
         Thing::Table(_, home) => lend_boxed(alloc, home),
+        Thing::Book(_, home) => lend_boxed(alloc, home),
         Thing::Pass(_, _) => Err(Answer::Kind),
     }
 }
@@ -148,6 +157,7 @@ fn judge_back(table: &Thing, pass: &Thing) -> Answer
 {
     match (table, pass) {
         (Thing::Table(_, home), Thing::Pass(reader, number)) => home.judge_back(reader, *number),
+        (Thing::Book(_, home), Thing::Pass(reader, number)) => home.judge_back(reader, *number),
         _ => Answer::Kind,
     }
 }
@@ -162,6 +172,7 @@ fn give_back(table: &mut Thing, pass: Thing)
     };
     match table {
         Thing::Table(_, home) => home.take_back(reader),
+        Thing::Book(_, home) => home.take_back(reader),
         Thing::Pass(_, _) => unreachable!(),
     }
 }
@@ -198,7 +209,7 @@ pub extern "C" fn ksm_raise(alloc: Global, table: &mut Handle, frame: u32) -> u3
     };
     let answer = match &mut *thing {
         Thing::Table(owner, _) => owner.raise(frame),
-        Thing::Pass(_, _) => Answer::Kind,
+        _ => Answer::Kind,
     };
     table.put(thing);
     answer.number()
@@ -214,7 +225,7 @@ pub extern "C" fn ksm_put(alloc: Global, table: &mut Handle, frame: u32, i: usiz
     };
     let answer = match &mut *thing {
         Thing::Table(owner, _) => owner.put(frame, i, word),
-        Thing::Pass(_, _) => Answer::Kind,
+        _ => Answer::Kind,
     };
     table.put(thing);
     answer.number()
@@ -230,7 +241,7 @@ pub extern "C" fn ksm_open_frame(alloc: Global, table: &mut Handle, frame: u32) 
     };
     let answer = match &mut *thing {
         Thing::Table(owner, _) => owner.open_frame(frame),
-        Thing::Pass(_, _) => Answer::Kind,
+        _ => Answer::Kind,
     };
     table.put(thing);
     answer.number()
@@ -246,7 +257,7 @@ pub extern "C" fn ksm_publish(alloc: Global, table: &mut Handle, place: u32, fra
     };
     let answer = match &mut *thing {
         Thing::Table(owner, _) => owner.publish(place, frame),
-        Thing::Pass(_, _) => Answer::Kind,
+        _ => Answer::Kind,
     };
     table.put(thing);
     answer.number()
@@ -262,7 +273,7 @@ pub extern "C" fn ksm_withdraw(alloc: Global, table: &mut Handle, place: u32) ->
     };
     let answer = match &mut *thing {
         Thing::Table(owner, _) => owner.withdraw(place),
-        Thing::Pass(_, _) => Answer::Kind,
+        _ => Answer::Kind,
     };
     table.put(thing);
     answer.number()
@@ -278,7 +289,7 @@ pub extern "C" fn ksm_add(alloc: Global, table: &mut Handle, frame: u32) -> u32
     };
     let answer = match &mut *thing {
         Thing::Table(owner, _) => owner.add(frame),
-        Thing::Pass(_, _) => Answer::Kind,
+        _ => Answer::Kind,
     };
     table.put(thing);
     answer.number()
@@ -294,7 +305,7 @@ pub extern "C" fn ksm_sub(alloc: Global, table: &mut Handle, frame: u32) -> u32
     };
     let answer = match &mut *thing {
         Thing::Table(owner, _) => owner.sub(frame),
-        Thing::Pass(_, _) => Answer::Kind,
+        _ => Answer::Kind,
     };
     table.put(thing);
     answer.number()
@@ -310,7 +321,7 @@ pub extern "C" fn ksm_freeze(alloc: Global, table: &mut Handle, frame: u32) -> u
     };
     let answer = match &mut *thing {
         Thing::Table(owner, _) => owner.freeze(frame),
-        Thing::Pass(_, _) => Answer::Kind,
+        _ => Answer::Kind,
     };
     table.put(thing);
     answer.number()
@@ -326,7 +337,7 @@ pub extern "C" fn ksm_reap(alloc: Global, table: &mut Handle, frame: u32) -> u32
     };
     let answer = match &mut *thing {
         Thing::Table(owner, _) => owner.reap(frame),
-        Thing::Pass(_, _) => Answer::Kind,
+        _ => Answer::Kind,
     };
     table.put(thing);
     answer.number()
@@ -341,14 +352,15 @@ pub extern "C" fn ksm_load(
     i: usize,
     word: &mut u64,
 ) -> u32
-    ensures { OnTable (λ v a w. KeepsWord v frame i a word.new w) table.old.thing result table.new.thing }
+    ensures loaded { OnTable (λ v a w. KeepsWord v frame i a word.new w) table.old.thing result table.new.thing }
+    ensures kept { result ≢ 0 → word.new ≡ word.old }
 {
     let Some(mut thing) = table.take(alloc) else {
         return Answer::Closed.number();
     };
     let answer = match &mut *thing {
         Thing::Table(owner, _) => owner.word(frame, i, word),
-        Thing::Pass(_, _) => Answer::Kind,
+        _ => Answer::Kind,
     };
     table.put(thing);
     answer.number()
@@ -364,14 +376,15 @@ pub extern "C" fn ksm_frame(
     references: &mut u64,
     life: &mut u64,
 ) -> u32
-    ensures { OnTable (λ v a w. TellsOf v frame a kind.new references.new life.new w) table.old.thing result table.new.thing }
+    ensures told { OnTable (λ v a w. TellsOf v frame a kind.new references.new life.new w) table.old.thing result table.new.thing }
+    ensures kept { result ≢ 0 → (kind.new ≡ kind.old) × (references.new ≡ references.old) × (life.new ≡ life.old) }
 {
     let Some(mut thing) = table.take(alloc) else {
         return Answer::Closed.number();
     };
     let answer = match &mut *thing {
         Thing::Table(owner, _) => owner.frame(frame, kind, references, life),
-        Thing::Pass(_, _) => Answer::Kind,
+        _ => Answer::Kind,
     };
     table.put(thing);
     answer.number()

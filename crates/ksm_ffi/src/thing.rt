@@ -2,6 +2,7 @@
 ghost use Rattle.std.specs.Prelude.{◌≡◌};
 ghost use Rattle.ksm_ffi.specs.Things.{reader_of};
 
+use crate::bookkeeper::Bookkeeper;
 use crate::home::Home;
 use crate::owner::Owner;
 use crate::reader::Reader;
@@ -11,6 +12,8 @@ use std::mem::ManuallyDrop;
 pub enum Thing {
     /// A table with its keeper, and its passes that are not out.
     Table(Owner, Home),
+    /// A book on its table, and the passes that are not out.
+    Book(Bookkeeper, Home),
     /// A pass, and the number of its table.
     Pass(Reader, u64),
 }
@@ -27,6 +30,11 @@ impl Thing {
                 home.retire();
                 None
             }
+            Thing::Book(bookkeeper, home) => {
+                bookkeeper.retire();
+                home.retire();
+                None
+            }
         }
     }
 
@@ -35,6 +43,10 @@ impl Thing {
         match self {
             Thing::Table(owner, home) => {
                 owner.retire();
+                home.retire();
+            }
+            Thing::Book(bookkeeper, home) => {
+                bookkeeper.retire();
                 home.retire();
             }
             Thing::Pass(reader, _) => reader.retire(),

@@ -9,22 +9,29 @@ ghost use Rattle.ksm_host.specs.Sent.{Replies};
 ghost use Rattle.ksm_host.specs.Statuses.{bad_end, bad_line_of};
 
 use crate::status::Status;
-use ksm_script::{End, RunFault, Session, run_buffered};
+use ksm_script::{End, Hears, RunFault, Session, run_heard};
 use ksm_shared::Naming;
 use std::io::{BufReader, BufWriter, Read, Write};
 use std::sync::Wait;
 use std::thread::Threads;
 
-/// Answers the script that the reader holds, and sends the replies.
+/// Answers the script that the reader holds, sends the replies, and has them heard.
 ///
 /// At `Done` all of it was read, each line carried out, and each reply sent. At `NotUnderstood` it was read to a bad line, and
 /// the replies up to `bad line` are sent: the second value is its number, and the session has its bytes. Else a read or a write
 /// failed: what is sent, and what waits in the writer behind it, is a beginning of the replies to what was read.
-pub fn answer<N: Naming, T: Threads + Wait + Sync, I: Read, O: Write + Drop>(
+pub fn answer<
+    H: Hears<BufWriter<O>>,
+    N: Naming,
+    T: Threads + Wait + Sync,
+    I: Read,
+    O: Write + Drop,
+>(
     rt: &T,
     reader: &mut BufReader<I>,
     writer: &mut BufWriter<O>,
     session: &mut Session<N>,
+    hears: &mut H,
 ) -> (Status, Option<u64>)
     ensures done { result.0 ≡ Status.Done → Runs (streams (reader_remaining I.remaining reader.old) (reader_remaining I.remaining reader.new)
         (writer_contents O.contents writer.old) (O.contents (writer_inner writer.new))) session.old.state session.new.state (Ok End.AllRead) }
@@ -36,7 +43,7 @@ pub fn answer<N: Naming, T: Threads + Wait + Sync, I: Read, O: Write + Drop>(
         × AppendsPart (writer_contents O.contents writer.old) (writer_contents O.contents writer.new) text }
     ensures began { result.0 ≢ Status.NoMemory }
 {
-    let ended = run_buffered(rt, reader, writer, session);
+    let ended = run_heard(rt, reader, writer, session, hears);
     let are_sent = ended.is_ok() && sent(writer);
     (Status::after(ended, are_sent), bad_line_of(ended))
 }

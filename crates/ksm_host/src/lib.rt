@@ -6,6 +6,7 @@ mod running;
 mod said;
 mod start;
 mod status;
+mod telling;
 
 pub use answering::answer;
 pub use running::{Ended, played, run_on};

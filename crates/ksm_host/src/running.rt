@@ -8,10 +8,11 @@ use crate::answering::answer;
 use crate::said::say_why;
 use crate::start::{opened, words};
 use crate::status::{Outcome, Status};
+use crate::telling::{Telling, tells_refusals};
 use frame_table::ClosedTable;
 use ksm_script::Session;
 use ksm_shared::{Naming, Parts};
-use std::io::{self, BufReader, BufWriter, Read, Write};
+use std::io::{self, BufReader, BufWriter, IsTerminal, Read, Write};
 use std::marker::Brand;
 use std::rt::Env;
 use std::sync::Wait;
@@ -31,11 +32,13 @@ pub struct Ended<O> {
     pub output: O,
 }
 
-/// The program on a host: it reads the words and the input there, and prints the replies. Audits run in the threads.
-pub fn run_on<R: Env + Input + Print + Eprint + AllocGlobal, T: Threads + Wait + Sync>(
-    rt: &R,
-    threads: &T,
-) -> Outcome {
+/// The program on a host: it reads the words and the input there, and prints the replies. Audits run in the threads. Refusals are told in
+/// words too where the variable `KSMBOOK_EXPLAIN` is 1, or where it is not 0 and standard error, `errors`, is a terminal.
+pub fn run_on<
+    R: Env + Input + Print + Eprint + AllocGlobal,
+    T: Threads + Wait + Sync,
+    E: IsTerminal,
+>(rt: &R, threads: &T, errors: &E) -> Outcome {
     let words = match words(rt) {
         Ok(words) => words,
         Err(status) => return Outcome::new(status),
@@ -44,7 +47,8 @@ pub fn run_on<R: Env + Input + Print + Eprint + AllocGlobal, T: Threads + Wait +
     let writer = BufWriter::with_capacity(rt.alloc(), BLOCK, io::writer(rt));
     match (reader, writer) {
         (Ok(mut reader), Ok(writer)) => {
-            let ended = played(rt, threads, words.as_slice(), &mut reader, writer);
+            let tells = tells_refusals(rt, errors);
+            let ended = played(rt, threads, words.as_slice(), tells, &mut reader, writer);
             Outcome::new(ended.status)
         }
         _ => Outcome::new(Status::NoMemory),
@@ -52,12 +56,14 @@ pub fn run_on<R: Env + Input + Print + Eprint + AllocGlobal, T: Threads + Wait +
 }
 
 /// The program over its words, its input and its output: it opens the book that the words tell, answers the script, and closes the book.
+/// Where it `tells` refusals, each is told in words on standard error too.
 ///
 /// Without a table in what is left, no line was read and nothing was sent: memory was refused, or the words tell no shape.
 pub fn played<R: Eprint + AllocGlobal, T: Threads + Wait + Sync, I: Read, O: Write + Drop>(
     rt: &R,
     threads: &T,
     words: &[String],
+    tells: bool,
     reader: &mut BufReader<I>,
     writer: BufWriter<O>,
 ) -> Ended<O>
@@ -66,7 +72,7 @@ pub fn played<R: Eprint + AllocGlobal, T: Threads + Wait + Sync, I: Read, O: Wri
     ensures untouched { result.table ≡ None → (result.output ≡ writer_inner writer) × (reader.new ≡ reader.old) }
 {
     match opened(rt, words) {
-        Ok(parts) => in_session::<Brand, R, T, I, O>(rt, threads, parts, reader, writer),
+        Ok(parts) => in_session::<Brand, R, T, I, O>(rt, threads, parts, tells, reader, writer),
         Err(status) => unopened(status, writer),
     }
 }
@@ -78,7 +84,14 @@ fn in_session<
     T: Threads + Wait + Sync,
     I: Read,
     O: Write + Drop,
->(rt: &R, threads: &T, parts: Parts, reader: &mut BufReader<I>, writer: BufWriter<O>) -> Ended<O>
+>(
+    rt: &R,
+    threads: &T,
+    parts: Parts,
+    tells: bool,
+    reader: &mut BufReader<I>,
+    writer: BufWriter<O>,
+) -> Ended<O>
     requires name { parts ≡ N.parts }
     requires alone { parts.callers ≡ 1 }
     ensures ends { EndsOn N.parts (streams (reader_remaining I.remaining reader.old) (reader_remaining I.remaining reader.new)
@@ -88,7 +101,7 @@ fn in_session<
     let Ok(mut session) = Session::<N>::open(rt.alloc(), parts) else {
         return unopened(Status::NoMemory, writer);
     };
-    let (status, output) = served(rt, threads, reader, writer, &mut session);
+    let (status, output) = served(rt, threads, tells, reader, writer, &mut session);
     Ended {
         status,
         table: Some(session.close(threads)),
@@ -115,6 +128,7 @@ fn unopened<O: Write + Drop>(status: Status, writer: BufWriter<O>) -> Ended<O>
 fn served<N: Naming, R: Eprint, T: Threads + Wait + Sync, I: Read, O: Write + Drop>(
     rt: &R,
     threads: &T,
+    tells: bool,
     reader: &mut BufReader<I>,
     mut writer: BufWriter<O>,
     session: &mut Session<N>,
@@ -122,7 +136,11 @@ fn served<N: Naming, R: Eprint, T: Threads + Wait + Sync, I: Read, O: Write + Dr
     ensures { Serves (streams (reader_remaining I.remaining reader.old) (reader_remaining I.remaining reader.new)
         (writer_contents O.contents writer) (O.contents result.1)) session.old.state result.0 }
 {
-    let (status, bad_line) = answer(threads, reader, &mut writer, session);
+    let mut telling = Telling {
+        rt,
+        is_asked: tells,
+    };
+    let (status, bad_line) = answer(threads, reader, &mut writer, session, &mut telling);
     let (output, _) = writer.into_parts();
     if let (Status::NotUnderstood, Some(number)) = (status, bad_line) {
         say_why(rt, number, session.line());

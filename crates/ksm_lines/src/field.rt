@@ -1,5 +1,5 @@
 //! The fields of a line: its words, read one by one.
-ghost use Rattle.std.specs.Prelude.{◌≡◌, ◌+◌, ◌*◌, ◌<◌, ◌≤◌, ◌↔◌, ◌==◌, ◌∷◌, ◌++◌, All, map, not, false, true, length, take, slice_index, None, IsSome, IfSome, IfOk, IfErr, bytes_eq, position};
+ghost use Rattle.std.specs.Prelude.{◌≡◌, ◌+◌, ◌*◌, ◌<◌, ◌≤◌, ◌↔◌, ◌==◌, ◌∷◌, ◌++◌, All, map, not, false, true, length, take, slice_index, None, IsSome, IsTrue, IfSome, IfOk, IfErr, bytes_eq, position};
 ghost use Rattle.std.specs.Char.{is_ascii_digit, is_ascii_hexdigit};
 ghost use Rattle.std.specs.List.{list_all, range_with_len};
 ghost use Rattle.std.specs.Int.{w64, from_le_bytes};
@@ -61,6 +61,17 @@ pub fn behind_name<'a, const N: usize>(text: &'a [u8], name: &[u8; N]) -> Option
         }
     }
     Some(&text[N..])
+}
+
+/// Whether a text is these bytes.
+#[inline(always)]
+pub fn is_name<const N: usize>(text: &[u8], name: &[u8; N]) -> bool
+    ensures { IsTrue result → text.now ≡ name.now }
+{
+    let Some(left) = behind_name(text, name) else {
+        return false;
+    };
+    left.is_empty()
 }
 
 /// Whether a word is this name.
@@ -157,6 +168,7 @@ fn behind(text: &[u8], end: usize) -> Result<Option<&[u8]>, LineFault>
 }
 
 /// The next word as a number.
+#[inline(always)]
 pub fn number(left: Option<&[u8]>) -> Result<(u32, Option<&[u8]>), LineFault>
     ensures { GivesField result (field number_of (words_left left.entry)) }
 {
@@ -174,6 +186,7 @@ pub fn number(left: Option<&[u8]>) -> Result<(u32, Option<&[u8]>), LineFault>
 }
 
 /// The next word as the number of a guest.
+#[inline(always)]
 pub fn guest(left: Option<&[u8]>) -> Result<(u16, Option<&[u8]>), LineFault>
     ensures { GivesField result (field guest_of (words_left left.entry)) }
 {

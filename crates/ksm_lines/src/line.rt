@@ -1,13 +1,14 @@
 //! The lines of the language.
-ghost use Rattle.std.specs.Prelude.{◌≡◌, IfOk, Ok};
+ghost use Rattle.std.specs.Prelude.{◌≡◌, IfOk, Ok, option_map};
 ghost use Rattle.ksm_lines.specs.declared.line.Line.{Line};
 ghost use Rattle.ksm_lines.specs.Grammar.{Writes, words_of};
-ghost use Rattle.ksm_lines.specs.Reading.{Gives, words_left};
+ghost use Rattle.ksm_lines.specs.declared.line.Line.TheVariants.{Get as line_get, Ticket as line_ticket, Look as line_look, Leave as line_leave};
+ghost use Rattle.ksm_lines.specs.Reading.{Gives, alone, number_of, page_alone, words_left};
 ghost use Rattle.ksm_lines.specs.Forms.{forms, managing_forms, look_up_forms, line_at, named_line, name_alone, register_at, store_at, scan_at, move_page_at, move_dup_at, set_at, find_at, equal_at};
 
 use crate::field::{
-    behind_name, content_alone, cut, ended, guest_alone, is, knob, number, number_alone, page,
-    page_alone, shown_alone,
+    behind_name, content_alone, cut, ended, guest_alone, is, is_name, knob, number, number_alone,
+    page, page_alone, shown_alone,
 };
 use crate::knob::{Knob, Shown};
 use ksm_base::{GuestPage, PageBytes};
@@ -121,31 +122,114 @@ pub fn read_line(bytes: &[u8]) -> Result<Line, LineFault>
     told_line(bytes)
 }
 
-/// The line that the bytes are, told by their words. The lines that come by the million are told by their first bytes.
+// Each arm is the call that gives the line. A line in an arm of its own would be cleared before each line that is read.
+
+/// The line that the bytes are. The lines that come by the million are told by their first bytes.
 #[inline(always)]
 fn told_line(bytes: &[u8]) -> Result<Line, LineFault>
     ensures { Gives result (line_at (words_of bytes.now)) }
 {
-    if let Some(left) = behind_name(bytes, b"put ") {
-        return store(Some(left));
+    match bytes {
+        [b'p', ..] => store_or_other(bytes),
+        [b'g', ..] => get_or_other(bytes),
+        [b'f', ..] => find_or_other(bytes),
+        [b'l', b'o', ..] => look_or_other(bytes),
+        [b'l', ..] => leave_or_other(bytes),
+        [b'e', ..] => equal_or_other(bytes),
+        [b't', ..] => ticket_or_other(bytes),
+        [b'r', b'e', ..] => register_or_other(bytes),
+        [b's', ..] => stat_or_other(bytes),
+        _ => told_by_words(bytes),
     }
-    if let Some(left) = behind_name(bytes, b"get ") {
-        return page_alone(Some(left)).map(|page| Line::Get { page });
-    }
-    if let Some(left) = behind_name(bytes, b"find ") {
-        return find(Some(left));
-    }
-    if let Some(left) = behind_name(bytes, b"look ") {
-        return number_alone(Some(left)).map(|pass| Line::Look { pass });
-    }
-    if let Some(left) = behind_name(bytes, b"leave ") {
-        return number_alone(Some(left)).map(|pass| Line::Leave { pass });
-    }
-    if let Some(left) = behind_name(bytes, b"ticket ") {
-        return page_alone(Some(left)).map(|page| Line::Ticket { page });
-    }
+}
+
+/// The line that the bytes are, told by its first word.
+fn told_by_words(bytes: &[u8]) -> Result<Line, LineFault>
+    ensures { Gives result (line_at (words_of bytes.now)) }
+{
     let (name, left) = cut(bytes);
     named(name, left)
+}
+
+fn store_or_other(bytes: &[u8]) -> Result<Line, LineFault>
+    ensures { Gives result (line_at (words_of bytes.now)) }
+{
+    match behind_name(bytes, b"put ") {
+        Some(left) => store(Some(left)),
+        None => told_by_words(bytes),
+    }
+}
+
+fn get_or_other(bytes: &[u8]) -> Result<Line, LineFault>
+    ensures { Gives result (line_at (words_of bytes.now)) }
+{
+    match behind_name(bytes, b"get ") {
+        Some(left) => get(Some(left)),
+        None => told_by_words(bytes),
+    }
+}
+
+fn find_or_other(bytes: &[u8]) -> Result<Line, LineFault>
+    ensures { Gives result (line_at (words_of bytes.now)) }
+{
+    match behind_name(bytes, b"find ") {
+        Some(left) => find(Some(left)),
+        None => told_by_words(bytes),
+    }
+}
+
+fn look_or_other(bytes: &[u8]) -> Result<Line, LineFault>
+    ensures { Gives result (line_at (words_of bytes.now)) }
+{
+    match behind_name(bytes, b"look ") {
+        Some(left) => look(Some(left)),
+        None => told_by_words(bytes),
+    }
+}
+
+fn leave_or_other(bytes: &[u8]) -> Result<Line, LineFault>
+    ensures { Gives result (line_at (words_of bytes.now)) }
+{
+    match behind_name(bytes, b"leave ") {
+        Some(left) => leave(Some(left)),
+        None => told_by_words(bytes),
+    }
+}
+
+fn equal_or_other(bytes: &[u8]) -> Result<Line, LineFault>
+    ensures { Gives result (line_at (words_of bytes.now)) }
+{
+    match behind_name(bytes, b"equal ") {
+        Some(left) => equal(Some(left)),
+        None => told_by_words(bytes),
+    }
+}
+
+fn ticket_or_other(bytes: &[u8]) -> Result<Line, LineFault>
+    ensures { Gives result (line_at (words_of bytes.now)) }
+{
+    match behind_name(bytes, b"ticket ") {
+        Some(left) => ticket(Some(left)),
+        None => told_by_words(bytes),
+    }
+}
+
+fn register_or_other(bytes: &[u8]) -> Result<Line, LineFault>
+    ensures { Gives result (line_at (words_of bytes.now)) }
+{
+    match behind_name(bytes, b"reg ") {
+        Some(left) => register(Some(left)),
+        None => told_by_words(bytes),
+    }
+}
+
+fn stat_or_other(bytes: &[u8]) -> Result<Line, LineFault>
+    ensures { Gives result (line_at (words_of bytes.now)) }
+{
+    if is_name(bytes, b"stat") {
+        return Ok(Line::Stat);
+    }
+    told_by_words(bytes)
 }
 
 /// The line that begins with a name.
@@ -156,7 +240,7 @@ fn named(name: &[u8], left: Option<&[u8]>) -> Result<Line, LineFault>
         return store(left);
     }
     if is(name, "get") {
-        return page_alone(left).map(|page| Line::Get { page });
+        return get(left);
     }
     if is(name, "reg") {
         return register(left);
@@ -168,7 +252,7 @@ fn named(name: &[u8], left: Option<&[u8]>) -> Result<Line, LineFault>
         return alone(Line::Empty, left);
     }
     if is(name, "ticket") {
-        return page_alone(left).map(|page| Line::Ticket { page });
+        return ticket(left);
     }
     if is(name, "rmap") {
         return number_alone(left).map(|place| Line::Mappers { place });
@@ -221,10 +305,10 @@ fn looking_up(name: &[u8], left: Option<&[u8]>) -> Result<Line, LineFault>
         return equal(left);
     }
     if is(name, "look") {
-        return number_alone(left).map(|pass| Line::Look { pass });
+        return look(left);
     }
     if is(name, "leave") {
-        return number_alone(left).map(|pass| Line::Leave { pass });
+        return leave(left);
     }
     if is(name, "audit") {
         return alone(Line::Audit, left);
@@ -255,6 +339,30 @@ fn store(left: Option<&[u8]>) -> Result<Line, LineFault>
     let (page, left) = page(left)?;
     let bytes = content_alone(left)?;
     Ok(Line::Store { page, bytes })
+}
+
+fn get(left: Option<&[u8]>) -> Result<Line, LineFault>
+    ensures { Gives result (option_map (λ page. line_get page) (page_alone (words_left left.entry))) }
+{
+    page_alone(left).map(|page| Line::Get { page })
+}
+
+fn ticket(left: Option<&[u8]>) -> Result<Line, LineFault>
+    ensures { Gives result (option_map (λ page. line_ticket page) (page_alone (words_left left.entry))) }
+{
+    page_alone(left).map(|page| Line::Ticket { page })
+}
+
+fn look(left: Option<&[u8]>) -> Result<Line, LineFault>
+    ensures { Gives result (option_map (λ pass. line_look pass) (alone number_of (words_left left.entry))) }
+{
+    number_alone(left).map(|pass| Line::Look { pass })
+}
+
+fn leave(left: Option<&[u8]>) -> Result<Line, LineFault>
+    ensures { Gives result (option_map (λ pass. line_leave pass) (alone number_of (words_left left.entry))) }
+{
+    number_alone(left).map(|pass| Line::Leave { pass })
 }
 
 fn scan(left: Option<&[u8]>) -> Result<Line, LineFault>

@@ -41,9 +41,15 @@ fn named<'a>(alloc: Global) -> Result<Command<'a>, AllocError>
     ensures { IfOk result (λ command. app_of command ≡ new_app (codes "ksmbook")) }
 {
     let named = Command::new(alloc, "ksmbook").bin_name("ksmbook")?;
-    Ok(named.about(
-        "Keeps a book of merged pages: commands on standard input, replies on standard output",
-    ))
+    Ok(
+        named
+            .about(
+                "Keeps a book of merged pages: commands on standard input, replies on standard output",
+            )
+            .after_help(
+                "The commands are in the manual page ksmbook(5), the rest in ksmbook(1); in a checkout both are docs/SCRIPT.md",
+            ),
+    )
 }
 
 /// A command line with one option more.

@@ -10,4 +10,8 @@ pub mod Settling
 pub mod Linking
 pub mod Partners
 pub mod Tallies
+pub mod BlockCounts
+pub mod BlockSteps
+pub mod BlockWalks
 pub mod RunWalks
+pub mod RunPasses

@@ -45,7 +45,7 @@ greater_is p q = grind (arith, nat_tests)
 pub before_is : (k q : GuestPage) → order k q ≡ Less → comes_before k q ≡ true
 before_is k q less = sym (less_is k q) ∙ ap is_lt less
 
-less_so : (k q : GuestPage) → comes_before k q ≡ true → order k q ≡ Less
+pub less_so : (k q : GuestPage) → comes_before k q ≡ true → order k q ≡ Less
 less_so k q before = go (order k q) refl
   where
     go : (o : Ordering) → order k q ≡ o → order k q ≡ Less

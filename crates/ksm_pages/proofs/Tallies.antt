@@ -23,7 +23,7 @@ use Rattle.ksm_pages.proofs.RowLists.{stands_at}
 use Rattle.ksm_pages.specs.Tallied.{Counts, IsMore, IsSmall, IsTally, is_pending, is_volatile, one_if}
 
 module _ (p : Row → Bool) where
-  put_counted : (rows : List Row) (i : ℕ) (row : Row) → i ≤ length rows → count_by p (insert rows i row) ≡ count_by p rows + one_if (p row)
+  pub put_counted : (rows : List Row) (i : ℕ) (row : Row) → i ≤ length rows → count_by p (insert rows i row) ≡ count_by p rows + one_if (p row)
   put_counted [] zero row le = let more = count_more p row [] in grind (arith, more)
   put_counted [] (suc i) row le = absurd (omega arith)
   put_counted (r ∷ rows) zero row le = let more = count_more p row (r ∷ rows) in grind (arith, more)
@@ -33,7 +33,7 @@ module _ (p : Row → Bool) where
       let also = count_more p r (insert rows i row) in
       grind (arith, rest, more, also)
 
-  taken_counted : (rows : List Row) (i : ℕ) (d : Row) → i < length rows → count_by p (remove rows i) + one_if (p (get_or rows i d)) ≡ count_by p rows
+  pub taken_counted : (rows : List Row) (i : ℕ) (d : Row) → i < length rows → count_by p (remove rows i) + one_if (p (get_or rows i d)) ≡ count_by p rows
   taken_counted [] i d lt = absurd (omega arith)
   taken_counted (r ∷ rows) zero d lt = let more = count_more p r rows in grind (arith, more)
   taken_counted (r ∷ rows) (suc i) d lt =
@@ -42,7 +42,7 @@ module _ (p : Row → Bool) where
       let also = count_more p r (remove rows i) in
       grind (arith, rest, more, also)
 
-  set_counted : (rows : List Row) (i : ℕ) (d row : Row) → i < length rows → count_by p (set rows i row) + one_if (p (get_or rows i d)) ≡ count_by p rows + one_if (p row)
+  pub set_counted : (rows : List Row) (i : ℕ) (d row : Row) → i < length rows → count_by p (set rows i row) + one_if (p (get_or rows i d)) ≡ count_by p rows + one_if (p row)
   set_counted [] i d row lt = absurd (omega arith)
   set_counted (r ∷ rows) zero d row lt =
       let more = count_more p r rows in
@@ -55,7 +55,7 @@ module _ (p : Row → Bool) where
       grind (arith, rest, more, also)
 
   -- a row that is there is counted
-  there_counted : (rows : List Row) (i : ℕ) (d : Row) → i < length rows → one_if (p (get_or rows i d)) ≤ count_by p rows
+  pub there_counted : (rows : List Row) (i : ℕ) (d : Row) → i < length rows → one_if (p (get_or rows i d)) ≤ count_by p rows
   there_counted rows i d lt = let h = taken_counted rows i d lt in omega (arith, h)
 
 -- one row came, went or was replaced
@@ -144,7 +144,7 @@ tally_within (r ∷ rows) =
     omega (arith, h, first, second, third)
 
 -- counts after a change of each row
-mapped : (p q : Row → Bool) (f : Row → Row) (rows : List Row) → ((r : Row) → p (f r) ≡ q r) → count_by p (map f rows) ≡ count_by q rows
+pub mapped : (p q : Row → Bool) (f : Row → Row) (rows : List Row) → ((r : Row) → p (f r) ≡ q r) → count_by p (map f rows) ≡ count_by q rows
 mapped p q f [] same = refl
 mapped p q f (r ∷ rows) same =
     let rest = mapped p q f rows same in

@@ -1,4 +1,5 @@
 pub mod Kept
+pub mod Blocked
 pub mod Listed
 pub mod Linked
 pub mod Lodged

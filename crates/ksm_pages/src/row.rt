@@ -6,6 +6,7 @@ ghost use Rattle.ksm_base.specs.Apply.{fresh_row as a_fresh_row, stored as with_
 ghost use Rattle.ksm_base.specs.Rows.{same_page as is_same_page, waiting_state, merged_state, shared_state, all_zero as has_only_zeroes};
 ghost use Rattle.ksm_base.specs.State.{tree_of as row_tree};
 ghost use Rattle.ksm_base.specs.Visit.{is_for_zero as goes_to_zero};
+ghost use Rattle.ksm_pages.specs.Blocked.{restless};
 
 use ksm_base::{GuestPage, Knobs, PageBytes, PageState, Row};
 
@@ -62,6 +63,13 @@ pub fn is_shared(state: PageState) -> bool
     ensures { result ≡ shared_state state }
 {
     matches!(state, PageState::Merged(_) | PageState::Zero)
+}
+
+/// Whether a visit may change the row.
+pub(crate) fn is_restless(row: &Row) -> bool
+    ensures { result ≡ restless row.now }
+{
+    row.mergeable && !is_shared(row.state)
 }
 
 /// Whether each word is zero.

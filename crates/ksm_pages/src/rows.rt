@@ -9,20 +9,23 @@
 //! `len`, `any_mergeable` and the counts take one. `make_mergeable` searches in the order for each row of the guest, and
 //! once more, and finds each by a hash. `settle_all` finds each row that waits by a hash, or walks over all rows where many wait. `unshare_all` walks over the rows.
 
-ghost use Rattle.std.specs.Prelude.{◌≡◌, ◌<◌, ◌≤◌, [], None, Some, length, filter, find, count_by, map, insert, remove, slice_set, false, MatchOption, OnOk, OnErr, Err, is_some, true, option_map, ◌&&◌, slice_get, unwrap_or, IfSome};
+ghost use Rattle.std.specs.Prelude.{◌≡◌, ◌<◌, ◌≤◌, [], None, Some, length, filter, find, count_by, map, insert, remove, slice_set, false, MatchOption, OnOk, OnErr, Err, is_some, true, option_map, ◌&&◌, slice_get, unwrap_or, IfSome, ⊤};
 ghost use Rattle.std.specs.List.{list_any};
+ghost use Rattle.std.specs.BTreeMap.Range.{entries_between};
 ghost use Rattle.std.specs.Map.Iter.{deref_pair};
+ghost use Rattle.std.specs.declared.ops.Bound.TheVariants.{Included, Unbounded};
 ghost use Rattle.ksm_base.specs.declared.fault.Fault.TheVariants.{Memory};
 ghost use Rattle.ksm_base.specs.Refusals.{is_of as is_of_guest};
 ghost use Rattle.ksm_base.specs.Apply.{unshared as as_unshared};
 ghost use Rattle.ksm_base.specs.Rows.{InPageOrder, row_at, with_row, without_page, change_row, change_rows, same_page, private_state, waiting_state, merged_state, zero_state, settled as as_settled};
 ghost use Rattle.ksm_base.specs.Visit.{after_cursor as comes_after, next_row as row_to_visit};
 ghost use Rattle.ksm_pages.specs.Listed.{AreNamed, rank, StandsAt};
-ghost use Rattle.ksm_pages.specs.RowEntries.{row_of, start_after, BeginsAt};
+ghost use Rattle.ksm_pages.specs.RowEntries.{row_of, page_order, start_after, BeginsAt};
 ghost use Rattle.ksm_pages.specs.Scanned.{AreAhead, IsRun, page_of};
-ghost use Rattle.ksm_pages.specs.Tallied.{IsTally};
+ghost use Rattle.ksm_pages.specs.Blocked.{first_of, AreBooked, AreCounted, PassesTo};
 ghost use Rattle.ksm_pages.specs.Wanted.{is_shared_of as is_shared_of_guest, is_wanted as is_a_wanted, up_to};
 
+use crate::blocks::{Blocks, Passed, first_of_block};
 use crate::entry::Entry;
 use crate::page_map::PageMap;
 use crate::row::{Run, Wanted};
@@ -44,6 +47,7 @@ pub struct Held {
 #[derive(Drop)]
 pub struct Rows {
     entries: PageMap,
+    blocks: Blocks,
     tally: Tally,
 }
 
@@ -54,11 +58,11 @@ impl Model for Rows {
 
     ghost use Rattle.std.specs.Prelude.{map};
     ghost use Rattle.ksm_pages.specs.RowEntries.{listed, row_of};
-    ghost use Rattle.ksm_pages.specs.Tallied.{IsTally};
+    ghost use Rattle.ksm_pages.specs.Blocked.{AreBooked};
 
     ghost view = { λ r. listed r.entries };
 
-    ghost invariant = { λ r. IsTally (map row_of r.entries) r.tally };
+    ghost invariant = { λ r. AreBooked (map row_of r.entries) r.tally r.blocks };
 }
 
 // The row of the entry that a search found.
@@ -118,16 +122,70 @@ fn first_run(found: &[Run], run: Run) -> Run
     }
 }
 
-// What comes after the cursor, run by run, for `most` visits at most: one walk along the entries, as far as there is memory for runs. Gives the first.
-fn runs_along(entries: &PageMap, cursor: Option<GuestPage>, most: u64, found: &mut Vec<Run>) -> Run
-    requires { found.old.items ≡ [] }
+// Whether a page comes after the cursor.
+fn is_after(cursor: Option<GuestPage>, page: GuestPage) -> bool
+    ensures { result ≡ comes_after cursor page }
+{
+    match cursor {
+        None => true,
+        Some(last) => last < page,
+    }
+}
+
+// Passes over the blocks from a page's on that no visit changes, where the page seen last is in an earlier one. Gives their visits, for
+// `most` visits at most, up to the first one in the last of these blocks.
+fn pass_blocks(
+    entries: &PageMap,
+    blocks: &Blocks,
+    seen: Option<GuestPage>,
+    page: GuestPage,
+    most: u64,
+) -> Option<Passed>
+    requires { AreCounted (map row_of entries.now) blocks.now }
+    ensures { MatchOption result ⊤ (λ p. (comes_after seen (first_of page) ≡ true) × PassesTo most (entries_between page_order (Included (first_of page)) Unbounded entries.now) p.visits p.last) }
+{
+    let first = first_of_block(page);
+    if !is_after(seen, first) {
+        return None;
+    }
+    let over = blocks.pass_over(first, most)?;
+    let mut walk = entries.range(Bound::Included(over.last));
+    let last = page_found(walk.find(|(_, entry)| entry.is_mergeable()))?;
+    Some(Passed {
+        visits: over.visits + 1,
+        last,
+    })
+}
+
+// What comes after the cursor, run by run, for `most` visits at most: one walk along the entries, as far as there is memory for runs, which passes
+// over blocks that no visit changes. Gives the first.
+fn runs_along(
+    entries: &PageMap,
+    blocks: &Blocks,
+    cursor: Option<GuestPage>,
+    most: u64,
+    found: &mut Vec<Run>,
+) -> Run
+    requires counted { AreCounted (map row_of entries.now) blocks.now }
+    requires none { found.old.items ≡ [] }
     ensures run { IsRun most (map row_of entries.now) cursor result }
     ensures ahead { AreAhead most (map row_of entries.now) cursor found.new.items }
     ensures first { IfSome (slice_get found.new.items 0) (λ run. run ≡ result) }
 {
     let mut run = Run::from(cursor);
     let mut left = most;
-    for (page, entry) in entries.range(after_cursor(cursor)) {
+    let mut seen = cursor;
+    let mut walk = entries.range(after_cursor(cursor));
+    while let Some((page, entry)) = walk.next() {
+        if let Some(passed) = pass_blocks(entries, blocks, seen, *page, left) {
+            run.visits += passed.visits;
+            run.last = Some(passed.last);
+            left -= passed.visits;
+            seen = run.last;
+            walk = entries.range(after_cursor(seen));
+            continue;
+        }
+        seen = Some(*page);
         if !entry.is_mergeable() {
             continue;
         }
@@ -155,6 +213,7 @@ impl Rows {
     {
         Rows {
             entries: PageMap::new(alloc),
+            blocks: Blocks::new(alloc),
             tally: Tally::NONE,
         }
     }
@@ -221,9 +280,17 @@ impl Rows {
     {
         // The contract of `len` says that the number fits.
         let _ = self.entries.len();
-        self.entries.insert(row.page, Entry::new(row, frame))?;
-        self.tally = self.tally.with(&row);
-        Ok(())
+        self.blocks.add(&row)?;
+        match self.entries.insert(row.page, Entry::new(row, frame)) {
+            Ok(()) => {
+                self.tally = self.tally.with(&row);
+                Ok(())
+            }
+            Err(fault) => {
+                self.blocks.take(&row);
+                Err(fault)
+            }
+        }
     }
 
     /// Puts a row and its frame in the stead of the row that its page has. Gives the number of the frame that this had.
@@ -237,6 +304,7 @@ impl Rows {
         // The contract of `len` says that the number fits.
         let _ = self.entries.len();
         let left = self.entries.replace(row, frame);
+        self.blocks.change(old, row);
         self.tally = self.tally.without(old).with(row);
         left
     }
@@ -252,6 +320,7 @@ impl Rows {
         // The contract of `len` says that the number fits.
         let _ = self.entries.len();
         let frame = self.entries.revise(row);
+        self.blocks.change(old, row);
         self.tally = self.tally.without(old).with(row);
         frame
     }
@@ -270,7 +339,9 @@ impl Rows {
         // The contract of `len` says that the number fits.
         let _ = self.entries.len();
         let frame = self.entries.restate(row.page, state);
-        self.tally = self.tally.without(row).with(&Row { state, ..*row });
+        let stated = Row { state, ..*row };
+        self.blocks.change(row, &stated);
+        self.tally = self.tally.without(row).with(&stated);
         frame
     }
 
@@ -286,6 +357,7 @@ impl Rows {
             return None;
         };
         let row = entry.row(page);
+        self.blocks.take(&row);
         self.tally = self.tally.without(&row);
         Some(Held {
             row,
@@ -335,7 +407,7 @@ impl Rows {
         ensures ahead { AreAhead most self.now.rows cursor found.new.items }
         ensures first { IfSome (slice_get found.new.items 0) (λ run. run ≡ result) }
     {
-        runs_along(&self.entries, cursor, most, found)
+        runs_along(&self.entries, &self.blocks, cursor, most, found)
     }
 
     /// The first merged or Zero row of a guest after the cursor, or of all where no guest is given.
@@ -458,6 +530,7 @@ impl Rows {
         ensures frames { self.new.frames ≡ self.old.frames }
     {
         self.entries.unshare_all();
+        self.blocks.unshare_all();
         self.tally = self.tally.unshared();
     }
 }

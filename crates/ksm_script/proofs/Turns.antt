@@ -1,9 +1,10 @@
 -- A run goes on by one line.
-use Rattle.std.proofs.Common.{◌≡◌, ◌≢◌, ℕ, ◌+◌, ◌≤◌, List, [], ◌∷◌, ◌++◌, length, Option, None, Some, Result, Ok, Err, ap, ◌∙◌, sym, subst, append_assoc, inl, inr, refl}
+use Rattle.std.proofs.Common.{◌≡◌, ◌≢◌, ℕ, Bool, false, ◌+◌, ◌≤◌, List, [], ◌∷◌, ◌++◌, length, Option, None, Some, Result, Ok, Err, ap, ◌∙◌, sym, subst, append_assoc, inl, inr, refl}
 use Rattle.std.specs.Io.KnownBytes.{Appends, Consumes, IsAtEnd, Keeps}
 use Rattle.std.proofs.lemmas.List.{append-nil}
 use Rattle.std.proofs.KnownBytes.{Appends-kept, Appends-nil, Appends-trans, Consumes-nil, Consumes-trans}
 use Rattle.ksm_script.specs.State.{ScriptState}
+use Rattle.ksm_script.specs.Seen.{SessionView}
 use Rattle.ksm_lines.specs.declared.line.Line.{Line}
 use Rattle.ksm_lines.specs.declared.line.Line.TheVariants.{Empty}
 use Rattle.ksm_lines.specs.declared.line.LineFault.{LineFault}
@@ -18,7 +19,8 @@ use Rattle.ksm_lines.specs.Grammar.{Writes, IsNoLine}
 use Rattle.ksm_script.specs.Input.{EndsAs, IsPlain}
 use Rattle.ksm_script.specs.Answering.{Answers, reply_text}
 use Rattle.ksm_script.specs.LastLine.{EndsBad}
-use Rattle.ksm_script.specs.Script.{Answered, none, more, CarriesOut, ReadFor, AnsweredAll, AnsweredLast, IsBad, IsReadAs, AnsweredToBad, Streams, Goes}
+use Rattle.ksm_script.specs.Script.{Answered, none, more, CarriesOut, ReadFor, AnsweredAll, AnsweredLast, IsBad, IsReadAs, AnsweredToBad, AnsweredOne, AnsweredPart, Streams, streams, Goes}
+use Rattle.ksm_script.proofs.Parts.{broken_after}
 
 -- a failed write is told as one
 pub broke : (io : Streams) (from to : ScriptState) (told : Result End RunFault) → told ≡ Err Write → Goes io from to (Err Write) → Goes io from to told
@@ -61,6 +63,47 @@ pub record IsRead (now next : Option (List ℕ)) (line : List ℕ) (end : LineEn
   pub consumed : Consumes now next bytes
   pub plain : IsPlain line
   pub last : end ≡ Input → IsAtEnd next
+
+-- whether a line was answered at once
+abbrev pub told_so : Bool → Result Bool RunFault
+told_so b = Ok b
+
+-- the same of equal states and streams
+still : (first now same : Option (List ℕ)) (begun written kept : Option (List ℕ)) (from state after : ScriptState) (number : ℕ) → after ≡ state → same ≡ now → kept ≡ written
+    → IsSoFar first now begun written from state number → IsSoFar first same begun kept from after number
+still first now same begun written kept from state after number s r w so =
+    subst (λ (x : ScriptState). IsSoFar first same begun kept from x number) (sym s)
+    (subst (λ (x : Option (List ℕ)). IsSoFar first x begun kept from state number) (sym r)
+    (subst (λ (x : Option (List ℕ)). IsSoFar first now begun x from state number) (sym w) so))
+
+-- the same where no line was answered at once
+pub not_answered : {R W : Type 0} (remaining : R → Option (List ℕ)) (contents : W → Option (List ℕ)) (first : Option (List ℕ)) (now same : R) (begun : Option (List ℕ)) (written kept : W)
+    (from : ScriptState) (state after : SessionView) (number : ℕ) (b : Bool) → (told_so b ≡ told_so false → (after ≡ state) × (same ≡ now) × (kept ≡ written)) → b ≡ false
+    → IsSoFar first (remaining now) begun (contents written) from state.state number → IsSoFar first (remaining same) begun (contents kept) from after.state number
+not_answered remaining contents first now same begun written kept from state after number b unmoved is so =
+    let is_same = unmoved (ap (λ (x : Bool). told_so x) is) in
+    still _ _ _ _ _ _ _ _ _ _ (ap (λ (v : SessionView). v.state) is_same.0) (ap remaining is_same.1) (ap contents is_same.2) so
+
+-- the same after a line that was answered at once
+pub one_more : (first now later : Option (List ℕ)) (begun written wrote : Option (List ℕ)) (from state next : ScriptState) (number : ℕ) → IsSoFar first now begun written from state number
+    → AnsweredOne (streams now later written wrote) state next → IsSoFar first later begun wrote from next (number + 1)
+one_more first now later begun written wrote from state next number so one =
+    record {
+      lines = so.lines ++ (one.0 ++ 10 ∷ []);
+      text = so.text ++ reply_text one.1;
+      count = so.count + 1;
+      counted = ap (λ n. n + 1) so.counted;
+      answered = more so.answered one.0 one.1 next one.2;
+      consumed = Consumes-trans first now later so.lines (one.0 ++ 10 ∷ []) so.consumed one.3;
+      appended = Appends-trans begun written wrote so.text (reply_text one.1) so.appended one.4;
+    }
+
+-- a run whose last line was answered at once, and its reply broken off
+pub one_broken : (first now later : Option (List ℕ)) (begun written wrote : Option (List ℕ)) (from state next : ScriptState) (number : ℕ) → IsSoFar first now begun written from state number
+    → AnsweredPart (streams now later written wrote) state next → Goes (streams first later begun wrote) from next (Err Write)
+one_broken first now later begun written wrote from state next number so one =
+    let consumed = Consumes-trans first now later so.lines (one.0 ++ 10 ∷ []) so.consumed one.3 in
+    inl (so.text, one.1, (so.lines, one.0, so.lines ++ (one.0 ++ 10 ∷ []), so.count, state, so.answered, one.2, inl refl, consumed), broken_after _ _ _ so.text _ so.appended one.4)
 
 abbrev found : LineEnd → Result LineEnd RunFault
 found end = Ok end

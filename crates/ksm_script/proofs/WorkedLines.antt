@@ -16,7 +16,7 @@ use Rattle.ksm_lines.specs.Knobs.{shown_in}
 use Rattle.ksm_base.specs.Answers.{Answer, IsAnswerOrMemory}
 use Rattle.frame_table.specs.declared.pass.Why.TheVariants.{Vacant}
 use Rattle.frame_table.specs.Named.{TableName, PassView, HeldView}
-use Rattle.frame_table.specs.Lookup.{Log, IsVacant}
+use Rattle.frame_table.specs.Lookup.{ReaderLog, IsVacant}
 use Rattle.ksm_audit.specs.declared.report.Row.{Row}
 use Rattle.ksm_audit.specs.Lookups.{word_loads}
 use Rattle.ksm_script.specs.declared.pass_state.PassState.{PassState}
@@ -137,8 +137,8 @@ reading_lines t =
 
 -- ---- lookups
 
-vacant_is : (v : PassView) (place : ℕ) (log : Log) (next : PassState) → IsVacant place log → Found v place (Gone Vacant) next → next ≡ Idle (record v { log = v.log ++ log })
-vacant_is v place log (Idle w) is f = λ i. Idle (let z : PassView = record { table = f.0 i; log = (f.1.1 ∙ ap (λ (l : Log). v.log ++ l) (f.1.2 ∙ sym is)) i } in z)
+vacant_is : (v : PassView) (place : ℕ) (log : ReaderLog) (next : PassState) → IsVacant place log → Found v place (Gone Vacant) next → next ≡ Idle (record v { log = v.log ++ log })
+vacant_is v place log (Idle w) is f = λ i. Idle (let z : PassView = record { table = f.0 i; log = (f.1.1 ∙ ap (λ (l : ReaderLog). v.log ++ l) (f.1.2 ∙ sym is)) i } in z)
 vacant_is v place log (Holding h) is f = absurd f
 
 held_is : (v : PassView) (place frame generation : ℕ) (next : PassState) → Found v place (Held frame generation) next → (x : HeldView) × (next ≡ Holding x) × (x.place ≡ place) × (x.frame ≡ frame)

@@ -16,7 +16,7 @@ use Rattle.ksm_script.specs.Input.{EndsAs, IsPlain}
 use Rattle.ksm_script.specs.State.{ScriptState}
 use Rattle.ksm_script.specs.Answering.{Answers, AllGivenBack, reply_text}
 use Rattle.ksm_script.specs.Replies.{text_of}
-use Rattle.ksm_script.specs.Texts.{AppendsBroken}
+use Rattle.ksm_script.specs.Texts.{AppendsBroken, AppendsPart}
 
 -- a line was carried out: it writes a form, which is answered so
 pub record CarriesOut (now : ScriptState) (line : List ℕ) (reply : Option LineReply) (next : ScriptState) : Type 0 where
@@ -78,6 +78,18 @@ pub record Streams : Type 0 where
 
 abbrev pub streams : Option (List ℕ) → Option (List ℕ) → Option (List ℕ) → Option (List ℕ) → Streams
 streams unread left begun written = record { unread = unread; left = left; begun = begun; written = written }
+
+-- one whole line was read, carried out and answered
+abbrev pub AnsweredOne : Streams → ScriptState → ScriptState → Type 0
+AnsweredOne io from to =
+    (line : List ℕ) × (reply : Option LineReply) × CarriesOut from line reply to × Consumes io.unread io.left (line ++ 10 ∷ [])
+    × Appends io.begun io.written (reply_text reply)
+
+-- one whole line was read and carried out, and a beginning of its reply is written
+abbrev pub AnsweredPart : Streams → ScriptState → ScriptState → Type 0
+AnsweredPart io from to =
+    (line : List ℕ) × (reply : LineReply) × CarriesOut from line (Some reply) to × Consumes io.unread io.left (line ++ 10 ∷ [])
+    × AppendsPart io.begun io.written (text_of reply)
 
 -- What was read, done and written, by how it ended. At a failed write a beginning of one reply stands behind those before it: that of the
 -- line read last, or of a bad line

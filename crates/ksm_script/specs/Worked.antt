@@ -13,7 +13,7 @@ use Rattle.ksm_base.specs.declared.fault.Fault.TheVariants.{Memory, UnknownPage,
 use Rattle.ksm_base.specs.State.{opening}
 use Rattle.frame_table.specs.declared.pass.Why.TheVariants.{Vacant}
 use Rattle.frame_table.specs.Named.{TableName, PassView, HeldView}
-use Rattle.frame_table.specs.Lookup.{Log, IsVacant}
+use Rattle.frame_table.specs.Lookup.{ReaderLog, IsVacant}
 use Rattle.frame_table.specs.Seats.{new_pass}
 use Rattle.ksm_audit.specs.declared.report.Row.{Row}
 use Rattle.ksm_audit.specs.Lookups.{word_loads}
@@ -125,7 +125,7 @@ pub record LookupLines (v : PassView) (h k : HeldView) : Type 0 where
   pub not_busy : Never (one_holds v h) (lines.Find 0 4) (Some Busy)
   pub not_refused : Never (one_holds v h) (lines.Find 0 3) (Some (Refused (Book UnknownPlace)))
   pub not_while_held : Never (one_holds v h) (lines.Find 1 3) (Some Busy)
-  pub vacant : (log : Log) → IsVacant 3 log → Leads (one_holds v h) (lines.Find 0 3) (Some (Gone Vacant)) (one_holds (record v { log = v.log ++ log }) h)
+  pub vacant : (log : ReaderLog) → IsVacant 3 log → Leads (one_holds v h) (lines.Find 0 3) (Some (Gone Vacant)) (one_holds (record v { log = v.log ++ log }) h)
   pub held : (frame generation : ℕ) (n : ScriptState) → Answers (lines.Find 0 3) (one_holds v h) (Some (Held frame generation)) n → (x : HeldView) × (n ≡ both_hold x h) × (x.place ≡ 3) × (x.frame ≡ frame)
   pub equal_no_pass : (page : List ℕ) → Leads (one_holds v h) (lines.Equal 2 9 page) (Some (Refused NoPass)) (one_holds v h)
   pub equal_holds : (page : List ℕ) → Leads (one_holds v h) (lines.Equal 1 9 page) (Some (Refused PassHolds)) (one_holds v h)

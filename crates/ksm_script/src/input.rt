@@ -1,11 +1,12 @@
 //! Lines from a reader.
-ghost use Rattle.std.specs.Prelude.{◌≡◌, ◌≢◌, ◌+◌, ◌<◌, ◌≤◌, ◌++◌, ◌∷◌, ◌⊎◌, [], ℕ, List, Option, Some, Ok, length, take, IfOk, IfErr, IfNone, IsTrue, ◌↔◌, option_to_list};
+ghost use Rattle.std.specs.Prelude.{◌≡◌, ◌≢◌, ◌+◌, ◌<◌, ◌≤◌, ◌++◌, ◌∷◌, ◌⊎◌, [], ℕ, List, Option, Some, Ok, length, take, IfOk, IfErr, IfNone, IfSome, IsTrue, ◌↔◌, option_to_list};
 ghost use Rattle.std.specs.Io.Buffered.{reader_inner, reader_remaining, writer_buffer, writer_contents};
 ghost use Rattle.std.specs.Io.KnownBytes.{Consumes, Keeps, IsAtEnd};
-ghost use Rattle.ksm_script.specs.Takes.{Takes};
+ghost use Rattle.ksm_script.specs.Takes.{Takes, TakesForm};
 ghost use Rattle.ksm_script.specs.Input.{EndsAs, IsPlain};
 
 use crate::script::RunFault;
+use ksm_lines::{Line, read_line};
 use memchr::memchr;
 use std::io::{BufRead, BufReader, BufWriter, Read, Write};
 use std::marker::Model;
@@ -144,10 +145,6 @@ fn take_block<R: Read>(reader: &mut BufReader<R>, line: &mut LineBuffer) -> Opti
     ensures source { reader_inner reader.new ≡ reader_inner reader.old }
 {
     let buffer = reader.buffer();
-    if let [b'\n', ..] = buffer {
-        reader.consume(1);
-        return Some(LineEnd::Newline);
-    }
     let block = &buffer[..buffer.len().min(line.room())];
     match memchr(b'\n', block) {
         Some(at) => {
@@ -162,6 +159,27 @@ fn take_block<R: Read>(reader: &mut BufReader<R>, line: &mut LineBuffer) -> Opti
             line.is_too_long().then_some(LineEnd::TooLong)
         }
     }
+}
+
+/// Takes the line that a reader has whole in its buffer, read where it lies, if it is one of the forms. Else nothing is taken.
+fn take_whole<R: Read>(reader: &mut BufReader<R>) -> Option<Line>
+    ensures taken { IfSome result (λ form. TakesForm form (reader_remaining R.remaining reader.old) (reader_remaining R.remaining reader.new)) }
+    ensures none { IfNone result (reader.new ≡ reader.old) }
+{
+    let buffer = reader.buffer();
+    if let [b'\n', ..] = buffer {
+        reader.consume(1);
+        return Some(Line::Empty);
+    }
+    let block = &buffer[..buffer.len().min(LINE_ROOM)];
+    let Some(end) = memchr(b'\n', block) else {
+        return None;
+    };
+    let Ok(line) = read_line(&block[..end]) else {
+        return None;
+    };
+    reader.consume(end + 1);
+    Some(line)
 }
 
 /// Reads a line up to its newline, to the end of the input, or to its 257th byte. At a fault the line has what was read of it.
@@ -187,6 +205,11 @@ pub(crate) trait TakesLines<R, W: Write> {
     /// The bytes that the reader still gives, where they are known.
     ghost remaining: { R → Option (List ℕ) };
 
+    /// Takes the next line at once, if it is at hand and one of the forms. Else nothing is taken.
+    fn take_whole(reader: &mut R) -> Option<Line>
+        ensures taken { IfSome result (λ form. TakesForm form (remaining reader.old) (remaining reader.new)) }
+        ensures none { IfNone result (reader.new ≡ reader.old) };
+
     /// Reads a line up to its newline, to the end of the input, or to its 257th byte. At a fault the line has what was read of it.
     fn next_line(reader: &mut R, writer: &mut W, line: &mut LineBuffer) -> Result<LineEnd, RunFault>
         ensures read { IfOk result (λ end. (bytes : List ℕ) × EndsAs end line.new bytes
@@ -204,6 +227,10 @@ pub(crate) struct ByBytes;
 impl<R: Read, W: Write> TakesLines<R, W> for ByBytes {
     ghost remaining = { R.remaining };
 
+    fn take_whole(_reader: &mut R) -> Option<Line> {
+        None
+    }
+
     fn next_line(
         reader: &mut R,
         _writer: &mut W,
@@ -213,11 +240,15 @@ impl<R: Read, W: Write> TakesLines<R, W> for ByBytes {
     }
 }
 
-/// Out of a reader's buffer. Before the reader waits for more input, the replies are sent.
+/// Out of a reader's buffer, a whole line where it lies there. Before the reader waits for more input, the replies are sent.
 pub(crate) struct ByBlocks;
 
 impl<R: Read, W: Write + Drop> TakesLines<BufReader<R>, BufWriter<W>> for ByBlocks {
     ghost remaining = { reader_remaining R.remaining };
+
+    fn take_whole(reader: &mut BufReader<R>) -> Option<Line> {
+        take_whole(reader)
+    }
 
     fn next_line(
         reader: &mut BufReader<R>,

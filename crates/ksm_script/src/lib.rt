@@ -1,6 +1,7 @@
 //! Scripts: lines in, reply lines out. A line is a command of the book, or a lookup by one of the passes.
 #![tactic(auto)]
 
+mod hears;
 mod input;
 mod line_text;
 mod output;
@@ -12,9 +13,10 @@ mod script;
 mod session;
 mod worked;
 
+pub use hears::{Hears, Unheard};
 pub use pass_state::PassState;
 pub use refusal::Refusal;
 pub use reply::{LineReply, write_reply};
-pub use script::{End, RunFault, run, run_buffered};
+pub use script::{End, RunFault, run, run_buffered, run_heard};
 pub use session::Session;
 pub use worked::{command_lines, lookup_lines, reading_lines};

@@ -1,7 +1,6 @@
 //! Texts that are put together from their ends.
-ghost use Rattle.std.specs.Prelude.{◌≡◌, ◌+◌, ◌*◌, ◌<◌, ◌≤◌, ◌++◌, [], All, false, length, map, decimal};
+ghost use Rattle.std.specs.Prelude.{◌≡◌, ◌+◌, ◌*◌, ◌<◌, ◌≤◌, ◌∷◌, ◌++◌, [], All, false, length, map, decimal};
 ghost use Rattle.std.specs.Fmt.{digit_glyph};
-ghost use Rattle.ksm_script.specs.declared.line_text.TheConstants.{TEXT_ROOM as ROOM};
 ghost use Rattle.ksm_script.specs.Texts.{word_digits, content_text};
 
 use itoa::write_digits;
@@ -9,19 +8,21 @@ use ksm_base::{PAGE_WORDS, PageBytes};
 use std::marker::Model;
 use std::simd::prelude::*;
 
-/// How many bytes a text has at most: the counters are 68 bytes of names and seven numbers of 20 digits, and a page has 16 digits a word.
-const TEXT_ROOM: usize = 208 + 16 * PAGE_WORDS;
+/// How many digits a page is written in.
+pub const PAGE_DIGITS: usize = 16 * PAGE_WORDS;
 
-/// A text that is put together from its end. Contracts see its bytes.
+/// How many bytes a page's line has.
+const PAGE_LINE: usize = PAGE_DIGITS + 1;
+
+/// A text of at most so many bytes that is put together from its end. Contracts see its bytes.
 #[derive(Drop)]
-pub struct LineText {
-    bytes: [u8; TEXT_ROOM],
+pub struct LineText<const ROOM: usize> {
+    bytes: [u8; ROOM],
     start: usize,
 }
 
-impl Model for LineText {
+impl<const ROOM: usize> Model for LineText<ROOM> {
     ghost use Rattle.std.specs.Prelude.{◌≤◌, List, ℕ, drop};
-    ghost use Rattle.ksm_script.specs.declared.line_text.TheConstants.{TEXT_ROOM as ROOM};
 
     ghost Value = { List ℕ };
 
@@ -56,6 +57,7 @@ fn digits_of(word: u64) -> [u8; 16]
 }
 
 /// The digits of the words of a page.
+#[inline(always)]
 fn digits_of_words(content: &PageBytes) -> [[u8; 16]; PAGE_WORDS]
     ensures { result ≡ map word_digits content.now }
 {
@@ -66,15 +68,26 @@ fn digits_of_words(content: &PageBytes) -> [[u8; 16]; PAGE_WORDS]
     digits
 }
 
-impl LineText {
+/// The digits of a page's content, and a newline.
+#[inline(always)]
+pub fn page_line(content: &PageBytes) -> [u8; PAGE_LINE]
+    ensures { result ≡ content_text content.now ++ 10 ∷ [] }
+{
+    let digits = digits_of_words(content);
+    let mut line = [b'\n'; PAGE_LINE];
+    line[..PAGE_DIGITS].copy_from_slice(digits.as_flattened());
+    line
+}
+
+impl<const ROOM: usize> LineText<ROOM> {
     /// The text of no bytes.
     #[inline(always)]
-    pub fn new() -> LineText
+    pub fn new() -> LineText<ROOM>
         ensures { result ≡ [] }
     {
         LineText {
-            bytes: [0; TEXT_ROOM],
-            start: TEXT_ROOM,
+            bytes: [0; ROOM],
+            start: ROOM,
         }
     }
 
@@ -86,7 +99,8 @@ impl LineText {
     {
         let end = self.start;
         let start = end - bytes.len();
-        self.bytes[start..end].copy_from_slice(bytes);
+        let whole = &mut self.bytes[..];
+        whole[start..end].copy_from_slice(bytes);
         self.start = start;
     }
 
@@ -135,6 +149,7 @@ impl LineText {
     pub fn as_slice(&self) -> &[u8]
         ensures { result.now ≡ self.now }
     {
-        &self.bytes[self.start..]
+        let whole = &self.bytes[..];
+        &whole[self.start..]
     }
 }

@@ -6,7 +6,10 @@ ghost use Rattle.ksm_script.specs.Texts.{AppendsPart};
 use crate::script::RunFault;
 use std::io::Write;
 
+// A hint alone: a short text is then a few stores to the writer's buffer.
+
 /// Writes a text, or the beginning of it that the writer took before its fault.
+#[inline(always)]
 pub fn write_text<W: Write>(writer: &mut W, text: &[u8]) -> Result<(), RunFault>
     ensures whole { OnOk result (Appends (W.contents writer.old) (W.contents writer.new) text.now) }
     ensures fault { IfErr result (λ e. (e ≡ RunFault.Write)

@@ -6,7 +6,7 @@ ghost use Rattle.ksm_script.specs.Texts.{AppendsPart};
 ghost use Rattle.ksm_audit.specs.declared.report.Row.TheVariants.{Found as found_row, Gone as gone_row};
 ghost use Rattle.ksm_script.specs.Replies.{text_of, content_line, counted_text, stopped_text, counters_text, mapper_text, mappers_text, held_text, row_text, audit_text};
 
-use crate::line_text::LineText;
+use crate::line_text::{LineText, PAGE_DIGITS, page_line};
 use crate::output::write_text;
 use crate::refusal::Refusal;
 use crate::script::RunFault;
@@ -14,6 +14,15 @@ use frame_table::Why;
 use ksm_audit::{Report, Row};
 use ksm_base::{Counters, Fault, GuestPage, PageBytes};
 use std::io::Write;
+
+/// The most bytes of a reply with one or two numbers: 26 of names and the newline, and a number has 20 digits.
+const SHORT_ROOM: usize = 66;
+
+/// The most bytes of the counters: 68 of names, and seven numbers.
+const COUNTERS_ROOM: usize = 208;
+
+/// The most bytes of what an audit found at a place: 8 of names, a number, and a page.
+const FOUND_ROOM: usize = 28 + PAGE_DIGITS;
 
 /// A reply line, one variant for each form (own).
 #[derive(Drop)]
@@ -94,10 +103,7 @@ fn write_content<W: Write>(writer: &mut W, content: &PageBytes) -> Result<(), Ru
     ensures fault { IfErr result (λ e. (e ≡ RunFault.Write)
         × AppendsPart (W.contents writer.old) (W.contents writer.new) (content_line content.now)) }
 {
-    let mut text = LineText::new();
-    text.put_name("\n");
-    text.put_content(content);
-    write_text(writer, text.as_slice())
+    write_text(writer, &page_line(content))
 }
 
 /// Writes a name and a number.
@@ -107,7 +113,7 @@ fn write_count<W: Write>(writer: &mut W, name: &str, count: u64) -> Result<(), R
     ensures fault { IfErr result (λ e. (e ≡ RunFault.Write)
         × AppendsPart (W.contents writer.old) (W.contents writer.new) (counted_text name.now count)) }
 {
-    let mut text = LineText::new();
+    let mut text = LineText::<SHORT_ROOM>::new();
     text.put_name("\n");
     text.put_named(name, count);
     write_text(writer, text.as_slice())
@@ -128,7 +134,7 @@ fn write_stopped<W: Write>(
     let Some(fault) = stop else {
         return write_count(writer, name, count);
     };
-    let mut text = LineText::new();
+    let mut text = LineText::<SHORT_ROOM>::new();
     text.put_name("\n");
     text.put_named(" refused ", u64::from(fault.number()));
     text.put_named(name, count);
@@ -141,7 +147,7 @@ fn write_counters<W: Write>(writer: &mut W, counters: &Counters) -> Result<(), R
     ensures fault { IfErr result (λ e. (e ≡ RunFault.Write)
         × AppendsPart (W.contents writer.old) (W.contents writer.new) (counters_text counters.now)) }
 {
-    let mut text = LineText::new();
+    let mut text = LineText::<COUNTERS_ROOM>::new();
     text.put_name("\n");
     text.put_named(" full_scans=", counters.full_scans);
     text.put_named(" dups=", counters.dups);
@@ -159,7 +165,7 @@ fn write_mapper<W: Write>(writer: &mut W, page: GuestPage) -> Result<(), RunFaul
     ensures fault { IfErr result (λ e. (e ≡ RunFault.Write)
         × AppendsPart (W.contents writer.old) (W.contents writer.new) (mapper_text page)) }
 {
-    let mut text = LineText::new();
+    let mut text = LineText::<SHORT_ROOM>::new();
     text.put_named(":", u64::from(page.page));
     text.put_named(" ", u64::from(page.guest));
     write_text(writer, text.as_slice())
@@ -200,7 +206,7 @@ fn write_held<W: Write>(
     ensures fault { IfErr result (λ e. (e ≡ RunFault.Write)
         × AppendsPart (W.contents writer.old) (W.contents writer.new) (held_text name.now frame generation)) }
 {
-    let mut text = LineText::new();
+    let mut text = LineText::<SHORT_ROOM>::new();
     text.put_name("\n");
     text.put_named(" ", generation);
     text.put_named(name, u64::from(frame));
@@ -213,7 +219,7 @@ fn write_found<W: Write>(writer: &mut W, generation: u64, bytes: &PageBytes) -> 
     ensures fault { IfErr result (λ e. (e ≡ RunFault.Write)
         × AppendsPart (W.contents writer.old) (W.contents writer.new) (row_text (found_row generation bytes.now))) }
 {
-    let mut text = LineText::new();
+    let mut text = LineText::<FOUND_ROOM>::new();
     text.put_content(bytes);
     text.put_name(":");
     text.put_named(" found:", generation);
@@ -226,7 +232,7 @@ fn write_gone<W: Write>(writer: &mut W, why: Why) -> Result<(), RunFault>
     ensures fault { IfErr result (λ e. (e ≡ RunFault.Write)
         × AppendsPart (W.contents writer.old) (W.contents writer.new) (row_text (gone_row why))) }
 {
-    let mut text = LineText::new();
+    let mut text = LineText::<SHORT_ROOM>::new();
     text.put_named(" gone:", why.number());
     write_text(writer, text.as_slice())
 }

@@ -1,5 +1,5 @@
 //! Runs of a session over a reader and a writer.
-ghost use Rattle.std.specs.Prelude.{◌≡◌, All, Some, OnOk, IfErr};
+ghost use Rattle.std.specs.Prelude.{◌≡◌, All, Ok, Some, true, false, OnOk, IfErr};
 ghost use Rattle.std.specs.Io.Buffered.{reader_remaining, writer_contents};
 ghost use Rattle.std.specs.Io.KnownBytes.{Appends};
 ghost use Rattle.ksm_script.specs.declared.reply.LineReply.{LineReply};
@@ -7,9 +7,10 @@ ghost use Rattle.ksm_script.specs.Answering.{reply_text};
 ghost use Rattle.ksm_script.specs.Replies.{text_of};
 ghost use Rattle.ksm_script.specs.Lookups.{IsIdle};
 ghost use Rattle.ksm_script.specs.LastLine.{EndsBad};
-ghost use Rattle.ksm_script.specs.Script.{Goes, IsReadAs, Runs, streams};
+ghost use Rattle.ksm_script.specs.Script.{AnsweredOne, AnsweredPart, Goes, IsReadAs, Runs, streams};
 ghost use Rattle.ksm_script.specs.Texts.{AppendsPart};
 
+use crate::hears::{Hears, Unheard};
 use crate::input::{ByBlocks, ByBytes, LineEnd, TakesLines};
 use crate::reply::{LineReply, write_reply};
 use crate::session::Session;
@@ -57,7 +58,7 @@ pub fn run<N: Naming, T: Threads + Wait + Sync, R: Read, W: Write>(
     ensures line { EndsBad (R.remaining reader.old) (R.remaining reader.new) session.new.line result }
     ensures idle { All IsIdle session.new.state.passes }
 {
-    let ended = run_by::<ByBytes, N, T, R, W>(rt, reader, writer, session);
+    let ended = run_by::<ByBytes, Unheard, N, T, R, W>(rt, reader, writer, session, &mut Unheard);
     session.give_back();
     ended
 }
@@ -77,23 +78,52 @@ pub fn run_buffered<N: Naming, T: Threads + Wait + Sync, R: Read, W: Write + Dro
     ensures line { EndsBad (reader_remaining R.remaining reader.old) (reader_remaining R.remaining reader.new) session.new.line result }
     ensures idle { All IsIdle session.new.state.passes }
 {
-    let ended = run_by::<ByBlocks, N, T, BufReader<R>, BufWriter<W>>(rt, reader, writer, session);
+    run_heard(rt, reader, writer, session, &mut Unheard)
+}
+
+/// Answers each line as [`run_buffered`] does, and has each reply heard.
+pub fn run_heard<
+    H: Hears<BufWriter<W>>,
+    N: Naming,
+    T: Threads + Wait + Sync,
+    R: Read,
+    W: Write + Drop,
+>(
+    rt: &T,
+    reader: &mut BufReader<R>,
+    writer: &mut BufWriter<W>,
+    session: &mut Session<N>,
+    hears: &mut H,
+) -> Result<End, RunFault>
+    ensures ran { Runs (streams (reader_remaining R.remaining reader.old) (reader_remaining R.remaining reader.new)
+        (writer_contents W.contents writer.old) (writer_contents W.contents writer.new)) session.old.state session.new.state result }
+    ensures line { EndsBad (reader_remaining R.remaining reader.old) (reader_remaining R.remaining reader.new) session.new.line result }
+    ensures idle { All IsIdle session.new.state.passes }
+{
+    let ended = run_by::<ByBlocks, H, N, T, BufReader<R>, BufWriter<W>>(
+        rt, reader, writer, session, hears,
+    );
     session.give_back();
     ended
 }
 
-/// Answers each line, taken in this way.
-fn run_by<M: TakesLines<R, W>, N: Naming, T: Threads + Wait + Sync, R, W: Write>(
+/// Answers each line, taken in this way, and has each reply heard.
+fn run_by<M: TakesLines<R, W>, H: Hears<W>, N: Naming, T: Threads + Wait + Sync, R, W: Write>(
     rt: &T,
     reader: &mut R,
     writer: &mut W,
     session: &mut Session<N>,
+    hears: &mut H,
 ) -> Result<End, RunFault>
     ensures goes { Goes (streams (M.remaining reader.old) (M.remaining reader.new) (W.contents writer.old) (W.contents writer.new))
         session.old.state session.new.state result }
     ensures line { EndsBad (M.remaining reader.old) (M.remaining reader.new) session.new.line result }
 {
     'lines: for number in 1..u64::MAX {
+        let answered = answer_whole::<M, N, T, R, W>(rt, reader, writer, session, hears.listens())?;
+        if answered {
+            continue;
+        }
         let end = session.read_next::<M, R, W>(reader, writer)?;
         if end == LineEnd::Input && session.line().is_empty() {
             return Ok(End::AllRead);
@@ -105,12 +135,40 @@ fn run_by<M: TakesLines<R, W>, N: Naming, T: Threads + Wait + Sync, R, W: Write>
             write_reply(writer, &LineReply::BadLine(number))?;
             return Ok(End::BadLine(number));
         };
-        write_answer(writer, session.answer(rt, line))?;
+        let reply = session.answer(rt, line);
+        write_answer(writer, hears, number, session.line(), reply)?;
         if end == LineEnd::Input {
             return Ok(End::AllRead);
         }
     }
     Err(RunFault::Read)
+}
+
+/// Answers the next line at once, if it is at hand and one of the forms, and nobody hears the reply; tells whether it did. Else
+/// nothing is read.
+#[inline(always)]
+fn answer_whole<M: TakesLines<R, W>, N: Naming, T: Threads + Wait + Sync, R, W: Write>(
+    rt: &T,
+    reader: &mut R,
+    writer: &mut W,
+    session: &mut Session<N>,
+    is_heard: bool,
+) -> Result<bool, RunFault>
+    ensures answered { result ≡ Ok true → AnsweredOne (streams (M.remaining reader.old) (M.remaining reader.new) (W.contents writer.old) (W.contents writer.new))
+        session.old.state session.new.state }
+    ensures none { result ≡ Ok false → (session.new ≡ session.old) × (reader.new ≡ reader.old) × (writer.new ≡ writer.old) }
+    ensures fault { IfErr result (λ e. (e ≡ RunFault.Write)
+        × AnsweredPart (streams (M.remaining reader.old) (M.remaining reader.new) (W.contents writer.old) (W.contents writer.new))
+        session.old.state session.new.state) }
+{
+    if is_heard {
+        return Ok(false);
+    }
+    let Some(line) = M::take_whole(reader) else {
+        return Ok(false);
+    };
+    write_answer(writer, &mut Unheard, 0, b"", session.answer(rt, line))?;
+    Ok(true)
 }
 
 /// The line that was read last, if it is not too long and one of the forms.
@@ -123,14 +181,23 @@ fn line_of<N: Naming>(session: &Session<N>, end: LineEnd) -> Result<Line, LineFa
     read_line(session.line())
 }
 
-/// Writes the reply to a line, if it has one.
-fn write_answer<W: Write>(writer: &mut W, reply: Option<LineReply>) -> Result<(), RunFault>
+/// Writes the reply to a line, if it has one, and has it heard.
+fn write_answer<H: Hears<W>, W: Write>(
+    writer: &mut W,
+    hears: &mut H,
+    number: u64,
+    line: &[u8],
+    reply: Option<LineReply>,
+) -> Result<(), RunFault>
     ensures whole { OnOk result (Appends (W.contents writer.old) (W.contents writer.new) (reply_text reply)) }
     ensures fault { IfErr result (λ e. (e ≡ RunFault.Write) × (told : LineReply) × (reply ≡ Some told)
         × AppendsPart (W.contents writer.old) (W.contents writer.new) (text_of told)) }
 {
     match reply {
         None => Ok(()),
-        Some(reply) => write_reply(writer, &reply),
+        Some(reply) => {
+            write_reply(writer, &reply)?;
+            hears.hear(writer, number, line, &reply)
+        }
     }
 }

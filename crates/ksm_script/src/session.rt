@@ -127,7 +127,10 @@ impl<N: Naming> Session<N> {
         self.line.as_slice()
     }
 
+    // A hint alone, as at `told`: the line, and then the reply, stays in registers.
+
     /// Does what a line says.
+    #[inline(always)]
     pub(crate) fn answer<R: Threads + Wait + Sync>(
         &mut self,
         rt: &R,
@@ -154,6 +157,7 @@ impl<N: Naming> Session<N> {
 
     // The reply to a line that is no command of its own. Here no reply has a place but the caller's: one for each arm would have to be
     // cleared before each line.
+    #[inline(always)]
     fn told<R: Threads + Wait + Sync>(&mut self, rt: &R, line: Line) -> LineReply
         requires told { IsTold line }
         ensures answers { Answers line self.old.state (Some result) self.new.state }

@@ -10,10 +10,6 @@ pub prefix_self : {A : Type 0} (xs : List A) → IsPrefix xs xs
 prefix_self [] = ([], refl)
 prefix_self (x ∷ xs) = (let r = prefix_self xs in r.0, ap (λ ys. x ∷ ys) (prefix_self xs).1)
 
--- a list begins with what it had before more came
-pub prefix_more : {A : Type 0} (xs ys zs : List A) (more : List A) → IsPrefix xs ys → zs ≡ ys ++ more → IsPrefix xs zs
-prefix_more xs ys zs more p e = (p.0 ++ more, sym (append_assoc xs p.0 more) ∙ (ap (λ w. w ++ more) p.1 ∙ sym e))
-
 -- the beginning of a beginning is a beginning
 pub prefix_trans : {A : Type 0} (xs ys zs : List A) → IsPrefix xs ys → IsPrefix ys zs → IsPrefix xs zs
 prefix_trans xs ys zs p q = (p.0 ++ q.0, sym (append_assoc xs p.0 q.0) ∙ (ap (λ w. w ++ q.0) p.1 ∙ q.1))

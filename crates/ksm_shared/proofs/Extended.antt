@@ -1,8 +1,6 @@
 -- What a call under the lock tells its share.
-use Rattle.std.proofs.Common.{◌≡◌, ◌⊎◌, ◌<◌, ℕ, Bool, true, false, if◌then◌else◌, List, [], ◌∷◌, ◌++◌, refl, sym, ap, ◌∙◌, subst, arith, Option, Some, None, Ok, Err, eq-eqb, inl, inr}
+use Rattle.std.proofs.Common.{◌≡◌, ◌<◌, ℕ, Bool, true, false, if◌then◌else◌, List, [], ◌∷◌, ◌++◌, refl, sym, ap, ◌∙◌, subst, arith, Option, Some, None, Ok, Err, eq-eqb}
 use Rattle.std.proofs.lemmas.List.{append-nil}
-use Rattle.std.specs.Prelude.{MatchResult, Result}
-use mathlib.Core.List.{IsPrefix}
 use Rattle.atomic_table.specs.Table.{Me}
 use Rattle.ksm_base.specs.declared.command.Command.{Command}
 use Rattle.ksm_base.specs.declared.fault.Fault.TheVariants.{Memory, UnknownPage, AlreadyRegistered, NoFrame, NotRunning, SharedPages, BadValue, InUse, CrossesNodes, UnknownPlace, BadNode}
@@ -19,8 +17,7 @@ use Rattle.ksm_shared.specs.declared.seen.View.{View}
 use Rattle.ksm_shared.specs.Named.{PartsId}
 use Rattle.ksm_shared.specs.Seen.{entries, entries_by, Begins, OwnersBelow, caller, owned, first, added, book_view, IsShareSeat, IsBookSeat, Wrote}
 use Rattle.ksm_shared.specs.Locked.{made, made_by, said_of, part_of, state_seen, SeesOn, StepsAlone}
-use Rattle.ksm_shared.specs.Published.{ShownRow, list_of}
-use Rattle.ksm_shared.proofs.Beginnings.{prefix_self, prefix_trans}
+use Rattle.ksm_shared.specs.Published.{list_of}
 use Rattle.ksm_shared.proofs.Lists.{entries_by_append, entries_by_own, entries_append, owners_append}
 
 added_made : (g : Caller) (c : Command) (r : Answer) → added (g ∷ []) (said_of c r) ≡ made_by g.number c r
@@ -201,7 +198,7 @@ steps_alone states answers parts old new c r x one = by_memory (is_memory r) ref
         (or_memory (state_seen parts old) c r may.0, ap (replay start) more ∙ states start (entries old.seen) ((c, r) ∷ []))
 
 -- the entries after a command
-pub entries_grow : (log log' : List Owned) (number : ℕ) (c : Command) (r : Answer) → log' ≡ log ++ made_by number c r → entries log' ≡ entries log ++ made c r
+entries_grow : (log log' : List Owned) (number : ℕ) (c : Command) (r : Answer) → log' ≡ log ++ made_by number c r → entries log' ≡ entries log ++ made c r
 entries_grow log log' number c r is = ap entries is ∙ entries_append log (made_by number c r) ∙ ap (λ (l : List Entry). entries log ++ l) (entries_made number c r)
 
 list_said : (said : Option Entry) (c : Command) (r : Answer) → said ≡ said_of c r → list_of said ≡ made c r
@@ -221,17 +218,3 @@ follows_book j b b' c r said now next is = next ∙ journal_made b c r ∙ (λ i
 pub counters_seen : (parts : PartsId) (b : JournaledBook) (es : List Entry) → b.keeper.table ≡ parts.frames → b.journal ≡ es → IsLegal b.keeper.table.shape b.journal b.state
     → counters_of b.state ≡ counters_of (replay (opening parts.frames.shape) es)
 counters_seen parts b es own journal legal = ap counters_of (legal.leads ∙ (λ i. replay (opening (own i).shape) (journal i)))
-
--- where there was room the counters after all that was followed are shown, else those of before
-abbrev pub Shown : Result (Unit {0}) ShownRow → List Entry → List Entry → List Entry → Type 0
-Shown room old new journal = MatchResult room (λ _. new ≡ journal) (λ (x : ShownRow). (x.reached.journal ≡ journal) × (new ≡ old))
-
--- what is shown is all of the journal, or what was shown before
-pub shows_all_or_old : (room : Result (Unit {0}) ShownRow) (old new journal es' : List Entry) → Shown room old new journal → journal ≡ es' → (new ≡ es') ⊎ (new ≡ old)
-shows_all_or_old (Ok u) old new journal es' one all = inl (one ∙ all)
-shows_all_or_old (Err x) old new journal es' one all = inr one.1
-
--- what is shown begins the journal, before an entry and after it
-pub shown_begins : (room : Result (Unit {0}) ShownRow) (old new journal es es' more : List Entry) → Shown room old new journal → journal ≡ es' → IsPrefix old es → es' ≡ es ++ more → IsPrefix new es'
-shown_begins (Ok u) old new journal es es' more one all begins grows = subst (λ (l : List Entry). IsPrefix l es') (sym (one ∙ all)) (prefix_self es')
-shown_begins (Err x) old new journal es es' more one all begins grows = subst (λ (l : List Entry). IsPrefix l es') (sym one.1) (prefix_trans old es es' begins (more, sym grows))

@@ -14,13 +14,13 @@ use Rattle.ksm_shared.specs.declared.seen.Caller.{Caller}
 use Rattle.ksm_shared.specs.Named.{PartsId}
 use Rattle.ksm_shared.specs.Seen.{entries, entries_by, CallersFit, times, caller, owned, OwnersBelow}
 
--- the book, the entries of its journal with their owners, and the entries after which the counters stand that were published last
+-- the book, the entries of its journal with their owners, and the entries after which the counters stand that readers are shown
 pub record Locked : Type 0 where
   pub book : JournaledBook
   pub log : List Owned
   pub shown : List Entry
 
--- what contracts see of an answer: what the book answered, and the entries after which the counters stand that were published last
+-- what contracts see of an answer: what the book answered, and the entries after which the counters stand that it published
 pub record Answered : Type 0 where
   pub result : Answer
   pub shown : List Entry

@@ -52,11 +52,6 @@ RowsGoOn parts x views = IsRowOf parts x
 abbrev pub Shows : PartsId → Reached → ShownRow → ShownRow → Reached → Type 0
 Shows parts v x y w = IsRowOf parts y × IsPrefix v.journal y.reached.journal × (w ≡ y.reached)
 
--- the journal that a publisher has followed, and after how much of it the counters stand that readers are shown
-pub record Following : Type 0 where
-  pub journal : List Entry
-  pub shown : List Entry
-
 -- the entries of an optional one
 abbrev pub list_of : Option Entry → List Entry
 list_of None = []

@@ -6,8 +6,8 @@ use crate::rows::CountedRow;
 use ksm_base::{Fault, Reply};
 use std::marker::{Model, PhantomData};
 
-/// The answer to one command, made under the lock. Contracts see what the book answered, and the entries of the journal after which the
-/// counters stand that were published last.
+/// The answer to one command, made under the lock. Contracts see what the book answered, and the journal after which the counters stand that
+/// readers were shown by it.
 #[derive(Drop)]
 pub struct Answer<N: Naming> {
     pub(crate) result: Result<Reply, Fault>,
@@ -34,8 +34,7 @@ impl<N: Naming> Answer<N> {
         self.result
     }
 
-    /// The number of the row published last: how many entries of the journal it tells of. It is the journal's length, but where memory for
-    /// publishing was refused.
+    /// The number of the row that the command published: how many entries the journal then had.
     pub fn row(&self) -> u64
         ensures { result ≡ length self.now.shown }
     {

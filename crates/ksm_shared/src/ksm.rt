@@ -85,12 +85,12 @@ impl<N: Naming> Ksm<N> {
     }
 
     /// Makes a command. The share owns its entry, but for want of memory, and has then seen a legal journal that ends with it. The answer tells
-    /// after how many entries of that journal the counters stand that readers are shown.
+    /// how many entries that journal has, after which the counters stand that readers are shown.
     pub fn command<R: Wait>(&self, rt: &R, share: &mut Share<N>, command: Command) -> Answer<N>
         ensures seen { SeesOn N.parts share.old share.new (made_by share.old.number command result.result) }
         ensures part { part_of share.new ≡ part_of share.old ++ made command result.result }
         ensures alone { StepsAlone N.parts share.old share.new command result.result }
-        ensures shown { IsPrefix result.shown (entries share.new.seen) }
+        ensures shown { result.shown ≡ entries share.new.seen }
     {
         a_journal_goes_on();
         let mut merge = self.merge.lock(rt);

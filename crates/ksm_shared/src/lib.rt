@@ -6,7 +6,6 @@ mod beginning;
 mod ksm;
 mod merge;
 mod naming;
-mod no_room;
 mod opening;
 mod parts;
 mod publisher;

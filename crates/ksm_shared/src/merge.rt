@@ -1,6 +1,5 @@
 //! What lies under the merge lock.
-ghost use Rattle.std.specs.Prelude.{◌≡◌, ◌++◌, ◌<◌, ◌≤◌, ◌⊎◌, ℕ, [], Some, length, IfOk, IfErr, IfSome};
-ghost use mathlib.Core.List.{IsPrefix};
+ghost use Rattle.std.specs.Prelude.{◌≡◌, ◌++◌, ◌<◌, ◌≤◌, ℕ, [], Some, length, IfOk, IfErr, IfSome};
 ghost use Rattle.ksm_base.specs.Journal.{IsLegal, ReadsLastStored, journal_after, last_stored};
 ghost use Rattle.ksm_base.specs.Reading.{bytes_of};
 ghost use Rattle.ksm_base.specs.Sound.{IsSound};
@@ -26,10 +25,10 @@ use std::marker::{Model, PhantomData};
 use std::sync::Wait;
 
 /// The book with the keeper of its frames, its seat among the shares, and what publishes its counters. Contracts see the book, the entries of
-/// its journal with their owners, and the entries after which the counters stand that were published last.
+/// its journal with their owners, and the entries after which the counters stand that readers are shown.
 ///
 /// Whenever the lock is free: the book lies lawfully in the frames of the table of `N`, its journal is legal and leads to its state,
-/// each entry is owned by one of the shares of `N`, and what was published begins the journal (`lies_lawfully`).
+/// each entry is owned by one of the shares of `N`, and readers are shown the counters after the whole journal (`lies_lawfully`).
 pub struct Merge<N: Naming> {
     pub(crate) book: Book,
     pub(crate) seen: SeenTable,
@@ -41,20 +40,19 @@ pub struct Merge<N: Naming> {
 
 impl<N: Naming> Model for Merge<N> {
     ghost use Rattle.std.specs.Prelude.{◌≡◌, []};
-    ghost use mathlib.Core.List.{IsPrefix};
     ghost use Rattle.ksm_shared.specs.Locked.{Locked};
     ghost use Rattle.ksm_shared.specs.Seen.{OwnersBelow, book_view, entries};
 
     ghost Value = { Locked };
 
-    ghost view = { λ m. record { book = m.book; log = m.seat.me.0.log; shown = m.publisher.shown } };
+    ghost view = { λ m. record { book = m.book; log = m.seat.me.0.log; shown = m.publisher } };
 
-    ghost invariant = { λ m. (m.book.keeper.table ≡ N.parts.frames) × (m.book.journal ≡ entries m.seat.me.0.log) × (m.seen.shared.table_id ≡ N.parts.seen) × (m.seen.shared.table_id.words ≡ 1) × (m.seat.table_id ≡ N.parts.seen) × (m.seat.me ≡ (book_view m.seat.me.0.log N.parts.callers, [])) × OwnersBelow N.parts.callers m.seat.me.0.log × (m.callers ≡ N.parts.callers) × (m.publisher.journal ≡ entries m.seat.me.0.log) × IsPrefix m.publisher.shown (entries m.seat.me.0.log) };
+    ghost invariant = { λ m. (m.book.keeper.table ≡ N.parts.frames) × (m.book.journal ≡ entries m.seat.me.0.log) × (m.seen.shared.table_id ≡ N.parts.seen) × (m.seen.shared.table_id.words ≡ 1) × (m.seat.table_id ≡ N.parts.seen) × (m.seat.me ≡ (book_view m.seat.me.0.log N.parts.callers, [])) × OwnersBelow N.parts.callers m.seat.me.0.log × (m.callers ≡ N.parts.callers) × (m.publisher ≡ entries m.seat.me.0.log) };
 }
 
 impl<N: Naming> Merge<N> {
-    /// Makes a command for the share's caller, and publishes the counters after it. The share owns its entry, and has then seen the whole
-    /// journal. Where memory for publishing is refused, readers are shown the row of before, and the next command publishes.
+    /// Makes a command for the share's caller, and shows readers the counters after it. The share owns its entry, and has then seen the whole
+    /// journal.
     pub fn command<R: Wait>(
         &mut self,
         rt: &R,
@@ -69,9 +67,8 @@ impl<N: Naming> Merge<N> {
         ensures share { share.new ≡ caller share.old.number self.new.log }
         ensures seen { SeesOn N.parts share.old share.new (made_by share.old.number command result.result) }
         ensures part { part_of share.new ≡ part_of share.old ++ made command result.result }
-        ensures published { (self.new.shown ≡ entries self.new.log) ⊎ (self.new.shown ≡ self.old.shown) }
-        ensures begins { IsPrefix self.new.shown (entries self.new.log) }
-        ensures shown { result.shown ≡ self.new.shown }
+        ensures published { self.new.shown ≡ entries self.new.log }
+        ensures shown { result.shown ≡ entries self.new.log }
     {
         let result = self.book.apply(frames, command);
         self.book.lies_lawfully();
@@ -79,7 +76,7 @@ impl<N: Naming> Merge<N> {
         let table = &self.seen;
         write(&table.shared, &mut self.seat, &mut share.seat, &said);
         let counters = self.book.counters();
-        let _ = self.publisher.follow(rt, &said, counters);
+        self.publisher.follow(rt, &said, counters);
         Answer {
             result,
             row: self.publisher.newest(),
@@ -129,7 +126,7 @@ impl<N: Naming> Merge<N> {
         ensures stored { ReadsLastStored (entries self.now.log) self.now.book.state.rows }
         ensures journal { self.now.book.journal ≡ entries self.now.log }
         ensures owners { OwnersBelow N.parts.callers self.now.log }
-        ensures published { IsPrefix self.now.shown (entries self.now.log) }
+        ensures published { self.now.shown ≡ entries self.now.log }
     {
         self.book.lies_lawfully();
     }

@@ -134,7 +134,7 @@ fn take_readers<N: Naming>(
     readers: &mut Vec<CounterReader<N>>,
     count: u32,
 ) -> Result<(), Fault>
-    requires publisher { publisher.now.shown ≡ [] }
+    requires publisher { publisher.now ≡ [] }
     requires count { count ≡ N.parts.readers }
     requires room { (readers.old.items ≡ []) × (vec_len readers.old ≡ 0) × (count ≤ vec_capacity readers.old) }
     ensures readers { IfOk result (λ _. readers.new.items ≡ replicate count []) }

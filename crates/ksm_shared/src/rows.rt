@@ -1,11 +1,11 @@
-//! Rows of counters, and the two copies of the newest one that readers take with no lock.
-ghost use Rattle.std.specs.Prelude.{◌≡◌, ◌<◌, ◌^◌, ◌⊎◌, ◌∷◌, [], drop, IfOk, MatchResult};
+//! Rows of counters, and the two copies of the newest one that readers take with no lock. A row is written whole to the copy that no reader
+//! has, and readers take that one from then on; so to show a row takes no memory.
+ghost use Rattle.std.specs.Prelude.{◌≡◌, ◌<◌, ◌^◌, ◌⊎◌, IfOk};
 ghost use mathlib.Core.List.{IsPrefix};
-ghost use Rattle.ksm_shared.specs.Published.{IsRowOf, ShownRow};
+ghost use Rattle.ksm_shared.specs.Published.{IsRowOf};
 
 use crate::beginning::Beginning;
 use crate::naming::Naming;
-use crate::no_room::{NoRoom, take_room};
 use core::mem::replace_with;
 use crossbeam_utils::rule::{Outcome, Protocol};
 use ksm_base::Counters;
@@ -78,21 +78,15 @@ impl CountedRow {
     }
 }
 
-impl Absorb<CountedRow> for CountedRow {
-    type State = CountedRow;
+// No operation is logged for the copy that lacks it, so the two copies have nothing in common.
+impl Absorb<()> for CountedRow {
+    type State = ();
 
-    ghost state = { λ row. row };
+    ghost state = { λ _. tt };
 
-    ghost applied = { λ row newer. newer };
+    ghost applied = { λ nothing _. nothing };
 
-    ghost never_fails = { Unit {0} };
-
-    fn absorb_first(
-        &mut self,
-        operation: &CountedRow,
-        _other: &CountedRow,
-    ) -> Result<(), AllocError> {
-        *self = operation.again();
+    fn absorb_first(&mut self, _operation: &(), _other: &CountedRow) -> Result<(), AllocError> {
         Ok(())
     }
 }
@@ -120,10 +114,9 @@ impl<N: Naming> Outcome<CountedRow, Beginning> for RowsGoOn<N> {
 pub type RowReader<N> = Reader<CountedRow, Beginning, RowsGoOn<N>>;
 
 /// Writes both copies.
-pub type RowWriter<N> = Writer<CountedRow, CountedRow, Beginning, RowsGoOn<N>>;
+pub type RowWriter<N> = Writer<CountedRow, (), Beginning, RowsGoOn<N>>;
 
-/// The newest row, and the two copies of it that readers take, with nothing pending; where the book has no readers there are none. Contracts
-/// see the newest row.
+/// The newest row, and the two copies that readers take it from; where the book has no readers there are none. Contracts see the newest row.
 ///
 /// They must be closed.
 pub struct Rows<N: Naming> {
@@ -132,14 +125,14 @@ pub struct Rows<N: Naming> {
 }
 
 impl<N: Naming> Model for Rows<N> {
-    ghost use Rattle.std.specs.Prelude.{◌≡◌, [], drop, IfNone, IfSome};
+    ghost use Rattle.std.specs.Prelude.{◌≡◌, IfNone, IfSome};
     ghost use Rattle.ksm_shared.specs.Published.{IsRowOf, ShownRow};
 
     ghost Value = { ShownRow };
 
     ghost view = { λ r. r.newest };
 
-    ghost invariant = { λ r. IsRowOf N.parts r.newest × IfNone r.copies (N.parts.readers ≡ 0) × IfSome r.copies (λ w. (w.desk.shown.value ≡ r.newest) × (drop w.behind w.log.items ≡ [])) };
+    ghost invariant = { λ r. IsRowOf N.parts r.newest × IfNone r.copies (N.parts.readers ≡ 0) × IfSome r.copies (λ w. w.desk.shown.value ≡ r.newest) };
 }
 
 impl<N: Naming> Rows<N> {
@@ -179,17 +172,16 @@ impl<N: Naming> Rows<N> {
         &self.newest
     }
 
-    /// Shows the row. Where memory for it is refused, readers take the row of before.
-    pub fn show<R: Wait>(&mut self, rt: &R, row: CountedRow) -> Result<(), NoRoom>
+    /// Shows the row: who enters the copies from now on takes it. It waits for the readers of the row before the last one.
+    pub fn show<R: Wait>(&mut self, rt: &R, row: CountedRow)
         requires begins { IsPrefix self.old.reached.journal row.reached.journal }
         requires row { IsRowOf N.parts row }
-        ensures { MatchResult result (λ _. self.new ≡ row) (λ refused. (refused ≡ row) × (self.new ≡ self.old)) }
+        ensures { self.new ≡ row }
     {
         if let Some(copies) = &mut self.copies {
-            show_in(rt, copies, row.again())?;
+            replace_with(copies, (rt, row.again()), publish);
         }
         self.newest = row;
-        Ok(())
     }
 
     /// Ends the copies, once no reader is in them.
@@ -218,7 +210,7 @@ fn two_copies<N: Naming>(
 ) -> Result<RowWriter<N>, AllocError>
     requires readers { (0 < readers) × (readers < 2 ^ 32) }
     requires row { IsRowOf N.parts row.now }
-    ensures { IfOk result (λ w. (w.desk.shown.value ≡ row.now) × (drop w.behind w.log.items ≡ [])) }
+    ensures { IfOk result (λ w. w.desk.shown.value ≡ row.now) }
 {
     RowWriter::new(alloc, row.again(), row.again(), readers)
 }
@@ -227,31 +219,16 @@ fn new_reader<N: Naming>(writer: &RowWriter<N>) -> Result<RowReader<N>, AllocErr
     writer.factory().reader()
 }
 
-// Shows the row in the copies, where there is room for it.
-fn show_in<N: Naming, R: Wait>(
-    rt: &R,
-    writer: &mut RowWriter<N>,
-    row: CountedRow,
-) -> Result<(), NoRoom>
-    requires nothing { drop writer.old.behind writer.old.log.items ≡ [] }
-    requires begins { IsPrefix writer.old.desk.shown.value.reached.journal row.reached.journal }
-    requires row { IsRowOf N.parts row }
-    ensures nothing { drop writer.new.behind writer.new.log.items ≡ [] }
-    ensures shown { MatchResult result (λ _. writer.new.desk.shown.value ≡ row) (λ refused. (refused ≡ row) × (writer.new.desk.shown.value ≡ writer.old.desk.shown.value)) }
+// Writes the row to the copy that no reader has, and has readers take that copy.
+fn publish<N: Naming, R: Wait>(writer: RowWriter<N>, next: (&R, CountedRow)) -> (RowWriter<N>, ())
+    requires begins { IsPrefix writer.desk.shown.value.reached.journal next.1.reached.journal }
+    requires row { IsRowOf N.parts next.1 }
+    ensures { result.0.desk.shown.value ≡ next.entry.1 }
 {
-    take_room(writer, row)?;
-    let _ = replace_with(writer, rt, publish);
-    Ok(())
-}
-
-// Publishes the one row that is pending.
-fn publish<N: Naming, R: Wait>(
-    writer: RowWriter<N>,
-    rt: &R,
-) -> (RowWriter<N>, Result<(), AllocError>)
-    requires { (row : ShownRow) × (drop writer.behind writer.log.items ≡ row ∷ []) × IsPrefix writer.desk.shown.value.reached.journal row.reached.journal × IsRowOf N.parts row }
-    ensures nothing { drop result.0.behind result.0.log.items ≡ [] }
-    ensures shown { (row : ShownRow) → drop writer.behind writer.log.items ≡ row ∷ [] → result.0.desk.shown.value ≡ row }
-{
-    writer.publish_as::<RowsGoOn<N>, R>(rt)
+    let mut writer = writer;
+    let (rt, row) = next;
+    let (open, mut spare) = writer.desk.open(rt);
+    *spare = row;
+    writer.desk = open.show_as::<RowsGoOn<N>>(spare);
+    (writer, ())
 }

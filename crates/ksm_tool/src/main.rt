@@ -5,5 +5,5 @@
 use ksm_host::{Outcome, run_on};
 
 fn main(rt: HostRuntime) -> Outcome {
-    run_on(&rt, &rt)
+    run_on(&rt, &rt, &rt.stderr())
 }

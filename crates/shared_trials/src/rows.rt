@@ -74,8 +74,7 @@ fn answers_tell_the_newest_row(rt: HostRuntime) -> Result<(), Fail> {
 
 const MANY: u64 = 5_000;
 
-// Commands that fall behind: after each of so many stores the row that the answer tells, and the row that a reader which learnt nothing
-// is shown, should be the journal's length. Answers how many were not.
+// After each of so many stores a reader that learnt nothing should be shown the journal's row. Answers how often it was not.
 fn behind<N: Naming>(
     rt: &impl Wait,
     ksm: &Ksm<N>,
@@ -85,9 +84,9 @@ fn behind<N: Naming>(
     let mut behind = 0u64;
     for entries in 1..MANY {
         let byte = (entries % 250) as u8;
-        let answer = ksm.command(rt, share, store(0, 0, byte));
+        ksm.command(rt, share, store(0, 0, byte));
         let shown = ksm.counters_now(reader).map(|row| row.number);
-        if answer.row() != entries || shown != Some(entries) {
+        if shown != Some(entries) {
             behind = behind.saturating_add(1);
         }
     }

@@ -2,7 +2,7 @@ use Rattle.std.proofs.Common.{rules, ◌≡◌}
 use Rattle.std.specs.Prelude.{IsSomeAnd}
 use Rattle.frame_table.specs.Named.{PassView}
 use Rattle.book_trials.specs.declared.table.Worker.{Worker}
-use Rattle.frame_table.proofs.Elements.{all_put, all_left, one_taken}
+use Rattle.frame_table.proofs.Above.{all_put, all_left, one_taken}
 use Rattle.book_trials.proofs.table.crowd.Goals as goal
 
 pub loop-pass-preserved : goal.loop-pass-preserved

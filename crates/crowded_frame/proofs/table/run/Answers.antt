@@ -2,7 +2,7 @@ use Rattle.std.proofs.Common.{rules, ◌≡◌}
 use Rattle.std.specs.Prelude.{IsSomeAnd}
 use Rattle.frame_table.specs.Named.{PassView}
 use Rattle.crowded_frame.specs.declared.reader.Reader.{Reader}
-use Rattle.frame_table.proofs.Elements.{all_put, all_left, one_taken}
+use Rattle.frame_table.proofs.Above.{all_put, all_left, one_taken}
 use Rattle.crowded_frame.proofs.table.run.Goals as goal
 
 pub loop-pass-preserved : goal.loop-pass-preserved

@@ -1,6 +1,5 @@
 use Rattle.std.proofs.Common.{◌≡◌, ℕ, List, [], ◌∷◌, replicate, None, refl}
-use Rattle.ksm_base.specs.declared.page.TheConstants.{PAGE_WORDS}
-use Rattle.frame_core.specs.Worked.{aim_at}
+use Rattle.frame_core.proofs.Names.{PAGE_WORDS, aim_at}
 use Rattle.frame_core.proofs.worked.a_held_frame_that_is_given_or_written.Goals as goal
 
 pub returns-clause-raised : goal.returns-clause-raised

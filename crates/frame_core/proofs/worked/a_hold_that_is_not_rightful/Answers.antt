@@ -1,10 +1,7 @@
 use Rattle.std.proofs.Common.{◌≡◌, ℕ, Bool, true, false, [], Option, Some, refl, ap, arith}
 use Rattle.std.proofs.lemmas.Option.{same_Some}
 use Rattle.std.proofs.lemmas.List.Elements.{All-cons, All-nil, All-head}
-use Rattle.frame_core.specs.declared.event.Event.TheVariants.{Reader}
-use Rattle.frame_core.specs.declared.event.ReaderStep.TheVariants.{LoadWord}
-use Rattle.frame_core.specs.Trace.{named_word}
-use Rattle.frame_core.specs.Worked.{and_then}
+use Rattle.frame_core.proofs.Names.{Reader, LoadWord, named_word, and_then}
 use Rattle.frame_core.proofs.worked.a_hold_that_is_not_rightful.Goals as goal
 
 abbrev Named : ℕ → ℕ × ℕ → Type 0

@@ -1,7 +1,5 @@
 use Rattle.std.proofs.Common.{ap, sym, ◌∙◌}
-use Rattle.ksm_base.specs.Values.{frames_of}
-use Rattle.frame_core.specs.State.{count_in}
-use Rattle.frame_core.specs.Words.{frame_word_at}
+use Rattle.frame_table.proofs.CoreNames.{frames_of, count_in, frame_word_at}
 use Rattle.frame_table.proofs.Looks.{counted}
 use Rattle.frame_table.proofs.pass.try_round.Goals as goal
 

@@ -1,5 +1,6 @@
-use Rattle.std.proofs.Common.{[], ◌∷◌, refl, arith}
-use Rattle.frame_table.proofs.NoLookups.{old_same_life, old_unreferenced, old_exchanged, old_tried_there}
+use Rattle.std.proofs.Common.{◌≡◌, ℕ, [], ◌∷◌, sym, ap, ◌∙◌, refl, arith}
+use Rattle.frame_table.proofs.CoreNames.{life_at, count_in, life_in}
+use Rattle.frame_table.proofs.NoLookups.{words}
 use Rattle.frame_table.proofs.worked.lookups_of_an_old_life.Goals as goal
 
 pub returns-clause-at_once : goal.returns-clause-at_once
@@ -17,13 +18,23 @@ returns-clause-after_a_loss c = (
 )
 
 pub returns-clause-same_life : goal.returns-clause-same_life
-returns-clause-same_life c = λ t. old_same_life t.0 t.1 t.2 t.5 t.6
+returns-clause-same_life c (word, [], last, goes, some, another, e) =
+    let w : 196610 ≡ last = cc (words e) in let p : 3072 ≡ word = cc (words e) in another (sym (ap life_in w) ∙ ap (λ (n : ℕ). (life_at n).generation) p)
+returns-clause-same_life c (word, x ∷ xs, last, goes, some, another, e) = cc (e)
 
 pub returns-clause-unreferenced : goal.returns-clause-unreferenced
-returns-clause-unreferenced c = λ t. old_unreferenced t.0 t.1 t.2 t.4 t.6
+returns-clause-unreferenced c (word, [], last, goes, some, another, e) = let w : 262144 ≡ last = cc (words e) in some (sym (ap count_in w))
+returns-clause-unreferenced c (word, x ∷ xs, last, goes, some, another, e) = cc (e)
 
 pub returns-clause-exchanged : goal.returns-clause-exchanged
-returns-clause-exchanged c = λ t. old_exchanged t.0 t.1 t.2 t.6
+returns-clause-exchanged c (word, [], last, goes, some, another, e) = cc (e)
+returns-clause-exchanged c (word, x ∷ [], last, goes, some, another, e) = cc (e)
+returns-clause-exchanged c (word, x ∷ y ∷ xs, last, goes, some, another, e) = cc (e)
 
 pub returns-clause-tried_there : goal.returns-clause-tried_there
-returns-clause-tried_there c = λ t. old_tried_there t.0 t.1 t.2 t.3.1 t.6
+returns-clause-tried_there c (word, [], last, goes, some, another, e) = cc (e)
+returns-clause-tried_there c (word, x ∷ xs, last, (named, lost, few), some, another, e) =
+    let w : 262146 ≡ x.0 = cc (words e) in
+    let p : 3072 ≡ word = cc (words e) in
+    let n : 4 ≡ 3 = ap life_in w ∙ (lost.0.1 ∙ sym (ap (λ (n : ℕ). (life_at n).generation) p)) in
+    omega (arith, n)

@@ -1,5 +1,6 @@
-use Rattle.std.proofs.Common.{[], ◌∷◌, refl, arith}
-use Rattle.frame_table.proofs.NoLookups.{zero_after_all_tries, zero_after_no_loss, zero_referenced}
+use Rattle.std.proofs.Common.{◌≡◌, [], ◌∷◌, ap, ◌∙◌, refl, arith}
+use Rattle.frame_core.specs.State.{count_in}
+use Rattle.frame_table.proofs.NoLookups.{words, made}
 use Rattle.frame_table.proofs.worked.lookups_of_an_unreferenced_frame.Goals as goal
 
 pub returns-clause-at_once : goal.returns-clause-at_once
@@ -19,10 +20,15 @@ returns-clause-after_a_loss c = (
 )
 
 pub returns-clause-after_all_tries : goal.returns-clause-after_all_tries
-returns-clause-after_all_tries c = λ t. zero_after_all_tries t.0 t.1 t.2 t.3.2 t.5
+returns-clause-after_all_tries c (word, [], last, goes, none, e) = cc (e)
+returns-clause-after_all_tries c (word, x ∷ [], last, goes, none, e) = cc (e)
+returns-clause-after_all_tries c (word, x ∷ y ∷ xs, last, (named, lost, few), none, e) = omega (arith, few)
 
 pub returns-clause-after_no_loss : goal.returns-clause-after_no_loss
-returns-clause-after_no_loss c = λ t. zero_after_no_loss t.0 t.1 t.2 t.3.1 t.5
+returns-clause-after_no_loss c (word, [], last, goes, none, e) = cc (e)
+returns-clause-after_no_loss c (word, x ∷ xs, last, (named, lost, few), none, e) = made _ xs x lost (cc (words e))
 
 pub returns-clause-referenced : goal.returns-clause-referenced
-returns-clause-referenced c = λ t. zero_referenced t.0 t.1 t.2 t.4 t.5
+returns-clause-referenced c (word, [], last, goes, none, e) =
+    let w : 196609 ≡ last = cc (words e) in let n : 1 ≡ 0 = ap count_in w ∙ none in omega (arith, n)
+returns-clause-referenced c (word, x ∷ xs, last, goes, none, e) = cc (e)

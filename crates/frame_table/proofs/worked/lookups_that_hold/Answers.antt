@@ -1,5 +1,6 @@
-use Rattle.std.proofs.Common.{[], ◌∷◌, refl, arith}
-use Rattle.frame_table.proofs.NoLookups.{held_another_life, held_another_frame, held_uncompared, held_lost, held_from_zero, held_after_all_tries, held_not_exchanged}
+use Rattle.std.proofs.Common.{◌≡◌, ℕ, [], ◌∷◌, ap, sym, ◌∙◌, refl, arith}
+use Rattle.frame_table.proofs.CoreNames.{life_at, count_in, life_in}
+use Rattle.frame_table.proofs.NoLookups.{words, made}
 use Rattle.frame_table.proofs.worked.lookups_that_hold.Goals as goal
 
 pub returns-clause-at_once : goal.returns-clause-at_once
@@ -18,22 +19,34 @@ returns-clause-after_a_loss c = (
 )
 
 pub returns-clause-another_life : goal.returns-clause-another_life
-returns-clause-another_life c = λ t. held_another_life t.0 t.1 t.2 t.6 t.7
+returns-clause-another_life c (word, xs, last, goes, alive, frame, life, e) =
+    let p : 3072 ≡ word = cc (words e) in let n : 4 ≡ 3 = life ∙ sym (ap (λ (n : ℕ). (life_at n).generation) p) in omega (arith, n)
 
 pub returns-clause-another_frame : goal.returns-clause-another_frame
-returns-clause-another_frame c = λ t. held_another_frame t.0 t.1 t.2 t.5 t.7
+returns-clause-another_frame c (word, xs, last, goes, alive, frame, life, e) =
+    let p : 3072 ≡ word = cc (words e) in let n : 1 ≡ 0 = frame ∙ sym (ap (λ (n : ℕ). (life_at n).frame) p) in omega (arith, n)
 
 pub returns-clause-uncompared : goal.returns-clause-uncompared
-returns-clause-uncompared c = λ t. held_uncompared t.0 t.1 t.2 t.3.1 t.4 t.7
+returns-clause-uncompared c (word, [], last, goes, alive, frame, life, e) =
+    let w : 262146 ≡ last = cc (words e) in let n : 4 ≡ 3 = ap life_in w ∙ alive.1 in omega (arith, n)
+returns-clause-uncompared c (word, x ∷ xs, last, (named, lost, few), alive, frame, life, e) = made _ xs x lost (cc (words e))
 
 pub returns-clause-lost : goal.returns-clause-lost
-returns-clause-lost c = λ t. held_lost t.0 t.1 t.2 t.7
+returns-clause-lost c (word, [], last, goes, alive, frame, life, e) =
+    let a : 196610 ≡ last = cc (words e) in let b : 196609 ≡ last = cc (words e) in omega (arith, a, b)
+returns-clause-lost c (word, x ∷ [], last, goes, alive, frame, life, e) = cc (e)
+returns-clause-lost c (word, x ∷ y ∷ xs, last, goes, alive, frame, life, e) = cc (e)
 
 pub returns-clause-from_zero : goal.returns-clause-from_zero
-returns-clause-from_zero c = λ t. held_from_zero t.0 t.1 t.2 t.4 t.7
+returns-clause-from_zero c (word, [], last, goes, alive, frame, life, e) = let w : 196608 ≡ last = cc (words e) in alive.0 (sym (ap count_in w))
+returns-clause-from_zero c (word, x ∷ [], last, goes, alive, frame, life, e) = cc (e)
+returns-clause-from_zero c (word, x ∷ y ∷ xs, last, goes, alive, frame, life, e) = cc (e)
 
 pub returns-clause-after_all_tries : goal.returns-clause-after_all_tries
-returns-clause-after_all_tries c = λ t. held_after_all_tries t.0 t.1 t.2 t.3.2 t.7
+returns-clause-after_all_tries c (word, [], last, goes, alive, frame, life, e) = cc (e)
+returns-clause-after_all_tries c (word, x ∷ [], last, goes, alive, frame, life, e) = cc (e)
+returns-clause-after_all_tries c (word, x ∷ y ∷ xs, last, (named, lost, few), alive, frame, life, e) = omega (arith, few)
 
 pub returns-clause-not_exchanged : goal.returns-clause-not_exchanged
-returns-clause-not_exchanged c = λ t. held_not_exchanged t.0 t.1 t.2 t.7
+returns-clause-not_exchanged c (word, [], last, goes, alive, frame, life, e) = cc (e)
+returns-clause-not_exchanged c (word, x ∷ xs, last, goes, alive, frame, life, e) = cc (e)

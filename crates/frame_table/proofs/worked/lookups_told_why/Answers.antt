@@ -1,8 +1,6 @@
 use Rattle.std.proofs.Common.{[], ◌∷◌, refl, sym, subst, arith}
-use Rattle.frame_core.specs.declared.event.ReaderStep.TheVariants.{LoadPlace}
-use Rattle.ksm_base.specs.declared.shape.Shape.{Shape}
-use Rattle.frame_table.specs.Lookup.{IsZero, IsOld}
-use Rattle.frame_table.specs.Worked.{named, loads}
+use Rattle.frame_table.proofs.CoreNames.{LoadPlace, Shape}
+use Rattle.frame_table.proofs.Names.{IsZero, IsOld, named, loads}
 use Rattle.frame_table.proofs.worked.lookups_told_why.Goals as goal
 
 pub returns-clause-zero : goal.returns-clause-zero

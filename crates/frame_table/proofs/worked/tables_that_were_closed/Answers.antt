@@ -1,7 +1,5 @@
 use Rattle.std.proofs.Common.{◌≡◌, ℕ, ◌<◌, zero, suc, refl, arith}
-use Rattle.frame_core.specs.State.{count_in, life_in, place_word}
-use Rattle.frame_core.specs.Ledger.{frame_at, named_at}
-use Rattle.frame_core.specs.Words.{frame_word_at}
+use Rattle.frame_table.proofs.CoreNames.{count_in, life_in, place_word, frame_at, named_at, frame_word_at}
 use Rattle.std.specs.Prelude.{slice_index}
 use Rattle.frame_table.specs.Worked.{ended, closed}
 use Rattle.frame_table.proofs.worked.tables_that_were_closed.Goals as goal

@@ -1,5 +1,5 @@
 use Rattle.std.proofs.Common.{◌∙◌, ap, arith}
-use Rattle.frame_table.proofs.Elements.{all_left, one_taken}
+use Rattle.frame_table.proofs.Above.{all_left, one_taken}
 use Rattle.ksm_audit.specs.declared.job.Job.{Job}
 use Rattle.ksm_audit.specs.Working.{Sat}
 use Rattle.ksm_audit.specs.Gathering.{IsThrough}

@@ -2,7 +2,7 @@ use Rattle.std.proofs.Common.{◌≡◌, ◌∙◌, [], ap, refl, arith}
 use Rattle.std.specs.Global.{Vec}
 use Rattle.ksm_base.specs.Values.{frames_of}
 use Rattle.frame_table.specs.Named.{PassView}
-use Rattle.frame_table.proofs.Elements.{all_put, all_left, one_taken}
+use Rattle.frame_table.proofs.Above.{all_put, all_left, one_taken}
 use Rattle.ksm_audit.specs.declared.job.Job.{Job}
 use Rattle.ksm_audit.specs.declared.job.Line.{Line}
 use Rattle.ksm_audit.specs.Claims.{worker_hand}

@@ -1,5 +1,5 @@
 use Rattle.std.proofs.Common.{ap, ◌∙◌, arith, rules}
-use Rattle.frame_table.proofs.Compared.{same_hold, reads_more}
+use Rattle.frame_table.proofs.Above.{same_hold, reads_more}
 use Rattle.ksm_ffi.proofs.Read.{one_more_read}
 use Rattle.ksm_ffi.proofs.reader.read_all.Goals as goal
 

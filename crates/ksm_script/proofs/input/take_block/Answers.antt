@@ -1,21 +1,9 @@
-use Rattle.std.proofs.Common.{rules, ◌≡◌, ◌≤◌, ◌<◌, ◌+◌, ◌++◌, ◌∷◌, [], length, take, drop, get_or, refl, sym, ap, subst, ◌∙◌, arith, append_assoc, length-append}
+use Rattle.std.proofs.Common.{◌≡◌, ◌≤◌, ◌<◌, ◌+◌, ◌++◌, ◌∷◌, [], length, take, drop, get_or, refl, sym, ap, subst, ◌∙◌, arith, append_assoc, length-append}
 use Rattle.std.proofs.lemmas.List.{length-take}
 use Rattle.ksm_script.specs.Input.{IsPlain}
 use Rattle.ksm_script.specs.Takes.{Extends}
-use Rattle.ksm_script.proofs.Blocks.{begins_with, taken_from, up_to_newline, up_to_end, is_plain_before, is_plain_block, plain_with, extends_so}
+use Rattle.ksm_script.proofs.Blocks.{taken_from, up_to_newline, up_to_end, is_plain_before, is_plain_block, plain_with, extends_so}
 use Rattle.ksm_script.proofs.input.take_block.Goals as goal
-
-pub returns-in-10-clause-taken : goal.returns-in-10-clause-taken
-returns-in-10-clause-taken g c =
-    let buffer = c.buffer-buffer.result.now in
-    let first : get_or buffer 0 0 ≡ 10 = search rules in
-    let split : buffer ≡ (10 ∷ []) ++ drop 1 buffer = begins_with buffer first c.in-10.len_at_least in
-    let left = ap (drop 1) c.buffer-buffer.ensures ∙ sym c.consume.ensures.buffer in (
-      10 ∷ [],
-      (refl, c.requires.room),
-      taken_from _ _ _ _ _ _ _ c.consume.ensures.capacity (ap g.R.Read.remaining c.consume.ensures.inner)
-          (sym c.buffer-buffer.ensures ∙ split ∙ ap (λ l. (10 ∷ []) ++ l) left),
-    )
 
 pub returns-in-Some-clause-taken : goal.returns-in-Some-clause-taken
 returns-in-Some-clause-taken g c =
@@ -25,13 +13,13 @@ returns-in-Some-clause-taken g c =
     let found = c.in-Some.ensures in
     let part = take at (take n buffer) in
     let split : buffer ≡ (part ++ 10 ∷ []) ++ drop (at + 1) buffer = up_to_newline buffer n at found.0.high found.1 in
-    let left = ap (drop (at + 1)) c.buffer-buffer.ensures ∙ sym c.consume-in-Some.ensures.buffer in
+    let left = ap (drop (at + 1)) c.buffer-buffer.ensures ∙ sym c.consume.ensures.buffer in
     let long = length-append c.args.line.now part in
     let less : length part < n = omega (arith, length-take at (take n buffer), length-take n buffer, found.0.high) in
     let fits : length c.extend.new.self ≤ 256 = omega (arith, less, ap length c.extend.ensures, long) in (
       part ++ 10 ∷ [],
       (sym (append_assoc c.args.line.now _ _) ∙ ap (λ l. l ++ 10 ∷ []) (sym c.extend.ensures), fits),
-      taken_from _ _ _ _ _ _ _ c.consume-in-Some.ensures.capacity (ap g.R.Read.remaining c.consume-in-Some.ensures.inner)
+      taken_from _ _ _ _ _ _ _ c.consume.ensures.capacity (ap g.R.Read.remaining c.consume.ensures.inner)
           (sym c.buffer-buffer.ensures ∙ split ∙ ap (λ l. (part ++ 10 ∷ []) ++ l) left),
     )
 

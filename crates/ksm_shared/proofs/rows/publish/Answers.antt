@@ -1,14 +1,11 @@
-use Rattle.std.proofs.Common.{◌≡◌, ◌∙◌, ap, sym, subst, fold, List}
-use Rattle.crossbeam_utils.specs.Register.{TurnsAt}
-use Rattle.ksm_shared.specs.Published.{RowsGoOn, ShownRow, Shows}
+use Rattle.std.proofs.Common.{ap, subst, sym}
+use mathlib.Core.List.{IsPrefix}
+use Rattle.ksm_shared.specs.Published.{ShownRow}
 use Rattle.ksm_shared.proofs.Showing.{turns}
 use Rattle.ksm_shared.proofs.rows.publish.Goals as goal
 
-pub publish_as-requires : goal.publish_as-requires
-publish_as-requires g c next is =
-    let parts = g.N.Naming.parts in
-    let row = c.requires.0 in
-    let now = c.args.writer.desk.shown.value in
-    let place = c.args.writer.desk.place in
-    let same : next ≡ row = is ∙ ap (λ (l : List ShownRow). fold (λ (s o : ShownRow). o) now l) c.requires.1 in
-    subst (λ (y : ShownRow). TurnsAt (RowsGoOn parts) place.id place.me.0.client now y (Shows parts)) (sym same) (turns _ _ _ now row c.requires.2 (λ _. c.requires.3))
+pub show_as-requires : goal.show_as-requires
+show_as-requires g c =
+    let row = c.args.next.1 in
+    let begins = subst (λ (shown : ShownRow). IsPrefix shown.reached.journal row.reached.journal) (sym (ap (λ part. part.value) c.open-open.ensures.values.0)) c.requires.begins in
+    turns _ _ _ _ row begins (λ _. c.requires.row)

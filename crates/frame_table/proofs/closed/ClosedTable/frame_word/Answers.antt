@@ -1,8 +1,6 @@
 use Rattle.std.proofs.Common.{◌≡◌, ℕ, ◌+◌, ◌*◌, get_or, ap, ◌∙◌, arith}
 use Rattle.std.specs.Mem.Slots.{slots_items}
-use Rattle.ksm_base.specs.Values.{frames_of}
-use Rattle.frame_core.specs.declared.frame.TheConstants.{LINE_WORDS}
-use Rattle.frame_core.specs.Words.{frame_word_at}
+use Rattle.frame_table.proofs.CoreNames.{frames_of, LINE_WORDS, frame_word_at}
 use Rattle.frame_table.specs.Named.{ClosedView}
 use Rattle.frame_table.proofs.Looked.{found_at}
 use Rattle.frame_table.proofs.closed.ClosedTable.frame_word.Goals as goal

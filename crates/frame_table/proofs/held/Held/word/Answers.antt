@@ -1,9 +1,5 @@
 use Rattle.std.proofs.Common.{◌≡◌, ap, ◌∙◌, subst, sym}
-use Rattle.ksm_base.specs.declared.shape.Shape.{Shape}
-use Rattle.ksm_base.specs.Values.{frames_of}
-use Rattle.frame_core.specs.Words.{page_at}
-use Rattle.frame_core.specs.declared.seat.Phase.TheVariants.{Held as held}
-use Rattle.frame_table.specs.Seat.{aim_at}
+use Rattle.frame_table.proofs.CoreNames.{Shape, frames_of, page_at, Held as held, aim_at}
 use Rattle.frame_table.specs.Views.{IsIn, shape_in, known_in}
 use Rattle.frame_table.proofs.held.Held.word.Goals as goal
 
@@ -11,4 +7,4 @@ pub load_word-requires-clause-phase : goal.load_word-requires-clause-phase
 load_word-requires-clause-phase c =
     let i = c.self.inside in
     let same : shape_in i.seat.me ≡ c.args.table.now.shape = ap (λ h. h.table.shape) c.self.view_is ∙ ap (λ n. n.shape) c.requires.own in
-    (aim_at i.place i.frame i.generation, known_in i.seat.me, sym (subst (λ (s : Shape). i.page ≡ page_at (frames_of s) i.frame) same c.self.invariant.5), subst (λ (s : Shape). IsIn s (held (aim_at i.place i.frame i.generation) (known_in i.seat.me)) i.seat.me) same c.self.invariant.0)
+    (aim_at i.place i.frame i.generation, known_in i.seat.me, sym (subst (λ (s : Shape). i.page ≡ page_at (frames_of s) i.frame) same c.self.invariant.page), subst (λ (s : Shape). IsIn s (held (aim_at i.place i.frame i.generation) (known_in i.seat.me)) i.seat.me) same c.self.invariant.seat)

@@ -1,13 +1,7 @@
 use Rattle.std.proofs.Common.{rules, ◌≡◌, ℕ, ◌<◌, [], ◌∷◌, ◌++◌, eqb, arith, ap, subst, ◌∙◌, sym, refl, append_assoc}
-use Rattle.ksm_base.specs.declared.shape.Shape.{Shape}
-use Rattle.frame_core.specs.declared.event.ReaderStep.TheVariants.{LoadFrame, Exchange}
-use Rattle.frame_core.specs.declared.seat.Life.{Life}
-use Rattle.frame_core.specs.declared.seat.Phase.TheVariants.{Idle}
-use Rattle.frame_core.specs.Seat.{aim_of}
-use Rattle.frame_table.specs.declared.pass.Round.TheVariants.{Zero, Old, Won}
-use Rattle.frame_table.specs.Lookup.{opening, IsAlive}
-use Rattle.frame_table.specs.Views.{Log, IsIn, shape_in, log_in, known_in}
-use Rattle.frame_table.proofs.Looks.{Tries, begins, stands, last_round, goes_on, named, same_table, ended}
+use Rattle.frame_table.proofs.CoreNames.{Shape, LoadFrame, Exchange, Life, Idle, aim_of}
+use Rattle.frame_table.proofs.Names.{Zero, Old, Won, lookup_so_far, IsAlive, ReaderLog, IsIn, shape_in, log_in, known_in}
+use Rattle.frame_table.proofs.Looks.{Tries, begins, stands, last_round, goes_on, word_names, same_table, tried_so_far}
 use Rattle.frame_table.proofs.pass.Pass.find.Goals as goal
 
 pub try_round-requires-clause-phase : goal.try_round-requires-clause-phase
@@ -16,7 +10,7 @@ try_round-requires-clause-phase c =
     let more : c.rounds.i < c.args.table.now.shape.tries = omega (arith, c.tries-i-end.ensures.0) in (
       aim_of c.args.place c.load_place-named.result,
       c.rounds.i,
-      (named w c.in-Some.life (eqb w 0) refl (sym c.of_word.ensures ∙ c.in-Some.is)).1,
+      (word_names w c.in-Some.life (eqb w 0) refl (sym c.of_word.ensures ∙ c.in-Some.is)).1,
       stands c.args.table.now.shape c.args.place c.load_place-named.result c.args.self.log c.rounds.i c.rounds.seat.me c.rounds.invariant.1 more,
     )
 
@@ -30,14 +24,14 @@ rounds-preserved c =
 pub rounds-init : goal.rounds-init
 rounds-init c =
     let w = c.load_place-named.result in
-    let some = (named w c.in-Some.life (eqb w 0) refl (sym c.of_word.ensures ∙ c.in-Some.is)).0 in
+    let some = (word_names w c.in-Some.life (eqb w 0) refl (sym c.of_word.ensures ∙ c.in-Some.is)).0 in
     let me = c.self.inside.seat.me in
     let sh = c.args.table.now.shape in
     let m = c.load_place-named.new.seat.me in
     let same : shape_in me ≡ sh = ap (λ v. v.table.shape) c.self.view_is ∙ ap (λ n. n.shape) c.requires.own in
     let idle : IsIn sh Idle me = subst (λ (x : Shape). IsIn x Idle me) same c.self.invariant in (
       search rules,
-      subst (λ (l : Log). Tries sh l c.args.place w 0 m) (ap (λ v. v.log) c.self.view_is)
+      subst (λ (l : ReaderLog). Tries sh l c.args.place w 0 m) (ap (λ v. v.log) c.self.view_is)
           (begins sh c.args.place w me m idle c.load_place-named.ensures.step.0 some (omega (arith, c.tries-i-end.ensures))),
     )
 
@@ -49,11 +43,11 @@ returns-in-Zero c =
     let t = c.rounds.invariant.1 in
     let more : c.rounds.i < sh.tries = omega (arith, c.tries-i-end.ensures.0) in
     let g = last_round sh c.args.place w c.args.self.log c.rounds.i c.rounds.seat.me t (Zero n) c.try_round.new.seat.me more c.in-Zero.ensures.round in
-    let few = ended c.args.self.table c.args.table.now c.rounds.i w c.in-Some.life t.0 (sym c.of_word.ensures ∙ c.in-Some.is) more t.1 t.2 c.requires.own in (
+    let few = tried_so_far c.args.self.table c.args.table.now c.rounds.i w c.in-Some.life t.0 (sym c.of_word.ensures ∙ c.in-Some.is) more t.1 t.2 c.requires.own in (
       same_table c.args.self.table c.args.table.now c.try_round.new.seat.table_id c.try_round.new.seat.me (c.in-Zero.ensures.seat.0 ∙ c.rounds.invariant.0) (ap shape_in g.1) c.requires.own,
       (
-        opening c.args.place w t.0 ++ (LoadFrame, n) ∷ [],
-        ap log_in g.1 ∙ append_assoc c.args.self.log (opening c.args.place w t.0) ((LoadFrame, n) ∷ []),
+        lookup_so_far c.args.place w t.0 ++ (LoadFrame, n) ∷ [],
+        ap log_in g.1 ∙ append_assoc c.args.self.log (lookup_so_far c.args.place w t.0) ((LoadFrame, n) ∷ []),
         (w, t.0, n, few, g.0, refl),
       ),
     )
@@ -66,11 +60,11 @@ returns-in-Old c =
     let t = c.rounds.invariant.1 in
     let more : c.rounds.i < sh.tries = omega (arith, c.tries-i-end.ensures.0) in
     let g = last_round sh c.args.place w c.args.self.log c.rounds.i c.rounds.seat.me t (Old n) c.try_round.new.seat.me more c.in-Old.ensures.round in
-    let few = ended c.args.self.table c.args.table.now c.rounds.i w c.in-Some.life t.0 (sym c.of_word.ensures ∙ c.in-Some.is) more t.1 t.2 c.requires.own in (
+    let few = tried_so_far c.args.self.table c.args.table.now c.rounds.i w c.in-Some.life t.0 (sym c.of_word.ensures ∙ c.in-Some.is) more t.1 t.2 c.requires.own in (
       same_table c.args.self.table c.args.table.now c.try_round.new.seat.table_id c.try_round.new.seat.me (c.in-Old.ensures.seat.0 ∙ c.rounds.invariant.0) (ap shape_in g.2) c.requires.own,
       (
-        opening c.args.place w t.0 ++ (LoadFrame, n) ∷ [],
-        ap log_in g.2 ∙ append_assoc c.args.self.log (opening c.args.place w t.0) ((LoadFrame, n) ∷ []),
+        lookup_so_far c.args.place w t.0 ++ (LoadFrame, n) ∷ [],
+        ap log_in g.2 ∙ append_assoc c.args.self.log (lookup_so_far c.args.place w t.0) ((LoadFrame, n) ∷ []),
         (w, t.0, n, few, g.0, g.1, refl),
       ),
     )
@@ -81,16 +75,16 @@ returns-in-Won c =
     let w : ℕ = c.load_place-named.result in
     let n : ℕ = c.in-Won.field-0 in
     let t = c.rounds.invariant.1 in
-    let life = (named w c.in-Some.life (eqb w 0) refl (sym c.of_word.ensures ∙ c.in-Some.is)).1 in
+    let life = (word_names w c.in-Some.life (eqb w 0) refl (sym c.of_word.ensures ∙ c.in-Some.is)).1 in
     let more : c.rounds.i < sh.tries = omega (arith, c.tries-i-end.ensures.0) in
     let g = last_round sh c.args.place w c.args.self.log c.rounds.i c.rounds.seat.me t (Won n) c.try_round.new.seat.me more c.in-Won.ensures.round in
-    let few = ended c.args.self.table c.args.table.now c.rounds.i w c.in-Some.life t.0 (sym c.of_word.ensures ∙ c.in-Some.is) more t.1 t.2 c.requires.own in (
+    let few = tried_so_far c.args.self.table c.args.table.now c.rounds.i w c.in-Some.life t.0 (sym c.of_word.ensures ∙ c.in-Some.is) more t.1 t.2 c.requires.own in (
       same_table c.args.self.table c.args.table.now c.try_round.new.seat.table_id c.try_round.new.seat.me (c.in-Won.ensures.seat.0 ∙ c.rounds.invariant.0) (ap shape_in g.1) c.requires.own,
       refl,
       ap known_in g.1,
       (
-        opening c.args.place w t.0 ++ (LoadFrame, n) ∷ (Exchange, n) ∷ [],
-        ap log_in g.1 ∙ append_assoc c.args.self.log (opening c.args.place w t.0) ((LoadFrame, n) ∷ (Exchange, n) ∷ []),
+        lookup_so_far c.args.place w t.0 ++ (LoadFrame, n) ∷ (Exchange, n) ∷ [],
+        ap log_in g.1 ∙ append_assoc c.args.self.log (lookup_so_far c.args.place w t.0) ((LoadFrame, n) ∷ (Exchange, n) ∷ []),
         (w, t.0, n, few, subst (λ (x : Life). IsAlive x.generation n) life g.0, ap (λ (x : Life). x.frame) (sym life), ap (λ (x : Life). x.generation) (sym life), refl),
       ),
     )

@@ -2,11 +2,7 @@ use Rattle.std.proofs.Common.{rules, ◌≡◌, ℕ, ap, ◌∙◌, subst, sym, 
 use Rattle.std.specs.Mem.Slots.{slots_items}
 use Rattle.atomic_table.specs.Table.{Final, Seen}
 use Rattle.ksm_base.specs.declared.shape.Shape.{Shape}
-use Rattle.frame_table.specs.declared.view.View.{View}
-use Rattle.frame_table.specs.declared.view.View.TheVariants.{Keeper}
-use Rattle.frame_table.specs.Rule.{Holds}
-use Rattle.frame_table.specs.Views.{order_in, tally_of}
-use Rattle.frame_table.specs.Seats.{Ends}
+use Rattle.frame_table.proofs.Names.{View, Keeper, Holds, order_in, tally_of, Ends}
 use Rattle.frame_table.proofs.Seatings.{ends}
 use Rattle.frame_table.proofs.table.FrameTable.close.Goals as goal
 
@@ -17,7 +13,7 @@ returns-clause-ends c =
     let k = c.args.keeper.ledger in
     let log = c.args.keeper.log in
     let same : t.shape ≡ sh = ap (λ n. n.shape) c.self-2.view_is in
-    let key : t.table.shared.key ≡ sh = c.self-2.invariant.0 ∙ same in
+    let key : t.table.shared.key ≡ sh = c.self-2.invariant.key ∙ same in
     let n : ℕ = vec_len c.seats.passes in
     let view : c.seats.seat.me.0 ≡ Keeper sh k (tally_of 0 n) log (order_in c.seats.seat.me) = ap (λ m. m.0) c.seats.invariant.keeper in
     let words = slots_items c.close_with.result.words in

@@ -1,7 +1,6 @@
 use Rattle.std.proofs.Common.{◌≡◌, vec_len}
 use Rattle.std.specs.Prelude.{All}
-use Rattle.frame_table.specs.Named.{PassView}
-use Rattle.frame_table.specs.Views.{keeps_ledger, order_in, tally_of}
+use Rattle.frame_table.proofs.Names.{PassView, keeps_ledger, order_in, tally_of}
 use Rattle.frame_table.proofs.table.FrameTable.close.Given as goal
 
 abbrev pub invariant-seats : goal.invariant-seats

@@ -1,7 +1,6 @@
 use Rattle.std.proofs.Common.{rules, ℕ, ◌+◌, ◌∙◌, arith, ap, sym}
 use Rattle.frame_core.specs.declared.event.ReaderStep.TheVariants.{LoadWord}
-use Rattle.frame_table.specs.Reading.{loads_word, word_at}
-use Rattle.frame_table.specs.Views.{Sat}
+use Rattle.frame_table.proofs.Names.{loads_word, word_at, Sat}
 use Rattle.frame_table.proofs.Allowed.{turned, MayLoad}
 use Rattle.frame_table.proofs.ReaderCalls.{may_load_word}
 use Rattle.frame_table.proofs.table.FrameTable.load_word.Goals as goal

@@ -1,6 +1,5 @@
 use Rattle.std.proofs.Common.{rules, ◌≡◌, ℕ, List, [], replicate, sym, subst}
-use Rattle.frame_core.specs.Words.{words_for}
-use Rattle.ksm_base.specs.Values.{frames_of}
+use Rattle.frame_table.proofs.CoreNames.{words_for, frames_of}
 use Rattle.atomic_table.specs.Table.{opening}
 use Rattle.frame_table.specs.Rule.{Holds, first_view}
 use Rattle.frame_table.proofs.Opening.{may_begin}

@@ -1,7 +1,6 @@
 use Rattle.std.proofs.Common.{◌≡◌, ◌-◌, ◌≤◌, [], replicate, vec_capacity}
 use Rattle.frame_core.specs.Ledger.{first_ledger}
-use Rattle.frame_table.specs.Views.{keeps_ledger, tally_of}
-use Rattle.frame_table.specs.Seats.{new_pass}
+use Rattle.frame_table.proofs.Names.{keeps_ledger, tally_of, new_pass}
 use Rattle.frame_table.proofs.table.FrameTable.open.Given as goal
 
 abbrev pub invariant-seats : goal.invariant-seats

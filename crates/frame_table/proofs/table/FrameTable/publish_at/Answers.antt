@@ -1,6 +1,5 @@
 use Rattle.std.proofs.Common.{rules, ◌≡◌, ◌<◌, ◌%◌, ℕ, ap, subst, refl, arith}
-use Rattle.ksm_base.specs.Values.{IsShape}
-use Rattle.frame_core.specs.declared.event.KeeperStep.TheVariants.{Publish}
+use Rattle.frame_table.proofs.CoreNames.{IsShape, Publish}
 use Rattle.frame_table.specs.Keeping.{Keeps}
 use Rattle.frame_core.proofs.Above.{frames_at_most}
 use Rattle.frame_table.proofs.KeeperCalls.{may_publish}
@@ -8,11 +7,11 @@ use Rattle.frame_table.proofs.table.FrameTable.publish_at.Goals as goal
 
 -- a frame of the table has a number of ten bits
 low : (c : goal.After-store) → c.args.frame < 1024
-low c = let few = frames_at_most c.args.self.now.shape (subst IsShape (ap (λ n. n.shape) c.self.view_is) c.self.invariant.3) in omega (arith, few, c.requires.may.1)
+low c = let few = frames_at_most c.args.self.now.shape (subst IsShape (ap (λ n. n.shape) c.self.view_is) c.self.invariant.shape) in omega (arith, few, c.requires.may.1)
 
 pub store-requires : goal.store-requires
 store-requires c =
-    let few = frames_at_most c.args.self.now.shape (subst IsShape (ap (λ n. n.shape) c.self.view_is) c.self.invariant.3) in (
+    let few = frames_at_most c.args.self.now.shape (subst IsShape (ap (λ n. n.shape) c.self.view_is) c.self.invariant.shape) in (
       search rules,
       search rules,
       may_publish _ _ _ _ _ _ c.requires.keeper (search rules) c.args.frame c.args.name (omega (arith, few, c.requires.may.1))

@@ -9,5 +9,5 @@ use Rattle.ksm_pages.proofs.rows.Rows.any_mergeable.Goals as goal
 
 pub returns : goal.returns
 returns c =
-    ap (nat_lt 0) c.self.invariant.mergeable ∙ any_counted (λ (r : Row). r.mergeable) (listed c.self.inside.entries).rows
+    ap (nat_lt 0) c.self.invariant.tally.mergeable ∙ any_counted (λ (r : Row). r.mergeable) (listed c.self.inside.entries).rows
     ∙ ap (λ (l : Listed). list_any (λ (r : Row). r.mergeable) l.rows) c.self.view_is

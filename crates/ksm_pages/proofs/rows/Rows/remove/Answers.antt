@@ -5,6 +5,7 @@ use Rattle.ksm_base.specs.Rows.{row_at}
 use Rattle.ksm_pages.specs.Listed.{Listed, StandsAt}
 use Rattle.ksm_pages.specs.RowEntries.{listed}
 use Rattle.ksm_pages.proofs.RowLists.{Went, asks, known_by, stands_at, went}
+use Rattle.ksm_pages.proofs.BlockCounts.{block_gone, page_in_block}
 use Rattle.ksm_pages.proofs.Tallies.{page_counted, page_gone}
 use Rattle.ksm_pages.proofs.rows.Rows.remove.Goals as goal
 use Rattle.ksm_pages.proofs.rows.Rows.remove.Goals.{In_default}
@@ -37,13 +38,22 @@ went_out c = went c.self.inside.entries c.remove.new.self c.args.self.now c.args
 pub without-self-inside-requires : goal.without-self-inside-requires
 without-self-inside-requires c =
     let found : lookup (asks c.args.page) c.self.inside.entries ≡ Some c.in-Some.entry = sym c.remove.ensures.value ∙ c.in-Some.is in
-    page_counted c.self.inside.entries c.args.self.now c.args.page c.in-Some.entry c.row-row.result c.self.inside.tally c.self.view_is c.remove.ensures.ordered found c.row-row.ensures c.self.invariant
+    page_counted c.self.inside.entries c.args.self.now c.args.page c.in-Some.entry c.row-row.result c.self.inside.tally c.self.view_is c.remove.ensures.ordered found c.row-row.ensures c.self.invariant.tally
+
+pub take-requires : goal.take-requires
+take-requires c =
+    let found : lookup (asks c.args.page) c.self.inside.entries ≡ Some c.in-Some.entry = sym c.remove.ensures.value ∙ c.in-Some.is in
+    page_in_block c.self.inside.entries c.args.self.now c.args.page c.in-Some.entry c.row-row.result c.self.inside.blocks c.self.view_is c.remove.ensures.ordered found c.row-row.ensures c.self.invariant.blocks
 
 pub invariant_of-self-2 : goal.invariant_of-self-2
 invariant_of-self-2 c =
     let found : lookup (asks c.args.page) c.self.inside.entries ≡ Some c.in-Some.entry = sym c.remove.ensures.value ∙ c.in-Some.is in
-    page_gone c.self.inside.entries c.args.self.now c.args.page c.in-Some.entry c.row-row.result c.self.inside.tally c.self.view_is c.remove.ensures.ordered found c.row-row.ensures c.self.invariant
-    c.without-self-inside.result _ (went_out c).rows c.without-self-inside.ensures
+    record {
+      tally = page_gone c.self.inside.entries c.args.self.now c.args.page c.in-Some.entry c.row-row.result c.self.inside.tally c.self.view_is c.remove.ensures.ordered found c.row-row.ensures c.self.invariant.tally
+          c.without-self-inside.result _ (went_out c).rows c.without-self-inside.ensures;
+      blocks = block_gone c.self.inside.entries c.args.self.now c.args.page c.in-Some.entry c.row-row.result c.self.inside.blocks c.self.view_is c.remove.ensures.ordered found c.row-row.ensures c.self.invariant.blocks
+          c.take.new.self _ (went_out c).rows c.take.ensures;
+    }
 
 pub returns-clause-stood : goal.returns-clause-stood
 returns-clause-stood c =

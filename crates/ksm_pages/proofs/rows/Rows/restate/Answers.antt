@@ -1,11 +1,13 @@
-use Rattle.std.proofs.Common.{◌≡◌, sym, ◌∙◌, ap, subst, ℕ, Option, None, Some, arith}
+use Rattle.std.proofs.Common.{◌≡◌, sym, ◌∙◌, ap, subst, ℕ, Option, None, Some, arith, map}
 use Rattle.std.specs.Prelude.{MatchOption}
+use Rattle.std.proofs.lemmas.List.{length-map}
 use Rattle.std.specs.Map.{lookup, set_value}
 use Rattle.ksm_base.specs.declared.row.Row.{Row}
 use Rattle.ksm_pages.specs.declared.entry.Entry.{Entry}
 use Rattle.ksm_pages.specs.Listed.{Listed, StandsAt}
 use Rattle.ksm_pages.specs.RowEntries.{entry_of, listed, row_of}
 use Rattle.ksm_pages.proofs.RowLists.{asks, entry_found, stands_at, Revised, revised}
+use Rattle.ksm_pages.proofs.BlockCounts.{blocks_room, block_replaced, page_in_block}
 use Rattle.ksm_pages.proofs.Tallies.{page_counted, page_replaced, page_room}
 use Rattle.ksm_pages.proofs.rows.Rows.restate.Goals as goal
 
@@ -49,18 +51,39 @@ pub without-requires : goal.without-requires
 without-requires c =
     let e = entry_found c.self.inside.entries c.args.self.now c.args.row.now.page c.args.row.now c.self.view_is c.restate-frame.ensures.ordered c.requires in
     page_counted c.self.inside.entries c.args.self.now c.args.row.now.page e.0 c.args.row.now c.self.inside.tally c.self.view_is
-    c.restate-frame.ensures.ordered e.1 e.2 c.self.invariant
+    c.restate-frame.ensures.ordered e.1 e.2 c.self.invariant.tally
 
 pub with-self-inside-requires : goal.with-self-inside-requires
 with-self-inside-requires c =
     let e = entry_found c.self.inside.entries c.args.self.now c.args.row.now.page c.args.row.now c.self.view_is c.restate-frame.ensures.ordered c.requires in
     page_room c.self.inside.entries c.args.self.now c.args.row.now.page e.0 c.args.row.now c.self.inside.tally c.self.view_is
-    c.restate-frame.ensures.ordered e.1 e.2 c.self.invariant
+    c.restate-frame.ensures.ordered e.1 e.2 c.self.invariant.tally
     c.without.result (omega (arith, c.len.ensures.small, c.len.ensures.len)) c.without.ensures
+
+pub change-requires-clause-page : goal.change-requires-clause-page
+change-requires-clause-page c =
+    let e = entry_found c.self.inside.entries c.args.self.now c.args.row.now.page c.args.row.now c.self.view_is c.restate-frame.ensures.ordered c.requires in
+    ap (λ (r : Row). r.page) e.2
+
+pub change-requires-clause-counted : goal.change-requires-clause-counted
+change-requires-clause-counted c =
+    let e = entry_found c.self.inside.entries c.args.self.now c.args.row.now.page c.args.row.now c.self.view_is c.restate-frame.ensures.ordered c.requires in
+    page_in_block c.self.inside.entries c.args.self.now c.args.row.now.page e.0 c.args.row.now c.self.inside.blocks c.self.view_is
+    c.restate-frame.ensures.ordered e.1 e.2 c.self.invariant.blocks
+
+pub change-requires-clause-room : goal.change-requires-clause-room
+change-requires-clause-room c =
+    blocks_room (map row_of c.self.inside.entries) c.self.inside.blocks
+    (let n = length-map c.self.inside.entries row_of in omega (arith, n, c.len.ensures.small, c.len.ensures.len)) c.self.invariant.blocks
 
 pub invariant_of-self : goal.invariant_of-self
 invariant_of-self c =
     let e = entry c in
-    page_replaced c.self.inside.entries c.args.self.now c.args.row.now.page e.0 c.args.row.now c.self.inside.tally c.self.view_is
-    c.restate-frame.ensures.ordered e.1 e.2 c.self.invariant
-    (record c.args.row.now { state = c.args.state }) c.without.result c.with-self-inside.result _ (written c).rows c.without.ensures c.with-self-inside.ensures
+    record {
+      tally = page_replaced c.self.inside.entries c.args.self.now c.args.row.now.page e.0 c.args.row.now c.self.inside.tally c.self.view_is
+          c.restate-frame.ensures.ordered e.1 e.2 c.self.invariant.tally
+          (record c.args.row.now { state = c.args.state }) c.without.result c.with-self-inside.result _ (written c).rows c.without.ensures c.with-self-inside.ensures;
+      blocks = block_replaced c.self.inside.entries c.args.self.now c.args.row.now.page e.0 c.args.row.now c.self.inside.blocks c.self.view_is
+          c.restate-frame.ensures.ordered e.1 e.2 c.self.invariant.blocks
+          (record c.args.row.now { state = c.args.state }) c.change.new.self _ (written c).rows c.change.ensures;
+    }

@@ -4,14 +4,15 @@ use Rattle.ksm_base.specs.Rows.{change_row, settled}
 use Rattle.ksm_tree.specs.Waits.{WaitingPage}
 use Rattle.ksm_pages.specs.Listed.{AreNamed, Listed}
 use Rattle.ksm_pages.specs.RowEntries.{row_of}
-use Rattle.ksm_pages.specs.Tallied.{IsTally}
+use Rattle.ksm_pages.specs.Blocked.{AreBooked}
 use Rattle.ksm_pages.proofs.RowLists.{rows_of}
 use Rattle.ksm_pages.proofs.Settling.{all_calmed, calmed, none_calmed, one_more_calmed, settles_one}
+use Rattle.ksm_pages.proofs.BlockCounts.{blocks_settled}
 use Rattle.ksm_pages.proofs.Tallies.{tally_settled, tally_within}
 use Rattle.ksm_pages.proofs.rows.Rows.settle_pages.Goals as goal
 
 pub loop-page-init : goal.loop-page-init
-loop-page-init c = ([], sym c.pages-page-items.ensures ∙ sym c.into_iter-page-iterator.ensures.into_iter_gives, none_calmed (rows_of c.self.inside.entries), refl, refl)
+loop-page-init c = ([], sym c.pages-page-items.ensures ∙ sym c.into_iter-page-iterator.ensures.into_iter_gives, none_calmed (rows_of c.self.inside.entries), refl, refl, refl)
 
 pub loop-page-preserved : goal.loop-page-preserved
 loop-page-preserved c =
@@ -23,6 +24,7 @@ loop-page-preserved c =
       step.rows ∙ ap (change_row page settled) so_far.2 ∙ one_more_calmed so_far.0 page (rows_of c.self.inside.entries),
       step.frames ∙ so_far.3,
       so_far.4,
+      so_far.5,
     )
 
 -- all pages were met
@@ -43,10 +45,13 @@ returns-clause-frames c = c.loop-page.invariant.3 ∙ ap (λ (l : Listed). l.fra
 pub settled-self-inside-requires : goal.settled-self-inside-requires
 settled-self-inside-requires c =
     let rows = map row_of c.self.inside.entries in
-    rw (c.loop-page.invariant.4, c.self.invariant.volatile, c.self.invariant.pending, c.self.invariant.mergeable) (tally_within rows)
+    rw (c.loop-page.invariant.4, c.self.invariant.tally.volatile, c.self.invariant.tally.pending, c.self.invariant.tally.mergeable) (tally_within rows)
 
 pub invariant_of-self : goal.invariant_of-self
 invariant_of-self c =
     let rows = map row_of c.self.inside.entries in
-    subst (λ l. IsTally l c.settled-self-inside.result) (sym (none_waits c ∙ ap (λ (l : Listed). map settled l.rows) (sym c.self.view_is)))
-    (rw (c.settled-self-inside.ensures, c.loop-page.invariant.4) (tally_settled rows c.self.inside.tally c.self.invariant))
+    subst (λ l. AreBooked l c.settled-self-inside.result c.loop-page.self-inside.blocks) (sym (none_waits c ∙ ap (λ (l : Listed). map settled l.rows) (sym c.self.view_is)))
+    (record {
+      tally = rw (c.settled-self-inside.ensures, c.loop-page.invariant.4) (tally_settled rows c.self.inside.tally c.self.invariant.tally);
+      blocks = rw c.loop-page.invariant.5 (blocks_settled rows c.self.inside.blocks c.self.invariant.blocks);
+    })

@@ -12,4 +12,4 @@ abbrev pub invariant-loop-page : goal.invariant-loop-page
 invariant-loop-page l =
     let old : Entries = l.initial.self-inside.entries in
     (done : List GuestPage) × (map (λ (w : WaitingPage). w.page) l.fn.waiting ≡ done ++ l.page-iterator)
-    × (rows_of l.self-inside.entries ≡ map (calmed done) (rows_of old)) × (map frame_of l.self-inside.entries ≡ map frame_of old) × (l.self-inside.tally ≡ l.initial.self-inside.tally)
+    × (rows_of l.self-inside.entries ≡ map (calmed done) (rows_of old)) × (map frame_of l.self-inside.entries ≡ map frame_of old) × (l.self-inside.tally ≡ l.initial.self-inside.tally) × (l.self-inside.blocks ≡ l.initial.self-inside.blocks)

@@ -1,7 +1,6 @@
 use Rattle.std.proofs.Common.{arith, ap, ℕ, ◌^◌, ◌<◌, ◌≤◌, length, length-append, length-drop, drop}
 use Rattle.std.specs.Prelude.{decimal}
 use Rattle.std.proofs.lemmas.Fmt.{length-decimal-le}
-use Rattle.ksm_script.specs.declared.line_text.TheConstants.{TEXT_ROOM as ROOM}
 use Rattle.ksm_script.proofs.line_text.LineText.put_number.Goals as goal
 
 -- no number of 64 bits has more than twenty digits
@@ -9,15 +8,15 @@ short : (n : ℕ) → n < 2 ^ 64 → length (decimal n) ≤ 20
 short n small = length-decimal-le 20 n (omega arith) (omega arith) small
 
 pub write_digits-self-inside-requires : goal.write_digits-self-inside-requires
-write_digits-self-inside-requires c =
-    let inside : c.self.inside.start ≤ ROOM = c.self.invariant in
+write_digits-self-inside-requires g c =
+    let inside = c.self.invariant in
     let room = length-drop c.self.inside.start c.self.inside.bytes in (
       omega (arith, short c.args.number c.ranges.number.fits, ap length c.self.view_is, room, inside, c.self.told, c.requires),
       omega (arith, inside, c.self.told),
     )
 
 pub returns-clause-room : goal.returns-clause-room
-returns-clause-room c =
+returns-clause-room g c =
     let text = drop c.self.inside.start c.self.inside.bytes in
     omega (
       arith,

@@ -1,9 +1,8 @@
-use Rattle.std.proofs.Common.{◌≡◌, ◌⊎◌, ◌∙◌, ◌++◌, ◌<◌, ℕ, ap, subst, sym}
-use mathlib.Core.List.{IsPrefix}
+use Rattle.std.proofs.Common.{◌≡◌, ◌∙◌, ◌++◌, ◌<◌, ℕ, ap, subst, sym}
 use Rattle.ksm_shared.specs.declared.seen.Caller.{Caller}
 use Rattle.ksm_shared.specs.Seen.{entries, first}
-use Rattle.ksm_shared.specs.Locked.{Locked, SeesOn, made, made_by}
-use Rattle.ksm_shared.proofs.Extended.{answers_seen, book_seat_is, counters_seen, entries_grow, follows_book, follows_on, new_journal, new_log, new_owners, part_grows, sees_on, shown_all, shown_begins, shows_all_or_old}
+use Rattle.ksm_shared.specs.Locked.{SeesOn, made_by}
+use Rattle.ksm_shared.proofs.Extended.{answers_seen, book_seat_is, counters_seen, follows_book, follows_on, new_journal, new_log, new_owners, part_grows, sees_on, shown_all}
 use Rattle.ksm_shared.proofs.merge.Merge.command.Given.{Over}
 use Rattle.ksm_shared.proofs.merge.Merge.command.Goals as goal
 
@@ -20,14 +19,8 @@ module _ (g : Over) (c : goal.After-newest g) where
   below : number < g.N.Naming.parts.callers
   below = subst (λ (n : ℕ). number < n) count c.write.ensures.wrote.number
 
-  grows : entries c.write.new.book.me.0.log ≡ entries c.self.inside.seat.me.0.log ++ made c.args.command c.apply-result.result
-  grows = entries_grow _ _ number _ _ log
-
-  follows : c.follow.new.self.journal ≡ entries c.write.new.book.me.0.log
-  follows = follows_on _ _ _ _ number _ _ _ log c.said-said.ensures c.self.invariant.8 c.follow.ensures.journal
-
-  begins : IsPrefix c.follow.new.self.shown (entries c.write.new.book.me.0.log)
-  begins = shown_begins c.follow.result _ _ _ _ _ _ c.follow.ensures.shown follows c.self.invariant.9 grows
+  follows : c.follow.new.self ≡ entries c.write.new.book.me.0.log
+  follows = follows_on _ _ _ _ number _ _ _ log c.said-said.ensures c.self.invariant.8 c.follow.ensures
 
 pub follow-requires-clause-legal : goal.follow-requires-clause-legal
 follow-requires-clause-legal g c =
@@ -44,12 +37,10 @@ follow-requires-clause-counters g c =
     c.counters-counters.ensures ∙ counters_seen g.N.Naming.parts a.new.self _ (a.ensures.carried.own ∙ i.0) next c.lies_lawfully.ensures.legal
 
 pub returns-clause-published : goal.returns-clause-published
-returns-clause-published g c =
-    subst (λ (l : Locked). (c.follow.new.self.shown ≡ entries c.write.new.book.me.0.log) ⊎ (c.follow.new.self.shown ≡ l.shown)) c.self.view_is
-    (shows_all_or_old c.follow.result _ _ _ _ c.follow.ensures.shown (follows g c))
+returns-clause-published g c = follows g c
 
-pub returns-clause-begins : goal.returns-clause-begins
-returns-clause-begins g c = begins g c
+pub returns-clause-shown : goal.returns-clause-shown
+returns-clause-shown g c = c.newest.ensures.shown ∙ follows g c
 
 pub invariant_of-self : goal.invariant_of-self
 invariant_of-self g c =
@@ -64,7 +55,6 @@ invariant_of-self g c =
       new_owners _ _ _ (number g c) _ _ (below g c) i.6 (log g c),
       i.7,
       follows g c,
-      begins g c,
     )
 
 pub returns-clause-seen : goal.returns-clause-seen

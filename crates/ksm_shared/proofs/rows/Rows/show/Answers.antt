@@ -1,6 +1,11 @@
-use Rattle.std.proofs.Common.{subst, sym}
+use Rattle.std.proofs.Common.{◌≡◌, rules, subst, sym}
+use mathlib.Core.List.{IsPrefix}
 use Rattle.ksm_shared.specs.Published.{IsRowOf, ShownRow}
 use Rattle.ksm_shared.proofs.rows.Rows.show.Goals as goal
 
-pub show_in-requires-clause-row : goal.show_in-requires-clause-row
-show_in-requires-clause-row g c = subst (λ (x : ShownRow). IsRowOf g.N.Naming.parts x) (sym c.again.ensures) c.requires.row
+pub replace_with-requires : goal.replace_with-requires
+replace_with-requires g c =
+    let now = c.in-Some.copies.desk.shown.value in
+    let shown : now ≡ c.args.self.now = search rules in
+    let begins = subst (λ (x : ShownRow). IsPrefix x.reached.journal c.args.row.reached.journal) (sym shown) c.requires.begins in
+    subst (λ (x : ShownRow). IsPrefix now.reached.journal x.reached.journal × IsRowOf g.N.Naming.parts x) (sym c.again.ensures) (begins, c.requires.row)

@@ -1,5 +1,5 @@
 use Rattle.ksm_script.proofs.Slots.{ends_idle}
-use Rattle.ksm_script.proofs.script.run_buffered.Goals as goal
+use Rattle.ksm_script.proofs.script.run_heard.Goals as goal
 
 pub returns-clause-ran : goal.returns-clause-ran
 returns-clause-ran g c =

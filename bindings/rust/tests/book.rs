@@ -1,0 +1,135 @@
+//! The book through the safe types, and against a plain map.
+
+use ksmbook::{Book, Command, Fault, Found, GuestPage, Pass, Refused, Reply, Shape, Table};
+use std::collections::BTreeMap;
+
+const NONE: Option<Fault> = None;
+
+fn page(guest: u16, page: u32) -> GuestPage {
+    GuestPage { guest, page }
+}
+
+fn register(of: GuestPage, node: u32, word: u64) -> Command {
+    Command::Register { page: of, node, bytes: [word; 8] }
+}
+
+fn done(count: u64) -> Result<Reply, Fault> {
+    Ok(Reply { count, stop: NONE })
+}
+
+#[test]
+fn equal_pages_are_merged_and_looked_up() {
+    let mut book = Book::open(Shape { frames_per_node: 4, ..Shape::SMALL }).unwrap();
+    let mut pass = book.pass().unwrap();
+    assert_eq!(book.apply(register(page(0, 0), 0, 7)), done(0));
+    assert_eq!(book.apply(register(page(1, 5), 0, 7)), done(0));
+    assert_eq!(book.apply(Command::Scan { visits: 4 }), Err(Fault::NotRunning));
+    assert_eq!(book.apply(Command::SetRun(1)), done(0));
+    assert_eq!(book.apply(Command::Scan { visits: 4 }), done(4));
+    let place = book.ticket(page(0, 0)).unwrap();
+    assert_eq!(book.mappers(place).unwrap(), Some(vec![page(0, 0), page(1, 5)]));
+    assert_eq!((book.counters().shared, book.counters().sharing), (1, 1));
+    let Found::Held(mut hold) = pass.find(place).unwrap() else { panic!("nothing held") };
+    assert_eq!(hold.words(), [7; 8]);
+    assert_eq!(book.apply(Command::MoveDup { place, node: 0 }), Err(Fault::InUse));
+    hold.leave();
+    assert_eq!(book.apply(Command::MoveDup { place, node: 0 }), done(0));
+    assert_eq!(book.apply(Command::Store { page: page(0, 0), bytes: [8; 8] }), done(0));
+    assert_eq!(book.read(page(0, 0)), Some([8; 8]));
+    assert_eq!(book.read(page(1, 5)), Some([7; 8]));
+    assert_eq!((book.read(page(1, 6)), book.ticket(page(1, 6)), book.mappers(9).unwrap()), (None, None, None));
+    let (refused, mut book) = book.close().err().unwrap();
+    assert_eq!(refused, Refused::PassesOut);
+    book.take_back(pass).ok().unwrap();
+    book.close().ok().unwrap();
+}
+
+#[test]
+fn what_is_refused() {
+    let mut book = Book::open(Shape { nodes: 2, frames_per_node: 1, ..Shape::SMALL }).unwrap();
+    let apply = |book: &mut Book, command| book.apply(command).err();
+    assert_eq!(Book::open(Shape { nodes: 0, ..Shape::SMALL }).err(), Some(Refused::Shape));
+    assert_eq!(apply(&mut book, register(page(0, 0), 1, 7)), None);
+    assert_eq!(apply(&mut book, register(page(0, 0), 1, 7)), Some(Fault::AlreadyRegistered));
+    assert_eq!(apply(&mut book, register(page(0, 1), 1, 7)), Some(Fault::NoFrame(1)));
+    assert_eq!(apply(&mut book, register(page(0, 1), 2, 7)), Some(Fault::BadNode));
+    assert_eq!(apply(&mut book, Command::Drop { page: page(0, 1) }), Some(Fault::UnknownPage));
+    assert_eq!(apply(&mut book, Command::Unmerge { guest: 1 }), Some(Fault::UnknownPage));
+    assert_eq!(apply(&mut book, Command::MoveDup { place: 0, node: 0 }), Some(Fault::UnknownPlace));
+    assert_eq!(apply(&mut book, Command::SetLimit(1)), Some(Fault::BadValue));
+    let mut table = Table::open(Shape::SMALL).unwrap();
+    let (refused, _pass) = book.take_back(table.pass().unwrap()).err().unwrap();
+    assert_eq!(refused, Refused::Other);
+}
+
+// Looks each place up so many times, and answers how many lookups found a frame. The words of each have to be those of one frame.
+fn look(pass: &mut Pass, rounds: u32) -> u64 {
+    let mut found = 0;
+    for place in (0..rounds).flat_map(|_| 0..16) {
+        let Ok(words) = pass.look_up(place).unwrap() else { continue };
+        assert!(words.iter().all(|word| *word == words[0]), "words of two frames: {words:?}");
+        found += 1;
+    }
+    found
+}
+
+// Each store breaks sharing, each scan merges again, and the dup moves where nobody holds it.
+#[test]
+fn readers_look_merged_frames_up_beside_the_book() {
+    let mut book = Book::open(Shape::SMALL).unwrap();
+    let mut passes: Vec<Pass> = (0..4).map(|_| book.pass().unwrap()).collect();
+    for n in 0..8 {
+        assert_eq!(book.apply(register(page(0, n), 0, 1)), done(0));
+    }
+    book.apply(Command::SetRun(1)).unwrap();
+    let found: u64 = std::thread::scope(|scope| {
+        let readers: Vec<_> = passes.iter_mut().map(|pass| scope.spawn(|| look(pass, 20000))).collect();
+        for n in 0..5000 {
+            let of = page(0, n % 8);
+            match book.apply(Command::Store { page: of, bytes: [u64::from(n / 64); 8] }) {
+                Ok(_) | Err(Fault::NoFrame(0)) => {}
+                refused => panic!("{refused:?}"),
+            }
+            assert_eq!(book.apply(Command::Scan { visits: 16 }).map(|reply| reply.stop), Ok(NONE));
+            let Some(place) = book.ticket(of) else { continue };
+            match book.apply(Command::MoveDup { place, node: 0 }) {
+                Ok(_) | Err(Fault::InUse | Fault::NoFrame(0)) => {}
+                refused => panic!("{refused:?}"),
+            }
+        }
+        readers.into_iter().map(|reader| reader.join().unwrap()).sum()
+    });
+    assert!(found > 0, "no lookup found a frame");
+    for pass in passes {
+        book.take_back(pass).ok().unwrap();
+    }
+    book.close().ok().unwrap();
+}
+
+#[test]
+fn what_was_stored_last_is_read() {
+    let mut book = Book::open(Shape { frames_per_node: 64, ..Shape::SMALL }).unwrap();
+    let mut plain: BTreeMap<GuestPage, u64> = BTreeMap::new();
+    let mut seed = 3u64;
+    let mut drawn = |below: u64| {
+        seed = seed.wrapping_mul(6364136223846793005).wrapping_add(1442695040888963407);
+        (seed >> 33) % below
+    };
+    book.apply(Command::SetRun(1)).unwrap();
+    for _ in 0..5000 {
+        let of = page(drawn(3) as u16, drawn(16) as u32);
+        let word = drawn(4);
+        match (drawn(8), plain.contains_key(&of)) {
+            (0, _) => assert_eq!(book.apply(Command::Scan { visits: 100 }).map(|reply| reply.stop), Ok(NONE)),
+            (_, false) => assert_eq!((book.apply(register(of, 0, word)), plain.insert(of, word)), (done(0), None)),
+            (1, true) => assert_eq!((book.apply(Command::Drop { page: of }), plain.remove(&of).is_some()), (done(0), true)),
+            (_, true) => {
+                assert_eq!(book.apply(Command::Store { page: of, bytes: [word; 8] }), done(0));
+                plain.insert(of, word);
+            }
+        }
+        let asked = page(drawn(3) as u16, drawn(16) as u32);
+        assert_eq!(book.read(asked), plain.get(&asked).map(|word| [*word; 8]));
+    }
+    book.close().ok().unwrap();
+}

@@ -1,0 +1,136 @@
+//! What is said of refusals, and when.
+use crate::host::Host;
+use ksm_base::Fault;
+use ksm_causes::Refused;
+use ksm_host::{Status, run_on};
+use ksm_script::{LineReply, Refusal};
+use std::test::Fail;
+
+const WORDS: &str = "ksmbook --nodes 2 --frames 2 --passes 1";
+
+/// Lines with their replies, and why those that are refused are. They have each refusal but that of memory.
+const ROWS: &str = "set merge_across_nodes 0|ok|
+get 0 0|refused 2|there is no such page, or no page of the guest
+reg 0 0 0 aa|ok|
+reg 0 0 0 aa|refused 3|the page is registered already
+reg 0 1 0 aa|ok|
+reg 0 2 0 bb|refused 4|no frame of node 0 is free
+reg 0 2 2 bb|refused 11|there is no such node
+scan 4|refused 5|no scan runs while run is not 1
+set run 3|refused 7|the value is out of the knob's range
+set run 1|ok|
+scan 4|scanned 4|
+set max_page_sharing 2|refused 6|the knob stays as it is while pages are shared
+rmap 1|refused 10|no dup with pages stands at the place, or there is no such place
+movedup 0 1|refused 9|the dup would cross nodes while merge_across_nodes is 0
+find 0 0|held 0 1|
+find 0 0|refused 13|the pass holds a frame, or at an audit each pass does
+audit|refused 13|the pass holds a frame, or at an audit each pass does
+movedup 0 0|refused 8|a pass holds the frame
+leave 0|ok|
+leave 0|refused 14|the pass holds no frame
+look 1|refused 12|there is no such pass
+reg 0 2 0 bb|ok|
+reg 1 0 1 cc|ok|
+reg 1 1 1 dd|ok|
+unmerge 0|unmerged 0 refused 4|no frame of node 0 is free
+move 0 0 1|refused 4|no frame of node 1 is free";
+
+/// Each refusal is said behind its reply, with the number of its line and the line; and what is printed is the same where none is said.
+#[test]
+fn each_refusal_is_said(rt: HostRuntime) -> Result<(), Fail> {
+    let mut script = String::new(rt.alloc());
+    let mut replies = String::new(rt.alloc());
+    let mut sentences = String::new(rt.alloc());
+    let mut number = 0u32;
+    for row in ROWS.split('\n') {
+        let Some((line, told)) = row.split_once('|') else {
+            return Err(Fail::from("a row"));
+        };
+        let Some((reply, why)) = told.split_once('|') else {
+            return Err(Fail::from("a reply"));
+        };
+        number = number.saturating_add(1);
+        write!(script, "{line}\n")?;
+        write!(replies, "{reply}\n")?;
+        if let Some((_, refusal)) = reply.split_once("refused ") {
+            write!(
+                sentences,
+                "line {number}, refused {refusal}: {why}: {line}\n"
+            )?;
+        }
+    }
+    for (value, wanted) in [("1", sentences.as_str()), ("0", "")] {
+        let host = Host::new(rt.alloc(), WORDS, script.as_str(), None).explaining(
+            Some(value),
+            true,
+        );
+        let outcome = run_on(&host, &rt, &host);
+        let (printed, said) = host.told();
+        assert_eq!(rt; outcome.status(), Status::Done);
+        assert_eq!(rt; printed.as_slice(), replies.as_bytes());
+        assert_eq!(rt; said.as_str(), wanted);
+    }
+    Ok(())
+}
+
+/// The refusal that no test here can have the program give. A long line is cut.
+#[test]
+fn a_refusal_for_memory_is_said(rt: HostRuntime) -> Result<(), Fail> {
+    let reply = LineReply::Refused(Refusal::Book(Fault::Memory));
+    let line = "put 0 0 00000000111111112222222233333333".as_bytes();
+    let Some(refused) = Refused::of(7, line, &reply) else {
+        return Err(Fail::from("a refusal"));
+    };
+    assert_eq!(rt;
+        format!(in rt.alloc(); "{refused}")?.as_str(),
+        "line 7, refused 1: memory was refused, and the line may be sent again: put 0 0 000000001111111122222222..\n"
+    );
+    Ok(())
+}
+
+/// The variable decides where it is 0 or 1, else the terminal does.
+#[test]
+fn who_asks_for_words(rt: HostRuntime) {
+    let cases = [
+        (None, false, false),
+        (None, true, true),
+        (Some("1"), false, true),
+        (Some("0"), true, false),
+        (Some(""), false, false),
+        (Some("11"), false, false),
+        (Some("yes"), true, true),
+    ];
+    for (value, is_terminal, are_told) in cases {
+        let host = Host::new(rt.alloc(), WORDS, "look 1", None).explaining(value, is_terminal);
+        let outcome = run_on(&host, &rt, &host);
+        let (_, said) = host.told();
+        assert_eq!(rt; outcome.status(), Status::Done);
+        assert!(rt; said.is_empty() != are_told, "{value:?} {is_terminal}");
+    }
+}
+
+/// A refusal is said once its reply is sent, and where that fails nothing more is sent or said.
+#[test]
+fn words_stand_behind_a_reply_that_is_sent(rt: HostRuntime) {
+    let wanted = "refused 12\nrefused 14\n";
+    let first = "line 1, refused 12: there is no such pass: look 1\n";
+    let both =
+        "line 1, refused 12: there is no such pass: look 1\nline 2, refused 14: the pass holds no frame: look 0\n";
+    for room in 0..=wanted.len() {
+        let host = Host::new(rt.alloc(), WORDS, "look 1\nlook 0\n", Some(room)).explaining(
+            Some("1"),
+            false,
+        );
+        let outcome = run_on(&host, &rt, &host);
+        let (printed, said) = host.told();
+        let (end, why) = match room {
+            0..=10 => (Status::Broken, ""),
+            11..=21 => (Status::Broken, first),
+            _ => (Status::Done, both),
+        };
+        assert_eq!(rt; outcome.status(), end, "{room}");
+        assert_eq!(rt; printed.as_slice(), &wanted.as_bytes()[..room], "{room}");
+        assert_eq!(rt; said.as_str(), why, "{room}");
+    }
+}

@@ -1,0 +1,184 @@
+//! The calls of a book. One thread at a time makes them, by the handle of the book's table; its passes are those of a table.
+ghost use Rattle.std.specs.Prelude.{◌≡◌, ◌≢◌};
+ghost use Rattle.ksm_base.specs.Counting.{counters_of};
+ghost use Rattle.ksm_base.specs.Reading.{mappers_of, ticket_of};
+ghost use Rattle.ksm_ffi.specs.Books.{ReadsBook, TellsCount, TellsCounters, TellsMappers, TellsTicket};
+ghost use Rattle.ksm_ffi.specs.Requests.{LeavesMade};
+ghost use Rattle.ksm_ffi.specs.Things.{AppliesRequest, OnBook, OpensBookAt, OpensBookThing, SeesBook};
+
+use crate::answer::Answer;
+use crate::bookkeeper::Bookkeeper;
+use crate::handle::Handle;
+use crate::request::{Counted, Made, Request};
+use crate::thing::Thing;
+use ksm_base::{GuestPage, PageBytes, Shape};
+use std::alloc::Global;
+
+// A book in a box of its own.
+fn open_book(alloc: Global, shape: Shape, number: u64) -> Result<Box<Thing>, Answer>
+    ensures { OpensBookThing shape number result }
+{
+    let (bookkeeper, home) = Bookkeeper::open(alloc, shape, number)?;
+    match Box::new(alloc, Thing::Book(bookkeeper, home)) {
+        Ok(thing) => Ok(thing),
+        Err(failed) => {
+            failed.value.retire();
+            Err(Answer::Memory)
+        }
+    }
+}
+
+/// Opens a book on a table of its own, whose frames the book keeps.
+#[unsafe(no_mangle)]
+pub extern "C" fn ksm_book_open(
+    alloc: Global,
+    book: &mut Handle,
+    number: u64,
+    nodes: u32,
+    frames_per_node: u32,
+    passes: u32,
+    last_generation: u64,
+    tries: u32,
+) -> u32
+    ensures { OpensBookAt (record { nodes = nodes; frames_per_node = frames_per_node; passes = passes; last_generation = last_generation; tries = tries }) number book.old.thing result book.new.thing }
+{
+    if let Some(thing) = book.take(alloc) {
+        book.put(thing);
+        return Answer::Open.number();
+    }
+    let shape = Shape {
+        nodes,
+        frames_per_node,
+        passes,
+        last_generation,
+        tries,
+    };
+    match open_book(alloc, shape, number) {
+        Ok(thing) => {
+            book.put(thing);
+            Answer::Done.number()
+        }
+        Err(answer) => answer.number(),
+    }
+}
+
+// Does a command, if there is one of this kind.
+fn apply(bookkeeper: &mut Bookkeeper, request: &Request, made: &mut Made) -> Answer
+    ensures applied { AppliesRequest bookkeeper.old request.now result made.new bookkeeper.new }
+    ensures kept { LeavesMade result made.old made.new }
+{
+    match request.command() {
+        Some(command) => bookkeeper.apply(command, made),
+        None => Answer::Command,
+    }
+}
+
+/// Does a command, and tells what it did.
+#[unsafe(no_mangle)]
+pub extern "C" fn ksm_book_apply(
+    alloc: Global,
+    book: &mut Handle,
+    request: &Request,
+    made: &mut Made,
+) -> u32
+    ensures applied { OnBook (λ v a w. AppliesRequest v request.now a made.new w) book.old.thing result book.new.thing }
+    ensures kept { result ≢ 0 → result ≢ 34 → made.new ≡ made.old }
+{
+    let Some(mut thing) = book.take(alloc) else {
+        return Answer::Closed.number();
+    };
+    let answer = match &mut *thing {
+        Thing::Book(bookkeeper, _) => apply(bookkeeper, request, made),
+        _ => Answer::Kind,
+    };
+    book.put(thing);
+    answer.number()
+}
+
+/// Loads the bytes of a page.
+#[unsafe(no_mangle)]
+pub extern "C" fn ksm_book_read(
+    alloc: Global,
+    book: &mut Handle,
+    guest: u16,
+    page: u32,
+    bytes: &mut PageBytes,
+) -> u32
+    ensures read { OnBook (λ v a w. ReadsBook v (record { guest = guest; page = page }) a bytes.new w) book.old.thing result book.new.thing }
+    ensures kept { result ≢ 0 → bytes.new ≡ bytes.old }
+{
+    let Some(mut thing) = book.take(alloc) else {
+        return Answer::Closed.number();
+    };
+    let answer = match &mut *thing {
+        Thing::Book(bookkeeper, _) => bookkeeper.read(GuestPage { guest, page }, bytes),
+        _ => Answer::Kind,
+    };
+    book.put(thing);
+    answer.number()
+}
+
+/// Tells the place of the dup into which a page is merged.
+#[unsafe(no_mangle)]
+pub extern "C" fn ksm_book_ticket(
+    alloc: Global,
+    book: &mut Handle,
+    guest: u16,
+    page: u32,
+    place: &mut u32,
+) -> u32
+    ensures told { OnBook (SeesBook (λ v a. TellsTicket (ticket_of (record { guest = guest; page = page }) v.state) a place.new)) book.old.thing result book.new.thing }
+    ensures kept { result ≢ 0 → place.new ≡ place.old }
+{
+    let Some(thing) = book.take(alloc) else {
+        return Answer::Closed.number();
+    };
+    let answer = match &*thing {
+        Thing::Book(bookkeeper, _) => bookkeeper.ticket(GuestPage { guest, page }, place),
+        _ => Answer::Kind,
+    };
+    book.put(thing);
+    answer.number()
+}
+
+/// Tells the pages merged into the dup at a place, each as one number, and how many they are.
+#[unsafe(no_mangle)]
+pub extern "C" fn ksm_book_mappers(
+    alloc: Global,
+    book: &mut Handle,
+    place: u32,
+    pages: &mut [u64],
+    count: &mut u64,
+) -> u32
+    ensures told { OnBook (SeesBook (λ v a. TellsMappers (mappers_of place v.state) pages.old a pages.new)) book.old.thing result book.new.thing }
+    ensures count { OnBook (SeesBook (λ v a. TellsCount (mappers_of place v.state) count.old a count.new)) book.old.thing result book.new.thing }
+    ensures kept { result ≢ 0 → pages.new ≡ pages.old }
+    ensures uncounted { result ≢ 0 → result ≢ 15 → count.new ≡ count.old }
+{
+    let Some(thing) = book.take(alloc) else {
+        return Answer::Closed.number();
+    };
+    let answer = match &*thing {
+        Thing::Book(bookkeeper, _) => bookkeeper.mappers(alloc, place, pages, count),
+        _ => Answer::Kind,
+    };
+    book.put(thing);
+    answer.number()
+}
+
+/// Counts the pages and dups of the book.
+#[unsafe(no_mangle)]
+pub extern "C" fn ksm_book_counters(alloc: Global, book: &mut Handle, counted: &mut Counted) -> u32
+    ensures counted { OnBook (SeesBook (λ v a. TellsCounters (counters_of v.state) a counted.new)) book.old.thing result book.new.thing }
+    ensures kept { result ≢ 0 → counted.new ≡ counted.old }
+{
+    let Some(thing) = book.take(alloc) else {
+        return Answer::Closed.number();
+    };
+    let answer = match &*thing {
+        Thing::Book(bookkeeper, _) => bookkeeper.count(counted),
+        _ => Answer::Kind,
+    };
+    book.put(thing);
+    answer.number()
+}
