@@ -1,4 +1,6 @@
 //! A host in memory: the program's words, its input, and what is printed and said.
+ghost use Rattle.std.specs.Prelude.{◌≤◌, length, IfOk};
+
 use std::alloc::{Alloc, Allocator, Global};
 use std::cell::RefCell;
 use std::env::FillError;
@@ -70,7 +72,9 @@ pub fn taken(room: &mut Option<usize>, bytes: usize) -> io::Result<usize> {
 }
 
 /// Copies bytes to the front of a buffer, if they fit.
-fn filled(bytes: &[u8], buffer: &mut [u8]) -> Result<usize, FillError> {
+fn filled(bytes: &[u8], buffer: &mut [u8]) -> Result<usize, FillError>
+    ensures within { IfOk result (λ count. count ≤ length buffer.new) }
+{
     if bytes.len() > buffer.len() {
         return Err(FillError::TooLong);
     }
