@@ -3,6 +3,7 @@ pub mod Books
 pub mod Handles
 pub mod Homes
 pub mod Keeping
+pub mod Lends
 pub mod Opening
 pub mod Owned
 pub mod Passes

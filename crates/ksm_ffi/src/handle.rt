@@ -1,5 +1,6 @@
 //! What C holds: a pointer to a box, or null.
 ghost use Rattle.std.specs.Prelude.{◌≡◌, MatchOption};
+ghost use Rattle.std.specs.Borrow.{sem};
 ghost use Rattle.std.specs.declared.option.Option.{Option};
 ghost use Rattle.std.specs.declared.option.Option.TheVariants.{None, Some};
 ghost use Rattle.ksm_ffi.specs.Handles.{handle_coded, handle_owns};
@@ -31,6 +32,8 @@ impl Model for Handle {
 unsafe impl Send for Handle {}
 
 impl Handle {
+    ghost use Rattle.ksm_ffi.specs.Lends.{LendsInPlace};
+
     fn empty(alloc: Global) -> Handle
         ensures { result.thing ≡ None }
     {
@@ -62,6 +65,17 @@ impl Handle {
                 alloc,
             })
         }
+    }
+
+    /// Lends what the handle stands for, where it lies.
+    pub(crate) fn as_mut(&mut self) -> Option<&mut Thing>
+        ensures* lends { sem 𝓛 (LendsInPlace self.entry result) }
+        ensures held { MatchOption result (self.old.thing ≡ None) (λ t. self.old.thing ≡ Some t.now) }
+    {
+        if self.at.is_null() {
+            return None;
+        }
+        unsafe { Some(&mut *(self.at as *mut Thing)) }
     }
 
     /// Takes what the handle stands for out of it. It is not open then.

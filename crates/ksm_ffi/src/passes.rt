@@ -7,105 +7,88 @@ use crate::answer::Answer;
 use crate::handle::Handle;
 use crate::thing::Thing;
 use ksm_base::PageBytes;
-use std::alloc::Global;
 
 /// Looks a place up, and holds the frame that it names.
 #[unsafe(no_mangle)]
-pub extern "C" fn ksm_find(alloc: Global, pass: &mut Handle, place: u32) -> u32
+pub extern "C" fn ksm_find(pass: &mut Handle, place: u32) -> u32
     ensures { OnPass (λ v a w. Finds v place a w) pass.old.thing result pass.new.thing }
 {
-    let Some(mut thing) = pass.take(alloc) else {
+    let Some(thing) = pass.as_mut() else {
         return Answer::Closed.number();
     };
-    let answer = match &mut *thing {
+    let answer = match thing {
         Thing::Pass(reader, _) => reader.find(place),
         _ => Answer::Kind,
     };
-    pass.put(thing);
     answer.number()
 }
 
 /// Looks a place up, holds the frame that it names, and compares its words with a page.
 #[unsafe(no_mangle)]
-pub extern "C" fn ksm_find_equal(
-    alloc: Global,
-    pass: &mut Handle,
-    place: u32,
-    page: &PageBytes,
-) -> u32
+pub extern "C" fn ksm_find_equal(pass: &mut Handle, place: u32, page: &PageBytes) -> u32
     ensures { OnPass (λ v a w. FindsEqual v place page.now a w) pass.old.thing result pass.new.thing }
 {
-    let Some(mut thing) = pass.take(alloc) else {
+    let Some(thing) = pass.as_mut() else {
         return Answer::Closed.number();
     };
-    let answer = match &mut *thing {
+    let answer = match thing {
         Thing::Pass(reader, _) => reader.find_equal(place, page),
         _ => Answer::Kind,
     };
-    pass.put(thing);
     answer.number()
 }
 
 /// Looks a place up, loads every word of the frame that it names, and gives the frame back: three calls in one.
 #[unsafe(no_mangle)]
-pub extern "C" fn ksm_look_up(
-    alloc: Global,
-    pass: &mut Handle,
-    place: u32,
-    words: &mut PageBytes,
-) -> u32
+pub extern "C" fn ksm_look_up(pass: &mut Handle, place: u32, words: &mut PageBytes) -> u32
     ensures looked { OnPass (λ v a w. LooksUpAll v place a words.new w) pass.old.thing result pass.new.thing }
     ensures kept { result ≢ 0 → words.new ≡ words.old }
 {
-    let Some(mut thing) = pass.take(alloc) else {
+    let Some(thing) = pass.as_mut() else {
         return Answer::Closed.number();
     };
-    let answer = match &mut *thing {
+    let answer = match thing {
         Thing::Pass(reader, _) => reader.look_up(place, words),
         _ => Answer::Kind,
     };
-    pass.put(thing);
     answer.number()
 }
 
 /// Loads the word `i` of the frame that is held.
 #[unsafe(no_mangle)]
-pub extern "C" fn ksm_word(alloc: Global, pass: &mut Handle, i: usize, word: &mut u64) -> u32
+pub extern "C" fn ksm_word(pass: &mut Handle, i: usize, word: &mut u64) -> u32
     ensures read { OnPass (λ v a w. Reads v i a word.new w) pass.old.thing result pass.new.thing }
     ensures kept { result ≢ 0 → word.new ≡ word.old }
 {
-    let Some(mut thing) = pass.take(alloc) else {
+    let Some(thing) = pass.as_mut() else {
         return Answer::Closed.number();
     };
-    let answer = match &mut *thing {
+    let answer = match thing {
         Thing::Pass(reader, _) => reader.word(i, word),
         _ => Answer::Kind,
     };
-    pass.put(thing);
     answer.number()
 }
 
 /// Loads every word of the frame that is held.
 #[unsafe(no_mangle)]
-pub extern "C" fn ksm_words(alloc: Global, pass: &mut Handle, words: &mut PageBytes) -> u32
+pub extern "C" fn ksm_words(pass: &mut Handle, words: &mut PageBytes) -> u32
     ensures read { OnPass (λ v a w. ReadsAll v a words.new w) pass.old.thing result pass.new.thing }
     ensures kept { result ≢ 0 → words.new ≡ words.old }
 {
-    let Some(mut thing) = pass.take(alloc) else {
+    let Some(thing) = pass.as_mut() else {
         return Answer::Closed.number();
     };
-    let answer = match &mut *thing {
+    let answer = match thing {
         Thing::Pass(reader, _) => reader.words(words),
         _ => Answer::Kind,
     };
-    pass.put(thing);
     answer.number()
 }
 
 /// Tells the place, the frame and the life that are held.
 #[unsafe(no_mangle)]
 pub extern "C" fn ksm_held(
-    alloc: Global,
     pass: &mut Handle,
     place: &mut u32,
     frame: &mut u32,
@@ -114,29 +97,27 @@ pub extern "C" fn ksm_held(
     ensures told { OnPass (λ v a w. TellsHold v a place.new frame.new life.new w) pass.old.thing result pass.new.thing }
     ensures kept { result ≢ 0 → (place.new ≡ place.old) × (frame.new ≡ frame.old) × (life.new ≡ life.old) }
 {
-    let Some(mut thing) = pass.take(alloc) else {
+    let Some(thing) = pass.as_mut() else {
         return Answer::Closed.number();
     };
-    let answer = match &mut *thing {
+    let answer = match thing {
         Thing::Pass(reader, _) => reader.held(place, frame, life),
         _ => Answer::Kind,
     };
-    pass.put(thing);
     answer.number()
 }
 
 /// Gives the frame back that is held.
 #[unsafe(no_mangle)]
-pub extern "C" fn ksm_leave(alloc: Global, pass: &mut Handle) -> u32
+pub extern "C" fn ksm_leave(pass: &mut Handle) -> u32
     ensures { OnPass (λ v a w. GoesIdle v a w) pass.old.thing result pass.new.thing }
 {
-    let Some(mut thing) = pass.take(alloc) else {
+    let Some(thing) = pass.as_mut() else {
         return Answer::Closed.number();
     };
-    let answer = match &mut *thing {
+    let answer = match thing {
         Thing::Pass(reader, _) => reader.leave(),
         _ => Answer::Kind,
     };
-    pass.put(thing);
     answer.number()
 }
