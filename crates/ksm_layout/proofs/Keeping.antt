@@ -183,6 +183,7 @@ reaped_start v w low e = record {
 
 -- frames are reaped one by one
 module _ (v w w' : KeeperView) (low n : ℕ) (so_far : Reaped v w low n) where
+  -- a dying frame is reaped: the frames reaped so far reach one further
   pub reaped_one : (found : ℕ) → low + n < frames_of v.table.shape → low + n < length w.ledger.frames → (frame_at w.ledger (low + n)).kind ≡ Dying → w' ≡ did w (Reap (low + n)) found → Reaped v w' low (n + 1)
   reaped_one found inside within dying is =
       let g : ℕ = low + n in
@@ -210,6 +211,7 @@ module _ (v w w' : KeeperView) (low n : ℕ) (so_far : Reaped v w low n) where
             let before = so_far.spent in omega (arith, more, same, before));
       }
 
+  -- a frame that is not dying is passed over: the frames reaped so far reach one further
   pub reaped_none : (frame_at w.ledger (low + n)).kind ≢ Dying → Reaped v w low (n + 1)
   reaped_none alive = record {
     part = so_far.part;

@@ -35,7 +35,7 @@ made_one v w e found is = record { part = (e, found) ∷ []; after = is; are = r
 pub made_part : (v w : KeeperView) (nodes : List ℕ) (part : Log) → Did v w nodes part → Made v w (steps_of part)
 made_part v w nodes part d = record { part = part; after = λ i. record { table = d.table i; ledger = d.ledger i; log = d.log i }; are = refl }
 
--- one piece of work after another
+-- two pieces of work, one after the other, have made the steps of both
 pub made_then : (u v w : KeeperView) (xs ys : List KeeperStep) → Made u v xs → Made v w ys → Made u w (xs ++ ys)
 made_then u v w xs ys a b = record {
   part = a.part ++ b.part;
@@ -100,6 +100,7 @@ module _ (v w w' : KeeperView) (low n : ℕ) (so_far : Made v w (map Reap (dying
       pushed true = refl
       pushed false = refl
 
+  -- a dying frame is reaped: its step comes last, and the frames behind it are as they were
   pub reap_made : (found : ℕ) → dying_kind (frame_at w.ledger (low + n)).kind ≡ true → w' ≡ did w (Reap (low + n)) found
       → Made v w' (map Reap (dying_from v.ledger low (n + 1))) × ((f : ℕ) → low + (n + 1) ≤ f → frame_at w'.ledger f ≡ frame_at v.ledger f)
   reap_made found dies is = (
@@ -108,6 +109,7 @@ module _ (v w w' : KeeperView) (low n : ℕ) (so_far : Made v w (map Reap (dying
     λ f ge. ap (λ (z : KeeperView). frame_at z.ledger f) is ∙ other_reaped w.table.shape w.ledger (low + n) f found (omega arith) ∙ later f (omega arith),
   )
 
+  -- a frame that is not dying makes no step, and the frames behind it are as they were
   pub pass_made : dying_kind (frame_at w.ledger (low + n)).kind ≡ false → w' ≡ w
       → Made v w' (map Reap (dying_from v.ledger low (n + 1))) × ((f : ℕ) → low + (n + 1) ≤ f → frame_at w'.ledger f ≡ frame_at v.ledger f)
   pass_made lives is = (

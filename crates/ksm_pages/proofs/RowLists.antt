@@ -45,6 +45,7 @@ greater_is p q = grind (arith, nat_tests)
 pub before_is : (k q : GuestPage) → order k q ≡ Less → comes_before k q ≡ true
 before_is k q less = sym (less_is k q) ∙ ap is_lt less
 
+-- a page that comes before another is less
 pub less_so : (k q : GuestPage) → comes_before k q ≡ true → order k q ≡ Less
 less_so k q before = go (order k q) refl
   where
@@ -110,7 +111,7 @@ rank_first : (k : GuestPage) (e : GuestPage × Entry) (es : Entries) → comes_b
 rank_first k e es no' after =
     ap (λ (b : Bool). length (cond b (row_of e ∷ filter (λ r. comes_before r.page k) (rows_of es)) (filter (λ r. comes_before r.page k) (rows_of es)))) no' ∙ ap length (none_before k es after)
 
--- by the order of the page and the first entry's
+-- three cases: the page comes before the first entry, has it, or comes after it
 pub beside : (X : Type 0) (k : GuestPage) (e : GuestPage × Entry) (es : Entries) → Sorted (e ∷ es)
     → (order k e.0 ≡ Less → After k (e ∷ es) → X) → (order k e.0 ≡ Equal → Hits k e es → X) → (order k e.0 ≡ Greater → Passes k e es → X) → X
 beside X k e es sorted below here above = go (order k e.0) refl

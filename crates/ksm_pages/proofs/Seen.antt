@@ -48,7 +48,7 @@ seen_paired of [] frames paired = refl
 seen_paired of (r ∷ rows) [] paired = paired
 seen_paired of (r ∷ rows) (own ∷ frames) paired = ap suc (seen_paired of rows frames (omega (arith, paired)))
 
--- another row and another frame in the stead of those at a place
+-- where a row and its frame are put in the stead of another's, so they are seen
 pub seen_set : (of : ℕ → Option ℕ) (rows : List Row) (frames : List (Option ℕ)) (i : ℕ) (row : Row) (own : Option ℕ)
     → frames_seen of (set rows i row) (set frames i own) ≡ set (frames_seen of rows frames) i (frame_seen of row.state own)
 seen_set of [] frames i row own = refl
@@ -57,7 +57,7 @@ seen_set of (r ∷ rows) [] (suc i) row own = refl
 seen_set of (r ∷ rows) (h ∷ frames) zero row own = refl
 seen_set of (r ∷ rows) (h ∷ frames) (suc i) row own = ap (λ l. frame_seen of r.state h ∷ l) (seen_set of rows frames i row own)
 
--- another row in the stead of that at a place, where both lie on the frame that the entry has
+-- where a row is put in the stead of another on its own frame, it is seen on the frame that its entry has
 pub seen_revised : (of : ℕ → Option ℕ) (rows : List Row) (frames : List (Option ℕ)) (i : ℕ) (row : Row)
     → ((own : Option ℕ) → frame_seen of row.state own ≡ frame_seen of (row_in rows i).state own)
     → frames_seen of (set rows i row) frames ≡ frames_seen of rows frames
@@ -67,7 +67,7 @@ seen_revised of (r ∷ rows) [] (suc i) row same = refl
 seen_revised of (r ∷ rows) (h ∷ frames) zero row same = ap (λ f. f ∷ frames_seen of rows frames) (same h)
 seen_revised of (r ∷ rows) (h ∷ frames) (suc i) row same = ap (λ l. frame_seen of r.state h ∷ l) (seen_revised of rows frames i row same)
 
--- another row in the stead of that at a place, where the entry keeps its frame
+-- where a row's state changes and its entry keeps its frame, each other row is seen where it was
 seen_restated : (of : ℕ → Option ℕ) (rows : List Row) (frames : List (Option ℕ)) (i : ℕ) (row : Row)
     → frames_seen of (set rows i row) frames ≡ set (frames_seen of rows frames) i (frame_seen of row.state (frame_in frames i))
 seen_restated of [] frames i row = refl
@@ -318,7 +318,7 @@ find_kept test keep (d ∷ ds) o is kept =
 apart : (place : ℕ) (e : DupRow) → (e.place == place) ≡ false → elsewhere place e ≡ true
 apart place e away = ap not away
 
--- without the dup at a vacant place
+-- without the dup at a place the frames of the other dups are found as before
 pub lodging_without : (dups : List DupRow) (lodgings : List (Option ℕ)) (place n : ℕ)
     → ((e : DupRow) → dup_numbered n dups ≡ Some e → (e.place == place) ≡ false)
     → lodging (filter (elsewhere place) dups) lodgings n ≡ lodging dups lodgings n
@@ -333,7 +333,7 @@ seen_dropped dups lodgings v place vacant =
     (λ k r lt. same_seen (lodging (filter (elsewhere place) dups) lodgings) (lodging dups lodgings) (get_or v.rows k r).state
     (λ n merged. lodging_without dups lodgings place n (not_vacant v.rows dups place n k r vacant lt merged)))
 
--- another frame at the place of another dup
+-- another frame at one place leaves the frames of dups at other places
 lodging_apart : (lodgings : List (Option ℕ)) (place : ℕ) (frame : Option ℕ) (o : Option DupRow) → ((e : DupRow) → o ≡ Some e → (e.place == place) ≡ false)
     → lodging_of (set lodgings place frame) o ≡ lodging_of lodgings o
 lodging_apart lodgings place frame None away = refl
@@ -423,6 +423,7 @@ module _ (dups : List DupRow) (lodgings : List (Option ℕ)) (new : DupRow) (fra
             | inr other ↦ other
           ]
 
+  -- once two rows are merged into the new dup, both are seen on its frame, and each other row where it was
   pub seen_both : (now : List DupRow) (v one two : Listed) (r s : Row) (k l : ℕ) → now ≡ with_dup new dups → r.state ≡ Merged new.number
       → s.state ≡ Merged new.number
       → one.rows ≡ set v.rows k r → one.frames ≡ v.frames → two.rows ≡ set one.rows l s → two.frames ≡ one.frames

@@ -1,4 +1,5 @@
-//! The pages of the book: which rows there are, on which frame each lies, which dups have them as items, and which of them wait.
+//! The pages of the book: which rows there are, on which frame each lies, which dups have them as items, and which of
+//! them wait.
 #![tactic(auto)]
 
 mod blocks;

@@ -123,7 +123,7 @@ module _ {X : Type 0} (before same : X → X → Bool) (order : IsOrder before s
             grind (arith, second, here, e, f)
       ]
 
-  -- it is there exactly where it stands behind those before it
+  -- x is in the list exactly where it stands behind the elements before it
   pub found_at : (xs : List X) (d : X) → AllPairs (λ a b. before a b ≡ true) xs → length (filter low xs) < length xs → list_any is_x xs ≡ is_x (get_or xs (length (filter low xs)) d)
   found_at [] d rise within = absurd (omega arith)
   found_at (y ∷ ys) d rise within =
@@ -146,6 +146,7 @@ module _ {X : Type 0} (before same : X → X → Bool) (order : IsOrder before s
             ]
       ]
 
+  -- where all elements come before x, x is not in the list
   pub absent_past : (xs : List X) → AllPairs (λ a b. before a b ≡ true) xs → length xs ≤ length (filter low xs) → list_any is_x xs ≡ false
   absent_past [] rise past = refl
   absent_past (y ∷ ys) rise past =
@@ -185,6 +186,7 @@ module _ {X : Type 0} (before same : X → X → Bool) (order : IsOrder before s
             ]
       ]
 
+  -- a list without x stays as it is where x is filtered out
   pub absent_kept : (xs : List X) → list_any is_x xs ≡ false → xs ≡ filter (λ y. not (is_x y)) xs
   absent_kept [] absent = refl
   absent_kept (y ∷ ys) absent =
@@ -220,7 +222,7 @@ module _ {X : Type 0} (before same : X → X → Bool) (order : IsOrder before s
             ]
       ]
 
-  -- both keep the order
+  -- a list in strict order stays in order where x is put in its place
   pub with_rises : (xs : List X) → AllPairs (λ a b. before a b ≡ true) xs → AllPairs (λ a b. before a b ≡ true) (filter low xs ++ x ∷ filter high xs)
   with_rises xs rise =
       let R : X → X → Type 0 = λ a b. before a b ≡ true in
@@ -231,5 +233,6 @@ module _ {X : Type 0} (before same : X → X → Bool) (order : IsOrder before s
       pairs_append R below (x ∷ above) (AllPairs-filter R low xs rise)
       (AllPairs-cons R x above all_above (AllPairs-filter R high xs rise)) cross
 
+  -- a list in strict order stays in order where x is filtered out
   pub without_rises : (xs : List X) → AllPairs (λ a b. before a b ≡ true) xs → AllPairs (λ a b. before a b ≡ true) (filter (λ y. not (is_x y)) xs)
   without_rises xs rise = AllPairs-filter (λ a b. before a b ≡ true) (λ y. not (is_x y)) xs rise

@@ -63,7 +63,7 @@ module _ (s : SlotsState) (next : ℕ) (index new : Index) (dup : Dup) (h : AreI
         numbers_below = rw is (all_with (λ r. r.number < next + 1) dup.row rows (All-weaker (λ r. r.number < next) (λ r. r.number < next + 1) (λ r below. omega arith) rows h.lawful.numbers_below) (omega (arith, number)));
       }
 
-  -- at a place that was empty
+  -- the index is right once a new dup stands at a place that was empty
   pub fresh_indexed : None ≡ dup_at dup.row.place s.dups → ((q : ℕ) → place_of q new ≡ (if q == dup.row.number then Some dup.row.place else place_of q index)) → ((t : ℕ) (b : List ℕ) → places_of t b new ≡ (if t == dup.row.tree && bytes_eq b dup.row.bytes then with_place dup.row.place (places_of t b index) else places_of t b index))
       → IsRegrouped (length (places_of dup.row.tree dup.row.bytes index)) (length (places_of dup.row.tree dup.row.bytes new)) index.groups.totals new.groups.totals → AreIndexed (record { places = s.places; dups = with_new dup s.dups }) (next + 1) new
   fresh_indexed none numbers groups regrouped =
@@ -153,6 +153,7 @@ module _ (s : SlotsState) (next : ℕ) (index new : Index) (dup : Dup) (h : AreI
         | inr outside ↦ ap length (groups t b ∙ rw (sym (own_group t b dup.row) ∙ outside) refl)
       ]
 
+  -- once the new dup is entered beside the old one at its place, the totals are right for the group of the old one
   pub told_between : (mid : Index) (old : Dup) → Some old ≡ dup_at dup.row.place s.dups → IsJoined mid
       → IsRegrouped (length (places_of dup.row.tree dup.row.bytes index)) (length (places_of dup.row.tree dup.row.bytes mid)) index.groups.totals mid.groups.totals → Tells (length (places_of old.row.tree old.row.bytes mid)) mid.groups.totals
   told_between mid old found groups regrouped =
@@ -163,7 +164,7 @@ module _ (s : SlotsState) (next : ℕ) (index new : Index) (dup : Dup) (h : AreI
       rw (left_size mid old swap groups) (totals_between old.row r swap.less rows (with_dup r rows) swap.there swap.here h.lawful.in_place_order swap.less_rise swap.new_rise
       index.groups.totals mid.groups.totals (rw (← h.grouped r.tree r.bytes, ← joined_own mid groups) regrouped) (length (places_of old.row.tree old.row.bytes index)) few.0 few.1 (told s next index h old.row.tree old.row.bytes))
 
-  -- at the place of a dup that goes
+  -- the index is right once a new dup stands at the place of a dup that goes
   pub taken_indexed : (mid : Index) (old : Dup) → Some old ≡ dup_at dup.row.place s.dups
       → ((q : ℕ) → place_of q mid ≡ (if q == dup.row.number then Some dup.row.place else place_of q index))
       → ((t : ℕ) (b : List ℕ) → places_of t b mid ≡ (if t == dup.row.tree && bytes_eq b dup.row.bytes then with_place dup.row.place (places_of t b index) else places_of t b index))

@@ -238,6 +238,7 @@ module _ (test : Option Dup → Bool) where
       ap (places_where test 0) (reverse_set slots i m s is)
       ∙ where_same test None 0 m (reverse slots) s (same ∙ ap test (sym (get_mirrored slots i m None is)))
 
+  -- where the slot at one place fails the test, the list of places that pass has room for one more
   pub mirrored_room : (i m : ℕ) (slots : List (Option Dup)) → m + i + 1 ≡ length slots → test (get_or slots i None) ≡ false → length (mirrored_where slots) + 1 ≤ length slots
   mirrored_room i m slots is fails =
       let n = length-reverse slots in
@@ -280,13 +281,16 @@ empty_first slots placed =
 
 -- the last of the distances is that of the least place that no dup has
 module _ (slots : List (Option Dup)) (counts : List ℕ) (empty stale : SmallVec ℕ) (h : AreSlots slots counts empty stale) where
+  -- the last of the distances is below the number of slots
   pub empty_within : (m : ℕ) → last_of empty.items ≡ Some m → m < length slots
   empty_within m is = mirrored_within is_empty_slot m slots (ap last_of (sym h.empties) ∙ is)
 
+  -- the place at the last of the distances is the least empty place
   pub empty_found : (p m : ℕ) → p + m + 1 ≡ length slots → last_of empty.items ≡ Some m → Some p ≡ empty_place (length slots) (rows_of (present slots))
   empty_found p m at is =
       sym (mirrored_first is_empty_slot 0 p m slots (omega (arith, at)) (ap last_of (sym h.empties) ∙ is)) ∙ empty_first slots h.placed
 
+  -- where the list of empty places has no last element, no place is empty
   pub empty_none : last_of empty.items ≡ None → None ≡ empty_place (length slots) (rows_of (present slots))
   empty_none none = sym (mirrored_none is_empty_slot 0 slots (ap last_of (sym h.empties) ∙ none)) ∙ empty_first slots h.placed
 
@@ -343,7 +347,7 @@ slots_put slots counts empty stale empty' stale' dup m n at is live h left room 
       stale_room = rw (length-set, room_stale) h.stale_room;
     }
 
--- and what is then seen of the slots
+-- what is seen of the slots once a dup was put in one
 pub seen_put : (slots : List (Option Dup)) (state : SlotsState) (dup : Dup) → slots_seen slots ≡ state → dup.row.place < state.places → ArePlaced 0 slots → slots_seen (set slots dup.row.place (Some dup)) ≡ record { places = state.places; dups = with_new dup state.dups }
 seen_put slots state dup seen place placed =
     let p = dup.row.place in
@@ -434,7 +438,7 @@ slot_not_none p slots r placed known read is =
     let here = read_dup p slots r placed (known_within p slots placed known) read ∙ is in
     false≢true (ap is_some (sym here) ∙ known)
 
--- with an item more a dup is not stale
+-- a dup that got an item is not stale
 pub grown_not_stale : (page : GuestPage) (pages : List GuestPage) → (length (with_item page pages) == 0) ≡ false
 grown_not_stale page pages =
     let n = length-append (filter (λ p. comes_before p page) pages) (page ∷ filter (λ p. comes_before page p) pages) in
@@ -462,7 +466,7 @@ holds_dup p slots s r d view placed known read is =
       items = ap (λ t. items_in (dup_at p t.dups)) (sym view) ∙ ap items_in (slot_found 0 p p slots (omega arith) placed ∙ filled);
     }
 
--- with an item more in the dup of a slot, which is not stale then: it was stale, or had items before
+-- the slots are right once the dup of one got an item, whether it was stale or had items before
 pub slots_grown : (p n : ℕ) (slots : List (Option Dup)) (counts : List ℕ) (empty stale stale' : SmallVec ℕ) (d : Dup) (page : GuestPage) → p < length slots → AreSlots slots counts empty stale → get_or slots p None ≡ Some d → n ≡ length (with_item page d.items) → stale'.items ≡ without p stale.items → stale'.capacity ≡ stale.capacity → AreSlots (set slots p (Some (record d { items = with_item page d.items }))) (set counts p n) empty stale'
 slots_grown p n slots counts empty stale stale' d page within h filled is left room =
     let e : Dup = record d { items = with_item page d.items } in
@@ -492,7 +496,7 @@ items_not_none page (p ∷ pages) found = grind (arith, nat_tests)
 pub had_item : (page : GuestPage) (d : Dup) → true ≡ has_item page d.items → is_stale d ≡ false
 had_item page d found = items_not_none page d.items found
 
--- with an item less in the dup of a slot: one that was no item, the last one, and another
+-- taking a page out of a dup of which it is no item changes nothing in the slots
 pub slots_unlike : (p : ℕ) (slots : List (Option Dup)) (counts : List ℕ) (empty stale : SmallVec ℕ) (d : Dup) (page : GuestPage) → p < length slots → AreSlots slots counts empty stale → get_or slots p None ≡ Some d → false ≡ has_item page d.items → AreSlots (set slots p (Some (record d { items = without_item page d.items }))) counts empty stale
 slots_unlike p slots counts empty stale d page within h filled absent =
     let e : Dup = record d { items = without_item page d.items } in

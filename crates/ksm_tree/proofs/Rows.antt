@@ -30,6 +30,7 @@ module _ (p : ℕ) where
   abbrev elsewhere : DupRow → Bool
   elsewhere r = not (r.place == p)
 
+  -- in the order of places, the rows at other places are those below the place, then those above it
   pub rows_parted : (rows : List DupRow) → InPlaceOrder rows → filter elsewhere rows ≡ filter below rows ++ filter above rows
   rows_parted [] rise = refl
   rows_parted (r ∷ rows) rise =

@@ -58,9 +58,11 @@ pages_chosen test by (r ∷ rows) =
     ]
 
 module _ (page : GuestPage) where
+  -- a row whose page comes before this one
   abbrev pub ahead : Row → Bool
   ahead r = comes_before r.page page
 
+  -- a row whose page comes after this one
   abbrev pub behind : Row → Bool
   behind r = comes_before page r.page
 
@@ -110,6 +112,7 @@ module _ (page : GuestPage) where
             ]
       ]
 
+  -- in the order of pages, the rows of other pages are those ahead of this one, then those behind it
   pub without_splits : (rows : List Row) → InPageOrder rows → without_page page rows ≡ filter ahead rows ++ filter behind rows
   without_splits [] rise = refl
   without_splits (r ∷ rows) rise =

@@ -81,9 +81,11 @@ module _ (rows : List Row) (page : GuestPage) (old : Row) (rise : InPageOrder ro
       (λ other. let fails : (n == d.row.number) ≡ false = grind (arith, nat_tests, other) in
       tied k e lt ∙ unlike d.row (rw is fails) ∙ sym (less d.row)))
 
+  -- rows and dups stay tied where a row goes and its page leaves its dup
   pub tied_dropped : (dups : List Dup) → AreTied rows dups → AreTied (without_page page rows) (let_out old.state page dups)
   tied_dropped dups tied = out_of old.state refl (without_page page rows) dups (λ d. items_dropped rows d rise page) tied
 
+  -- rows and dups stay tied where a row becomes one that is not merged and its page leaves its dup
   pub tied_left : (row : Row) (dups : List Dup) → merged_state row.state ≡ false → AreTied rows dups → AreTied (change_row page (λ _. row) rows) (let_out old.state page dups)
   tied_left row dups alone tied =
       out_of old.state refl (change_row page (λ _. row) rows) dups
@@ -108,6 +110,7 @@ module _ (rows : List Row) (page : GuestPage) (old : Row) (rise : InPageOrder ro
   absent_in number dups (Some d) alone tied is =
       ap (has_item page) (found_in (IsTied rows) (has_number number) dups d tied is) ∙ not_item d.row (not_merged d.row.number old.state alone)
 
+  -- a page whose row is not merged is an item of no dup
   pub tied_absent : (number : ℕ) (dups : List Dup) → merged_state old.state ≡ false → AreTied rows dups → has_item page (items_numbered number dups) ≡ false
   tied_absent number dups alone tied = absent_in number dups (dup_of number dups) alone tied refl
 
@@ -172,7 +175,7 @@ module _ (rows : List Row) (first second : Row) (row : DupRow) (rise : InPageOrd
       ∙ ap (without_item second.page) step
       ∙ sym (unlike rows second.page second rise also d (not_merged d.number second.state alone_too))
 
-  -- and of the new one
+  -- the items of the new dup are the two pages
   both_in : items_of whole row ≡ with_item second.page (first.page ∷ [])
   both_in =
       let passes : (row.number == row.number) ≡ true = grind (arith, nat_tests) in
@@ -180,6 +183,7 @@ module _ (rows : List Row) (first second : Row) (row : DupRow) (rise : InPageOrd
       items_joined half row half_rises second.page second_in refl there passes
       ∙ ap (with_item second.page) (items_joined rows row rise first.page first_in refl (ap is_some found) passes ∙ ap (with_item first.page) empty)
 
+  -- rows and dups stay tied where two pages make a dup whose number is above all others
   pub tied_made : (dups : List Dup) → All (λ r. r.number < row.number) (rows_of dups) → AreTied rows dups → AreTied whole (with_new (record { row = row; items = with_item second.page (first.page ∷ []) }) dups)
   tied_made dups fresh tied =
       all_with_new (IsTied whole) (record { row = row; items = with_item second.page (first.page ∷ []) }) dups
