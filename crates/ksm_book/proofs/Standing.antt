@@ -34,7 +34,8 @@ use Rattle.ksm_book.specs.Promised.{FindsPlace, NumbersAreSmall}
 use Rattle.ksm_layout.specs.Lawful.{LieLawfully}
 use Rattle.ksm_layout.proofs.Laying.{own_kind, own_framed}
 use Rattle.ksm_layout.proofs.Moves.{Serves, framed}
-use Rattle.ksm_book.proofs.Visiting.{state_of_item, waiting_is_alone}
+use Rattle.ksm_book.proofs.Visiting.{waiting_is_alone}
+use Rattle.ksm_layout.proofs.Joining.{state_of_item}
 
 kind_of_item : (n : ℕ) (s : PageState) → merged_into n s ≡ true → kind_for s ≡ Stable
 kind_of_item n OwnPage e = absurd (grind (arith, e))

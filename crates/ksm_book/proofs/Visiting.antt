@@ -29,13 +29,7 @@ use Rattle.ksm_layout.specs.Commands.{idle, handling, row_visiting, pairing, emp
 use Rattle.ksm_layout.specs.Laid.{Lay, Joins, JoinsDup, Founds, new_dup, state_of}
 use Rattle.ksm_layout.proofs.Found.{change_known}
 use Rattle.ksm_pages.proofs.Linking.{own_not_merged}
-
--- the state of a dup's item is Merged with the dup's number
-pub state_of_item : (n : ℕ) (s : PageState) → merged_into n s ≡ true → s ≡ Merged n
-state_of_item n Private e = absurd (grind (arith, e))
-state_of_item n Waiting e = absurd (grind (arith, e))
-state_of_item n Zero e = absurd (grind (arith, e))
-state_of_item n (Merged d) e = ap Merged (eqb-true d n e)
+use Rattle.ksm_layout.proofs.Joining.{state_of_item}
 
 item_is_merged : (n : ℕ) (s : PageState) → merged_into n s ≡ true → merged_state s ≡ true
 item_is_merged n Private e = absurd (grind (arith, e))

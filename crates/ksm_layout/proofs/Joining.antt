@@ -12,7 +12,8 @@ use Rattle.ksm_pages.specs.Listed.{Listed, StandsAt}
 use Rattle.ksm_pages.specs.Lodged.{ItemsLieOn}
 use Rattle.ksm_layout.specs.Laid.{Lay, Joins, JoinsDup}
 
-state_of_item : (n : ℕ) (s : PageState) → merged_into n s ≡ true → s ≡ Merged n
+-- a row that is an item of a dup is merged into it by its state
+pub state_of_item : (n : ℕ) (s : PageState) → merged_into n s ≡ true → s ≡ Merged n
 state_of_item n Private e = absurd (grind (arith, e))
 state_of_item n Waiting e = absurd (grind (arith, e))
 state_of_item n Zero e = absurd (grind (arith, e))

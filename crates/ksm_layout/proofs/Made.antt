@@ -18,6 +18,7 @@ use Rattle.frame_table.specs.Named.{KeeperView}
 use Rattle.frame_table.specs.Kept.{did}
 use Rattle.ksm_layout.specs.Steps.{Log, Did, Made, steps_of, stepped, dying_kind, dying_from, dying_on, puts}
 use Rattle.ksm_layout.proofs.Logs.{replayed_append}
+use Rattle.ksm_layout.proofs.Keeping.{reap_other}
 
 -- where the keeper stays as it is, no step was made
 pub made_none : (v w : KeeperView) → w ≡ v → Made v w []
@@ -76,12 +77,6 @@ dying_more k low n = ap (filter (λ f. dying_kind (frame_at k f).kind)) (range_m
 abbrev reaped_note : Shape → Note → Note
 reaped_note sh n = record { kind = cond (n.generation == sh.last_generation) Retired Free; base = 0; generation = n.generation; content = n.content }
 
-other_reaped : (sh : Shape) (k : Ledger) (g f found : ℕ) → f ≢ g → frame_at (ledger_after sh k (Reap g) found) f ≡ frame_at k f
-other_reaped sh k g f found ne = elim (count_in found == 0) as (λ b. frame_at (cond b (with_frame k g (reaped_note sh (frame_at k g))) k) f ≡ frame_at k f) [
-  | true ↦ get_or-set_other k.frames g f (reaped_note sh (frame_at k g)) blank ne
-  | false ↦ refl
-]
-
 -- and reaped, if it is dying
 module _ (v w w' : KeeperView) (low n : ℕ) (so_far : Made v w (map Reap (dying_from v.ledger low n)))
     (later : (f : ℕ) → low + n ≤ f → frame_at w.ledger f ≡ frame_at v.ledger f) where
@@ -106,7 +101,7 @@ module _ (v w w' : KeeperView) (low n : ℕ) (so_far : Made v w (map Reap (dying
   reap_made found dies is = (
     subst (Made v w') (sym (more_of true (ap (λ (x : Note). dying_kind x.kind) (sym seen) ∙ dies)))
         (made_then v w w' _ _ so_far (made_one w w' (Reap (low + n)) found is)),
-    λ f ge. ap (λ (z : KeeperView). frame_at z.ledger f) is ∙ other_reaped w.table.shape w.ledger (low + n) f found (omega arith) ∙ later f (omega arith),
+    λ f ge. ap (λ (z : KeeperView). frame_at z.ledger f) is ∙ reap_other w.table.shape w.ledger (low + n) f found (omega arith) ∙ later f (omega arith),
   )
 
   -- a frame that is not dying makes no step, and the frames behind it are as they were

@@ -7,8 +7,8 @@ use Rattle.std.proofs.lemmas.Bool.Decides.{nat_tests}
 use Rattle.std.proofs.lemmas.Option.{none-some, same_Some}
 use Rattle.std.proofs.lemmas.List.Elements.{All-head, All-tail, All-append, All-weaker, All-cons}
 use Rattle.ksm_base.specs.Rows.{InPlaceOrder}
-use Rattle.ksm_rmap.proofs.Ordered.{pairs_head, pairs_tail}
 use Rattle.ksm_base.specs.declared.row.DupRow.{DupRow}
+use Rattle.ksm_base.proofs.Orders.{pairs_head, pairs_tail}
 use Rattle.ksm_tree.specs.declared.dup.Dup.{Dup}
 use Rattle.ksm_tree.specs.Choosing.{ArePlacesToJoin, may_join, is_no_worse, best_of, better, of_group}
 use Rattle.ksm_tree.specs.Counts.{is_open}

@@ -13,7 +13,8 @@ use Rattle.ksm_base.specs.declared.row.DupRow.{DupRow}
 use Rattle.ksm_base.specs.Counting.{group_size, in_chain, leads_group}
 use Rattle.ksm_base.specs.Rows.{InPlaceOrder, same_group, with_dup}
 use Rattle.ksm_base.proofs.Edits.{count_more, count-append}
-use Rattle.ksm_rmap.proofs.Ordered.{pairs_head, pairs_tail, filter_all}
+use Rattle.ksm_base.proofs.Orders.{pairs_head, pairs_tail}
+use Rattle.ksm_base.proofs.RowCounts.{filter_all}
 use Rattle.ksm_tree.specs.Index.{in_group, group_places}
 use Rattle.ksm_tree.specs.Totals.{AreTotals, IsRegrouped, Tells, chained_of, chains_of}
 use Rattle.ksm_tree.specs.declared.totals.Totals.{Totals}

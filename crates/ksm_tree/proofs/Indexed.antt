@@ -10,7 +10,7 @@ use Rattle.ksm_base.specs.declared.page.GuestPage.{GuestPage}
 use Rattle.ksm_base.specs.declared.row.DupRow.{DupRow}
 use Rattle.ksm_base.specs.Rows.{InPlaceOrder}
 use Rattle.ksm_base.proofs.Edits.{find_nothing}
-use Rattle.ksm_rmap.proofs.Ordered.{pairs_head, pairs_tail}
+use Rattle.ksm_base.proofs.Orders.{pairs_head, pairs_tail}
 use Rattle.ksm_tree.specs.declared.dup.Dup.{Dup}
 use Rattle.ksm_tree.specs.declared.index.Index.{Index}
 use Rattle.ksm_tree.specs.Dups.{rows_of, has_number, stands_at, dup_of, dup_at, without_place, change_items}

@@ -8,7 +8,8 @@ use Rattle.std.proofs.lemmas.List.Elements.{All-head, All-tail, All-weaker, All-
 use Rattle.std.proofs.lemmas.List.Kept.{AllPairs-filter}
 use Rattle.ksm_base.specs.declared.row.DupRow.{DupRow}
 use Rattle.ksm_base.specs.Rows.{InPlaceOrder, with_dup}
-use Rattle.ksm_rmap.proofs.Ordered.{filter_all}
+use Rattle.ksm_base.proofs.RowCounts.{filter_all}
+use Rattle.ksm_base.proofs.Edits.{find_nothing, find_none}
 use Rattle.ksm_tree.specs.declared.dup.Dup.{Dup}
 use Rattle.ksm_tree.specs.declared.index.Index.{Index}
 use Rattle.ksm_tree.specs.Dups.{AreDups, rows_of, dup_at, with_new}
@@ -21,21 +22,6 @@ use Rattle.ksm_tree.proofs.Grouped.{IsMore, chains_kept, dups_kept, more_with, m
 use Rattle.ksm_tree.proofs.Keys.{own_bytes, own_group, own_tree, self_group}
 use Rattle.ksm_tree.proofs.Indexed.{row_at_place, not_in_group, cond_if, found_stands, told}
 use Rattle.ksm_tree.proofs.Rows.{rows_with, all_with, place_new, place_kept, place_gone, group_joined, group_passed, group_unlike, found_in}
-
-none_found : {X : Type 0} (test : X → Bool) (xs : List X) → find test xs ≡ None → All (λ x. test x ≡ false) xs
-none_found test [] none = λ k d lt. absurd (omega arith)
-none_found test (x ∷ xs) none =
-    elim (cases_Bool (test x)) [
-      | inl passes ↦ absurd (none-some x (sym none ∙ grind (arith, passes)))
-      | inr fails ↦ All-cons (λ y. test y ≡ false) x xs fails (none_found test xs (grind (arith, fails, none)))
-    ]
-
-nothing_found : {X : Type 0} (test : X → Bool) (xs : List X) → All (λ x. test x ≡ false) xs → find test xs ≡ None
-nothing_found test [] none = refl
-nothing_found test (x ∷ xs) none =
-    let here = All-head (λ y. test y ≡ false) x xs none in
-    let rest = nothing_found test xs (All-tail (λ y. test y ≡ false) x xs none) in
-    grind (arith, here, rest)
 
 -- the place of a number, and the places of a group, with a new row
 place_with : (q : ℕ) (row : DupRow) (rows : List DupRow) → InPlaceOrder rows → All (λ r. r.number < row.number) rows → row_place q (with_dup row rows) ≡ (if q == row.number then Some row.place else row_place q (filter (λ r. not (r.place == row.place)) rows))
@@ -69,7 +55,7 @@ module _ (s : SlotsState) (next : ℕ) (index new : Index) (dup : Dup) (h : AreI
   fresh_indexed none numbers groups regrouped =
       let rows = rows_of s.dups in
       let p = dup.row.place in
-      let apart = none_found (λ r. r.place == p) rows (row_at_place p s.dups None (sym none)) in
+      let apart = find_none (λ r. r.place == p) rows (row_at_place p s.dups None (sym none)) in
       let kept = filter_all (λ r. not (r.place == p)) rows (All-weaker (λ r. (r.place == p) ≡ false) (λ r. not (r.place == p) ≡ true) (λ r e. ap not e) rows apart) in
       let grouped : (t : ℕ) (b : List ℕ) → places_of t b new ≡ group_places t b (with_dup dup.row rows) = λ t b.
       let unlike = group_unlike p t b rows (All-weaker (λ r. (r.place == p) ≡ false) (λ r. (r.place == p && in_group t b r) ≡ false) (λ r e. grind (arith, e)) rows apart) in
@@ -226,4 +212,4 @@ module _ (s : SlotsState) (next : ℕ) (index new : Index) (dup : Dup) (h : AreI
 -- the next number is that of no dup
 pub next_unused : (s : SlotsState) (next : ℕ) (index : Index) → AreIndexed s next index → place_of next index ≡ None
 next_unused s next index h =
-    h.numbered next ∙ ap (option_map (λ r. r.place)) (nothing_found (λ r. r.number == next) (rows_of s.dups) (All-weaker (λ r. r.number < next) (λ r. (r.number == next) ≡ false) (λ r below. ne_eqb r.number next (λ e. omega (arith, below, e))) (rows_of s.dups) h.lawful.numbers_below))
+    h.numbered next ∙ ap (option_map (λ r. r.place)) (find_nothing (λ r. r.number == next) (rows_of s.dups) (All-weaker (λ r. r.number < next) (λ r. (r.number == next) ≡ false) (λ r below. ne_eqb r.number next (λ e. omega (arith, below, e))) (rows_of s.dups) h.lawful.numbers_below))

@@ -12,10 +12,13 @@ use Rattle.std.proofs.lemmas.List.Elements.{All-cons, All-weaker}
 use Rattle.ksm_base.specs.declared.page.GuestPage.{GuestPage}
 use Rattle.ksm_base.specs.Rows.{comes_before, same_page}
 use Rattle.ksm_base.specs.Visit.{empty_from}
+use Rattle.ksm_base.proofs.Orders.{filter_none}
+use Rattle.ksm_base.proofs.RowCounts.{filter_all}
+use Rattle.ksm_base.proofs.Edits.{find_nothing}
 use Rattle.ksm_tree.specs.Choosing.{empty_place}
 use Rattle.ksm_rmap.specs.Items.{has_item, with_item, without_item}
 use Rattle.smallvec.specs.SmallVec.{SmallVec}
-use Rattle.ksm_rmap.proofs.Ordered.{filter_none, filter_all, absent_kept}
+use Rattle.ksm_rmap.proofs.Ordered.{absent_kept}
 use Rattle.ksm_rmap.proofs.Pages.{pages_ordered}
 use Rattle.ksm_tree.specs.declared.dup.Dup.{Dup}
 use Rattle.ksm_tree.proofs.Where.{where_with, where_without, where_same, where_room}
@@ -42,17 +45,10 @@ none_at k p slots below placed i d lt = let h = placed_above k slots placed i d 
 all_above : (k p : ℕ) (slots : List (Option Dup)) → p < k → ArePlaced k slots → All (λ d. nat_lt p d.row.place ≡ true) (present slots)
 all_above k p slots below placed i d lt = let h = placed_above k slots placed i d lt in grind (arith, nat_tests, h)
 
-find_none : {X : Type 0} (test : X → Bool) (xs : List X) → All (λ x. test x ≡ false) xs → find test xs ≡ None
-find_none test [] none = refl
-find_none test (x ∷ xs) none =
-    let here : test x ≡ false = none 0 x (omega arith) in
-    let rest = find_none test xs (λ i d lt. none (suc i) d (omega arith)) in
-    grind (arith, here, rest)
-
 -- what stands at a place is what its slot holds
 pub slot_found : (k p i : ℕ) (slots : List (Option Dup)) → p ≡ k + i → ArePlaced k slots → dup_at p (present slots) ≡ get_or slots i None
 slot_found k p i [] is placed = refl
-slot_found k p zero (None ∷ slots) is placed = find_none (stands_at p) (present slots) (none_at (suc k) p slots (omega arith) placed)
+slot_found k p zero (None ∷ slots) is placed = find_nothing (stands_at p) (present slots) (none_at (suc k) p slots (omega arith) placed)
 slot_found k p (suc i) (None ∷ slots) is placed = slot_found (suc k) p i slots (omega arith) placed
 slot_found k p zero (Some d ∷ slots) is placed = let h = placed.0 in grind (arith, nat_tests, h)
 slot_found k p (suc i) (Some d ∷ slots) is placed =

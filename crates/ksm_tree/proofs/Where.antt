@@ -3,9 +3,10 @@ use Rattle.std.proofs.Common.{◌≡◌, ℕ, zero, suc, ◌+◌, ◌<◌, ◌�
 use Rattle.std.specs.Prelude.{◌==◌, not, nat_lt, All, if◌then◌else◌}
 use Rattle.std.proofs.lemmas.Bool.Decides.{nat_tests}
 use Rattle.std.proofs.lemmas.List.Elements.{All-cons, All-weaker}
-use Rattle.ksm_rmap.proofs.Ordered.{filter_none, filter_all}
 use Rattle.ksm_tree.specs.Places.{with_place, without}
 use Rattle.ksm_tree.specs.Counts.{places_where}
+use Rattle.ksm_base.proofs.Orders.{filter_none}
+use Rattle.ksm_base.proofs.RowCounts.{filter_all}
 
 module _ {X : Type 0} (test : X → Bool) where
   where_above : (k : ℕ) (xs : List X) → All (λ p. k ≤ p) (places_where test k xs)
