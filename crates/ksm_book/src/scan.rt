@@ -513,7 +513,7 @@ impl State {
                 state: PageState::Private,
                 ..*row
             };
-            self.layout.amend(row, &kept);
+            self.layout.set_row(row, &kept);
             return Ok(Visited::Changed);
         }
         self.stay(table, row)

@@ -174,7 +174,7 @@ impl State {
     pub fn ticket(&self, page: GuestPage) -> Option<u32>
         ensures { result ≡ ticket_of page self.now.state }
     {
-        match self.layout.find(page)?.row.state {
+        match self.layout.framed_row(page)?.row.state {
             PageState::Merged(number) => Some(self.layout.numbered(number)?.place),
             _ => None,
         }
@@ -227,7 +227,7 @@ impl State {
         if node >= self.layout.shape().nodes {
             return Err(Fault::BadNode);
         }
-        let Some(held) = self.layout.find(page) else {
+        let Some(held) = self.layout.framed_row(page) else {
             return Err(Fault::UnknownPage);
         };
         if held.row.home == node {

@@ -188,8 +188,8 @@ module _ (sh : Shape) (v : Listed) (dups : List DupRow) (knobs : Knobs) (next : 
     }
 
     -- the row changes on its frame
-    pub laid_amended : (v' : Listed) → LodgesAs r page_row → v'.rows ≡ set v.rows i r → v'.frames ≡ v.frames → IsLaid sh v' dups knobs next k
-    laid_amended v' lodges rows frames = record {
+    pub laid_row_set : (v' : Listed) → LodgesAs r page_row → v'.rows ≡ set v.rows i r → v'.frames ≡ v.frames → IsLaid sh v' dups knobs next k
+    laid_row_set v' lodges rows frames = record {
       small = h.small;
       same = h.same;
       placed = subst (λ (z : List Row × List (Option ℕ)). Placed sh across k.ledger z.0 z.1 dups None) (λ t. (sym rows t, sym frames t))

@@ -26,7 +26,7 @@ use crate::frame_keeper::FrameKeeper;
 use crate::frames::{clear, known_frame, load, release_if, share, take_frame, write};
 use frame_table::{FrameTable, Keeper};
 use ksm_base::{Counters, DupRow, Fault, GuestPage, Knobs, PageBytes, Row, Shape};
-use ksm_pages::{Held, Pages, Rows};
+use ksm_pages::{FramedRow, Pages, Rows};
 use std::alloc::Global;
 use std::marker::Model;
 
@@ -172,10 +172,10 @@ impl Layout {
     }
 
     /// The row of a page, with its frame.
-    pub fn find(&self, page: GuestPage) -> Option<Held>
+    pub fn framed_row(&self, page: GuestPage) -> Option<FramedRow>
         ensures { MatchOption result (row_at page self.now.rows ≡ None) (λ held. StandsAt (mapped_lay self.now).listed page held.row held.frame) }
     {
-        self.pages.find(page)
+        self.pages.framed_row(page)
     }
 
     /// The bytes of a page, loaded from the words of its frame; a Zero page has none, and no step is made.
@@ -186,7 +186,7 @@ impl Layout {
         ensures state { self.new ≡ record self.old { keeper = self.new.keeper } }
         ensures loads { LoadsIf (frame_of (mapped_lay self.old).listed page) result self.old.keeper self.new.keeper }
     {
-        let Some(held) = self.pages.find(page) else {
+        let Some(held) = self.pages.framed_row(page) else {
             return None;
         };
         let Some(frame) = held.frame else {
@@ -251,18 +251,18 @@ impl Layout {
         ensures does { Does self.old.keeper self.new.keeper [] }
         ensures performs { Performs (mapped_lay self.old) (mapped_lay self.new) (rewriting (mapped_lay self.old).listed row.now) }
     {
-        let frame = known_frame(self.pages.revise(old, row));
+        let frame = known_frame(self.pages.set_row(old, row));
         write(&mut self.keeper, table, frame, row.bytes);
     }
 
     /// Puts a row of its own in the stead of the row that its page has, on the same frame.
-    pub fn amend(&mut self, old: &Row, row: &Row)
+    pub fn set_row(&mut self, old: &Row, row: &Row)
         requires known { row_at row.now.page self.old.rows ≡ Some old.now }
         requires lodges { LodgesAs row.now old.now }
         requires alone { row.now.state ≡ Private }
         ensures { self.new ≡ record self.old { rows = change_row row.now.page (λ _. row.now) self.old.rows } }
     {
-        self.pages.revise(old, row);
+        self.pages.set_row(old, row);
     }
 
     /// The page that waits for another; where there is none, the row waits from now on. Refused for memory alone, where

@@ -16,7 +16,7 @@ use Rattle.ksm_base.specs.declared.row.Row.{Row}
 use Rattle.ksm_base.specs.Rows.{comes_before, same_page, row_at, with_row, without_page, change_row}
 use Rattle.ksm_base.specs.contracts.page.GuestPageOrd.TheImpl as page_ord
 use Rattle.ksm_pages.specs.Kept.{Entry}
-use Rattle.ksm_pages.specs.declared.rows.Held.{Held}
+use Rattle.ksm_pages.specs.declared.rows.FramedRow.{FramedRow}
 use Rattle.ksm_pages.specs.Listed.{frame_in, row_in, Listed, rank, StandsAt}
 pub use Rattle.ksm_pages.specs.Paged.{Entries, Sorted, asks}
 use Rattle.ksm_pages.specs.RowEntries.{row_of, frame_of, entry_of, listed}
@@ -197,7 +197,7 @@ entry_found es l k row is sorted known = by (lookup (asks k) es) refl
     by (Some v) found = (v, found, same_Some row (row_of (k, v)) (sym there ∙ (stands_at k v es sorted found).found))
 
 -- what stood at a page is its row, on the frame that is listed there
-pub stood_there : (v : Listed) (k : GuestPage) (row : Row) (o : Option Held) → MatchOption o ⊥ (λ held. StandsAt v k held.row held.frame) → row_at k v.rows ≡ Some row → StandsAt v k row (frame_in v.frames (rank k v.rows))
+pub stood_there : (v : Listed) (k : GuestPage) (row : Row) (o : Option FramedRow) → MatchOption o ⊥ (λ held. StandsAt v k held.row held.frame) → row_at k v.rows ≡ Some row → StandsAt v k row (frame_in v.frames (rank k v.rows))
 stood_there v k row None never found = absurd never
 stood_there v k row (Some held) at found =
     subst (λ (z : Row × Option ℕ). StandsAt v k z.0 z.1) (λ t. (same_Some held.row row (sym at.found ∙ found) t, sym at.frame_is t)) at

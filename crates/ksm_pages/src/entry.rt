@@ -139,7 +139,7 @@ impl Entry {
     }
 
     /// Gives the row another state.
-    pub fn restate(&mut self, state: PageState)
+    pub fn set_state(&mut self, state: PageState)
         ensures { self.new ≡ record self.old { state = state } }
     {
         let (kind, number) = named(state);

@@ -11,4 +11,4 @@ mod rows;
 mod tally;
 
 pub use pages::Pages;
-pub use rows::{Held, Rows};
+pub use rows::{FramedRow, Rows};

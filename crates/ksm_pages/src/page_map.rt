@@ -1,7 +1,7 @@
 //! Pages in order, each found by a hash: the entries of the rows, under their pages.
 //!
 //! The entries stand in a map of hashes, each at an index. Beside it the pages stand in order, each with its index
-//! there. With n pages, `has`, `get`, `replace`, `revise`, `restate` and `settle` cost a hash and a comparison in the
+//! there. With n pages, `has`, `get`, `replace`, `set_row`, `set_state` and `settle` cost a hash and a comparison in the
 //! mean. `insert` also searches in the order once, and `remove`, which needs no hash, twice, in a number of steps in
 //! the order of log n. An `insert` that finds no room moves all entries to a larger place: in the mean that is a few
 //! steps for each. What is left of a page that went is kept for one that comes. A walk takes one step for each page,
@@ -173,7 +173,7 @@ impl PageMap {
     }
 
     /// Puts a row in the stead of its page's, if it has one, on the frame where it is. Gives that frame's number.
-    pub fn revise(&mut self, row: &Row) -> Option<u32>
+    pub fn set_row(&mut self, row: &Row) -> Option<u32>
         ensures frame { MatchOption (lookup (asks row.now.page) self.old) (result ≡ None) (λ e. result ≡ e.frame) }
         ensures entries { MatchOption (lookup (asks row.now.page) self.old) (self.new ≡ self.old) (λ e. self.new ≡ set_value (asks row.now.page) self.old (entry_of row.now e.frame)) }
         ensures ordered { Sorted self.old }
@@ -186,7 +186,7 @@ impl PageMap {
     }
 
     /// The row of a page gets another state, if it has one, on the frame where it is. Gives that frame's number.
-    pub fn restate(&mut self, page: GuestPage, state: PageState) -> Option<u32>
+    pub fn set_state(&mut self, page: GuestPage, state: PageState) -> Option<u32>
         ensures frame { MatchOption (lookup (asks page) self.old) (result ≡ None) (λ e. result ≡ e.frame) }
         ensures entries { MatchOption (lookup (asks page) self.old) (self.new ≡ self.old) (λ e. self.new ≡ set_value (asks page) self.old (record e { state = state })) }
         ensures ordered { Sorted self.old }
@@ -194,7 +194,7 @@ impl PageMap {
         let Some(kept) = self.found.get_mut(&page) else {
             return None;
         };
-        kept.restate(state);
+        kept.set_state(state);
         kept.frame()
     }
 

@@ -21,7 +21,7 @@ ghost use Rattle.ksm_pages.specs.Lodged.{frame_seen, frames_seen, lodging, lodgi
 ghost use Rattle.ksm_tree.specs.Dups.{rows_of};
 
 use crate::row::{Wanted, is_waiting, let_go, same_page, tree_of};
-use crate::rows::{Held, Rows};
+use crate::rows::{FramedRow, Rows};
 use ksm_base::{DupRow, Fault, GuestPage, Knobs, PageState, Row, Shape};
 use ksm_tree::{Choice, Dups, Waiting};
 use std::alloc::Global;
@@ -104,14 +104,14 @@ fn left_by(dups: &mut Dups, lodgings: &[Option<u32>], row: &Row, frame: Option<u
 }
 
 // The row of an entry with the frame where it lies: that of its dup if it is merged, else the entry's own.
-fn seen(dups: &Dups, lodgings: &[Option<u32>], held: Held) -> Held
+fn seen(dups: &Dups, lodgings: &[Option<u32>], held: FramedRow) -> FramedRow
     ensures row { result.row ≡ held.row }
     ensures frame { result.frame ≡ frame_seen (lodging (rows_of dups.now.dups) lodgings.now) held.row.state held.frame }
 {
     let PageState::Merged(number) = held.row.state else {
         return held;
     };
-    Held {
+    FramedRow {
         frame: lodging_of(dups, lodgings, number),
         ..held
     }
@@ -164,11 +164,11 @@ impl Pages {
     }
 
     /// The row of a page, with its frame.
-    pub fn find(&self, page: GuestPage) -> Option<Held>
+    pub fn framed_row(&self, page: GuestPage) -> Option<FramedRow>
         ensures known { is_some (row_at page self.now.listed.rows) ≡ is_some result }
         ensures at { MatchOption result (row_at page self.now.listed.rows ≡ None) (λ held. StandsAt self.now.listed page held.row held.frame) }
     {
-        let held = self.rows.find(page)?;
+        let held = self.rows.framed_row(page)?;
         Some(seen(&self.dups, &self.lodgings, held))
     }
 
@@ -305,7 +305,7 @@ impl Pages {
 
     /// Puts a Private row in the stead of the row that its page has, on the frame where this lies. A page that was
     /// merged leaves its dup. Gives that frame.
-    pub fn revise(&mut self, old: &Row, row: &Row) -> Option<u32>
+    pub fn set_row(&mut self, old: &Row, row: &Row) -> Option<u32>
         requires known { row_at row.now.page self.old.listed.rows ≡ Some old.now }
         requires alone { row.now.state ≡ Private }
         ensures stood { StandsAt self.old.listed row.now.page old.now result }
@@ -318,14 +318,14 @@ impl Pages {
             let frame = lodging_of(&self.dups, &self.lodgings, number);
             return self.replace(old, row, frame);
         }
-        let frame = self.rows.revise(old, row);
+        let frame = self.rows.set_row(old, row);
         stop_waiting(&mut self.waiting, &self.knobs, old);
         frame
     }
 
     /// Takes away the row of a page that has one. A page that was merged leaves its dup. Gives the row and the frame
     /// where it lay.
-    pub fn remove(&mut self, page: GuestPage) -> Option<Held>
+    pub fn remove(&mut self, page: GuestPage) -> Option<FramedRow>
         requires { is_some (row_at page self.old.listed.rows) ≡ true }
         ensures stood { MatchOption result ⊥ (λ held. StandsAt self.old.listed page held.row held.frame) }
         ensures rows { self.new.listed.rows ≡ remove self.old.listed.rows (rank page self.old.listed.rows) }
@@ -338,7 +338,7 @@ impl Pages {
         };
         stop_waiting(&mut self.waiting, &self.knobs, &held.row);
         let frame = left_by(&mut self.dups, &self.lodgings, &held.row, held.frame);
-        Some(Held { frame, ..held })
+        Some(FramedRow { frame, ..held })
     }
 
     /// Gives the page that waits with the row's tree and bytes; where there is none, the row waits from now on, on its
@@ -360,7 +360,7 @@ impl Pages {
         let tree = tree_of(&self.knobs, row);
         let page = self.waiting.find_or_add(tree, &row.bytes, row.page)?;
         if same_page(page, row.page) {
-            self.rows.restate(row, PageState::Waiting);
+            self.rows.set_state(row, PageState::Waiting);
             return Ok(None);
         }
         Ok(Some(page))
@@ -401,7 +401,7 @@ impl Pages {
     {
         let place = self.dups.join(number, row.page)?;
         stop_waiting(&mut self.waiting, &self.knobs, row);
-        let lone = self.rows.restate(row, PageState::Merged(number));
+        let lone = self.rows.set_state(row, PageState::Merged(number));
         Ok((lodging_at(&self.lodgings, Some(place)), lone))
     }
 
@@ -429,8 +429,8 @@ impl Pages {
         stop_waiting(&mut self.waiting, &self.knobs, first);
         stop_waiting(&mut self.waiting, &self.knobs, second);
         let state = PageState::Merged(number);
-        let frame = self.rows.restate(first, state);
-        let lone = self.rows.restate(second, state);
+        let frame = self.rows.set_state(first, state);
+        let lone = self.rows.set_state(second, state);
         self.lodgings[place as usize] = frame;
         Ok((frame, lone))
     }
@@ -485,7 +485,7 @@ impl Pages {
     {
         let mut last = None;
         while let Some(row) = self.rows.first_of(last, guest, Wanted::Before(stop)) {
-            self.revise(&row, &let_go(row));
+            self.set_row(&row, &let_go(row));
             last = Some(row.page);
         }
     }

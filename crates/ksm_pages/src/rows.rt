@@ -1,7 +1,7 @@
 //! The rows in the order of their pages, each found by a hash: each page with what the book knows of it, and the frame
 //! that serves it, if one does.
 //!
-//! With n rows, `has`, `row`, `known`, `find`, `replace`, `revise` and `restate` cost a hash and a comparison in the
+//! With n rows, `has`, `row`, `known`, `framed_row`, `replace`, `set_row` and `set_state` cost a hash and a comparison in the
 //! mean. `insert` and `remove` also search in the order, in a number of steps in the order of log n, and an `insert`
 //! that finds no room moves all rows. The hash has a fixed seed, so pages can be picked that collide: then a search
 //! takes a step for each. `has_guest` searches once in the order. `next` and `next_shared` do so too, and take one step
@@ -39,7 +39,7 @@ use std::ops::Bound;
 
 /// A row with the number of its frame; a row mapped from the zero page has none.
 #[derive(Clone, Copy, Debug)]
-pub struct Held {
+pub struct FramedRow {
     pub row: Row,
     pub frame: Option<u32>,
 }
@@ -253,13 +253,13 @@ impl Rows {
     }
 
     /// The row of a page, with its frame.
-    pub(crate) fn find(&self, page: GuestPage) -> Option<Held>
+    pub(crate) fn framed_row(&self, page: GuestPage) -> Option<FramedRow>
         ensures known { is_some (row_at page self.now.rows) ≡ is_some result }
         ensures at { MatchOption result (row_at page self.now.rows ≡ None) (λ held. StandsAt self.now page held.row held.frame) }
     {
         match self.entries.get(page) {
             None => None,
-            Some(entry) => Some(Held {
+            Some(entry) => Some(FramedRow {
                 row: entry.row(page),
                 frame: entry.frame(),
             }),
@@ -311,7 +311,7 @@ impl Rows {
     }
 
     /// Puts a row in the stead of the row that its page has, on the frame where this is, and gives the number of that.
-    pub(crate) fn revise(&mut self, old: &Row, row: &Row) -> Option<u32>
+    pub(crate) fn set_row(&mut self, old: &Row, row: &Row) -> Option<u32>
         requires { row_at row.now.page self.old.rows ≡ Some old.now }
         ensures stood { StandsAt self.old row.now.page old.now result }
         ensures rows { self.new.rows ≡ slice_set self.old.rows (rank row.now.page self.old.rows) row.now }
@@ -320,7 +320,7 @@ impl Rows {
     {
         // Called for its contract alone: the number of rows fits 64 bits.
         let _ = self.entries.len();
-        let frame = self.entries.revise(row);
+        let frame = self.entries.set_row(row);
         self.blocks.change(old, row);
         self.tally = self.tally.without(old).with(row);
         frame
@@ -330,7 +330,7 @@ impl Rows {
 
     /// Gives a row another state, on the frame where it is, and gives the number of that.
     #[inline(always)]
-    pub(crate) fn restate(&mut self, row: &Row, state: PageState) -> Option<u32>
+    pub(crate) fn set_state(&mut self, row: &Row, state: PageState) -> Option<u32>
         requires { row_at row.now.page self.old.rows ≡ Some row.now }
         ensures stood { StandsAt self.old row.now.page row.now result }
         ensures rows { self.new.rows ≡ slice_set self.old.rows (rank row.now.page self.old.rows) (record row.now { state = state }) }
@@ -339,7 +339,7 @@ impl Rows {
     {
         // Called for its contract alone: the number of rows fits 64 bits.
         let _ = self.entries.len();
-        let frame = self.entries.restate(row.page, state);
+        let frame = self.entries.set_state(row.page, state);
         let stated = Row { state, ..*row };
         self.blocks.change(row, &stated);
         self.tally = self.tally.without(row).with(&stated);
@@ -347,7 +347,7 @@ impl Rows {
     }
 
     /// Takes away the row of a page that has one. Gives the row and its frame.
-    pub(crate) fn remove(&mut self, page: GuestPage) -> Option<Held>
+    pub(crate) fn remove(&mut self, page: GuestPage) -> Option<FramedRow>
         requires { is_some (row_at page self.old.rows) ≡ true }
         ensures stood { MatchOption result ⊥ (λ held. StandsAt self.old page held.row held.frame) }
         ensures rows { self.new.rows ≡ remove self.old.rows (rank page self.old.rows) }
@@ -360,7 +360,7 @@ impl Rows {
         let row = entry.row(page);
         self.blocks.take(&row);
         self.tally = self.tally.without(&row);
-        Some(Held {
+        Some(FramedRow {
             row,
             frame: entry.frame(),
         })
@@ -479,7 +479,7 @@ impl Rows {
         let _ = self.entries.len();
         let mut last = None;
         while let Some(row) = self.first_of(last, guest, Wanted::Before(None)) {
-            self.revise(
+            self.set_row(
                 &row,
                 &Row {
                     mergeable: true,
