@@ -4,10 +4,10 @@ use Rattle.std.specs.Prelude.{not, All, AllPairs, filter, insert, remove}
 use Rattle.std.specs.List.{AllWithin, list_any}
 use Rattle.std.specs.List.Sorted.{IsPartitionedBy}
 use Rattle.std.proofs.lemmas.Bool.{cases_Bool, cases_lt}
-use Rattle.std.proofs.lemmas.List.Elements.{All-head, All-tail, All-append, All-weaker, All-cons, filter_passes}
+use Rattle.std.proofs.lemmas.List.Elements.{All-head, All-tail, All-weaker, All-cons, filter_passes}
 use Rattle.std.proofs.lemmas.List.Filters.{length-filter_both}
 use Rattle.std.proofs.lemmas.List.Kept.{AllPairs-cons, AllPairs-filter}
-use Rattle.ksm_base.proofs.Orders.{pairs_head, pairs_tail, pairs_append, filter_none}
+use Rattle.ksm_base.proofs.Orders.{pairs_tail, pairs_append, filter_none}
 use Rattle.ksm_base.proofs.RowCounts.{filter_all}
 
 -- a strict order, with the test that tells equal elements

@@ -1,6 +1,6 @@
 -- The pages of the rows merged into a dup, after a change of one row.
-use Rattle.std.proofs.Common.{◌≡◌, ◌∙◌, suc, Bool, true, false, List, [], ◌∷◌, ◌++◌, length, get_or, map, None, refl, sym, ap, inl, inr, arith}
-use Rattle.std.specs.Prelude.{not, All, filter, find, is_some}
+use Rattle.std.proofs.Common.{◌≡◌, ◌∙◌, suc, Bool, true, false, List, [], ◌∷◌, ◌++◌, length, get_or, map, refl, sym, ap, inl, inr, arith}
+use Rattle.std.specs.Prelude.{not, All, filter, is_some}
 use Rattle.std.proofs.lemmas.Bool.{cases_Bool, false≢true}
 use Rattle.std.proofs.lemmas.Bool.Decides.{nat_tests}
 use Rattle.std.proofs.lemmas.List.{length-map}
