@@ -9,6 +9,7 @@ mod equal;
 mod held;
 mod keeper;
 mod keeper_steps;
+mod kept;
 mod laws;
 mod pass;
 mod reader_steps;
