@@ -71,20 +71,14 @@ impl Core {
     pub fn kind(&self, frame: u32) -> Option<Kind>
         ensures { result ≡ option_map (λ note. note.kind) (slice_get self.now.state.ledger.frames frame) }
     {
-        match self.machine.notes.get(frame as usize) {
-            Some(note) => Some(note.kind),
-            None => None,
-        }
+        self.machine.notes.get(frame as usize).map(|note| note.kind)
     }
 
     /// The keeper's own references on a frame, 0 to 1,024. `None` where the shape has no such frame.
     pub fn base(&self, frame: u32) -> Option<u64>
         ensures { result ≡ option_map (λ note. note.base) (slice_get self.now.state.ledger.frames frame) }
     {
-        match self.machine.notes.get(frame as usize) {
-            Some(note) => Some(note.base),
-            None => None,
-        }
+        self.machine.notes.get(frame as usize).map(|note| note.base)
     }
 }
 
