@@ -49,6 +49,7 @@ impl Core {
     }
 
     /// One step of one seat. It takes no memory.
+    #[tactic(auto, using(crate::proofs::Fitting::rule_fits, crate::proofs::Views::ledger_tells, crate::proofs::Views::changes_own_view))]
     pub fn step(&mut self, event: Event) -> Step
         ensures answer { result ≡ answer (step self.old.shape self.old.state event) }
         ensures after { self.new ≡ record { shape = self.old.shape; state = after self.old.state (step self.old.shape self.old.state event) } }
@@ -84,6 +85,7 @@ impl Core {
 
 /// The core after these events, one after another; those that are not allowed are passed over. The only
 /// error is `Fault::Memory`.
+#[tactic(auto, using(crate::proofs::Histories::run_safe, crate::proofs::Histories::run_given))]
 pub fn run(alloc: Global, shape: Shape, events: &[Event]) -> Result<Core, Fault>
     requires { IsShape shape }
     ensures state { IfOk result (λ core. core ≡ record { shape = shape; state = (run_of shape events.now).state }) }

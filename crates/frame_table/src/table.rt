@@ -114,6 +114,7 @@ impl FrameTable {
 // Opening and closing.
 
 impl FrameTable {
+    #[tactic(auto, using(crate::proofs::Seatings::may_make))]
     fn make_pass(&self, seat: &mut Seat<(), View>) -> Pass
         requires own { seat.old.table_id ≡ self.now.id }
         requires keeper { IsKeeper self.now.shape seat.old.me }
@@ -129,7 +130,7 @@ impl FrameTable {
 
     /// A table with all frames free and all places empty, its keeper, and a pass for each of the shape's `passes`. The only refusal is
     /// `Memory`; then nothing is kept.
-    #[tactic(auto, using(crate::proofs::Opening::map_replicate))]
+    #[tactic(auto, using(crate::proofs::Opening::map_replicate, crate::proofs::Opening::may_begin))]
     pub fn open(alloc: Global, shape: Shape) -> Result<(FrameTable, Keeper, Vec<Pass>), Fault>
         requires { IsShape shape }
         ensures opened { IfOk result (λ t. Opened shape t.0 t.1 t.2.items) }
@@ -161,6 +162,7 @@ impl FrameTable {
         Ok((table, Keeper { seat, frames }, passes))
     }
 
+    #[tactic(auto, using(crate::proofs::Seatings::may_give))]
     fn take_back(&self, seat: &mut Seat<(), View>, pass: Pass)
         requires own { seat.old.table_id ≡ self.now.id }
         requires keeper { IsKeeper self.now.shape seat.old.me }
