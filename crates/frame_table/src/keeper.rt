@@ -1,20 +1,27 @@
 //! The keeper gives frames, names them at places, and takes them back. Each call that changes something is one atomic step (own).
-ghost use Rattle.std.specs.Prelude.{◌≡◌, ◌<◌, ℕ, ◌↔◌, IsTrue, List, length, slice_index, slice_set};
+ghost use Rattle.std.specs.Prelude.{◌≡◌, ◌<◌, ℕ, ◌↔◌, IsTrue, List, length, map, slice_index, slice_set};
 ghost use Rattle.frame_core.specs.declared.event.KeeperStep.TheVariants.{Reap, Put, Raise, Open, Add, Sub, Publish, Withdraw, Freeze, Word};
 ghost use Rattle.frame_core.specs.Ledger.{frame_at};
 ghost use Rattle.frame_core.specs.State.{frame_word, count_in};
 ghost use Rattle.ksm_base.specs.Values.{frames_of};
 ghost use Rattle.frame_core.specs.declared.ledger.Note.{Note};
 ghost use Rattle.frame_table.specs.Kept.{May, did, Did};
-ghost use Rattle.frame_table.specs.Notes.{kept_of, all_kept};
+ghost use Rattle.frame_table.specs.Notes.{kept_of};
 
-use crate::kept::Kept;
 use crate::table::FrameTable;
 use crate::view::View;
 use atomic_table::Seat;
 use frame_core::{FrameWord, Kind, Life};
 use std::marker::Model;
 use std::mem::ManuallyDrop;
+
+/// The note of a frame without its content, which stands in the words of the table.
+#[derive(Clone, Copy)]
+pub(crate) struct Kept {
+    pub(crate) kind: Kind,
+    pub(crate) base: u64,
+    pub(crate) generation: u64,
+}
 
 /// The keeper's seat, with what it knows of each frame. Contracts see which table it is of, the ledger and the log.
 ///
@@ -25,10 +32,10 @@ pub struct Keeper {
 }
 
 impl Model for Keeper {
-    ghost use Rattle.std.specs.Prelude.{◌≡◌, length};
+    ghost use Rattle.std.specs.Prelude.{◌≡◌, length, map};
     ghost use Rattle.ksm_base.specs.Values.{frames_of};
     ghost use Rattle.frame_table.specs.Named.{KeeperView};
-    ghost use Rattle.frame_table.specs.Notes.{all_kept};
+    ghost use Rattle.frame_table.specs.Notes.{kept_of};
     ghost use Rattle.frame_table.specs.Views.{keeps_ledger, shape_in, ledger_in, keeper_log, order_in, tally_of};
 
     ghost Value = { KeeperView };
@@ -37,15 +44,16 @@ impl Model for Keeper {
 
     ghost invariant = { λ q. record {
       seat : q.seat.me ≡ keeps_ledger (shape_in q.seat.me) (ledger_in q.seat.me) (tally_of 0 (shape_in q.seat.me).passes) (keeper_log q.seat.me) (order_in q.seat.me);
-      notes : q.frames.items ≡ all_kept (ledger_in q.seat.me).frames;
+      notes : q.frames.items ≡ map kept_of (ledger_in q.seat.me).frames;
       long : length q.frames.items ≡ frames_of (shape_in q.seat.me);
     } };
 }
 
 // Writes down what is known of a frame from now on.
+#[tactic(auto, using(crate::proofs::Notes::notes_set))]
 fn write_down(frames: &mut Vec<Kept>, frame: u32, note: Kept)
     requires { frame < length frames.old.items }
-    ensures { (notes : List Note) (x : Note) → frames.old.items ≡ all_kept notes → kept_of x ≡ note → frames.new.items ≡ all_kept (slice_set notes frame x) }
+    ensures { (notes : List Note) (x : Note) → frames.old.items ≡ map kept_of notes → kept_of x ≡ note → frames.new.items ≡ map kept_of (slice_set notes frame x) }
 {
     frames[frame as usize] = note;
 }

@@ -9,7 +9,6 @@ mod equal;
 mod held;
 mod keeper;
 mod keeper_steps;
-mod kept;
 mod laws;
 mod pass;
 mod reader_steps;

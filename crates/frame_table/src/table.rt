@@ -16,9 +16,8 @@ ghost use Rattle.frame_table.specs.Seats.{Opened, Ends, new_pass};
 ghost use Rattle.frame_table.specs.Views.{IsIn, IsKeeper, keeps_ledger, ledger_in, keeper_log, order_in, tally_in, tally_of};
 
 use crate::closed::ClosedTable;
-use crate::keeper::Keeper;
+use crate::keeper::{Keeper, Kept};
 use crate::keeper_steps::{Add, Freeze, Open, Publish, Put, Raise, Reap, Sub, Withdraw, Word};
-use crate::kept::Kept;
 use crate::pass::Pass;
 use crate::reader_steps::{Exchange, Leave, LoadFrame, LoadPlace, LoadWord};
 use crate::seats::{GiveBack, NewPass};
