@@ -1,18 +1,14 @@
 -- A write to a word of the state is a write to one word of the list, and a read likewise.
-use Rattle.std.proofs.Common.{◌≡◌, ℕ, ◌+◌, ◌*◌, ◌<◌, List, [], ◌∷◌, ◌++◌, Option, None, map, length, set, get_or, replicate, zero, suc, sym, ap, ◌∙◌, refl, arith}
+use Rattle.std.proofs.Common.{◌≡◌, ℕ, ◌+◌, ◌-◌, ◌*◌, ◌<◌, List, [], ◌∷◌, ◌++◌, Option, None, map, length, set, get_or, replicate, zero, suc, sym, ap, ◌∙◌, refl, arith}
 use Rattle.std.specs.List.{flat_map}
-use Rattle.std.proofs.lemmas.List.{length-append, length-map, map-set, set-append_left, set-get_or, get_or-append-add, get_or_append_left, get_or-map}
+use Rattle.std.proofs.lemmas.List.{length-append, length-map, map-set, set-append_left, set-append_right, set-get_or, get_or-append-add, get_or_append_left, get_or-map}
 use Rattle.std.proofs.Math.Nat.{suc-mul}
 use Rattle.frame_core.proofs.Names.{PAGE_WORDS, Shape, frames_of, LINE_WORDS, Note, Life, State, place_word, frame_word, count_at, frame_word_of, blank, frame_at, named_at, with_frame, frame_words, line_of, page_of, pages_of, words_of, frame_word_at, content_at, Rule}
 
 module _ {A : Type 0} where
   -- a write past the first part
   set_right : (xs ys : List A) (m n : ℕ) (v : A) → length xs ≡ m → set (xs ++ ys) (m + n) v ≡ xs ++ set ys n v
-  set_right [] ys m n v e = let here : m + n ≡ n = omega arith in ap (λ (k : ℕ). set ys k v) here
-  set_right (x ∷ xs) ys zero n v e = absurd (omega arith)
-  set_right (x ∷ xs) ys (suc m) n v e =
-      let next : suc m + n ≡ suc (m + n) = omega arith in
-      ap (λ (k : ℕ). set (x ∷ (xs ++ ys)) k v) next ∙ ap (λ (zs : List A). x ∷ zs) (set_right xs ys m n v (omega arith))
+  set_right xs ys m n v e = let here : (m + n) - m ≡ n = omega arith in set-append_right xs ys m (m + n) v e (omega arith) ∙ ap (λ (k : ℕ). xs ++ set ys k v) here
 
 -- blocks of one length, laid end to end
 module _ {A : Type 0} (g : A → List ℕ) (n : ℕ) (d : A) where

@@ -1,5 +1,5 @@
 -- Every run keeps the rule, its state and its trace go together, and so it is safe.
-use Rattle.std.proofs.Common.{◌≡◌, ℕ, ◌+◌, ◌<◌, ◌≢◌, Bool, true, false, cond, List, [], ◌∷◌, ◌++◌, Option, Some, None, length, get_or, slice_get, count_by, replicate, fold, zero, suc, subst, sym, ap, ◌∙◌, refl, arith}
+use Rattle.std.proofs.Common.{◌≡◌, ℕ, ◌+◌, ◌<◌, ◌≢◌, Bool, true, false, cond, List, [], ◌∷◌, ◌++◌, Option, Some, None, length, get_or, count_by, fold, suc, subst, sym, ap, ◌∙◌, refl, arith}
 use Rattle.std.specs.List.{range_with_len}
 use Rattle.std.proofs.lemmas.List.Sums.{sum_by-cons, length-filter, fold_push}
 use Rattle.std.proofs.lemmas.List.{nil_from_length}
@@ -7,7 +7,7 @@ use Rattle.frame_core.proofs.Names.{PAGE_WORDS, Shape, IsShape, frames_of, Event
 use Rattle.frame_core.proofs.Decides.{decides}
 use Rattle.frame_core.proofs.Frames.{not_held}
 use Rattle.frame_core.proofs.Keeps.{step_keeps, first_rule}
-use Rattle.frame_core.proofs.Lists.{in_replicate}
+use Rattle.frame_core.proofs.Lists.{in_replicate, copied}
 use Rattle.frame_core.proofs.Told.{Told, FrameTold, SeatTale, SeatTold, tale_of}
 use Rattle.frame_core.proofs.Telling.{told_step}
 
@@ -33,10 +33,9 @@ module _ (sh : Shape) (P : History → Type 0) (more : (h : History) (e : Event)
 
 pub first_sound : (sh : Shape) → IsShape sh → Sound sh (first_history sh)
 first_sound sh valid =
-    let word : (i w : ℕ) → slice_get (replicate PAGE_WORDS 0) i ≡ Some w → 0 ≡ w = λ i w e. zeros PAGE_WORDS i w e in
     let frame : FrameTold 0 (λ i. 0) (λ g i. None) blank = record {
       life_is = refl;
-      words_are = word;
+      words_are = λ i w e. copied PAGE_WORDS i 0 w e;
       named_as = λ i v w n e. absurd (cc (n));
       unnamed = λ h i. refl;
       later = λ g i h. refl;
@@ -49,11 +48,6 @@ first_sound sh valid =
         seats = λ q. in_replicate (SeatTold (λ f. 0) (λ f g i. None) record { loaded = None; counted = 0; held = None; read = []; given = λ f. _ }) sh.passes q Idle Spent refl refl;
       };
     }
-  where
-    zeros : (n i w : ℕ) → slice_get (replicate n 0) i ≡ Some w → 0 ≡ w
-    zeros zero i w e = absurd (cc (e))
-    zeros (suc n) zero w e = cc (e)
-    zeros (suc n) (suc i) w e = zeros n i w e
 
 pub run_sound : (sh : Shape) → IsShape sh → (events : List Event) → Sound sh (run_of sh events)
 run_sound sh valid events = run_all sh (Sound sh) (sound_more sh) (first_history sh) events (first_sound sh valid)

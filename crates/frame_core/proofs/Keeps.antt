@@ -1,12 +1,12 @@
 -- Every step keeps the rule, and the first state meets it.
-use Rattle.std.proofs.Common.{◌≡◌, ℕ, ◌+◌, ◌-◌, ◌*◌, ◌/◌, ◌%◌, ◌<◌, ◌≤◌, ◌≢◌, ◌==◌, leb, not, Bool, true, false, cond, List, get_or, set, slice_get, Option, Some, None, replicate, length, zero, suc, subst, sym, ap, ◌∙◌, refl, arith, ⊎_elim, get_or-set_same}
+use Rattle.std.proofs.Common.{◌≡◌, ℕ, ◌+◌, ◌-◌, ◌*◌, ◌/◌, ◌%◌, ◌<◌, ◌≤◌, ◌≢◌, ◌==◌, leb, not, Bool, true, false, cond, List, get_or, set, slice_get, Option, Some, None, replicate, length, subst, sym, ap, ◌∙◌, refl, arith, ⊎_elim, get_or-set_same}
 use Rattle.std.proofs.lemmas.Bool.{eqb-true, eqb-false, eq-eqb, ne_eqb, and_parts, not-true, leb-false, ltb-true}
 use Rattle.std.proofs.lemmas.Option.{same_Some, slice_get-get_or}
 use Rattle.std.proofs.lemmas.List.{length-replicate}
 use Rattle.std.proofs.lemmas.List.Folds.{sum_by-replicate}
 use Rattle.frame_core.proofs.Names.{PAGE_WORDS, Shape, IsShape, frames_of, Event, KeeperStep, Reap, Put, Raise, Open, Add, Sub, Publish, Withdraw, Freeze, Word, ReaderStep, LoadPlace, LoadFrame, Exchange, Leave, LoadWord, Kind, Filling, Private, Stable, Dying, Ledger, Note, Aim, Life, Phase, Idle, Placed, Counted, Held, Spent, State, place_word, life_at, frame_word, count_in, life_in, blank, first_ledger, frame_at, named_at, with_frame, MayStep, reaped, raised, opened, added, lowered, filled, shown, frozen, count_at, frame_word_of, keeper_finds, may_step, counted_up, phase_at, aim_of, nothing_known, is_referenced, may_read, reader_finds, seat_after, reader_counts, first_state, after_keeper, after_reader, only_if, step, after, Rule, FrameRule, LifeRule, IsNamed, SeatRule, MayBeNamed, MayBeHeld, KnownFits, CountFits, GenerationFits, readers_on, is_on}
 use Rattle.frame_core.specs.declared.event.Event.TheVariants as event
-use Rattle.frame_core.proofs.Lists.{get_set, in_replicate, count_set, count_one}
+use Rattle.frame_core.proofs.Lists.{get_set, in_replicate, copied, count_set, count_one}
 use Rattle.frame_core.proofs.Packed.{count_packed, life_packed, parts_of_word}
 use Rattle.frame_core.proofs.Decides.{decides}
 use Rattle.frame_core.proofs.Fitting.{frames_at_most, count_at_most}
@@ -134,6 +134,11 @@ module _ (sh : Shape) (s : State) (rule : Rule sh s) where
           record { same = r.1.same; kind = r.1.kind; words = known_more known content i (omega (arith, below, (rule.frames aim.life.frame r.0.inside).content)) r.1.words },
         )
 
+    -- the same note, with other readers
+    recounted : (last readers others : ℕ) (note : Note) (count after : ℕ) → FrameRule last readers note count → after ≡ note.base + others → CountFits note.kind after
+        → FrameRule last others note after
+    recounted last readers others note count after r counted fits = record { counted = counted; base = r.base; count_fits = fits; generation = r.generation; content = r.content }
+
     -- one more reader on a frame that has a reference
     counted_more : (kind : Kind) (count : ℕ) → CountFits kind count → 1 ≤ count → CountFits kind (count + 1)
     counted_more Private count h one = tt
@@ -148,12 +153,6 @@ module _ (sh : Shape) (s : State) (rule : Rule sh s) where
     held_kind Stable count h one named = tt
     held_kind Dying count h one named = tt
     held_kind _ count h one named = absurd (omega arith)
-
-    -- a seat that knows no word knows none wrongly
-    none_known : (n i w : ℕ) → slice_get (replicate n None) i ≡ Some (Some w) → ⊥
-    none_known zero i w e = absurd (cc (e))
-    none_known (suc n) zero w e = absurd (cc (same_Some None (Some w) e))
-    none_known (suc n) (suc i) w e = none_known n i w e
 
     -- after an exchange of a seat that had counted so
     abbrev Exchanges : Aim → ℕ → Bool → Bool → Type 0
@@ -179,14 +178,8 @@ module _ (sh : Shape) (s : State) (rule : Rule sh s) where
         let counted = count_set (is_on f) s.seats q Spent (Held aim nothing_known) there in
         seat_counted sh s rule q (Held aim nothing_known) f (count_at s f + 1) there r.0.inside
         (λ g ne. ne_eqb f g (λ e. ne (sym e)) ∙ ap (is_on g) (sym at))
-        (r.0, record { same = sym both.0; kind = held_kind note.kind (count_at s f) frame.count_fits one (r.0.named (sym both.0)); words = λ i w e. absurd (none_known PAGE_WORDS i w e) })
-        record {
-          counted = omega (arith, frame.counted, counted, yes, was);
-          base = frame.base;
-          count_fits = counted_more note.kind (count_at s f) frame.count_fits one;
-          generation = frame.generation;
-          content = frame.content;
-        }
+        (r.0, record { same = sym both.0; kind = held_kind note.kind (count_at s f) frame.count_fits one (r.0.named (sym both.0)); words = λ i w e. absurd (cc (copied PAGE_WORDS i None (Some w) e)) })
+        (recounted _ _ _ note _ _ frame (omega (arith, frame.counted, counted, yes, was)) (counted_more note.kind (count_at s f) frame.count_fits one))
     exchange aim failures count false true at is more = moved q (Counted aim failures count) at there Idle (λ f. refl) tt
     exchange aim failures count false false at is more =
         let r = mine q (Counted aim failures count) at there in
@@ -210,13 +203,7 @@ module _ (sh : Shape) (s : State) (rule : Rule sh s) where
         let less = count_set (is_on f) s.seats q Spent Idle there in
         let yes : ◌≡◌ {A = ℕ} (cond (is_on f (phase_at s q)) 1 0) 1 = ap (λ (b : Bool). cond b 1 0) on in
         seat_counted sh s rule q Idle f (count_at s f - 1) there r.0.inside (λ g ne. sym (ap (is_on g) at ∙ ne_eqb f g (λ e. ne (sym e)))) tt
-        record {
-          counted = omega (arith, frame.counted, less, yes, least);
-          base = frame.base;
-          count_fits = counted_less (frame_at k f).kind (count_at s f) frame.count_fits;
-          generation = frame.generation;
-          content = frame.content;
-        }
+        (recounted _ _ _ (frame_at k f) _ _ frame (omega (arith, frame.counted, less, yes, least)) (counted_less (frame_at k f).kind (count_at s f) frame.count_fits))
 
     reads : (e : ReaderStep) (phase : Phase) → phase_at s q ≡ phase → may_read sh e phase ≡ true → Rule sh record {
       ledger = k;

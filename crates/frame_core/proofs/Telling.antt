@@ -66,10 +66,6 @@ module _ (sh : Shape) (s : State) (T : Tale) (rule : Rule sh s) (told : Told s T
     seats = told.seats;
   }
 
-  -- the same, where the frame stays as it is
-  tell_counts : (counts : List ℕ) → Told record { ledger = k; counts = counts; seats = s.seats } T
-  tell_counts counts = record { frames = told.frames; places = told.places; seats = told.seats }
-
   -- a word is stored
   tell_put : (f i w : ℕ) → f < frames_of sh → IsWritable (frame_at k f).kind
       → Told record { ledger = with_frame k f (filled i w (frame_at k f)); counts = s.counts; seats = s.seats } (record T { stored = λ g j. if f == g && i == j then w else T.stored g j })
@@ -204,19 +200,15 @@ module _ (sh : Shape) (s : State) (T : Tale) (rule : Rule sh s) (told : Told s T
   lower_quiet note true = record { generation = refl; content = refl; kind = λ h. absurd h }
   lower_quiet note false = record { generation = refl; content = refl; kind = λ h. h }
 
-  tell_if : (f : ℕ) (note : Note) (counts counts' : List ℕ) (b : Bool) → f < frames_of sh → Quiet (frame_at k f) note
-      → Told record { ledger = cond b (with_frame k f note) k; counts = cond b counts counts'; seats = s.seats } T
-  tell_if f note counts counts' true below quiet = tell_quiet f note counts below quiet
-  tell_if f note counts counts' false below quiet = tell_counts counts'
-
-  same_if : (b : Bool) (counts : List ℕ) → cond b counts counts ≡ counts
-  same_if true counts = refl
-  same_if false counts = refl
+  tell_freeze : (f : ℕ) (b : Bool) → f < frames_of sh
+      → Told record { ledger = cond b (with_frame k f (frozen (frame_at k f))) k; counts = cond b (set s.counts f 0) s.counts; seats = s.seats } T
+  tell_freeze f true below = tell_quiet f (frozen (frame_at k f)) (set s.counts f 0) below record { generation = refl; content = refl; kind = λ h. absurd h }
+  tell_freeze f false below = told
 
   tell_reap : (f : ℕ) (b : Bool) → f < frames_of sh
       → Told record { ledger = cond b (with_frame k f (reaped sh.last_generation (frame_at k f))) k; counts = s.counts; seats = s.seats } T
-  tell_reap f b below = subst (λ (c : List ℕ). Told record { ledger = cond b (with_frame k f (reaped sh.last_generation (frame_at k f))) k; counts = c; seats = s.seats } T)
-      (same_if b s.counts) (tell_if f (reaped sh.last_generation (frame_at k f)) s.counts s.counts b below (reap_quiet (frame_at k f) ((frame_at k f).generation == sh.last_generation)))
+  tell_reap f true below = let note = frame_at k f in tell_quiet f (reaped sh.last_generation note) s.counts below (reap_quiet note (note.generation == sh.last_generation))
+  tell_reap f false below = told
 
 -- a step of the keeper that is allowed
 tell_keeper : (sh : Shape) (s : State) (t : List Entry) (e : KeeperStep) → Rule sh s → Told s (tale_of t) → MayStep sh s.ledger e
@@ -233,8 +225,7 @@ tell_keeper sh s t (Sub f) rule told may =
 tell_keeper sh s t (Publish p f) rule told may = tell_publish sh s (tale_of t) rule told p f may.0 may.1 may.2
 tell_keeper sh s t (Withdraw p) rule told may = tell_withdraw sh s (tale_of t) rule told p may.0
 tell_keeper sh s t (Freeze f) rule told may =
-    tell_if sh s (tale_of t) rule told f (frozen (frame_at s.ledger f)) (set s.counts f 0) s.counts (count_in (frame_word_of s f) == (frame_at s.ledger f).base) may.0
-    record { generation = refl; content = refl; kind = λ h. absurd h }
+    tell_freeze sh s (tale_of t) rule told f (count_in (frame_word_of s f) == (frame_at s.ledger f).base) may.0
 tell_keeper sh s t (Word f i) rule told may = told
 
 -- ---------------------------------------------------------------- steps of a reader

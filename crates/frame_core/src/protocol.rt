@@ -49,6 +49,7 @@ impl Core {
     }
 
     /// One step of one seat. It takes no memory.
+    #[tactic(auto, using(crate::proofs::Fitting::rule_fits, crate::proofs::Views::ledger_tells, crate::proofs::Views::changes_own_view))]
     pub fn step(&mut self, event: Event) -> Step
         ensures answer { result ≡ answer (step self.old.shape self.old.state event) }
         ensures after { self.new ≡ record { shape = self.old.shape; state = after self.old.state (step self.old.shape self.old.state event) } }
@@ -71,25 +72,20 @@ impl Core {
     pub fn kind(&self, frame: u32) -> Option<Kind>
         ensures { result ≡ option_map (λ note. note.kind) (slice_get self.now.state.ledger.frames frame) }
     {
-        match self.machine.notes.get(frame as usize) {
-            Some(note) => Some(note.kind),
-            None => None,
-        }
+        self.machine.notes.get(frame as usize).map(|note| note.kind)
     }
 
     /// The keeper's own references on a frame, 0 to 1,024. `None` where the shape has no such frame.
     pub fn base(&self, frame: u32) -> Option<u64>
         ensures { result ≡ option_map (λ note. note.base) (slice_get self.now.state.ledger.frames frame) }
     {
-        match self.machine.notes.get(frame as usize) {
-            Some(note) => Some(note.base),
-            None => None,
-        }
+        self.machine.notes.get(frame as usize).map(|note| note.base)
     }
 }
 
 /// The core after these events, one after another; those that are not allowed are passed over. The only
 /// error is `Fault::Memory`.
+#[tactic(auto, using(crate::proofs::Histories::run_safe, crate::proofs::Histories::run_given))]
 pub fn run(alloc: Global, shape: Shape, events: &[Event]) -> Result<Core, Fault>
     requires { IsShape shape }
     ensures state { IfOk result (λ core. core ≡ record { shape = shape; state = (run_of shape events.now).state }) }

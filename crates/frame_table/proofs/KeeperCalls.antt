@@ -4,7 +4,7 @@ use mathlib.Core.Option.{none as unsaid}
 use prog.Atomic.{either}
 use Rattle.atomic_table.specs.Table.{step, Allows}
 use Rattle.frame_table.proofs.CoreNames.{PAGE_WORDS, Shape, frames_of, KeeperStep, Reap, Put, Raise, Open, Add, Sub, Publish, Withdraw, Freeze, Word, Ledger, place_word, frame_word, life_in, frame_word_at, content_at, frame_at, MayStep}
-use Rattle.frame_table.proofs.Names.{Holds, Sat, IsKeeper, shape_in, ledger_in, tally_in, keeper_log, order_in, Keeps, keeper_word, keeper_written, found_by, knows, reaps, puts, raises, opens, adds, subs, publishes, withdraws, freezes, shows}
+use Rattle.frame_table.proofs.Names.{Holds, Sat, IsKeeper, shape_in, ledger_in, tally_in, keeper_log, order_in, Keeps, keeper_word, keeper_written, found_by, knows, on_frame, puts, publishes, withdraws, shows}
 use Rattle.frame_table.proofs.Allowed.{turned, weaker, MayLoad, MayStore, MayExchange, MayAdd, MaySubOne, one_less_word}
 use Rattle.frame_table.proofs.KeeperMay.{keeper_may}
 
@@ -56,32 +56,32 @@ module _ (slots id : ℕ) (key sh : Shape) (me : Sat) (at : ℕ) (keeper : IsKee
       subst (λ (x : ℕ). Keeps (e x) me n m) one (subst (λ (w : ℕ). Keeps (e f) me w m) (found f n) keeps))
 
   -- the keeper may load the word of a dying frame
-  pub may_reap : (f : ℕ) → at ≡ frame_word_at (frames_of sh) f → MayStep sh k (Reap f) → MayLoad reaps slots id key at me
+  pub may_reap : (f : ℕ) → at ≡ frame_word_at (frames_of sh) f → MayStep sh k (Reap f) → MayLoad (on_frame Reap) slots id key at me
   may_reap f is may = at_frame_word Reap f (λ n. n) (λ F g. refl) (λ g n. refl) is may (λ n small told. refl)
 
   -- the keeper may add a life to the word of a free frame
-  pub may_raise : (f : ℕ) → at ≡ frame_word_at (frames_of sh) f → MayStep sh k (Raise f) → MayAdd raises slots id 65536 key at me
+  pub may_raise : (f : ℕ) → at ≡ frame_word_at (frames_of sh) f → MayStep sh k (Raise f) → MayAdd (on_frame Raise) slots id 65536 key at me
   may_raise f is may = at_frame_word Raise f (λ n. (n + 65536) % 2 ^ 64) (λ F g. refl) (λ g n. refl) is may
       (λ n small told. raised n 65536 (omega arith) (omega (arith, told.0, told.1)))
 
   -- the keeper may add one to the word of a frame that it fills
-  pub may_open : (f : ℕ) → at ≡ frame_word_at (frames_of sh) f → MayStep sh k (Open f) → MayAdd opens slots id 1 key at me
+  pub may_open : (f : ℕ) → at ≡ frame_word_at (frames_of sh) f → MayStep sh k (Open f) → MayAdd (on_frame Open) slots id 1 key at me
   may_open f is may = at_frame_word Open f (λ n. (n + 1) % 2 ^ 64) (λ F g. refl) (λ g n. refl) is may
       (λ n small told. raised n 1 (omega arith) (omega (arith, told.0, told.1)))
 
   -- the keeper may add one to the word of a frame on which it has a reference
-  pub may_add : (f : ℕ) → at ≡ frame_word_at (frames_of sh) f → MayStep sh k (Add f) → MayAdd adds slots id 1 key at me
+  pub may_add : (f : ℕ) → at ≡ frame_word_at (frames_of sh) f → MayStep sh k (Add f) → MayAdd (on_frame Add) slots id 1 key at me
   may_add f is may = at_frame_word Add f (λ n. (n + 1) % 2 ^ 64) (λ F g. refl) (λ g n. refl) is may
       (λ n small told. raised n 1 (omega arith) (omega (arith, told)))
 
   -- the keeper may take one from the word of a frame on which it has a reference
-  pub may_sub : (f : ℕ) → at ≡ frame_word_at (frames_of sh) f → MayStep sh k (Sub f) → MaySubOne subs slots id key at me
+  pub may_sub : (f : ℕ) → at ≡ frame_word_at (frames_of sh) f → MayStep sh k (Sub f) → MaySubOne (on_frame Sub) slots id key at me
   may_sub f is may = at_frame_word Sub f (λ n. (n + (2 ^ 64 - 1)) % 2 ^ 64) (λ F g. refl) (λ g n. refl) is may (λ n small told. one_less_word n told small)
 
   -- the keeper may exchange the word of a stable frame for one without a reference
   pub may_freeze : (f alone none : ℕ) → at ≡ frame_word_at (frames_of sh) f → MayStep sh k (Freeze f)
       → alone ≡ frame_word (frame_at k f).generation (frame_at k f).base % 2 ^ 64 → none ≡ frame_word (frame_at k f).generation 0 % 2 ^ 64
-      → MayExchange freezes slots id alone none key at me
+      → MayExchange (on_frame Freeze) slots id alone none key at me
   may_freeze f alone none is may is_alone is_none =
       let g = (frame_at k f).generation in
       let base = (frame_at k f).base in

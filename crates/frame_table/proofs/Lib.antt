@@ -14,6 +14,7 @@ pub mod ReaderCalls
 pub mod KeeperWords
 pub mod KeeperMay
 pub mod KeeperCalls
+pub mod Notes
 pub mod Looks
 pub mod Compared
 pub mod Elements

@@ -82,10 +82,12 @@ pub word_names : (w : ℕ) (life : Life) (b : Bool) → eqb w 0 ≡ b → cond b
 word_names w life true is e = absurd (cc (e))
 word_names w life false is e = (eqb-false w 0 is, same_Some (life_at w) life e)
 
--- the table that a seat is of, after a round
-pub same_table : (mine now : TableName) (id : TableId) (m : Sat) → id ≡ now.id → shape_in m ≡ now.shape → mine ≡ now
-    → ◌≡◌ {A = TableName} record { id = id; shape = shape_in m } mine
-same_table mine now id m ids shapes own = (λ i. record { id = ids i; shape = shapes i }) ∙ sym own
+-- a lookup that ended with these steps: which table its pass is of, and the log
+pub ended : (mine now : TableName) (id : TableId) (m : Sat) (phase : Phase) (log : ReaderLog) (p w : ℕ) (xs : List (ℕ × ℕ)) (last : ReaderLog)
+    → id ≡ now.id → mine ≡ now → m ≡ sits now.shape phase ((log ++ lookup_so_far p w xs) ++ last) (order_in m)
+    → (◌≡◌ {A = TableName} record { id = id; shape = shape_in m } mine) × (log_in m ≡ log ++ (lookup_so_far p w xs ++ last))
+ended mine now id m phase log p w xs last ids own is =
+    ((λ i. record { id = ids i; shape = shape_in (is i) }) ∙ sym own, ap log_in is ∙ append_assoc log (lookup_so_far p w xs) last)
 
 -- a lookup that ended in the round i
 pub tried_so_far : (mine now : TableName) (i w : ℕ) (life : Life) (xs : List (ℕ × ℕ)) → cond (eqb w 0) None (Some (life_at w)) ≡ Some life → i < now.shape.tries

@@ -1,10 +1,10 @@
 -- The definitions of the table by their names, for proofs.
 pub use Rattle.frame_table.specs.Equal.{IsRead, SameHold, known_after, word_steps}
-pub use Rattle.frame_table.specs.Keeping.{Keeps, adds, found_by, freezes, keeper_word, keeper_written, knows, opens, publishes, puts, raises, reaps, shows, subs, withdraws}
+pub use Rattle.frame_table.specs.Keeping.{Keeps, found_by, keeper_word, keeper_written, knows, on_frame, publishes, puts, shows, withdraws}
 pub use Rattle.frame_table.specs.Lookup.{AllLost, GoesOn, IsAlive, IsOld, IsZero, ReadsWord, lookup_so_far, rounds}
 pub use Rattle.frame_table.specs.Named.{HeldView, PassView, TableName}
 pub use Rattle.frame_table.specs.Orders.{Begins, IsPresent, later}
-pub use Rattle.frame_table.specs.Reading.{NamesFrame, Steps, StepsNow, exchanges, leaves, loads_frame, loads_place, loads_word, reader_after, tells, word_at}
+pub use Rattle.frame_table.specs.Reading.{NamesFrame, Steps, StepsAt, StepsNow, loads_place, loads_word, reader_after, tells, word_at}
 pub use Rattle.frame_table.specs.Rounds.{GoesRound}
 pub use Rattle.frame_table.specs.Rule.{Holds, IsAfter, IsInOrder, Tied, all_views, first_view, is_out}
 pub use Rattle.frame_table.specs.Running.{HoldIs, LedgerIs, TheTableRunsSafely}

@@ -4,7 +4,7 @@ use Rattle.std.proofs.lemmas.Bool.{eqb-true, lt-ltb}
 use prog.Atomic.{either}
 use Rattle.atomic_table.specs.Table.{carried_after}
 use Rattle.frame_table.proofs.CoreNames.{PAGE_WORDS, Shape, frames_of, Event, LoadPlace, LoadFrame, Exchange, Leave, LoadWord, Aim, Idle, Placed, Counted, Held, frame_word, frame_word_at, content_at}
-use Rattle.frame_table.proofs.Names.{ReaderLog, sits, StepsNow, loads_place, loads_frame, exchanges, leaves, loads_word}
+use Rattle.frame_table.proofs.Names.{ReaderLog, sits, StepsAt, StepsNow, loads_place, loads_word}
 use Rattle.frame_table.proofs.Allowed.{MayLoad, MayExchange, MaySubOne, one_less_word}
 use Rattle.frame_table.proofs.ReaderMay.{reader_may}
 
@@ -17,7 +17,7 @@ module _ (slots id : ℕ) (sh : Shape) (log : ReaderLog) (order : List Event) wh
 
   -- a pass that was told a place may load the word of the frame named
   pub may_load_frame : (aim : Aim) (failures : ℕ)
-      → MayLoad loads_frame slots id sh (frame_word_at (frames_of sh) aim.life.frame) (sits sh (Placed aim failures) log order)
+      → MayLoad (StepsAt LoadFrame) slots id sh (frame_word_at (frames_of sh) aim.life.frame) (sits sh (Placed aim failures) log order)
   may_load_frame aim failures t h size at small =
       let r = reader_may slots LoadFrame (Placed aim failures) log order (λ n. n) sh id refl (λ n small told. refl) t h size at small in (r.0, r.1, r.2, r.3, λ is. r.4)
 
@@ -27,9 +27,9 @@ module _ (slots id : ℕ) (sh : Shape) (log : ReaderLog) (order : List Event) wh
 
   -- a pass that was told a frame word may exchange it for one more
   pub may_exchange : (aim : Aim) (failures count loaded : ℕ) → loaded ≡ frame_word aim.life.generation count
-      → MayExchange exchanges slots id loaded (loaded + 1) sh (frame_word_at (frames_of sh) aim.life.frame) (sits sh (Counted aim failures count) log order)
+      → MayExchange (StepsAt Exchange) slots id loaded (loaded + 1) sh (frame_word_at (frames_of sh) aim.life.frame) (sits sh (Counted aim failures count) log order)
   may_exchange aim failures count loaded is =
-      subst (λ (w : ℕ). MayExchange exchanges slots id w (w + 1) sh (frame_word_at (frames_of sh) aim.life.frame) (sits sh (Counted aim failures count) log order))
+      subst (λ (w : ℕ). MayExchange (StepsAt Exchange) slots id w (w + 1) sh (frame_word_at (frames_of sh) aim.life.frame) (sits sh (Counted aim failures count) log order))
       (sym is) (λ t h size at small.
       let w : ℕ = frame_word aim.life.generation count in
       let r = reader_may slots Exchange (Counted aim failures count) log order (λ n. either (eqb n w) (w + 1) n) sh id refl
@@ -38,7 +38,7 @@ module _ (slots id : ℕ) (sh : Shape) (log : ReaderLog) (order : List Event) wh
 
   -- a pass that holds may take one from the frame word
   pub may_leave : (aim : Aim) (known : List (Option ℕ))
-      → MaySubOne leaves slots id sh (frame_word_at (frames_of sh) aim.life.frame) (sits sh (Held aim known) log order)
+      → MaySubOne (StepsAt Leave) slots id sh (frame_word_at (frames_of sh) aim.life.frame) (sits sh (Held aim known) log order)
   may_leave aim known t h size at small =
       let r = reader_may slots Leave (Held aim known) log order (λ n. (n + (2 ^ 64 - 1)) % 2 ^ 64) sh id refl
       (λ n small told. one_less_word n told small) t h size at small in (r.0, r.1, r.2, r.3, λ is. r.4)

@@ -1,15 +1,17 @@
 -- What each step of the keeper tells its seat (own).
 use Rattle.std.specs.Prelude.{◌≡◌, ℕ, Some, ◌+◌, ◌-◌, ◌%◌, ◌<◌, ◌≤◌, ◌==◌, cond, List, [], ◌∷◌, ◌++◌, slice_index}
+use Rattle.atomic_table.specs.Seated.{TableId}
 use Rattle.atomic_table.specs.Table.{Step}
 use Rattle.frame_table.specs.Terms.{PAGE_WORDS, frames_of, Event, KeeperStep, Reap, Put, Raise, Open, Add, Sub, Publish, Withdraw, Freeze, Word, Ledger}
 use Rattle.frame_core.specs.declared.event.Event.TheVariants as event
 use Rattle.frame_core.specs.State.{place_word, frame_word, count_in, life_in}
 use Rattle.frame_core.specs.Words.{frame_word_at, content_at}
-use Rattle.frame_core.specs.Ledger.{ledger_after, frame_at}
+use Rattle.frame_core.specs.Ledger.{MayStep, ledger_after, frame_at}
 use Rattle.frame_table.specs.declared.view.View.{View}
 use Rattle.frame_table.specs.declared.view.View.TheVariants.{Keeper}
 use Rattle.frame_table.specs.Orders.{IsPresent}
-use Rattle.frame_table.specs.Views.{Sat, shape_in, order_in}
+use Rattle.frame_table.specs.Named.{TableName}
+use Rattle.frame_table.specs.Views.{Sat, IsKeeper, shape_in, ledger_in, order_in}
 
 -- the word that a step of the keeper works on, in a table of so many places
 abbrev pub keeper_word : ℕ → KeeperStep → ℕ
@@ -63,6 +65,12 @@ abbrev pub knows_view : View → KeeperStep → ℕ → Type 0
 knows_view (Keeper sh ledger tally log order) e n = knows ledger e n
 knows_view _ e n = Unit {0}
 
+-- what a step of the keeper asks: the seat is the keeper's, of this table, and its ledger allows the step
+pub record MayKeep (t : TableName) (id : TableId) (m : Sat) (e : KeeperStep) : Type 0 where
+  pub own : id ≡ t.id
+  pub keeper : IsKeeper t.shape m
+  pub may : MayStep t.shape (ledger_in m) e
+
 -- the keeper made the step, of the present, and found the word n
 abbrev pub Keeps : KeeperStep → Sat → ℕ → Sat → Type 0
 Keeps e m n m' = (m' ≡ (keeper_after e m.0 n (order_in m'), m.1)) × knows_view m.0 e n × IsPresent (shape_in m) (order_in m) (order_in m') (event.Keeper e) n
@@ -71,32 +79,18 @@ Keeps e m n m' = (m' ≡ (keeper_after e m.0 n (order_in m'), m.1)) × knows_vie
 abbrev pub KeepsAt : KeeperStep → Step (Unit {0}) → Sat → ℕ → Sat → Type 0
 KeepsAt e st m n m' = st.word ≡ keeper_word (frames_of (shape_in m)) e → Keeps e m n m'
 
-abbrev pub reaps : Step (Unit {0}) → Sat → ℕ → Sat → Type 0
-reaps st m n m' = (f : ℕ) → KeepsAt (Reap f) st m n m'
+-- the step is of the frame whose word it is
+abbrev pub on_frame : (ℕ → KeeperStep) → Step (Unit {0}) → Sat → ℕ → Sat → Type 0
+on_frame e st m n m' = (f : ℕ) → KeepsAt (e f) st m n m'
 
 abbrev pub puts : Step (Unit {0}) → Sat → ℕ → Sat → Type 0
 puts st m n m' = (f i : ℕ) → i < PAGE_WORDS → KeepsAt (Put f i st.first) st m 0 m'
-
-abbrev pub raises : Step (Unit {0}) → Sat → ℕ → Sat → Type 0
-raises st m n m' = (f : ℕ) → KeepsAt (Raise f) st m n m'
-
-abbrev pub opens : Step (Unit {0}) → Sat → ℕ → Sat → Type 0
-opens st m n m' = (f : ℕ) → KeepsAt (Open f) st m n m'
-
-abbrev pub adds : Step (Unit {0}) → Sat → ℕ → Sat → Type 0
-adds st m n m' = (f : ℕ) → KeepsAt (Add f) st m n m'
-
-abbrev pub subs : Step (Unit {0}) → Sat → ℕ → Sat → Type 0
-subs st m n m' = (f : ℕ) → KeepsAt (Sub f) st m n m'
 
 abbrev pub publishes : Step (Unit {0}) → Sat → ℕ → Sat → Type 0
 publishes st m n m' = (p : ℕ) → KeepsAt (Publish p (st.first % 1024)) st m 0 m'
 
 abbrev pub withdraws : Step (Unit {0}) → Sat → ℕ → Sat → Type 0
 withdraws st m n m' = (p : ℕ) → KeepsAt (Withdraw p) st m 0 m'
-
-abbrev pub freezes : Step (Unit {0}) → Sat → ℕ → Sat → Type 0
-freezes st m n m' = (f : ℕ) → KeepsAt (Freeze f) st m n m'
 
 abbrev pub shows : Step (Unit {0}) → Sat → ℕ → Sat → Type 0
 shows st m n m' = (f i : ℕ) → i < PAGE_WORDS → KeepsAt (Word f i) st m n m'

@@ -1,6 +1,7 @@
 pub mod Terms
 pub mod Named
 pub mod Kept
+pub mod Notes
 pub mod Seat
 pub mod Views
 pub mod Orders

@@ -1,7 +1,7 @@
 -- What each step of a reader tells its seat (own).
 use Rattle.std.specs.Prelude.{◌≡◌, ℕ, ◌<◌, ◌≤◌, List, [], ◌∷◌, ◌++◌, slice_index_or, Option, Some, None}
 use Rattle.atomic_table.specs.Table.{Step}
-use Rattle.frame_table.specs.Terms.{PAGE_WORDS, Shape, frames_of, Event, ReaderStep, LoadPlace, LoadFrame, Exchange, Leave, LoadWord, Aim, Phase, Held}
+use Rattle.frame_table.specs.Terms.{PAGE_WORDS, Shape, frames_of, Event, ReaderStep, LoadPlace, LoadFrame, Leave, LoadWord, Aim, Phase, Held}
 use Rattle.frame_core.specs.declared.event.Event.TheVariants as event
 use Rattle.frame_core.specs.State.{life_at, count_in}
 use Rattle.frame_table.specs.declared.view.View.{View}
@@ -64,15 +64,6 @@ StepsAt e st m n m' = st.word ≡ word_at e m.0 → StepsNow e m n m'
 
 abbrev pub loads_place : Step (Unit {0}) → Sat → ℕ → Sat → Type 0
 loads_place st m n m' = (p : ℕ) → StepsAt (LoadPlace p) st m n m'
-
-abbrev pub loads_frame : Step (Unit {0}) → Sat → ℕ → Sat → Type 0
-loads_frame st m n m' = StepsAt LoadFrame st m n m'
-
-abbrev pub exchanges : Step (Unit {0}) → Sat → ℕ → Sat → Type 0
-exchanges st m n m' = StepsAt Exchange st m n m'
-
-abbrev pub leaves : Step (Unit {0}) → Sat → ℕ → Sat → Type 0
-leaves st m n m' = StepsAt Leave st m n m'
 
 abbrev pub loads_word : Step (Unit {0}) → Sat → ℕ → Sat → Type 0
 loads_word st m n m' = (i : ℕ) → i < PAGE_WORDS → StepsAt (LoadWord i) st m n m'

@@ -37,6 +37,7 @@ impl Drop for ClosedTable {
     }
 }
 
+#[tactic(auto, using(crate::proofs::Looked::found_at))]
 impl ClosedTable {
     fn frame_word(&self, frame: u32) -> u64
         requires { frame < frames_of self.now.shape }

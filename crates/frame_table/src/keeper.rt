@@ -1,37 +1,61 @@
 //! The keeper gives frames, names them at places, and takes them back. Each call that changes something is one atomic step (own).
-ghost use Rattle.std.specs.Prelude.{◌≡◌, ◌<◌, ℕ, ◌↔◌, IsTrue, slice_index};
+ghost use Rattle.std.specs.Prelude.{◌≡◌, ◌<◌, ℕ, ◌↔◌, IsTrue, List, length, map, slice_index, slice_set};
 ghost use Rattle.frame_core.specs.declared.event.KeeperStep.TheVariants.{Reap, Put, Raise, Open, Add, Sub, Publish, Withdraw, Freeze, Word};
 ghost use Rattle.frame_core.specs.Ledger.{frame_at};
 ghost use Rattle.frame_core.specs.State.{frame_word, count_in};
 ghost use Rattle.ksm_base.specs.Values.{frames_of};
+ghost use Rattle.frame_core.specs.declared.ledger.Note.{Note};
 ghost use Rattle.frame_table.specs.Kept.{May, did, Did};
+ghost use Rattle.frame_table.specs.Notes.{kept_of};
 
 use crate::table::FrameTable;
 use crate::view::View;
 use atomic_table::Seat;
-use frame_core::{FrameWord, Kind, Life, Note};
+use frame_core::{FrameWord, Kind, Life};
 use std::marker::Model;
 use std::mem::ManuallyDrop;
+
+/// The note of a frame without its content, which stands in the words of the table.
+#[derive(Clone, Copy)]
+pub(crate) struct Kept {
+    pub(crate) kind: Kind,
+    pub(crate) base: u64,
+    pub(crate) generation: u64,
+}
 
 /// The keeper's seat, with what it knows of each frame. Contracts see which table it is of, the ledger and the log.
 ///
 /// It must be spent, by closing the table.
 pub struct Keeper {
     pub(crate) seat: Seat<(), View>,
-    pub(crate) frames: Vec<Note>,
+    pub(crate) frames: Vec<Kept>,
 }
 
 impl Model for Keeper {
-    ghost use Rattle.std.specs.Prelude.{◌≡◌, length};
+    ghost use Rattle.std.specs.Prelude.{◌≡◌, length, map};
     ghost use Rattle.ksm_base.specs.Values.{frames_of};
     ghost use Rattle.frame_table.specs.Named.{KeeperView};
+    ghost use Rattle.frame_table.specs.Notes.{kept_of};
     ghost use Rattle.frame_table.specs.Views.{keeps_ledger, shape_in, ledger_in, keeper_log, order_in, tally_of};
 
     ghost Value = { KeeperView };
 
     ghost view = { λ q. record { table = record { id = q.seat.table_id; shape = shape_in q.seat.me }; ledger = ledger_in q.seat.me; log = keeper_log q.seat.me } };
 
-    ghost invariant = { λ q. (q.seat.me ≡ keeps_ledger (shape_in q.seat.me) (ledger_in q.seat.me) (tally_of 0 (shape_in q.seat.me).passes) (keeper_log q.seat.me) (order_in q.seat.me)) × (q.frames.items ≡ (ledger_in q.seat.me).frames) × (length q.frames.items ≡ frames_of (shape_in q.seat.me)) };
+    ghost invariant = { λ q. record {
+      seat : q.seat.me ≡ keeps_ledger (shape_in q.seat.me) (ledger_in q.seat.me) (tally_of 0 (shape_in q.seat.me).passes) (keeper_log q.seat.me) (order_in q.seat.me);
+      notes : q.frames.items ≡ map kept_of (ledger_in q.seat.me).frames;
+      long : length q.frames.items ≡ frames_of (shape_in q.seat.me);
+    } };
+}
+
+// Writes down what is known of a frame from now on.
+#[tactic(auto, using(crate::proofs::Notes::notes_set))]
+fn write_down(frames: &mut Vec<Kept>, frame: u32, note: Kept)
+    requires { frame < length frames.old.items }
+    ensures { (notes : List Note) (x : Note) → frames.old.items ≡ map kept_of notes → kept_of x ≡ note → frames.new.items ≡ map kept_of (slice_set notes frame x) }
+{
+    frames[frame as usize] = note;
 }
 
 impl Keeper {
@@ -40,7 +64,7 @@ impl Keeper {
         requires { frame < frames_of self.now.table.shape }
         ensures { result ≡ (frame_at self.now.ledger frame).kind }
     {
-        self.frames[frame as usize].kind
+        self.note(frame).kind
     }
 
     /// How many references on a frame are the keeper's own: 0 to 1,024.
@@ -48,7 +72,7 @@ impl Keeper {
         requires { frame < frames_of self.now.table.shape }
         ensures { result ≡ (frame_at self.now.ledger frame).base }
     {
-        self.frames[frame as usize].base
+        self.note(frame).base
     }
 
     /// How many times a frame was given: the life that it is in, or was in last.
@@ -56,7 +80,16 @@ impl Keeper {
         requires { frame < frames_of self.now.table.shape }
         ensures { result ≡ (frame_at self.now.ledger frame).generation }
     {
-        self.frames[frame as usize].generation
+        self.note(frame).generation
+    }
+
+    // What is kept of a frame is its note in the ledger.
+    #[tactic(auto, using(crate::proofs::Notes::notes_get))]
+    fn note(&self, frame: u32) -> Kept
+        requires { frame < frames_of self.now.table.shape }
+        ensures { result ≡ kept_of (frame_at self.now.ledger frame) }
+    {
+        self.frames[frame as usize]
     }
 
     /// Takes one reference more on a frame on which the keeper has 1 to 1,023.
@@ -65,10 +98,10 @@ impl Keeper {
         requires may { May self.old (Add frame) }
         ensures { Did self.old (Add frame) self.new }
     {
+        let mut note = self.note(frame);
         table.add_at(&mut self.seat, frame);
-        let mut note = self.frames[frame as usize];
         note.base += 1;
-        self.frames[frame as usize] = note;
+        write_down(&mut self.frames, frame, note);
     }
 
     /// Gives one of its references back. With the last one the frame is Dying.
@@ -77,13 +110,13 @@ impl Keeper {
         requires may { May self.old (Sub frame) }
         ensures { Did self.old (Sub frame) self.new }
     {
+        let mut note = self.note(frame);
         table.sub_at(&mut self.seat, frame);
-        let mut note = self.frames[frame as usize];
         if note.base == 1 {
             note.kind = Kind::Dying;
         }
         note.base -= 1;
-        self.frames[frame as usize] = note;
+        write_down(&mut self.frames, frame, note);
     }
 
     /// Loads the frame word of a dying frame, and answers whether its count was 0. If so, the frame is Free, or Retired after its last life; else it
@@ -93,17 +126,17 @@ impl Keeper {
         requires may { May self.old (Reap frame) }
         ensures { (found : ℕ) × (self.new ≡ did self.old (Reap frame) found) × (IsTrue result ↔ count_in found ≡ 0) }
     {
+        let mut note = self.note(frame);
         if FrameWord::unpack(table.reap_at(&mut self.seat, frame)).count != 0 {
             return false;
         }
-        let mut note = self.frames[frame as usize];
         note.base = 0;
         note.kind = if note.generation == table.shape.last_generation {
             Kind::Retired
         } else {
             Kind::Free
         };
-        self.frames[frame as usize] = note;
+        write_down(&mut self.frames, frame, note);
         true
     }
 
@@ -113,11 +146,11 @@ impl Keeper {
         requires may { May self.old (Raise frame) }
         ensures { Did self.old (Raise frame) self.new }
     {
+        let mut note = self.note(frame);
         let before = FrameWord::unpack(table.raise_at(&mut self.seat, frame));
-        let mut note = self.frames[frame as usize];
         note.kind = Kind::Filling;
         note.generation = before.generation + 1;
-        self.frames[frame as usize] = note;
+        write_down(&mut self.frames, frame, note);
     }
 
     /// Stores the word `i` of a frame that is Filling or Private.
@@ -127,7 +160,6 @@ impl Keeper {
         ensures { self.new ≡ did self.old (Put frame i word) 0 }
     {
         table.put_at(&mut self.seat, frame, i, word);
-        self.frames[frame as usize].content[i] = word;
     }
 
     /// Opens a frame that was filled: it is Private, with one reference of the keeper.
@@ -136,11 +168,11 @@ impl Keeper {
         requires may { May self.old (Open frame) }
         ensures { self.new ≡ did self.old (Open frame) (frame_word (frame_at self.old.ledger frame).generation 0) }
     {
+        let mut note = self.note(frame);
         table.open_at(&mut self.seat, frame);
-        let mut note = self.frames[frame as usize];
         note.kind = Kind::Private;
         note.base = 1;
-        self.frames[frame as usize] = note;
+        write_down(&mut self.frames, frame, note);
     }
 
     /// Names a private frame, in its life, at a place that is empty or names a frame that is not Stable in the life named. The frame is
@@ -150,14 +182,14 @@ impl Keeper {
         requires may { May self.old (Publish place frame) }
         ensures { self.new ≡ did self.old (Publish place frame) 0 }
     {
-        let mut note = self.frames[frame as usize];
+        let mut note = self.note(frame);
         let name = Life {
             frame,
             generation: note.generation,
         };
         table.publish_at(&mut self.seat, place, frame, name.word());
         note.kind = Kind::Stable;
-        self.frames[frame as usize] = note;
+        write_down(&mut self.frames, frame, note);
     }
 
     /// Empties a place that is empty or names a frame that is not Stable in the life named.
@@ -176,7 +208,7 @@ impl Keeper {
         requires may { May self.old (Freeze frame) }
         ensures { (found : ℕ) × (self.new ≡ did self.old (Freeze frame) found) × (IsTrue result ↔ count_in found ≡ (frame_at self.old.ledger frame).base) }
     {
-        let mut note = self.frames[frame as usize];
+        let mut note = self.note(frame);
         let alone = FrameWord {
             generation: note.generation,
             count: note.base,
@@ -192,7 +224,7 @@ impl Keeper {
         }
         note.kind = Kind::Dying;
         note.base = 0;
-        self.frames[frame as usize] = note;
+        write_down(&mut self.frames, frame, note);
         true
     }
 

@@ -1,5 +1,6 @@
 //! What each step of the keeper tells its seat.
-ghost use Rattle.frame_table.specs.Keeping.{reaps, puts, raises, opens, adds, subs, publishes, withdraws, freezes, shows};
+ghost use Rattle.frame_core.specs.declared.event.KeeperStep.TheVariants as keeper;
+ghost use Rattle.frame_table.specs.Keeping.{on_frame, puts, publishes, withdraws, shows};
 
 use crate::view::View;
 use atomic_table::Play;
@@ -7,7 +8,7 @@ use atomic_table::Play;
 pub(crate) struct Reap;
 
 impl Play<(), View> for Reap {
-    ghost then = { reaps };
+    ghost then = { on_frame keeper.Reap };
 }
 
 pub(crate) struct Put;
@@ -19,25 +20,25 @@ impl Play<(), View> for Put {
 pub(crate) struct Raise;
 
 impl Play<(), View> for Raise {
-    ghost then = { raises };
+    ghost then = { on_frame keeper.Raise };
 }
 
 pub(crate) struct Open;
 
 impl Play<(), View> for Open {
-    ghost then = { opens };
+    ghost then = { on_frame keeper.Open };
 }
 
 pub(crate) struct Add;
 
 impl Play<(), View> for Add {
-    ghost then = { adds };
+    ghost then = { on_frame keeper.Add };
 }
 
 pub(crate) struct Sub;
 
 impl Play<(), View> for Sub {
-    ghost then = { subs };
+    ghost then = { on_frame keeper.Sub };
 }
 
 pub(crate) struct Publish;
@@ -55,7 +56,7 @@ impl Play<(), View> for Withdraw {
 pub(crate) struct Freeze;
 
 impl Play<(), View> for Freeze {
-    ghost then = { freezes };
+    ghost then = { on_frame keeper.Freeze };
 }
 
 pub(crate) struct Word;

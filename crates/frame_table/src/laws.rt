@@ -11,12 +11,14 @@ ghost use Rattle.frame_table.specs.Truth.{ReadersLogIsTrue, KeepersLogIsTrue};
 /// has come as far as the core's seat, and the keeper's ledger is what the words say. No frame was raised or opened while a seat held it, none
 /// that may be written is held, each hold is of the life that its place named, which is the present one, and of the words that it was
 /// published with, and each count is the keeper's references and the holders together.
+#[tactic(auto, using(crate::proofs::Running::runs_safely))]
 pub fn the_running_table_is_safe()
     ensures { TheTableRunsSafely }
 {}
 
 /// A step of a seat is the core's step of the same name, in each state that keeps the core's rule: it finds and leaves the words of the
 /// states before and after it, and the seat knows what the state after it says.
+#[tactic(auto, using(crate::proofs::ReaderWords::reader_step_is, crate::proofs::KeeperMay::keeper_step_is))]
 pub fn steps_are_the_cores()
     ensures readers { ReadersStepAsTheCore }
     ensures keeper { KeeperStepsAsTheCore }

@@ -1,5 +1,6 @@
 //! What each step of a reader tells its seat.
-ghost use Rattle.frame_table.specs.Reading.{loads_place, loads_frame, exchanges, leaves, loads_word};
+ghost use Rattle.frame_core.specs.declared.event.ReaderStep.TheVariants as reader;
+ghost use Rattle.frame_table.specs.Reading.{StepsAt, loads_place, loads_word};
 
 use crate::view::View;
 use atomic_table::Play;
@@ -13,19 +14,19 @@ impl Play<(), View> for LoadPlace {
 pub(crate) struct LoadFrame;
 
 impl Play<(), View> for LoadFrame {
-    ghost then = { loads_frame };
+    ghost then = { StepsAt reader.LoadFrame };
 }
 
 pub(crate) struct Exchange;
 
 impl Play<(), View> for Exchange {
-    ghost then = { exchanges };
+    ghost then = { StepsAt reader.Exchange };
 }
 
 pub(crate) struct Leave;
 
 impl Play<(), View> for Leave {
-    ghost then = { leaves };
+    ghost then = { StepsAt reader.Leave };
 }
 
 pub(crate) struct LoadWord;

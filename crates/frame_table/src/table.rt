@@ -7,23 +7,23 @@ ghost use Rattle.frame_core.specs.declared.event.KeeperStep.TheVariants as keepe
 ghost use Rattle.frame_core.specs.declared.event.ReaderStep.TheVariants as reader;
 ghost use Rattle.frame_core.specs.declared.seat.Aim.{Aim};
 ghost use Rattle.frame_core.specs.declared.seat.Phase.TheVariants.{Idle, Placed, Counted, Held};
-ghost use Rattle.frame_core.specs.Ledger.{MayStep, frame_at};
+ghost use Rattle.frame_core.specs.Ledger.{frame_at};
 ghost use Rattle.frame_core.specs.State.{place_word, frame_word};
 ghost use Rattle.frame_core.specs.Words.{frame_word_at, page_at, content_at, words_for};
-ghost use Rattle.frame_table.specs.Keeping.{Keeps};
+ghost use Rattle.frame_table.specs.Keeping.{Keeps, MayKeep};
 ghost use Rattle.frame_table.specs.Reading.{IsHolder, StepsNow};
 ghost use Rattle.frame_table.specs.Seats.{Opened, Ends, new_pass};
 ghost use Rattle.frame_table.specs.Views.{IsIn, IsKeeper, keeps_ledger, ledger_in, keeper_log, order_in, tally_in, tally_of};
 
 use crate::closed::ClosedTable;
-use crate::keeper::Keeper;
+use crate::keeper::{Keeper, Kept};
 use crate::keeper_steps::{Add, Freeze, Open, Publish, Put, Raise, Reap, Sub, Withdraw, Word};
 use crate::pass::Pass;
 use crate::reader_steps::{Exchange, Leave, LoadFrame, LoadPlace, LoadWord};
 use crate::seats::{GiveBack, NewPass};
 use crate::view::{FrameRule, View};
 use atomic_table::{Seat, Table};
-use frame_core::{FrameWord, Kind, LINE_WORDS, Note};
+use frame_core::{FrameWord, Kind, LINE_WORDS};
 use ksm_base::{Fault, PAGE_WORDS, Shape};
 use std::alloc::Global;
 use std::marker::Model;
@@ -113,6 +113,7 @@ impl FrameTable {
 // Opening and closing.
 
 impl FrameTable {
+    #[tactic(auto, using(crate::proofs::Seatings::may_make))]
     fn make_pass(&self, seat: &mut Seat<(), View>) -> Pass
         requires own { seat.old.table_id ≡ self.now.id }
         requires keeper { IsKeeper self.now.shape seat.old.me }
@@ -128,6 +129,7 @@ impl FrameTable {
 
     /// A table with all frames free and all places empty, its keeper, and a pass for each of the shape's `passes`. The only refusal is
     /// `Memory`; then nothing is kept.
+    #[tactic(auto, using(crate::proofs::Opening::map_replicate, crate::proofs::Opening::may_begin))]
     pub fn open(alloc: Global, shape: Shape) -> Result<(FrameTable, Keeper, Vec<Pass>), Fault>
         requires { IsShape shape }
         ensures opened { IfOk result (λ t. Opened shape t.0 t.1 t.2.items) }
@@ -135,11 +137,10 @@ impl FrameTable {
     {
         let places = shape.frames();
         let count = places as usize;
-        let blank = Note {
+        let blank = Kept {
             kind: Kind::Free,
             base: 0,
             generation: 0,
-            content: [0; PAGE_WORDS],
         };
         let words = vec![in alloc; 0u64; word_count(count)]?;
         let frames = vec![in alloc; blank; count]?;
@@ -160,6 +161,7 @@ impl FrameTable {
         Ok((table, Keeper { seat, frames }, passes))
     }
 
+    #[tactic(auto, using(crate::proofs::Seatings::may_give))]
     fn take_back(&self, seat: &mut Seat<(), View>, pass: Pass)
         requires own { seat.old.table_id ≡ self.now.id }
         requires keeper { IsKeeper self.now.shape seat.old.me }
@@ -263,9 +265,7 @@ impl FrameTable {
 
 impl FrameTable {
     pub(crate) fn reap_at(&self, seat: &mut Seat<(), View>, frame: u32) -> u64
-        requires own { seat.old.table_id ≡ self.now.id }
-        requires keeper { IsKeeper self.now.shape seat.old.me }
-        requires may { MayStep self.now.shape (ledger_in seat.old.me) (keeper.Reap frame) }
+        requires { MayKeep self.now seat.old.table_id seat.old.me (keeper.Reap frame) }
         ensures seat { (seat.new.table_id ≡ seat.old.table_id) × (seat.new.id ≡ seat.old.id) }
         ensures step { Keeps (keeper.Reap frame) seat.old.me result seat.new.me }
     {
@@ -273,9 +273,7 @@ impl FrameTable {
     }
 
     pub(crate) fn put_at(&self, seat: &mut Seat<(), View>, frame: u32, i: usize, content: u64)
-        requires own { seat.old.table_id ≡ self.now.id }
-        requires keeper { IsKeeper self.now.shape seat.old.me }
-        requires may { MayStep self.now.shape (ledger_in seat.old.me) (keeper.Put frame i content) }
+        requires { MayKeep self.now seat.old.table_id seat.old.me (keeper.Put frame i content) }
         ensures seat { (seat.new.table_id ≡ seat.old.table_id) × (seat.new.id ≡ seat.old.id) }
         ensures step { Keeps (keeper.Put frame i content) seat.old.me 0 seat.new.me }
     {
@@ -285,9 +283,7 @@ impl FrameTable {
     }
 
     pub(crate) fn raise_at(&self, seat: &mut Seat<(), View>, frame: u32) -> u64
-        requires own { seat.old.table_id ≡ self.now.id }
-        requires keeper { IsKeeper self.now.shape seat.old.me }
-        requires may { MayStep self.now.shape (ledger_in seat.old.me) (keeper.Raise frame) }
+        requires { MayKeep self.now seat.old.table_id seat.old.me (keeper.Raise frame) }
         ensures seat { (seat.new.table_id ≡ seat.old.table_id) × (seat.new.id ≡ seat.old.id) }
         ensures step { Keeps (keeper.Raise frame) seat.old.me result seat.new.me }
     {
@@ -297,9 +293,7 @@ impl FrameTable {
     }
 
     pub(crate) fn open_at(&self, seat: &mut Seat<(), View>, frame: u32) -> u64
-        requires own { seat.old.table_id ≡ self.now.id }
-        requires keeper { IsKeeper self.now.shape seat.old.me }
-        requires may { MayStep self.now.shape (ledger_in seat.old.me) (keeper.Open frame) }
+        requires { MayKeep self.now seat.old.table_id seat.old.me (keeper.Open frame) }
         ensures seat { (seat.new.table_id ≡ seat.old.table_id) × (seat.new.id ≡ seat.old.id) }
         ensures step { Keeps (keeper.Open frame) seat.old.me result seat.new.me }
     {
@@ -309,9 +303,7 @@ impl FrameTable {
     }
 
     pub(crate) fn add_at(&self, seat: &mut Seat<(), View>, frame: u32) -> u64
-        requires own { seat.old.table_id ≡ self.now.id }
-        requires keeper { IsKeeper self.now.shape seat.old.me }
-        requires may { MayStep self.now.shape (ledger_in seat.old.me) (keeper.Add frame) }
+        requires { MayKeep self.now seat.old.table_id seat.old.me (keeper.Add frame) }
         ensures seat { (seat.new.table_id ≡ seat.old.table_id) × (seat.new.id ≡ seat.old.id) }
         ensures step { Keeps (keeper.Add frame) seat.old.me result seat.new.me }
     {
@@ -321,9 +313,7 @@ impl FrameTable {
     }
 
     pub(crate) fn sub_at(&self, seat: &mut Seat<(), View>, frame: u32) -> u64
-        requires own { seat.old.table_id ≡ self.now.id }
-        requires keeper { IsKeeper self.now.shape seat.old.me }
-        requires may { MayStep self.now.shape (ledger_in seat.old.me) (keeper.Sub frame) }
+        requires { MayKeep self.now seat.old.table_id seat.old.me (keeper.Sub frame) }
         ensures seat { (seat.new.table_id ≡ seat.old.table_id) × (seat.new.id ≡ seat.old.id) }
         ensures step { Keeps (keeper.Sub frame) seat.old.me result seat.new.me }
     {
@@ -333,9 +323,7 @@ impl FrameTable {
     }
 
     pub(crate) fn publish_at(&self, seat: &mut Seat<(), View>, place: u32, frame: u32, name: u64)
-        requires own { seat.old.table_id ≡ self.now.id }
-        requires keeper { IsKeeper self.now.shape seat.old.me }
-        requires may { MayStep self.now.shape (ledger_in seat.old.me) (keeper.Publish place frame) }
+        requires asks { MayKeep self.now seat.old.table_id seat.old.me (keeper.Publish place frame) }
         requires name { name ≡ place_word (Some record { frame = frame; generation = (frame_at (ledger_in seat.old.me) frame).generation }) % 2 ^ 64 }
         ensures seat { (seat.new.table_id ≡ seat.old.table_id) × (seat.new.id ≡ seat.old.id) }
         ensures step { Keeps (keeper.Publish place frame) seat.old.me 0 seat.new.me }
@@ -346,9 +334,7 @@ impl FrameTable {
     }
 
     pub(crate) fn withdraw_at(&self, seat: &mut Seat<(), View>, place: u32)
-        requires own { seat.old.table_id ≡ self.now.id }
-        requires keeper { IsKeeper self.now.shape seat.old.me }
-        requires may { MayStep self.now.shape (ledger_in seat.old.me) (keeper.Withdraw place) }
+        requires { MayKeep self.now seat.old.table_id seat.old.me (keeper.Withdraw place) }
         ensures seat { (seat.new.table_id ≡ seat.old.table_id) × (seat.new.id ≡ seat.old.id) }
         ensures step { Keeps (keeper.Withdraw place) seat.old.me 0 seat.new.me }
     {
@@ -363,9 +349,7 @@ impl FrameTable {
         alone: u64,
         none: u64,
     ) -> u64
-        requires own { seat.old.table_id ≡ self.now.id }
-        requires keeper { IsKeeper self.now.shape seat.old.me }
-        requires may { MayStep self.now.shape (ledger_in seat.old.me) (keeper.Freeze frame) }
+        requires asks { MayKeep self.now seat.old.table_id seat.old.me (keeper.Freeze frame) }
         requires alone { alone ≡ frame_word (frame_at (ledger_in seat.old.me) frame).generation (frame_at (ledger_in seat.old.me) frame).base % 2 ^ 64 }
         requires none { none ≡ frame_word (frame_at (ledger_in seat.old.me) frame).generation 0 % 2 ^ 64 }
         ensures seat { (seat.new.table_id ≡ seat.old.table_id) × (seat.new.id ≡ seat.old.id) }
@@ -377,9 +361,7 @@ impl FrameTable {
     }
 
     pub(crate) fn word_at(&self, seat: &mut Seat<(), View>, frame: u32, i: usize) -> u64
-        requires own { seat.old.table_id ≡ self.now.id }
-        requires keeper { IsKeeper self.now.shape seat.old.me }
-        requires may { MayStep self.now.shape (ledger_in seat.old.me) (keeper.Word frame i) }
+        requires { MayKeep self.now seat.old.table_id seat.old.me (keeper.Word frame i) }
         ensures seat { (seat.new.table_id ≡ seat.old.table_id) × (seat.new.id ≡ seat.old.id) }
         ensures step { Keeps (keeper.Word frame i) seat.old.me result seat.new.me }
     {

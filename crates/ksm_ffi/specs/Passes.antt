@@ -61,6 +61,18 @@ equal_phase (equal.Busy p) = Idle p
 abbrev pub Stays : Phase → Answer → Answer → Phase → Type 0
 Stays before reason a after = (a ≡ reason) × (after ≡ before)
 
+-- whether a place may be looked up: the pass holds nothing, and its table has the place
+abbrev pub MayLookUp : Phase → ℕ → Type 0
+MayLookUp (Idle v) place = place < frames_of v.table.shape
+MayLookUp (Held v) place = ⊥
+MayLookUp Away place = ⊥
+
+-- what is answered where a place may not be looked up
+abbrev pub why_not_of : Phase → Answer
+why_not_of (Idle v) = answer.Range
+why_not_of (Held v) = answer.Holding
+why_not_of Away = answer.Holding
+
 -- a lookup of a place by a pass that holds nothing
 abbrev pub Finds : Phase → ℕ → Answer → Phase → Type 0
 Finds (Idle v) place a after = (place < frames_of v.table.shape → (f : Found) × LooksUp v place f × (a ≡ found_answer f) × (after ≡ found_phase f))

@@ -19,6 +19,7 @@ use Rattle.ksm_ffi.specs.Books.{Applies, IsOpening}
 use Rattle.ksm_ffi.specs.Homes.{HomeView, Judged, LendsNone, all_back, one_back}
 use Rattle.ksm_ffi.specs.Opening.{IsNewOf, OpensNot}
 use Rattle.ksm_ffi.specs.Passes.{IsIdle}
+use Rattle.ksm_ffi.specs.Passes as passes
 use Rattle.ksm_ffi.specs.Requests.{commanded}
 
 -- the handle is as it was, and this is why
@@ -37,6 +38,19 @@ OnPass P None n after = Keeps None answer.Closed n after
 OnPass P (Some (Table v h)) n after = Keeps (Some (Table v h)) answer.Kind n after
 OnPass P (Some (Book b h)) n after = Keeps (Some (Book b h)) answer.Kind n after
 OnPass P (Some (Pass v m)) n after = (a : Answer) × (w : Phase) × P v a w × (n ≡ number_of a) × (after ≡ Some (Pass w m))
+
+-- whether a place may be looked up by what a handle stands for
+abbrev pub MayLookUp : Thing → ℕ → Type 0
+MayLookUp (Pass v m) place = passes.MayLookUp v place
+MayLookUp (Table v h) place = ⊥
+MayLookUp (Book b h) place = ⊥
+
+-- what is answered by a handle where it may not
+abbrev pub why_not_by : Option Thing → Answer
+why_not_by None = answer.Closed
+why_not_by (Some (Pass v m)) = passes.why_not_of v
+why_not_by (Some (Table v h)) = answer.Kind
+why_not_by (Some (Book b h)) = answer.Kind
 
 -- a call of a table's keeper
 abbrev pub OnTable : (KeeperView → Answer → KeeperView → Type 0) → Option Thing → ℕ → Option Thing → Type 0

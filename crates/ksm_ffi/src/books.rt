@@ -19,13 +19,7 @@ fn open_book(alloc: Global, shape: Shape, number: u64) -> Result<Box<Thing>, Ans
     ensures { OpensBookThing shape number result }
 {
     let (bookkeeper, home) = Bookkeeper::open(alloc, shape, number)?;
-    match Box::new(alloc, Thing::Book(bookkeeper, home)) {
-        Ok(thing) => Ok(thing),
-        Err(failed) => {
-            failed.value.retire();
-            Err(Answer::Memory)
-        }
-    }
+    Thing::Book(bookkeeper, home).boxed(alloc)
 }
 
 /// Opens a book on a table of its own, whose frames the book keeps.
@@ -42,8 +36,7 @@ pub extern "C" fn ksm_book_open(
 ) -> u32
     ensures { OpensBookAt (record { nodes = nodes; frames_per_node = frames_per_node; passes = passes; last_generation = last_generation; tries = tries }) number book.old.thing result book.new.thing }
 {
-    if let Some(thing) = book.take(alloc) {
-        book.put(thing);
+    if let Some(_) = book.as_mut() {
         return Answer::Open.number();
     }
     let shape = Shape {
@@ -53,13 +46,7 @@ pub extern "C" fn ksm_book_open(
         last_generation,
         tries,
     };
-    match open_book(alloc, shape, number) {
-        Ok(thing) => {
-            book.put(thing);
-            Answer::Done.number()
-        }
-        Err(answer) => answer.number(),
-    }
+    book.open(open_book(alloc, shape, number))
 }
 
 // Does a command, if there is one of this kind.

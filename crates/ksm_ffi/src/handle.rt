@@ -6,6 +6,7 @@ ghost use Rattle.std.specs.declared.option.Option.TheVariants.{None, Some};
 ghost use Rattle.ksm_ffi.specs.Handles.{handle_coded, handle_owns};
 ghost use Rattle.ksm_ffi.specs.declared.thing.Thing.{Thing};
 
+use crate::answer::Answer;
 use crate::loose::Loose;
 use crate::thing::Thing;
 use std::alloc::Global;
@@ -32,7 +33,10 @@ impl Model for Handle {
 unsafe impl Send for Handle {}
 
 impl Handle {
+    ghost use Rattle.std.specs.Prelude.{MatchResult};
+    ghost use Rattle.ksm_ffi.specs.Answers.{number_of};
     ghost use Rattle.ksm_ffi.specs.Lends.{LendsInPlace};
+    ghost use Rattle.ksm_ffi.specs.declared.answer.Answer.TheVariants as answer;
 
     fn empty(alloc: Global) -> Handle
         ensures { result.thing ≡ None }
@@ -87,6 +91,20 @@ impl Handle {
         match held.into_loose() {
             Some(loose) => Some(loose.into_box()),
             None => None,
+        }
+    }
+
+    /// Opens a handle that is not open on what was made. Answers the number of Done, or of why nothing was made.
+    pub(crate) fn open(&mut self, made: Result<Box<Thing>, Answer>) -> u32
+        ensures told { MatchResult made (λ _. result ≡ number_of answer.Done) (λ a. result ≡ number_of a) }
+        ensures thing { MatchResult made (λ b. self.new.thing ≡ Some b.value) (λ _. self.new.thing ≡ self.old.thing) }
+    {
+        match made {
+            Ok(thing) => {
+                self.put(thing);
+                Answer::Done.number()
+            }
+            Err(answer) => answer.number(),
         }
     }
 

@@ -1,7 +1,8 @@
 //! The calls of a pass: lookups, and what they hold. Each thread that looks up has a pass of its own.
-ghost use Rattle.std.specs.Prelude.{◌≡◌, ◌≢◌};
+ghost use Rattle.std.specs.Prelude.{◌≡◌, ◌≢◌, ◌↔◌, IsTrue};
+ghost use Rattle.ksm_ffi.specs.Answers.{number_of};
 ghost use Rattle.ksm_ffi.specs.Passes.{Finds, FindsEqual, GoesIdle, LooksUpAll, Reads, ReadsAll, TellsHold};
-ghost use Rattle.ksm_ffi.specs.Things.{OnPass};
+ghost use Rattle.ksm_ffi.specs.Things.{MayLookUp, OnPass, why_not_by};
 
 use crate::answer::Answer;
 use crate::handle::Handle;
@@ -47,8 +48,37 @@ pub extern "C" fn ksm_look_up(pass: &mut Handle, place: u32, words: &mut PageByt
     let Some(thing) = pass.as_mut() else {
         return Answer::Closed.number();
     };
+    if !may_look_up(thing, place) {
+        return why_not(pass);
+    }
+    let Thing::Pass(reader, _) = thing else {
+        unreachable!()
+    };
+    reader.look_up(place, words).number()
+}
+
+// Whether a handle stands for a pass that holds nothing, of a table that has this place.
+fn may_look_up(thing: &Thing, place: u32) -> bool
+    ensures { IsTrue result ↔ MayLookUp thing.now place }
+{
+    match thing {
+        Thing::Pass(reader, _) => reader.may_look_up(place),
+        _ => false,
+    }
+}
+
+// The number that tells why no place is looked up. It is a function of its own, so that a lookup which is made loads none of these.
+#[cold]
+#[inline(never)]
+fn why_not(pass: &mut Handle) -> u32
+    ensures number { result ≡ number_of (why_not_by pass.old.thing) }
+    ensures kept { pass.new.thing ≡ pass.old.thing }
+{
+    let Some(thing) = pass.as_mut() else {
+        return Answer::Closed.number();
+    };
     let answer = match thing {
-        Thing::Pass(reader, _) => reader.look_up(place, words),
+        Thing::Pass(reader, _) => reader.why_not(),
         _ => Answer::Kind,
     };
     answer.number()

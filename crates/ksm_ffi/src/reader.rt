@@ -2,7 +2,7 @@
 ghost use Rattle.std.specs.Prelude.{◌≡◌, ◌≢◌, ◌↔◌, IsTrue, Some, None};
 ghost use Rattle.ksm_ffi.specs.declared.reader.Phase.TheVariants.{Idle};
 ghost use Rattle.ksm_ffi.specs.declared.answer.Answer.TheVariants as answer;
-ghost use Rattle.ksm_ffi.specs.Passes.{Finds, FindsEqual, GoesIdle, IsIdle, LooksUpAll, Reads, ReadsAll, ReadsPage, ReadsThenLeaves, Tells, why_answer_of};
+ghost use Rattle.ksm_ffi.specs.Passes.{Finds, FindsEqual, GoesIdle, IsIdle, LooksUpAll, MayLookUp, Reads, ReadsAll, ReadsPage, ReadsThenLeaves, Tells, why_answer_of, why_not_of};
 
 use crate::answer::Answer;
 use frame_table::{Found, FoundEqual, FrameTable, Held, Pass, Why};
@@ -137,23 +137,37 @@ impl Reader {
         }
     }
 
+    /// Whether the pass holds nothing, and its table has this place.
+    pub fn may_look_up(&self, place: u32) -> bool
+        ensures { IsTrue result ↔ MayLookUp self.now place }
+    {
+        self.pass.is_some() && place < self.table.places()
+    }
+
+    /// Why a place is not looked up: the pass holds a frame, or else there is no such place.
+    pub fn why_not(&self) -> Answer
+        ensures { result ≡ why_not_of self.now }
+    {
+        if self.is_idle() {
+            Answer::Range
+        } else {
+            Answer::Holding
+        }
+    }
+
     /// Looks a place up, loads every word of the frame that it names, and gives the reference back.
     pub fn look_up(&mut self, place: u32, words: &mut PageBytes) -> Answer
         ensures looked { LooksUpAll self.old place result words.new self.new }
         ensures kept { result ≢ answer.Done → words.new ≡ words.old }
     {
-        let Some(_) = &self.pass else {
-            return Answer::Holding;
-        };
+        if !self.may_look_up(place) {
+            return self.why_not();
+        }
         let Some(pass) = self.pass.take() else {
             unreachable!()
         };
         // Found once: behind a step of a word the compiler would look where the table stands anew.
         let table: &FrameTable = &self.table;
-        if place >= table.places() {
-            rest(&mut self.pass, pass);
-            return Answer::Range;
-        }
         match pass.find(table, place) {
             Found::Held(held) => {
                 let pass = read_and_leave(table, held, words);

@@ -14,17 +14,11 @@ use ksm_base::Shape;
 use std::alloc::Global;
 
 // A table in a box of its own.
-fn open_thing(alloc: Global, shape: Shape, number: u64) -> Result<Box<Thing>, Answer>
+fn open_table(alloc: Global, shape: Shape, number: u64) -> Result<Box<Thing>, Answer>
     ensures { OpensThing shape number result }
 {
     let (owner, home) = Owner::open(alloc, shape, number)?;
-    match Box::new(alloc, Thing::Table(owner, home)) {
-        Ok(thing) => Ok(thing),
-        Err(failed) => {
-            failed.value.retire();
-            Err(Answer::Memory)
-        }
-    }
+    Thing::Table(owner, home).boxed(alloc)
 }
 
 /// Opens a table with all frames free and all places empty. Passes are told from those of tables with other numbers.
@@ -41,8 +35,7 @@ pub extern "C" fn ksm_table_open(
 ) -> u32
     ensures { Opens (record { nodes = nodes; frames_per_node = frames_per_node; passes = passes; last_generation = last_generation; tries = tries }) number table.old.thing result table.new.thing }
 {
-    if let Some(thing) = table.take(alloc) {
-        table.put(thing);
+    if let Some(_) = table.as_mut() {
         return Answer::Open.number();
     }
     let shape = Shape {
@@ -52,13 +45,7 @@ pub extern "C" fn ksm_table_open(
         last_generation,
         tries,
     };
-    match open_thing(alloc, shape, number) {
-        Ok(thing) => {
-            table.put(thing);
-            Answer::Done.number()
-        }
-        Err(answer) => answer.number(),
-    }
+    table.open(open_table(alloc, shape, number))
 }
 
 /// Closes a table, if no pass of it is out, and frees its memory.
@@ -133,8 +120,7 @@ fn lend(alloc: Global, table: &mut Thing) -> Result<Box<Thing>, Answer>
 pub extern "C" fn ksm_pass_open(alloc: Global, table: &mut Handle, pass: &mut Handle) -> u32
     ensures { OpensPass table.old.thing pass.old.thing result table.new.thing pass.new.thing }
 {
-    if let Some(thing) = pass.take(alloc) {
-        pass.put(thing);
+    if let Some(_) = pass.as_mut() {
         return Answer::Open.number();
     }
     let Some(mut thing) = table.take(alloc) else {
@@ -142,13 +128,7 @@ pub extern "C" fn ksm_pass_open(alloc: Global, table: &mut Handle, pass: &mut Ha
     };
     let lent = lend(alloc, &mut thing);
     table.put(thing);
-    match lent {
-        Ok(lent) => {
-            pass.put(lent);
-            Answer::Done.number()
-        }
-        Err(answer) => answer.number(),
-    }
+    pass.open(lent)
 }
 
 // Whether a pass may come back to a table, and if not, why.

@@ -1,11 +1,13 @@
 //! What a handle stands for.
-ghost use Rattle.std.specs.Prelude.{◌≡◌};
+ghost use Rattle.std.specs.Prelude.{◌≡◌, MatchResult};
 ghost use Rattle.ksm_ffi.specs.Things.{reader_of};
 
+use crate::answer::Answer;
 use crate::bookkeeper::Bookkeeper;
 use crate::home::Home;
 use crate::owner::Owner;
 use crate::reader::Reader;
+use std::alloc::Global;
 use std::mem::ManuallyDrop;
 
 /// What a handle stands for.
@@ -19,6 +21,19 @@ pub enum Thing {
 }
 
 impl Thing {
+    /// In a box of its own. Where there is no memory for that, it goes for good.
+    pub fn boxed(self, alloc: Global) -> Result<Box<Thing>, Answer>
+        ensures { MatchResult result (λ b. b.value ≡ self) (λ a. a ≡ Answer.Memory) }
+    {
+        match Box::new(alloc, self) {
+            Ok(thing) => Ok(thing),
+            Err(failed) => {
+                failed.value.retire();
+                Err(Answer::Memory)
+            }
+        }
+    }
+
     /// The pass that it stands for; what else it is goes for good.
     pub fn into_reader(self) -> Option<Reader>
         ensures { result ≡ reader_of self }

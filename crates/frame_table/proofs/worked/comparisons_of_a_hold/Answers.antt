@@ -4,19 +4,13 @@ use Rattle.std.proofs.lemmas.Option.{same_Some}
 use Rattle.ksm_base.specs.declared.page.TheConstants.{PAGE_WORDS}
 use Rattle.frame_table.proofs.worked.comparisons_of_a_hold.Goals as goal
 
-abbrev number : Option ℕ → ℕ
-number None = 0
-number (Some n) = n
-
 pub returns-clause-unread : goal.returns-clause-unread
 returns-clause-unread c = λ v w known compared.
-    let first : ◌≡◌ {A = Option ℕ} None (Some 8) = sym (ap (λ (l : List (Option ℕ)). get_or l 0 None) known) ∙ compared.1 0 (omega arith) in
-    let n : ◌≡◌ {A = ℕ} 0 8 = ap number first in omega (arith, n)
+    let first : ◌≡◌ {A = Option ℕ} None (Some 8) = sym (ap (λ (l : List (Option ℕ)). get_or l 0 None) known) ∙ compared.1 0 (omega arith) in cc (first)
 
 pub returns-clause-another : goal.returns-clause-another
 returns-clause-another c = λ v w known compared.
-    let first : ◌≡◌ {A = Option ℕ} (Some 9) (Some 8) = sym (ap (λ (l : List (Option ℕ)). get_or l 0 None) known) ∙ compared.1 0 (omega arith) in
-    let n : ◌≡◌ {A = ℕ} 9 8 = ap number first in omega (arith, n)
+    let first : ◌≡◌ {A = Option ℕ} (Some 9) (Some 8) = sym (ap (λ (l : List (Option ℕ)). get_or l 0 None) known) ∙ compared.1 0 (omega arith) in cc (first)
 
 pub returns-clause-equal : goal.returns-clause-equal
 returns-clause-equal c = λ v w known compared.

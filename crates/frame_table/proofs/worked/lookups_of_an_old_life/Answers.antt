@@ -1,6 +1,6 @@
 use Rattle.std.proofs.Common.{◌≡◌, ℕ, [], ◌∷◌, sym, ap, ◌∙◌, refl, arith}
 use Rattle.frame_table.proofs.CoreNames.{life_at, count_in, life_in}
-use Rattle.frame_table.proofs.NoLookups.{words}
+use Rattle.frame_table.proofs.NoLookups.{words, long}
 use Rattle.frame_table.proofs.worked.lookups_of_an_old_life.Goals as goal
 
 pub returns-clause-at_once : goal.returns-clause-at_once
@@ -27,9 +27,7 @@ returns-clause-unreferenced c (word, [], last, goes, some, another, e) = let w :
 returns-clause-unreferenced c (word, x ∷ xs, last, goes, some, another, e) = cc (e)
 
 pub returns-clause-exchanged : goal.returns-clause-exchanged
-returns-clause-exchanged c (word, [], last, goes, some, another, e) = cc (e)
-returns-clause-exchanged c (word, x ∷ [], last, goes, some, another, e) = cc (e)
-returns-clause-exchanged c (word, x ∷ y ∷ xs, last, goes, some, another, e) = cc (e)
+returns-clause-exchanged c (word, xs, last, goes, some, another, e) = let n = long _ word xs _ _ e in omega (arith, n)
 
 pub returns-clause-tried_there : goal.returns-clause-tried_there
 returns-clause-tried_there c (word, [], last, goes, some, another, e) = cc (e)

@@ -1,6 +1,6 @@
 use Rattle.std.proofs.Common.{◌≡◌, [], ◌∷◌, ap, ◌∙◌, refl, arith}
 use Rattle.frame_core.specs.State.{count_in}
-use Rattle.frame_table.proofs.NoLookups.{words, made}
+use Rattle.frame_table.proofs.NoLookups.{words, long, made}
 use Rattle.frame_table.proofs.worked.lookups_of_an_unreferenced_frame.Goals as goal
 
 pub returns-clause-at_once : goal.returns-clause-at_once
@@ -20,9 +20,7 @@ returns-clause-after_a_loss c = (
 )
 
 pub returns-clause-after_all_tries : goal.returns-clause-after_all_tries
-returns-clause-after_all_tries c (word, [], last, goes, none, e) = cc (e)
-returns-clause-after_all_tries c (word, x ∷ [], last, goes, none, e) = cc (e)
-returns-clause-after_all_tries c (word, x ∷ y ∷ xs, last, (named, lost, few), none, e) = omega (arith, few)
+returns-clause-after_all_tries c (word, xs, last, (named, lost, few), none, e) = let n = long _ word xs _ _ e in omega (arith, few, n)
 
 pub returns-clause-after_no_loss : goal.returns-clause-after_no_loss
 returns-clause-after_no_loss c (word, [], last, goes, none, e) = cc (e)

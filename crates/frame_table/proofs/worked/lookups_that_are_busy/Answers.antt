@@ -1,7 +1,12 @@
-use Rattle.std.proofs.Common.{◌≡◌, [], ◌∷◌, ap, sym, refl, arith}
+use Rattle.std.proofs.Common.{◌≡◌, ℕ, ◌+◌, ◌*◌, List, [], ◌∷◌, length, ap, sym, refl, ◌∙◌, arith, append-nil}
+use Rattle.frame_table.specs.Lookup.{ReaderLog, lookup_so_far}
 use Rattle.frame_core.specs.State.{count_in}
-use Rattle.frame_table.proofs.NoLookups.{words, made}
+use Rattle.frame_table.proofs.NoLookups.{words, long, made}
 use Rattle.frame_table.proofs.worked.lookups_that_are_busy.Goals as goal
+
+-- how long a log of so many lost rounds is
+tried : (word : ℕ) (xs : List (ℕ × ℕ)) (log : ReaderLog) → log ≡ lookup_so_far 1 word xs → length log ≡ 1 + length xs * 2
+tried word xs log e = let n = long 1 word xs [] log (e ∙ sym (append-nil (lookup_so_far 1 word xs))) in omega (arith, n)
 
 pub returns-clause-all_tries : goal.returns-clause-all_tries
 returns-clause-all_tries c = (
@@ -14,15 +19,10 @@ returns-clause-all_tries c = (
 )
 
 pub returns-clause-one_try : goal.returns-clause-one_try
-returns-clause-one_try c (word, [], some, lost, two, e) = cc (two)
-returns-clause-one_try c (word, x ∷ [], some, lost, two, e) = cc (two)
-returns-clause-one_try c (word, x ∷ y ∷ xs, some, lost, two, e) = cc (e)
+returns-clause-one_try c (word, xs, some, lost, two, e) = let n = tried word xs _ e in omega (arith, two, n)
 
 pub returns-clause-three_tries : goal.returns-clause-three_tries
-returns-clause-three_tries c (word, [], some, lost, two, e) = cc (two)
-returns-clause-three_tries c (word, x ∷ [], some, lost, two, e) = cc (two)
-returns-clause-three_tries c (word, x ∷ y ∷ [], some, lost, two, e) = cc (e)
-returns-clause-three_tries c (word, x ∷ y ∷ z ∷ xs, some, lost, two, e) = omega (arith, two)
+returns-clause-three_tries c (word, xs, some, lost, two, e) = let n = tried word xs _ e in omega (arith, two, n)
 
 pub returns-clause-no_loss : goal.returns-clause-no_loss
 returns-clause-no_loss c (word, [], some, lost, two, e) = cc (e)

@@ -1,6 +1,6 @@
 use Rattle.std.proofs.Common.{◌≡◌, ℕ, [], ◌∷◌, ap, sym, ◌∙◌, refl, arith}
 use Rattle.frame_table.proofs.CoreNames.{life_at, count_in, life_in}
-use Rattle.frame_table.proofs.NoLookups.{words, made}
+use Rattle.frame_table.proofs.NoLookups.{words, long, made}
 use Rattle.frame_table.proofs.worked.lookups_that_hold.Goals as goal
 
 pub returns-clause-at_once : goal.returns-clause-at_once
@@ -43,10 +43,7 @@ returns-clause-from_zero c (word, x ∷ [], last, goes, alive, frame, life, e) =
 returns-clause-from_zero c (word, x ∷ y ∷ xs, last, goes, alive, frame, life, e) = cc (e)
 
 pub returns-clause-after_all_tries : goal.returns-clause-after_all_tries
-returns-clause-after_all_tries c (word, [], last, goes, alive, frame, life, e) = cc (e)
-returns-clause-after_all_tries c (word, x ∷ [], last, goes, alive, frame, life, e) = cc (e)
-returns-clause-after_all_tries c (word, x ∷ y ∷ xs, last, (named, lost, few), alive, frame, life, e) = omega (arith, few)
+returns-clause-after_all_tries c (word, xs, last, (named, lost, few), alive, frame, life, e) = let n = long _ word xs _ _ e in omega (arith, few, n)
 
 pub returns-clause-not_exchanged : goal.returns-clause-not_exchanged
-returns-clause-not_exchanged c (word, [], last, goes, alive, frame, life, e) = cc (e)
-returns-clause-not_exchanged c (word, x ∷ xs, last, goes, alive, frame, life, e) = cc (e)
+returns-clause-not_exchanged c (word, xs, last, goes, alive, frame, life, e) = let n = long _ word xs _ _ e in omega (arith, n)

@@ -2,14 +2,8 @@ use Rattle.std.proofs.Common.{◌≡◌, ℕ, [], ◌∷◌, length, Option, Som
 use Rattle.frame_core.specs.declared.event.ReaderStep.TheVariants.{Leave}
 use Rattle.frame_table.proofs.worked.words_of_a_hold.Goals as goal
 
--- the number in an option
-abbrev number : Option ℕ → ℕ
-number None = 0
-number (Some n) = n
-
 pub returns-clause-known : goal.returns-clause-known
-returns-clause-known c = λ v h known looked. let first : ◌≡◌ {A = Option ℕ} (Some 8) None = ap (λ l. get_or l 0 None) (sym known ∙ looked.2) in
-    let n : ◌≡◌ {A = ℕ} 8 0 = ap (λ (o : Option ℕ). number o) first in omega (arith, n)
+returns-clause-known c = λ v h known looked. let first : ◌≡◌ {A = Option ℕ} (Some 8) None = ap (λ l. get_or l 0 None) (sym known ∙ looked.2) in cc (first)
 
 pub returns-clause-another_word : goal.returns-clause-another_word
 returns-clause-another_word c = λ v w known read. let n : 9 ≡ 8 = read.1 8 (ap (λ l. get_or l 1 None) known) in omega (arith, n)

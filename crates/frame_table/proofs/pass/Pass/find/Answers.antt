@@ -1,7 +1,8 @@
-use Rattle.std.proofs.Common.{rules, ◌≡◌, ℕ, ◌<◌, [], ◌∷◌, ◌++◌, eqb, arith, ap, subst, ◌∙◌, sym, refl, append_assoc}
-use Rattle.frame_table.proofs.CoreNames.{Shape, LoadFrame, Exchange, Life, Idle, aim_of}
-use Rattle.frame_table.proofs.Names.{Zero, Old, Won, lookup_so_far, IsAlive, ReaderLog, IsIn, shape_in, log_in, known_in}
-use Rattle.frame_table.proofs.Looks.{Tries, begins, stands, last_round, goes_on, word_names, same_table, tried_so_far}
+use Rattle.std.proofs.Common.{rules, ◌≡◌, ℕ, ◌<◌, [], ◌∷◌, ◌++◌, eqb, arith, ap, subst, ◌∙◌, sym, refl}
+use Rattle.frame_core.specs.Seat.{nothing_known}
+use Rattle.frame_table.proofs.CoreNames.{Shape, LoadFrame, Exchange, Life, Idle, Held, aim_of}
+use Rattle.frame_table.proofs.Names.{Zero, Old, Won, lookup_so_far, IsAlive, ReaderLog, IsIn, shape_in, known_in}
+use Rattle.frame_table.proofs.Looks.{Tries, begins, stands, last_round, goes_on, word_names, ended, tried_so_far}
 use Rattle.frame_table.proofs.pass.Pass.find.Goals as goal
 
 pub try_round-requires-clause-phase : goal.try_round-requires-clause-phase
@@ -37,54 +38,42 @@ rounds-init c =
 
 pub returns-in-Zero : goal.returns-in-Zero
 returns-in-Zero c =
-    let sh = c.args.table.now.shape in
     let w : ℕ = c.load_place-named.result in
     let n : ℕ = c.in-Zero.field-0 in
     let t = c.rounds.invariant.1 in
-    let more : c.rounds.i < sh.tries = omega (arith, c.tries-i-end.ensures.0) in
-    let g = last_round sh c.args.place w c.args.self.log c.rounds.i c.rounds.seat.me t (Zero n) c.try_round.new.seat.me more c.in-Zero.ensures.round in
-    let few = tried_so_far c.args.self.table c.args.table.now c.rounds.i w c.in-Some.life t.0 (sym c.of_word.ensures ∙ c.in-Some.is) more t.1 t.2 c.requires.own in (
-      same_table c.args.self.table c.args.table.now c.try_round.new.seat.table_id c.try_round.new.seat.me (c.in-Zero.ensures.seat.0 ∙ c.rounds.invariant.0) (ap shape_in g.1) c.requires.own,
-      (
-        lookup_so_far c.args.place w t.0 ++ (LoadFrame, n) ∷ [],
-        ap log_in g.1 ∙ append_assoc c.args.self.log (lookup_so_far c.args.place w t.0) ((LoadFrame, n) ∷ []),
-        (w, t.0, n, few, g.0, refl),
-      ),
-    )
+    let last : ReaderLog = (LoadFrame, n) ∷ [] in
+    let more : c.rounds.i < c.args.table.now.shape.tries = omega (arith, c.tries-i-end.ensures.0) in
+    let g = last_round c.args.table.now.shape c.args.place w c.args.self.log c.rounds.i c.rounds.seat.me t (Zero n) c.try_round.new.seat.me more c.in-Zero.ensures.round in
+    let few = tried_so_far c.args.self.table c.args.table.now c.rounds.i w c.in-Some.life t.0 (sym c.of_word.ensures ∙ c.in-Some.is) more t.1 t.2 c.requires.own in
+    let e = ended c.args.self.table c.args.table.now c.try_round.new.seat.table_id c.try_round.new.seat.me Idle c.args.self.log c.args.place w t.0 last (c.in-Zero.ensures.seat.0 ∙ c.rounds.invariant.0) c.requires.own g.1 in
+    (e.0, (lookup_so_far c.args.place w t.0 ++ last, e.1, (w, t.0, n, few, g.0, refl)))
 
 pub returns-in-Old : goal.returns-in-Old
 returns-in-Old c =
-    let sh = c.args.table.now.shape in
     let w : ℕ = c.load_place-named.result in
     let n : ℕ = c.in-Old.field-0 in
     let t = c.rounds.invariant.1 in
-    let more : c.rounds.i < sh.tries = omega (arith, c.tries-i-end.ensures.0) in
-    let g = last_round sh c.args.place w c.args.self.log c.rounds.i c.rounds.seat.me t (Old n) c.try_round.new.seat.me more c.in-Old.ensures.round in
-    let few = tried_so_far c.args.self.table c.args.table.now c.rounds.i w c.in-Some.life t.0 (sym c.of_word.ensures ∙ c.in-Some.is) more t.1 t.2 c.requires.own in (
-      same_table c.args.self.table c.args.table.now c.try_round.new.seat.table_id c.try_round.new.seat.me (c.in-Old.ensures.seat.0 ∙ c.rounds.invariant.0) (ap shape_in g.2) c.requires.own,
-      (
-        lookup_so_far c.args.place w t.0 ++ (LoadFrame, n) ∷ [],
-        ap log_in g.2 ∙ append_assoc c.args.self.log (lookup_so_far c.args.place w t.0) ((LoadFrame, n) ∷ []),
-        (w, t.0, n, few, g.0, g.1, refl),
-      ),
-    )
+    let last : ReaderLog = (LoadFrame, n) ∷ [] in
+    let more : c.rounds.i < c.args.table.now.shape.tries = omega (arith, c.tries-i-end.ensures.0) in
+    let g = last_round c.args.table.now.shape c.args.place w c.args.self.log c.rounds.i c.rounds.seat.me t (Old n) c.try_round.new.seat.me more c.in-Old.ensures.round in
+    let few = tried_so_far c.args.self.table c.args.table.now c.rounds.i w c.in-Some.life t.0 (sym c.of_word.ensures ∙ c.in-Some.is) more t.1 t.2 c.requires.own in
+    let e = ended c.args.self.table c.args.table.now c.try_round.new.seat.table_id c.try_round.new.seat.me Idle c.args.self.log c.args.place w t.0 last (c.in-Old.ensures.seat.0 ∙ c.rounds.invariant.0) c.requires.own g.2 in
+    (e.0, (lookup_so_far c.args.place w t.0 ++ last, e.1, (w, t.0, n, few, g.0, g.1, refl)))
 
 pub returns-in-Won : goal.returns-in-Won
 returns-in-Won c =
-    let sh = c.args.table.now.shape in
     let w : ℕ = c.load_place-named.result in
     let n : ℕ = c.in-Won.field-0 in
     let t = c.rounds.invariant.1 in
+    let last : ReaderLog = (LoadFrame, n) ∷ (Exchange, n) ∷ [] in
+    let more : c.rounds.i < c.args.table.now.shape.tries = omega (arith, c.tries-i-end.ensures.0) in
+    let g = last_round c.args.table.now.shape c.args.place w c.args.self.log c.rounds.i c.rounds.seat.me t (Won n) c.try_round.new.seat.me more c.in-Won.ensures.round in
+    let few = tried_so_far c.args.self.table c.args.table.now c.rounds.i w c.in-Some.life t.0 (sym c.of_word.ensures ∙ c.in-Some.is) more t.1 t.2 c.requires.own in
+    let e = ended c.args.self.table c.args.table.now c.try_round.new.seat.table_id c.try_round.new.seat.me (Held (aim_of c.args.place w) nothing_known) c.args.self.log c.args.place w t.0 last (c.in-Won.ensures.seat.0 ∙ c.rounds.invariant.0) c.requires.own g.1 in
     let life = (word_names w c.in-Some.life (eqb w 0) refl (sym c.of_word.ensures ∙ c.in-Some.is)).1 in
-    let more : c.rounds.i < sh.tries = omega (arith, c.tries-i-end.ensures.0) in
-    let g = last_round sh c.args.place w c.args.self.log c.rounds.i c.rounds.seat.me t (Won n) c.try_round.new.seat.me more c.in-Won.ensures.round in
-    let few = tried_so_far c.args.self.table c.args.table.now c.rounds.i w c.in-Some.life t.0 (sym c.of_word.ensures ∙ c.in-Some.is) more t.1 t.2 c.requires.own in (
-      same_table c.args.self.table c.args.table.now c.try_round.new.seat.table_id c.try_round.new.seat.me (c.in-Won.ensures.seat.0 ∙ c.rounds.invariant.0) (ap shape_in g.1) c.requires.own,
+    let alive = subst (λ (x : Life). IsAlive x.generation n) life g.0 in (
+      e.0,
       refl,
       ap known_in g.1,
-      (
-        lookup_so_far c.args.place w t.0 ++ (LoadFrame, n) ∷ (Exchange, n) ∷ [],
-        ap log_in g.1 ∙ append_assoc c.args.self.log (lookup_so_far c.args.place w t.0) ((LoadFrame, n) ∷ (Exchange, n) ∷ []),
-        (w, t.0, n, few, subst (λ (x : Life). IsAlive x.generation n) life g.0, ap (λ (x : Life). x.frame) (sym life), ap (λ (x : Life). x.generation) (sym life), refl),
-      ),
+      (lookup_so_far c.args.place w t.0 ++ last, e.1, (w, t.0, n, few, alive, ap (λ (x : Life). x.frame) (sym life), ap (λ (x : Life). x.generation) (sym life), refl)),
     )

@@ -7,15 +7,15 @@ use Rattle.frame_table.proofs.table.FrameTable.publish_at.Goals as goal
 
 -- a frame of the table has a number of ten bits
 low : (c : goal.After-store) → c.args.frame < 1024
-low c = let few = frames_at_most c.args.self.now.shape (subst IsShape (ap (λ n. n.shape) c.self.view_is) c.self.invariant.shape) in omega (arith, few, c.requires.may.1)
+low c = let few = frames_at_most c.args.self.now.shape (subst IsShape (ap (λ n. n.shape) c.self.view_is) c.self.invariant.shape) in omega (arith, few, c.requires.asks.may.1)
 
 pub store-requires : goal.store-requires
 store-requires c =
     let few = frames_at_most c.args.self.now.shape (subst IsShape (ap (λ n. n.shape) c.self.view_is) c.self.invariant.shape) in (
       search rules,
       search rules,
-      may_publish _ _ _ _ _ _ c.requires.keeper (search rules) c.args.frame c.args.name (omega (arith, few, c.requires.may.1))
-          c.requires.name c.requires.may,
+      may_publish _ _ _ _ _ _ c.requires.asks.keeper (search rules) c.args.frame c.args.name (omega (arith, few, c.requires.asks.may.1))
+          c.requires.name c.requires.asks.may,
     )
 
 -- the name tells the frame in its lowest bits
