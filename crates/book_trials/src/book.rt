@@ -1,4 +1,5 @@
-//! The book by its commands: pages merge, are written, move, and give their frames back, and the journal has each command.
+//! The book by its commands: pages merge, are written, move, and give their frames back, and the journal has each
+//! command.
 ghost use Rattle.std.specs.Prelude.{◌≡◌, All, IfOk, vec_len};
 ghost use Rattle.ksm_base.specs.Values.{IsShape, frames_of};
 
@@ -102,8 +103,8 @@ const MERGED_AGAIN: Counters = Counters {
     full_scans: 3,
 };
 
-// Two pages of one content, merged by the second pass. A store of the same bytes still copies each, and the next pass merges them again
-// beside the stale dup.
+// Two pages of one content, merged by the second pass. A store of the same bytes still copies each, and the next pass
+// merges them again beside the stale dup.
 #[test]
 fn equal_store_still_copies(rt: HostRuntime) -> Result<(), Fail> {
     let (table, mut book, passes) = opened(rt.alloc(), SHAPE)?;
@@ -194,7 +195,8 @@ fn moved_while_held(
     }
 }
 
-// A move of a dup is refused while a pass holds its frame, and done once the pass has left it. The refused one gives no frame.
+// A move of a dup is refused while a pass holds its frame, and done once the pass has left it. The refused one gives no
+// frame.
 #[test]
 fn held_dup_moves_once_it_is_left(rt: HostRuntime) -> Result<(), Fail> {
     let (table, mut book, mut passes) = opened(rt.alloc(), SHAPE)?;

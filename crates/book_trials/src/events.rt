@@ -53,8 +53,8 @@ fn published() -> [(Event, Step); 6] {
 /// An event, what it answers, and of what kind the frame and in which phase the seat is then.
 type Seen = (Event, Step, Kind, &'static str);
 
-/// A seat begins a lookup, the frame dies and is given again, and comes to the very count that the seat loaded: its exchange
-/// fails all the same, and its next lookup finds another life.
+/// A seat begins a lookup, the frame dies and is given again, and comes to the very count that the seat loaded: its
+/// exchange fails all the same, and its next lookup finds another life.
 fn second_life() -> [Seen; 15] {
     [
         (
@@ -162,8 +162,8 @@ fn phase_name(core: &Core) -> &'static str {
     }
 }
 
-// A seat loads the place and the frame word of the first life, and its exchange meets the same count in the second: it fails, by
-// the life in the word.
+// A seat loads the place and the frame word of the first life, and its exchange meets the same count in the second: it
+// fails, by the life in the word.
 #[test]
 fn two_lives_in_one_word(rt: HostRuntime) -> Result<(), Fail> {
     let mut core = Core::open(rt.alloc(), SHAPE).map_err(|_| "opens")?;

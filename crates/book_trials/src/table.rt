@@ -1,4 +1,5 @@
-//! The frame table: lookups while a frame is named, dying and given again, on one thread, on two, and by a crowd against a keeper.
+//! The frame table: lookups while a frame is named, dying and given again, on one thread, on two, and by a crowd
+//! against a keeper.
 ghost use Rattle.std.specs.Prelude.{◌≡◌, ◌+◌, ◌<◌, ◌≤◌, All, IsTrue, IsSomeAnd, Some, length, vec_len, vec_capacity};
 ghost use Rattle.std.specs.Thread.{IsSync};
 ghost use Rattle.ksm_base.specs.Values.{IsShape, frames_of};
@@ -101,7 +102,8 @@ fn third_table(table: &FrameTable, keeper: &mut Keeper) -> bool
     true
 }
 
-// How a lookup ended: with a hold of this frame in this life, whose words were read twice, or with what the kind of answer tells.
+// How a lookup ended: with a hold of this frame in this life, whose words were read twice, or with what the kind of
+// answer tells.
 #[derive(Clone, Copy, PartialEq, Eq)]
 enum Ending {
     Held(u32, u64, PageBytes, PageBytes),
@@ -433,7 +435,8 @@ fn run_all<R: Threads + Sync>(
     lives
 }
 
-// How a run ended: in how many holds a word was of another life, and how many lives the keeper counted; and of the frame at the end.
+// How a run ended: in how many holds a word was of another life, and how many lives the keeper counted; and of the
+// frame at the end.
 #[derive(Clone, Copy)]
 struct Outcome {
     wrong: u64,

@@ -23,6 +23,7 @@ module _ {X : Type 0} (p : X → Bool) where
         | inr fails ↦ let rest : find p ys ≡ Some x = grind (arith, fails, found) in find_all P ys x rest (All-tail P y ys all)
       ]
 
+  -- what a search finds passes its test
   pub find_passes : (xs : List X) (x : X) → find p xs ≡ Some x → p x ≡ true
   find_passes [] x found = cc
   find_passes (y ∷ ys) x found =
@@ -31,6 +32,7 @@ module _ {X : Type 0} (p : X → Bool) where
         | inr fails ↦ let rest : find p ys ≡ Some x = grind (arith, fails, found) in find_passes ys x rest
       ]
 
+  -- where a search finds nothing, every element fails the test
   pub find_none : (xs : List X) → find p xs ≡ None → All (λ x. p x ≡ false) xs
   find_none [] none = λ k d lt. absurd (omega arith)
   find_none (y ∷ ys) none =
@@ -38,6 +40,7 @@ module _ {X : Type 0} (p : X → Bool) where
       let rest : find p ys ≡ None = grind (arith, none) in
       All-cons (λ x. p x ≡ false) y ys here (find_none ys rest)
 
+  -- where every element fails the test, a search finds nothing
   pub find_nothing : (xs : List X) → All (λ x. p x ≡ false) xs → find p xs ≡ None
   find_nothing [] none = refl
   find_nothing (y ∷ ys) none =
@@ -62,6 +65,7 @@ module _ {X : Type 0} (p : X → Bool) where
   find_over [] ys y fails = grind (arith, fails)
   find_over (x ∷ xs) ys y fails = let induction = find_over xs ys y fails in grind (arith, induction)
 
+  -- a filter leaves at most as many elements that pass a test
   pub count_filter_le : (q : X → Bool) (xs : List X) → count_by p (filter q xs) ≤ count_by p xs
   count_filter_le q [] = omega arith
   count_filter_le q (x ∷ xs) = let induction = count_filter_le q xs in grind (arith, count_more, induction)
@@ -89,6 +93,7 @@ module _ {X : Type 0} (p : X → Bool) where
   count_change_le test f [] = omega arith
   count_change_le test f (x ∷ xs) = let induction = count_change_le test f xs in grind (arith, count_more, induction)
 
+  -- where every element fails the test, the count is 0
   pub count_none : (xs : List X) → All (λ x. p x ≡ false) xs → count_by p xs ≡ 0
   count_none [] none = refl
   count_none (x ∷ xs) none =
@@ -96,6 +101,7 @@ module _ {X : Type 0} (p : X → Bool) where
       let induction = count_none xs (All-tail (λ y. p y ≡ false) x xs none) in
       grind (arith, count_more, here, induction)
 
+  -- where the count is 0, every element fails the test
   pub none_counted : (xs : List X) → count_by p xs ≡ 0 → All (λ x. p x ≡ false) xs
   none_counted [] none = λ k d lt. absurd (omega arith)
   none_counted (x ∷ xs) none =
@@ -103,6 +109,7 @@ module _ {X : Type 0} (p : X → Bool) where
       let rest : count_by p xs ≡ 0 = grind (arith, count_more, none) in
       All-cons (λ y. p y ≡ false) x xs here (none_counted xs rest)
 
+  -- the count of those that pass one of two tests is at most the sum of both counts
   pub count_either_le : (q : X → Bool) (xs : List X) → count_by (λ x. p x || q x) xs ≤ count_by p xs + count_by q xs
   count_either_le q [] = omega arith
   count_either_le q (x ∷ xs) =

@@ -151,7 +151,7 @@ reads_replay kept b (e ∷ es) h = reads_replay (kept_after e.0 e.1 kept) (after
 pub reads_last : (b : BookState) (es : List Entry) → b.rows ≡ [] → ReadsLastStored es (replay b es).rows
 reads_last b es none = reads_replay (λ _. None) b es (rw none (λ k d lt. absurd (omega arith)))
 
--- so has a page that is read
+-- a page that is read has the bytes stored last too
 pub read_last : (page : GuestPage) (bytes : List ℕ) (b : BookState) (journal : List Entry) → ReadsLastStored journal b.rows
     → bytes_of page b ≡ Some bytes → last_stored page journal ≡ Some bytes
 read_last page bytes b journal reads read = go (row_at page b.rows) refl read

@@ -33,6 +33,7 @@ all_right : {X : Type 0} (P : X → Type 0) (xs ys : List X) → All P (xs ++ ys
 all_right P [] ys h = h
 all_right P (x ∷ xs) ys h = all_right P xs ys (All-tail P x (xs ++ ys) h)
 
+-- where all pairs of two lists in a row are related, each of the first is related to each of the second
 pub pairs_cross : {X : Type 0} (R : X → X → Type 0) (xs ys : List X) → AllPairs R (xs ++ ys) → All (λ x. All (R x) ys) xs
 pairs_cross R [] ys h = λ k d lt. absurd (omega arith)
 pairs_cross R (x ∷ xs) ys h = All-cons (λ y. All (R y) ys) x xs (all_right (R x) xs ys (pairs_head R x (xs ++ ys) h)) (pairs_cross R xs ys (pairs_tail R x (xs ++ ys) h))
@@ -127,9 +128,11 @@ module _ (place : ℕ) where
   abbrev above : DupRow → Bool
   above d = nat_lt place d.place
 
+  -- a dup that does not stand at the place
   abbrev pub elsewhere : DupRow → Bool
   elsewhere d = not (d.place == place)
 
+  -- in the order of places, the dups at other places are those below the place, then those above it
   pub dups_parted : (ds : List DupRow) → InPlaceOrder ds → filter elsewhere ds ≡ filter below ds ++ filter above ds
   dups_parted [] rise = refl
   dups_parted (d ∷ ds) rise =
@@ -160,13 +163,13 @@ dups_with dup ds rise fresh =
     let first : x.place < dup.place = ltb-true x.place dup.place (is_lower k d lt) in
     All-cons (Lower x) dup higher (first, ne_eqb x.number dup.number (λ e. omega (arith, fresh_lower k d lt, e))) (cross k d lt))
 
--- what holds of a new dup and of the others holds with it
+-- what holds of a new dup and of the others holds once the dup is among them
 pub all_with_dup : (P : DupRow → Type 0) (dup : DupRow) (ds : List DupRow) → P dup → All P ds → All P (with_dup dup ds)
 all_with_dup P dup ds here all =
     All-append P (filter (below dup.place) ds) (dup ∷ filter (above dup.place) ds) (All-filter (below dup.place) P ds all)
     (All-cons P dup (filter (above dup.place) ds) here (All-filter (above dup.place) P ds all))
 
--- and so with a row
+-- what holds of a new row and of the others holds once the row is among them
 pub all_with_row : (P : Row → Type 0) (row : Row) (rows : List Row) → P row → All P rows → All P (with_row row rows)
 all_with_row P row rows here all =
     let first : Row → Bool = λ r. comes_before r.page row.page in

@@ -22,8 +22,8 @@ use Rattle.ksm_base.proofs.RowCounts.{count_change_row}
 use Rattle.ksm_base.proofs.SoundPair.{waits_tells, tells_waits}
 use Rattle.ksm_base.proofs.SoundKnobs.{refused_none, none_shared}
 
--- a row that isn't merged is no item
-not_an_item : (number : ℕ) (state : PageState) → merged_state state ≡ false → merged_into number state ≡ false
+-- a row that is not merged is an item of no dup
+pub not_an_item : (number : ℕ) (state : PageState) → merged_state state ≡ false → merged_into number state ≡ false
 not_an_item number Private single = refl
 not_an_item number Waiting single = refl
 not_an_item number (Merged n) single = cc

@@ -248,7 +248,7 @@ item_of_dup knobs dups row number dup merged h =
     let same : dup.number ≡ number = eqb-true dup.number number passes in
     rw (merged, same) (eq-eqb number number refl)
 
--- so the dup isn't stale
+-- a dup into which a row is merged has items
 pub dup_has_items : (rows : List Row) (dup : DupRow) → All (λ r. merged_into dup.number r.state ≡ true → has_items rows dup ≡ true) rows
 dup_has_items rows dup k d lt merged = lt-ltb 0 (item_count rows dup) (counts_one (λ r. merged_into dup.number r.state) rows k d lt merged)
 

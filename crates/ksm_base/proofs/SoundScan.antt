@@ -58,14 +58,16 @@ next_row_visited b row s found =
     }
 
 module _ (b : BookState) (row : Row) (visited : IsVisited b row) (s : IsSound b) where
+  -- the book is sound after the visited page has met its partner, or waits where it has none
   pub sound_paired : (w : Option Row) → partner b.knobs b.rows row ≡ w → IsSound (paired w b row)
   sound_paired (Some w) waits = sound_made b w row (new_place (place_count b.shape) b.rows b.dups) (partner_pairs b w row s visited waits) (new_place_free b s) s
   sound_paired None alone = sound_waiting b row visited alone s
 
-  -- a page whose bytes have changed becomes unchanged
+  -- the book is sound after the visit of a page whose bytes have changed: it is marked unchanged
   sound_marked : IsSound (record b { rows = change_row row.page (λ r. record r { unchanged = true; state = Private }) b.rows })
   sound_marked = sound_changed b (λ r. same_page r.page row.page) (λ r. record r { unchanged = true; state = Private }) (λ r. becomes_private r (record r { unchanged = true; state = Private }) refl refl) (λ r home. home) s
 
+  -- the book is sound after the visit of an unchanged page that joins no dup: it becomes Zero or is paired
   pub sound_stayed : IsSound (stayed b row)
   sound_stayed =
       cond_both (is_for_zero b.knobs row) (record b { rows = change_row row.page (λ r. record r { state = Zero }) b.rows }) (paired (partner b.knobs b.rows row) b row) IsSound
@@ -77,6 +79,7 @@ module _ (b : BookState) (row : Row) (visited : IsVisited b row) (s : IsSound b)
       cond_both row.unchanged (stayed b row) (record b { rows = change_row row.page (λ r. record r { unchanged = true; state = Private }) b.rows }) IsSound
       (λ _. sound_stayed) (λ _. sound_marked)
 
+  -- the book is sound after the visit of a row, whatever the visit does with it
   pub sound_row_visited : IsSound (row_visited b row)
   sound_row_visited =
       cond_both (shared_state row.state) b (handled (best_dup b.knobs b.rows b.dups row) b row) IsSound (λ _. s) (λ _. sound_handled (best_dup b.knobs b.rows b.dups row) refl)

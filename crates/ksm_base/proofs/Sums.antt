@@ -102,6 +102,6 @@ told-mergeable rows dups passes rise mergeable =
     let states = states-add rows mergeable in
     omega arith
 
--- so in each sound state
+-- in each sound state the counters of pages add up to the mergeable pages
 pub told_sound : (b : BookState) → IsSound b → pages_told (counters_of b) ≡ mergeable_count b.rows
 told_sound b sound = told-mergeable b.rows b.dups b.passes sound.dups_rise sound.mergeable

@@ -73,7 +73,7 @@ IsAnswerUnless None b command answer = IsAccepted b command answer
 abbrev pub IsAnswer : BookState → Command → Answer → Type 0
 IsAnswer b command answer = IsAnswerUnless (refusal b command) b command answer
 
--- the same, where memory may be refused in place of any answer
+-- the answer is one that the state allows, or says that memory was refused
 abbrev pub IsAnswerOrMemory : BookState → Command → Answer → Type 0
 IsAnswerOrMemory b command (Err Memory) = Unit {0}
 IsAnswerOrMemory b command answer = IsAnswer b command answer

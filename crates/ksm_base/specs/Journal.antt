@@ -53,7 +53,7 @@ stored_by page (Register other node bytes, Ok reply) = if same_page other page t
 stored_by page (Store other bytes, Ok reply) = if same_page other page then Some bytes else None
 stored_by page _ = None
 
--- these bytes, or where there are none the earlier ones
+-- the first bytes if there are some, else the second ones
 abbrev pub or_else : Option (List ℕ) → Option (List ℕ) → Option (List ℕ)
 or_else (Some bytes) earlier = Some bytes
 or_else None earlier = earlier

@@ -12,7 +12,7 @@ use Rattle.ksm_base.specs.Rows.{row_at, has_items}
 use Rattle.ksm_base.specs.State.{BookState}
 use Rattle.ksm_base.specs.Counting.{shared_count}
 
--- this fault where a test holds, else what later tests find
+-- this fault where the test holds, else what the later tests find
 abbrev pub refused_if : Bool → Fault → Option Fault → Option Fault
 refused_if test fault later = if test then Some fault else later
 

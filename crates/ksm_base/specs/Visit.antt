@@ -104,7 +104,7 @@ stayed b row =
     if is_for_zero b.knobs row then record b { rows = change_row row.page (λ r. record r { state = Zero }) b.rows }
     else paired (partner b.knobs b.rows row) b row
 
--- a row with a frame of its own joins the best dup, else becomes unchanged, else it has stayed
+-- a row with a frame of its own joins the dup that it may join; else, if it is not unchanged, it becomes so; else it has stayed
 abbrev pub handled : Option DupRow → BookState → Row → BookState
 handled (Some d) b row = record b { rows = change_row row.page (λ r. record r { state = Merged d.number }) b.rows }
 handled None b row =

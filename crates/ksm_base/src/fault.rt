@@ -5,8 +5,8 @@ ghost use Rattle.ksm_base.specs.Values.{fault_number};
 
 use std::alloc::{AllocError, AllocFailed};
 
-/// Why a command was refused, or stopped part way (own). A refusal changes no row, knob, dup or counter; a dying frame may
-/// have been reaped for it. A command that stopped says so in its reply.
+/// Why a command was refused, or stopped part way (own). A refusal changes no row, knob, dup or counter; a dying frame
+/// may have been reaped for it. A command that stopped says so in its reply.
 #[derive(Clone, Copy, Debug, PartialEq, Eq)]
 pub enum Fault {
     /// 1: a growth was refused. The command gave no frame, and the journal has no entry of it. A scan stops with it.

@@ -29,8 +29,8 @@ pub fn visits_keep_what_is_mergeable()
     ensures { (n : ℕ) (b : BookState) → map (λ r. r.mergeable) (visits n b).rows ≡ map (λ r. r.mergeable) b.rows }
 {}
 
-/// A journal in two parts is replayed part by part, and its answers are those of both parts. So each beginning of a legal journal
-/// is legal, and a legal journal goes on by answers that are legal where it ends.
+/// A journal in two parts is replayed part by part, and its answers are those of both parts. So each beginning of a
+/// legal journal is legal, and a legal journal goes on by answers that are legal where it ends.
 pub fn a_journal_goes_on()
     ensures state { (b : BookState) (first later : List Entry) → replay b (first ++ later) ≡ replay (replay b first) later }
     ensures answers { (b : BookState) (first later : List Entry) → AreAnswers b (first ++ later) ↔ (AreAnswers b first × AreAnswers (replay b first) later) }

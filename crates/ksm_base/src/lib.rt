@@ -1,4 +1,5 @@
-//! The values of the page-sharing book: pages, rows, commands, replies, faults, knobs, counters and the shape of a table.
+//! The values of the page-sharing book: pages, rows, commands, replies, faults, knobs, counters and the shape of a
+//! table.
 #![tactic(auto)]
 
 mod command;

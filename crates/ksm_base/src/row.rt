@@ -3,8 +3,8 @@
 
 use crate::page::{GuestPage, PageBytes};
 
-/// Whether a page is mapped from a frame of its own, from one that it shares (mm/ksm), or from the zero page (admin-guide/mm/ksm,
-/// `use_zero_pages`).
+/// Whether a page is mapped from a frame of its own, from one that it shares (mm/ksm), or from the zero page
+/// (admin-guide/mm/ksm, `use_zero_pages`).
 #[derive(Clone, Copy, Debug, PartialEq, Eq)]
 pub enum PageState {
     /// The page has a frame of its own, and stands in no tree.
@@ -42,7 +42,8 @@ pub struct DupRow {
     pub number: u64,
     /// Where the frame is named to readers, below `Shape::frames`; no two dups have one place (own).
     pub place: u32,
-    /// The tree in which the dup stands: 0 with `merge_across_nodes` 1, else the home of its items (admin-guide/mm/ksm).
+    /// The tree in which the dup stands: 0 with `merge_across_nodes` 1, else the home of its items
+    /// (admin-guide/mm/ksm).
     pub tree: u32,
     /// What its items read.
     pub bytes: PageBytes,

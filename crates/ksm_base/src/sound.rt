@@ -21,15 +21,16 @@ pub fn every_step_keeps_it_sound()
     ensures journal { (shape : Shape) (journal : List Entry) → IsShape shape → AreAnswers (opening shape) journal → IsSound (replay (opening shape) journal) }
 {}
 
-/// In a sound state each item of a dup has the dup's bytes, and where each node has trees of its own it has the dup's tree for its home.
+/// In a sound state each item of a dup has the dup's bytes, and where each node has trees of its own it has the dup's
+/// tree for its home.
 pub fn items_agree_with_their_dup()
     ensures bytes { (b : BookState) → IsSound b → All (λ d. All (λ r. merged_into d.number r.state ≡ true → r.bytes ≡ d.bytes) b.rows) b.dups }
     ensures home { (b : BookState) → IsSound b → b.knobs.merge_across_nodes ≡ 0
         → All (λ d. All (λ r. merged_into d.number r.state ≡ true → r.home ≡ d.tree) b.rows) b.dups }
 {}
 
-/// After each journal each page has the bytes that an accepted registering or store gave it last, whatever was answered in between:
-/// so it is for each row, and so for each page that is read.
+/// After each journal each page has the bytes that an accepted registering or store gave it last, whatever was answered
+/// in between: so it is for each row, and so for each page that is read.
 pub fn each_page_has_what_was_stored_last()
     ensures rows { (shape : Shape) (journal : List Entry) → ReadsLastStored journal (replay (opening shape) journal).rows }
     ensures read { (shape : Shape) (journal : List Entry) (page : GuestPage) (bytes : List ℕ)

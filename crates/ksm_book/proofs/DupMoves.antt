@@ -21,6 +21,7 @@ use Rattle.ksm_layout.specs.Mounted.{IsMoved}
 use Rattle.ksm_book.specs.Whole.{BookView, HasShown, mapped}
 
 module _ (b : BookState) (place node : ℕ) (dup : DupRow) (found : Some dup ≡ live_dup_at b place) where
+  -- the dup that was found stands at the place that was asked for
   pub place_is : dup.place ≡ place
   place_is = eqb-true dup.place place (and_parts (dup.place == place) (has_items b.rows dup) (find_passes (λ d. d.place == place && has_items b.rows d) b.dups dup (sym found))).0
 
@@ -82,10 +83,12 @@ moved_shown X b v w place node q same BadNode h = absurd h
 -- the steps of an answer
 module _ (v w : BookView) (old new : Lay) (place node : ℕ) (dup : DupRow) (found : Some dup ≡ live_dup_at v.state place)
     (before : mapped_lay old ≡ mapped v) (behind : mapped_lay new ≡ mapped w) where
+  -- a dup that moved has made the steps that the answer `Done` stands for
   pub done_steps : Moves (mapped_lay old) (mapped_lay new) dup node → TakesSteps v w (MoveDup place node) (Ok Done)
   done_steps h = subst (λ o. MatchOption o ⊥ (λ d. Moves (mapped v) (mapped w) d node)) found
       (subst (λ (z : Mapped × Mapped). Moves z.0 z.1 dup node) (λ i. (before i, behind i)) h)
 
+  -- a dup that did not move has made the steps that its refusal stands for
   pub fault_steps : (X : Type 0) (f : Fault) → MovesOr {X = X} old new dup node (Err f) → TakesSteps v w (MoveDup place node) (Err f)
   fault_steps X Memory h = absurd h
   fault_steps X UnknownPage h = absurd h

@@ -63,6 +63,7 @@ module _ (old new : List Row) (on : GoOn old new) where
     next = over.next ∙ sym (on run.last).0;
   }
 
+  -- runs that were found stay true while the scan goes on
   pub kept_runs : (cursor : Option GuestPage) (runs : List Run) → AreRuns old cursor runs → AreRuns new cursor runs
   kept_runs cursor [] are = tt
   kept_runs cursor (run ∷ runs) (over, on_them) = (kept_over cursor run over, by run.next on_them (λ page. kept_runs (Some page) runs))
@@ -73,6 +74,7 @@ module _ (old new : List Row) (on : GoOn old new) where
       by None none rest = none
       by (Some page) are rest = rest page are
 
+  -- all that is known ahead stays true while the scan goes on
   pub kept_known : (ahead : Ahead) → IsKnown old ahead → IsKnown new ahead
   kept_known ahead known = (known.0, by ahead.from known.1)
     where
@@ -406,7 +408,7 @@ gathered n rows cursor run found later (Some r) is are first split =
     subst (λ x. AreRuns rows cursor (x ∷ later)) (subst (λ (l : List Run). IfSome (slice_get l 0) (λ x. x ≡ run)) split first)
     (subst (AreRuns rows cursor) split (ahead_runs n rows cursor found are))
 
--- they are known from the cursor on
+-- runs that are known behind the cursor are known from its page on
 pub known_from : (rows : List Row) (cursor : Option GuestPage) (runs : List Run) → AreRuns rows cursor runs → IfSome cursor (λ page. AreRuns rows (Some page) runs)
 known_from rows None runs are = tt
 known_from rows (Some page) runs are = are

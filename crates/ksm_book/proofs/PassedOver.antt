@@ -32,13 +32,16 @@ module _ (b after : BookState) (ahead : Ahead) (run : Run) (is : ahead.run ≡ S
   made_all = made ∙ (λ t. pass_ended_at_last (record b { cursor = known.1.0.last t }))
       ∙ sym (run_visits b known.0.0 first.0 run.visits first.1 known.1.0.left)
 
+  -- the state after the run is that after its visits, made one by one
   pub over_state : after ≡ visits (visits_ahead ahead) b
   over_state = made_all ∙ ap (λ n. visits n b) (sym counted)
 
+  -- the visits of the run change nothing but which rows wait
   pub over_quiet : (frames : List (Option ℕ)) → ChangesNothing (visits_ahead ahead) b after frames
   over_quiet frames =
       subst (λ n. ChangesNothing n b after frames) (sym counted) (run_quiet b after run frames known.0.0 known.1.0 (omega (arith, least)) made_all)
 
+  -- the visits of the run make no step on a frame
   pub over_performs : (v w : BookView) → v.state ≡ b → IsIdle (mapped v) (mapped w)
       → Performs (mapped v) (mapped w) (scanning (visits_ahead ahead) b v.frames)
   over_performs v w at stands =

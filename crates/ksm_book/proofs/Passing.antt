@@ -80,6 +80,7 @@ module _ (b : BookState) (some : is_some b.cursor ≡ true) where
     found.2,
   )
 
+  -- visits of rows that stay as they are move the cursor, and end the pass behind the last row
   pub run_visits : (row : Row) (n : ℕ) → next_row b.cursor b.rows ≡ Some row → LeftUpTo n → visits n b ≡ pass_ended_at_last (moved_on n)
   run_visits row zero next left = sym (pass_goes_on b row next)
   run_visits row (suc n) next left =
@@ -87,6 +88,7 @@ module _ (b : BookState) (some : is_some b.cursor ≡ true) where
       ap visit (run_visits row n next (one_less n left) ∙ pass_goes_on (moved_on n) last.0 last.1.1) ∙ visit_kept (moved_on n) last.0 last.1 last.2
       ∙ (λ t. pass_ended_at_last (record b { cursor = moved_to (cursor_after n b.cursor b.rows) (sym last.1.1 t) }))
 
+  -- visits of rows that stay as they are make no step on a frame
   pub run_scanning : (frames : List (Option ℕ)) (row : Row) (n : ℕ) → next_row b.cursor b.rows ≡ Some row → LeftUpTo n → scanning n b frames ≡ idle frames
   run_scanning frames row zero next left = refl
   run_scanning frames row (suc n) next left =

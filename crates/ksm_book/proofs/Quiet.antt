@@ -59,14 +59,14 @@ quiet_rows : (b : BookState) (row : Row) → IsQuiet b row → row_visited b row
 quiet_rows b row (inl left) = let is = stays_so b row left in is ∙ (λ t. record b { rows = (sym is t).rows })
 quiet_rows b row (inr (alone, best, unchanged, (bytes, none))) = let is = waits b row alone best unchanged bytes none in is ∙ (λ t. record b { rows = (sym is t).rows })
 
--- and does so whatever the count of passes
+-- a quiet visit does the same whatever the count of passes
 quiet_alike : (b : BookState) (row : Row) (passes : ℕ) → IsQuiet b row → row_visited (record b { passes = passes }) row ≡ record (row_visited b row) { passes = passes }
 quiet_alike b row passes (inl left) = stays_so (record b { passes = passes }) row left ∙ sym (ap (λ (x : BookState). record x { passes = passes }) (stays_so b row left))
 quiet_alike b row passes (inr (alone, best, unchanged, (bytes, none))) =
     waits (record b { passes = passes }) row alone best unchanged bytes none
     ∙ sym (ap (λ (x : BookState). record x { passes = passes }) (waits b row alone best unchanged bytes none))
 
--- and makes no step
+-- a quiet visit makes no step on a frame
 quiet_frames : (b : BookState) (row : Row) (frames : List (Option ℕ)) → IsQuiet b row → row_visiting b frames row ≡ idle frames
 quiet_frames b row frames (inl left) = ap (λ (x : Bool). if x then idle frames else handling (best_dup b.knobs b.rows b.dups row) b frames row) left
 quiet_frames b row frames (inr (alone, best, unchanged, (bytes, none))) =
@@ -96,7 +96,7 @@ none_before b none =
     ap pass_begun (ap (λ (o : Option GuestPage). if is_some o && is_none (next_row b.cursor b.rows) then pass_ended b else b) none)
     ∙ ap (λ (o : Option GuestPage). if is_none o then with_none_waiting b else b) none
 
--- as a pass begins
+-- a visit begins where a pass begins
 pub begins_new : (old begun : BookState) → old.cursor ≡ None → begun ≡ visit_begun old → Begins old begun
 begins_new old begun none is = subst (Begins old) (sym (is ∙ none_before old none)) (record {
   at = λ passes. none_before (record old { passes = passes }) none;
@@ -104,7 +104,7 @@ begins_new old begun none is = subst (Begins old) (sym (is ∙ none_before old n
   rows = settled_twice old.rows;
 })
 
--- as it goes on
+-- a visit begins where the pass goes on
 pub begins_on : (old begun : BookState) (row : Row) → GoesOnAt old row → begun ≡ visit_begun old → Begins old begun
 begins_on old begun row goes is = subst (Begins old) (sym (is ∙ begins_none old row goes)) (record {
   at = λ passes. begins_none (record old { passes = passes }) row goes;
@@ -223,7 +223,7 @@ module _ (n : ℕ) (start end : BookState) (frames : List (Option ℕ)) (began :
   again_idle : (passes : ℕ) → scanning (suc n) (record end { passes = passes }) frames ≡ idle frames
   again_idle passes = scanning_alike n (record end { passes = passes }) (record start { passes = passes }) frames (begun_alike passes) ∙ quiet.steps passes
 
-  -- and so do so many
+  -- a quiet pass that is repeated changes the count of passes alone, however often
   pub again_times : (times passes : ℕ) → passes ≤ 2 ^ 64 - 1 → visits (times * suc n) (record end { passes = passes }) ≡ record end { passes = min (passes + times) (2 ^ 64 - 1) }
   again_times zero passes small =
       let same : passes ≡ min (passes + 0) (2 ^ 64 - 1) = omega (arith, small) in
@@ -236,6 +236,7 @@ module _ (n : ℕ) (start end : BookState) (frames : List (Option ℕ)) (began :
       ∙ visits_on (times * suc n) (suc n) (record end { passes = passes }) ∙ ap (visits (suc n)) (again_times times passes small) ∙ again so_far
       ∙ ap (λ p. record end { passes = p }) more
 
+  -- a quiet pass that is repeated makes no step on a frame, however often
   pub again_idle_times : (times passes : ℕ) → passes ≤ 2 ^ 64 - 1 → scanning (times * suc n) (record end { passes = passes }) frames ≡ idle frames
   again_idle_times zero passes small = ap (λ m. scanning m (record end { passes = passes }) frames) (zero-mul (suc n))
   again_idle_times (suc times) passes small =
@@ -262,6 +263,7 @@ module _ (v w : BookView) (most k : ℕ) (some : k ≤ most) (performs : Perform
   on_frames : (n : ℕ) (start : BookState) → v.frames ≡ w.frames → ChangesNothing n start w.state v.frames → ChangesNothing n start w.state w.frames
   on_frames n start same quiet = subst (ChangesNothing n start w.state) same quiet
 
+  -- what is known of the pass under way, after some visits more
   pub so_far : (since : Option ℕ) (stood quiet : Bool) → stood ≡ is_some v.state.cursor → IsQuietSince since most v
       → (quiet ≡ true → ChangesNothing k v.state w.state v.frames) → IsQuietSoFar (if quiet then (if stood then since else Some most) else None) (most - k) w
   so_far since stood false none was changes = tt

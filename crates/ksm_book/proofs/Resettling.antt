@@ -50,10 +50,11 @@ resettled_as t n rows now frames keeper w row new made is h =
     }
 
 module _ (rows : List Row) where
+  -- the pages on their frames, beside the keeper
   abbrev pub placed : List (Option ℕ) → KeeperView → Mapped
   placed frames keeper = record { listed = record { rows = rows; frames = frames }; keeper = keeper }
 
-  -- one more
+  -- one row more is resettled after the others
   pub each_more : (xs : List Row) (f0 f1 f2 : List (Option ℕ)) (k0 k1 k2 : KeeperView) (row : Row) → ResettlesEach xs (placed f0 k0) (placed f1 k1)
       → Resettles (placed f1 k1) (placed f2 k2) row → ResettlesEach (xs ++ row ∷ []) (placed f0 k0) (placed f2 k2)
   each_more [] f0 f1 f2 k0 k1 k2 row idle r = (

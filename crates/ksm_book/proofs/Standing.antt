@@ -34,7 +34,8 @@ use Rattle.ksm_book.specs.Promised.{FindsPlace, NumbersAreSmall}
 use Rattle.ksm_layout.specs.Lawful.{LieLawfully}
 use Rattle.ksm_layout.proofs.Laying.{own_kind, own_framed}
 use Rattle.ksm_layout.proofs.Moves.{Serves, framed}
-use Rattle.ksm_book.proofs.Visiting.{state_of_item, waiting_is_alone}
+use Rattle.ksm_book.proofs.Visiting.{waiting_is_alone}
+use Rattle.ksm_layout.proofs.Joining.{state_of_item}
 
 kind_of_item : (n : ℕ) (s : PageState) → merged_into n s ≡ true → kind_for s ≡ Stable
 kind_of_item n OwnPage e = absurd (grind (arith, e))
@@ -74,6 +75,7 @@ is_private Private = Unit {0}
 is_private _ = ⊥
 
 module _ (sh : Shape) (across : ℕ) (k : Ledger) (rows : List Row) (frames : List (Option ℕ)) (dups : List DupRow) (p : Placed sh across k rows frames dups None) where
+  -- a dup with items has one on the frame that its place names, in the life that it names
   pub lives : (n : ℕ) (d : DupRow) → n < length dups → (item_count rows (get_or dups n d) ≡ 0 → ⊥) → Lives k rows frames (get_or dups n d)
   lives n d lt some =
       let e = get_or dups n d in
@@ -187,7 +189,7 @@ found_at test (x ∷ xs) r found = elim (cases_Bool (test x)) [
   | inr there ↦ let rest = found_at test xs r (grind (arith, there, found)) in (suc rest.0, (let lt = rest.1 in omega (arith, lt)), rest.2)
 ]
 
--- so the waiting page leaves a place for the dup that is made of it
+-- the waiting page leaves a place for the dup that is made of it
 pub partner_finds_place : (lay : Lay) (cursor : Option GuestPage) (passes : ℕ) (row w : Row) → IsSound (state_of lay cursor passes) → partner lay.knobs lay.rows row ≡ Some w → LieLawfully (state_of lay cursor passes) lay.frames lay.keeper
     → new_place (place_count lay.shape) lay.rows lay.dups < place_count lay.shape
 partner_finds_place lay cursor passes row w s waits lies =
@@ -197,7 +199,7 @@ partner_finds_place lay cursor passes row w s waits lies =
     finds_place lay.shape lay.knobs.merge_across_nodes lay.keeper.ledger lay.rows lay.frames lay.dups lies s.dups_rise at.0 at.1
     (ap (λ (r : Row). shared_state r.state) at.2 ∙ waiting_is_alone w.state tells.state)
 
--- and so does each page with a frame of its own
+-- each page with a frame of its own leaves a place for a dup that is made of it
 pub finds_places : (b : BookState) (frames : List (Option ℕ)) (k : KeeperView) → IsSound b → LieLawfully b frames k → FindsPlace b
 finds_places b frames k s lies row in_rows alone =
     finds_place b.shape b.knobs.merge_across_nodes k.ledger b.rows frames b.dups lies s.dups_rise in_rows.0 in_rows.1

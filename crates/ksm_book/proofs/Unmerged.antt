@@ -276,7 +276,7 @@ pub is_unmerged : (rows : List Row) (k : ℕ) (stop : Option Row) → IsStop row
 is_unmerged rows k None at = at
 is_unmerged rows k (Some row) at = subst (λ o. MatchOption o ⊥ (λ r. row.home ≡ r.home)) (sym at) refl
 
--- that answer is one that the definition allows
+-- the answer of an unmerging is one that the definition allows
 pub unmerge_answer : (b : BookState) (guest k : ℕ) (stop : Option Row) → has_guest b guest ≡ true → IsStop (shared_rows (is_of guest) b) k stop → IsAnswerOrMemory b (Unmerge guest) (Ok (Unmerged k (fault_of stop)))
 unmerge_answer b guest k stop has at = subst (λ (h : Bool). IsAnswerUnless (refused_if (not h) UnknownPage None) b (Unmerge guest) (Ok (Unmerged k (fault_of stop)))) (sym has) (is_unmerged (shared_rows (is_of guest) b) k stop at)
 
@@ -329,7 +329,7 @@ ended_state lay mid wide new k knobs cursor passes rise made same alone set =
     ∙ (λ i. record (state_of (alone i) None passes) { knobs = record knobs { run = 2 } })
     ∙ (λ i. record (state_of (made i) None passes) { rows = rows i; knobs = record (kept i) { run = 2 } })
 
--- then none is merged
+-- where no row was left to take, no row is merged or Zero
 pub none_merged : (rows now : List Row) (k : ℕ) (stop : Option Row) → InPageOrder rows → now ≡ first_changed (is_shared_of None) unshared k rows → IsStop (merged_at rows) k stop → stop ≡ None → All (λ r. shared_state r.state ≡ false) now
 none_merged rows now k stop rise made at ended =
     let still : now ≡ change_rows (λ r. shared_state r.state && true) unshared rows = all_unshared rows now k rise made ∙ ap (λ o. change_rows (λ r. shared_state r.state && is_before o r) unshared rows) (stop_is (merged_at rows) k stop at ∙ ended) in

@@ -1,7 +1,7 @@
 -- What a visit finds, and what becomes of the rows.
 use Rattle.std.proofs.Common.{inl, inr, ◌≡◌, ℕ, ◌+◌, ◌<◌, ◌≤◌, true, false, List, [], ◌∷◌, get_or, Option, Some, None, refl, sym, ap, ◌∙◌, subst, arith, eq-eqb}
 use Rattle.std.specs.Prelude.{All, Contains, MatchOption, find, option_map, ◌&&◌, ◌||◌, nat_le, nat_lt}
-use Rattle.std.proofs.lemmas.Bool.{cases_Bool, and_parts, eqb-true, leb-true}
+use Rattle.std.proofs.lemmas.Bool.{cases_Bool, and_parts, leb-true}
 use Rattle.std.proofs.lemmas.Bool.Decides.{nat_tests}
 use Rattle.std.proofs.lemmas.List.{get_or_default}
 use Rattle.std.proofs.lemmas.Option.{same_Some}
@@ -29,13 +29,7 @@ use Rattle.ksm_layout.specs.Commands.{idle, handling, row_visiting, pairing, emp
 use Rattle.ksm_layout.specs.Laid.{Lay, Joins, JoinsDup, Founds, new_dup, state_of}
 use Rattle.ksm_layout.proofs.Found.{change_known}
 use Rattle.ksm_pages.proofs.Linking.{own_not_merged}
-
--- the state of a dup's item is Merged with the dup's number
-pub state_of_item : (n : ℕ) (s : PageState) → merged_into n s ≡ true → s ≡ Merged n
-state_of_item n Private e = absurd (grind (arith, e))
-state_of_item n Waiting e = absurd (grind (arith, e))
-state_of_item n Zero e = absurd (grind (arith, e))
-state_of_item n (Merged d) e = ap Merged (eqb-true d n e)
+use Rattle.ksm_layout.proofs.Joining.{state_of_item}
 
 item_is_merged : (n : ℕ) (s : PageState) → merged_into n s ≡ true → merged_state s ≡ true
 item_is_merged n Private e = absurd (grind (arith, e))
@@ -202,9 +196,11 @@ module _ (lay : Lay) (cursor : Option GuestPage) (passes : ℕ) (row w : Row) (p
   first_changed : (rows : List Row) → rows ≡ change_row w.page (λ _. item) lay.rows → rows ≡ change_row w.page (in_state (Merged lay.next)) lay.rows
   first_changed rows is = is ∙ change_known w.page (in_state (Merged lay.next)) lay.rows w s.rows_rise (partner_at b row w s waits)
 
+  -- the waiting page is not the page that is visited
   pub apart : same_page w.page row.page ≡ false
   apart = tells.other
 
+  -- the visited row may join the dup that was made of the waiting one
   pub joins_new : (after : Lay) → after.rows ≡ change_row w.page (λ _. item) lay.rows → after.dups ≡ with_dup made lay.dups → Joins after row item
   joins_new after rows dups =
       let rows_are = first_changed after.rows rows in
@@ -220,7 +216,7 @@ module _ (lay : Lay) (cursor : Option GuestPage) (passes : ℕ) (row w : Row) (p
         room = (made, subst (λ x. Contains x made) (sym dups) (contains_dup made lay.dups), eq-eqb lay.next lay.next refl, omega (arith, counted));
       }
 
-  -- both are its items then
+  -- the waiting row and the visited one are the items of the new dup
   pub both_joined : (rows1 rows2 : List Row) → rows1 ≡ change_row w.page (λ _. item) lay.rows → rows2 ≡ change_row row.page (λ _. record row { state = Merged lay.next }) rows1
       → rows2 ≡ change_rows (λ r. same_page r.page w.page || same_page r.page row.page) (in_state (Merged lay.next)) lay.rows
   both_joined rows1 rows2 e f =
@@ -229,6 +225,7 @@ module _ (lay : Lay) (cursor : Option GuestPage) (passes : ℕ) (row w : Row) (p
       let rise : InPageOrder rows1 = subst InPageOrder (sym rows_are) (ordered_change (λ r. same_page r.page w.page) (in_state (Merged lay.next)) lay.rows (λ r. refl) s.rows_rise) in
       f ∙ change_known row.page (in_state (Merged lay.next)) rows1 row rise found ∙ ap (change_row row.page (in_state (Merged lay.next))) rows_are ∙ two_changes w.page row.page (Merged lay.next) lay.rows
 
+  -- the dup that was made has the tree and the bytes of the visited row
   pub same_dup : made ≡ record { number = lay.next; place = place; tree = tree_of lay.knobs row; bytes = row.bytes }
   same_dup = λ t. record { number = lay.next; place = place; tree = pair.tree t; bytes = pair.bytes t }
 
@@ -240,7 +237,7 @@ visited_by b row o alone best = ap (λ m. if m then b else handled (best_dup b.k
 pub marked_by : (b : BookState) (row : Row) → row.unchanged ≡ false → handled None b row ≡ record b { rows = change_row row.page (λ r. record r { unchanged = true; state = Private }) b.rows }
 marked_by b row changed = ap (λ u. if u then stayed b row else record b { rows = change_row row.page (λ r. record r { unchanged = true; state = Private }) b.rows }) changed
 
--- the same of what is done with the frames
+-- what a visit does with the frames, by the dup that the row may join
 pub visiting_by : (b : BookState) (frames : List (Option ℕ)) (row : Row) (o : Option DupRow) → shared_state row.state ≡ false
     → best_dup b.knobs b.rows b.dups row ≡ o → row_visiting b frames row ≡ handling o b frames row
 visiting_by b frames row o alone best = ap (λ m. if m then idle frames else handling (best_dup b.knobs b.rows b.dups row) b frames row) alone

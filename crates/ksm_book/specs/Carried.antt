@@ -58,7 +58,7 @@ TakesSteps v w command answer = IsIdle (mapped v) (mapped w)
 pub record CarriedOut (v w : BookView) (command : Command) (given : Answer) : Type 0 where
   -- the keeper is of the same table
   pub own : w.keeper.table ≡ v.keeper.table
-  -- it is an answer that the state allows; memory may be refused in place of any
+  -- the answer is one that the state allows, or says that memory was refused
   pub answer : IsAnswerOrMemory v.state command given
   -- the state after it
   pub state : w.state ≡ after v.state command given
@@ -76,6 +76,6 @@ pub record JournaledBook : Type 0 where
   pub keeper : KeeperView
   pub journal : List Entry
 
--- the same without the journal
+-- a book without its journal
 abbrev pub unjournaled : JournaledBook → BookView
 unjournaled b = record { state = b.state; frames = b.frames; keeper = b.keeper }

@@ -25,7 +25,7 @@ behind ahead = drop ahead.at ahead.found.items
 abbrev pub passed_by : Ahead → List Run → List Run
 passed_by ahead rest = ahead.passed.items ++ rest
 
--- with this rest they are true of the next pass from the page on behind which they begin, if they are kept
+-- with this rest, the runs that are kept are those of the next pass, from the page on behind which they begin
 abbrev pub AreOfPass : List Row → Ahead → List Run → Type 0
 AreOfPass rows ahead rest = IfSome ahead.from (λ page. AreRuns rows (Some page) (passed_by ahead rest))
 

@@ -72,7 +72,7 @@ pub record LieOn (b : BookState) (frames : List (Option ℕ)) (k : Ledger) : Typ
   pub zero : All (λ z. zero_state z.0.state ≡ true → (z.1 ≡ None) × (all_zero z.0.bytes ≡ true)) (zip b.rows frames)
   -- a dup with items stands on that frame
   pub dups : All (λ d. has_items b.rows d ≡ true → StandsOn b k d (place_frame k d.place)) b.dups
-  -- these frames differ from one another, and no other frame is in use
+  -- the frames of the rows and dups differ from one another, and no other frame is in use
   pub distinct : AllPairs (λ f g. f ≢ g) (own_frames b.rows frames ++ dup_frames b k)
   pub no_other : (f : ℕ) → is_in_use (frame_at k f).kind ≡ true → Contains (own_frames b.rows frames ++ dup_frames b k) f
   -- each dup stands at one of the places; that of a stale dup names a frame whose life is over, and one without a dup names none

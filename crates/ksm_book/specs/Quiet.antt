@@ -1,4 +1,4 @@
--- Quiet visits: they change nothing but which rows wait. A pass of them alone is made again and again by the visits behind it (own).
+-- Quiet visits: they change nothing but which rows wait. Where a whole pass is quiet, the visits behind it repeat it (own).
 use Rattle.std.specs.Prelude.{◌≡◌, ℕ, ◌+◌, ◌-◌, ◌^◌, ◌≤◌, ◌⊎◌, ⊤, min, true, false, List, map, Option, Some, None, is_some, MatchOption}
 use Rattle.ksm_base.specs.declared.page.GuestPage.{GuestPage}
 use Rattle.ksm_base.specs.declared.row.Row.{Row}

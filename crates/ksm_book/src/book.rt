@@ -1,4 +1,5 @@
-//! The book of page sharing.
+//! The book of page sharing: its commands, the pages as they are read, the counters and the journal. Each command is
+//! carried out on the `State`, and then entered in the journal, whose memory was taken before the first step.
 
 ghost use Rattle.std.specs.Prelude.{◌≡◌, ◌≤◌, [], Some, IfOk, IfErr, IfSome, IsSome, option_map};
 ghost use Rattle.ksm_base.specs.Answers.{IsAnswerOrMemory};
@@ -28,8 +29,8 @@ use ksm_journal::Journal;
 use std::alloc::Global;
 use std::marker::Model;
 
-/// The pages of the guests and the dups into which they are merged, in the frames of a keeper, with the journal of all commands. Contracts
-/// see the state of the book, the frame of each page, the keeper, and the entries of the journal.
+/// The pages of the guests and the dups into which they are merged, in the frames of a keeper, with the journal of all
+/// commands. Contracts see the state of the book, the frame of each page, the keeper, and the entries of the journal.
 ///
 /// The journal is legal: it leads from the opening book to the state as it is.
 pub struct Book {
@@ -49,7 +50,8 @@ impl Model for Book {
 }
 
 impl Book {
-    /// The opening book, in the frames of a keeper that has made no step. Refused for memory alone, it gives the keeper back.
+    /// The opening book, in the frames of a keeper that has made no step. Refused for memory alone, it gives the keeper
+    /// back.
     pub fn open(alloc: Global, keeper: Keeper, shape: Shape) -> Result<Book, (Keeper, Fault)>
         requires shape { IsShape shape }
         requires same { keeper.table.shape ≡ shape }
@@ -63,9 +65,9 @@ impl Book {
         })
     }
 
-    /// Does a command: a step of the book, and an entry of the journal. `Err` is a refusal, and changes no page, dup or knob.
-    /// `Fault::Memory` may come in place of any answer; then no step was made on a frame, and there is no entry. The steps that it makes on
-    /// the frames are told by its answer, and so is the frame on which each page lies then.
+    /// Does a command: a step of the book, and an entry of the journal. `Err` is a refusal, and changes no page, dup or
+    /// knob. `Fault::Memory` may come in place of any answer; then no step was made on a frame, and there is no entry.
+    /// The answer tells which steps were made on the frames, and on which frame each page lies then.
     pub fn apply(&mut self, table: &FrameTable, command: Command) -> Result<Reply, Fault>
         requires own { self.old.keeper.table ≡ table.now }
         ensures answer { IsAnswerOrMemory self.old.state command result }
@@ -104,7 +106,8 @@ impl Book {
         self.state.lies_lawfully();
     }
 
-    /// The bytes of a page, loaded from the words of its frame, or zeroes where it is mapped from the zero page; none where it has no row. They are those stored last by the journal.
+    /// The bytes of a page, loaded from the words of its frame, or zeroes where it is mapped from the zero page; none
+    /// where it has no row. They are those stored last by the journal.
     pub fn read(&mut self, table: &FrameTable, page: GuestPage) -> Option<PageBytes>
         requires own { self.old.keeper.table ≡ table.now }
         ensures own { self.new.keeper.table ≡ self.old.keeper.table }
@@ -133,8 +136,8 @@ impl Book {
         self.state.ticket(page)
     }
 
-    /// The pages merged into the dup at a place, ascending; none where no dup with items stands there. Refused for memory alone, and
-    /// only where pages are there.
+    /// The pages merged into the dup at a place, ascending; none where no dup with items stands there. Refused for
+    /// memory alone, and only where pages are there.
     pub fn mappers(&self, alloc: Global, place: u32) -> Result<Option<Vec<GuestPage>>, Fault>
         ensures mappers { IfOk result (λ pages. option_map (λ v. v.items) pages ≡ mappers_of place self.now.state) }
         ensures fault { IfErr result (λ fault. fault ≡ Fault.Memory) }
@@ -157,7 +160,7 @@ impl Book {
         self.state.knobs()
     }
 
-    /// The keeper, as it is.
+    /// Gives the keeper back, as it is.
     pub fn close(self) -> Keeper
         ensures { result ≡ self.keeper }
     {
@@ -166,7 +169,7 @@ impl Book {
     }
 }
 
-/// Does a command on the state.
+/// Carries a command out on the state.
 fn carry_out(state: &mut State, table: &FrameTable, command: Command) -> Result<Reply, Fault>
     requires own { state.old.keeper.table ≡ table.now }
     ensures { CarriedOut state.old state.new command result }

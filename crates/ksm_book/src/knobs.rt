@@ -1,4 +1,4 @@
-//! The commands that set a knob.
+//! The commands that set a knob: each tests the range first, then what the knob must wait for.
 
 ghost use Rattle.std.specs.Prelude.{◌≡◌};
 ghost use Rattle.ksm_base.specs.Refusals.{changes_while_shared};

@@ -1,4 +1,4 @@
-//! Dups that move to another frame.
+//! The command that moves a dup to another frame: its refusals, and the move.
 
 ghost use Rattle.std.specs.Prelude.{◌≡◌};
 ghost use Rattle.ksm_book.specs.Carried.{CarriedOut};

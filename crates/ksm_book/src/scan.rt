@@ -1,4 +1,8 @@
 //! The scan: visits of mergeable pages, in the order of their pages, pass after pass.
+//!
+//! Three things save work and change nothing that is seen. A run of rows that visits leave as they are is made in one
+//! step (`pass_over`). The runs that one pass found are gone along again by the next (`Ahead`). And where a whole pass
+//! changed nothing but which rows wait, the passes that would repeat it are counted and not made (`repeat`).
 
 ghost use Rattle.std.specs.Prelude.{◌≡◌, ◌≤◌, ◌-◌, ◌+◌, if◌then◌else◌, [], ◌∷◌, List, None, Some, Err, OnOk, IfOk, OnErr, IfNone, IfSome, IsSome, MatchBool, MatchOption, is_some, length, map, true, false};
 ghost use Rattle.ksm_base.specs.declared.fault.Fault.TheVariants.{Memory};
@@ -33,7 +37,7 @@ enum Visited {
     Same,
     // The row may be another one. The next pass visits it too.
     Changed,
-    // A visit leaves the row as it is from now on.
+    // The row joined a dup or became Zero: later visits leave it as it is.
     Joined,
 }
 
@@ -67,7 +71,8 @@ fn page_ahead(run: &Option<Run>) -> Option<GuestPage>
     }
 }
 
-// Two runs as one, where a visit leaves the page between them as it is from now on.
+// Two runs that follow one another as one, once visits leave the page between them as it is. None where the sum of
+// their visits has no 64 bits.
 fn together(first: Run, second: Run) -> Option<Run>
     ensures { IfSome result (λ both. both ≡ record second { visits = second.visits + 1 + first.visits }) }
 {
@@ -75,14 +80,18 @@ fn together(first: Run, second: Run) -> Option<Run>
     Some(Run { visits, ..second })
 }
 
-// The runs that come after the cursor, as far as they are known: the one in which the pass goes on, and those behind it. No visit makes
-// a run untrue, so the runs from a page on are kept for the next pass: those that the pass has gone through. The last of
-// them is put together with the one behind it where the page between them joins.
+// What is known of the rows ahead, as runs: rows that visits leave as they are, up to a page that a visit may change.
+// No visit makes a run untrue, so the runs that a pass has gone through are kept, and the next pass goes along them
+// without a search.
 #[derive(Drop)]
 struct Ahead {
+    // The run in which the pass goes on, if it is known.
     run: Option<Run>,
+    // The runs that a search found, of which the one at `at` comes next.
     found: Vec<Run>,
     at: usize,
+    // The runs that the pass has gone through, and the page behind which the first of them begins; none where they are
+    // not kept.
     from: Option<GuestPage>,
     passed: Vec<Run>,
 }
@@ -104,7 +113,7 @@ impl Ahead {
         }
     }
 
-    // The run behind the one under way, which is then the one under way.
+    // Takes the next run, if one is known.
     fn take(&mut self) -> Option<Run>
         requires { self.old.at ≤ length self.old.found.items }
         ensures taken { MatchOption result ((behind self.old ≡ []) × (behind self.new ≡ [])) (λ run. behind self.old ≡ run ∷ behind self.new) }
@@ -116,7 +125,7 @@ impl Ahead {
         Some(run)
     }
 
-    // Where the last run is through, the pass goes on with the first one, if that begins behind this page.
+    // Once the found runs are through, the runs that were kept come next, if they begin behind this page.
     fn begin_again(&mut self, page: GuestPage)
         requires { self.old.at ≤ length self.old.found.items }
         ensures within { self.new.at ≤ length self.new.found.items }
@@ -134,7 +143,7 @@ impl Ahead {
         self.at = 0;
     }
 
-    // The run is one of those that the pass has gone through. Where there is no room for it, the runs are not kept.
+    // Keeps a run that the pass goes through. Where there is no memory for it, none is kept.
     fn keep(&mut self, run: Run)
         ensures rest { self.new ≡ record self.old { passed = self.new.passed; from = self.new.from } }
         ensures known { (rows : List Row) (rest : List Run) → AreOfPass rows self.old (run ∷ rest) → AreOfPass rows self.new rest }
@@ -144,7 +153,8 @@ impl Ahead {
         }
     }
 
-    // The run that the pass goes on with, behind this page, is kept for the next pass.
+    // Keeps the run behind this page for the next pass. If the page has joined a dup, the run before it and this one
+    // become one.
     fn put(&mut self, page: GuestPage, joined: bool, run: Run)
         ensures rest { (self.new.found ≡ self.old.found) × (self.new.at ≡ self.old.at) }
         ensures known { (rows : List Row) (rest : List Run) → (joined ≡ true → StaysNow page rows) → AreOfPass rows self.old (run ∷ rest) → AreOfPass rows self.new rest }
@@ -163,7 +173,7 @@ impl Ahead {
 }
 
 impl State {
-    // A hint alone: the other commands would save and clear what only a scan needs.
+    // Not inlined, for speed: else each other command would save and clear what only a scan needs.
 
     /// Makes visits.
     #[inline(never)]
@@ -200,7 +210,7 @@ impl State {
         })
     }
 
-    // At least one visit, and `most` at most: a run of them where the rows stay as they are.
+    // Makes at least one visit, and `most` at most: all of the known run where it has some, else one.
     fn visit_some(
         &mut self,
         table: &FrameTable,
@@ -234,7 +244,8 @@ impl State {
         Ok(Made { visits: 1, quiet })
     }
 
-    // Where a quiet pass has ended, of visits that were made, those behind it do the same, so they are counted and not made: as many as end within `most` visits. Says how many visits these are.
+    // A quiet pass of `made` visits has just ended, so the passes behind it would do the same. As many as end within
+    // `most` visits are counted and not made. Says how many visits these are.
     fn repeat(&mut self, made: u64, most: u64) -> u64
         requires quiet { IsQuietPass made self.old }
         requires some { 1 ≤ made }
@@ -248,7 +259,8 @@ impl State {
         most - most % made
     }
 
-    // Visits, `most` at most: at least one is made, and where a quiet pass ends with them, those of the passes that do the same are counted.
+    // Makes at least one visit, and `most` at most. Where a quiet pass ends with them, the passes that would repeat it
+    // are counted too.
     fn go_on(
         &mut self,
         table: &FrameTable,
@@ -285,7 +297,8 @@ impl State {
         }
     }
 
-    // How many visits the run has in which the pass goes on, found anew where these are more than are wanted. Where no run is known, none.
+    // How many visits the known run has, 0 where none is known. A run of more visits than are wanted is found anew,
+    // with fewer.
     fn visits_within(&self, ahead: &mut Ahead, most: u64) -> u64
         requires { IsAhead self.now.state ahead.old }
         ensures ahead { IsAhead self.now.state ahead.new }
@@ -304,7 +317,7 @@ impl State {
         }
     }
 
-    // The visits of the run in which the pass goes on, which leave the rows as they are. Nothing is left of the run, but where the pass goes on.
+    // Makes all visits of the known run, which leave the rows as they are. Of the run is left where the pass goes on.
     fn pass_over(&mut self, ahead: &mut Ahead)
         requires ahead { IsAhead self.old.state ahead.old }
         requires some { 1 ≤ visits_ahead ahead.old }
@@ -326,7 +339,8 @@ impl State {
         }
     }
 
-    // One visit, of the page at which the pass goes on, if that is known. Says whether it is known to be quiet. Where memory is refused, the visit has only begun.
+    // Makes one visit, of the page at which the pass goes on if that is known. Says whether the visit is known to be
+    // quiet. Where memory is refused, it has only begun.
     fn visit(&mut self, table: &FrameTable, ahead: &mut Ahead, most: u64) -> Result<bool, Fault>
         requires own { self.old.keeper.table ≡ table.now }
         requires ahead { IsAhead self.old.state ahead.old }
@@ -357,7 +371,7 @@ impl State {
         Ok(is_one_pass && matches!(visited, Visited::Same))
     }
 
-    // The pass ends where it has gone through all pages. Says where it goes on, if it does.
+    // Ends the pass where it has gone through all pages. Gives the page at which it goes on, if it does.
     fn end_pass(&mut self) -> Option<GuestPage>
         ensures state { self.new.state ≡ pass_ended_at_last self.old.state }
         ensures next { MatchOption result (self.new.state.cursor ≡ None) (GoesOnAtPage self.new.state) }
@@ -369,7 +383,7 @@ impl State {
         next
     }
 
-    // The pass ends if no row comes after the cursor.
+    // Ends the pass unless it goes on: a row comes after the cursor.
     fn close_pass(&mut self, goes_on: bool)
         requires under_way { is_some self.old.state.cursor ≡ true }
         requires goes_on { goes_on ≡ is_some (next_row self.old.state.cursor self.old.state.rows) }
@@ -383,7 +397,8 @@ impl State {
         }
     }
 
-    // What is done before a page is visited, where the page at which the pass goes on may be known. Gives the page to visit.
+    // Does what comes before a visit: a pass may end and the next begin. Gives the page to visit, which is `known` if
+    // that was found before.
     fn begin_visit(&mut self, known: Option<GuestPage>) -> Option<GuestPage>
         requires known { IfSome known (GoesOnAtPage self.old.state) }
         ensures state { self.new.state ≡ visit_begun self.old.state }
@@ -402,7 +417,7 @@ impl State {
         self.layout.rows().next(None)
     }
 
-    // The row that is visited, which is of this page.
+    // The row of the page to visit.
     fn row(&self, page: GuestPage) -> Row
         requires next { page_of (next_row self.now.state.cursor self.now.state.rows) ≡ Some page }
         ensures next { next_row self.now.state.cursor self.now.state.rows ≡ Some result }
@@ -410,7 +425,8 @@ impl State {
         self.layout.rows().known(page)
     }
 
-    // What is done after a page was visited. The runs behind it were found before, as far as they are known.
+    // Does what comes after a visit: the cursor moves, the pass may end, and the run behind the page becomes the known
+    // one.
     fn end_visit(&mut self, page: GuestPage, joined: bool, ahead: &mut Ahead, most: u64)
         requires behind { AreRuns self.old.state.rows (Some page) (behind ahead.old) }
         requires again { IsKnown self.old.state.rows ahead.old }
@@ -430,7 +446,7 @@ impl State {
         }
     }
 
-    // The run in which the pass goes on: the first one behind the page visited last, that of an earlier pass if it is known, else found anew.
+    // The run behind the page visited last: the next one that is known, else one that is found anew.
     fn next_run(&self, page: GuestPage, joined: bool, ahead: &mut Ahead, most: u64) -> Run
         requires page { self.now.state.cursor ≡ Some page }
         requires behind { AreRuns self.now.state.rows (Some page) (behind ahead.old) }
@@ -447,14 +463,14 @@ impl State {
         run
     }
 
-    // The runs behind the page visited last, found anew, for `most` visits at most. Gives the first.
+    // Finds the runs behind the page visited last anew, for `most` visits at most. Gives the first.
     fn gather(&self, ahead: &mut Ahead, most: u64) -> Run
         ensures behind { AreRuns self.now.state.rows self.now.state.cursor (result ∷ behind ahead.new) }
         ensures again { IsKnown self.now.state.rows ahead.new }
         ensures most { result.visits ≤ most }
     {
         ahead.found.clear();
-        // Room for some runs at once: refused, they take it one by one.
+        // Takes memory for some runs at once; where that is refused, each run asks for its own.
         let _ = ahead.found.reserve(RUNS_AT_ONCE);
         let run = self
             .layout
@@ -469,7 +485,7 @@ impl State {
         run
     }
 
-    // What becomes of the page that is visited. Where memory is refused, nothing becomes of it.
+    // Does to the visited page what a visit does. Where memory is refused, nothing changes.
     fn visit_row(&mut self, table: &FrameTable, row: &Row) -> Result<Visited, Fault>
         requires own { self.old.keeper.table ≡ table.now }
         requires next { next_row self.old.state.cursor self.old.state.rows ≡ Some row.now }
@@ -497,13 +513,14 @@ impl State {
                 state: PageState::Private,
                 ..*row
             };
-            self.layout.amend(row, &kept);
+            self.layout.set_row(row, &kept);
             return Ok(Visited::Changed);
         }
         self.stay(table, row)
     }
 
-    // A page whose bytes stayed becomes Zero, or is merged with the one that waits for it, or waits.
+    // The visit of an unchanged page that joins no dup: it becomes Zero, or is merged with the page that waits for it,
+    // or waits.
     fn stay(&mut self, table: &FrameTable, row: &Row) -> Result<Visited, Fault>
         requires own { self.old.keeper.table ≡ table.now }
         requires next { next_row self.old.state.cursor self.old.state.rows ≡ Some row.now }
@@ -526,7 +543,7 @@ impl State {
         self.pair(table, row)
     }
 
-    // A page whose bytes stayed is merged with the one that waits for it, or waits.
+    // The visit of such a page that does not become Zero: it is merged with the page that waits for it, or waits.
     fn pair(&mut self, table: &FrameTable, row: &Row) -> Result<Visited, Fault>
         requires own { self.old.keeper.table ≡ table.now }
         requires next { next_row self.old.state.cursor self.old.state.rows ≡ Some row.now }

@@ -1,4 +1,5 @@
-//! The state of the book, and its commands.
+//! The state of the book, and the commands on single pages, with `prune` and `mergeable`. Each tests its refusals in
+//! the order of the definitions, and then changes the layout.
 
 ghost use Rattle.std.specs.Prelude.{◌≡◌, ◌≤◌, [], IfOk, IfErr, IsSome, option_map};
 ghost use Rattle.ksm_base.specs.Values.{IsShape};
@@ -44,7 +45,8 @@ impl Model for State {
 }
 
 impl State {
-    /// The opening state, in the frames of a keeper that has made no step. Refused for memory alone, it gives the keeper back.
+    /// The opening state, in the frames of a keeper that has made no step. Refused for memory alone, it gives the
+    /// keeper back.
     pub fn open(alloc: Global, keeper: Keeper, shape: Shape) -> Result<State, (Keeper, Fault)>
         requires shape { IsShape shape }
         requires same { keeper.table.shape ≡ shape }
@@ -60,7 +62,7 @@ impl State {
         })
     }
 
-    /// The keeper, as it is.
+    /// Gives the keeper back, as it is.
     pub fn close(self) -> Keeper
         ensures { result ≡ self.keeper }
     {
@@ -96,7 +98,7 @@ impl State {
         self.layout.read(table, page)
     }
 
-    /// Adds the row of a page.
+    /// Registers a page: its row is added, on a frame of the node.
     pub fn register(
         &mut self,
         table: &FrameTable,
@@ -119,7 +121,7 @@ impl State {
         Ok(Reply::Done)
     }
 
-    /// Stores to a page.
+    /// Stores bytes to a page: in place where it has a frame of its own, else in a copy on its home.
     pub fn store(
         &mut self,
         table: &FrameTable,
@@ -142,7 +144,7 @@ impl State {
         Ok(Reply::Done)
     }
 
-    /// Takes the row of a page away.
+    /// Drops a page: its row goes, and so does its reference on a frame.
     pub fn drop_page(&mut self, table: &FrameTable, page: GuestPage) -> Result<Reply, Fault>
         requires own { self.old.keeper.table ≡ table.now }
         ensures { CarriedOut self.old self.new (Command.Drop page) result }
@@ -154,7 +156,7 @@ impl State {
         Ok(Reply::Done)
     }
 
-    /// What is counted.
+    /// The counters.
     pub fn counters(&self) -> Counters
         ensures { result ≡ counters_of self.now.state }
     {
@@ -172,7 +174,7 @@ impl State {
     pub fn ticket(&self, page: GuestPage) -> Option<u32>
         ensures { result ≡ ticket_of page self.now.state }
     {
-        match self.layout.find(page)?.row.state {
+        match self.layout.framed_row(page)?.row.state {
             PageState::Merged(number) => Some(self.layout.numbered(number)?.place),
             _ => None,
         }
@@ -225,7 +227,7 @@ impl State {
         if node >= self.layout.shape().nodes {
             return Err(Fault::BadNode);
         }
-        let Some(held) = self.layout.find(page) else {
+        let Some(held) = self.layout.framed_row(page) else {
             return Err(Fault::UnknownPage);
         };
         if held.row.home == node {

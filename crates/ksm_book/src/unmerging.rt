@@ -15,8 +15,8 @@ use ksm_base::{Command, Fault, Knobs, Reply, Row};
 use ksm_layout::Layout;
 use ksm_pages::row::unshared;
 
-/// The merged and Zero pages of a guest, or all of them, get frames of their own in order, until one finds none on its home.
-/// Says how many did, and the row that did not.
+/// The merged and Zero pages of a guest, or all of them, get frames of their own in order, until one finds none on its
+/// home. Says how many did, and the row that did not.
 pub fn unshare_pages(
     layout: &mut Layout,
     table: &FrameTable,
@@ -56,7 +56,8 @@ fn no_frame(stop: Option<Row>) -> Option<Fault>
 }
 
 impl State {
-    /// The merged and Zero pages of a guest get frames of their own, in order, until one finds none; the guest's pages up to there leave the scan.
+    /// The merged and Zero pages of a guest get frames of their own, in order, until one finds none; the guest's pages
+    /// up to there leave the scan.
     pub fn unmerge(&mut self, table: &FrameTable, guest: u16) -> Result<Reply, Fault>
         requires own { self.old.keeper.table ≡ table.now }
         ensures { CarriedOut self.old self.new (Command.Unmerge guest) result }
@@ -72,7 +73,8 @@ impl State {
         })
     }
 
-    /// All merged and Zero pages get frames of their own, in order, until one finds none. If none is left so, all pages are Private and not unchanged, and the next scan begins a pass; else the scan stands.
+    /// All merged and Zero pages get frames of their own, in order, until one finds none. If none is left so, all pages
+    /// are Private and not unchanged, and the next scan begins a pass; else the scan stands.
     pub fn unshare(&mut self, table: &FrameTable) -> Result<Reply, Fault>
         requires own { self.old.keeper.table ≡ table.now }
         ensures { CarriedOut self.old self.new (Command.SetRun 2) result }

@@ -1,4 +1,5 @@
-//! Worked commands: the steps that they make on the frames, and the nodes on which they get one. Each is a law, with nothing to run.
+//! Worked commands: the steps that they make on the frames, and the nodes on which they get one. Each is a law, with
+//! nothing to run.
 
 ghost use Rattle.std.specs.Prelude.{◌≡◌, [], ◌∷◌, None, Some, Ok, Err};
 ghost use Rattle.frame_core.specs.declared.event.KeeperStep.TheVariants.{Add, Sub, Publish, Withdraw};
@@ -9,8 +10,9 @@ ghost use Rattle.ksm_book.specs.Whole.{nodes_got};
 ghost use Rattle.ksm_book.specs.Worked.{all_merged, apart, full, merged, page, stale, three, together};
 ghost use Rattle.ksm_layout.specs.Commands.{dismissing, listed_in, pruning, scanning};
 
-/// A visit that makes a dup has its place name the waiting page's frame, which the visited page gets, and its own loses a reference. One
-/// that joins adds a reference there before it leaves its own frame. No visit before them makes a step.
+/// A visit that makes a dup has its place name the waiting page's frame, which the visited page gets, and its own loses
+/// a reference. One that joins adds a reference there before it leaves its own frame. No visit before them makes a
+/// step.
 pub fn steps_of_visits()
     ensures waits { scanning 4 three apart ≡ record { steps = []; frames = apart } }
     ensures makes { scanning 5 three apart ≡ record { steps = Publish 0 0 ∷ Add 0 ∷ Sub 1 ∷ []; frames = Some 0 ∷ Some 0 ∷ Some 4 ∷ [] } }
@@ -25,8 +27,8 @@ pub fn steps_of_leaving()
     ensures keeps { pruning merged.dups all_merged ≡ record { steps = []; frames = together } }
 {}
 
-/// A frame is got on the node where it is needed: a new page's, the home of a page that leaves its dup, the node moved to. None is where
-/// the page has one of its own, or stays at its home, or the command is refused.
+/// A frame is got on the node where it is needed: a new page's, the home of a page that leaves its dup, the node moved
+/// to. None is where the page has one of its own, or stays at its home, or the command is refused.
 pub fn nodes_of_frames()
     ensures registered { nodes_got merged (Ok Done) (Register (page 3) 1 (full 0xbb)) ≡ 1 ∷ [] }
     ensures copied { nodes_got merged (Ok Done) (Store (page 2) (full 0xbb)) ≡ 1 ∷ [] }

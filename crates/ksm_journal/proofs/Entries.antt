@@ -75,7 +75,7 @@ adds_short ps ws cs cs' ts ts' c t command answer es same view pushed told tells
     ∙ (λ i. view i ++ all_told (is_whole c.kind) (is_beside c.kind) (get_or ws c.number no_entry) (command_beside c.kind c (get_or ps c.number no_page)) (command_of c.kind c) (answer_of t c.number) tells i ∷ [])
     ∙ (λ i. es ++ (is i, answered i) ∷ [])
 
--- and after one whose page stands in a row of the pages
+-- an entry is added whose page stands in a row of the pages
 pub adds_beside : (ps ps' : List StoredPage) (ws : List Entry) (cs cs' : List CommandCode) (ts ts' : List AnswerCode) (c : CommandCode) (t : AnswerCode) (p : StoredPage) (command : Command) (answer : Answer) (es : List Entry)
     → length ts ≡ length cs → AreInside (length ps) (length ws) cs → entries_of ps ws cs ts ≡ es → ps' ≡ ps ++ p ∷ [] → cs' ≡ cs ++ c ∷ [] → ts' ≡ ts ++ t ∷ []
     → c.number ≡ length ps → is_whole c.kind ≡ false → is_beside c.kind ≡ true → command_beside c.kind c p ≡ command → answer_of t c.number ≡ answer
@@ -90,7 +90,7 @@ adds_beside ps ps' ws cs cs' ts ts' c t p command answer es same all view paged 
     ∙ (λ i. es ++ (command_beside c.kind c (read i), answer_of t c.number) ∷ [])
     ∙ (λ i. es ++ (is i, answered i) ∷ [])
 
--- and after one that is kept whole
+-- an entry is added that is kept whole
 pub adds_whole : (ps : List StoredPage) (ws ws' : List Entry) (cs cs' : List CommandCode) (ts ts' : List AnswerCode) (c : CommandCode) (t : AnswerCode) (e : Entry) (es : List Entry)
     → length ts ≡ length cs → AreInside (length ps) (length ws) cs → entries_of ps ws cs ts ≡ es → ws' ≡ ws ++ e ∷ [] → cs' ≡ cs ++ c ∷ [] → ts' ≡ ts ++ t ∷ []
     → c.number ≡ length ws → is_whole c.kind ≡ true → entries_of ps ws' cs' ts' ≡ es ++ e ∷ []

@@ -9,9 +9,9 @@ use ksm_base::{Command, Fault, GuestPage, PAGE_WORDS, PageBytes, Reply};
 /// `byte`.
 #[derive(Clone, Copy)]
 pub(crate) enum CommandKind {
-    /// A store of one byte.
+    /// A store of a page full of one byte.
     Storing,
-    /// A registering with one byte, on each of the nodes 0 to 3.
+    /// A registering of a page full of one byte on node 0; the next three on nodes 1 to 3.
     Registering0,
     Registering1,
     Registering2,
@@ -19,7 +19,7 @@ pub(crate) enum CommandKind {
     Dropping,
     /// The visits are `number`.
     Scanning,
-    /// No part; `number` is how many dups went.
+    /// The command has no part; `number` is how many dups went.
     Pruning,
     /// `number` is how many pages got a frame.
     Unmerging,
@@ -58,7 +58,7 @@ pub(crate) enum AnswerCode {
     AllDone,
     PageUnknown,
     PageKnown,
-    /// No frame on each of the nodes 0 to 3.
+    /// No frame on node 0; the next three on nodes 1 to 3.
     FrameMissing0,
     FrameMissing1,
     FrameMissing2,
@@ -70,7 +70,7 @@ pub(crate) enum AnswerCode {
     NodesCrossed,
     PlaceUnknown,
     NodeUnknown,
-    /// So many visits were made as the number tells, and all of them.
+    /// All visits were made, as many as the number tells.
     NumberScanned,
     /// No visit was made, as no page is mergeable.
     NoneScanned,
@@ -104,7 +104,7 @@ fn filled(byte: u8) -> PageBytes
     [u64::from(byte) * 0x0101_0101_0101_0101; PAGE_WORDS]
 }
 
-/// How many pages or dups an answer tells of, as far as it is told in 32 bits.
+/// How many pages or dups an answer tells of: 0 where it tells of none, or where the number has more than 32 bits.
 fn count_of(answer: &Result<Reply, Fault>) -> u32 {
     match *answer {
         Ok(Reply::Pruned(dups)) => u32::try_from(dups).unwrap_or(0),
@@ -136,7 +136,8 @@ impl CommandCode {
         }
     }
 
-    /// The code of a command, if it has room for it; where the command has no number, the answer's is kept in its place.
+    /// The code of a command, if it has room for it; where the command has no number, the answer's is kept in its
+    /// place.
     fn of(command: &Command, answer: &Result<Reply, Fault>) -> Option<CommandCode>
         ensures all { IfSome result (λ code. tells_all code.kind ≡ true) }
         ensures command { IfSome result (λ code. command_of code.kind code ≡ command.now) }
@@ -355,7 +356,7 @@ impl AnswerCode {
     }
 }
 
-/// The codes of an entry that they tell all of.
+/// The codes of an entry, if they tell all of it.
 pub(crate) fn short(
     command: &Command,
     answer: &Result<Reply, Fault>,
@@ -369,7 +370,8 @@ pub(crate) fn short(
     Some((code, told))
 }
 
-/// The codes of an entry whose page stands in row `row` of the pages, and that row.
+/// The codes of an entry whose page is to stand in row `row` of the pages, with that page; none where the entry has no
+/// page to keep there.
 pub(crate) fn beside(
     command: &Command,
     answer: &Result<Reply, Fault>,
@@ -401,7 +403,7 @@ pub(crate) fn whole(row: u32) -> CommandCode
     CommandCode::of_number(CommandKind::Whole, 0, row)
 }
 
-/// The entry that was kept by these codes.
+/// The entry that was kept as these codes.
 pub(crate) fn entry(
     code: CommandCode,
     told: AnswerCode,

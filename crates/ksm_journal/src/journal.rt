@@ -50,7 +50,8 @@ impl Journal {
         }
     }
 
-    /// Takes the memory of one more entry. Refused for memory, or where 2^32 pages or whole entries stand beside the codes.
+    /// Takes the memory of one more entry. Refused for memory, or where 2^32 pages or whole entries stand beside the
+    /// codes.
     pub fn reserve(&mut self) -> Result<(), AllocError>
         ensures kept { self.new.entries ≡ self.old.entries }
         ensures room { IfOk result (λ _. self.new.has_room ≡ true) }
@@ -77,9 +78,10 @@ impl Journal {
         self.answers.push_reserved(told);
     }
 
-    // Handed on by value, and not inlined as a hint alone: else each entry would clear what only a long one needs.
+    // Takes the entry by value and is not inlined, for speed: else `add` would clear for each entry what only a long
+    // one needs.
 
-    /// Adds an entry that its codes do not tell all of.
+    /// Adds an entry of which the codes do not tell all.
     #[inline(never)]
     fn add_long(&mut self, command: Command, answer: Result<Reply, Fault>)
         requires room { self.old.has_room ≡ true }

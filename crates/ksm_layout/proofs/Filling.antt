@@ -52,9 +52,11 @@ set_again (x ∷ xs) zero a b = refl
 set_again (x ∷ xs) (suc i) a b = ap (λ ys. x ∷ ys) (set_again xs i a b)
 
 module _ (k : Ledger) (g : ℕ) (lt : g < length k.frames) (a : Note) where
+  -- the frame has the note that it got
   pub at_again : frame_at (with_frame k g a) g ≡ a
   at_again = get_or-set_same k.frames g a blank lt
 
+  -- two changes of a frame's note, one after the other, are one change by both
   pub again : (F : Note → Note) → with_frame (with_frame k g a) g (F (frame_at (with_frame k g a) g)) ≡ with_frame k g (F a)
   again F = ap (λ x. with_frame (with_frame k g a) g (F x)) at_again ∙ (λ i. record { frames = set_again k.frames g a (F a) i; places = k.places })
 
@@ -63,6 +65,7 @@ module _ (v w w' : KeeperView) (g i : ℕ) (bytes : List ℕ) (within : g < leng
   abbrev n : Note
   n = frame_at v.ledger g
 
+  -- one word more is written: the steps and the content go on by that word
   pub wrote_one : Did v w [] (puts g 0 (take i bytes)) → w.ledger ≡ with_frame v.ledger g (holding n (take i bytes ++ drop i n.content)) → w' ≡ did w (Put g i (get_or bytes i 0)) 0
       → Did v w' [] (puts g 0 (take (i + 1) bytes)) × (w'.ledger ≡ with_frame v.ledger g (holding n (take (i + 1) bytes ++ drop (i + 1) n.content)))
   wrote_one so_far ledger is =
@@ -99,27 +102,33 @@ module _ (v w : KeeperView) (node : ℕ) (bytes : List ℕ) (g found : ℕ) (rea
   law : Placed sv l.0 w.ledger l.1 l.2 l.3 None
   law = reaped.keeps l.0 l.1 l.2 l.3 l.4
 
+  -- the frame that was found is one of the table
   pub inside : g < frames_of sv
   inside = let end : node * sv.frames_per_node + sv.frames_per_node ≤ frames_of sv = node_end node sv.nodes sv.frames_per_node less in let high = lowest.high in omega (arith, end, high)
 
   within : g < length w.ledger.frames
   within = let long : length w.ledger.frames ≡ frames_of sv = law.frames_long in let i = inside in omega (arith, long, i)
 
+  -- the ledger has a note of the frame once it is raised
   pub raised_within : g < length raised.ledger.frames
   raised_within = let long : length raised.ledger.frames ≡ length w.ledger.frames = length-set w.ledger.frames g a1 in let i = within in omega (arith, long, i)
 
   raised_at : frame_at raised.ledger g ≡ a1
   raised_at = at_again w.ledger g within a1
 
+  -- a frame is being filled once it is raised
   pub raised_kind : (frame_at raised.ledger g).kind ≡ Filling
   raised_kind = ap (λ (z : Note). z.kind) raised_at
 
+  -- a frame has the words of one page once it is raised
   pub raised_wide : length (frame_at raised.ledger g).content ≡ PAGE_WORDS
   raised_wide = ap (λ (z : Note). length z.content) raised_at ∙ law.widths g
 
+  -- a frame is still being filled once its words are written
   pub written_kind : (w2 : KeeperView) → Wrote raised w2 g bytes → (frame_at w2.ledger g).kind ≡ Filling
   written_kind w2 wrote = ap (λ z. (frame_at z g).kind) wrote.ledger ∙ ap (λ (z : Note). z.kind) (at_again raised.ledger g raised_within (holding (frame_at raised.ledger g) bytes)) ∙ raised_kind
 
+  -- a frame that was raised, written and opened has been taken with these bytes
   pub took : (w2 w' : KeeperView) (opened : ℕ) → length bytes ≡ PAGE_WORDS → Wrote raised w2 g bytes → w' ≡ did w2 (Open g) opened → Took v w' node bytes g
   took w2 w' opened long wrote is =
       let k : Ledger = w.ledger in

@@ -35,7 +35,7 @@ change_known page f rows row rise found =
     let at = found_at page rows row found in
     sym (change_found page (λ _. f row) rows at.0 row rise at.1) ∙ ap (λ x. set rows at.0 (f x)) (sym at.2) ∙ change_found page f rows at.0 row rise at.1
 
--- the same, of a row with the page
+-- a change of the page's row is a change of the row with its page
 pub change_own : (page : GuestPage) (f : Row → Row) (rows : List Row) (row : Row) → InPageOrder rows → row_at page rows ≡ Some row → (f row).page ≡ row.page → change_row (f row).page (λ _. f row) rows ≡ change_row page f rows
 change_own page f rows row rise found same = ap (λ p. change_row p (λ _. f row) rows) (same ∙ found_page page rows row found) ∙ change_known page f rows row rise found
 

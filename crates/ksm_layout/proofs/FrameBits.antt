@@ -46,6 +46,7 @@ module _ (words : List ℕ) (at : ℕ) where
   there : (f : ℕ) → at ≤ f → f ≡ at + (f - at)
   there f later = omega (arith, later)
 
+  -- where no bit of the word at or behind this one is set, no frame up to the end of the word is in the set
   pub none_in_word : (low : ℕ) → low ≤ at → HasNone words low at → rest ≡ 0 → HasNone words low ((at / 64 + 1) * 64)
   none_in_word low onward before clear f from below = elim (cases_lt f at) [
     | inl earlier ↦ before f from earlier

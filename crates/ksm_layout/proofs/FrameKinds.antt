@@ -17,7 +17,7 @@ use Rattle.ksm_layout.specs.Steps.{free_kind, dying_kind}
 pub other_frame : (k : Ledger) (f g : ℕ) (note : Note) → g ≢ f → frame_at (with_frame k f note) g ≡ frame_at k g
 other_frame k f g note differs = get_or-set_other k.frames f g note blank differs
 
--- and so it is where the step found that it could not be made
+-- a step on one frame leaves the note of another, also where the step found that it could not be made
 pub other_if : (made : Bool) (k : Ledger) (f g : ℕ) (note : Note) → g ≢ f → frame_at (cond made (with_frame k f note) k) g ≡ frame_at k g
 other_if true k f g note differs = other_frame k f g note differs
 other_if false k f g note differs = refl
@@ -29,7 +29,7 @@ module _ (asked : Kind → Bool) (v w : KeeperView) (words : List ℕ) (table : 
   known : (f : ℕ) → f < frames_of w.table.shape → f < frames_of v.table.shape
   known f lt = subst (λ (x : _). f < frames_of x.shape) table lt
 
-  -- it is right again once the frame of the step is marked
+  -- the set is right again once the frame of the step is marked
   set_marked : (words' : List ℕ) (frame : ℕ) → ((f : ℕ) → f ≢ frame → frame_at w.ledger f ≡ frame_at v.ledger f)
       → Marks words words' frame (asked (frame_at w.ledger frame).kind) → IsSetOf asked w words'
   set_marked words' frame others marks = record {
@@ -41,6 +41,7 @@ module _ (asked : Kind → Bool) (v w : KeeperView) (words : List ℕ) (table : 
   }
 
 module _ (v w : KeeperView) (free dying : List ℕ) (table : w.table ≡ v.table) (are : AreSets v free dying) where
+  -- where one frame has changed its kind and was marked by it, the sets are those of the free and the dying frames
   pub sets_marked : (free' dying' : List ℕ) (frame : ℕ) (kind : Kind) → kind ≡ (frame_at w.ledger frame).kind → ((f : ℕ) → f ≢ frame
       → frame_at w.ledger f ≡ frame_at v.ledger f)
       → Marks free free' frame (free_kind kind) → Marks dying dying' frame (dying_kind kind) → AreSets w free' dying'

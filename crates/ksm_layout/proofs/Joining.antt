@@ -12,13 +12,15 @@ use Rattle.ksm_pages.specs.Listed.{Listed, StandsAt}
 use Rattle.ksm_pages.specs.Lodged.{ItemsLieOn}
 use Rattle.ksm_layout.specs.Laid.{Lay, Joins, JoinsDup}
 
-state_of_item : (n : ℕ) (s : PageState) → merged_into n s ≡ true → s ≡ Merged n
+-- a row that is an item of a dup is merged into it by its state
+pub state_of_item : (n : ℕ) (s : PageState) → merged_into n s ≡ true → s ≡ Merged n
 state_of_item n Private e = absurd (grind (arith, e))
 state_of_item n Waiting e = absurd (grind (arith, e))
 state_of_item n Zero e = absurd (grind (arith, e))
 state_of_item n (Merged d) e = ap Merged (eqb-true d n e)
 
 module _ (lay : Lay) (row : Row) (number : ℕ) (joins : JoinsDup lay row number) where
+  -- the dup has a first item, by which the row may join it
   pub first_item : (item : Row) × (find (λ r. merged_into number r.state) lay.rows ≡ Some item) × Joins lay row item × (item.state ≡ Merged number)
   first_item = by (find (λ r. merged_into number r.state) lay.rows) refl joins
     where
@@ -28,10 +30,11 @@ module _ (lay : Lay) (row : Row) (number : ℕ) (joins : JoinsDup lay row number
       by (Some item) found may =
           (item, found, may, state_of_item number item.state (find_passes (λ r. merged_into number r.state) lay.rows item found))
 
+  -- the first item is merged into the dup
   pub first_into : merged_into number first_item.0.state ≡ true
   first_into = find_passes (λ r. merged_into number r.state) lay.rows first_item.0 first_item.1
 
-  -- it lies where all items of the dup do
+  -- the first item lies where all items of the dup do
   pub first_lies : (v : Listed) (frame : Option ℕ) → ItemsLieOn v number frame → v.rows ≡ lay.rows → StandsAt v first_item.0.page first_item.0 frame
   first_lies v frame lie same = lie first_item.0.page first_item.0 (ap (row_at first_item.0.page) same ∙ first_item.2.item_is) first_into
 

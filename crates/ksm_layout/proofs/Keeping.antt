@@ -159,7 +159,8 @@ module _ (sh : Shape) (across : ℕ) (k : Ledger) (rows : List Row) (frames : Li
       (fits_taken at_g.kind at_g.base (omega arith) (p.kinds g) (at_g.base == 1) refl)
       (lived_taken sh.last_generation at_g.generation at_g.base at_g.kind (at_g.base == 1) (omega arith) (p.kinds g) (p.lives g))
 
-reap_other : (sh : Shape) (k : Ledger) (g f found : ℕ) → f ≢ g → frame_at (ledger_after sh k (Reap g) found) f ≡ frame_at k f
+-- a reap leaves the notes of other frames
+pub reap_other : (sh : Shape) (k : Ledger) (g f found : ℕ) → f ≢ g → frame_at (ledger_after sh k (Reap g) found) f ≡ frame_at k f
 reap_other sh k g f found ne = elim (count_in found == 0) as (λ b. frame_at (cond b (with_frame k g record { kind = cond ((frame_at k g).generation == sh.last_generation) Retired Free; base = 0; generation = (frame_at k g).generation; content = (frame_at k g).content }) k) f ≡ frame_at k f) [
   | true ↦ get_or-set_other k.frames g f _ blank ne
   | false ↦ refl
@@ -183,6 +184,7 @@ reaped_start v w low e = record {
 
 -- frames are reaped one by one
 module _ (v w w' : KeeperView) (low n : ℕ) (so_far : Reaped v w low n) where
+  -- a dying frame is reaped: the frames reaped so far reach one further
   pub reaped_one : (found : ℕ) → low + n < frames_of v.table.shape → low + n < length w.ledger.frames → (frame_at w.ledger (low + n)).kind ≡ Dying → w' ≡ did w (Reap (low + n)) found → Reaped v w' low (n + 1)
   reaped_one found inside within dying is =
       let g : ℕ = low + n in
@@ -210,6 +212,7 @@ module _ (v w w' : KeeperView) (low n : ℕ) (so_far : Reaped v w low n) where
             let before = so_far.spent in omega (arith, more, same, before));
       }
 
+  -- a frame that is not dying is passed over: the frames reaped so far reach one further
   pub reaped_none : (frame_at w.ledger (low + n)).kind ≢ Dying → Reaped v w low (n + 1)
   reaped_none alive = record {
     part = so_far.part;

@@ -29,10 +29,11 @@ use Rattle.ksm_layout.proofs.Moves.{Serves, framed, own_agrees, swapped, inserte
 use Rattle.ksm_layout.proofs.Keeping.{spent_kept}
 
 module _ (sh : Shape) (across : ℕ) (v : KeeperView) (rows : List Row) (frames : List (Option ℕ)) (dups : List DupRow) (hand : Option ℕ) (same : v.table.shape ≡ sh) where
-  -- the same placement, by the shape of the keeper's table
+  -- a placement by this shape is one by the shape of the keeper's table
   at_table : Placed sh across v.ledger rows frames dups hand → Placed v.table.shape across v.ledger rows frames dups hand
   at_table p = subst (λ (s : Shape). Placed s across v.ledger rows frames dups hand) (sym same) p
 
+  -- a placement by the shape of the table is lawful as the keeper sees it
   pub lawful : Placed sh across v.ledger rows frames dups hand → IsLawful v hand
   lawful p = (across, rows, frames, dups, at_table p)
 
@@ -109,7 +110,7 @@ module _ (sh : Shape) (across : ℕ) (k : Ledger) (rows : List Row) (frames : Li
   lodged (home, bytes, inl s) = same_state s home bytes
   lodged (home, bytes, inr own) = both_own own.0 own.1 home bytes
 
--- the same, where the row may have no frame
+-- what serves a row serves one that lodges as it does, where the row may have no frame
 pub lodged_as : (sh : Shape) (across : ℕ) (k : Ledger) (rows : List Row) (frames : List (Option ℕ)) (dups : List DupRow) (hand : Option ℕ) → Placed sh across k rows frames dups hand → (old r : Row) (o : Option ℕ)
     → LodgesAs r old → IsServed sh k dups old o → IsServed sh k dups r o
 lodged_as sh across k rows frames dups hand p old r (Some f) lodges fits = lodged sh across k rows frames dups hand p old r f fits lodges
@@ -129,7 +130,7 @@ module _ (sh : Shape) (v : Listed) (dups : List DupRow) (knobs : Knobs) (next : 
     spent = (let s = h.spent in omega (arith, s, more));
   }
 
-  -- the same, by other names of the lists and of what the keeper knows
+  -- rows and dups lie lawfully by other names of the lists and of what the keeper knows
   pub laid_same : (v' : Listed) (w : KeeperView) → v'.rows ≡ v.rows → v'.frames ≡ v.frames → w.table ≡ k.table → w.ledger ≡ k.ledger → IsLaid sh v' dups knobs next w
   laid_same v' w e f t l = record {
     small = h.small;
@@ -187,8 +188,8 @@ module _ (sh : Shape) (v : Listed) (dups : List DupRow) (knobs : Knobs) (next : 
     }
 
     -- the row changes on its frame
-    pub laid_amended : (v' : Listed) → LodgesAs r page_row → v'.rows ≡ set v.rows i r → v'.frames ≡ v.frames → IsLaid sh v' dups knobs next k
-    laid_amended v' lodges rows frames = record {
+    pub laid_row_set : (v' : Listed) → LodgesAs r page_row → v'.rows ≡ set v.rows i r → v'.frames ≡ v.frames → IsLaid sh v' dups knobs next k
+    laid_row_set v' lodges rows frames = record {
       small = h.small;
       same = h.same;
       placed = subst (λ (z : List Row × List (Option ℕ)). Placed sh across k.ledger z.0 z.1 dups None) (λ t. (sym rows t, sym frames t))
@@ -219,6 +220,7 @@ module _ (sh : Shape) (v : Listed) (dups : List DupRow) (knobs : Knobs) (next : 
   gone_hand page page_row f v' at rows frames = subst (λ (z : List Row × List (Option ℕ) × Option ℕ). Placed sh across k.ledger z.0 z.1 dups z.2) (λ t. (sym rows t, sym frames t, at.frame_is t))
       (removed sh across k.ledger v.rows v.frames dups (rank page v.rows) at.inside h.placed)
 
+  -- rows and dups lie lawfully once the row of a page is gone and its frame is out of the hand
   pub laid_gone : (page : GuestPage) (page_row : Row) (f : Option ℕ) (v' : Listed) (u : KeeperView) → StandsAt v page page_row f → u.table ≡ k.table → Keeps k u f None → spent k.ledger ≤ spent u.ledger → v'.rows ≡ remove v.rows (rank page v.rows) → v'.frames ≡ remove v.frames (rank page v.rows) → IsLaid sh v' dups knobs next u
   laid_gone page page_row f v' u at e keeps more rows frames = record {
     small = h.small;
@@ -244,7 +246,7 @@ pub relaid : (p q : PagesView) (now : Lay) (v k : KeeperView) (rows : List Row) 
 relaid p q now v k rows rest view same = ap (λ (z : PagesView). lay_of z k) rest
     ∙ (λ t. record (view t) { rows = same t; frames = q.listed.frames; keeper = k })
 
--- the same, where each row stays on its frame
+-- the layout of pages of which each row stays on its frame, with another keeper
 pub relaid_there : (p q : PagesView) (now : Lay) (v k : KeeperView) (rows : List Row) → q ≡ record p { listed = q.listed } → lay_of p v ≡ now
     → q.listed.rows ≡ rows → q.listed.frames ≡ p.listed.frames → lay_of q k ≡ record now { rows = rows; keeper = k }
 relaid_there p q now v k rows rest view same frames = relaid p q now v k rows rest view same

@@ -47,6 +47,6 @@ index_facts page rows (Some i) e =
       found = λ d. find_at p rows ∙ ap (slice_get rows) (sym (same_Some _ _ (e ∙ position_some_is p rows i (sym e)))) ∙ slice_get-get_or rows i d (here d).0;
     }
 
--- the same by the facts of a search
+-- a row changed where the search found it is the page's row changed
 pub change_found : (page : GuestPage) (f : Row → Row) (rows : List Row) (i : ℕ) (d : Row) → InPageOrder rows → IsAt rows page i → set rows i (f (get_or rows i d)) ≡ change_row page f rows
 change_found page f rows i d rise at = sym (change_at page f rows i d rise at.in_range (at.has_page d))

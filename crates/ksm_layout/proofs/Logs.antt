@@ -31,7 +31,7 @@ gives_append sh k ms ns (x ∷ xs) ys h h' =
     let next : Ledger = ledger_after sh k x.0 x.1 in
     (more.0, subst (λ zs. Gives sh next zs (xs ++ ys)) (sym more.1) (gives_append sh next (needed_after ms (given_by x.0)) ns xs ys h.1 h'))
 
--- one call after another
+-- two calls, one after the other, have done what both did
 pub chained : (u v w : KeeperView) (ms ns : List ℕ) (xs ys : Log) → Did u v ms xs → Did v w ns ys → Did u w (ms ++ ns) (xs ++ ys)
 chained u v w ms ns xs ys a b = record {
   table = b.table ∙ a.table;
@@ -44,7 +44,7 @@ chained u v w ms ns xs ys a b = record {
 pub nothing_done : (v w : KeeperView) → w ≡ v → Did v w [] []
 nothing_done v w e = record { table = ap (λ x. x.table) e; log = ap (λ x. x.log) e ∙ sym (append-nil v.log); ledger = ap (λ x. x.ledger) e; gives = refl }
 
--- one step
+-- one step of the keeper is a log of that step
 pub one_step : (v w : KeeperView) (e : KeeperStep) (n : ℕ) (nodes : List ℕ) → IsNeeded v.table.shape v.ledger nodes (given_by e) → needed_after nodes (given_by e) ≡ [] → w ≡ did v e n → Did v w nodes ((e, n) ∷ [])
 one_step v w e n nodes needed after is = record { table = ap (λ x. x.table) is; log = ap (λ x. x.log) is; ledger = ap (λ x. x.ledger) is; gives = (needed, after) }
 

@@ -1,6 +1,6 @@
 -- Steps of the keeper, and no others, one after another.
-use Rattle.std.proofs.Common.{inl, inr, ◌≡◌, ◌≢◌, ℕ, zero, suc, ◌+◌, ◌*◌, ◌≤◌, Bool, true, false, cond, List, [], ◌∷◌, ◌++◌, map, replicate, refl}
-use Rattle.std.proofs.Common.{sym, ap, ◌∙◌, subst, arith, append_assoc, append-nil, get_or-set_other}
+use Rattle.std.proofs.Common.{inl, inr, ◌≡◌, ℕ, zero, suc, ◌+◌, ◌*◌, ◌≤◌, Bool, true, false, cond, List, [], ◌∷◌, ◌++◌, map, replicate, refl}
+use Rattle.std.proofs.Common.{sym, ap, ◌∙◌, subst, arith, append_assoc, append-nil}
 use Rattle.std.specs.Prelude.{filter, ◌==◌, if◌then◌else◌}
 use Rattle.std.specs.List.{range_with_len}
 use Rattle.std.proofs.lemmas.Bool.{cases_Bool}
@@ -12,12 +12,12 @@ use Rattle.frame_core.specs.declared.frame.Kind.TheVariants.{Free, Retired}
 use Rattle.frame_core.specs.declared.ledger.Ledger.{Ledger}
 use Rattle.frame_core.specs.declared.ledger.Note.{Note}
 use Rattle.ksm_base.specs.declared.shape.Shape.{Shape}
-use Rattle.frame_core.specs.State.{count_in}
-use Rattle.frame_core.specs.Ledger.{frame_at, blank, with_frame, ledger_after}
+use Rattle.frame_core.specs.Ledger.{frame_at}
 use Rattle.frame_table.specs.Named.{KeeperView}
 use Rattle.frame_table.specs.Kept.{did}
 use Rattle.ksm_layout.specs.Steps.{Log, Did, Made, steps_of, stepped, dying_kind, dying_from, dying_on, puts}
 use Rattle.ksm_layout.proofs.Logs.{replayed_append}
+use Rattle.ksm_layout.proofs.Keeping.{reap_other}
 
 -- where the keeper stays as it is, no step was made
 pub made_none : (v w : KeeperView) → w ≡ v → Made v w []
@@ -35,7 +35,7 @@ made_one v w e found is = record { part = (e, found) ∷ []; after = is; are = r
 pub made_part : (v w : KeeperView) (nodes : List ℕ) (part : Log) → Did v w nodes part → Made v w (steps_of part)
 made_part v w nodes part d = record { part = part; after = λ i. record { table = d.table i; ledger = d.ledger i; log = d.log i }; are = refl }
 
--- one piece of work after another
+-- two pieces of work, one after the other, have made the steps of both
 pub made_then : (u v w : KeeperView) (xs ys : List KeeperStep) → Made u v xs → Made v w ys → Made u w (xs ++ ys)
 made_then u v w xs ys a b = record {
   part = a.part ++ b.part;
@@ -76,12 +76,6 @@ dying_more k low n = ap (filter (λ f. dying_kind (frame_at k f).kind)) (range_m
 abbrev reaped_note : Shape → Note → Note
 reaped_note sh n = record { kind = cond (n.generation == sh.last_generation) Retired Free; base = 0; generation = n.generation; content = n.content }
 
-other_reaped : (sh : Shape) (k : Ledger) (g f found : ℕ) → f ≢ g → frame_at (ledger_after sh k (Reap g) found) f ≡ frame_at k f
-other_reaped sh k g f found ne = elim (count_in found == 0) as (λ b. frame_at (cond b (with_frame k g (reaped_note sh (frame_at k g))) k) f ≡ frame_at k f) [
-  | true ↦ get_or-set_other k.frames g f (reaped_note sh (frame_at k g)) blank ne
-  | false ↦ refl
-]
-
 -- and reaped, if it is dying
 module _ (v w w' : KeeperView) (low n : ℕ) (so_far : Made v w (map Reap (dying_from v.ledger low n)))
     (later : (f : ℕ) → low + n ≤ f → frame_at w.ledger f ≡ frame_at v.ledger f) where
@@ -100,14 +94,16 @@ module _ (v w w' : KeeperView) (low n : ℕ) (so_far : Made v w (map Reap (dying
       pushed true = refl
       pushed false = refl
 
+  -- a dying frame is reaped: its step comes last, and the frames behind it are as they were
   pub reap_made : (found : ℕ) → dying_kind (frame_at w.ledger (low + n)).kind ≡ true → w' ≡ did w (Reap (low + n)) found
       → Made v w' (map Reap (dying_from v.ledger low (n + 1))) × ((f : ℕ) → low + (n + 1) ≤ f → frame_at w'.ledger f ≡ frame_at v.ledger f)
   reap_made found dies is = (
     subst (Made v w') (sym (more_of true (ap (λ (x : Note). dying_kind x.kind) (sym seen) ∙ dies)))
         (made_then v w w' _ _ so_far (made_one w w' (Reap (low + n)) found is)),
-    λ f ge. ap (λ (z : KeeperView). frame_at z.ledger f) is ∙ other_reaped w.table.shape w.ledger (low + n) f found (omega arith) ∙ later f (omega arith),
+    λ f ge. ap (λ (z : KeeperView). frame_at z.ledger f) is ∙ reap_other w.table.shape w.ledger (low + n) f found (omega arith) ∙ later f (omega arith),
   )
 
+  -- a frame that is not dying makes no step, and the frames behind it are as they were
   pub pass_made : dying_kind (frame_at w.ledger (low + n)).kind ≡ false → w' ≡ w
       → Made v w' (map Reap (dying_from v.ledger low (n + 1))) × ((f : ℕ) → low + (n + 1) ≤ f → frame_at w'.ledger f ≡ frame_at v.ledger f)
   pass_made lives is = (

@@ -40,6 +40,7 @@ module _ (v w : KeeperView) (f n : ℕ) (a : Added v w f n) (within : f < length
       let now = base_now in
       (subst (λ (t : _). f < frames_of t) (sym (ap (λ x. x.shape) a.does.1.table)) inside, (let one : 1 ≤ (frame_at w.ledger f).base = omega (arith, now, some) in one), (let most : (frame_at w.ledger f).base ≤ 1023 = omega (arith, now, few) in most))
 
+  -- one reference more was added
   pub added_one : (w' : KeeperView) (found : ℕ) → w' ≡ did w (Add f) found → Added v w' f (n + 1)
   added_one w' found is =
       let next : was.base + n + 1 ≡ was.base + (n + 1) = omega arith in
@@ -99,6 +100,7 @@ module _ (v v1 v2 v3 v4 v5 v6 : KeeperView) (f g place count found opened : ℕ)
   abbrev rest : Log
   rest = loads f 0 bytes ++ (puts g 0 bytes ++ (last ++ (adds.does.0 ++ (Publish place g, 0) ∷ [])))
 
+  -- the six steps together move the dup's place to the frame, with its bytes and references
   pub mounts : Mounted v v6 f g place count
   mounts = record {
     part = ((Raise g, found) ∷ []) ++ rest;
@@ -121,7 +123,7 @@ module _ (v v1 v2 v3 v4 v5 v6 : KeeperView) (f g place count found opened : ℕ)
     ledger = after_show;
   }
 
-  -- by these steps and no others
+  -- the keeper moved the place by these steps and no others
   pub mounts_made : Made v4 v5 (replicate (count - 1) (Add g)) → Made v v6 (mounting f g place count (frame_at k f).content)
   mounts_made added = subst (λ (bs : List ℕ). Made v v6 (mounting f g place count bs)) read
       (made_then v v1 v6 (Raise g ∷ []) _ (made_one v v1 (Raise g) found raises)

@@ -37,7 +37,7 @@ use Rattle.ksm_base.specs.Rows.{shared_state, zero_state, merged_into}
 use Rattle.ksm_layout.specs.Placement.{uses, in_hand, kind_for, FitsBase, IsServed, life_or, place_frame, place_life, IsInLife, RowFits, Agrees, DupFits, Placed}
 use Rattle.ksm_pages.specs.Listed.{frame_in, row_in, no_row, is_frame, instead, lodged}
 
--- one, where it is frame f
+-- 1 for this frame, 0 for another or none
 abbrev pub one_at : ℕ → Option ℕ → ℕ
 one_at f o = cond (is_frame f o) 1 0
 
@@ -203,6 +203,7 @@ module _ (sh : Shape) (across : ℕ) (k : Ledger) (rows : List Row) (frames : Li
   in_old_life : (d : DupRow) → DupFits sh across k d → (P : Note → Type 0) → (IsInLife k d.place → P (frame_at k (place_frame k d.place))) → IsInLife filled_next d.place → P (frame_at filled_next (place_frame k d.place))
   in_old_life d n P h = by_frame sh across k rows frames dups None p g inside fr (λ x. x.generation ≡ place_life k d.place → P x) (place_frame k d.place) (λ e l. absurd (over d n e l)) (λ _ l. h l)
 
+  -- rows and dups lie lawfully, with the new frame in the hand of the command
   pub filled : Placed sh across filled_next rows frames dups (Some g)
   filled = record {
     paired = p.paired;
@@ -340,6 +341,7 @@ module _ (sh : Shape) (across : ℕ) (k : Ledger) (rows : List Row) (frames : Li
   fits : Serves sh k dups (row_in rows i) g
   fits = subst (IsServed sh k dups (row_in rows i)) lies (p.each_row i lt)
 
+  -- rows and dups lie lawfully where a row that is not shared gets new bytes, and its frame holds them
   pub written_in : zero_state r.state ≡ false → kind_for r.state ≡ Private → ((n : ℕ) → merged_into n r.state ≡ false) → r.home ≡ (row_in rows i).home → r.bytes ≡ fr.content → shared_state (row_in rows i).state ≡ false → Placed sh across (with_frame k g fr) (set rows i r) frames dups None
   written_in mapped is alone home bytes was =
       let paired : length frames ≡ length rows = p.paired in
@@ -446,6 +448,7 @@ module _ (sh : Shape) (across : ℕ) (k : Ledger) (rows : List Row) (frames : Li
   abbrev pub shown_next : Ledger
   shown_next = record { frames = set k.frames g stable; places = set k.places d.place (Some (record { frame = g; generation = (frame_at k g).generation })) }
 
+  -- rows and dups lie lawfully where a place names the frame of a row, which becomes the first item of a new dup
   pub published : (r : Row) → zero_state r.state ≡ false → (frame_at k g).kind ≡ Private
       → merged_into d.number r.state ≡ true → ((n : ℕ) → merged_into n r.state ≡ true → n ≡ d.number) → kind_for r.state ≡ Stable → shared_state r.state ≡ true
       → r.bytes ≡ (row_in rows i).bytes → d.bytes ≡ r.bytes → (across ≡ 0 → (row_in rows i).home ≡ d.tree) → ((n : ℕ) → merged_into n (row_in rows i).state ≡ false) → shared_state (row_in rows i).state ≡ false

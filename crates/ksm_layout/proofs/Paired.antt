@@ -58,7 +58,7 @@ module _ (v w : Listed) (old row : Row) (f g : Option ℕ) (at : StandsAt v row.
     found = found;
   }
 
-  -- and any other row stands where it stood
+  -- any other row stands where it stood
   pub stands_still : (other : Row) (h : Option ℕ) → StandsAt v other.page other h → same_page row.page other.page ≡ false → row_at other.page w.rows ≡ Some other → StandsAt w other.page other h
   stands_still other h there apart found = record {
     inside = (let e = same_rank other.page in let n = same_length in let lt = there.inside in omega (arith, e, n, lt));
@@ -119,9 +119,11 @@ module _ (p : PagesView) (k : KeeperView) (h : IsLaid p.shape p.listed p.dups p.
   second_there : StandsAt v1 second.page second g
   second_there = stands_still p.listed v1 first item (Some f) (Some f) at both.first second g lone apart (ap (row_at second.page) both.first.changed ∙ joins.row_is)
 
+  -- rows and dups lie lawfully once the new dup has its first item
   pub first_lawful : IsLawful w2 None
   first_lawful = lawful p.shape p.knobs.merge_across_nodes w2 v1.rows v1.frames dups1 None laid_between.same laid_between.placed
 
+  -- the frame of the new dup has room for one reference more
   pub few_there : (frame_at w2.ledger f).base ≤ 1023
   few_there = item_base p.shape v1 dups1 p.knobs (p.next + 1) w2 laid_between second item g f second_there item_there joins.merged
       (subst (λ rows. (d : DupRow) × Contains dups1 d × (merged_into d.number item.state ≡ true) × (item_count rows d ≤ 1023)) (sym both.first.changed) joins.room)

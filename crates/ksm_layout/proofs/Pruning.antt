@@ -60,7 +60,7 @@ live_elsewhere rows place (d ∷ ds) vacant =
       ]
     ]
 
--- and one stale dup less
+-- without a stale dup there is one stale dup less
 pub fewer_stale : (rows : List Row) (dups : List DupRow) (d : DupRow) → find (is_stale rows) dups ≡ Some d → count_by (is_stale rows) (filter (elsewhere d.place) dups) + 1 ≤ count_by (is_stale rows) dups
 fewer_stale rows [] d found = absurd (grind (arith, found))
 fewer_stale rows (x ∷ xs) d found = elim (cases_Bool (is_stale rows x)) [

@@ -251,6 +251,7 @@ module _ (sh : Shape) (v : Listed) (dups : List DupRow) (knobs : Knobs) (next : 
   own : o.kind ≡ Private
   own = fits.kind ∙ own_kind row.state alone
 
+  -- rows and dups are laid lawfully once the row's frame is published at the place of the new dup
   pub laid_found : (v' : Listed) (dups' : List DupRow) (w1 w : KeeperView) → w1.table ≡ k.table → w1.ledger ≡ cleared → w ≡ did w1 (Publish d.place f) 0 → dups' ≡ with_dup d dups → d.bytes ≡ row.bytes → (knobs.merge_across_nodes ≡ 0 → row.home ≡ d.tree)
       → All (λ e. e.number < next) dups → All (λ r. merged_into next r.state ≡ false) v.rows → v'.rows ≡ set v.rows spot first → v'.frames ≡ set v.frames spot (Some f) → IsLaid sh v' dups' knobs (next + 1) w
   laid_found v' dups' w1 w table empty is dups_are bytes tree numbers fresh rows frames =

@@ -46,6 +46,7 @@ module _ (sh : Shape) (across : ℕ) (k : Ledger) (rows : List Row) (frames : Li
   staying : (P Q : DupRow → Type 0) → ((d : DupRow) → d.place ≢ q → P d → Q d) → All P dups → All Q (filter (elsewhere q) dups)
   staying P Q f h = λ n x lt. f (get_or (filter (elsewhere q) dups) n x) (elsewhere_is q (get_or (filter (elsewhere q) dups) n x) (filter_passes (elsewhere q) dups n x lt)) (All-filter (elsewhere q) P dups h n x lt)
 
+  -- rows and dups lie lawfully where the place names nothing and the dup that stood there is gone
   pub withdrawn : Placed sh across k rows frames dups hand → Placed sh across emptied rows frames (filter (elsewhere q) dups) hand
   withdrawn p = record {
     paired = p.paired;

@@ -33,7 +33,7 @@ pub record Lay : Type 0 where
 abbrev pub lay_of : PagesView → KeeperView → Lay
 lay_of p k = record { shape = p.shape; rows = p.listed.rows; frames = p.listed.frames; dups = p.dups; knobs = p.knobs; next = p.next; keeper = k }
 
--- its rows with their frames, and the keeper
+-- a layout's rows with their frames, and its keeper
 abbrev pub mapped_lay : Lay → Mapped
 mapped_lay lay = record { listed = record { rows = lay.rows; frames = lay.frames }; keeper = lay.keeper }
 
@@ -87,7 +87,7 @@ JoinsDup lay row number = MatchOption (find (λ r. merged_into number r.state) l
 abbrev pub new_dup : Lay → ℕ → Row → DupRow
 new_dup lay place row = dup_of_row lay.knobs lay.next place row
 
--- with that dup, and the row as its one item
+-- the layout with the new dup, and the row as its one item
 abbrev pub founded : Lay → ℕ → Row → Lay
 founded lay place row = record lay { rows = change_row row.page (λ _. record row { state = Merged lay.next }) lay.rows; dups = with_dup (new_dup lay place row) lay.dups; next = lay.next + 1 }
 

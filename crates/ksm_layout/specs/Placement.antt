@@ -24,7 +24,7 @@ node_of sh f = f / sh.frames_per_node
 abbrev pub uses : ℕ → List (Option ℕ) → ℕ
 uses f frames = count_by (is_frame f) frames
 
--- one, if the frame in the command's hand is f
+-- 1 where frame f is in the command's hand, else 0
 abbrev pub in_hand : ℕ → Option ℕ → ℕ
 in_hand f hand = cond (is_frame f hand) 1 0
 

@@ -17,7 +17,8 @@ use ksm_base::{Fault, Shape};
 use std::alloc::Global;
 use std::marker::Model;
 
-/// The keeper of the frames, with the sets of those that are free and of those that are dying. Contracts see the keeper.
+/// The keeper of the frames, with the sets of those that are free and of those that are dying. Contracts see the
+/// keeper.
 ///
 /// It must be spent, by taking the keeper out.
 pub struct FrameKeeper {
@@ -74,7 +75,8 @@ fn sort(free: &mut FrameSet, dying: &mut FrameSet, frame: u32, kind: Kind)
 }
 
 impl FrameKeeper {
-    /// With a keeper that has made no step. Refused for memory alone, it gives the keeper back.
+    /// Begins with a keeper that has made no step: all frames are free, none is dying. Refused for memory alone, it
+    /// gives the keeper back.
     pub fn new(alloc: Global, keeper: Keeper, shape: Shape) -> Result<FrameKeeper, (Keeper, Fault)>
         requires checked { IsShape shape }
         requires same { keeper.table.shape ≡ shape }
@@ -92,7 +94,7 @@ impl FrameKeeper {
         }
     }
 
-    /// The keeper, as it is.
+    /// Gives the keeper back, as it is.
     pub fn close(self) -> Keeper
         ensures { result ≡ self }
     {
@@ -130,7 +132,7 @@ impl FrameKeeper {
         self.keeper.base(frame)
     }
 
-    // The calls that follow are the keeper's own.
+    // The calls that follow hand a step to the keeper, and mark the frame in both sets by the kind that it has then.
 
     pub fn add(&mut self, table: &FrameTable, frame: u32)
         requires own { self.old.table ≡ table.now }

@@ -41,7 +41,7 @@ impl FrameSet {
         Ok(FrameSet { words })
     }
 
-    /// The frame, for which there is room, is in the set then if `marked` says so, and else is not.
+    /// Puts a frame into the set if `marked`, and else takes it out. There is room for its bit.
     pub fn mark(&mut self, frame: u32, marked: bool)
         requires { frame < 64 * length self.old }
         ensures { Marks self.old self.new frame marked }

@@ -14,7 +14,7 @@ use crate::frame_keeper::FrameKeeper;
 use frame_table::FrameTable;
 use ksm_base::{PAGE_WORDS, PageBytes, Shape};
 
-// A hint alone, as at `take_frame`.
+// Inlined for speed, as `take_frame` is.
 
 /// Reaps each dying one of `count` frames, ascending.
 #[inline(always)]
@@ -78,9 +78,11 @@ pub fn load(keeper: &mut FrameKeeper, table: &FrameTable, frame: u32) -> PageByt
     bytes
 }
 
-// One of the hints of inlining that together took small merges from 95.0 to 89.4 million instructions.
+// Inlined for speed. This hint and the others of this crate together took small merges from 95.0 to 89.4 million
+// instructions.
 
-/// A frame of the node with these bytes, in the hand of the caller, if one is free once the dying ones were reaped.
+/// Reaps the dying frames of a node, and fills its lowest free one with these bytes: the caller has it in hand. None
+/// where no frame is free.
 #[inline(always)]
 pub fn take_frame(
     keeper: &mut FrameKeeper,
@@ -127,7 +129,7 @@ pub fn release(keeper: &mut FrameKeeper, table: &FrameTable, frame: u32)
     keeper.sub(table, frame);
 }
 
-/// The number of a frame that is there.
+/// The number of a frame that is known to be there.
 pub fn known_frame(frame: Option<u32>) -> u32
     requires { is_some frame ≡ true }
     ensures { frame ≡ Some result }

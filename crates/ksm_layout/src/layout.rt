@@ -26,7 +26,7 @@ use crate::frame_keeper::FrameKeeper;
 use crate::frames::{clear, known_frame, load, release_if, share, take_frame, write};
 use frame_table::{FrameTable, Keeper};
 use ksm_base::{Counters, DupRow, Fault, GuestPage, Knobs, PageBytes, Row, Shape};
-use ksm_pages::{Held, Pages, Rows};
+use ksm_pages::{FramedRow, Pages, Rows};
 use std::alloc::Global;
 use std::marker::Model;
 
@@ -47,7 +47,8 @@ impl Model for Layout {
 }
 
 impl Layout {
-    /// No rows and no dups, in the frames of a keeper that has made no step. Refused for memory alone, it gives the keeper back.
+    /// No rows and no dups, in the frames of a keeper that has made no step. Refused for memory alone, it gives the
+    /// keeper back.
     pub fn open(alloc: Global, keeper: Keeper, shape: Shape) -> Result<Layout, (Keeper, Fault)>
         requires shape { IsShape shape }
         requires same { keeper.table.shape ≡ shape }
@@ -64,7 +65,7 @@ impl Layout {
         }
     }
 
-    /// The keeper, as it is.
+    /// Gives the keeper back, as it is.
     pub fn close(self) -> Keeper
         ensures { result ≡ self.keeper }
     {
@@ -124,7 +125,8 @@ impl Layout {
         self.pages.live_at(place)
     }
 
-    /// The pages merged into the dup at a place, ascending; none where no dup with items stands there. Refused for memory alone.
+    /// The pages merged into the dup at a place, ascending; none where no dup with items stands there. Refused for
+    /// memory alone.
     pub fn mappers(&self, alloc: Global, place: u32) -> Result<Option<Vec<GuestPage>>, Fault>
         ensures mappers { IfOk result (λ pages. option_map (λ v. v.items) pages ≡ option_map (items_of self.now.rows) (find (λ d. d.place == place && has_items self.now.rows d) self.now.dups)) }
         ensures fault { IfErr result (λ fault. fault ≡ Memory) }
@@ -170,10 +172,10 @@ impl Layout {
     }
 
     /// The row of a page, with its frame.
-    pub fn find(&self, page: GuestPage) -> Option<Held>
+    pub fn framed_row(&self, page: GuestPage) -> Option<FramedRow>
         ensures { MatchOption result (row_at page self.now.rows ≡ None) (λ held. StandsAt (mapped_lay self.now).listed page held.row held.frame) }
     {
-        self.pages.find(page)
+        self.pages.framed_row(page)
     }
 
     /// The bytes of a page, loaded from the words of its frame; a Zero page has none, and no step is made.
@@ -184,7 +186,7 @@ impl Layout {
         ensures state { self.new ≡ record self.old { keeper = self.new.keeper } }
         ensures loads { LoadsIf (frame_of (mapped_lay self.old).listed page) result self.old.keeper self.new.keeper }
     {
-        let Some(held) = self.pages.find(page) else {
+        let Some(held) = self.pages.framed_row(page) else {
             return None;
         };
         let Some(frame) = held.frame else {
@@ -194,7 +196,8 @@ impl Layout {
         Some(bytes)
     }
 
-    /// Adds the row of a page that has none, on a frame of the row's home. Says whether there was one. Refused for memory alone.
+    /// Adds the row of a page that has none, on a frame of the row's home. Says whether there was one. Refused for
+    /// memory alone.
     pub fn admit(&mut self, table: &FrameTable, row: Row) -> Result<bool, Fault>
         requires own { self.old.keeper.table ≡ table.now }
         requires absent { row_at row.page self.old.rows ≡ None }
@@ -216,7 +219,8 @@ impl Layout {
         Ok(true)
     }
 
-    /// A page gets another row, on a frame of this row's home with its bytes, and leaves the frame that it had, if it had one. Says whether there was one.
+    /// A page gets another row, on a frame of this row's home with its bytes, and leaves the frame that it had, if it
+    /// had one. Says whether there was one.
     pub fn resettle(&mut self, table: &FrameTable, old: &Row, row: &Row) -> bool
         requires own { self.old.keeper.table ≡ table.now }
         requires known { row_at row.now.page self.old.rows ≡ Some old.now }
@@ -247,22 +251,22 @@ impl Layout {
         ensures does { Does self.old.keeper self.new.keeper [] }
         ensures performs { Performs (mapped_lay self.old) (mapped_lay self.new) (rewriting (mapped_lay self.old).listed row.now) }
     {
-        let frame = known_frame(self.pages.revise(old, row));
+        let frame = known_frame(self.pages.set_row(old, row));
         write(&mut self.keeper, table, frame, row.bytes);
     }
 
     /// Puts a row of its own in the stead of the row that its page has, on the same frame.
-    pub fn amend(&mut self, old: &Row, row: &Row)
+    pub fn set_row(&mut self, old: &Row, row: &Row)
         requires known { row_at row.now.page self.old.rows ≡ Some old.now }
         requires lodges { LodgesAs row.now old.now }
         requires alone { row.now.state ≡ Private }
         ensures { self.new ≡ record self.old { rows = change_row row.now.page (λ _. row.now) self.old.rows } }
     {
-        self.pages.revise(old, row);
+        self.pages.set_row(old, row);
     }
 
-    /// The page that waits for another; where there is none, the row waits from now on. Refused for memory alone, where there is none, it
-    /// changes nothing.
+    /// The page that waits for another; where there is none, the row waits from now on. Refused for memory alone, where
+    /// there is none, it changes nothing.
     pub fn meet(&mut self, row: &Row) -> Result<Option<GuestPage>, Fault>
         requires row_is { row_at row.now.page self.old.rows ≡ Some row.now }
         requires alone { shared_state row.now.state ≡ false }
@@ -328,7 +332,8 @@ impl Layout {
         self.pages.unshare_all();
     }
 
-    /// The pages of a guest that come before a row, or all of them, become Private, and neither mergeable nor unchanged, where none of them is merged or Zero.
+    /// The pages of a guest that come before a row, or all of them, become Private, and neither mergeable nor
+    /// unchanged, where none of them is merged or Zero.
     pub fn let_go(&mut self, guest: u16, stop: Option<Row>)
         requires { All (λ r. (is_of guest r && is_before stop r) ≡ true → shared_state r.state ≡ false) self.old.rows }
         ensures { self.new ≡ record self.old { rows = change_rows (λ r. is_of guest r && is_before stop r) let_go self.old.rows } }
@@ -345,7 +350,8 @@ impl Layout {
         self.pages.set_knobs(knobs);
     }
 
-    /// The page of a row with a frame of its own joins the dup with a number, and leaves its frame. Refused for memory alone.
+    /// The page of a row with a frame of its own joins the dup with a number, and leaves its frame. Refused for memory
+    /// alone.
     pub fn join(&mut self, table: &FrameTable, row: &Row, number: u64) -> Result<(), Fault>
         requires own { self.old.keeper.table ≡ table.now }
         requires joins { JoinsDup self.old row.now number }
@@ -363,7 +369,8 @@ impl Layout {
         Ok(())
     }
 
-    /// Two pages with frames of their own become the items of a new dup at a place, on the frame of the first; the second leaves its frame. A stale dup at the place goes first. Refused for memory alone.
+    /// Two pages with frames of their own become the items of a new dup at a place, on the frame of the first; the
+    /// second leaves its frame. A stale dup at the place goes first. Refused for memory alone.
     pub fn pair(
         &mut self,
         table: &FrameTable,

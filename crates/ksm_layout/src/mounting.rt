@@ -36,7 +36,7 @@ pub fn seek(keeper: &mut FrameKeeper, table: &FrameTable, shape: Shape, node: u3
     lowest_free(keeper, shape, node)
 }
 
-/// So many references more on a frame that has one.
+/// Adds so many references to a frame that has one.
 fn add_times(keeper: &mut FrameKeeper, table: &FrameTable, frame: u32, count: u64)
     requires own { keeper.old.table ≡ table.now }
     requires inside { frame < frames_of keeper.old.table.shape }

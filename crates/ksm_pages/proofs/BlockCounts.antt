@@ -115,7 +115,7 @@ never_none k p row bs old is none same has =
     let one = has.rows in
     omega (arith, zero', one)
 
--- one row came, went, or stands in the stead of another
+-- a block that counts a row more is shifted by it
 pub shift_more : (k : GuestPage) (r : Row) (old new : Block) → first_of r.page ≡ k → HasOneMore r old new → IsShift None (Some r) k old new
 shift_more k r old new of more =
     let a : one_if (in_block k r) ≡ 1 = ap one_if (is_in k r of) in
@@ -132,6 +132,7 @@ shift_less k r old new of more =
     let s = shift_more k r new old of more in
     record { rows = (let m = s.rows in omega (arith, m)); mergeable = (let m = s.mergeable in omega (arith, m)); restless = (let m = s.restless in omega (arith, m)) }
 
+-- a block that loses one row and then counts another of its own is shifted by both
 pub shift_both : (k : GuestPage) (o r : Row) (old between new : Block) → first_of o.page ≡ k → first_of r.page ≡ k → HasOneMore o between old → HasOneMore r between new
     → IsShift (Some o) (Some r) k old new
 shift_both k o r old between new of of' from to =
@@ -156,6 +157,7 @@ same_shift o r bs page mergeable calm = λ s.
 
 -- ---------------------------------------------------------------- the rows of all blocks
 
+-- where each count of the rows moves by one row less and one more, so do the counts of the blocks
 pub counted_shift : (rows rows' : List Row) (bs bs' : Counted) (less more : Option Row) → ((p : Row → Bool) → count_by p rows' + one_of p less ≡ count_by p rows + one_of p more)
     → AreCounted rows bs → AreShifted less more bs bs' → AreCounted rows' bs'
 counted_shift rows rows' bs bs' less more moved are shifted = λ s.
@@ -167,11 +169,13 @@ counted_shift rows rows' bs bs' less more moved are shifted = λ s.
       restless = (let x = moved (λ r. in_block s r && restless r) in let y = a.restless in let z = h.restless in omega (arith, x, y, z));
     }
 
+-- the blocks count the rows after a row was inserted and counted
 pub blocks_put : (rows : List Row) (i : ℕ) (row : Row) (bs bs' : Counted) → i ≤ length rows → AreCounted rows bs → AreShifted None (Some row) bs bs'
     → AreCounted (insert rows i row) bs'
 blocks_put rows i row bs bs' le are shifted =
     counted_shift rows (insert rows i row) bs bs' None (Some row) (λ p. (let h = put_counted p rows i row le in omega (arith, h))) are shifted
 
+-- the blocks count the rows after a row was removed and taken out of the counts
 pub blocks_taken : (rows : List Row) (i : ℕ) (d row : Row) (bs bs' : Counted) → i < length rows → get_or rows i d ≡ row → AreCounted rows bs
     → AreShifted (Some row) None bs bs' → AreCounted (remove rows i) bs'
 blocks_taken rows i d row bs bs' lt is are shifted =
@@ -179,6 +183,7 @@ blocks_taken rows i d row bs bs' lt is are shifted =
     (λ p. (let h : count_by p (remove rows i) + one_if (p row) ≡ count_by p rows = ap (λ r. count_by p (remove rows i) + one_if (p r)) (sym is) ∙ taken_counted p rows i d lt in omega (arith, h)))
     are shifted
 
+-- the blocks count the rows after a row took another's place, in the list and in the counts
 pub blocks_set : (rows : List Row) (i : ℕ) (d old row : Row) (bs bs' : Counted) → i < length rows → get_or rows i d ≡ old → AreCounted rows bs
     → AreShifted (Some old) (Some row) bs bs' → AreCounted (set rows i row) bs'
 blocks_set rows i d old row bs bs' lt is are shifted =
@@ -217,6 +222,7 @@ calm_settled Waiting = refl
 calm_settled (Merged number) = refl
 calm_settled Zero = refl
 
+-- the same blocks count the rows once no row waits: one that waits counts as a Private one
 pub blocks_settled : (rows : List Row) (bs : Counted) → AreCounted rows bs → AreCounted (map settled rows) bs
 blocks_settled rows bs are = λ s.
     let a = are s in
@@ -238,6 +244,7 @@ unshared_at bs s = ap (λ (x : Option Block). unwrap_or x no_block) (lookup-map_
     go None = refl
     go (Some b) = refl
 
+-- once every row is Private, each block counts all its mergeable rows as restless
 pub blocks_unshared : (rows : List Row) (bs : Counted) → AreCounted rows bs → AreCounted (map unshared rows) (map (λ e. (e.0, unshared_block e.1)) bs)
 blocks_unshared rows bs are = λ s.
     let a = are s in
@@ -250,6 +257,7 @@ blocks_unshared rows bs are = λ s.
 
 -- ---------------------------------------------------------------- a row that came and went, and the row of a page
 
+-- after a row was counted its block counts it
 pub shifted_has : (row : Row) (old new : Counted) → AreShifted None (Some row) old new → HasRow row (block_at new (first_of row.page))
 shifted_has row old new shifted =
     let k = first_of row.page in
@@ -264,6 +272,7 @@ shifted_has row old new shifted =
       restless = (let x = h.restless in omega (arith, three, x));
     }
 
+-- where a row was counted and taken out again, the blocks count the rows that they did before
 pub blocks_back : (rows : List Row) (row : Row) (a b d : Counted) → AreCounted rows a → AreShifted None (Some row) a b → AreShifted (Some row) None b d → AreCounted rows d
 blocks_back rows row a b d are to back = λ s.
     let x = are s in
@@ -283,13 +292,16 @@ module _ (es : List (GuestPage × Entry)) (l : Listed) (page : GuestPage) (v : E
   seen : AreCounted l.rows bs
   seen = subst (λ (x : Listed). AreCounted x.rows bs) is are
 
+  -- the row of the page is counted in its block
   pub page_in_block : HasRow row (block_at bs (first_of row.page))
   page_in_block = block_counts l.rows (rank page l.rows) no_row row bs stands.inside stands.row_is seen
 
+  -- the blocks count the rows once another row stands for the page
   pub block_replaced : (new : Row) (bs' : Counted) (rows : List Row) → rows ≡ set l.rows (rank page l.rows) new → AreShifted (Some row) (Some new) bs bs' → AreCounted rows bs'
   block_replaced new bs' rows made shifted =
       subst (λ x. AreCounted x bs') (sym made) (blocks_set l.rows (rank page l.rows) no_row row new bs bs' stands.inside stands.row_is seen shifted)
 
+  -- the blocks count the rows once the page has none
   pub block_gone : (bs' : Counted) (rows : List Row) → rows ≡ remove l.rows (rank page l.rows) → AreShifted (Some row) None bs bs' → AreCounted rows bs'
   block_gone bs' rows made shifted =
       subst (λ x. AreCounted x bs') (sym made) (blocks_taken l.rows (rank page l.rows) no_row row bs bs' stands.inside stands.row_is seen shifted)

@@ -22,6 +22,7 @@ pub record HasWalked (n : ℕ) (bs rest : Counted) (passed : Option Passed) (vis
   pub most : visits ≤ n
   pub last : IsLast walked passed
 
+-- a walk begins with no block behind it and no visit
 pub walk_begins : (n : ℕ) (bs rest : Counted) → rest ≡ bs → HasWalked n bs rest None 0
 walk_begins n bs rest is = record { walked = []; parts = sym is; still = tt; sum = refl; most = omega arith; last = tt }
 
@@ -37,6 +38,7 @@ at_end : (front : Counted) (e : GuestPage × Block) → AllByRecursion IsStill (
 at_end [] e all = all.0
 at_end (b ∷ front) e all = at_end front e all.1
 
+-- a walk steps over a block without a restless row, if its visits are within the limit
 pub walk_steps : (n : ℕ) (bs its rest : Counted) (page : GuestPage) (b : Block) (passed : Option Passed) (visits : ℕ) → HasWalked n bs its passed visits
     → its ≡ (page, b) ∷ rest → b.restless ≡ 0 → 1 ≤ b.mergeable → visits + b.mergeable ≤ n
     → HasWalked n bs rest (Some (record { visits = visits; last = page })) (visits + b.mergeable)
@@ -49,6 +51,7 @@ walk_steps n bs its rest page b passed visits so_far steps calm some most = reco
   last = (so_far.walked, b, refl, so_far.sum);
 }
 
+-- what a walk gives at its end goes over whole blocks, up to the last one that it names
 pub walk_gives : (n : ℕ) (bs rest : Counted) (passed : Option Passed) (visits : ℕ) → HasWalked n bs rest passed visits
     → MatchOption passed ⊤ (λ p. GoesOver n bs p.visits p.last)
 walk_gives n bs rest None visits so_far = tt

@@ -123,6 +123,7 @@ behind (f ∷ front) e rest sorted =
     met [] after = before_is f.0 e.0 after.0
     met (g ∷ front) after = met front after.1
 
+-- the entries after the page of an entry are those that stand behind it
 pub walk_after : (es front : Entries) (e : GuestPage × Entry) (rest : Entries) → Sorted es → es ≡ front ++ e ∷ rest
     → entries_between page_order (start_after (Some e.0)) Unbounded es ≡ rest
 walk_after es front e rest sorted is =
@@ -173,6 +174,7 @@ module _ (seen : Option GuestPage) (e : GuestPage × Entry) (walk : Entries) (la
           let here : comes_before x.0 (first_of e.0) ≡ false = ap (λ (y : GuestPage × Entry). comes_before y.0 (first_of e.0)) first ∙ not_before_block e.0 in
           all_kept onward (x ∷ es) (ap not here, all_onward x.0 es head here) ∙ whole
 
+  -- the entries after a page, of which the first is in a later block, are the entries from that block on
   pub walk_from : (es : Entries) → Sorted es → entries_between page_order (start_after seen) Unbounded es ≡ e ∷ walk
       → entries_between page_order (Included (first_of e.0)) Unbounded es ≡ e ∷ walk
   walk_from es sorted is = between_is (first_of e.0) es ∙ same_rest es sorted ((λ t. filter (λ (x : GuestPage × Entry). sym (in_range seen x.0) t) es) ∙ is)
@@ -564,6 +566,7 @@ from_later s first late (e ∷ es) = by (comes_before e.0 s) refl (comes_before 
     by true is true at rest = rest
     by true is false at rest = absurd (grind (arith, nat_tests, late, is, at))
 
+-- blocks that are gone over have so many visits in their entries, and one more visit is the first in the last block
 pub passes : (n : ℕ) (q : GuestPage) (es : Entries) (bs : Counted) (visits : ℕ) (first last : GuestPage) → Sorted es → Rising bs → AreCounted (rows_of es) bs
     → GoesOver n (entries_between page_order (Included (first_of q)) Unbounded bs) visits first
     → Some last ≡ page_of (find (λ (r : Row). r.mergeable) (rows_of (entries_between page_order (Included first) Unbounded es)))

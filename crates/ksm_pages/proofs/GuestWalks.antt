@@ -33,7 +33,7 @@ module _ (guest : ℕ) (t : Row → Bool) (cursor : Option GuestPage) where
   abbrev pub met : Row → Bool
   met r = (is_of guest r && t r) && after_cursor cursor r.page
 
-  -- one that the walk from the guest on stops at
+  -- a row at which the walk from the guest on stops
   abbrev pub stops : Row → Bool
   stops r = (nat_lt guest r.page.guest || t r) && (after_cursor cursor r.page && nat_le guest r.page.guest)
 
@@ -43,6 +43,7 @@ module _ (guest : ℕ) (t : Row → Bool) (cursor : Option GuestPage) where
       ap (λ (b : Bool). cond ((b && t (row_of e)) && after_cursor cursor e.0) (Some (row_of e)) (find met (rows_of es))) (greater guest k e.0 more (before_is k e.0 after.0))
       ∙ none_met k es more after.1
 
+  -- what stops the walk, if it is of this guest, is the first row of the guest that passes the test
   pub first_met : (es : Entries) → Sorted es → up_to guest (find stops (rows_of es)) ≡ find met (rows_of es)
   first_met [] sorted = refl
   first_met (e ∷ es) sorted = by_order (first_met es (sorted_tail order e.0 (keys_of es) sorted))
@@ -122,7 +123,7 @@ module _ (guest : ℕ) (stop : Option Row) where
   abbrev pub left : Option GuestPage → Row → Bool
   left cursor r = (is_of guest r && is_before stop r) && after_cursor cursor r.page
 
-  -- one that does not
+  -- a row of the guest before the stop that does not come after the cursor
   abbrev pub done : Option GuestPage → Row → Bool
   done cursor r = (is_of guest r && is_before stop r) && not (after_cursor cursor r.page)
 
@@ -219,6 +220,7 @@ module _ (guest : ℕ) (stop : Option Row) (change : Row → Row) (keeps : (r : 
       by true false = refl
       by false a = refl
 
+  -- the next row to change, found once the rows before it have changed, is the one that was there at the start
   pub seen_before : (cursor : Option GuestPage) (rows now : List Row) (o : Option Row) → now ≡ changed_to guest stop change cursor rows
       → o ≡ find (left guest stop cursor) now → find (left guest stop cursor) rows ≡ o
   seen_before cursor rows now o made found = sym (found ∙ ap (find (left guest stop cursor)) made ∙ still_left cursor rows)

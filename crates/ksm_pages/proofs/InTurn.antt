@@ -33,6 +33,7 @@ module _ (change : GuestPage → Entry → Entry) where
   none_left (suc n) [] none = refl
   none_left (suc n) (e ∷ es) none = ap (λ rest. (e.0, change e.0 e.1) ∷ rest) (none_left n es none)
 
+  -- once as many entries have changed as there are, each has
   pub all_have_changed : (n : ℕ) (es : Entries) → length es ≤ n → changed_first n es ≡ map (λ e. (e.0, change e.0 e.1)) es
   all_have_changed zero [] all = refl
   all_have_changed (suc n) [] all = refl

@@ -51,6 +51,7 @@ abbrev pub Keeps : (Row → Row) → Row → Type 0
 Keeps f r = ((f r).page ≡ r.page) × ((number : ℕ) → merged_into number (f r).state ≡ merged_into number r.state)
 
 module _ (shape : Shape) (rows : List Row) (dups : DupsState) (linked : AreLinked shape rows dups) where
+  -- rows and dups stay linked where a row goes and its page leaves its dup
   pub linked_dropped : (page : GuestPage) (old : Row) → row_at page rows ≡ Some old → AreLinked shape (without_page page rows) (record dups { dups = let_out old.state page dups.dups })
   linked_dropped page old found = record {
     small = linked.small;
@@ -59,6 +60,7 @@ module _ (shape : Shape) (rows : List Row) (dups : DupsState) (linked : AreLinke
     places = linked.places;
   }
 
+  -- rows and dups stay linked where a row becomes one that is not merged and its page leaves its dup
   pub linked_left : (old row : Row) → row_at row.page rows ≡ Some old → merged_state row.state ≡ false → AreLinked shape (change_row row.page (λ _. row) rows) (record dups { dups = let_out old.state row.page dups.dups })
   linked_left old row found alone = record {
     small = linked.small;
@@ -67,6 +69,7 @@ module _ (shape : Shape) (rows : List Row) (dups : DupsState) (linked : AreLinke
     places = linked.places;
   }
 
+  -- rows and dups stay linked where a row that was not merged becomes an item of a dup
   pub linked_joined : (old row : Row) (number : ℕ) → row_at row.page rows ≡ Some old → merged_state old.state ≡ false → row.state ≡ Merged number → AreLinked shape (change_row row.page (λ _. row) rows) (record dups { dups = change_items number (with_item row.page) dups.dups })
   linked_joined old row number found alone is = record {
     small = linked.small;
@@ -75,6 +78,7 @@ module _ (shape : Shape) (rows : List Row) (dups : DupsState) (linked : AreLinke
     places = linked.places;
   }
 
+  -- rows and dups stay linked where a row comes that is not merged
   pub linked_inserted : (row : Row) → row_at row.page rows ≡ None → merged_state row.state ≡ false → AreLinked shape (with_row row rows) dups
   linked_inserted row absent alone = record {
     small = linked.small;
@@ -91,6 +95,7 @@ module _ (shape : Shape) (rows : List Row) (dups : DupsState) (linked : AreLinke
     places = linked.places;
   }
 
+  -- rows and dups stay linked where the stale dup at a place goes
   pub linked_pruned : (place : ℕ) → AreLinked shape rows (record dups { dups = without_place place dups.dups })
   linked_pruned place = record {
     small = linked.small;
@@ -99,6 +104,7 @@ module _ (shape : Shape) (rows : List Row) (dups : DupsState) (linked : AreLinke
     places = linked.places;
   }
 
+  -- rows and dups stay linked where two rows that were not merged become the items of a new dup
   pub linked_made : (first second : Row) (row : DupRow) → AreDups dups → row_at first.page rows ≡ Some first → row_at second.page rows ≡ Some second
       → merged_state first.state ≡ false → merged_state second.state ≡ false → All (λ r. merged_into row.number r.state ≡ false) rows → row.number ≡ dups.next
       → AreLinked shape (change_row second.page (λ _. record second { state = Merged row.number }) (change_row first.page (λ _. record first { state = Merged row.number }) rows))
@@ -173,9 +179,11 @@ changed_page : (test : Row → Bool) (f : Row → Row) → ((r : Row) → (f r).
 changed_page test f same r = cond_both (test r) (f r) r (λ s. s.page ≡ r.page) (λ _. same r) (λ _. refl)
 
 module _ (shape : Shape) (rows : List Row) (dups : DupsState) (linked : AreLinked shape rows dups) where
+  -- rows and dups stay linked once no row waits
   pub linked_settled : AreLinked shape (map settled rows) dups
   linked_settled = linked_mapped shape rows dups linked settled (λ r. refl) (λ k d lt. (refl, λ number. settled_same number (get_or rows k d).state))
 
+  -- rows and dups stay linked once every row is Private, where none was merged
   pub linked_unshared : All (λ r. merged_state r.state ≡ false) rows → AreLinked shape (map unshared rows) dups
   linked_unshared alone = linked_mapped shape rows dups linked unshared (λ r. refl) (λ k d lt. (refl, λ number. alone_same number (get_or rows k d).state (alone k d lt)))
 
@@ -222,6 +230,7 @@ number_of_row (Some d) = refl
 
 -- the number of the dup that a row joins
 module _ (knobs : Knobs) (rows : List Row) (s : DupsState) (row : Row) (tied : AreTied rows s.dups) where
+  -- the best dup with items has the number of the dup that the book's definition chooses
   pub best_number : option_map (λ d. d.row.number) (best_of (tree_of knobs row) row.bytes knobs.max_page_sharing s.dups) ≡ option_map (λ d. d.number) (best_dup knobs rows (rows_of s.dups) row)
   best_number = number_of_row (best_of (tree_of knobs row) row.bytes knobs.max_page_sharing s.dups) ∙ ap (option_map (λ (d : DupRow). d.number)) (best_found rows knobs row s.dups (tied_counted rows s.dups tied))
 

@@ -60,6 +60,7 @@ from_here start es = entries_between page_order start Unbounded es
 
 -- ---------------------------------------------------------------- pages
 
+-- the order of pages is total
 pub total : IsTotalOrder page_order
 total = total-law
 
@@ -156,7 +157,7 @@ found_by found order is q =
 pub entry_is : (found : Entries) (i : ℕ) (v : Entry) → slice_get (values_of found) i ≡ Some v → entry_at found i ≡ v
 entry_is found i v read = get_or_from_slice_get (values_of found) i v of_none read
 
--- there is one to be read at the first index
+-- the first index of the order is that of an entry
 pub first_within : (found : Entries) (order rest : Indices) (e : GuestPage × ℕ) → AreWithin found order → order ≡ e ∷ rest → e.1 < length found
 first_within found order rest e are steps = All-head (λ (x : GuestPage × ℕ). x.1 < length found) e rest (subst (AreWithin found) steps are)
 

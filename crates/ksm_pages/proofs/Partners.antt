@@ -30,11 +30,11 @@ module _ (knobs : Knobs) (rows : List Row) (w : List WaitingPage) (row : Row) (r
   pub partner_nothing : waiting_page (tree_of knobs row) row.bytes w ≡ None → partner knobs rows row ≡ None
   partner_nothing is = looked_up None is
 
-  -- its own page waits
+  -- where its own page is the one that waits, a row has no partner
   pub partner_own : (page : GuestPage) → waiting_page (tree_of knobs row) row.bytes w ≡ Some page → same_page page row.page ≡ true → partner knobs rows row ≡ None
   partner_own page is same = looked_up (Some page) is ∙ ap (λ b. cond b None (row_at page rows)) same
 
-  -- another page waits
+  -- where another page waits, its row is the partner
   pub partner_other : (page : GuestPage) → waiting_page (tree_of knobs row) row.bytes w ≡ Some page → same_page page row.page ≡ false → partner knobs rows row ≡ row_at page rows
   partner_other page is other = looked_up (Some page) is ∙ ap (λ b. cond b None (row_at page rows)) other
 

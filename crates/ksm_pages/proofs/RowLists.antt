@@ -16,7 +16,7 @@ use Rattle.ksm_base.specs.declared.row.Row.{Row}
 use Rattle.ksm_base.specs.Rows.{comes_before, same_page, row_at, with_row, without_page, change_row}
 use Rattle.ksm_base.specs.contracts.page.GuestPageOrd.TheImpl as page_ord
 use Rattle.ksm_pages.specs.Kept.{Entry}
-use Rattle.ksm_pages.specs.declared.rows.Held.{Held}
+use Rattle.ksm_pages.specs.declared.rows.FramedRow.{FramedRow}
 use Rattle.ksm_pages.specs.Listed.{frame_in, row_in, Listed, rank, StandsAt}
 pub use Rattle.ksm_pages.specs.Paged.{Entries, Sorted, asks}
 use Rattle.ksm_pages.specs.RowEntries.{row_of, frame_of, entry_of, listed}
@@ -45,6 +45,7 @@ greater_is p q = grind (arith, nat_tests)
 pub before_is : (k q : GuestPage) → order k q ≡ Less → comes_before k q ≡ true
 before_is k q less = sym (less_is k q) ∙ ap is_lt less
 
+-- a page that comes before another is less
 pub less_so : (k q : GuestPage) → comes_before k q ≡ true → order k q ≡ Less
 less_so k q before = go (order k q) refl
   where
@@ -110,7 +111,7 @@ rank_first : (k : GuestPage) (e : GuestPage × Entry) (es : Entries) → comes_b
 rank_first k e es no' after =
     ap (λ (b : Bool). length (cond b (row_of e ∷ filter (λ r. comes_before r.page k) (rows_of es)) (filter (λ r. comes_before r.page k) (rows_of es)))) no' ∙ ap length (none_before k es after)
 
--- by the order of the page and the first entry's
+-- three cases: the page comes before the first entry, has it, or comes after it
 pub beside : (X : Type 0) (k : GuestPage) (e : GuestPage × Entry) (es : Entries) → Sorted (e ∷ es)
     → (order k e.0 ≡ Less → After k (e ∷ es) → X) → (order k e.0 ≡ Equal → Hits k e es → X) → (order k e.0 ≡ Greater → Passes k e es → X) → X
 beside X k e es sorted below here above = go (order k e.0) refl
@@ -196,7 +197,7 @@ entry_found es l k row is sorted known = by (lookup (asks k) es) refl
     by (Some v) found = (v, found, same_Some row (row_of (k, v)) (sym there ∙ (stands_at k v es sorted found).found))
 
 -- what stood at a page is its row, on the frame that is listed there
-pub stood_there : (v : Listed) (k : GuestPage) (row : Row) (o : Option Held) → MatchOption o ⊥ (λ held. StandsAt v k held.row held.frame) → row_at k v.rows ≡ Some row → StandsAt v k row (frame_in v.frames (rank k v.rows))
+pub stood_there : (v : Listed) (k : GuestPage) (row : Row) (o : Option FramedRow) → MatchOption o ⊥ (λ held. StandsAt v k held.row held.frame) → row_at k v.rows ≡ Some row → StandsAt v k row (frame_in v.frames (rank k v.rows))
 stood_there v k row None never found = absurd never
 stood_there v k row (Some held) at found =
     subst (λ (z : Row × Option ℕ). StandsAt v k z.0 z.1) (λ t. (same_Some held.row row (sym at.found ∙ found) t, sym at.frame_is t)) at

@@ -106,5 +106,6 @@ module _ (change : Row → Row) (keeps : (r : Row) → (change r).page ≡ r.pag
   frames_kept [] = refl
   frames_kept (e ∷ es) = ap (λ l. frame_of e ∷ l) (frames_kept es)
 
+  -- where each entry's row is changed, so is each row that is listed, on the frame where it was
   pub all_changed : (es fs : Entries) (l : Listed) → listed es ≡ l → fs ≡ map (λ e. (e.0, changed change e.0 e.1)) es → listed fs ≡ record { rows = map change l.rows; frames = l.frames }
   all_changed es fs l is made = ap listed made ∙ (λ t. record { rows = rows_changed es t; frames = frames_kept es t }) ∙ ap (λ (v : Listed). record { rows = map change v.rows; frames = v.frames }) is

@@ -51,6 +51,7 @@ module _ (es : Entries) (sorted : Sorted es) (rows : List Row) (are : rows_of es
           let r = over (record { visits = run.visits + 1; last = Some e.0; next = None }) next in
           (r.0, r.1, (let n = r.2 in let one : one_if e.1.mergeable ≡ 1 = ap one_if is in omega (arith, n, more, one)))
 
+  -- a run goes over whole blocks: it gets their visits, and ends at the page of the last one
   pub run_passes : (n visits : ℕ) (last : GuestPage) (its : Entries) (run : Run) → RunsTo es rows cursor run its → (p : PassesTo n its visits last)
       → RunsTo es rows cursor (record { visits = run.visits + visits; last = Some last; next = None }) p.rest
   run_passes n visits last its run so_far p =

@@ -24,7 +24,7 @@ use Rattle.ksm_pages.proofs.RowWalks.{in_range, find_after, find_row}
 abbrev pub EndsIn : Entries → Entries → Type 0
 EndsIn es rest = (front : Entries) × (es ≡ front ++ rest)
 
--- one is gone over
+-- the list ends in the entries behind one that was gone over
 pub ends_later : (es : Entries) (e : GuestPage × Entry) (rest : Entries) → EndsIn es (e ∷ rest) → EndsIn es rest
 ends_later es e rest ends = (ends.0 ++ e ∷ [], ends.1 ∙ shift ends.0)
   where
@@ -110,6 +110,7 @@ pub record RunsTo (es : Entries) (rows : List Row) (cursor : Option GuestPage) (
   pub yet : run.next ≡ None
 
 module _ (es : Entries) (sorted : Sorted es) (rows : List Row) (are : rows_of es ≡ rows) (cursor : Option GuestPage) where
+  -- a run begins with no visit, before the first entry after the cursor
   pub run_begins : (rest : Entries) → rest ≡ entries_between page_order (start_after cursor) Unbounded es
       → RunsTo es rows cursor (record { visits = 0; last = cursor; next = None }) rest
   run_begins rest is = record {
@@ -122,6 +123,7 @@ module _ (es : Entries) (sorted : Sorted es) (rows : List Row) (are : rows_of es
     yet = refl;
   }
 
+  -- a run goes past an entry that is not mergeable, with no visit
   pub run_skips : (run : Run) (e : GuestPage × Entry) (rest : Entries) → RunsTo es rows cursor run (e ∷ rest) → e.1.mergeable ≡ false
       → RunsTo es rows cursor run rest
   run_skips run e rest so_far idle = record {
@@ -136,6 +138,7 @@ module _ (es : Entries) (sorted : Sorted es) (rows : List Row) (are : rows_of es
       → next_row run.last rows ≡ Some (row_of e)
   run_meets run e rest so_far wanted = so_far.onward ∙ ap (λ (b : Bool). cond b (Some (row_of e)) (first_mergeable rest)) wanted
 
+  -- a run goes over an entry that a visit leaves as it is: one visit more, with its page as the last
   pub run_goes_on : (run : Run) (e : GuestPage × Entry) (rest : Entries) → RunsTo es rows cursor run (e ∷ rest) → e.1.mergeable ≡ true → stays (row_of e) ≡ true
       → RunsTo es rows cursor (record { visits = run.visits + 1; last = Some e.0; next = None }) rest
   run_goes_on run e rest so_far wanted left =
@@ -164,6 +167,7 @@ module _ (es : Entries) (sorted : Sorted es) (rows : List Row) (are : rows_of es
         longest = λ less. subst (λ o. MatchOption o ⊤ (λ r. stays r ≡ false)) (sym meets) (longest less);
       }
 
+  -- behind the entry where a run stopped the next run begins, with no visit
   pub run_restarts : (run : Run) (e : GuestPage × Entry) (rest : Entries) → RunsTo es rows cursor run (e ∷ rest)
       → RunsTo es rows (Some e.0) (record { visits = 0; last = Some e.0; next = None }) rest
   run_restarts run e rest so_far = record {
@@ -215,7 +219,7 @@ all_ahead n rows cursor [] k at run (left, here) is = (subst (λ (x : ℕ × Opt
 all_ahead n rows cursor (first ∷ runs) k at run (does, on) is =
     (does, on_found _ first.next (λ p lead. all_ahead (n - first.visits - 1) rows (Some p) runs k at run lead is) on)
 
--- those that are done, where there was no memory for one more
+-- the runs that were found are true, where there was no memory for one more
 pub some_ahead : (n : ℕ) (rows : List Row) (cursor : Option GuestPage) (runs : List Run) (k : ℕ) (at : Option GuestPage)
     → LeadTo n rows cursor runs k at → AreAhead n rows cursor runs
 some_ahead n rows cursor [] k at lead = tt

@@ -14,7 +14,7 @@ use Rattle.ksm_base.specs.Rows.{InPageOrder, InPlaceOrder, same_page, row_at, ch
 use Rattle.ksm_base.proofs.Edits.{find_all, find_passes, none_counted}
 use Rattle.ksm_base.proofs.Orders.{one_of_each_place}
 use Rattle.ksm_tree.proofs.Rows.{place_kept, place_new}
-use Rattle.ksm_pages.specs.declared.rows.Held.{Held}
+use Rattle.ksm_pages.specs.declared.rows.FramedRow.{FramedRow}
 use Rattle.ksm_pages.specs.Linked.{IsVacant, elsewhere}
 use Rattle.ksm_pages.proofs.Linking.{keeps_page}
 use Rattle.ksm_pages.proofs.Ranks.{rank_mapped, stands_where}
@@ -48,7 +48,7 @@ seen_paired of [] frames paired = refl
 seen_paired of (r ∷ rows) [] paired = paired
 seen_paired of (r ∷ rows) (own ∷ frames) paired = ap suc (seen_paired of rows frames (omega (arith, paired)))
 
--- another row and another frame in the stead of those at a place
+-- where a row and its frame are put in the stead of another's, so they are seen
 pub seen_set : (of : ℕ → Option ℕ) (rows : List Row) (frames : List (Option ℕ)) (i : ℕ) (row : Row) (own : Option ℕ)
     → frames_seen of (set rows i row) (set frames i own) ≡ set (frames_seen of rows frames) i (frame_seen of row.state own)
 seen_set of [] frames i row own = refl
@@ -57,24 +57,24 @@ seen_set of (r ∷ rows) [] (suc i) row own = refl
 seen_set of (r ∷ rows) (h ∷ frames) zero row own = refl
 seen_set of (r ∷ rows) (h ∷ frames) (suc i) row own = ap (λ l. frame_seen of r.state h ∷ l) (seen_set of rows frames i row own)
 
--- another row in the stead of that at a place, where both lie on the frame that the entry has
-pub seen_revised : (of : ℕ → Option ℕ) (rows : List Row) (frames : List (Option ℕ)) (i : ℕ) (row : Row)
+-- where a row is put in the stead of another on its own frame, it is seen on the frame that its entry has
+pub seen_row_set : (of : ℕ → Option ℕ) (rows : List Row) (frames : List (Option ℕ)) (i : ℕ) (row : Row)
     → ((own : Option ℕ) → frame_seen of row.state own ≡ frame_seen of (row_in rows i).state own)
     → frames_seen of (set rows i row) frames ≡ frames_seen of rows frames
-seen_revised of [] frames i row same = refl
-seen_revised of (r ∷ rows) [] zero row same = refl
-seen_revised of (r ∷ rows) [] (suc i) row same = refl
-seen_revised of (r ∷ rows) (h ∷ frames) zero row same = ap (λ f. f ∷ frames_seen of rows frames) (same h)
-seen_revised of (r ∷ rows) (h ∷ frames) (suc i) row same = ap (λ l. frame_seen of r.state h ∷ l) (seen_revised of rows frames i row same)
+seen_row_set of [] frames i row same = refl
+seen_row_set of (r ∷ rows) [] zero row same = refl
+seen_row_set of (r ∷ rows) [] (suc i) row same = refl
+seen_row_set of (r ∷ rows) (h ∷ frames) zero row same = ap (λ f. f ∷ frames_seen of rows frames) (same h)
+seen_row_set of (r ∷ rows) (h ∷ frames) (suc i) row same = ap (λ l. frame_seen of r.state h ∷ l) (seen_row_set of rows frames i row same)
 
--- another row in the stead of that at a place, where the entry keeps its frame
-seen_restated : (of : ℕ → Option ℕ) (rows : List Row) (frames : List (Option ℕ)) (i : ℕ) (row : Row)
+-- where a row's state changes and its entry keeps its frame, each other row is seen where it was
+seen_state_set : (of : ℕ → Option ℕ) (rows : List Row) (frames : List (Option ℕ)) (i : ℕ) (row : Row)
     → frames_seen of (set rows i row) frames ≡ set (frames_seen of rows frames) i (frame_seen of row.state (frame_in frames i))
-seen_restated of [] frames i row = refl
-seen_restated of (r ∷ rows) [] zero row = refl
-seen_restated of (r ∷ rows) [] (suc i) row = refl
-seen_restated of (r ∷ rows) (h ∷ frames) zero row = refl
-seen_restated of (r ∷ rows) (h ∷ frames) (suc i) row = ap (λ l. frame_seen of r.state h ∷ l) (seen_restated of rows frames i row)
+seen_state_set of [] frames i row = refl
+seen_state_set of (r ∷ rows) [] zero row = refl
+seen_state_set of (r ∷ rows) [] (suc i) row = refl
+seen_state_set of (r ∷ rows) (h ∷ frames) zero row = refl
+seen_state_set of (r ∷ rows) (h ∷ frames) (suc i) row = ap (λ l. frame_seen of r.state h ∷ l) (seen_state_set of rows frames i row)
 
 -- a row and its frame that come
 pub seen_inserted : (of : ℕ → Option ℕ) (rows : List Row) (frames : List (Option ℕ)) (i : ℕ) (row : Row) (own : Option ℕ) → length frames ≡ length rows
@@ -167,7 +167,7 @@ items_lie dups lodgings v number rise paired page r found merged =
     (frame_in (listed_seen dups lodgings v).frames (rank page v.rows)) number paired at merged) at
 
 -- what stands at a page is seen there
-pub stands_seen : (dups : List DupRow) (lodgings : List (Option ℕ)) (v : Listed) (page : GuestPage) (held seen : Held) → length v.frames ≡ length v.rows
+pub stands_seen : (dups : List DupRow) (lodgings : List (Option ℕ)) (v : Listed) (page : GuestPage) (held seen : FramedRow) → length v.frames ≡ length v.rows
     → StandsAt v page held.row held.frame → seen.row ≡ held.row → seen.frame ≡ frame_seen (lodging dups lodgings) held.row.state held.frame
     → StandsAt (listed_seen dups lodgings v) page seen.row seen.frame
 stands_seen dups lodgings v page held seen paired at same is = record {
@@ -200,7 +200,7 @@ pub seen_put_there : (dups now : List DupRow) (lodgings : List (Option ℕ)) (v 
     → frame_seen (lodging dups lodgings) row.state (frame_in v.frames (rank row.page v.rows)) ≡ frame
     → frames_seen (lodging now lodgings) w.rows w.frames ≡ set (listed_seen dups lodgings v).frames (rank row.page v.rows) frame
 seen_put_there dups now lodgings v w row frame same rows frames is =
-    (λ t. frames_seen (lodging (same t) lodgings) (rows t) (frames t)) ∙ seen_restated (lodging dups lodgings) v.rows v.frames (rank row.page v.rows) row
+    (λ t. frames_seen (lodging (same t) lodgings) (rows t) (frames t)) ∙ seen_state_set (lodging dups lodgings) v.rows v.frames (rank row.page v.rows) row
     ∙ ap (set (listed_seen dups lodgings v).frames (rank row.page v.rows)) is
 
 -- a row put at an index beside the same frames keeps both lists of one length
@@ -256,7 +256,7 @@ seen_gone dups now lodgings v w i paired same rows frames =
 pub own_lies : (dups : List DupRow) (lodgings : List (Option ℕ)) (v : Listed) (row : Row) (frame : Option ℕ) → length v.frames ≡ length v.rows
     → StandsAt v row.page row frame → merged_state row.state ≡ false → StandsAt (listed_seen dups lodgings v) row.page row frame
 own_lies dups lodgings v row frame paired at alone =
-    let held : Held = record { row = row; frame = frame } in
+    let held : FramedRow = record { row = row; frame = frame } in
     stands_seen dups lodgings v row.page held held paired at refl (sym (own_seen (lodging dups lodgings) row.state frame alone))
 
 -- what stands at a page stood there before another page's row was changed
@@ -318,7 +318,7 @@ find_kept test keep (d ∷ ds) o is kept =
 apart : (place : ℕ) (e : DupRow) → (e.place == place) ≡ false → elsewhere place e ≡ true
 apart place e away = ap not away
 
--- without the dup at a vacant place
+-- without the dup at a place the frames of the other dups are found as before
 pub lodging_without : (dups : List DupRow) (lodgings : List (Option ℕ)) (place n : ℕ)
     → ((e : DupRow) → dup_numbered n dups ≡ Some e → (e.place == place) ≡ false)
     → lodging (filter (elsewhere place) dups) lodgings n ≡ lodging dups lodgings n
@@ -333,7 +333,7 @@ seen_dropped dups lodgings v place vacant =
     (λ k r lt. same_seen (lodging (filter (elsewhere place) dups) lodgings) (lodging dups lodgings) (get_or v.rows k r).state
     (λ n merged. lodging_without dups lodgings place n (not_vacant v.rows dups place n k r vacant lt merged)))
 
--- another frame at the place of another dup
+-- another frame at one place leaves the frames of dups at other places
 lodging_apart : (lodgings : List (Option ℕ)) (place : ℕ) (frame : Option ℕ) (o : Option DupRow) → ((e : DupRow) → o ≡ Some e → (e.place == place) ≡ false)
     → lodging_of (set lodgings place frame) o ≡ lodging_of lodgings o
 lodging_apart lodgings place frame None away = refl
@@ -423,6 +423,7 @@ module _ (dups : List DupRow) (lodgings : List (Option ℕ)) (new : DupRow) (fra
             | inr other ↦ other
           ]
 
+  -- once two rows are merged into the new dup, both are seen on its frame, and each other row where it was
   pub seen_both : (now : List DupRow) (v one two : Listed) (r s : Row) (k l : ℕ) → now ≡ with_dup new dups → r.state ≡ Merged new.number
       → s.state ≡ Merged new.number
       → one.rows ≡ set v.rows k r → one.frames ≡ v.frames → two.rows ≡ set one.rows l s → two.frames ≡ one.frames
@@ -432,8 +433,8 @@ module _ (dups : List DupRow) (lodgings : List (Option ℕ)) (new : DupRow) (fra
   seen_both now v one two r s k l is first second rows frames rows₂ frames₂ vacant fresh below lt =
       let on : (own : Option ℕ) → frame_seen made (Merged new.number) own ≡ frame = λ own. made_new below lt in
       (λ t. frames_seen (lodging (is t) (set lodgings new.place frame)) (rows₂ t) (frames₂ t))
-      ∙ seen_restated made one.rows one.frames l s
+      ∙ seen_state_set made one.rows one.frames l s
       ∙ ap (set (frames_seen made one.rows one.frames) l) (ap (λ x. frame_seen made x (frame_in one.frames l)) second ∙ on (frame_in one.frames l))
       ∙ ap (λ fs. set fs l frame)
-      ((λ t. frames_seen made (rows t) (frames t)) ∙ seen_restated made v.rows v.frames k r
+      ((λ t. frames_seen made (rows t) (frames t)) ∙ seen_state_set made v.rows v.frames k r
       ∙ (λ t. set (seen_made v vacant fresh t) k ((ap (λ x. frame_seen made x (frame_in v.frames k)) first ∙ on (frame_in v.frames k)) t)))

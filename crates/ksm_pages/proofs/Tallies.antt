@@ -23,6 +23,7 @@ use Rattle.ksm_pages.proofs.RowLists.{stands_at}
 use Rattle.ksm_pages.specs.Tallied.{Counts, IsMore, IsSmall, IsTally, is_pending, is_volatile, one_if}
 
 module _ (p : Row → Bool) where
+  -- a list counts one more where a row that passes is inserted
   pub put_counted : (rows : List Row) (i : ℕ) (row : Row) → i ≤ length rows → count_by p (insert rows i row) ≡ count_by p rows + one_if (p row)
   put_counted [] zero row le = let more = count_more p row [] in grind (arith, more)
   put_counted [] (suc i) row le = absurd (omega arith)
@@ -33,6 +34,7 @@ module _ (p : Row → Bool) where
       let also = count_more p r (insert rows i row) in
       grind (arith, rest, more, also)
 
+  -- a list counts one less where a row that passes is removed
   pub taken_counted : (rows : List Row) (i : ℕ) (d : Row) → i < length rows → count_by p (remove rows i) + one_if (p (get_or rows i d)) ≡ count_by p rows
   taken_counted [] i d lt = absurd (omega arith)
   taken_counted (r ∷ rows) zero d lt = let more = count_more p r rows in grind (arith, more)
@@ -42,6 +44,7 @@ module _ (p : Row → Bool) where
       let also = count_more p r (remove rows i) in
       grind (arith, rest, more, also)
 
+  -- where a row takes another's place, the count loses the old one and gets the new one
   pub set_counted : (rows : List Row) (i : ℕ) (d row : Row) → i < length rows → count_by p (set rows i row) + one_if (p (get_or rows i d)) ≡ count_by p rows + one_if (p row)
   set_counted [] i d row lt = absurd (omega arith)
   set_counted (r ∷ rows) zero d row lt =
@@ -58,7 +61,7 @@ module _ (p : Row → Bool) where
   pub there_counted : (rows : List Row) (i : ℕ) (d : Row) → i < length rows → one_if (p (get_or rows i d)) ≤ count_by p rows
   there_counted rows i d lt = let h = taken_counted rows i d lt in omega (arith, h)
 
--- one row came, went or was replaced
+-- the tally is right once a row was inserted and counted
 pub tally_put : (rows : List Row) (i : ℕ) (row : Row) (t u : Tally) → i ≤ length rows → IsTally rows t → IsMore row t u → IsTally (insert rows i row) u
 tally_put rows i row t u le are more = record {
   mergeable = more.mergeable ∙ ap (λ n. n + one_if row.mergeable) are.mergeable ∙ sym (put_counted (λ r. r.mergeable) rows i row le);
@@ -235,7 +238,7 @@ any_counted p (r ∷ rows) =
     let more = count_more p r rows in
     grind (arith, nat_tests, rest, more)
 
--- with a row less there is room for one more
+-- a tally with one row less has room for one more
 pub tally_room : (row : Row) (less t : Tally) → IsSmall t → IsMore row less t → IsSmall less
 tally_room row less t small more = record {
   mergeable = (let h = small.mergeable in let m = more.mergeable in omega (arith, h, m));
@@ -255,15 +258,19 @@ module _ (es : List (GuestPage × Entry)) (l : Listed) (page : GuestPage) (v : E
   seen : IsTally l.rows t
   seen = subst (λ (x : Listed). IsTally x.rows t) is are
 
+  -- the tally counts the row of the page
   pub page_counted : Counts row t
   page_counted = tally_counts l.rows (rank page l.rows) no_row row t there.inside there.row_is seen
 
+  -- without the row of the page the tally has room for one row more
   pub page_room : (less : Tally) → length es + 1 < 2 ^ 64 → IsMore row less t → IsSmall less
   page_room less few more = tally_room row less t (tally_small (map row_of es) t (rw (length-map es row_of) few) are) more
 
+  -- the tally is that of the rows once another row stands for the page
   pub page_replaced : (new : Row) (less u : Tally) (rows : List Row) → rows ≡ set l.rows (rank page l.rows) new → IsMore row less t → IsMore new less u → IsTally rows u
   page_replaced new less u rows made from to = rw made (tally_set l.rows (rank page l.rows) no_row row new t less u there.inside there.row_is seen from to)
 
+  -- the tally is that of the rows once the page has none
   pub page_gone : (u : Tally) (rows : List Row) → rows ≡ remove l.rows (rank page l.rows) → IsMore row u t → IsTally rows u
   page_gone u rows made from = rw made (tally_taken l.rows (rank page l.rows) no_row row t u there.inside there.row_is seen from)
 

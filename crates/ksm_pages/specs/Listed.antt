@@ -19,7 +19,7 @@ row_in rows i = slice_index_or rows i no_row
 abbrev pub frame_in : List (Option ℕ) → ℕ → Option ℕ
 frame_in frames i = slice_index_or frames i None
 
--- it is frame f
+-- the frame is this one
 abbrev pub is_frame : ℕ → Option ℕ → Bool
 is_frame f None = false
 is_frame f (Some g) = g == f

@@ -29,7 +29,7 @@ abbrev pub cursor_after : ℕ → Option GuestPage → List Row → Option Guest
 cursor_after zero cursor rows = cursor
 cursor_after (suc n) cursor rows = let at = cursor_after n cursor rows in moved_to at (next_row at rows)
 
--- there is a row to visit, and it stays as it is
+-- there is a row to visit, and the visit leaves it as it is
 abbrev pub IsLeft : Option Row → Type 0
 IsLeft found = MatchOption found ⊥ (λ r. stays r ≡ true)
 
@@ -55,7 +55,7 @@ AreAhead n rows cursor [] = ⊤
 AreAhead n rows cursor (run ∷ runs) =
     IsRun n rows cursor run × MatchOption run.next (runs ≡ []) (λ page. AreAhead (n - run.visits - 1) rows (Some page) runs)
 
--- the same of runs that may be longer than there are visits left
+-- runs that follow one another behind the cursor, which may be longer than there are visits left
 abbrev pub AreRuns : List Row → Option GuestPage → List Run → Type 0
 AreRuns rows cursor [] = ⊤
 AreRuns rows cursor (run ∷ runs) = RunsOver rows cursor run × MatchOption run.next (runs ≡ []) (λ page. AreRuns rows (Some page) runs)

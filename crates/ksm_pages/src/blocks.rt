@@ -2,7 +2,8 @@
 //!
 //! A block is 256 pages of one guest; one without rows is not kept. With n blocks, `add`, `take` and `change` search in
 //! the order once or twice, in a number of steps in the order of log n; `change` does so only where the row counts as
-//! another. `pass_over` searches once, and takes one step for each block that it passes over. `unshare_all` walks over all.
+//! another. `pass_over` searches once, and takes one step for each block that it passes over. `unshare_all` walks over
+//! all.
 
 ghost use Rattle.std.specs.Prelude.{◌≡◌, true, [], ◌++◌, None, Some, map, MatchOption, ⊤, OnOk, OnErr, Err};
 ghost use Rattle.std.specs.BTreeMap.Range.{entries_between};
@@ -60,14 +61,14 @@ pub fn first_of_block(page: GuestPage) -> GuestPage
 }
 
 impl Block {
-    /// With no row.
+    /// A block without rows.
     pub const NONE: Block = Block {
         rows: 0,
         mergeable: 0,
         restless: 0,
     };
 
-    /// With one row more.
+    /// The block with one row more.
     pub fn with(self, row: &Row) -> Block
         requires { HasRoom self }
         ensures { HasOneMore row.now self result }
@@ -79,7 +80,7 @@ impl Block {
         }
     }
 
-    /// Without a row that it counts.
+    /// The block without a row that it counts.
     pub fn without(self, row: &Row) -> Block
         requires { HasRow row.now self }
         ensures { HasOneMore row.now result self }
@@ -91,7 +92,7 @@ impl Block {
         }
     }
 
-    /// Whether it counts nothing.
+    /// Whether the block counts no row.
     pub fn is_none(self) -> bool
         ensures { result ≡ true → self ≡ no_block }
     {
@@ -125,7 +126,7 @@ impl Blocks {
         Ok(())
     }
 
-    /// Counts a row no more that is counted.
+    /// Takes a row out of the counts, in which it is.
     pub fn take(&mut self, row: &Row)
         requires { HasRow row.now (block_at self.old (first_of row.now.page)) }
         ensures { AreShifted (Some row.now) None self.old self.new }
@@ -158,7 +159,7 @@ impl Blocks {
         *block = block.without(old).with(row);
     }
 
-    /// Every row is Private.
+    /// Counts every row as Private.
     pub fn unshare_all(&mut self)
         ensures { self.new ≡ map (λ e. (e.0, unshared_block e.1)) self.old }
     {
@@ -168,8 +169,8 @@ impl Blocks {
         });
     }
 
-    /// Passes over the blocks from one on that have visits to make and no restless row, for `most` visits at most. Gives the first
-    /// page of the last of them, with the visits of those before it.
+    /// Passes over the blocks from one on that have visits to make and no restless row, for `most` visits at most.
+    /// Gives the first page of the last of them, with the visits of those before it.
     pub fn pass_over(&self, first: GuestPage, most: u64) -> Option<Passed>
         ensures passed { MatchOption result ⊤ (λ p. GoesOver most (entries_between page_order (Included first) Unbounded self.now) p.visits p.last) }
         ensures ordered { IsStrictlySortedBy page_order (keys_of self.now) }

@@ -21,8 +21,8 @@ enum Kind {
 
 /// What a row says beside its page, and the frame that serves the page, if one does.
 ///
-/// Contracts see the state as the row has it. It is kept as a name and a number, which takes eight bytes less. The fields stand in an
-/// order that leaves no gaps.
+/// Contracts see the state as the row has it. It is kept as a name and a number, which takes eight bytes less. The
+/// fields stand in an order that leaves no gaps.
 #[derive(Drop)]
 pub struct Entry {
     bytes: PageBytes,
@@ -119,7 +119,8 @@ impl Entry {
         matches!(self.kind, Kind::Merged | Kind::Zero)
     }
 
-    /// Whether a search is for that row. The row itself is not made, so that a walk copies no row that it passes over.
+    /// Whether a search is for the row of this entry. The row itself is not put together, so that a walk copies no row
+    /// that it passes over.
     pub fn is_wanted(&self, page: GuestPage, wanted: &Wanted) -> bool
         ensures { result ≡ is_a_wanted wanted.now (row_of (page, self.now)) }
     {
@@ -130,15 +131,15 @@ impl Entry {
         }
     }
 
-    /// Stands for another row of the same page; the frame stays.
+    /// Makes the entry stand for another row of the same page; the frame stays.
     pub fn set_row(&mut self, row: Row)
         ensures { self.new ≡ entry_of row self.old.frame }
     {
         *self = Entry::new(row, self.frame);
     }
 
-    /// Has another state from now on.
-    pub fn restate(&mut self, state: PageState)
+    /// Gives the row another state.
+    pub fn set_state(&mut self, state: PageState)
         ensures { self.new ≡ record self.old { state = state } }
     {
         let (kind, number) = named(state);
@@ -146,7 +147,7 @@ impl Entry {
         self.number = number;
     }
 
-    /// Waits no more.
+    /// Makes a row that waits Private.
     pub fn settle(&mut self)
         ensures { self.new ≡ record self.old { state = settled_state self.old.state } }
     {

@@ -1,4 +1,5 @@
-//! The pages of the book: which rows there are, on which frame each lies, which dups have them as items, and which of them wait.
+//! The pages of the book: which rows there are, on which frame each lies, which dups have them as items, and which of
+//! them wait.
 #![tactic(auto)]
 
 mod blocks;
@@ -10,4 +11,4 @@ mod rows;
 mod tally;
 
 pub use pages::Pages;
-pub use rows::{Held, Rows};
+pub use rows::{FramedRow, Rows};

@@ -1,12 +1,12 @@
 //! Pages in order, each found by a hash: the entries of the rows, under their pages.
 //!
-//! The entries stand in a map of hashes, each at an index. Beside it the pages stand in order, each with its index there.
-//! With n pages, `has`, `get`, `replace`, `revise`, `restate` and `settle` cost a hash and a comparison in the mean. `insert`
-//! also searches in the order once, and `remove`, which needs no hash, twice, in a number of steps in the order of log n. An
-//! `insert` that finds no room moves all entries to a larger place: in the mean that is a few steps for each. What is
-//! left of a page that went is kept for one that comes.
-//! A walk takes one step for each page, and no hash. `unshare_all` walks over all entries, in no order.
-//! The hash has a fixed seed, so pages can be picked that collide: then a search takes a step for each.
+//! The entries stand in a map of hashes, each at an index. Beside it the pages stand in order, each with its index
+//! there. With n pages, `has`, `get`, `replace`, `set_row`, `set_state` and `settle` cost a hash and a comparison in the
+//! mean. `insert` also searches in the order once, and `remove`, which needs no hash, twice, in a number of steps in
+//! the order of log n. An `insert` that finds no room moves all entries to a larger place: in the mean that is a few
+//! steps for each. What is left of a page that went is kept for one that comes. A walk takes one step for each page,
+//! and no hash. `unshare_all` walks over all entries, in no order. The hash has a fixed seed, so pages can be picked
+//! that collide: then a search takes a step for each.
 
 ghost use Rattle.std.specs.Prelude.{◌≡◌, ◌^◌, ◌<◌, [], None, Some, length, slice_get, is_some, MatchOption, OnOk, OnErr, Err};
 ghost use Rattle.std.specs.Option.{option_copied};
@@ -152,12 +152,13 @@ impl PageMap {
             return Err(Fault::Memory);
         };
         let _ = self.order.insert(page, index)?;
-        // There is room for it.
+        // The map has room for the entry, so this does not fail.
         let _ = self.found.insert(page, entry);
         Ok(())
     }
 
-    /// Puts a row and its frame in the stead of those of its page, if it has an entry. Gives the frame's number that it had.
+    /// Puts a row and its frame in the stead of those of its page, if it has an entry. Gives the frame's number that it
+    /// had.
     pub fn replace(&mut self, row: &Row, frame: Option<u32>) -> Option<u32>
         ensures frame { MatchOption (lookup (asks row.now.page) self.old) (result ≡ None) (λ e. result ≡ e.frame) }
         ensures entries { MatchOption (lookup (asks row.now.page) self.old) (self.new ≡ self.old) (λ _. self.new ≡ set_value (asks row.now.page) self.old (entry_of row.now frame)) }
@@ -172,7 +173,7 @@ impl PageMap {
     }
 
     /// Puts a row in the stead of its page's, if it has one, on the frame where it is. Gives that frame's number.
-    pub fn revise(&mut self, row: &Row) -> Option<u32>
+    pub fn set_row(&mut self, row: &Row) -> Option<u32>
         ensures frame { MatchOption (lookup (asks row.now.page) self.old) (result ≡ None) (λ e. result ≡ e.frame) }
         ensures entries { MatchOption (lookup (asks row.now.page) self.old) (self.new ≡ self.old) (λ e. self.new ≡ set_value (asks row.now.page) self.old (entry_of row.now e.frame)) }
         ensures ordered { Sorted self.old }
@@ -185,7 +186,7 @@ impl PageMap {
     }
 
     /// The row of a page gets another state, if it has one, on the frame where it is. Gives that frame's number.
-    pub fn restate(&mut self, page: GuestPage, state: PageState) -> Option<u32>
+    pub fn set_state(&mut self, page: GuestPage, state: PageState) -> Option<u32>
         ensures frame { MatchOption (lookup (asks page) self.old) (result ≡ None) (λ e. result ≡ e.frame) }
         ensures entries { MatchOption (lookup (asks page) self.old) (self.new ≡ self.old) (λ e. self.new ≡ set_value (asks page) self.old (record e { state = state })) }
         ensures ordered { Sorted self.old }
@@ -193,7 +194,7 @@ impl PageMap {
         let Some(kept) = self.found.get_mut(&page) else {
             return None;
         };
-        kept.restate(state);
+        kept.set_state(state);
         kept.frame()
     }
 
@@ -203,7 +204,7 @@ impl PageMap {
         ensures entries { self.new ≡ remove_entry (asks page) self.old }
         ensures ordered { Sorted self.old }
     {
-        // The contract of `len` says that no page is found twice.
+        // Called for its contract alone: no page is found twice.
         let _ = self.found.len();
         let index = self.order.remove(&page)?;
         let (_, entry) = self.found.swap_remove_index(index as usize)?;
@@ -236,7 +237,7 @@ impl PageMap {
     // This call writes every entry and drops none. It does so by `retain`, whose contract says what is written to each
     // value; that of a loop over `values_mut` does not.
 
-    /// Every row becomes Private and not unchanged.
+    /// Makes every row Private and not unchanged.
     pub fn unshare_all(&mut self)
         ensures { self.new ≡ changed_all as_unshared self.old }
     {

@@ -1,4 +1,5 @@
-//! The pages: the rows with their frames, the dups into which rows are merged, and the pages that wait, each told of the others' changes.
+//! The pages: the rows with their frames, the dups into which rows are merged, and the pages that wait. Each is kept in
+//! a form that is found fast, and each call here tells a change to all three.
 
 ghost use Rattle.std.specs.Prelude.{◌≡◌, ◌<◌, ◌⊎◌, ◌+◌, ◌≤◌, [], true, false, None, Some, Err, All, count_by, filter, find, length, map, insert, remove, slice_set, is_some, ◌==◌, ◌&&◌, option_map, IfOk, IfErr, IfNone, IfSome, OnOk, OnErr, OnSome, MatchOption, Option};
 ghost use Rattle.std.specs.List.{list_any};
@@ -20,16 +21,18 @@ ghost use Rattle.ksm_pages.specs.Lodged.{frame_seen, frames_seen, lodging, lodgi
 ghost use Rattle.ksm_tree.specs.Dups.{rows_of};
 
 use crate::row::{Wanted, is_waiting, let_go, same_page, tree_of};
-use crate::rows::{Held, Rows};
+use crate::rows::{FramedRow, Rows};
 use ksm_base::{DupRow, Fault, GuestPage, Knobs, PageState, Row, Shape};
 use ksm_tree::{Choice, Dups, Waiting};
 use std::alloc::Global;
 use std::marker::Model;
 
-/// The rows with their frames, the dups with their items, the pages that wait, and the knobs, which say what tree a row is in.
+/// The rows with their frames, the dups with their items, the pages that wait, and the knobs, which say what tree a row
+/// is in.
 ///
-/// The frame of a dup is kept once, at the dup's place, and no entry of a row merged into it is asked for a frame: to move a
-/// dup writes one number, however many pages are merged into it, and to say where a merged page lies costs a hash more.
+/// The frame of a dup is kept once, at the dup's place, and no entry of a row merged into it is asked for a frame: to
+/// move a dup writes one number, however many pages are merged into it, and to say where a merged page lies costs a
+/// hash more.
 #[derive(Drop)]
 pub struct Pages {
     shape: Shape,
@@ -58,7 +61,8 @@ impl Model for Pages {
     ghost invariant = { λ p. AreLodged p.shape p.knobs p.rows p.dups p.waiting p.lodgings.items };
 }
 
-// A row waits no more, if it did. Inlined as a hint alone, since most rows do not wait.
+// Takes the page of a row that waits out of the waiting pages. Inlined for speed: most rows do not wait, and then
+// nothing is called.
 #[inline(always)]
 fn stop_waiting(waiting: &mut Waiting, knobs: &Knobs, row: &Row)
     ensures { IsStopped knobs.now row.now waiting.old waiting.new }
@@ -86,7 +90,8 @@ fn lodging_of(dups: &Dups, lodgings: &[Option<u32>], number: u64) -> Option<u32>
     lodging_at(lodgings, dups.place(number))
 }
 
-// The frame where a row lay that goes or becomes another, whose entry had this one. Its page leaves the dup of which it was an item, if it was.
+// Takes the page of a row out of its dup, if it is merged. Gives the frame where the row lay: that of the dup, else the
+// one that its entry had.
 fn left_by(dups: &mut Dups, lodgings: &[Option<u32>], row: &Row, frame: Option<u32>) -> Option<u32>
     ensures dups { dups.new ≡ record dups.old { dups = let_out row.now.state row.now.page dups.old.dups } }
     ensures frame { result ≡ frame_seen (lodging (rows_of dups.old.dups) lodgings.now) row.now.state frame }
@@ -98,15 +103,15 @@ fn left_by(dups: &mut Dups, lodgings: &[Option<u32>], row: &Row, frame: Option<u
     lodging_at(lodgings, place)
 }
 
-// What an entry has, with the frame where the row lies: where its dup does, if it is merged.
-fn seen(dups: &Dups, lodgings: &[Option<u32>], held: Held) -> Held
+// The row of an entry with the frame where it lies: that of its dup if it is merged, else the entry's own.
+fn seen(dups: &Dups, lodgings: &[Option<u32>], held: FramedRow) -> FramedRow
     ensures row { result.row ≡ held.row }
     ensures frame { result.frame ≡ frame_seen (lodging (rows_of dups.now.dups) lodgings.now) held.row.state held.frame }
 {
     let PageState::Merged(number) = held.row.state else {
         return held;
     };
-    Held {
+    FramedRow {
         frame: lodging_of(dups, lodgings, number),
         ..held
     }
@@ -159,11 +164,11 @@ impl Pages {
     }
 
     /// The row of a page, with its frame.
-    pub fn find(&self, page: GuestPage) -> Option<Held>
+    pub fn framed_row(&self, page: GuestPage) -> Option<FramedRow>
         ensures known { is_some (row_at page self.now.listed.rows) ≡ is_some result }
         ensures at { MatchOption result (row_at page self.now.listed.rows ≡ None) (λ held. StandsAt self.now.listed page held.row held.frame) }
     {
-        let held = self.rows.find(page)?;
+        let held = self.rows.framed_row(page)?;
         Some(seen(&self.dups, &self.lodgings, held))
     }
 
@@ -282,7 +287,8 @@ impl Pages {
         self.rows.insert(row, frame)
     }
 
-    /// Puts a row of its own and its frame in the stead of the row that its page has, which leaves its dup. Gives the frame where this lay.
+    /// Puts a Private row and its frame in the stead of the row that its page has. A page that was merged leaves its
+    /// dup. Gives the frame where the old row lay.
     pub fn replace(&mut self, old: &Row, row: &Row, frame: Option<u32>) -> Option<u32>
         requires known { row_at row.now.page self.old.listed.rows ≡ Some old.now }
         requires alone { row.now.state ≡ Private }
@@ -297,8 +303,9 @@ impl Pages {
         left_by(&mut self.dups, &self.lodgings, old, kept)
     }
 
-    /// Puts a row of its own in the stead of the row that its page has, which leaves its dup, on the frame where this is. Gives that frame.
-    pub fn revise(&mut self, old: &Row, row: &Row) -> Option<u32>
+    /// Puts a Private row in the stead of the row that its page has, on the frame where this lies. A page that was
+    /// merged leaves its dup. Gives that frame.
+    pub fn set_row(&mut self, old: &Row, row: &Row) -> Option<u32>
         requires known { row_at row.now.page self.old.listed.rows ≡ Some old.now }
         requires alone { row.now.state ≡ Private }
         ensures stood { StandsAt self.old.listed row.now.page old.now result }
@@ -311,13 +318,14 @@ impl Pages {
             let frame = lodging_of(&self.dups, &self.lodgings, number);
             return self.replace(old, row, frame);
         }
-        let frame = self.rows.revise(old, row);
+        let frame = self.rows.set_row(old, row);
         stop_waiting(&mut self.waiting, &self.knobs, old);
         frame
     }
 
-    /// Takes the row of a page away, which has one, leaves its dup, and gives what stood there.
-    pub fn remove(&mut self, page: GuestPage) -> Option<Held>
+    /// Takes away the row of a page that has one. A page that was merged leaves its dup. Gives the row and the frame
+    /// where it lay.
+    pub fn remove(&mut self, page: GuestPage) -> Option<FramedRow>
         requires { is_some (row_at page self.old.listed.rows) ≡ true }
         ensures stood { MatchOption result ⊥ (λ held. StandsAt self.old.listed page held.row held.frame) }
         ensures rows { self.new.listed.rows ≡ remove self.old.listed.rows (rank page self.old.listed.rows) }
@@ -330,11 +338,11 @@ impl Pages {
         };
         stop_waiting(&mut self.waiting, &self.knobs, &held.row);
         let frame = left_by(&mut self.dups, &self.lodgings, &held.row, held.frame);
-        Some(Held { frame, ..held })
+        Some(FramedRow { frame, ..held })
     }
 
-    /// The page that waits for another; where there is none, the row waits from now on, on the frame of its own that it has. Refused for
-    /// memory alone, where there is none, it changes nothing.
+    /// Gives the page that waits with the row's tree and bytes; where there is none, the row waits from now on, on its
+    /// frame. Only that may be refused for memory, and then nothing changes.
     pub fn meet(&mut self, row: &Row) -> Result<Option<GuestPage>, Fault>
         requires row_is { row_at row.now.page self.old.listed.rows ≡ Some row.now }
         requires alone { shared_state row.now.state ≡ false }
@@ -352,7 +360,7 @@ impl Pages {
         let tree = tree_of(&self.knobs, row);
         let page = self.waiting.find_or_add(tree, &row.bytes, row.page)?;
         if same_page(page, row.page) {
-            self.rows.restate(row, PageState::Waiting);
+            self.rows.set_state(row, PageState::Waiting);
             return Ok(None);
         }
         Ok(Some(page))
@@ -376,7 +384,8 @@ impl Pages {
         self.rows.replace(row, &zero, None)
     }
 
-    /// A row with a frame of its own becomes an item of a dup, on the dup's frame. Gives that frame, and the one that the row leaves. Refused for memory alone, it changes nothing.
+    /// A row with a frame of its own becomes an item of a dup, on the dup's frame. Gives that frame, and the one that
+    /// the row leaves. Refused for memory alone, it changes nothing.
     pub fn join(&mut self, row: &Row, number: u64) -> Result<(Option<u32>, Option<u32>), Fault>
         requires row_is { row_at row.now.page self.old.listed.rows ≡ Some row.now }
         requires alone { shared_state row.now.state ≡ false }
@@ -392,11 +401,12 @@ impl Pages {
     {
         let place = self.dups.join(number, row.page)?;
         stop_waiting(&mut self.waiting, &self.knobs, row);
-        let lone = self.rows.restate(row, PageState::Merged(number));
+        let lone = self.rows.set_state(row, PageState::Merged(number));
         Ok((lodging_at(&self.lodgings, Some(place)), lone))
     }
 
-    /// Two rows with frames of their own become the items of a new dup at a place, on the frame of the first. A stale dup at the place goes. Gives the frames on which they were. Refused for memory alone, it changes nothing.
+    /// Two rows with frames of their own become the items of a new dup at a place, on the frame of the first. A stale
+    /// dup at the place goes. Gives the frames on which they were. Refused for memory alone, it changes nothing.
     pub fn pair(
         &mut self,
         place: u32,
@@ -419,8 +429,8 @@ impl Pages {
         stop_waiting(&mut self.waiting, &self.knobs, first);
         stop_waiting(&mut self.waiting, &self.knobs, second);
         let state = PageState::Merged(number);
-        let frame = self.rows.restate(first, state);
-        let lone = self.rows.restate(second, state);
+        let frame = self.rows.set_state(first, state);
+        let lone = self.rows.set_state(second, state);
         self.lodgings[place as usize] = frame;
         Ok((frame, lone))
     }
@@ -465,7 +475,8 @@ impl Pages {
         self.waiting.clear();
     }
 
-    /// The rows of a guest that come before a row, or all of them, are alone and out of the scan, where none of them is merged or Zero.
+    /// Makes the rows of a guest that come before a row, or all of them, Private and takes them out of the scan, where
+    /// none of them is merged or Zero.
     pub fn let_go(&mut self, guest: u16, stop: Option<Row>)
         requires { All (λ r. (is_of guest r && is_before stop r) ≡ true → shared_state r.state ≡ false) self.old.listed.rows }
         ensures rows { self.new.listed.rows ≡ change_rows (λ r. is_of guest r && is_before stop r) as_let_go self.old.listed.rows }
@@ -474,7 +485,7 @@ impl Pages {
     {
         let mut last = None;
         while let Some(row) = self.rows.first_of(last, guest, Wanted::Before(stop)) {
-            self.revise(&row, &let_go(row));
+            self.set_row(&row, &let_go(row));
             last = Some(row.page);
         }
     }

@@ -79,7 +79,7 @@ pub(crate) fn all_zero(bytes: &PageBytes) -> bool
     bytes.iter().all(|word| *word == 0)
 }
 
-/// Whether a row has only zeroes, and these merge with the zero page.
+/// Whether a visit would map the row from the zero page: all its bytes are zero, and `use_zero_pages` is 1.
 pub fn is_for_zero(knobs: &Knobs, row: &Row) -> bool
     ensures { result ≡ goes_to_zero knobs.now row.now }
 {
@@ -137,7 +137,7 @@ pub fn moved(row: Row, node: u32) -> Row
     }
 }
 
-/// The row alone, and out of the scan.
+/// The row as Private, neither mergeable nor unchanged: the scan visits it no more.
 pub(crate) fn let_go(row: Row) -> Row
     ensures { result ≡ as_let_go row }
 {
@@ -149,7 +149,7 @@ pub(crate) fn let_go(row: Row) -> Row
     }
 }
 
-/// The row alone and not unchanged.
+/// The row as Private and not unchanged.
 pub fn unshared(row: Row) -> Row
     ensures { result ≡ as_unshared row }
 {

@@ -1,13 +1,14 @@
 //! The rows in the order of their pages, each found by a hash: each page with what the book knows of it, and the frame
 //! that serves it, if one does.
 //!
-//! With n rows, `has`, `row`, `known`, `find`, `replace`, `revise` and `restate` cost a hash and a comparison in the mean. `insert` and
-//! `remove` also search in the order, in a number of steps in the order of log n, and an `insert` that finds no room moves all rows. The
-//! hash has a fixed seed, so pages can be picked that collide: then a search takes a step for each.
-//! `has_guest` searches once in the order. `next` and `next_shared` do so too, and take one step for each row that they
-//! pass over, which are rows of the guest alone where one is given; `ahead` so too, and one for each of its visits.
-//! `len`, `any_mergeable` and the counts take one. `make_mergeable` searches in the order for each row of the guest, and
-//! once more, and finds each by a hash. `settle_all` finds each row that waits by a hash, or walks over all rows where many wait. `unshare_all` walks over the rows.
+//! With n rows, `has`, `row`, `known`, `framed_row`, `replace`, `set_row` and `set_state` cost a hash and a comparison in the
+//! mean. `insert` and `remove` also search in the order, in a number of steps in the order of log n, and an `insert`
+//! that finds no room moves all rows. The hash has a fixed seed, so pages can be picked that collide: then a search
+//! takes a step for each. `has_guest` searches once in the order. `next` and `next_shared` do so too, and take one step
+//! for each row that they pass over, which are rows of the guest alone where one is given; `ahead` so too, and one for
+//! each of its visits. `len`, `any_mergeable` and the counts take one. `make_mergeable` searches in the order for each
+//! row of the guest, and once more, and finds each by a hash. `settle_all` finds each row that waits by a hash, or
+//! walks over all rows where many wait. `unshare_all` walks over the rows.
 
 ghost use Rattle.std.specs.Prelude.{◌≡◌, ◌<◌, ◌≤◌, [], None, Some, length, filter, find, count_by, map, insert, remove, slice_set, false, MatchOption, OnOk, OnErr, Err, is_some, true, option_map, ◌&&◌, slice_get, unwrap_or, IfSome, ⊤};
 ghost use Rattle.std.specs.List.{list_any};
@@ -38,7 +39,7 @@ use std::ops::Bound;
 
 /// A row with the number of its frame; a row mapped from the zero page has none.
 #[derive(Clone, Copy, Debug)]
-pub struct Held {
+pub struct FramedRow {
     pub row: Row,
     pub frame: Option<u32>,
 }
@@ -101,7 +102,7 @@ fn guest_after(cursor: Option<GuestPage>, guest: u16) -> Bound<GuestPage>
     }
 }
 
-// What a walk stopped at, unless it is of a greater guest.
+// The row at which a walk stopped, unless it is of a greater guest.
 fn up_to_guest(found: Option<Row>, guest: u16) -> Option<Row>
     ensures { result ≡ up_to guest found }
 {
@@ -132,8 +133,8 @@ fn is_after(cursor: Option<GuestPage>, page: GuestPage) -> bool
     }
 }
 
-// Passes over the blocks from a page's on that no visit changes, where the page seen last is in an earlier one. Gives their visits, for
-// `most` visits at most, up to the first one in the last of these blocks.
+// Passes over whole blocks that no visit changes, from a page's block on, where the page seen last is in an earlier
+// block. Gives how many visits that takes, `most` at most, up to the first page visited in the last of these blocks.
 fn pass_blocks(
     entries: &PageMap,
     blocks: &Blocks,
@@ -157,8 +158,8 @@ fn pass_blocks(
     })
 }
 
-// What comes after the cursor, run by run, for `most` visits at most: one walk along the entries, as far as there is memory for runs, which passes
-// over blocks that no visit changes. Gives the first.
+// Finds the runs after the cursor, for `most` visits at most and as far as there is memory for runs. It walks along the
+// entries, and passes over whole blocks that no visit changes. Gives the first run.
 fn runs_along(
     entries: &PageMap,
     blocks: &Blocks,
@@ -252,13 +253,13 @@ impl Rows {
     }
 
     /// The row of a page, with its frame.
-    pub(crate) fn find(&self, page: GuestPage) -> Option<Held>
+    pub(crate) fn framed_row(&self, page: GuestPage) -> Option<FramedRow>
         ensures known { is_some (row_at page self.now.rows) ≡ is_some result }
         ensures at { MatchOption result (row_at page self.now.rows ≡ None) (λ held. StandsAt self.now page held.row held.frame) }
     {
         match self.entries.get(page) {
             None => None,
-            Some(entry) => Some(Held {
+            Some(entry) => Some(FramedRow {
                 row: entry.row(page),
                 frame: entry.frame(),
             }),
@@ -278,7 +279,7 @@ impl Rows {
         ensures refused { OnErr result (self.new ≡ self.old) }
         ensures fault { OnErr result (result ≡ Err Memory) }
     {
-        // The contract of `len` says that the number fits.
+        // Called for its contract alone: the number of rows fits 64 bits.
         let _ = self.entries.len();
         self.blocks.add(&row)?;
         match self.entries.insert(row.page, Entry::new(row, frame)) {
@@ -301,7 +302,7 @@ impl Rows {
         ensures frames { self.new.frames ≡ slice_set self.old.frames (rank row.now.page self.old.rows) frame }
         ensures changed { self.new.rows ≡ change_row row.now.page (λ _. row.now) self.old.rows }
     {
-        // The contract of `len` says that the number fits.
+        // Called for its contract alone: the number of rows fits 64 bits.
         let _ = self.entries.len();
         let left = self.entries.replace(row, frame);
         self.blocks.change(old, row);
@@ -310,16 +311,16 @@ impl Rows {
     }
 
     /// Puts a row in the stead of the row that its page has, on the frame where this is, and gives the number of that.
-    pub(crate) fn revise(&mut self, old: &Row, row: &Row) -> Option<u32>
+    pub(crate) fn set_row(&mut self, old: &Row, row: &Row) -> Option<u32>
         requires { row_at row.now.page self.old.rows ≡ Some old.now }
         ensures stood { StandsAt self.old row.now.page old.now result }
         ensures rows { self.new.rows ≡ slice_set self.old.rows (rank row.now.page self.old.rows) row.now }
         ensures frames { self.new.frames ≡ self.old.frames }
         ensures changed { self.new.rows ≡ change_row row.now.page (λ _. row.now) self.old.rows }
     {
-        // The contract of `len` says that the number fits.
+        // Called for its contract alone: the number of rows fits 64 bits.
         let _ = self.entries.len();
-        let frame = self.entries.revise(row);
+        let frame = self.entries.set_row(row);
         self.blocks.change(old, row);
         self.tally = self.tally.without(old).with(row);
         frame
@@ -329,24 +330,24 @@ impl Rows {
 
     /// Gives a row another state, on the frame where it is, and gives the number of that.
     #[inline(always)]
-    pub(crate) fn restate(&mut self, row: &Row, state: PageState) -> Option<u32>
+    pub(crate) fn set_state(&mut self, row: &Row, state: PageState) -> Option<u32>
         requires { row_at row.now.page self.old.rows ≡ Some row.now }
         ensures stood { StandsAt self.old row.now.page row.now result }
         ensures rows { self.new.rows ≡ slice_set self.old.rows (rank row.now.page self.old.rows) (record row.now { state = state }) }
         ensures frames { self.new.frames ≡ self.old.frames }
         ensures changed { self.new.rows ≡ change_row row.now.page (λ _. record row.now { state = state }) self.old.rows }
     {
-        // The contract of `len` says that the number fits.
+        // Called for its contract alone: the number of rows fits 64 bits.
         let _ = self.entries.len();
-        let frame = self.entries.restate(row.page, state);
+        let frame = self.entries.set_state(row.page, state);
         let stated = Row { state, ..*row };
         self.blocks.change(row, &stated);
         self.tally = self.tally.without(row).with(&stated);
         frame
     }
 
-    /// Takes the row of a page away, which has one, and gives what stood there.
-    pub(crate) fn remove(&mut self, page: GuestPage) -> Option<Held>
+    /// Takes away the row of a page that has one. Gives the row and its frame.
+    pub(crate) fn remove(&mut self, page: GuestPage) -> Option<FramedRow>
         requires { is_some (row_at page self.old.rows) ≡ true }
         ensures stood { MatchOption result ⊥ (λ held. StandsAt self.old page held.row held.frame) }
         ensures rows { self.new.rows ≡ remove self.old.rows (rank page self.old.rows) }
@@ -359,7 +360,7 @@ impl Rows {
         let row = entry.row(page);
         self.blocks.take(&row);
         self.tally = self.tally.without(&row);
-        Some(Held {
+        Some(FramedRow {
             row,
             frame: entry.frame(),
         })
@@ -399,8 +400,8 @@ impl Rows {
         page_found(walk.find(|(_, entry)| entry.is_mergeable()))
     }
 
-    /// What comes after the cursor, run by run, for `most` visits at most, up to the end of the pass or as far as there is
-    /// memory for runs. Gives the first run, which wants no memory.
+    /// What comes after the cursor, run by run, for `most` visits at most, up to the end of the pass or as far as there
+    /// is memory for runs. Gives the first run, which wants no memory.
     pub fn ahead(&self, cursor: Option<GuestPage>, most: u64, found: &mut Vec<Run>) -> Run
         requires { found.old.items ≡ [] }
         ensures run { IsRun most self.now.rows cursor result }
@@ -474,11 +475,11 @@ impl Rows {
         ensures rows { self.new.rows ≡ change_rows (is_of_guest guest) (λ r. record r { mergeable = true }) self.old.rows }
         ensures frames { self.new.frames ≡ self.old.frames }
     {
-        // The contract of `len` says that the keys ascend.
+        // Called for its contract alone: the pages ascend.
         let _ = self.entries.len();
         let mut last = None;
         while let Some(row) = self.first_of(last, guest, Wanted::Before(None)) {
-            self.revise(
+            self.set_row(
                 &row,
                 &Row {
                     mergeable: true,
@@ -489,13 +490,13 @@ impl Rows {
         }
     }
 
-    /// No row waits any more: those that did, which are of these pages, are Private.
+    /// Makes the rows that wait Private; these are the pages of the rows that do.
     pub(crate) fn settle_all(&mut self, waiting: &Waiting)
         requires { AreNamed waiting.now self.old.rows }
         ensures rows { self.new.rows ≡ map as_settled self.old.rows }
         ensures frames { self.new.frames ≡ self.old.frames }
     {
-        // To find a page by a hash takes as long as to go by some eight.
+        // To find one row by a hash takes about as long as to walk past eight rows.
         if self.tally.waiting > self.entries.len() / 8 {
             self.settle_every();
         } else {
@@ -503,7 +504,7 @@ impl Rows {
         }
     }
 
-    // The same, by going by every row.
+    // Settles the rows by a walk over all of them.
     fn settle_every(&mut self)
         ensures rows { self.new.rows ≡ map as_settled self.old.rows }
         ensures frames { self.new.frames ≡ self.old.frames }
@@ -512,7 +513,7 @@ impl Rows {
         self.tally = self.tally.settled();
     }
 
-    // The same, by finding each page that waits.
+    // Settles the rows by finding each page that waits.
     fn settle_pages(&mut self, waiting: &Waiting)
         requires { AreNamed waiting.now self.old.rows }
         ensures rows { self.new.rows ≡ map as_settled self.old.rows }

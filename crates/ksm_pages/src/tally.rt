@@ -6,8 +6,8 @@ ghost use Rattle.ksm_pages.specs.Tallied.{Counts, IsMore, IsSmall};
 
 use ksm_base::{PageState, Row};
 
-/// How many rows are mergeable, merged and waiting, how many mergeable ones are Private, how many of them
-/// wait, and how many rows are Zero.
+/// How many rows there are of each kind. `volatile` counts those that are mergeable and Private, `pending` those that
+/// are mergeable and wait; each other field counts the rows that its name says.
 #[derive(Clone, Copy)]
 pub struct Tally {
     pub mergeable: usize,
@@ -19,7 +19,7 @@ pub struct Tally {
 }
 
 impl Tally {
-    /// With no row.
+    /// The tally of no rows.
     pub const NONE: Tally = Tally {
         mergeable: 0,
         merged: 0,
@@ -29,7 +29,7 @@ impl Tally {
         zero: 0,
     };
 
-    /// With one row more.
+    /// The tally with one row more.
     pub fn with(self, row: &Row) -> Tally
         requires { IsSmall self }
         ensures { IsMore row.now self result }
@@ -49,7 +49,7 @@ impl Tally {
         more
     }
 
-    /// Without a row that it counts.
+    /// The tally without a row that it counts.
     pub fn without(self, row: &Row) -> Tally
         requires { Counts row.now self }
         ensures { IsMore row.now result self }
@@ -69,7 +69,7 @@ impl Tally {
         less
     }
 
-    /// Once no row waits: those that did are Private.
+    /// The tally once every row that waits is Private.
     pub fn settled(self) -> Tally
         requires { self.volatile + self.pending ≤ self.mergeable }
         ensures { result ≡ record self { waiting = 0; volatile = self.volatile + self.pending; pending = 0 } }
@@ -82,7 +82,7 @@ impl Tally {
         }
     }
 
-    /// Once every row is Private.
+    /// The tally once every row is Private.
     pub fn unshared(self) -> Tally
         ensures { result ≡ record self { merged = 0; waiting = 0; volatile = self.mergeable; pending = 0; zero = 0 } }
     {

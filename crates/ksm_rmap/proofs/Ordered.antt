@@ -4,9 +4,11 @@ use Rattle.std.specs.Prelude.{not, All, AllPairs, filter, insert, remove}
 use Rattle.std.specs.List.{AllWithin, list_any}
 use Rattle.std.specs.List.Sorted.{IsPartitionedBy}
 use Rattle.std.proofs.lemmas.Bool.{cases_Bool, cases_lt}
-use Rattle.std.proofs.lemmas.List.Elements.{All-head, All-tail, All-append, All-weaker, All-cons, filter_passes}
+use Rattle.std.proofs.lemmas.List.Elements.{All-head, All-tail, All-weaker, All-cons, filter_passes}
 use Rattle.std.proofs.lemmas.List.Filters.{length-filter_both}
 use Rattle.std.proofs.lemmas.List.Kept.{AllPairs-cons, AllPairs-filter}
+use Rattle.ksm_base.proofs.Orders.{pairs_tail, pairs_append, filter_none}
+use Rattle.ksm_base.proofs.RowCounts.{filter_all}
 
 -- a strict order, with the test that tells equal elements
 pub record IsOrder {X : Type 0} (before same : X → X → Bool) : Type 0 where
@@ -17,37 +19,6 @@ pub record IsOrder {X : Type 0} (before same : X → X → Bool) : Type 0 where
   pub total : (x y : X) → same x y ≡ false → before x y ≡ false → before y x ≡ true
   pub same_refl : (x : X) → same x x ≡ true
   pub same_eq : (x y : X) → same x y ≡ true → x ≡ y
-
--- where all pairs of a list are related, its first is related to all behind it
-pub pairs_head : {X : Type 0} (R : X → X → Type 0) (x : X) (xs : List X) → AllPairs R (x ∷ xs) → All (R x) xs
-pairs_head R x xs pairs k d lt = pairs 0 (suc k) d (omega arith) (omega arith)
-
--- where all pairs of a list are related, so are those behind the first
-pub pairs_tail : {X : Type 0} (R : X → X → Type 0) (x : X) (xs : List X) → AllPairs R (x ∷ xs) → AllPairs R xs
-pairs_tail R x xs pairs i j d lt in_range = pairs (suc i) (suc j) d (omega arith) (omega arith)
-
--- two lists in order, with each of the first before each of the second
-pub pairs_append : {X : Type 0} (R : X → X → Type 0) (xs ys : List X) → AllPairs R xs → AllPairs R ys → All (λ x. All (R x) ys) xs → AllPairs R (xs ++ ys)
-pairs_append R [] ys first second cross = second
-pairs_append R (x ∷ xs) ys first second cross =
-    AllPairs-cons R x (xs ++ ys) (All-append (R x) xs ys (pairs_head R x xs first) (All-head (λ y. All (R y) ys) x xs cross))
-    (pairs_append R xs ys (pairs_tail R x xs first) second (All-tail (λ y. All (R y) ys) x xs cross))
-
--- what no element passes is filtered to nothing, and what each passes to all
-pub filter_none : {X : Type 0} (p : X → Bool) (xs : List X) → All (λ x. p x ≡ false) xs → filter p xs ≡ []
-filter_none p [] none = refl
-filter_none p (x ∷ xs) none =
-    let here = All-head (λ y. p y ≡ false) x xs none in
-    let rest = filter_none p xs (All-tail (λ y. p y ≡ false) x xs none) in
-    grind (arith, here, rest)
-
--- a filter that all members pass keeps the list
-pub filter_all : {X : Type 0} (p : X → Bool) (xs : List X) → All (λ x. p x ≡ true) xs → filter p xs ≡ xs
-filter_all p [] each = refl
-filter_all p (x ∷ xs) each =
-    let here = All-head (λ y. p y ≡ true) x xs each in
-    let rest = filter_all p xs (All-tail (λ y. p y ≡ true) x xs each) in
-    grind (arith, here, rest)
 
 pub any_none : {X : Type 0} (p : X → Bool) (xs : List X) → All (λ x. p x ≡ false) xs → list_any p xs ≡ false
 any_none p [] none = refl
@@ -123,7 +94,7 @@ module _ {X : Type 0} (before same : X → X → Bool) (order : IsOrder before s
             grind (arith, second, here, e, f)
       ]
 
-  -- it is there exactly where it stands behind those before it
+  -- x is in the list exactly where it stands behind the elements before it
   pub found_at : (xs : List X) (d : X) → AllPairs (λ a b. before a b ≡ true) xs → length (filter low xs) < length xs → list_any is_x xs ≡ is_x (get_or xs (length (filter low xs)) d)
   found_at [] d rise within = absurd (omega arith)
   found_at (y ∷ ys) d rise within =
@@ -146,6 +117,7 @@ module _ {X : Type 0} (before same : X → X → Bool) (order : IsOrder before s
             ]
       ]
 
+  -- where all elements come before x, x is not in the list
   pub absent_past : (xs : List X) → AllPairs (λ a b. before a b ≡ true) xs → length xs ≤ length (filter low xs) → list_any is_x xs ≡ false
   absent_past [] rise past = refl
   absent_past (y ∷ ys) rise past =
@@ -185,6 +157,7 @@ module _ {X : Type 0} (before same : X → X → Bool) (order : IsOrder before s
             ]
       ]
 
+  -- a list without x stays as it is where x is filtered out
   pub absent_kept : (xs : List X) → list_any is_x xs ≡ false → xs ≡ filter (λ y. not (is_x y)) xs
   absent_kept [] absent = refl
   absent_kept (y ∷ ys) absent =
@@ -220,7 +193,7 @@ module _ {X : Type 0} (before same : X → X → Bool) (order : IsOrder before s
             ]
       ]
 
-  -- both keep the order
+  -- a list in strict order stays in order where x is put in its place
   pub with_rises : (xs : List X) → AllPairs (λ a b. before a b ≡ true) xs → AllPairs (λ a b. before a b ≡ true) (filter low xs ++ x ∷ filter high xs)
   with_rises xs rise =
       let R : X → X → Type 0 = λ a b. before a b ≡ true in
@@ -231,5 +204,6 @@ module _ {X : Type 0} (before same : X → X → Bool) (order : IsOrder before s
       pairs_append R below (x ∷ above) (AllPairs-filter R low xs rise)
       (AllPairs-cons R x above all_above (AllPairs-filter R high xs rise)) cross
 
+  -- a list in strict order stays in order where x is filtered out
   pub without_rises : (xs : List X) → AllPairs (λ a b. before a b ≡ true) xs → AllPairs (λ a b. before a b ≡ true) (filter (λ y. not (is_x y)) xs)
   without_rises xs rise = AllPairs-filter (λ a b. before a b ≡ true) (λ y. not (is_x y)) xs rise

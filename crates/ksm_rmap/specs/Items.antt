@@ -12,7 +12,7 @@ AreAscending pages = AllPairs (λ p q. comes_before p q ≡ true) pages
 abbrev pub has_item : GuestPage → List GuestPage → Bool
 has_item page pages = list_any (λ p. same_page p page) pages
 
--- with the page at its place in the order
+-- the pages with this one among them, at its place in the order
 abbrev pub with_item : GuestPage → List GuestPage → List GuestPage
 with_item page pages = filter (λ p. comes_before p page) pages ++ page ∷ filter (λ p. comes_before page p) pages
 

@@ -9,7 +9,8 @@ use smallvec::SmallVec;
 use std::alloc::Global;
 use std::marker::Model;
 
-/// The pages that are mapped to one merged page, in ascending order, each once and at most 1,024 (mm/ksm, the reverse map).
+/// The pages that are mapped to one merged page, in ascending order, each once and at most 1,024 (mm/ksm, the reverse
+/// map).
 ///
 /// `add` and `remove` cost the logarithm of the number of pages, and a move of those behind.
 #[derive(Drop)]
@@ -30,7 +31,7 @@ impl Model for Items {
 }
 
 impl Items {
-    /// No pages.
+    /// A dup without pages.
     pub fn new(alloc: Global) -> Items
         ensures { result ≡ [] }
     {
@@ -91,7 +92,7 @@ impl Items {
     }
 }
 
-/// How many of the pages come before one.
+/// How many of the pages come before this one: the index at which it stands, or would.
 fn place_of(pages: &[GuestPage], page: GuestPage) -> usize
     requires { AreAscending pages.now }
     ensures count { result ≡ length (filter (λ p. comes_before p page) pages.now) }
@@ -100,7 +101,7 @@ fn place_of(pages: &[GuestPage], page: GuestPage) -> usize
     pages.partition_point(|p| *p < page)
 }
 
-/// Whether a page stands at a place.
+/// Whether the page stands at the index.
 fn stands_at(pages: &[GuestPage], at: usize, page: GuestPage) -> bool
     requires order { AreAscending pages.now }
     requires place { at ≡ length (filter (λ p. comes_before p page) pages.now) }

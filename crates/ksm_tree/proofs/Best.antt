@@ -7,8 +7,8 @@ use Rattle.std.proofs.lemmas.Bool.Decides.{nat_tests}
 use Rattle.std.proofs.lemmas.Option.{none-some, same_Some}
 use Rattle.std.proofs.lemmas.List.Elements.{All-head, All-tail, All-append, All-weaker, All-cons}
 use Rattle.ksm_base.specs.Rows.{InPlaceOrder}
-use Rattle.ksm_rmap.proofs.Ordered.{pairs_head, pairs_tail}
 use Rattle.ksm_base.specs.declared.row.DupRow.{DupRow}
+use Rattle.ksm_base.proofs.Orders.{pairs_head, pairs_tail}
 use Rattle.ksm_tree.specs.declared.dup.Dup.{Dup}
 use Rattle.ksm_tree.specs.Choosing.{ArePlacesToJoin, may_join, is_no_worse, best_of, better, of_group}
 use Rattle.ksm_tree.specs.Counts.{is_open}
@@ -99,7 +99,7 @@ module _ (may : Dup → Bool) where
   top_snoc : (dups : List Dup) (d e : Dup) → top (dups ++ d ∷ []) e ≡ (top dups e && rival e d)
   top_snoc dups d e = let h = all_snoc (rival e) dups d in grind (arith, h)
 
-  -- one step more of the walk
+  -- a dup that may not be joined is passed over
   passed_over : (dups : List Dup) (acc : Option Dup) (d : Dup) → IsTop dups acc → may d ≡ false → IsTop (dups ++ d ∷ []) acc
   passed_over dups acc d h fails =
       record {
@@ -195,7 +195,7 @@ found_self (d ∷ dups) rise =
     All-cons (λ e. dup_at e.row.place (d ∷ dups) ≡ Some e) d dups (grind (arith, nat_tests))
     (λ k e lt. let behind = (all_rows (λ r. d.row.place < r.place) dups (All-weaker (λ r. (d.row.place < r.place) × ((d.row.number == r.number) ≡ false)) (λ r. d.row.place < r.place) (λ r h. h.0) (rows_of dups) first)) k e lt in let found = rest k e lt in grind (arith, nat_tests, behind, found))
 
--- with an item, and below the limit
+-- a dup that may be joined: it has an item, and fewer than the limit
 abbrev has_room : ℕ → Dup → Bool
 has_room limit d = nat_le 1 (length d.items) && nat_lt (length d.items) limit
 
@@ -272,7 +272,7 @@ places_within t b places (r ∷ rows) below =
       | inr outside ↦ rw outside rest
     ]
 
--- and so do those of the open dups
+-- the places of the open dups are places of the table
 open_within : (limit places : ℕ) (dups : List Dup) → All (λ r. r.place < places) (rows_of dups) → All (λ p. p < places) (places_open limit dups)
 open_within limit places [] below = λ k d lt. absurd (omega arith)
 open_within limit places (d ∷ dups) below =
@@ -301,7 +301,7 @@ group_found t b all (d ∷ dups) found =
       | inr outside ↦ rw outside rest
     ]
 
--- so a dup of the chain needs no comparison
+-- a dup of the chain needs no comparison: its place is one of the group
 pub candidate_is : (t : ℕ) (b : List ℕ) (limit : ℕ) (dups : List Dup) (found : List ℕ) (is_chain : Bool) (i : ℕ) → InPlaceOrder (rows_of dups) → ArePlacesToJoin t b limit dups found is_chain → i < length found
     → (if is_chain then dup_at (get_or found i 0) dups else of_group t b (dup_at (get_or found i 0) dups)) ≡ of_group t b (dup_at (get_or found i 0) dups)
 candidate_is t b limit dups found true i rise group within =

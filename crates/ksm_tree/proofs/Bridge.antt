@@ -61,9 +61,11 @@ module _ (rows : List Row) where
   abbrev IsCounted : Dup → Type 0
   IsCounted d = length d.items ≡ item_count rows d.row
 
+  -- the first stale dup is the first row that no row of a page is merged into
   pub stale_alike : (dups : List Dup) → AreCounted rows dups → option_map (λ d. d.row) (find is_stale dups) ≡ find (is_stale_row rows) (rows_of dups)
   stale_alike dups counted = found_alike is_stale (is_stale_row rows) dups (All-weaker IsCounted (λ d. is_stale d ≡ is_stale_row rows d.row) (λ d n. ap (λ k. k == 0) n) dups counted)
 
+  -- the dups with items are the rows of dups into which pages are merged
   pub live_alike : (dups : List Dup) → AreCounted rows dups → rows_of (filter is_live dups) ≡ filter (has_items rows) (rows_of dups)
   live_alike dups counted = left_alike is_live (has_items rows) dups (All-weaker IsCounted (λ d. is_live d ≡ has_items rows d.row) (λ d n. ap (nat_lt 0) n) dups counted)
 
@@ -71,15 +73,17 @@ module _ (rows : List Row) where
   pub stale_count : (dups : List Dup) → AreCounted rows dups → count_by is_stale dups ≡ count_by (is_stale_row rows) (rows_of dups)
   stale_count dups counted = count_alike is_stale (is_stale_row rows) dups (All-weaker IsCounted (λ d. is_stale d ≡ is_stale_row rows d.row) (λ d n. ap (λ k. k == 0) n) dups counted)
 
+  -- as many dups have items as rows of dups have pages merged into them
   pub live_count : (dups : List Dup) → AreCounted rows dups → count_by is_live dups ≡ count_by (has_items rows) (rows_of dups)
   live_count dups counted = count_alike is_live (has_items rows) dups (All-weaker IsCounted (λ d. is_live d ≡ has_items rows d.row) (λ d n. ap (nat_lt 0) n) dups counted)
 
-  -- with items or without, at a place
+  -- a dup with items at a place is the row of a dup there that pages are merged into
   pub live_placed : (place : ℕ) (dups : List Dup) → AreCounted rows dups → option_map (λ d. d.row) (find (λ d. stands_at place d && is_live d) dups) ≡ find (λ d. d.place == place && has_items rows d) (rows_of dups)
   live_placed place dups counted =
       found_alike (λ d. stands_at place d && is_live d) (λ d. d.place == place && has_items rows d) dups
       (All-weaker IsCounted (λ d. (stands_at place d && is_live d) ≡ (d.row.place == place && has_items rows d.row)) (λ d n. ap (λ k. d.row.place == place && nat_lt 0 k) n) dups counted)
 
+  -- a stale dup at a place is the row of a dup there that no page is merged into
   pub stale_placed : (place : ℕ) (dups : List Dup) → AreCounted rows dups → option_map (λ d. d.row) (find (λ d. stands_at place d && is_stale d) dups) ≡ find (λ d. d.place == place && is_stale_row rows d) (rows_of dups)
   stale_placed place dups counted =
       found_alike (λ d. stands_at place d && is_stale d) (λ d. d.place == place && is_stale_row rows d) dups
@@ -125,11 +129,13 @@ module _ (rows : List Row) where
       let empty = empty_from 0 (rows_of s.dups) in
       ap (λ d. if nat_lt empty s.places then empty else place_or empty d) (stale_alike s.dups counted)
 
+  -- the place that is chosen for a new dup is the one that the book's definition gives
   pub choice_alike : (s : DupsState) (c : Choice) → AreCounted rows s.dups → choice_of s ≡ Some c → place_in c ≡ new_place s.places rows (rows_of s.dups)
   choice_alike s c counted is =
       let empty = empty_from 0 (rows_of s.dups) in
       place_alike (nat_lt empty s.places) empty (find is_stale s.dups) c is ∙ new_alike s counted
 
+  -- where the book's definition gives a place of the table, one is chosen
   pub choice_exists : (s : DupsState) → AreCounted rows s.dups → new_place s.places rows (rows_of s.dups) < s.places → is_some (choice_of s) ≡ true
   choice_exists s counted inside =
       let empty = empty_from 0 (rows_of s.dups) in

@@ -72,7 +72,7 @@ chain_empty key es f keeps none t b =
     sym (cond_same s (chain_in t b es))
     ∙ picked s (chain_in t b es) (f (chain_in t b es)) (chain_in t b es) (λ here. let e = sym (same_chain key t b es here) ∙ none in e ∙ sym (ap f e ∙ keeps))
 
--- at an entry that is there, and where there is none
+-- the chain of a content is what its entry has, and empty where it has none
 pub chain_here : {S : Type 0} (key : Content) (old : HashMap Content Places S) (chain : Option Places) → chain ≡ get content_eq.ghosts.eq old key → chain_in key.tree key.bytes old.entries ≡ listed chain
 chain_here key old chain is = chain_found key old.entries ∙ ap listed (sym is)
 

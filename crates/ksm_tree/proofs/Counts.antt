@@ -64,6 +64,7 @@ three_kinds (Some d ∷ slots) =
     ]
 
 module _ (slots : List (Option Dup)) (counts : List ℕ) (empty stale : SmallVec ℕ) (h : AreSlots slots counts empty stale) where
+  -- the list of stale places is as long as there are stale dups
   pub stale_counted : length stale.items ≡ count_by is_stale (present slots)
   stale_counted = ap length h.stales ∙ where_count is_stale_slot 0 slots ∙ stale_slots slots
 
@@ -74,6 +75,7 @@ module _ (slots : List (Option Dup)) (counts : List ℕ) (empty stale : SmallVec
       ∙ where_count is_empty_slot 0 (reverse slots)
       ∙ sum_by-IsPermutation (λ s. cond (is_empty_slot s) 1 0) slots (reverse slots) (IsPermutation-reverse slots)
 
+  -- the empty places, the stale ones and the dups with items are together as many as there are slots
   pub live_counted : length empty.items + length stale.items + count_by is_live (present slots) ≡ length slots
   live_counted =
       let kinds = three_kinds slots in

@@ -13,7 +13,8 @@ use Rattle.ksm_base.specs.declared.row.DupRow.{DupRow}
 use Rattle.ksm_base.specs.Counting.{group_size, in_chain, leads_group}
 use Rattle.ksm_base.specs.Rows.{InPlaceOrder, same_group, with_dup}
 use Rattle.ksm_base.proofs.Edits.{count_more, count-append}
-use Rattle.ksm_rmap.proofs.Ordered.{pairs_head, pairs_tail, filter_all}
+use Rattle.ksm_base.proofs.Orders.{pairs_head, pairs_tail}
+use Rattle.ksm_base.proofs.RowCounts.{filter_all}
 use Rattle.ksm_tree.specs.Index.{in_group, group_places}
 use Rattle.ksm_tree.specs.Totals.{AreTotals, IsRegrouped, Tells, chained_of, chains_of}
 use Rattle.ksm_tree.specs.declared.totals.Totals.{Totals}
@@ -43,12 +44,12 @@ more_between r xs ys = record {
       grind (arith, first, second));
 }
 
--- with a new row, beside those at other places
+-- a new row is one row more than those at other places
 pub more_with : (r : DupRow) (rows : List DupRow) → InPlaceOrder rows → IsMore r (filter (λ e. not (e.place == r.place)) rows) (with_dup r rows)
 more_with r rows rise =
     rw (rows_parted r.place rows rise) (more_between r (filter (λ e. nat_lt e.place r.place) rows) (filter (λ e. nat_lt r.place e.place) rows))
 
--- with the row that stands at a place
+-- the row at a place is one row more than those at other places
 pub more_there : (p : ℕ) (rows : List DupRow) (e : DupRow) → InPlaceOrder rows → find (λ r. r.place == p) rows ≡ Some e → IsMore e (filter (λ r. not (r.place == p)) rows) rows
 more_there p [] e rise found = absurd (none-some e found)
 more_there p (r ∷ rows) e rise found =
@@ -124,6 +125,7 @@ module _ (t : ℕ) (b : List ℕ) where
   abbrev pub size : List DupRow → ℕ
   size rows = count_by of_it rows
 
+  -- the group has as many places as dups
   pub places_size : (rows : List DupRow) → length (group_places t b rows) ≡ size rows
   places_size rows = length-map (filter of_it rows) (λ r. r.place) ∙ length-filter of_it rows
 
@@ -224,7 +226,7 @@ module _ (t : ℕ) (b : List ℕ) where
 
 -- ---------------------------------------------------------------- the totals
 
--- they tell of each group, and are small
+-- rows whose places are k or more and below p are at most p - k
 rows_fit : (k p : ℕ) (rows : List DupRow) → k ≤ p → All (λ r. k ≤ r.place) rows → All (λ r. r.place < p) rows → InPlaceOrder rows → length rows + k ≤ p
 rows_fit k p [] least above below rise = omega arith
 rows_fit k p (r ∷ rows) least above below rise =

@@ -10,7 +10,7 @@ use Rattle.ksm_base.specs.declared.page.GuestPage.{GuestPage}
 use Rattle.ksm_base.specs.declared.row.DupRow.{DupRow}
 use Rattle.ksm_base.specs.Rows.{InPlaceOrder}
 use Rattle.ksm_base.proofs.Edits.{find_nothing}
-use Rattle.ksm_rmap.proofs.Ordered.{pairs_head, pairs_tail}
+use Rattle.ksm_base.proofs.Orders.{pairs_head, pairs_tail}
 use Rattle.ksm_tree.specs.declared.dup.Dup.{Dup}
 use Rattle.ksm_tree.specs.declared.index.Index.{Index}
 use Rattle.ksm_tree.specs.Dups.{rows_of, has_number, stands_at, dup_of, dup_at, without_place, change_items}
@@ -40,22 +40,26 @@ module _ (s : SlotsState) (next : ℕ) (index : Index) (h : AreIndexed s next in
   pub indexed_found : (q p : ℕ) → Some p ≡ place_of q index → dup_of q s.dups ≡ dup_at p s.dups
   indexed_found q p is = number_place_found q p s.dups h.lawful.in_place_order (sym (h.numbered q) ∙ sym is)
 
+  -- to change the items of a number is to change those of the dup at the place that the index gives for it
   pub indexed_changed : (q p : ℕ) (f : List GuestPage → List GuestPage) → Some p ≡ place_of q index → change_items q f s.dups ≡ change_at p f s.dups
   indexed_changed q p f is = number_place_changed q p f s.dups h.lawful.in_place_order (sym (h.numbered q) ∙ sym is)
 
+  -- no dup has a number that the index lacks
   pub unindexed_found : (q : ℕ) → None ≡ place_of q index → dup_of q s.dups ≡ None
   unindexed_found q is = unknown_found q s.dups (sym (h.numbered q) ∙ sym is)
 
+  -- a change of the items of a number that the index lacks changes no dup
   pub unindexed_changed : (q : ℕ) (f : List GuestPage → List GuestPage) → None ≡ place_of q index → s.dups ≡ change_items q f s.dups
   unindexed_changed q f is = unknown_changed q f s.dups (sym (h.numbered q) ∙ sym is)
 
-  -- and its place is that of the dup with the number
+  -- the index gives for each number the place of its dup
   pub indexed_place : (q : ℕ) → place_of q index ≡ option_map (λ d. d.row.place) (dup_of q s.dups)
   indexed_place q =
       h.numbered q
       ∙ ap (option_map (λ r. r.place)) (sym (row_found (has_number q) (λ r. r.number == q) (λ d. refl) s.dups))
       ∙ place_of_row (dup_of q s.dups)
 
+  -- a dup stands at each place that the index gives
   pub indexed_there : (q p : ℕ) → Some p ≡ place_of q index → is_some (dup_at p s.dups) ≡ true
   indexed_there q p is =
       let there = row_some (find (λ r. r.number == q) (rows_of s.dups)) (sym (h.numbered q) ∙ sym is) in

@@ -1,14 +1,14 @@
 -- The index once a new dup has taken its place.
-use Rattle.std.proofs.Common.{◌≡◌, ◌∙◌, ℕ, ◌+◌, ◌<◌, Bool, true, false, List, [], ◌∷◌, Option, None, Some, refl, sym, ap, subst, inl, inr, arith}
-use Rattle.std.specs.Prelude.{◌==◌, ◌&&◌, not, All, filter, find, length, option_map, bytes_eq, if◌then◌else◌}
+use Rattle.std.proofs.Common.{◌≡◌, ◌∙◌, ℕ, ◌+◌, ◌<◌, Bool, true, false, List, Option, None, Some, refl, sym, ap, subst, inl, inr, arith}
+use Rattle.std.specs.Prelude.{◌==◌, ◌&&◌, not, All, filter, length, option_map, bytes_eq, if◌then◌else◌}
 use Rattle.std.proofs.lemmas.Bool.{cases_Bool, ne_eqb, eqb-true}
 use Rattle.std.proofs.lemmas.Bool.Decides.{nat_tests}
-use Rattle.std.proofs.lemmas.Option.{none-some}
-use Rattle.std.proofs.lemmas.List.Elements.{All-head, All-tail, All-weaker, All-cons}
+use Rattle.std.proofs.lemmas.List.Elements.{All-weaker}
 use Rattle.std.proofs.lemmas.List.Kept.{AllPairs-filter}
 use Rattle.ksm_base.specs.declared.row.DupRow.{DupRow}
 use Rattle.ksm_base.specs.Rows.{InPlaceOrder, with_dup}
-use Rattle.ksm_rmap.proofs.Ordered.{filter_all}
+use Rattle.ksm_base.proofs.RowCounts.{filter_all}
+use Rattle.ksm_base.proofs.Edits.{find_nothing, find_none}
 use Rattle.ksm_tree.specs.declared.dup.Dup.{Dup}
 use Rattle.ksm_tree.specs.declared.index.Index.{Index}
 use Rattle.ksm_tree.specs.Dups.{AreDups, rows_of, dup_at, with_new}
@@ -21,21 +21,6 @@ use Rattle.ksm_tree.proofs.Grouped.{IsMore, chains_kept, dups_kept, more_with, m
 use Rattle.ksm_tree.proofs.Keys.{own_bytes, own_group, own_tree, self_group}
 use Rattle.ksm_tree.proofs.Indexed.{row_at_place, not_in_group, cond_if, found_stands, told}
 use Rattle.ksm_tree.proofs.Rows.{rows_with, all_with, place_new, place_kept, place_gone, group_joined, group_passed, group_unlike, found_in}
-
-none_found : {X : Type 0} (test : X → Bool) (xs : List X) → find test xs ≡ None → All (λ x. test x ≡ false) xs
-none_found test [] none = λ k d lt. absurd (omega arith)
-none_found test (x ∷ xs) none =
-    elim (cases_Bool (test x)) [
-      | inl passes ↦ absurd (none-some x (sym none ∙ grind (arith, passes)))
-      | inr fails ↦ All-cons (λ y. test y ≡ false) x xs fails (none_found test xs (grind (arith, fails, none)))
-    ]
-
-nothing_found : {X : Type 0} (test : X → Bool) (xs : List X) → All (λ x. test x ≡ false) xs → find test xs ≡ None
-nothing_found test [] none = refl
-nothing_found test (x ∷ xs) none =
-    let here = All-head (λ y. test y ≡ false) x xs none in
-    let rest = nothing_found test xs (All-tail (λ y. test y ≡ false) x xs none) in
-    grind (arith, here, rest)
 
 -- the place of a number, and the places of a group, with a new row
 place_with : (q : ℕ) (row : DupRow) (rows : List DupRow) → InPlaceOrder rows → All (λ r. r.number < row.number) rows → row_place q (with_dup row rows) ≡ (if q == row.number then Some row.place else row_place q (filter (λ r. not (r.place == row.place)) rows))
@@ -63,13 +48,13 @@ module _ (s : SlotsState) (next : ℕ) (index new : Index) (dup : Dup) (h : AreI
         numbers_below = rw is (all_with (λ r. r.number < next + 1) dup.row rows (All-weaker (λ r. r.number < next) (λ r. r.number < next + 1) (λ r below. omega arith) rows h.lawful.numbers_below) (omega (arith, number)));
       }
 
-  -- at a place that was empty
+  -- the index is right once a new dup stands at a place that was empty
   pub fresh_indexed : None ≡ dup_at dup.row.place s.dups → ((q : ℕ) → place_of q new ≡ (if q == dup.row.number then Some dup.row.place else place_of q index)) → ((t : ℕ) (b : List ℕ) → places_of t b new ≡ (if t == dup.row.tree && bytes_eq b dup.row.bytes then with_place dup.row.place (places_of t b index) else places_of t b index))
       → IsRegrouped (length (places_of dup.row.tree dup.row.bytes index)) (length (places_of dup.row.tree dup.row.bytes new)) index.groups.totals new.groups.totals → AreIndexed (record { places = s.places; dups = with_new dup s.dups }) (next + 1) new
   fresh_indexed none numbers groups regrouped =
       let rows = rows_of s.dups in
       let p = dup.row.place in
-      let apart = none_found (λ r. r.place == p) rows (row_at_place p s.dups None (sym none)) in
+      let apart = find_none (λ r. r.place == p) rows (row_at_place p s.dups None (sym none)) in
       let kept = filter_all (λ r. not (r.place == p)) rows (All-weaker (λ r. (r.place == p) ≡ false) (λ r. not (r.place == p) ≡ true) (λ r e. ap not e) rows apart) in
       let grouped : (t : ℕ) (b : List ℕ) → places_of t b new ≡ group_places t b (with_dup dup.row rows) = λ t b.
       let unlike = group_unlike p t b rows (All-weaker (λ r. (r.place == p) ≡ false) (λ r. (r.place == p && in_group t b r) ≡ false) (λ r e. grind (arith, e)) rows apart) in
@@ -153,6 +138,7 @@ module _ (s : SlotsState) (next : ℕ) (index new : Index) (dup : Dup) (h : AreI
         | inr outside ↦ ap length (groups t b ∙ rw (sym (own_group t b dup.row) ∙ outside) refl)
       ]
 
+  -- once the new dup is entered beside the old one at its place, the totals are right for the group of the old one
   pub told_between : (mid : Index) (old : Dup) → Some old ≡ dup_at dup.row.place s.dups → IsJoined mid
       → IsRegrouped (length (places_of dup.row.tree dup.row.bytes index)) (length (places_of dup.row.tree dup.row.bytes mid)) index.groups.totals mid.groups.totals → Tells (length (places_of old.row.tree old.row.bytes mid)) mid.groups.totals
   told_between mid old found groups regrouped =
@@ -163,7 +149,7 @@ module _ (s : SlotsState) (next : ℕ) (index new : Index) (dup : Dup) (h : AreI
       rw (left_size mid old swap groups) (totals_between old.row r swap.less rows (with_dup r rows) swap.there swap.here h.lawful.in_place_order swap.less_rise swap.new_rise
       index.groups.totals mid.groups.totals (rw (← h.grouped r.tree r.bytes, ← joined_own mid groups) regrouped) (length (places_of old.row.tree old.row.bytes index)) few.0 few.1 (told s next index h old.row.tree old.row.bytes))
 
-  -- at the place of a dup that goes
+  -- the index is right once a new dup stands at the place of a dup that goes
   pub taken_indexed : (mid : Index) (old : Dup) → Some old ≡ dup_at dup.row.place s.dups
       → ((q : ℕ) → place_of q mid ≡ (if q == dup.row.number then Some dup.row.place else place_of q index))
       → ((t : ℕ) (b : List ℕ) → places_of t b mid ≡ (if t == dup.row.tree && bytes_eq b dup.row.bytes then with_place dup.row.place (places_of t b index) else places_of t b index))
@@ -225,4 +211,4 @@ module _ (s : SlotsState) (next : ℕ) (index new : Index) (dup : Dup) (h : AreI
 -- the next number is that of no dup
 pub next_unused : (s : SlotsState) (next : ℕ) (index : Index) → AreIndexed s next index → place_of next index ≡ None
 next_unused s next index h =
-    h.numbered next ∙ ap (option_map (λ r. r.place)) (nothing_found (λ r. r.number == next) (rows_of s.dups) (All-weaker (λ r. r.number < next) (λ r. (r.number == next) ≡ false) (λ r below. ne_eqb r.number next (λ e. omega (arith, below, e))) (rows_of s.dups) h.lawful.numbers_below))
+    h.numbered next ∙ ap (option_map (λ r. r.place)) (find_nothing (λ r. r.number == next) (rows_of s.dups) (All-weaker (λ r. r.number < next) (λ r. (r.number == next) ≡ false) (λ r below. ne_eqb r.number next (λ e. omega (arith, below, e))) (rows_of s.dups) h.lawful.numbers_below))

@@ -41,17 +41,21 @@ last_counted place places rise last =
     (λ k d from below. let here : k ≡ at = omega arith in let is = stands d in rw here (grind (arith, nat_tests, is)))
 
 module _ (place : ℕ) (places : List ℕ) (rise : AllPairs (λ p q. nat_lt p q ≡ true) places) (at : ℕ) (count : at ≡ length (filter (λ p. nat_lt p place) places)) where
+  -- a place that was not in the list is inserted where the search for it ended
   pub put_in : false ≡ list_any (λ p. p == place) places → insert places at place ≡ with_place place places
   put_in absent = ap (λ n. insert places n place) count ∙ insert_at nat_lt (λ p q. p == q) places_ordered place places rise (sym absent)
 
+  -- where the place is in the list, adding it changes nothing
   pub was_in : true ≡ list_any (λ p. p == place) places → places ≡ with_place place places
   was_in found = with_found nat_lt (λ p q. p == q) places_ordered place places rise (sym found)
 
+  -- where the search for a place ended at it, removing there takes that place out
   pub taken_out : at < length places → (get_or places at 0 == place) ≡ true → remove places at ≡ without place places
   taken_out within here =
       let within_count : length (filter (λ p. nat_lt p place) places) < length places = rw (← count) within in
       let here_count : (get_or places (length (filter (λ p. nat_lt p place) places)) 0 == place) ≡ true = rw (← count) here in
       ap (remove places) count ∙ remove_at nat_lt (λ p q. p == q) places_ordered place places 0 rise within_count here_count
 
+  -- where the place is not in the list, taking it out changes nothing
   pub was_out : false ≡ list_any (λ p. p == place) places → places ≡ without place places
   was_out absent = absent_kept nat_lt (λ p q. p == q) places_ordered place places (sym absent)

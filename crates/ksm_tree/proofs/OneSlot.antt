@@ -12,10 +12,13 @@ use Rattle.std.proofs.lemmas.List.Elements.{All-cons, All-weaker}
 use Rattle.ksm_base.specs.declared.page.GuestPage.{GuestPage}
 use Rattle.ksm_base.specs.Rows.{comes_before, same_page}
 use Rattle.ksm_base.specs.Visit.{empty_from}
+use Rattle.ksm_base.proofs.Orders.{filter_none}
+use Rattle.ksm_base.proofs.RowCounts.{filter_all}
+use Rattle.ksm_base.proofs.Edits.{find_nothing}
 use Rattle.ksm_tree.specs.Choosing.{empty_place}
 use Rattle.ksm_rmap.specs.Items.{has_item, with_item, without_item}
 use Rattle.smallvec.specs.SmallVec.{SmallVec}
-use Rattle.ksm_rmap.proofs.Ordered.{filter_none, filter_all, absent_kept}
+use Rattle.ksm_rmap.proofs.Ordered.{absent_kept}
 use Rattle.ksm_rmap.proofs.Pages.{pages_ordered}
 use Rattle.ksm_tree.specs.declared.dup.Dup.{Dup}
 use Rattle.ksm_tree.proofs.Where.{where_with, where_without, where_same, where_room}
@@ -42,17 +45,10 @@ none_at k p slots below placed i d lt = let h = placed_above k slots placed i d 
 all_above : (k p : ℕ) (slots : List (Option Dup)) → p < k → ArePlaced k slots → All (λ d. nat_lt p d.row.place ≡ true) (present slots)
 all_above k p slots below placed i d lt = let h = placed_above k slots placed i d lt in grind (arith, nat_tests, h)
 
-find_none : {X : Type 0} (test : X → Bool) (xs : List X) → All (λ x. test x ≡ false) xs → find test xs ≡ None
-find_none test [] none = refl
-find_none test (x ∷ xs) none =
-    let here : test x ≡ false = none 0 x (omega arith) in
-    let rest = find_none test xs (λ i d lt. none (suc i) d (omega arith)) in
-    grind (arith, here, rest)
-
 -- what stands at a place is what its slot holds
 pub slot_found : (k p i : ℕ) (slots : List (Option Dup)) → p ≡ k + i → ArePlaced k slots → dup_at p (present slots) ≡ get_or slots i None
 slot_found k p i [] is placed = refl
-slot_found k p zero (None ∷ slots) is placed = find_none (stands_at p) (present slots) (none_at (suc k) p slots (omega arith) placed)
+slot_found k p zero (None ∷ slots) is placed = find_nothing (stands_at p) (present slots) (none_at (suc k) p slots (omega arith) placed)
 slot_found k p (suc i) (None ∷ slots) is placed = slot_found (suc k) p i slots (omega arith) placed
 slot_found k p zero (Some d ∷ slots) is placed = let h = placed.0 in grind (arith, nat_tests, h)
 slot_found k p (suc i) (Some d ∷ slots) is placed =
@@ -238,6 +234,7 @@ module _ (test : Option Dup → Bool) where
       ap (places_where test 0) (reverse_set slots i m s is)
       ∙ where_same test None 0 m (reverse slots) s (same ∙ ap test (sym (get_mirrored slots i m None is)))
 
+  -- where the slot at one place fails the test, the list of places that pass has room for one more
   pub mirrored_room : (i m : ℕ) (slots : List (Option Dup)) → m + i + 1 ≡ length slots → test (get_or slots i None) ≡ false → length (mirrored_where slots) + 1 ≤ length slots
   mirrored_room i m slots is fails =
       let n = length-reverse slots in
@@ -280,13 +277,16 @@ empty_first slots placed =
 
 -- the last of the distances is that of the least place that no dup has
 module _ (slots : List (Option Dup)) (counts : List ℕ) (empty stale : SmallVec ℕ) (h : AreSlots slots counts empty stale) where
+  -- the last of the distances is below the number of slots
   pub empty_within : (m : ℕ) → last_of empty.items ≡ Some m → m < length slots
   empty_within m is = mirrored_within is_empty_slot m slots (ap last_of (sym h.empties) ∙ is)
 
+  -- the place at the last of the distances is the least empty place
   pub empty_found : (p m : ℕ) → p + m + 1 ≡ length slots → last_of empty.items ≡ Some m → Some p ≡ empty_place (length slots) (rows_of (present slots))
   empty_found p m at is =
       sym (mirrored_first is_empty_slot 0 p m slots (omega (arith, at)) (ap last_of (sym h.empties) ∙ is)) ∙ empty_first slots h.placed
 
+  -- where the list of empty places has no last element, no place is empty
   pub empty_none : last_of empty.items ≡ None → None ≡ empty_place (length slots) (rows_of (present slots))
   empty_none none = sym (mirrored_none is_empty_slot 0 slots (ap last_of (sym h.empties) ∙ none)) ∙ empty_first slots h.placed
 
@@ -343,7 +343,7 @@ slots_put slots counts empty stale empty' stale' dup m n at is live h left room 
       stale_room = rw (length-set, room_stale) h.stale_room;
     }
 
--- and what is then seen of the slots
+-- what is seen of the slots once a dup was put in one
 pub seen_put : (slots : List (Option Dup)) (state : SlotsState) (dup : Dup) → slots_seen slots ≡ state → dup.row.place < state.places → ArePlaced 0 slots → slots_seen (set slots dup.row.place (Some dup)) ≡ record { places = state.places; dups = with_new dup state.dups }
 seen_put slots state dup seen place placed =
     let p = dup.row.place in
@@ -434,7 +434,7 @@ slot_not_none p slots r placed known read is =
     let here = read_dup p slots r placed (known_within p slots placed known) read ∙ is in
     false≢true (ap is_some (sym here) ∙ known)
 
--- with an item more a dup is not stale
+-- a dup that got an item is not stale
 pub grown_not_stale : (page : GuestPage) (pages : List GuestPage) → (length (with_item page pages) == 0) ≡ false
 grown_not_stale page pages =
     let n = length-append (filter (λ p. comes_before p page) pages) (page ∷ filter (λ p. comes_before page p) pages) in
@@ -462,7 +462,7 @@ holds_dup p slots s r d view placed known read is =
       items = ap (λ t. items_in (dup_at p t.dups)) (sym view) ∙ ap items_in (slot_found 0 p p slots (omega arith) placed ∙ filled);
     }
 
--- with an item more in the dup of a slot, which is not stale then: it was stale, or had items before
+-- the slots are right once the dup of one got an item, whether it was stale or had items before
 pub slots_grown : (p n : ℕ) (slots : List (Option Dup)) (counts : List ℕ) (empty stale stale' : SmallVec ℕ) (d : Dup) (page : GuestPage) → p < length slots → AreSlots slots counts empty stale → get_or slots p None ≡ Some d → n ≡ length (with_item page d.items) → stale'.items ≡ without p stale.items → stale'.capacity ≡ stale.capacity → AreSlots (set slots p (Some (record d { items = with_item page d.items }))) (set counts p n) empty stale'
 slots_grown p n slots counts empty stale stale' d page within h filled is left room =
     let e : Dup = record d { items = with_item page d.items } in
@@ -492,7 +492,7 @@ items_not_none page (p ∷ pages) found = grind (arith, nat_tests)
 pub had_item : (page : GuestPage) (d : Dup) → true ≡ has_item page d.items → is_stale d ≡ false
 had_item page d found = items_not_none page d.items found
 
--- with an item less in the dup of a slot: one that was no item, the last one, and another
+-- taking a page out of a dup of which it is no item changes nothing in the slots
 pub slots_unlike : (p : ℕ) (slots : List (Option Dup)) (counts : List ℕ) (empty stale : SmallVec ℕ) (d : Dup) (page : GuestPage) → p < length slots → AreSlots slots counts empty stale → get_or slots p None ≡ Some d → false ≡ has_item page d.items → AreSlots (set slots p (Some (record d { items = without_item page d.items }))) counts empty stale
 slots_unlike p slots counts empty stale d page within h filled absent =
     let e : Dup = record d { items = without_item page d.items } in

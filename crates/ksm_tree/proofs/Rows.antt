@@ -1,6 +1,6 @@
 -- Dup rows in the order of their places: what a new row and a row that goes change of what is found.
 use Rattle.std.proofs.Common.{◌≡◌, ◌∙◌, ℕ, suc, ◌<◌, Bool, true, false, List, [], ◌∷◌, ◌++◌, get_or, None, Some, refl, sym, ap, inl, inr, arith}
-use Rattle.std.specs.Prelude.{◌==◌, ◌&&◌, not, nat_lt, All, AllPairs, filter, find, option_map, if◌then◌else◌}
+use Rattle.std.specs.Prelude.{◌==◌, ◌&&◌, not, nat_lt, All, filter, find, option_map, if◌then◌else◌}
 use Rattle.std.proofs.lemmas.Bool.{cases_Bool, cases_lt, ltb-true, ne_eqb, false≢true}
 use Rattle.std.proofs.lemmas.Option.{none-some, same_Some}
 use Rattle.std.proofs.lemmas.Bool.Decides.{nat_tests}
@@ -8,7 +8,7 @@ use Rattle.std.proofs.lemmas.List.Elements.{All-head, All-tail, All-append, All-
 use Rattle.std.proofs.lemmas.List.Kept.{AllPairs-cons, AllPairs-filter}
 use Rattle.ksm_base.specs.declared.row.DupRow.{DupRow}
 use Rattle.ksm_base.specs.Rows.{InPlaceOrder, with_dup}
-use Rattle.ksm_rmap.proofs.Ordered.{pairs_head, pairs_tail, pairs_append, filter_none}
+use Rattle.ksm_base.proofs.Orders.{pairs_head, pairs_tail, pairs_append, filter_none, pairs_cross}
 use Rattle.ksm_tree.specs.Index.{in_group, row_place, group_places}
 use Rattle.ksm_tree.specs.Places.{with_place, without}
 
@@ -30,6 +30,7 @@ module _ (p : ℕ) where
   abbrev elsewhere : DupRow → Bool
   elsewhere r = not (r.place == p)
 
+  -- in the order of places, the rows at other places are those below the place, then those above it
   pub rows_parted : (rows : List DupRow) → InPlaceOrder rows → filter elsewhere rows ≡ filter below rows ++ filter above rows
   rows_parted [] rise = refl
   rows_parted (r ∷ rows) rise =
@@ -263,14 +264,6 @@ place_gone p q rows e rise found =
       | inr other ↦ rw other (stayed p q e rows other only)
     ]
 
-all_right : {X : Type 0} (P : X → Type 0) (xs ys : List X) → All P (xs ++ ys) → All P ys
-all_right P [] ys h = h
-all_right P (x ∷ xs) ys h = all_right P xs ys (All-tail P x (xs ++ ys) h)
-
-pairs_cross : (xs ys : List DupRow) → AllPairs Comes (xs ++ ys) → All (λ x. All (Comes x) ys) xs
-pairs_cross [] ys h = λ k d lt. absurd (omega arith)
-pairs_cross (x ∷ xs) ys h = All-cons (λ y. All (Comes y) ys) x xs (all_right (Comes x) xs ys (pairs_head Comes x (xs ++ ys) h)) (pairs_cross xs ys (pairs_tail Comes x (xs ++ ys) h))
-
 -- the order of a list with a new row
 pub rows_with : (row : DupRow) (rows : List DupRow) → InPlaceOrder rows → All (λ r. r.number < row.number) rows → InPlaceOrder (with_dup row rows)
 rows_with row rows rise fresh =
@@ -286,7 +279,7 @@ rows_with row rows rise fresh =
     let x = get_or lower k d in
     let first : x.place < row.place = ltb-true x.place row.place (is_lower k d lt) in
     All-cons (Comes x) row higher (first, ne_eqb x.number row.number (λ e. omega (arith, fresh_lower k d lt, e)))
-    (pairs_cross lower higher (rw (← rows_parted row.place rows rise) (AllPairs-filter Comes (elsewhere row.place) rows rise)) k d lt) in
+    (pairs_cross Comes lower higher (rw (← rows_parted row.place rows rise) (AllPairs-filter Comes (elsewhere row.place) rows rise)) k d lt) in
     pairs_append Comes lower (row ∷ higher) (AllPairs-filter Comes (below row.place) rows rise)
     (AllPairs-cons Comes row higher behind (AllPairs-filter Comes (above row.place) rows rise)) cross
 

@@ -1,6 +1,6 @@
 -- The pages of the rows merged into a dup, after a change of one row.
-use Rattle.std.proofs.Common.{◌≡◌, ◌∙◌, suc, Bool, true, false, List, [], ◌∷◌, ◌++◌, length, get_or, map, None, refl, sym, ap, inl, inr, arith}
-use Rattle.std.specs.Prelude.{not, All, filter, find, is_some}
+use Rattle.std.proofs.Common.{◌≡◌, ◌∙◌, suc, Bool, true, false, List, [], ◌∷◌, ◌++◌, length, get_or, map, refl, sym, ap, inl, inr, arith}
+use Rattle.std.specs.Prelude.{not, All, filter, is_some}
 use Rattle.std.proofs.lemmas.Bool.{cases_Bool, false≢true}
 use Rattle.std.proofs.lemmas.Bool.Decides.{nat_tests}
 use Rattle.std.proofs.lemmas.List.{length-map}
@@ -11,21 +11,16 @@ use Rattle.ksm_base.specs.declared.row.DupRow.{DupRow}
 use Rattle.ksm_base.specs.declared.row.Row.{Row}
 use Rattle.ksm_base.specs.Reading.{items_of}
 use Rattle.ksm_base.specs.Rows.{comes_before, same_page, InPageOrder, row_at, without_page, change_row, merged_into, item_count}
+use Rattle.ksm_base.proofs.Orders.{pairs_tail, filter_none}
+use Rattle.ksm_base.proofs.RowCounts.{filter_all}
+use Rattle.ksm_base.proofs.Edits.{find_nothing}
 use Rattle.ksm_rmap.specs.Items.{with_item, without_item}
-use Rattle.ksm_rmap.proofs.Ordered.{pairs_tail, filter_none, filter_all}
 use Rattle.ksm_rmap.proofs.Pages.{pages_ordered}
 use Rattle.ksm_tree.specs.declared.dup.Dup.{Dup}
 use Rattle.ksm_tree.specs.Bridge.{AreCounted, AreTied}
 
 irreflexive : (p : GuestPage) → comes_before p p ≡ false
 irreflexive p = grind (arith, nat_tests)
-
-find_nothing : {X : Type 0} (test : X → Bool) (xs : List X) → All (λ x. test x ≡ false) xs → find test xs ≡ None
-find_nothing test [] none = refl
-find_nothing test (x ∷ xs) none =
-    let here : test x ≡ false = none 0 x (omega arith) in
-    let rest = find_nothing test xs (λ k d lt. none (suc k) d (omega arith)) in
-    grind (arith, here, rest)
 
 -- the pages of the rows that pass a test
 abbrev pub pages_that : (Row → Bool) → List Row → List GuestPage
@@ -58,9 +53,11 @@ pages_chosen test by (r ∷ rows) =
     ]
 
 module _ (page : GuestPage) where
+  -- a row whose page comes before this one
   abbrev pub ahead : Row → Bool
   ahead r = comes_before r.page page
 
+  -- a row whose page comes after this one
   abbrev pub behind : Row → Bool
   behind r = comes_before page r.page
 
@@ -110,6 +107,7 @@ module _ (page : GuestPage) where
             ]
       ]
 
+  -- in the order of pages, the rows of other pages are those ahead of this one, then those behind it
   pub without_splits : (rows : List Row) → InPageOrder rows → without_page page rows ≡ filter ahead rows ++ filter behind rows
   without_splits [] rise = refl
   without_splits (r ∷ rows) rise =

@@ -1,5 +1,5 @@
 -- The items of each dup stay the pages of the rows merged into it: the dups after a change of one row, and after a change of all.
-use Rattle.std.proofs.Common.{◌≡◌, ◌∙◌, ℕ, ◌<◌, true, false, true≢false, List, [], ◌∷◌, length, get_or, map, ◌++◌, Option, Some, None, refl, sym, ap, inl, inr, arith}
+use Rattle.std.proofs.Common.{◌≡◌, ◌∙◌, ℕ, ◌<◌, true, false, List, [], ◌∷◌, length, get_or, map, ◌++◌, Option, Some, None, refl, sym, ap, inl, inr, arith}
 use Rattle.std.specs.Prelude.{◌==◌, nat_lt, not, All, filter, is_some, if◌then◌else◌}
 use Rattle.std.proofs.lemmas.Bool.{cases_Bool, cond_both, eqb-true, ne_eqb, false≢true}
 use Rattle.std.proofs.lemmas.Bool.Decides.{nat_tests}
@@ -13,10 +13,11 @@ use Rattle.ksm_base.specs.declared.row.Row.{Row}
 use Rattle.ksm_base.specs.Reading.{items_of}
 use Rattle.ksm_base.specs.Rows.{comes_before, same_page, InPageOrder, row_at, with_row, without_page, change_row, merged_state, merged_into, item_count}
 use Rattle.ksm_base.proofs.Edits.{find_none}
-use Rattle.ksm_base.proofs.Orders.{ordered_map}
-use Rattle.ksm_base.proofs.RowCounts.{each_at_page}
+use Rattle.ksm_base.proofs.Orders.{ordered_map, filter_none}
+use Rattle.ksm_base.proofs.RowCounts.{each_at_page, filter_all}
+use Rattle.ksm_base.proofs.SoundCounts.{not_an_item}
 use Rattle.ksm_rmap.specs.Items.{has_item, with_item, without_item}
-use Rattle.ksm_rmap.proofs.Ordered.{absent_kept, filter_none, filter_all}
+use Rattle.ksm_rmap.proofs.Ordered.{absent_kept}
 use Rattle.ksm_rmap.proofs.Pages.{pages_ordered}
 use Rattle.ksm_tree.specs.declared.dup.Dup.{Dup}
 use Rattle.ksm_tree.specs.Bridge.{AreTied, let_out}
@@ -27,12 +28,6 @@ use Rattle.ksm_tree.proofs.Tied.{ahead, behind, pages_that, pages_append, withou
 
 abbrev IsTied : List Row → Dup → Type 0
 IsTied rows d = d.items ≡ items_of rows d.row
-
-not_merged : (number : ℕ) (state : PageState) → merged_state state ≡ false → merged_into number state ≡ false
-not_merged number Private alone = refl
-not_merged number Waiting alone = refl
-not_merged number Zero alone = refl
-not_merged number (Merged n) alone = absurd (true≢false alone)
 
 -- the row of a page is the only one of its page
 only_row : (page : GuestPage) (rows : List Row) (old : Row) → InPageOrder rows → row_at page rows ≡ Some old → All (λ r. same_page r.page page ≡ true → r ≡ old) rows
@@ -81,13 +76,15 @@ module _ (rows : List Row) (page : GuestPage) (old : Row) (rise : InPageOrder ro
       (λ other. let fails : (n == d.row.number) ≡ false = grind (arith, nat_tests, other) in
       tied k e lt ∙ unlike d.row (rw is fails) ∙ sym (less d.row)))
 
+  -- rows and dups stay tied where a row goes and its page leaves its dup
   pub tied_dropped : (dups : List Dup) → AreTied rows dups → AreTied (without_page page rows) (let_out old.state page dups)
   tied_dropped dups tied = out_of old.state refl (without_page page rows) dups (λ d. items_dropped rows d rise page) tied
 
+  -- rows and dups stay tied where a row becomes one that is not merged and its page leaves its dup
   pub tied_left : (row : Row) (dups : List Dup) → merged_state row.state ≡ false → AreTied rows dups → AreTied (change_row page (λ _. row) rows) (let_out old.state page dups)
   tied_left row dups alone tied =
       out_of old.state refl (change_row page (λ _. row) rows) dups
-      (λ d. items_left rows d rise page row (ap is_some found) (not_merged d.number row.state alone)) tied
+      (λ d. items_left rows d rise page row (ap is_some found) (not_an_item d.number row.state alone)) tied
 
   -- where the page becomes an item
   pub tied_joined : (row : Row) (number : ℕ) (dups : List Dup) → merged_state old.state ≡ false → row.page ≡ page → row.state ≡ Merged number → AreTied rows dups → AreTied (change_row page (λ _. row) rows) (change_items number (with_item page) dups)
@@ -100,14 +97,15 @@ module _ (rows : List Row) (page : GuestPage) (old : Row) (rise : InPageOrder ro
       (λ here. let passes : (number == d.row.number) ≡ true = grind (arith, nat_tests, here) in
       ap (with_item page) (tied k e lt) ∙ sym (items_joined rows d.row rise page row at (ap is_some found) (rw is passes)))
       (λ other. let fails : (number == d.row.number) ≡ false = grind (arith, nat_tests, other) in
-      tied k e lt ∙ unlike d.row (not_merged d.row.number old.state alone) ∙ sym (items_left rows d.row rise page row (ap is_some found) (rw is fails))))
+      tied k e lt ∙ unlike d.row (not_an_item d.row.number old.state alone) ∙ sym (items_left rows d.row rise page row (ap is_some found) (rw is fails))))
 
   -- a page whose row is not merged is an item of none
   absent_in : (number : ℕ) (dups : List Dup) (o : Option Dup) → merged_state old.state ≡ false → AreTied rows dups → dup_of number dups ≡ o → has_item page (items_in o) ≡ false
   absent_in number dups None alone tied is = refl
   absent_in number dups (Some d) alone tied is =
-      ap (has_item page) (found_in (IsTied rows) (has_number number) dups d tied is) ∙ not_item d.row (not_merged d.row.number old.state alone)
+      ap (has_item page) (found_in (IsTied rows) (has_number number) dups d tied is) ∙ not_item d.row (not_an_item d.row.number old.state alone)
 
+  -- a page whose row is not merged is an item of no dup
   pub tied_absent : (number : ℕ) (dups : List Dup) → merged_state old.state ≡ false → AreTied rows dups → has_item page (items_numbered number dups) ≡ false
   tied_absent number dups alone tied = absent_in number dups (dup_of number dups) alone tied refl
 
@@ -167,12 +165,12 @@ module _ (rows : List Row) (first second : Row) (row : DupRow) (rise : InPageOrd
   -- the items of another dup
   others : (d : DupRow) → (row.number == d.number) ≡ false → items_of whole d ≡ items_of rows d
   others d fails =
-      let step : items_of half d ≡ items_of rows d = items_left rows d rise first.page first_in (ap is_some found) fails ∙ sym (unlike rows first.page first rise found d (not_merged d.number first.state alone)) in
+      let step : items_of half d ≡ items_of rows d = items_left rows d rise first.page first_in (ap is_some found) fails ∙ sym (unlike rows first.page first rise found d (not_an_item d.number first.state alone)) in
       items_left half d half_rises second.page second_in there fails
       ∙ ap (without_item second.page) step
-      ∙ sym (unlike rows second.page second rise also d (not_merged d.number second.state alone_too))
+      ∙ sym (unlike rows second.page second rise also d (not_an_item d.number second.state alone_too))
 
-  -- and of the new one
+  -- the items of the new dup are the two pages
   both_in : items_of whole row ≡ with_item second.page (first.page ∷ [])
   both_in =
       let passes : (row.number == row.number) ≡ true = grind (arith, nat_tests) in
@@ -180,6 +178,7 @@ module _ (rows : List Row) (first second : Row) (row : DupRow) (rise : InPageOrd
       items_joined half row half_rises second.page second_in refl there passes
       ∙ ap (with_item second.page) (items_joined rows row rise first.page first_in refl (ap is_some found) passes ∙ ap (with_item first.page) empty)
 
+  -- rows and dups stay tied where two pages make a dup whose number is above all others
   pub tied_made : (dups : List Dup) → All (λ r. r.number < row.number) (rows_of dups) → AreTied rows dups → AreTied whole (with_new (record { row = row; items = with_item second.page (first.page ∷ []) }) dups)
   tied_made dups fresh tied =
       all_with_new (IsTied whole) (record { row = row; items = with_item second.page (first.page ∷ []) }) dups
@@ -198,7 +197,7 @@ tied_inserted rows row dups rise absent alone tied =
     All-weaker (IsTied rows) (IsTied (with_row row rows))
     (λ d e.
     let m = λ (r : Row). merged_into d.row.number r.state in
-    let fails : m row ≡ false = not_merged d.row.number row.state alone in
+    let fails : m row ≡ false = not_an_item d.row.number row.state alone in
     let past : pages_that m (row ∷ filter (behind page) rows) ≡ pages_that m (filter (behind page) rows) = grind (arith, fails) in
     e ∙ sym (pages_append m (filter (ahead page) rows) (row ∷ filter (behind page) rows)
     ∙ ap (λ ps. pages_that m (filter (ahead page) rows) ++ ps) past

@@ -173,6 +173,7 @@ module _ (knobs : Knobs) (rows : List Row) (w : List WaitingPage) (row : Row) (r
       ap (waits_there knobs (tree_of knobs row) row.bytes) (sym (each_at_page rows rise k d lt)) ∙ sym (are (tree_of knobs row) row.bytes r.page) ∙ ap (names r.page) is in
       waits_apart knobs row r ∙ ap (λ t. t && not (same_page r.page row.page)) there
 
+  -- a look-up of a row's tree and bytes finds its partner, but where it finds the row itself
   pub partner_found : partner knobs rows row ≡ option_and_then (λ page. if same_page page row.page then None else row_at page rows) looked_up
   partner_found = go looked_up refl
     where
@@ -242,12 +243,14 @@ module _ (knobs : Knobs) (rows : List Row) (w : List WaitingPage) (are : AreWait
     pub row_dropped : AreWaiting knobs (without_page page rows) new
     row_dropped = edited knobs page None rows (without_page page rows) w new (λ q. at_without page q rows) stopped_here stopped_others are
 
+  -- the waiting pages are those of the rows, once a row waits no more and its page has stopped
   pub row_stopped : (new : List WaitingPage) (row old : Row) → row_at row.page rows ≡ Some old → waiting_state row.state ≡ false → IsStopped knobs old w new
       → AreWaiting knobs (change_row row.page (λ _. row) rows) new
   row_stopped new row old found still stopped =
       edited knobs row.page (Some row) rows (change_row row.page (λ _. row) rows) w new (at_changed row old rows found)
       (λ t b. stopped_here new row.page old found stopped t b ∙ rw still refl) (stopped_others new row.page old found stopped) are
 
+  -- the waiting pages are those of the rows, once a row waits that did not and its page was added
   pub row_begun : (new : List WaitingPage) (row old : Row) → row_at row.page rows ≡ Some old → waiting_state old.state ≡ false → row.state ≡ Waiting
       → waiting_page (tree_of knobs row) row.bytes w ≡ None → IsAdded (tree_of knobs row) row.bytes row.page w new → AreWaiting knobs (change_row row.page (λ _. row) rows) new
   row_begun new row old found still waits none added =
@@ -273,6 +276,7 @@ module _ (knobs : Knobs) (rows : List Row) (w : List WaitingPage) (are : AreWait
             | inr away ↦ rw away refl
           ]
 
+  -- a new row that does not wait changes no waiting page
   pub row_inserted : (row : Row) → row_at row.page rows ≡ None → waiting_state row.state ≡ false → AreWaiting knobs (with_row row rows) w
   row_inserted row absent still =
       edited knobs row.page (Some row) rows (with_row row rows) w w (at_inserted row rows) (λ t b. named row.page None absent t b ∙ rw still refl) (λ t b q other. refl) are
@@ -283,11 +287,13 @@ alike_waits : (knobs : Knobs) (t : ℕ) (b : List ℕ) (old new : Row) → IsAli
 alike_waits knobs t b old new alike = λ i. alike.3 i && (t == (if knobs.merge_across_nodes == 1 then 0 else alike.1 i) && bytes_eq b (alike.2 i))
 
 module _ (knobs : Knobs) (rows : List Row) (w : List WaitingPage) (are : AreWaiting knobs rows w) where
+  -- a row that changes into one that waits alike changes no waiting page
   pub row_kept : (row old : Row) → row_at row.page rows ≡ Some old → IsAlike old row → AreWaiting knobs (change_row row.page (λ _. row) rows) w
   row_kept row old found alike =
       edited knobs row.page (Some row) rows (change_row row.page (λ _. row) rows) w w (at_changed row old rows found)
       (λ t b. named knobs rows w are row.page (Some old) found t b ∙ sym (alike_waits knobs t b old row alike)) (λ t b q other. refl) are
 
+  -- where each row changes into one that waits alike, no waiting page changes
   pub rows_mapped : (f : Row → Row) → All (λ r. IsAlike r (f r)) rows → AreWaiting knobs (map f rows) w
   rows_mapped f alike t b q =
       are t b q ∙ go (row_at q rows) refl ∙ ap (waits_there knobs t b) (sym (at_mapped f q rows (λ k d lt. (alike k d lt).0)))
@@ -296,11 +302,13 @@ module _ (knobs : Knobs) (rows : List Row) (w : List WaitingPage) (are : AreWait
       go None found = refl
       go (Some r) found = sym (alike_waits knobs t b r (f r) (find_all (λ s. same_page s.page q) (λ s. IsAlike s (f s)) rows r found alike))
 
+  -- where some rows change, each into one that waits alike, no waiting page changes
   pub rows_changed : (test : Row → Bool) (f : Row → Row) → All (λ r. test r ≡ true → IsAlike r (f r)) rows → AreWaiting knobs (change_rows test f rows) w
   rows_changed test f alike =
       rows_mapped (λ r. if test r then f r else r)
       (λ k d lt. let r = get_or rows k d in cond_both (test r) (f r) r (IsAlike r) (alike k d lt) (λ _. (refl, refl, refl, refl)))
 
+  -- knobs with the same merge_across_nodes leave the waiting pages those of the rows
   pub knobs_tuned : (tuned : Knobs) → tuned.merge_across_nodes ≡ knobs.merge_across_nodes → AreWaiting tuned rows w
   knobs_tuned tuned same t b q = are t b q ∙ go (row_at q rows)
     where

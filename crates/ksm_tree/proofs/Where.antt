@@ -3,9 +3,10 @@ use Rattle.std.proofs.Common.{◌≡◌, ℕ, zero, suc, ◌+◌, ◌<◌, ◌�
 use Rattle.std.specs.Prelude.{◌==◌, not, nat_lt, All, if◌then◌else◌}
 use Rattle.std.proofs.lemmas.Bool.Decides.{nat_tests}
 use Rattle.std.proofs.lemmas.List.Elements.{All-cons, All-weaker}
-use Rattle.ksm_rmap.proofs.Ordered.{filter_none, filter_all}
 use Rattle.ksm_tree.specs.Places.{with_place, without}
 use Rattle.ksm_tree.specs.Counts.{places_where}
+use Rattle.ksm_base.proofs.Orders.{filter_none}
+use Rattle.ksm_base.proofs.RowCounts.{filter_all}
 
 module _ {X : Type 0} (test : X → Bool) where
   where_above : (k : ℕ) (xs : List X) → All (λ p. k ≤ p) (places_where test k xs)
@@ -99,9 +100,11 @@ module _ {X : Type 0} (test : X → Bool) where
   where_no_more d k zero (y ∷ xs) within fails = grind (arith, fails)
   where_no_more d k (suc i) (y ∷ xs) within fails = let so_far = where_no_more d (suc k) i xs (omega arith) fails in grind (arith, so_far)
 
+  -- where the element at i passes, its place comes last in the places of the first i + 1
   pub where_next : (d : X) (k p i : ℕ) (xs : List X) → p ≡ k + i → i < length xs → test (get_or xs i d) ≡ true → places_where test k (take (i + 1) xs) ≡ with_place p (places_where test k (take i xs))
   where_next d k p i xs is within passes = rw (add-one i) (where_more d k p i xs is within passes)
 
+  -- where the element at i fails, the places of the first i + 1 are those of the first i
   pub where_not_next : (d : X) (k i : ℕ) (xs : List X) → i < length xs → test (get_or xs i d) ≡ false → places_where test k (take (i + 1) xs) ≡ places_where test k (take i xs)
   where_not_next d k i xs within fails = rw (add-one i) (where_no_more d k i xs within fails)
 
@@ -111,6 +114,7 @@ module _ {X : Type 0} (test : X → Bool) where
   take_short (suc n) [] = grind arith
   take_short (suc n) (x ∷ xs) = let rest = take_short n xs in grind (arith, rest)
 
+  -- the places of the first i elements are fewer than the elements of the whole list
   pub where_first_room : (k i : ℕ) (xs : List X) → i < length xs → length (places_where test k (take i xs)) + 1 ≤ length xs
   where_first_room k i xs within =
       let places = where_short k (take i xs) in

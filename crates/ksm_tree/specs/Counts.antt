@@ -2,7 +2,7 @@
 use Rattle.std.specs.Prelude.{◌≡◌, ℕ, suc, ◌≤◌, Bool, ◌&&◌, nat_le, nat_lt, List, [], ◌∷◌, length, if◌then◌else◌}
 use Rattle.smallvec.specs.SmallVec.{SmallVec}
 
--- with an item, and fewer than the limit
+-- a dup with so many items takes one more: it has an item, and fewer than the limit
 abbrev pub is_open : ℕ → ℕ → Bool
 is_open limit count = nat_le 1 count && nat_lt count limit
 

@@ -48,15 +48,15 @@ items_in (Some d) = d.items
 abbrev pub items_of : ℕ → List Dup → List GuestPage
 items_of number dups = items_in (dup_of number dups)
 
--- with a dup at its place, in the stead of one that stood there
+-- the dups with a new one at its place, in the stead of one that stood there
 abbrev pub with_new : Dup → List Dup → List Dup
 with_new dup dups = filter (λ d. nat_lt d.row.place dup.row.place) dups ++ dup ∷ filter (λ d. nat_lt dup.row.place d.row.place) dups
 
--- without the dup at a place
+-- the dups without the one at a place
 abbrev pub without_place : ℕ → List Dup → List Dup
 without_place place dups = filter (λ d. not (stands_at place d)) dups
 
--- with a change made to the items of the dup with a number
+-- the dups with a change made to the items of the one with a number
 abbrev pub change_items : ℕ → (List GuestPage → List GuestPage) → List Dup → List Dup
 change_items number change dups = map (λ d. if has_number number d then record d { items = change d.items } else d) dups
 

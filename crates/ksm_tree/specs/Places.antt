@@ -1,7 +1,7 @@
 -- Places in ascending order, each once. (own)
 use Rattle.std.specs.Prelude.{ℕ, not, ◌==◌, nat_lt, List, ◌∷◌, ◌++◌, filter}
 
--- with the place at its place in the order, whether it was there or not
+-- the places with this one at its place in the order, whether it was there or not
 abbrev pub with_place : ℕ → List ℕ → List ℕ
 with_place place places = filter (λ p. nat_lt p place) places ++ place ∷ filter (λ p. nat_lt place p) places
 

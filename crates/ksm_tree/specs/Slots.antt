@@ -38,7 +38,7 @@ ArePlaced k [] = Unit {0}
 ArePlaced k (None ∷ slots) = ArePlaced (suc k) slots
 ArePlaced k (Some d ∷ slots) = (d.row.place ≡ k) × ArePlaced (suc k) slots
 
--- with a change made to the items of the dup at a place
+-- the dups with a change made to the items of the one at a place
 abbrev pub change_at : ℕ → (List GuestPage → List GuestPage) → List Dup → List Dup
 change_at place change dups = map (λ d. if stands_at place d then record d { items = change d.items } else d) dups
 

@@ -5,7 +5,7 @@ ghost use Rattle.ksm_tree.specs.Digest.{digest_of, digest_with};
 use ksm_base::PageBytes;
 use std::hash::{Hash, Hasher};
 
-// An odd number whose bits are in no order, so that a bit of a word reaches many bits of the digest.
+// An odd number whose bits follow no pattern, so that each bit of a word reaches many bits of the digest.
 const MULTIPLIER: u64 = 0x9e37_79b9_7f4a_7c15;
 
 /// A tree and the bytes of a page: what a group has in common, and what a page waits for.

@@ -1,4 +1,4 @@
-//! A dup as it is kept: its items lie beside its row, so nobody walks along the rows for them.
+//! A dup as it is kept: with its items beside it, so to find them nobody walks along the rows of all pages.
 use ksm_base::DupRow;
 use ksm_rmap::Items;
 

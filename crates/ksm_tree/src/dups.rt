@@ -1,10 +1,11 @@
 //! The dups with their items, as visits, stores and the counters ask for them (mm/ksm: the stable trees).
 //!
-//! `Slots` has the dups by place, `Index` leads to the places. Each call changes both, and the invariant says that they agree: callers see
-//! one list, of the dups in the order of their places.
+//! `Slots` has the dups by place, `Index` leads to the places. Each call changes both, and the invariant says that they
+//! agree: callers see one list, of the dups in the order of their places.
 //!
-//! A page that looks for a dup to join walks along its chain, which mostly has one dup. Of a long chain most dups are full. So while there
-//! is a long one, the open places of all contents are kept, and such a page walks along these if they are fewer.
+//! A page that looks for a dup to join walks along its chain, which mostly has one dup. Of a long chain most dups are
+//! full. So while there is a long one, the open places of all contents are kept, and such a page walks along these if
+//! they are fewer.
 ghost use Rattle.std.specs.Prelude.{◌≡◌, ℕ, ◌+◌, ◌^◌, ◌<◌, ◌≤◌, [], ◌∷◌, ◌&&◌, not, true, false, None, Some, count_by, filter, find, length, is_some, option_copied, option_map, slice_get, if◌then◌else◌, IfErr, IfOk, OnErr, OnOk};
 ghost use Rattle.ksm_base.specs.Counting.{in_chain, leads_group};
 ghost use Rattle.ksm_base.specs.Rows.{same_page};
@@ -27,7 +28,11 @@ const SHORT_CHAIN: usize = 16;
 
 /// The dups with their items, by place, by number, and by tree and bytes (mm/ksm, stable nodes and their chains).
 ///
-/// A look-up by number or by content costs a hash and a comparison, in the mean, and `best` the length of the chain too, or, where a chain is long, the number of dups that are not full, if that is less; what is counted is known. The hash has a fixed seed: where contents were picked that collide, a look-up costs a comparison for each. Room for every place is taken at the start, so only a new dup and a new item may want memory.
+/// A look-up by number or by content costs a hash and a comparison in the mean. `best` also walks along the chain, or,
+/// where a chain is long, along the dups of all contents that are not full, if these are fewer. The counts are kept, so
+/// nothing is counted when they are read. The hash has a fixed seed: where contents were picked that collide, a look-up
+/// costs a comparison for each. Room for every place is taken at the start, so only a new dup and a new item may want
+/// memory.
 #[derive(Drop)]
 pub struct Dups {
     alloc: Global,
@@ -65,20 +70,21 @@ impl Dups {
         })
     }
 
-    /// The dup that a page of a tree and these bytes joins: of those with an item and fewer than the limit the one with the most items, ties to the lowest number.
+    /// The dup that a page of a tree and these bytes joins: of those with an item and fewer than the limit the one with
+    /// the most items, ties to the lowest number.
     pub fn best(&self, tree: u32, bytes: &PageBytes, limit: u32) -> Option<u64>
         ensures best { result ≡ option_map (λ d. d.row.number) (best_of tree bytes.now limit self.now.dups) }
         ensures lawful { AreDups self.now }
     {
         let mut best: Option<&Dup> = None;
-        // The fewest items of a dup that may be better, and how many more than these it may have.
+        // A better dup has at least `least` items, and fewer than `room` more.
         let mut least = 1;
         let mut room = limit.saturating_sub(least);
         let counts = self.slots.counts();
         let (places, is_chain) = self.places_to_join(tree, bytes, limit);
         for place in places {
             let items = counts[*place as usize];
-            // Fewer than the least wrap to more than there is room for, so one comparison is enough.
+            // Fewer items than `least` wrap round to more than `room`, so one comparison tells both.
             if items.wrapping_sub(least) < room {
                 if let Some(dup) = self.candidate(*place, is_chain, tree, bytes) {
                     best = Some(better(best, dup));
@@ -107,7 +113,8 @@ impl Dups {
         }
     }
 
-    /// A new dup of two pages at a place; a stale dup that stood there goes. Its number is the next one. The one fault is `Memory`, and then nothing changes.
+    /// A new dup of two pages at a place; a stale dup that stood there goes. Its number is the next one. The one fault
+    /// is `Memory`, and then nothing changes.
     pub fn new_dup(
         &mut self,
         place: u32,
@@ -150,7 +157,8 @@ impl Dups {
         Ok(number)
     }
 
-    /// A page becomes an item of a dup. Gives the place of the dup. The one fault is `Memory`, and then nothing changes.
+    /// A page becomes an item of a dup. Gives the place of the dup. The one fault is `Memory`, and then nothing
+    /// changes.
     pub fn join(&mut self, dup: u64, page: GuestPage) -> Result<u32, Fault>
         requires known { is_some (dup_of dup self.old.dups) ≡ true }
         requires fewer { length (items_of dup self.old.dups) < 1024 }
@@ -169,7 +177,8 @@ impl Dups {
         }
     }
 
-    /// A page is no item of a dup any more. Where there is no such dup or item, nothing changes. Gives the place of the dup.
+    /// A page is no item of a dup any more. Where there is no such dup or item, nothing changes. Gives the place of the
+    /// dup.
     pub fn leave(&mut self, dup: u64, page: GuestPage) -> Option<u32>
         ensures place { result ≡ option_map (λ d. d.row.place) (dup_of dup self.old.dups) }
         ensures left { self.new ≡ record { places = self.old.places; dups = change_items dup (without_item page) self.old.dups; next = self.old.next } }
@@ -212,7 +221,7 @@ impl Dups {
         self.index.place(dup)
     }
 
-    /// How many items a dup has: none where there is no such dup.
+    /// How many items a dup has: 0 where there is no such dup.
     pub fn items(&self, dup: u64) -> u32
         ensures { result ≡ length (items_of dup self.now.dups) }
     {
@@ -279,7 +288,7 @@ impl Dups {
         self.index.groups.totals.chains
     }
 
-    /// The limit with which `best` is mostly asked: it passes over the full dups of a long chain then.
+    /// Says with which limit `best` is going to be asked: by that limit it passes over the full dups of a long chain.
     pub fn set_limit(&mut self, limit: u32)
         ensures { self.new ≡ self.old }
     {
@@ -287,7 +296,7 @@ impl Dups {
         self.keep_open();
     }
 
-    // The open places are kept while a chain is long: where none is, nobody asks for them.
+    // Keeps the open places while a chain is long, and drops them once none is: nobody asks for them then.
     fn keep_open(&mut self)
         ensures { self.new ≡ self.old }
     {
@@ -295,8 +304,8 @@ impl Dups {
         self.slots.keep_open(if is_long { self.limit } else { 0 });
     }
 
-    // The places among which a dup to join is looked for, and whether they are those of the chain. Of a long chain the open ones are
-    // enough, so all open ones are taken where these are fewer.
+    // The places among which a dup to join is looked for, and whether they are those of the chain. Of a long chain the
+    // open ones are enough, so all open ones are taken where these are fewer.
     fn places_to_join(&self, tree: u32, bytes: &PageBytes, limit: u32) -> (&[u32], bool)
         ensures { ArePlacesToJoin tree bytes.now limit self.now.dups result.0.now result.1 }
     {

@@ -90,7 +90,7 @@ impl Groups {
     pub fn chain(&self, content: &Content) -> &[u32]
         ensures { result.now ≡ chain_in content.now.tree content.now.bytes self.now.chains.entries }
     {
-        // Where no dup stands, nothing is hashed.
+        // While there is no dup at all, the content need not be hashed.
         if self.chains.is_empty() {
             return &[];
         }

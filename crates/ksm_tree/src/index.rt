@@ -1,4 +1,4 @@
-//! What finds dups by number and by content. It has places alone, so each dup lies once.
+//! The index that finds dups by number and by content. It keeps places and no dups, so each dup lies in one slot only.
 ghost use Rattle.std.specs.Prelude.{◌≡◌, ℕ, List, [], ◌&&◌, ◌==◌, not, None, Some, IfErr, OnErr, OnOk, bytes_eq, length, if◌then◌else◌};
 ghost use Rattle.ksm_tree.specs.Places.{with_place, without};
 ghost use Rattle.ksm_tree.specs.Totals.{IsRegrouped, Tells};
@@ -83,7 +83,7 @@ impl Index {
             .remove(&Content::of(row.tree, &row.bytes), row.place);
     }
 
-    /// Takes a row out, where another has been entered at its place.
+    /// Takes the row of a dup out whose place another one has taken.
     pub fn replace(&mut self, old: &DupRow, new: &DupRow)
         requires { Tells (length (places_of old.now.tree old.now.bytes self.old)) self.old.groups.totals }
         ensures numbers { (q : ℕ) → place_of q self.new ≡ (if q == old.now.number then None else place_of q self.old) }

@@ -1,8 +1,9 @@
-//! How many items the dup at each place has, and which places are open: where a dup has an item and fewer than the limit.
+//! How many items the dup at each place has, and which places are open: where a dup has an item and fewer than the
+//! limit.
 //!
-//! The counts stand by themselves, four bytes each, so a walk along a chain reads no dup but one that may be joined. The open places are
-//! kept only while they are asked for: a store to a merged page may open or close one, and where all chains are short that costs more
-//! than it saves.
+//! The counts stand by themselves, four bytes each, so a walk along a chain reads no dup but one that may be joined.
+//! The open places are kept only while they are asked for: a store to a merged page may open or close one, and where
+//! all chains are short that costs more than it saves.
 ghost use Rattle.std.specs.Prelude.{◌≡◌, ℕ, ◌<◌, ◌≤◌, IfErr, IfOk, IfSome, length, replicate, slice_set};
 ghost use Rattle.ksm_tree.specs.Counts.{is_open as is_open_count, places_where};
 
@@ -11,8 +12,9 @@ use ksm_base::Fault;
 use std::alloc::Global;
 use std::marker::Model;
 
-/// How many items the dup at each place has: none where no dup stands. Beside that the places of the open ones, those with an item
-/// and fewer than the limit, in ascending order: of a long chain most dups are full, and a page that looks for one to join passes over them.
+/// How many items the dup at each place has: 0 where no dup stands. Beside that the places of the open ones, those with
+/// an item and fewer than the limit, in ascending order: of a long chain most dups are full, and a page that looks for
+/// one to join passes over them.
 #[derive(Drop)]
 pub struct Counts {
     each: Vec<u32>,
@@ -74,7 +76,7 @@ impl Counts {
         open_anew(limit, self.each.as_slice(), &mut self.open_at);
     }
 
-    /// There are so many items at a place from now on.
+    /// Sets how many items there are at a place.
     pub fn set(&mut self, place: u32, count: u32)
         requires { place < length self.old }
         ensures { self.new ≡ slice_set self.old place count }
@@ -100,7 +102,7 @@ fn is_open(limit: u32, count: u32) -> bool
     1 <= count && count < limit
 }
 
-/// The open places by a limit, in the stead of those that there were.
+/// Fills `open_at` with the places that are open by a limit.
 fn open_anew(limit: u32, counts: &[u32], open_at: &mut Places)
     requires few { length counts.now ≤ 1024 }
     requires room { length counts.now ≤ open_at.old.list.capacity }

@@ -1,4 +1,5 @@
-//! The words of this crate beside the book's own, where each dup has as many items as there are rows merged into it.
+//! Laws that join the words of this crate to the book's own: they hold where each dup has as many items as rows are
+//! merged into it.
 
 ghost use Rattle.std.specs.Prelude.{◌≡◌, ℕ, ◌<◌, List, [], ◌∷◌, All, true, false, None, Some, ◌&&◌, ◌==◌, not, count_by, filter, find, is_some, length, map, option_map};
 ghost use Rattle.ksm_base.specs.declared.page.GuestPage.{GuestPage};
@@ -82,7 +83,8 @@ pub fn ties_follow_the_rows()
     ensures pruned { (rows : List Row) (dups : List Dup) (place : ℕ) → AreTied rows dups → AreTied rows (without_place place dups) }
 {}
 
-/// What ties tell of the items of a dup: a page whose row is not merged is none, and they are as many as the rows merged into it.
+/// What ties tell of the items of a dup: a page whose row is not merged is none, and they are as many as the rows
+/// merged into it.
 pub fn ties_tell_the_items()
     ensures absent { (rows : List Row) (dups : List Dup) (page : GuestPage) (old : Row) (number : ℕ) → InPageOrder rows → row_at page rows ≡ Some old → merged_state old.state ≡ false → AreTied rows dups
         → has_item page (items_numbered number dups) ≡ false }

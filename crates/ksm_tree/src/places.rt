@@ -65,7 +65,7 @@ impl Places {
         self.list.as_slice().last().copied()
     }
 
-    /// No places from now on.
+    /// Takes all places out.
     pub fn clear(&mut self)
         ensures none { self.new.list.items ≡ [] }
         ensures capacity { self.new.list.capacity ≡ self.old.list.capacity }
@@ -83,7 +83,7 @@ impl Places {
         Ok(())
     }
 
-    /// The place is there from now on, if it was not.
+    /// Puts the place into the list, if it is not there.
     pub fn insert(&mut self, place: u32)
         requires { HasRoomFor self.old.list 1 }
         ensures with { self.new.list.items ≡ with_place place self.old.list.items }
@@ -96,7 +96,7 @@ impl Places {
         }
     }
 
-    /// The place is not there from now on.
+    /// Takes the place out of the list, if it is there.
     pub fn remove(&mut self, place: u32)
         ensures without { self.new.list.items ≡ without place self.old.list.items }
         ensures less { length self.new.list.items ≤ length self.old.list.items }
@@ -109,7 +109,7 @@ impl Places {
     }
 }
 
-/// How many of the places come before one.
+/// How many of the places come before this one: the index at which it stands, or would.
 fn place_in(places: &[u32], place: u32) -> usize
     requires { AllPairs (λ p q. nat_lt p q ≡ true) places.now }
     ensures count { result ≡ length (filter (λ p. nat_lt p place) places.now) }
@@ -118,7 +118,7 @@ fn place_in(places: &[u32], place: u32) -> usize
     let Some(last) = places.last() else {
         return 0;
     };
-    // The last one is taken most: a search would find the same.
+    // Mostly the last place is the one looked for, so it is tried before the search.
     if *last == place {
         return places.len() - 1;
     }

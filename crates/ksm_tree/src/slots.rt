@@ -66,7 +66,7 @@ impl Slots {
         }
     }
 
-    /// How many items the dup at each place has: none where no dup stands.
+    /// How many items the dup at each place has: 0 where no dup stands.
     pub fn counts(&self) -> &[u32]
         ensures places { length result.now ≡ self.now.places }
         ensures each { (place : ℕ) → slice_index_or result.now place 0 ≡ length (items_in (dup_at place self.now.dups)) }
@@ -191,7 +191,7 @@ impl Slots {
     }
 }
 
-/// How far a place is from the highest of so many, and the place that is so far from it.
+/// How far a place is from the highest of so many; and for a distance the place that is so far from it.
 fn mirrored(places: usize, place: u32) -> u32
     requires few { places ≤ 1024 }
     requires place { place < places }

@@ -2,7 +2,8 @@
 ghost use Rattle.ksm_tree.specs.Totals.{IsRegrouped, Tells};
 ghost use Rattle.std.specs.Prelude.{◌≤◌, ◌+◌};
 
-/// How many groups are chains, of two dups or more, and how many dups are in chains (mm/ksm: stable_node_chains, stable_node_dups).
+/// How many groups are chains, of two dups or more, and how many dups are in chains (mm/ksm: stable_node_chains,
+/// stable_node_dups).
 #[derive(Clone, Copy)]
 pub struct Totals {
     pub chains: usize,

@@ -12,9 +12,9 @@ use std::marker::Model;
 
 /// The pages that wait for an equal one: at most one of each tree and bytes (mm/ksm, the unstable tree).
 ///
-/// `find_or_add` and `remove` cost a hash and a comparison, in the mean; where a page is added and no room is left, all of them are moved.
-/// `clear` costs the number of the most that waited at once. The hash has a fixed seed: where contents were picked that collide, a look-up costs a
-/// comparison for each.
+/// `find_or_add` and `remove` cost a hash and a comparison, in the mean; where a page is added and no room is left, all
+/// of them are moved. `clear` costs the number of the most that waited at once. The hash has a fixed seed: where
+/// contents were picked that collide, a look-up costs a comparison for each.
 #[derive(Drop)]
 pub struct Waiting {
     pages: HashMap<Content, GuestPage>,
@@ -39,8 +39,8 @@ impl Waiting {
         }
     }
 
-    /// The page that waits in a tree with these bytes from now on: the one that did, or else this one. The one fault is `Memory`, where
-    /// none did, and then nothing changes.
+    /// The page that waits in a tree with these bytes from now on: the one that did, or else this one. The one fault is
+    /// `Memory`, where none did, and then nothing changes.
     pub fn find_or_add(
         &mut self,
         tree: u32,

@@ -1,4 +1,5 @@
-//! The waiting pages are those of the rows that wait: what that tells, and how it stays when the rows change.
+//! Laws of the waiting pages, which are just the pages of the rows that wait: what a look-up tells of the rows, and
+//! what to do with the pages when rows change.
 
 ghost use Rattle.std.specs.Prelude.{◌≡◌, ◌&&◌, ℕ, List, [], All, Bool, Option, Some, None, true, false, map, option_map, if◌then◌else◌};
 ghost use Rattle.std.specs.Option.{option_and_then};

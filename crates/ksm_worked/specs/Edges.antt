@@ -93,7 +93,7 @@ other_values_drop_stale_dups =
     merged ++ put 0 0 0xbb ∷ put 0 1 0xbb ∷ ok (SetLimit 3) ∷ prune 0 ∷ scan 4 ∷ put 0 0 0xcc ∷ put 0 1 0xdd ∷ ok (SetAcross 0)
     ∷ prune 0 ∷ []
 
--- its own value may be set while pages are shared, and drops no stale dup
+-- a knob may be set to the value that it has while pages are shared, and then drops no stale dup
 abbrev pub own_values_change_nothing : List Line
 own_values_change_nothing =
     merged ++ ok (SetLimit 256) ∷ ok (SetAcross 1) ∷ put 0 0 0xbb ∷ put 0 1 0xcc ∷ ok (SetLimit 256) ∷ ok (SetAcross 1) ∷ prune 1 ∷ []

@@ -16,7 +16,7 @@ knob_waits_for_unmerging =
     merged ++ refused SharedPages (SetAcross 0) ∷ gives (SetRun 2) (Ok (Unmerged 2 None)) ∷ ok (SetAcross 0)
     ∷ shows (λ k. k.merge_across_nodes) 0 ∷ stat 0 0 0 2 0 0 2 ∷ []
 
--- one refusal after the other
+-- commands that are refused, one refusal after the other
 abbrev pub refusals_of_commands : List Line
 refusals_of_commands =
     refused BadValue (SetLimit 1) ∷ refused NotRunning (Scan 1) ∷ refused UnknownPage (Store (at 5 5) (full 0xaa))

@@ -7,7 +7,7 @@ use Rattle.ksm_worked.specs.Scripts.{Line, maps, at, one_at_the_end, ok, reg, pu
 abbrev pub counters_at_opening : List Line
 counters_at_opening = stat 0 0 0 0 0 0 0 ∷ []
 
--- register, store, read, count
+-- a page is registered, stored to, read and counted
 abbrev pub first_run : List Line
 first_run = reg 0 0 0 0xaa ∷ put 0 0 0xbb ∷ get 0 0 0xbb ∷ stat 0 0 0 1 0 0 0 ∷ []
 
@@ -15,7 +15,7 @@ first_run = reg 0 0 0 0xaa ∷ put 0 0 0xbb ∷ get 0 0 0xbb ∷ stat 0 0 0 1 0 
 abbrev pub one_pass_merges_nothing : List Line
 one_pass_merges_nothing = reg 0 0 0 0xaa ∷ reg 0 1 0 0xaa ∷ ok (SetRun 1) ∷ scan 2 ∷ stat 0 0 0 2 0 0 1 ∷ []
 
--- the second pass merges them, and both still read their bytes
+-- the second pass merges two equal pages, and both still read their bytes
 abbrev pub two_equal_pages_merge : List Line
 two_equal_pages_merge = one_pass_merges_nothing ++ scan 2 ∷ stat 1 1 0 0 0 0 2 ∷ get 0 0 0xaa ∷ get 0 1 0xaa ∷ []
 
@@ -24,11 +24,11 @@ abbrev pub four_at_limit_two : List Line
 four_at_limit_two =
     ok (SetLimit 2) ∷ reg 0 0 0 0xaa ∷ reg 0 1 0 0xaa ∷ reg 0 2 0 0xaa ∷ reg 0 3 0 0xaa ∷ ok (SetRun 1) ∷ scan 8 ∷ []
 
--- they make a chain of two full dups
+-- four equal pages at limit two make a chain of two full dups
 abbrev pub limit_boundary : List Line
 limit_boundary = four_at_limit_two ++ stat 2 2 0 0 1 2 2 ∷ []
 
--- a new dup needs two pages, so a fifth one waits
+-- a new dup needs two pages, so a fifth page waits
 abbrev pub fifth_page_waits : List Line
 fifth_page_waits =
     ok (SetLimit 2) ∷ reg 0 0 0 0xaa ∷ reg 0 1 0 0xaa ∷ reg 0 2 0 0xaa ∷ reg 0 3 0 0xaa ∷ reg 0 4 0 0xaa

@@ -9,15 +9,15 @@ ten_equal_pages =
     reg 0 0 0 0x2a ∷ reg 0 1 0 0x2a ∷ reg 0 2 0 0x2a ∷ reg 0 3 0 0x2a ∷ reg 0 4 0 0x2a ∷ reg 0 5 0 0x2a ∷ reg 0 6 0 0x2a
     ∷ reg 0 7 0 0x2a ∷ reg 0 8 0 0x2a ∷ reg 0 9 0 0x2a ∷ ok (SetRun 1) ∷ scan 20 ∷ []
 
--- below the limit they make one dup
+-- ten equal pages make one dup below the limit
 abbrev pub ten_pages_make_one_dup : List Line
 ten_pages_make_one_dup = ten_equal_pages ++ stat 1 9 0 0 0 0 2 ∷ []
 
--- at limit three they make three full dups, and one page waits
+-- ten equal pages at limit three make three full dups, and one page waits
 abbrev pub ten_pages_at_limit_three : List Line
 ten_pages_at_limit_three = ok (SetLimit 3) ∷ ten_equal_pages ++ stat 3 6 1 0 1 3 2 ∷ []
 
--- at limit four they make two full dups and one of two
+-- ten equal pages at limit four make two full dups and one of two
 abbrev pub ten_pages_at_limit_four : List Line
 ten_pages_at_limit_four = ok (SetLimit 4) ∷ ten_equal_pages ++ stat 3 7 0 0 1 3 2 ∷ []
 
@@ -31,11 +31,11 @@ written_pages_share_nothing =
 abbrev pub pages_of_two_nodes : List Line
 pages_of_two_nodes = reg 0 0 0 0x2a ∷ reg 0 1 1 0x2a ∷ ok (SetRun 1) ∷ scan 4 ∷ []
 
--- with merge_across_nodes 1 they merge
+-- equal pages of two nodes merge with merge_across_nodes 1
 abbrev pub two_nodes_merge : List Line
 two_nodes_merge = pages_of_two_nodes ++ stat 1 1 0 0 0 0 2 ∷ []
 
--- with merge_across_nodes 0 they don't
+-- equal pages of two nodes do not merge with merge_across_nodes 0
 abbrev pub two_nodes_stay_apart : List Line
 two_nodes_stay_apart = ok (SetAcross 0) ∷ pages_of_two_nodes ++ stat 0 0 2 0 0 0 2 ∷ []
 
@@ -50,7 +50,7 @@ unmerging_leaves_none_merged =
     four_merged_pages ++ unmerge 0 4 ∷ lies_at (at 0 0) None ∷ lies_at (at 0 1) None ∷ lies_at (at 0 2) None
     ∷ lies_at (at 0 3) None ∷ stat 0 0 0 0 0 0 2 ∷ []
 
--- unmerging takes the pages that are left of a guest
+-- unmerging takes the pages of a guest that are left after some were dropped
 abbrev pub unmerging_after_discarding : List Line
 unmerging_after_discarding =
     four_merged_pages ++ drop 0 0 ∷ drop 0 1 ∷ unmerge 0 2 ∷ stat 0 0 0 0 0 0 2 ∷ []

@@ -12,14 +12,14 @@ empty_pages_become_zero =
     ok (SetZeroPages 1) ∷ reg 0 0 0 0 ∷ reg 0 1 0 0 ∷ reg 0 2 0 0 ∷ ok (SetRun 1) ∷ scan 6 ∷ stat_beside 3 0 0 0 0 0 0 2
     ∷ put 0 1 0 ∷ stat_beside 2 0 0 0 1 0 0 2 ∷ scan 3 ∷ stat_beside 3 0 0 0 0 0 0 3 ∷ []
 
--- their frames are given again, and then none is left for a copy
+-- the frames of pages that became Zero are given again, and then none is left for a copy
 abbrev pub zero_pages_and_no_frame : List Line
 zero_pages_and_no_frame =
     ok (SetZeroPages 1) ∷ reg 0 0 0 0 ∷ reg 0 1 0 0 ∷ ok (SetRun 1) ∷ scan 4 ∷ reg 0 2 0 0x11 ∷ reg 0 3 0 0x22
     ∷ refused (NoFrame 0) (Store (at 0 0) (full 5)) ∷ get 0 0 0 ∷ stopped (Unmerge 0) 0 0 ∷ stopped (SetRun 2) 0 0
     ∷ shows (λ k. k.run) 0 ∷ refused BadValue (SetZeroPages 2) ∷ []
 
--- an open dup of zeroes is joined before the zero page
+-- a page of zeroes joins an open dup of zeroes rather than the zero page
 abbrev pub open_dup_before_zero_page : List Line
 open_dup_before_zero_page =
     reg 0 0 0 0 ∷ reg 0 1 0 0 ∷ ok (SetRun 1) ∷ scan 4 ∷ ok (SetZeroPages 1) ∷ reg 0 2 0 0 ∷ scan 3

@@ -59,7 +59,8 @@ pub fn run_of_two_stops_part_way()
     ensures { Plays (opening (shape 1 4)) Edges.run_of_two_stops_part_way }
 {}
 
-/// Unmerging takes one guest, whose pages the scan leaves out from then on; making it mergeable again takes that guest alone.
+/// Unmerging takes one guest, whose pages the scan leaves out from then on; making it mergeable again takes that guest
+/// alone.
 pub fn unmerging_takes_one_guest()
     ensures { Plays (opening (shape 1 4)) Edges.unmerging_takes_one_guest }
 {}
@@ -84,7 +85,7 @@ pub fn other_values_drop_stale_dups()
     ensures { Plays (opening (shape 1 4)) Edges.other_values_drop_stale_dups }
 {}
 
-/// Its own value may be set while pages are shared, and drops no stale dup.
+/// A knob may be set to the value that it has while pages are shared, and then drops no stale dup.
 pub fn own_values_change_nothing()
     ensures { Plays (opening (shape 1 4)) Edges.own_values_change_nothing }
 {}

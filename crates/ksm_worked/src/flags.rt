@@ -24,7 +24,8 @@ pub fn move_keeps_both_flags()
     ensures { Plays (opening (shape 2 4)) Flags.move_keeps_both_flags }
 {}
 
-/// A page that was left out of the scan is not taken in again by a store, a move or a run of 2; unmerging takes pages that are not merged too.
+/// A page that was left out of the scan is not taken in again by a store, a move or a run of 2; unmerging takes pages
+/// that are not merged too.
 pub fn unmerged_page_stays_left_out()
     ensures { Plays (opening (shape 2 4)) Flags.unmerged_page_stays_left_out }
 {}

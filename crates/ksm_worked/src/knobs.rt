@@ -9,12 +9,12 @@ pub fn nodes_kept_apart()
     ensures { Plays (opening (shape 2 2)) Knobs.nodes_kept_apart }
 {}
 
-/// Merge_across_nodes changes only without shared pages.
+/// The knob merge_across_nodes changes only while no page is shared.
 pub fn knob_waits_for_unmerging()
     ensures { Plays (opening (shape 1 4)) Knobs.knob_waits_for_unmerging }
 {}
 
-/// One refusal after the other.
+/// Commands that are refused, one refusal after the other.
 pub fn refusals_of_commands()
     ensures { Plays (opening (shape 1 4)) Knobs.refusals_of_commands }
 {}

@@ -1,4 +1,5 @@
-//! The worked scripts: what the definitions of the book answer and show, line by line. Each is a law, with nothing to run.
+//! The worked scripts: what the definitions of the book answer and show, line by line. Each is a law, with nothing to
+//! run.
 #![tactic(auto)]
 
 pub mod edges;

@@ -9,7 +9,7 @@ pub fn counters_at_opening()
     ensures { Plays (opening (shape 1 4)) Merging.counters_at_opening }
 {}
 
-/// Register, store, read, count.
+/// A page is registered, stored to, read and counted.
 pub fn first_run()
     ensures { Plays (opening (shape 1 4)) Merging.first_run }
 {}
@@ -19,17 +19,17 @@ pub fn one_pass_merges_nothing()
     ensures { Plays (opening (shape 1 4)) Merging.one_pass_merges_nothing }
 {}
 
-/// The second pass merges them, and both still read their bytes.
+/// The second pass merges two equal pages, and both still read their bytes.
 pub fn two_equal_pages_merge()
     ensures { Plays (opening (shape 1 4)) Merging.two_equal_pages_merge }
 {}
 
-/// They make a chain of two full dups.
+/// Four equal pages at limit two make a chain of two full dups.
 pub fn limit_boundary()
     ensures { Plays (opening (shape 1 4)) Merging.limit_boundary }
 {}
 
-/// A new dup needs two pages, so a fifth one waits.
+/// A new dup needs two pages, so a fifth page waits.
 pub fn fifth_page_waits()
     ensures { Plays (opening (shape 1 8)) Merging.fifth_page_waits }
 {}
@@ -49,12 +49,12 @@ pub fn fullest_dup_is_joined()
     ensures { Plays (opening (shape 1 8)) Merging.fullest_dup_is_joined }
 {}
 
-/// Where every place is taken, the stale dup at the lowest place goes.
+/// Where every place is taken, a new dup takes that of the stale dup at the lowest place.
 pub fn stale_dup_makes_room()
     ensures { Plays (opening (shape 1 3)) Merging.stale_dup_makes_room }
 {}
 
-/// All words count where pages are compared.
+/// Pages are compared in all their words.
 pub fn pages_differ_in_the_last_byte()
     ensures { Plays (opening (shape 1 4)) Merging.pages_differ_in_the_last_byte }
 {}

@@ -40,7 +40,8 @@ pub fn passes_stay_at_the_greatest_number()
     ensures { Plays (record (opening (shape 1 4)) { passes = 2 ^ 64 - 2 }) Passes.passes_stay_at_the_greatest_number }
 {}
 
-/// Where no page is mergeable a scan makes no visit: the pass doesn't end, and pages that are registered later are visited in it.
+/// Where no page is mergeable a scan makes no visit: the pass doesn't end, and pages that are registered later are
+/// visited in it.
 pub fn scan_of_nothing_ends_no_pass()
     ensures { Plays (opening (shape 1 4)) Passes.scan_of_nothing_ends_no_pass }
 {}

@@ -4,7 +4,8 @@ ghost use Rattle.ksm_base.specs.State.{opening};
 ghost use Rattle.ksm_worked.specs.Scripts.{Plays, shape};
 ghost use Rattle.ksm_worked.specs.Places;
 
-/// Dups are numbered as they are made, and a new one takes the least empty place; the others stay, and each page joins its own.
+/// Dups are numbered as they are made, and a new one takes the least empty place; the others stay, and each page joins
+/// its own.
 pub fn places_and_numbers_part()
     ensures { Plays (opening (shape 1 8)) Places.places_and_numbers_part }
 {}

@@ -19,7 +19,8 @@ pub fn pages_to_scan_changes_nothing_else()
     ensures { Plays (opening (shape 2 8)) Untouched.pages_to_scan_changes_nothing_else }
 {}
 
-/// Pruning where no dup is stale, and a page dropped and registered again, change no other page, no setting and not the pass.
+/// Pruning where no dup is stale, and a page dropped and registered again, change no other page, no setting and not the
+/// pass.
 pub fn prune_changes_nothing_else()
     ensures { Plays (opening (shape 2 8)) Untouched.prune_changes_nothing_else }
 {}

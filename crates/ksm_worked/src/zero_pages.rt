@@ -9,12 +9,12 @@ pub fn empty_pages_become_zero()
     ensures { Plays (opening (shape 1 4)) ZeroPages.empty_pages_become_zero }
 {}
 
-/// Their frames are given again, and then none is left for a copy.
+/// The frames of pages that became Zero are given again, and then none is left for a copy.
 pub fn zero_pages_and_no_frame()
     ensures { Plays (opening (shape 1 2)) ZeroPages.zero_pages_and_no_frame }
 {}
 
-/// An open dup of zeroes is joined before the zero page.
+/// A page of zeroes joins an open dup of zeroes rather than the zero page.
 pub fn open_dup_before_zero_page()
     ensures { Plays (opening (shape 1 4)) ZeroPages.open_dup_before_zero_page }
 {}
@@ -34,7 +34,7 @@ pub fn last_byte_counts()
     ensures { Plays (opening (shape 1 4)) ZeroPages.last_byte_counts }
 {}
 
-/// The zero page comes before a page that waits.
+/// A page of zeroes becomes Zero, though another one waits for it.
 pub fn zero_page_before_a_waiting_one()
     ensures { Plays (opening (shape 1 4)) ZeroPages.zero_page_before_a_waiting_one }
 {}

@@ -13,7 +13,8 @@ use frame_table::FrameTable;
 use ksm_base::{DupRow, Fault};
 
 impl Layout {
-    /// The frame of a dup with items is replaced by another of a node. Refused where none is free, and where a reader holds the old one; rows and dups stay.
+    /// The frame of a dup with items is replaced by another of a node. Refused where none is free, and where a reader
+    /// holds the old one; rows and dups stay.
     pub fn move_dup(&mut self, table: &FrameTable, dup: DupRow, node: u32) -> Result<(), Fault>
         requires own { self.old.keeper.table ≡ table.now }
         requires sound { IsSound (state_of self.old None 0) }

@@ -48,22 +48,22 @@ invariant_of-self-in-Some c =
     let next = ap (λ (x : BookView). next_row x.state.cursor x.state.rows) c.self.view_is ∙ c.requires.next in
     subst IsSound (sym (there c)) (sound_row_visited b c.args.row.now (next_row_visited b c.args.row.now c.self.invariant next) c.self.invariant)
 
-pub amend-requires-clause-known : goal.amend-requires-clause-known
-amend-requires-clause-known c =
+pub set_row-requires-clause-known : goal.set_row-requires-clause-known
+set_row-requires-clause-known c =
     let s = c.self.inside in
     visited_at (state_of s.layout s.cursor s.passes) c.args.row.now c.self.invariant
     (ap (λ (x : BookView). next_row x.state.cursor x.state.rows) c.self.view_is ∙ c.requires.next)
 
-pub amend-requires-clause-lodges : goal.amend-requires-clause-lodges
-amend-requires-clause-lodges c = (refl, refl, inr (sym c.if-is_shared.ensures, refl))
+pub set_row-requires-clause-lodges : goal.set_row-requires-clause-lodges
+set_row-requires-clause-lodges c = (refl, refl, inr (sym c.if-is_shared.ensures, refl))
 
-marked : (c : goal.After-amend) → state_of c.amend.new.self c.self.inside.cursor c.self.inside.passes ≡ row_visited (state_of c.self.inside.layout c.self.inside.cursor c.self.inside.passes) c.args.row.now
+marked : (c : goal.After-set_row) → state_of c.set_row.new.self c.self.inside.cursor c.self.inside.passes ≡ row_visited (state_of c.self.inside.layout c.self.inside.cursor c.self.inside.passes) c.args.row.now
 marked c =
     let s = c.self.inside in
     let b : BookState = state_of s.layout s.cursor s.passes in
     let row = c.args.row.now in
     let found = visited_at b row c.self.invariant (ap (λ (x : BookView). next_row x.state.cursor x.state.rows) c.self.view_is ∙ c.requires.next) in
-    ap (λ (x : Lay). state_of x s.cursor s.passes) c.amend.ensures
+    ap (λ (x : Lay). state_of x s.cursor s.passes) c.set_row.ensures
     ∙ ap (λ rows. record b { rows = rows }) (change_known row.page (λ r. record r { unchanged = true; state = Private }) s.layout.rows row c.self.invariant.rows_rise found)
     ∙ sym (visited_by b row None (sym c.if-is_shared.ensures) (none_told (best_dup s.layout.knobs s.layout.rows s.layout.dups row) c.in_default.ensures)
     ∙ marked_by b row c.if-not-row.true)

@@ -6,7 +6,7 @@ use Rattle.ksm_base.specs.declared.row.Row.{Row}
 use Rattle.ksm_layout.specs.Laid.{IsLaid}
 use Rattle.ksm_pages.specs.Linked.{PagesView}
 use Rattle.ksm_pages.specs.Listed.{StandsAt, frame_in, rank}
-use Rattle.ksm_layout.proofs.Laying.{laid_amended, relisted}
+use Rattle.ksm_layout.proofs.Laying.{laid_row_set, relisted}
 use Rattle.ksm_layout.proofs.layout.Layout.meet.Goals as goal
 use Rattle.ksm_layout.proofs.layout.Layout.meet.Goals.{After-meet}
 
@@ -36,7 +36,7 @@ module _ (c : After-meet) where
       → OnErr r (new ≡ old) → kept
   by (Ok None) met at rows same =
       relisted old new c.self.inside.keeper c.meet.ensures.rest
-      (laid_amended old.shape old.listed old.dups old.knobs old.next c.self.inside.keeper c.self.invariant row _ waiting at new.listed
+      (laid_row_set old.shape old.listed old.dups old.knobs old.next c.self.inside.keeper c.self.invariant row _ waiting at new.listed
       (refl, refl, inr (c.requires.alone, refl)) rows c.meet.ensures.frames)
   by (Ok (Some other)) met at rows same = same_laid met
   by (Err fault) met at rows same = same_laid same

@@ -36,7 +36,7 @@ invariant_of-self-2 c =
     let item = record row { state = Merged c.args.number } in
     let found = ap (λ v. row_at row.page v.listed.rows) c.self.view_is ∙ c.requires.row_is in
     record {
-      kept = subst (λ rows. AreKept old.shape old.knobs rows c.join.new.self c.stop_waiting.new.waiting) (sym c.restate-lone.ensures.changed)
+      kept = subst (λ rows. AreKept old.shape old.knobs rows c.join.new.self c.stop_waiting.new.waiting) (sym c.set_state-lone.ensures.changed)
           (record {
             linked = subst (AreLinked old.shape (change_row row.page (λ _. item) old.rows.rows)) (sym c.in_ok-place.ensures.joined)
                 (linked_joined old.shape old.rows.rows old.dups c.self.invariant.kept.linked row item c.args.number found
@@ -44,28 +44,28 @@ invariant_of-self-2 c =
             waits = row_stopped old.knobs old.rows.rows old.waiting c.self.invariant.kept.waits c.stop_waiting.new.waiting item row found refl
                 c.stop_waiting.ensures;
           });
-      paired = paired_there old.rows c.restate-lone.new.self (rank row.page old.rows.rows) item c.self.invariant.paired c.restate-lone.ensures.rows
-          c.restate-lone.ensures.frames;
+      paired = paired_there old.rows c.set_state-lone.new.self (rank row.page old.rows.rows) item c.self.invariant.paired c.set_state-lone.ensures.rows
+          c.set_state-lone.ensures.frames;
       room = c.self.invariant.room;
     }
 
 pub returns-clause-rest : goal.returns-clause-rest
 returns-clause-rest c =
     let old = c.self.inside in
-    only_rows old.shape old.dups c.join.new.self old.knobs (listed_seen (rows_of c.join.new.self.dups) old.lodgings.items c.restate-lone.new.self)
+    only_rows old.shape old.dups c.join.new.self old.knobs (listed_seen (rows_of c.join.new.self.dups) old.lodgings.items c.set_state-lone.new.self)
     (listed_seen (rows_of old.dups.dups) old.lodgings.items old.rows) c.args.self.now
     (ap (λ d. rows_of d.dups) c.in_ok-place.ensures.joined ∙ rows_items c.args.number (with_item c.args.row.now.page) old.dups.dups)
     (ap (λ d. d.next) c.in_ok-place.ensures.joined) c.self.view_is
 
-pub restate-lone-requires : goal.restate-lone-requires
-restate-lone-requires c = ap (λ v. row_at c.args.row.now.page v.listed.rows) c.self.view_is ∙ c.requires.row_is
+pub set_state-lone-requires : goal.set_state-lone-requires
+set_state-lone-requires c = ap (λ v. row_at c.args.row.now.page v.listed.rows) c.self.view_is ∙ c.requires.row_is
 
 pub returns-clause-stood : goal.returns-clause-stood
 returns-clause-stood c =
     let old = c.self.inside in
     let row = c.args.row.now in
-    subst (λ v. StandsAt v.listed row.page row c.restate-lone.result) c.self.view_is
-    (own_lies (rows_of old.dups.dups) old.lodgings.items old.rows row c.restate-lone.result c.self.invariant.paired c.restate-lone.ensures.stood
+    subst (λ v. StandsAt v.listed row.page row c.set_state-lone.result) c.self.view_is
+    (own_lies (rows_of old.dups.dups) old.lodgings.items old.rows row c.set_state-lone.result c.self.invariant.paired c.set_state-lone.ensures.stood
     (own_not_merged row.state c.requires.alone))
 
 pub returns-clause-frames : goal.returns-clause-frames
@@ -74,11 +74,11 @@ returns-clause-frames c =
     let item = record c.args.row.now { state = Merged c.args.number } in
     let dups = rows_of old.dups.dups in
     let same = ap (λ d. rows_of d.dups) c.in_ok-place.ensures.joined ∙ rows_items c.args.number (with_item c.args.row.now.page) old.dups.dups in
-    subst (λ v. LiesWith v.listed c.args.number item.page (listed_seen (rows_of c.join.new.self.dups) old.lodgings.items c.restate-lone.new.self).frames)
+    subst (λ v. LiesWith v.listed c.args.number item.page (listed_seen (rows_of c.join.new.self.dups) old.lodgings.items c.set_state-lone.new.self).frames)
     c.self.view_is
     (λ page r frame at merged.
-    seen_put_there dups (rows_of c.join.new.self.dups) old.lodgings.items old.rows c.restate-lone.new.self item frame same c.restate-lone.ensures.rows
-    c.restate-lone.ensures.frames
+    seen_put_there dups (rows_of c.join.new.self.dups) old.lodgings.items old.rows c.set_state-lone.new.self item frame same c.set_state-lone.ensures.rows
+    c.set_state-lone.ensures.frames
     (sym (item_lies dups old.lodgings.items old.rows page r frame c.args.number c.self.invariant.paired at merged)))
 
 -- the dup's frame is the one kept at its place

@@ -12,8 +12,8 @@ loop-row-init c =
     let old : PagesView = c.args.self.now in
     ap (λ rows. record old { listed = record { rows = rows; frames = old.listed.frames } }) (sym (begun c.args.guest c.args.stop let_go old.listed.rows))
 
-pub revise-requires-clause-known : goal.revise-requires-clause-known
-revise-requires-clause-known c =
+pub set_row-requires-clause-known : goal.set_row-requires-clause-known
+set_row-requires-clause-known c =
     let now = c.loop-row.self.listed.rows in
     let made = ap (λ (v : PagesView). v.listed.rows) c.loop-row.invariant in
     let order = order_before c.args.guest c.args.stop let_go (λ r. refl) c.loop-row.last c.args.self.now.listed.rows
@@ -22,8 +22,8 @@ revise-requires-clause-known c =
     ap (λ (r : Row). row_at r.page now) c.let_go.ensures
     ∙ known_now c.args.guest c.args.stop let_go (λ r. refl) c.loop-row.last c.args.self.now.listed.rows now c.in-Some.row order made found
 
-pub revise-requires-clause-alone : goal.revise-requires-clause-alone
-revise-requires-clause-alone c = ap (λ (r : Row). r.state) c.let_go.ensures
+pub set_row-requires-clause-alone : goal.set_row-requires-clause-alone
+set_row-requires-clause-alone c = ap (λ (r : Row). r.state) c.let_go.ensures
 
 pub loop-row-preserved : goal.loop-row-preserved
 loop-row-preserved c =
@@ -35,11 +35,11 @@ loop-row-preserved c =
     (subst InPageOrder (ap (λ (v : PagesView). v.listed.rows) c.self.view_is ∙ made) c.self.invariant.kept.linked.order) in
     let found = seen_before c.args.guest c.args.stop let_go (λ r. refl) c.loop-row.last old.listed.rows now (Some row) made
     (sym c.in-Some.is ∙ c.first_of.ensures ∙ ap (λ (v : PagesView). find (left c.args.guest c.args.stop c.loop-row.last) v.listed.rows) c.self.view_is) in
-    let rows : c.revise.new.self.listed.rows ≡ changed_to c.args.guest c.args.stop let_go (Some row.page) old.listed.rows =
-    c.revise.ensures.changed ∙ ap (λ (r : Row). change_row r.page (λ _. r) now) c.let_go.ensures ∙ ap (change_row row.page (λ _. let_go row)) made
+    let rows : c.set_row.new.self.listed.rows ≡ changed_to c.args.guest c.args.stop let_go (Some row.page) old.listed.rows =
+    c.set_row.ensures.changed ∙ ap (λ (r : Row). change_row r.page (λ _. r) now) c.let_go.ensures ∙ ap (change_row row.page (λ _. let_go row)) made
     ∙ one_more c.args.guest c.args.stop let_go (λ r. refl) c.loop-row.last old.listed.rows row order found in
-    let frames : c.revise.new.self.listed.frames ≡ old.listed.frames = c.revise.ensures.frames ∙ ap (λ (v : PagesView). v.listed.frames) c.loop-row.invariant in
-    c.revise.ensures.rest ∙ (λ i. record (c.loop-row.invariant i) { listed = record { rows = rows i; frames = frames i } })
+    let frames : c.set_row.new.self.listed.frames ≡ old.listed.frames = c.set_row.ensures.frames ∙ ap (λ (v : PagesView). v.listed.frames) c.loop-row.invariant in
+    c.set_row.ensures.rest ∙ (λ i. record (c.loop-row.invariant i) { listed = record { rows = rows i; frames = frames i } })
 
 pub loop-row-smaller : goal.loop-row-smaller
 loop-row-smaller c =

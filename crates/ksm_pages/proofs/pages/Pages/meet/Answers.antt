@@ -15,7 +15,7 @@ use Rattle.ksm_pages.specs.Lodged.{frames_seen, lodging}
 use Rattle.ksm_pages.proofs.Linking.{linked_alone, own_not_merged}
 use Rattle.ksm_pages.proofs.Partners.{met_own, met_page, met_waits, partner_nothing}
 use Rattle.ksm_pages.proofs.Ranks.{stands_where}
-use Rattle.ksm_pages.proofs.Seen.{own_seen, seen_revised}
+use Rattle.ksm_pages.proofs.Seen.{own_seen, seen_row_set}
 use Rattle.ksm_pages.proofs.pages.Pages.meet.Goals as goal
 
 -- the page that waits from now on, in the row's tree
@@ -51,8 +51,8 @@ returns-then-same_page-clause-frames c =
     let k = rank row.page old.rows.rows in
     let alone : merged_state (row_in old.rows.rows k).state ≡ false = ap (λ (r : Row). merged_state r.state) at.row_is
     ∙ own_not_merged row.state c.requires.alone in
-    (λ t. frames_seen of_old (c.restate.ensures.rows t) (c.restate.ensures.frames t))
-    ∙ seen_revised of_old old.rows.rows old.rows.frames k waiting (λ own. sym (own_seen of_old (row_in old.rows.rows k).state own alone))
+    (λ t. frames_seen of_old (c.set_state.ensures.rows t) (c.set_state.ensures.frames t))
+    ∙ seen_row_set of_old old.rows.rows old.rows.frames k waiting (λ own. sym (own_seen of_old (row_in old.rows.rows k).state own alone))
     ∙ ap (λ v. v.listed.frames) c.self.view_is
 
 pub invariant_of-self-then-same_page : goal.invariant_of-self-then-same_page
@@ -63,7 +63,7 @@ invariant_of-self-then-same_page c =
     let found = ap (λ v. row_at row.page v.listed.rows) c.self.view_is ∙ c.requires.row_is in
     let tree = c.tree_of-tree.ensures in
     record {
-      kept = subst (λ rows. AreKept old.shape old.knobs rows old.dups c.find_or_add.new.self) (sym c.restate.ensures.changed)
+      kept = subst (λ rows. AreKept old.shape old.knobs rows old.dups c.find_or_add.new.self) (sym c.set_state.ensures.changed)
           (record {
             linked = linked_alone old.shape old.rows.rows old.dups c.self.invariant.kept.linked row waiting found
                 (own_not_merged row.state c.requires.alone) refl;
@@ -72,8 +72,8 @@ invariant_of-self-then-same_page c =
                 (subst (λ t. IsAdded t row.bytes c.in_ok-page.page old.waiting c.find_or_add.new.self) tree c.in_ok-page.ensures.added)
                 (λ is. c.find_or_add.ensures.kept (ap (λ t. is_some (waiting_page t row.bytes old.waiting)) tree ∙ is));
           });
-      paired = ap length c.restate.ensures.frames ∙ c.self.invariant.paired
-          ∙ sym (ap length c.restate.ensures.rows ∙ length-set old.rows.rows (rank row.page old.rows.rows) waiting);
+      paired = ap length c.set_state.ensures.frames ∙ c.self.invariant.paired
+          ∙ sym (ap length c.set_state.ensures.rows ∙ length-set old.rows.rows (rank row.page old.rows.rows) waiting);
       room = c.self.invariant.room;
     }
 

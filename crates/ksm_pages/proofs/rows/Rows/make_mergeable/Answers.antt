@@ -11,8 +11,8 @@ loop-row-init c = record {
   frames = refl;
 }
 
-pub revise-requires : goal.revise-requires
-revise-requires c =
+pub set_row-requires : goal.set_row-requires
+set_row-requires c =
     known_now c.args.guest None as_mergeable (λ r. refl) c.loop-row.last c.args.self.now.rows c.loop-row.self.rows c.in-Some.row c.loop-row.invariant.order
     c.loop-row.invariant.rows (sym c.first_of.ensures ∙ c.in-Some.is)
 
@@ -23,10 +23,10 @@ loop-row-preserved c =
     let at = c.loop-row.invariant in
     record {
       order = at.order;
-      rows = c.revise.ensures.changed ∙ ap (change_row row.page (λ _. as_mergeable row)) at.rows
+      rows = c.set_row.ensures.changed ∙ ap (change_row row.page (λ _. as_mergeable row)) at.rows
           ∙ one_more c.args.guest None as_mergeable (λ r. refl) c.loop-row.last old row at.order
           (seen_before c.args.guest None as_mergeable (λ r. refl) c.loop-row.last old c.loop-row.self.rows (Some row) at.rows (sym c.in-Some.is ∙ c.first_of.ensures));
-      frames = c.revise.ensures.frames ∙ at.frames;
+      frames = c.set_row.ensures.frames ∙ at.frames;
     }
 
 pub loop-row-smaller : goal.loop-row-smaller

@@ -7,10 +7,10 @@ use Rattle.ksm_tree.proofs.Waiters.{row_stopped}
 use Rattle.ksm_tree.specs.Dups.{rows_of}
 use Rattle.ksm_pages.specs.Linked.{AreKept, PagesView}
 use Rattle.ksm_pages.proofs.Linking.{linked_alone, none_merged}
-use Rattle.ksm_pages.proofs.Seen.{item_lies, own_seen, paired_there, seen_revised, stands_seen}
+use Rattle.ksm_pages.proofs.Seen.{item_lies, own_seen, paired_there, seen_row_set, stands_seen}
 use Rattle.ksm_pages.specs.Listed.{StandsAt, rank, row_in}
 use Rattle.ksm_pages.specs.Lodged.{frames_seen, lodging}
-use Rattle.ksm_pages.proofs.pages.Pages.revise.Goals as goal
+use Rattle.ksm_pages.proofs.pages.Pages.set_row.Goals as goal
 
 -- the old row, if it is merged, lies where its dup does, and the new one stays there
 pub returns-in-Merged-clause-frames : goal.returns-in-Merged-clause-frames
@@ -39,14 +39,14 @@ invariant_of-self c =
     let was = c.args.old.now in
     let found = ap (λ v. row_at row.page v.listed.rows) c.self-2.view_is ∙ c.requires.known in
     record {
-      kept = subst (λ rows. AreKept old.shape old.knobs rows old.dups c.stop_waiting.new.waiting) (sym c.revise-frame.ensures.changed)
+      kept = subst (λ rows. AreKept old.shape old.knobs rows old.dups c.stop_waiting.new.waiting) (sym c.set_row-frame.ensures.changed)
           (record {
             linked = linked_alone old.shape old.rows.rows old.dups c.self-2.invariant.kept.linked was row found (alone c) (ap merged_state c.requires.alone);
             waits = row_stopped old.knobs old.rows.rows old.waiting c.self-2.invariant.kept.waits c.stop_waiting.new.waiting row was found
                 (ap waiting_state c.requires.alone) c.stop_waiting.ensures;
           });
-      paired = paired_there old.rows c.revise-frame.new.self (rank row.page old.rows.rows) row c.self-2.invariant.paired c.revise-frame.ensures.rows
-          c.revise-frame.ensures.frames;
+      paired = paired_there old.rows c.set_row-frame.new.self (rank row.page old.rows.rows) row c.self-2.invariant.paired c.set_row-frame.ensures.rows
+          c.set_row-frame.ensures.frames;
       room = c.self-2.invariant.room;
     }
 
@@ -56,10 +56,10 @@ returns-clause-stood c =
     let was = c.args.old.now in
     let page = c.args.row.now.page in
     let of = lodging (rows_of old.dups.dups) old.lodgings.items in
-    subst (λ (v : PagesView). StandsAt v.listed page was c.revise-frame.result) c.self-2.view_is
-    (stands_seen (rows_of old.dups.dups) old.lodgings.items old.rows page (record { row = was; frame = c.revise-frame.result })
-    (record { row = was; frame = c.revise-frame.result }) c.self-2.invariant.paired c.revise-frame.ensures.stood refl
-    (sym (own_seen of was.state c.revise-frame.result (alone c))))
+    subst (λ (v : PagesView). StandsAt v.listed page was c.set_row-frame.result) c.self-2.view_is
+    (stands_seen (rows_of old.dups.dups) old.lodgings.items old.rows page (record { row = was; frame = c.set_row-frame.result })
+    (record { row = was; frame = c.set_row-frame.result }) c.self-2.invariant.paired c.set_row-frame.ensures.stood refl
+    (sym (own_seen of was.state c.set_row-frame.result (alone c))))
 
 pub returns-clause-frames : goal.returns-clause-frames
 returns-clause-frames c =
@@ -67,8 +67,8 @@ returns-clause-frames c =
     let of = lodging (rows_of old.dups.dups) old.lodgings.items in
     let row = c.args.row.now in
     let k = rank row.page old.rows.rows in
-    let was = ap (λ r. merged_state r.state) c.revise-frame.ensures.stood.row_is ∙ alone c in
-    (λ t. frames_seen of (c.revise-frame.ensures.rows t) (c.revise-frame.ensures.frames t))
-    ∙ seen_revised of old.rows.rows old.rows.frames k row (λ own. own_seen of row.state own (ap merged_state c.requires.alone)
+    let was = ap (λ r. merged_state r.state) c.set_row-frame.ensures.stood.row_is ∙ alone c in
+    (λ t. frames_seen of (c.set_row-frame.ensures.rows t) (c.set_row-frame.ensures.frames t))
+    ∙ seen_row_set of old.rows.rows old.rows.frames k row (λ own. own_seen of row.state own (ap merged_state c.requires.alone)
     ∙ sym (own_seen of (row_in old.rows.rows k).state own was))
     ∙ ap (λ (v : PagesView). v.listed.frames) c.self-2.view_is

@@ -9,22 +9,22 @@ use Rattle.ksm_pages.specs.RowEntries.{entry_of, listed, row_of}
 use Rattle.ksm_pages.proofs.RowLists.{asks, entry_found, stands_at, Revised, revised}
 use Rattle.ksm_pages.proofs.BlockCounts.{blocks_room, block_replaced, page_in_block}
 use Rattle.ksm_pages.proofs.Tallies.{page_counted, page_replaced, page_room}
-use Rattle.ksm_pages.proofs.rows.Rows.restate.Goals as goal
+use Rattle.ksm_pages.proofs.rows.Rows.set_state.Goals as goal
 
 -- the entry of the row
 entry : (c : goal.After-self-1) → (v : Entry) × (lookup (asks c.args.row.now.page) c.self.inside.entries ≡ Some v) × (c.args.row.now ≡ row_of (c.args.row.now.page, v))
-entry c = entry_found c.self.inside.entries c.args.self.now c.args.row.now.page c.args.row.now c.self.view_is c.restate-frame.ensures.ordered c.requires
+entry c = entry_found c.self.inside.entries c.args.self.now c.args.row.now.page c.args.row.now c.self.view_is c.set_state-frame.ensures.ordered c.requires
 
-written : (c : goal.After-self-1) → Revised c.args.self.now (listed c.restate-frame.new.self) (record c.args.row.now { state = c.args.state })
+written : (c : goal.After-self-1) → Revised c.args.self.now (listed c.set_state-frame.new.self) (record c.args.row.now { state = c.args.state })
 written c =
     let e = entry c in
     let es = c.self.inside.entries in
-    let fs = c.restate-frame.new.self in
+    let fs = c.set_state-frame.new.self in
     let row = c.args.row.now in
     let made : fs ≡ set_value (asks row.page) es (record e.0 { state = c.args.state }) =
     subst (λ (o : Option Entry). MatchOption o (fs ≡ es) (λ (v : Entry). fs ≡ set_value (asks row.page) es (record v { state = c.args.state }))) e.1
-    c.restate-frame.ensures.entries in
-    revised es fs c.args.self.now (record row { state = c.args.state }) e.0 c.self.view_is c.restate-frame.ensures.ordered e.1
+    c.set_state-frame.ensures.entries in
+    revised es fs c.args.self.now (record row { state = c.args.state }) e.0 c.self.view_is c.set_state-frame.ensures.ordered e.1
     (made ∙ ap (λ (r : Row). set_value (asks row.page) es (entry_of (record r { state = c.args.state }) e.0.frame)) (sym e.2))
 
 pub returns-clause-stood : goal.returns-clause-stood
@@ -32,11 +32,11 @@ returns-clause-stood c =
     let e = entry c in
     let es = c.self.inside.entries in
     let row = c.args.row.now in
-    let frame : c.restate-frame.result ≡ e.0.frame =
-    subst (λ (o : Option Entry). MatchOption o (c.restate-frame.result ≡ None) (λ (v : Entry). c.restate-frame.result ≡ v.frame)) e.1 c.restate-frame.ensures.frame in
-    subst (λ (l : Listed). StandsAt l row.page row c.restate-frame.result) c.self.view_is
+    let frame : c.set_state-frame.result ≡ e.0.frame =
+    subst (λ (o : Option Entry). MatchOption o (c.set_state-frame.result ≡ None) (λ (v : Entry). c.set_state-frame.result ≡ v.frame)) e.1 c.set_state-frame.ensures.frame in
+    subst (λ (l : Listed). StandsAt l row.page row c.set_state-frame.result) c.self.view_is
     (subst (λ (z : Row × Option ℕ). StandsAt (listed es) row.page z.0 z.1) (λ t. (sym e.2 t, sym frame t))
-    (stands_at row.page e.0 es c.restate-frame.ensures.ordered e.1))
+    (stands_at row.page e.0 es c.set_state-frame.ensures.ordered e.1))
 
 pub returns-clause-rows : goal.returns-clause-rows
 returns-clause-rows c = (written c).rows
@@ -49,27 +49,27 @@ returns-clause-changed c = (written c).changed
 
 pub without-requires : goal.without-requires
 without-requires c =
-    let e = entry_found c.self.inside.entries c.args.self.now c.args.row.now.page c.args.row.now c.self.view_is c.restate-frame.ensures.ordered c.requires in
+    let e = entry_found c.self.inside.entries c.args.self.now c.args.row.now.page c.args.row.now c.self.view_is c.set_state-frame.ensures.ordered c.requires in
     page_counted c.self.inside.entries c.args.self.now c.args.row.now.page e.0 c.args.row.now c.self.inside.tally c.self.view_is
-    c.restate-frame.ensures.ordered e.1 e.2 c.self.invariant.tally
+    c.set_state-frame.ensures.ordered e.1 e.2 c.self.invariant.tally
 
 pub with-self-inside-requires : goal.with-self-inside-requires
 with-self-inside-requires c =
-    let e = entry_found c.self.inside.entries c.args.self.now c.args.row.now.page c.args.row.now c.self.view_is c.restate-frame.ensures.ordered c.requires in
+    let e = entry_found c.self.inside.entries c.args.self.now c.args.row.now.page c.args.row.now c.self.view_is c.set_state-frame.ensures.ordered c.requires in
     page_room c.self.inside.entries c.args.self.now c.args.row.now.page e.0 c.args.row.now c.self.inside.tally c.self.view_is
-    c.restate-frame.ensures.ordered e.1 e.2 c.self.invariant.tally
+    c.set_state-frame.ensures.ordered e.1 e.2 c.self.invariant.tally
     c.without.result (omega (arith, c.len.ensures.small, c.len.ensures.len)) c.without.ensures
 
 pub change-requires-clause-page : goal.change-requires-clause-page
 change-requires-clause-page c =
-    let e = entry_found c.self.inside.entries c.args.self.now c.args.row.now.page c.args.row.now c.self.view_is c.restate-frame.ensures.ordered c.requires in
+    let e = entry_found c.self.inside.entries c.args.self.now c.args.row.now.page c.args.row.now c.self.view_is c.set_state-frame.ensures.ordered c.requires in
     ap (λ (r : Row). r.page) e.2
 
 pub change-requires-clause-counted : goal.change-requires-clause-counted
 change-requires-clause-counted c =
-    let e = entry_found c.self.inside.entries c.args.self.now c.args.row.now.page c.args.row.now c.self.view_is c.restate-frame.ensures.ordered c.requires in
+    let e = entry_found c.self.inside.entries c.args.self.now c.args.row.now.page c.args.row.now c.self.view_is c.set_state-frame.ensures.ordered c.requires in
     page_in_block c.self.inside.entries c.args.self.now c.args.row.now.page e.0 c.args.row.now c.self.inside.blocks c.self.view_is
-    c.restate-frame.ensures.ordered e.1 e.2 c.self.invariant.blocks
+    c.set_state-frame.ensures.ordered e.1 e.2 c.self.invariant.blocks
 
 pub change-requires-clause-room : goal.change-requires-clause-room
 change-requires-clause-room c =
@@ -81,9 +81,9 @@ invariant_of-self c =
     let e = entry c in
     record {
       tally = page_replaced c.self.inside.entries c.args.self.now c.args.row.now.page e.0 c.args.row.now c.self.inside.tally c.self.view_is
-          c.restate-frame.ensures.ordered e.1 e.2 c.self.invariant.tally
+          c.set_state-frame.ensures.ordered e.1 e.2 c.self.invariant.tally
           (record c.args.row.now { state = c.args.state }) c.without.result c.with-self-inside.result _ (written c).rows c.without.ensures c.with-self-inside.ensures;
       blocks = block_replaced c.self.inside.entries c.args.self.now c.args.row.now.page e.0 c.args.row.now c.self.inside.blocks c.self.view_is
-          c.restate-frame.ensures.ordered e.1 e.2 c.self.invariant.blocks
+          c.set_state-frame.ensures.ordered e.1 e.2 c.self.invariant.blocks
           (record c.args.row.now { state = c.args.state }) c.change.new.self _ (written c).rows c.change.ensures;
     }

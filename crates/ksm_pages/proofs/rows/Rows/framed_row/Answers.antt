@@ -5,7 +5,7 @@ use Rattle.ksm_base.specs.Rows.{row_at}
 use Rattle.ksm_pages.specs.Listed.{Listed, StandsAt}
 use Rattle.ksm_pages.specs.RowEntries.{listed}
 use Rattle.ksm_pages.proofs.RowLists.{asks, known_by, none_by, stands_at}
-use Rattle.ksm_pages.proofs.rows.Rows.find.Goals as goal
+use Rattle.ksm_pages.proofs.rows.Rows.framed_row.Goals as goal
 
 pub returns-in-None-clause-known : goal.returns-in-None-clause-known
 returns-in-None-clause-known c =

@@ -3,7 +3,7 @@ use Rattle.ksm_tree.specs.Dups.{rows_of}
 use Rattle.ksm_pages.specs.Listed.{StandsAt}
 use Rattle.ksm_pages.proofs.Seen.{stands_seen}
 use Rattle.ksm_pages.specs.Lodged.{frame_seen, lodging}
-use Rattle.ksm_pages.proofs.pages.Pages.find.Goals as goal
+use Rattle.ksm_pages.proofs.pages.Pages.framed_row.Goals as goal
 
 pub returns-clause-at : goal.returns-clause-at
 returns-clause-at c =
