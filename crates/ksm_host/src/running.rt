@@ -18,8 +18,12 @@ use std::rt::Env;
 use std::sync::Wait;
 use std::thread::Threads;
 
-/// How many bytes are read or sent at once, at most.
-const BLOCK: usize = 65536;
+/// How many bytes are read at once, at most. The reader fills its buffer with zeroes first, and a line that lies across its end is read by
+/// parts: a larger buffer costs more at the start, a smaller one more for each such line.
+const READ_BLOCK: usize = 16384;
+
+/// How many bytes are sent at once, at most.
+const WRITE_BLOCK: usize = 65536;
 
 /// How the program ended, and what is left of it.
 #[derive(Drop)]
@@ -43,8 +47,8 @@ pub fn run_on<
         Ok(words) => words,
         Err(status) => return Outcome::new(status),
     };
-    let reader = BufReader::with_capacity(rt.alloc(), BLOCK, rt.reader());
-    let writer = BufWriter::with_capacity(rt.alloc(), BLOCK, io::writer(rt));
+    let reader = BufReader::with_capacity(rt.alloc(), READ_BLOCK, rt.reader());
+    let writer = BufWriter::with_capacity(rt.alloc(), WRITE_BLOCK, io::writer(rt));
     match (reader, writer) {
         (Ok(mut reader), Ok(writer)) => {
             let tells = tells_refusals(rt, errors);

@@ -21,11 +21,6 @@ taken_from n m a b buffer rest bytes room same split = rw (room, same) (go (n ==
     go false None = tt
     go false (Some xs) = ap (λ l. l ++ xs) split ∙ append_assoc bytes rest xs
 
--- a buffer whose first byte is a newline
-pub begins_with : (buffer : List ℕ) → get_or buffer 0 0 ≡ 10 → 1 ≤ length buffer → buffer ≡ (10 ∷ []) ++ drop 1 buffer
-begins_with [] first some = absurd (omega (arith, some))
-begins_with (byte ∷ buffer) first some = ap (λ b. b ∷ buffer) first
-
 -- a buffer up to the first newline of its beginning
 pub up_to_newline : (buffer : List ℕ) (n at : ℕ) → at < length (take n buffer) → is_byte 10 (get_or (take n buffer) at 0) ≡ true
     → buffer ≡ (take at (take n buffer) ++ 10 ∷ []) ++ drop (at + 1) buffer

@@ -18,23 +18,16 @@ use Rattle.ksm_script.specs.declared.input.LineEnd.TheVariants.{Newline, Input, 
 use Rattle.ksm_lines.specs.Grammar.{Writes, IsNoLine}
 use Rattle.ksm_script.specs.Input.{EndsAs, IsPlain}
 use Rattle.ksm_script.specs.Answering.{Answers, reply_text}
+use Rattle.ksm_script.specs.Going.{GoesOn, IsSoFar}
 use Rattle.ksm_script.specs.LastLine.{EndsBad}
+use Rattle.ksm_script.specs.Said.{IsSaid, KeepsReply, WritesReply}
+use Rattle.ksm_script.specs.Takes.{TakesForm}
 use Rattle.ksm_script.specs.Script.{Answered, none, more, CarriesOut, ReadFor, AnsweredAll, AnsweredLast, IsBad, IsReadAs, AnsweredToBad, AnsweredOne, AnsweredPart, Streams, streams, Goes}
 use Rattle.ksm_script.proofs.Parts.{broken_after}
 
 -- a failed write is told as one
 pub broke : (io : Streams) (from to : ScriptState) (told : Result End RunFault) → told ≡ Err Write → Goes io from to (Err Write) → Goes io from to told
 broke io from to told is h = subst (λ (r : Result End RunFault). Goes io from to r) (sym is) h
-
--- what a run read, did and wrote before the line of a number
-pub record IsSoFar (first now : Option (List ℕ)) (begun written : Option (List ℕ)) (from state : ScriptState) (number : ℕ) : Type 0 where
-  pub lines : List ℕ
-  pub text : List ℕ
-  pub count : ℕ
-  pub counted : count + 1 ≡ number
-  pub answered : Answered from lines text count state
-  pub consumed : Consumes first now lines
-  pub appended : Appends begun written text
 
 -- before the first line, nothing was read and nothing written
 pub nothing_yet : (reader writer : Option (List ℕ)) (state : ScriptState) → IsSoFar reader reader writer writer state state 1
@@ -104,6 +97,58 @@ pub one_broken : (first now later : Option (List ℕ)) (begun written wrote : Op
 one_broken first now later begun written wrote from state next number so one =
     let consumed = Consumes-trans first now later so.lines (one.0 ++ 10 ∷ []) so.consumed one.3 in
     inl (so.text, one.1, (so.lines, one.0, so.lines ++ (one.0 ++ 10 ∷ []), so.count, state, so.answered, one.2, inl refl, consumed), broken_after _ _ _ so.text _ so.appended one.4)
+
+-- the same after a line of no bytes
+pub one_empty : (first now later : Option (List ℕ)) (begun written : Option (List ℕ)) (from state : ScriptState) (number : ℕ) → IsSoFar first now begun written from state number
+    → TakesForm Empty now later → IsSoFar first later begun written from state (number + 1)
+one_empty first now later begun written from state number so taken =
+    let carried : CarriesOut state taken.0 None state =
+    record { form = Empty; plain = taken.2; short = taken.3; written = taken.1; answers = (refl, refl) } in
+    one_more first now later begun written written from state state number so (taken.0, None, carried, taken.4, Appends-nil written)
+
+-- the same where no line of no bytes was taken
+pub not_empty : {R : Type 0} (remaining : R → Option (List ℕ)) (first : Option (List ℕ)) (now same : R) (begun written : Option (List ℕ)) (from state : ScriptState) (number : ℕ) → same ≡ now
+    → IsSoFar first (remaining now) begun written from state number → IsSoFar first (remaining same) begun written from state number
+not_empty remaining first now same begun written from state number is so = subst (λ r. IsSoFar first (remaining r) begun written from state number) (sym is) so
+
+carried_as : (now later : Option (List ℕ)) (state next : ScriptState) (form : Line) (reply : Option LineReply) → (taken : TakesForm form now later) → Answers form state reply next
+    → CarriesOut state taken.0 reply next
+carried_as now later state next form reply taken answers = record { form = form; plain = taken.2; short = taken.3; written = taken.1; answers = answers }
+
+module _ {W : Type 0} (contents : W → Option (List ℕ)) (now later : Option (List ℕ)) (old new : W) (state next : ScriptState) (form : Line) (taken : TakesForm form now later) where
+  -- a line that was taken whole, and whose reply was written
+  pub said_one : IsSaid (WritesReply contents) (λ reply. Answers form state reply next) old new (Ok tt) → AnsweredOne (streams now later (contents old) (contents new)) state next
+  said_one (inl said) = (taken.0, Some said.0, carried_as now later state next form (Some said.0) taken said.1, taken.4, said.2.0)
+  said_one (inr quiet) =
+      let same = subst (λ (w : W). Appends (contents old) (contents w) []) (sym quiet.1) (Appends-nil (contents old)) in
+      (taken.0, None, carried_as now later state next form None taken quiet.0, taken.4, same)
+
+  -- the same whose reply was broken off
+  pub said_part : (e : RunFault) → IsSaid (WritesReply contents) (λ reply. Answers form state reply next) old new (Err e)
+      → (e ≡ Write) × AnsweredPart (streams now later (contents old) (contents new)) state next
+  said_part e (inl said) = (said.2.1.0, (taken.0, said.0, carried_as now later state next form (Some said.0) taken said.1, taken.4, said.2.1.1))
+  said_part e (inr quiet) = absurd (cc quiet.2)
+
+-- what a line is answered that was kept
+pub kept_answer : (form : Line) (state next : ScriptState) (new : Option LineReply) (r : Result (Unit {0}) RunFault) → IsSaid KeepsReply (λ reply. Answers form state reply next) None new r
+    → Answers form state new next
+kept_answer form state next new r (inl said) = subst (λ (x : Option LineReply). Answers form state x next) (sym said.2.0) said.1
+kept_answer form state next new r (inr quiet) = subst (λ (x : Option LineReply). Answers form state x next) (sym quiet.1) quiet.0
+
+-- a failed write ends a run
+pub broke_on : (first now begun written : Option (List ℕ)) (from : ScriptState) (session : SessionView) (number : ℕ) (told : Result (Option End) RunFault) → told ≡ Err Write
+    → Goes (streams first now begun written) from session.state (Err Write) → GoesOn first now begun written from session number told
+broke_on first now begun written from session number told is h = subst (λ (r : Result (Option End) RunFault). GoesOn first now begun written from session number r) (sym is) h
+
+-- a run that goes on behind a line
+pub goes_behind : (first now begun written : Option (List ℕ)) (from : ScriptState) (session : SessionView) (number : ℕ) (x : Option End) → x ≡ None
+    → GoesOn first now begun written from session number (Ok x) → IsSoFar first now begun written from session.state (number + 1)
+goes_behind first now begun written from session number x is on = subst (λ (y : Option End). GoesOn first now begun written from session number (Ok y)) is on
+
+-- a run that ends with a line
+pub goes_to_end : (first now begun written : Option (List ℕ)) (from : ScriptState) (session : SessionView) (number : ℕ) (x : Option End) (end : End) → x ≡ Some end
+    → GoesOn first now begun written from session number (Ok x) → Goes (streams first now begun written) from session.state (Ok end) × EndsBad first now session.line (Ok end)
+goes_to_end first now begun written from session number x end is on = subst (λ (y : Option End). GoesOn first now begun written from session number (Ok y)) is on
 
 abbrev found : LineEnd → Result LineEnd RunFault
 found end = Ok end

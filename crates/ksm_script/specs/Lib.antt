@@ -10,3 +10,5 @@ pub mod Script
 pub mod Seen
 pub mod Worked
 pub mod LastLine
+pub mod Going
+pub mod Said

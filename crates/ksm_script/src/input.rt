@@ -1,5 +1,5 @@
 //! Lines from a reader.
-ghost use Rattle.std.specs.Prelude.{◌≡◌, ◌≢◌, ◌+◌, ◌<◌, ◌≤◌, ◌++◌, ◌∷◌, ◌⊎◌, [], ℕ, List, Option, Some, Ok, length, take, IfOk, IfErr, IfNone, IfSome, IsTrue, ◌↔◌, option_to_list};
+ghost use Rattle.std.specs.Prelude.{◌≡◌, ◌≢◌, ◌+◌, ◌<◌, ◌≤◌, ◌++◌, ◌∷◌, ◌⊎◌, [], ℕ, List, Option, Some, Ok, true, false, length, take, IfOk, IfErr, IfNone, IfSome, IsTrue, ◌↔◌, option_to_list};
 ghost use Rattle.std.specs.Io.Buffered.{reader_inner, reader_remaining, writer_buffer, writer_contents};
 ghost use Rattle.std.specs.Io.KnownBytes.{Consumes, Keeps, IsAtEnd};
 ghost use Rattle.ksm_script.specs.Takes.{Takes, TakesForm};
@@ -161,16 +161,25 @@ fn take_block<R: Read>(reader: &mut BufReader<R>, line: &mut LineBuffer) -> Opti
     }
 }
 
+/// Takes the newline of a line of no bytes, if that is next in the reader's buffer; tells whether it did. Else nothing is taken.
+#[inline(always)]
+fn take_empty<R: Read>(reader: &mut BufReader<R>) -> bool
+    ensures taken { result ≡ true → TakesForm Line.Empty (reader_remaining R.remaining reader.old) (reader_remaining R.remaining reader.new) }
+    ensures none { result ≡ false → reader.new ≡ reader.old }
+{
+    let [b'\n', ..] = reader.buffer() else {
+        return false;
+    };
+    reader.consume(1);
+    true
+}
+
 /// Takes the line that a reader has whole in its buffer, read where it lies, if it is one of the forms. Else nothing is taken.
 fn take_whole<R: Read>(reader: &mut BufReader<R>) -> Option<Line>
     ensures taken { IfSome result (λ form. TakesForm form (reader_remaining R.remaining reader.old) (reader_remaining R.remaining reader.new)) }
     ensures none { IfNone result (reader.new ≡ reader.old) }
 {
     let buffer = reader.buffer();
-    if let [b'\n', ..] = buffer {
-        reader.consume(1);
-        return Some(Line::Empty);
-    }
     let block = &buffer[..buffer.len().min(LINE_ROOM)];
     let Some(end) = memchr(b'\n', block) else {
         return None;
@@ -205,6 +214,11 @@ pub(crate) trait TakesLines<R, W: Write> {
     /// The bytes that the reader still gives, where they are known.
     ghost remaining: { R → Option (List ℕ) };
 
+    /// Takes the next line at once, if it is at hand and has no bytes; tells whether it did. Else nothing is taken.
+    fn take_empty(reader: &mut R) -> bool
+        ensures taken { result ≡ true → TakesForm Line.Empty (remaining reader.old) (remaining reader.new) }
+        ensures none { result ≡ false → reader.new ≡ reader.old };
+
     /// Takes the next line at once, if it is at hand and one of the forms. Else nothing is taken.
     fn take_whole(reader: &mut R) -> Option<Line>
         ensures taken { IfSome result (λ form. TakesForm form (remaining reader.old) (remaining reader.new)) }
@@ -227,6 +241,10 @@ pub(crate) struct ByBytes;
 impl<R: Read, W: Write> TakesLines<R, W> for ByBytes {
     ghost remaining = { R.remaining };
 
+    fn take_empty(_reader: &mut R) -> bool {
+        false
+    }
+
     fn take_whole(_reader: &mut R) -> Option<Line> {
         None
     }
@@ -245,6 +263,11 @@ pub(crate) struct ByBlocks;
 
 impl<R: Read, W: Write + Drop> TakesLines<BufReader<R>, BufWriter<W>> for ByBlocks {
     ghost remaining = { reader_remaining R.remaining };
+
+    #[inline(always)]
+    fn take_empty(reader: &mut BufReader<R>) -> bool {
+        take_empty(reader)
+    }
 
     fn take_whole(reader: &mut BufReader<R>) -> Option<Line> {
         take_whole(reader)

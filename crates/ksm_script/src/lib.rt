@@ -8,6 +8,7 @@ mod output;
 mod pass_state;
 mod passes;
 mod refusal;
+mod replies;
 mod reply;
 mod script;
 mod session;

@@ -6,7 +6,7 @@ ghost use Rattle.ksm_script.specs.Texts.{AppendsPart};
 use crate::script::RunFault;
 use std::io::Write;
 
-// A hint alone: a short text is then a few stores to the writer's buffer.
+// It is inlined so that the compiler knows the length of a text, and writes a short one by a few stores to the writer's buffer.
 
 /// Writes a text, or the beginning of it that the writer took before its fault.
 #[inline(always)]

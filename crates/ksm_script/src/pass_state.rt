@@ -32,6 +32,7 @@ pub enum Act {
 }
 
 /// The pass holds the frame that it found.
+#[inline(always)]
 fn found(held: Held) -> (PassState, LineReply)
     ensures state { result.0 ≡ holding held }
     ensures reply { result.1 ≡ LineReply.Held held.frame held.generation }
@@ -44,6 +45,7 @@ fn found(held: Held) -> (PassState, LineReply)
 }
 
 /// The pass holds the frame that it found, whose content is another.
+#[inline(always)]
 fn differs(held: Held) -> (PassState, LineReply)
     ensures state { result.0 ≡ holding held }
     ensures reply { result.1 ≡ LineReply.Differs held.frame held.generation }
@@ -57,6 +59,7 @@ fn differs(held: Held) -> (PassState, LineReply)
 
 impl PassState {
     /// Does what a line asks.
+    #[inline(always)]
     pub fn act(self, table: &FrameTable, act: Act) -> (PassState, LineReply)
         requires own { table_of self ≡ table.now }
         ensures acts { Acts act self result.1 result.0 }
@@ -71,6 +74,7 @@ impl PassState {
     }
 
     // The pass, if it may look the place up; else it comes back with the refusal.
+    #[inline(always)]
     fn ready(self, table: &FrameTable, place: u32) -> Result<Pass, (PassState, LineReply)>
         requires own { table_of self ≡ table.now }
         ensures may { IfOk result (λ p. (self ≡ idle p) × (place < frames_of table.now.shape)) }
@@ -91,6 +95,7 @@ impl PassState {
     }
 
     // Looks a place up.
+    #[inline(always)]
     fn find(self, table: &FrameTable, place: u32) -> (PassState, LineReply)
         requires own { table_of self ≡ table.now }
         ensures finds { Finds place self result.1 result.0 }
@@ -108,6 +113,7 @@ impl PassState {
     }
 
     // Looks a place up, and compares the content of its frame with a page.
+    #[inline(always)]
     fn find_equal(self, table: &FrameTable, place: u32, page: &PageBytes) -> (PassState, LineReply)
         requires own { table_of self ≡ table.now }
         ensures finds { Equals place page.now self result.1 result.0 }
@@ -126,6 +132,7 @@ impl PassState {
     }
 
     // Reads the page of the frame that is held.
+    #[inline(always)]
     fn look(self, table: &FrameTable) -> (PassState, LineReply)
         requires own { table_of self ≡ table.now }
         ensures looks { LooksAt self result.1 result.0 }
@@ -144,6 +151,7 @@ impl PassState {
     }
 
     // Gives the hold back.
+    #[inline(always)]
     fn leave(self, table: &FrameTable) -> (PassState, LineReply)
         requires own { table_of self ≡ table.now }
         ensures leaves { GivesUp self result.1 result.0 }

@@ -39,6 +39,7 @@ impl Model for Passes {
 }
 
 /// Puts a pass into an empty slot.
+#[inline(always)]
 fn fill(slot: &mut Option<PassState>, state: PassState)
     requires { slot.old ≡ None }
     ensures { slot.new ≡ Some state }
@@ -48,6 +49,7 @@ fn fill(slot: &mut Option<PassState>, state: PassState)
 }
 
 /// Takes the pass of a number out of its slot, if there is one.
+#[inline(always)]
 fn take_at(slots: &mut Vec<Option<PassState>>, number: u32) -> Option<PassState>
     requires { AreThere slots.old.items }
     ensures taken { result ≡ slice_get (present slots.old.items) number }
@@ -63,6 +65,7 @@ fn take_at(slots: &mut Vec<Option<PassState>>, number: u32) -> Option<PassState>
 }
 
 /// Puts the pass of a number back.
+#[inline(always)]
 fn put_at(slots: &mut Vec<Option<PassState>>, number: u32, state: PassState)
     requires { slice_get slots.old.items number ≡ Some None }
     ensures slots { slots.new.items ≡ slice_set slots.old.items number (Some state) }
@@ -72,6 +75,7 @@ fn put_at(slots: &mut Vec<Option<PassState>>, number: u32, state: PassState)
 }
 
 /// Does with the pass of a number what a line asks.
+#[inline(always)]
 fn act_at(
     slots: &mut Vec<Option<PassState>>,
     table: &FrameTable,
@@ -222,6 +226,7 @@ impl Passes {
     }
 
     /// Does with the pass of a number what a line asks.
+    #[inline(always)]
     pub fn act(&mut self, table: &FrameTable, number: u32, act: Act) -> LineReply
         requires own { All (λ s. table_of s ≡ table.now) self.old }
         ensures acts { AtPass number (Acts act) self.old result self.new }

@@ -1,9 +1,11 @@
 //! Runs of a session over a reader and a writer.
-ghost use Rattle.std.specs.Prelude.{◌≡◌, All, Ok, Some, true, false, OnOk, IfErr};
+ghost use Rattle.std.specs.Prelude.{◌≡◌, ℕ, All, List, Ok, Option, Some, true, false, OnOk, IfErr};
 ghost use Rattle.std.specs.Io.Buffered.{reader_remaining, writer_contents};
 ghost use Rattle.std.specs.Io.KnownBytes.{Appends};
 ghost use Rattle.ksm_script.specs.declared.reply.LineReply.{LineReply};
 ghost use Rattle.ksm_script.specs.Answering.{reply_text};
+ghost use Rattle.ksm_script.specs.Going.{GoesOn, IsSoFar};
+ghost use Rattle.ksm_script.specs.State.{ScriptState};
 ghost use Rattle.ksm_script.specs.Replies.{text_of};
 ghost use Rattle.ksm_script.specs.Lookups.{IsIdle};
 ghost use Rattle.ksm_script.specs.LastLine.{EndsBad};
@@ -12,6 +14,7 @@ ghost use Rattle.ksm_script.specs.Texts.{AppendsPart};
 
 use crate::hears::{Hears, Unheard};
 use crate::input::{ByBlocks, ByBytes, LineEnd, TakesLines};
+use crate::replies::{Kept, Written};
 use crate::reply::{LineReply, write_reply};
 use crate::session::Session;
 use ksm_lines::{Line, LineFault, read_line};
@@ -120,25 +123,15 @@ fn run_by<M: TakesLines<R, W>, H: Hears<W>, N: Naming, T: Threads + Wait + Sync,
     ensures line { EndsBad (M.remaining reader.old) (M.remaining reader.new) session.new.line result }
 {
     'lines: for number in 1..u64::MAX {
-        let answered = answer_whole::<M, N, T, R, W>(rt, reader, writer, session, hears.listens())?;
-        if answered {
+        if M::take_empty(reader) {
             continue;
         }
-        let end = session.read_next::<M, R, W>(reader, writer)?;
-        if end == LineEnd::Input && session.line().is_empty() {
-            return Ok(End::AllRead);
-        }
-        if end == LineEnd::Newline && session.line().is_empty() {
+        if answer_whole::<M, N, T, R, W>(rt, reader, writer, session, hears.listens())? {
             continue;
         }
-        let Ok(line) = line_of(session, end) else {
-            write_reply(writer, &LineReply::BadLine(number))?;
-            return Ok(End::BadLine(number));
-        };
-        let reply = session.answer(rt, line);
-        write_answer(writer, hears, number, session.line(), reply)?;
-        if end == LineEnd::Input {
-            return Ok(End::AllRead);
+        let ended = answer_next::<M, H, N, T, R, W>(rt, reader, writer, session, hears, number)?;
+        if let Some(end) = ended {
+            return Ok(end);
         }
     }
     Err(RunFault::Read)
@@ -167,8 +160,44 @@ fn answer_whole<M: TakesLines<R, W>, N: Naming, T: Threads + Wait + Sync, R, W: 
     let Some(line) = M::take_whole(reader) else {
         return Ok(false);
     };
-    write_answer(writer, &mut Unheard, 0, b"", session.answer(rt, line))?;
+    session.answer::<Written, T, W>(rt, line, writer)?;
     Ok(true)
+}
+
+/// Reads the next line into the session, and answers it; tells how the run ends with it, if it does.
+///
+/// It stands apart, so that no value of its own is cleared before a line that is answered at once.
+#[inline(never)]
+fn answer_next<M: TakesLines<R, W>, H: Hears<W>, N: Naming, T: Threads + Wait + Sync, R, W: Write>(
+    rt: &T,
+    reader: &mut R,
+    writer: &mut W,
+    session: &mut Session<N>,
+    hears: &mut H,
+    number: u64,
+) -> Result<Option<End>, RunFault>
+    ensures { (first begun : Option (List ℕ)) → (from : ScriptState)
+        → IsSoFar first (M.remaining reader.old) begun (W.contents writer.old) from session.old.state number
+        → GoesOn first (M.remaining reader.new) begun (W.contents writer.new) from session.new number result }
+{
+    let end = session.read_next::<M, R, W>(reader, writer)?;
+    if end == LineEnd::Input && session.line().is_empty() {
+        return Ok(Some(End::AllRead));
+    }
+    if end == LineEnd::Newline && session.line().is_empty() {
+        return Ok(None);
+    }
+    let Ok(line) = line_of(session, end) else {
+        write_reply(writer, &LineReply::BadLine(number))?;
+        return Ok(Some(End::BadLine(number)));
+    };
+    let mut reply = None;
+    session.answer::<Kept, T, Option<LineReply>>(rt, line, &mut reply)?;
+    write_answer(writer, hears, number, session.line(), reply)?;
+    if end == LineEnd::Input {
+        return Ok(Some(End::AllRead));
+    }
+    Ok(None)
 }
 
 /// The line that was read last, if it is not too long and one of the forms.

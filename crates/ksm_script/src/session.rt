@@ -14,11 +14,13 @@ ghost use Rattle.ksm_script.specs.declared.pass_state.PassState.TheVariants.{Idl
 ghost use Rattle.ksm_script.specs.Answering.{Answers, IsTold, AllGivenBack, OnPasses, Commands, IsMappers, reply_to, content_reply, ticket_reply};
 ghost use Rattle.ksm_script.specs.Input.{EndsAs, IsPlain};
 ghost use Rattle.ksm_script.specs.Lookups.{Acts, AtPass, Audits};
+ghost use Rattle.ksm_script.specs.Said.{IsSaid};
 
 use crate::input::{LineBuffer, LineEnd, TakesLines};
 use crate::pass_state::Act;
 use crate::passes::Passes;
 use crate::refusal::Refusal;
+use crate::replies::Replies;
 use crate::reply::LineReply;
 use crate::script::RunFault;
 use frame_table::ClosedTable;
@@ -127,19 +129,18 @@ impl<N: Naming> Session<N> {
         self.line.as_slice()
     }
 
-    // A hint alone, as at `told`: the line, and then the reply, stays in registers.
-
-    /// Does what a line says.
+    /// Does what a line says, and hands its reply over, if it has one.
     #[inline(always)]
-    pub(crate) fn answer<R: Threads + Wait + Sync>(
+    pub(crate) fn answer<P: Replies<S>, R: Threads + Wait + Sync, S>(
         &mut self,
         rt: &R,
         line: Line,
-    ) -> Option<LineReply>
-        ensures answers { Answers line self.old.state result self.new.state }
+        to: &mut S,
+    ) -> Result<(), RunFault>
+        ensures answers { IsSaid P.takes (λ reply. Answers line self.old.state reply self.new.state) to.old to.new result }
     {
         let command = match line {
-            Line::Empty => return None,
+            Line::Empty => return Ok(()),
             Line::Register { page, node, bytes } => Command::Register { page, node, bytes },
             Line::Drop { page } => Command::Drop { page },
             Line::Store { page, bytes } => Command::Store { page, bytes },
@@ -150,30 +151,36 @@ impl<N: Naming> Session<N> {
             Line::MovePage { page, node } => Command::MovePage { page, node },
             Line::MoveDup { place, node } => Command::MoveDup { place, node },
             Line::Set { knob, value } => knob.setting(value),
-            _ => return Some(self.told(rt, line)),
+            _ => return self.tell::<P, R, S>(rt, line, to),
         };
-        Some(self.apply(rt, command))
+        P::reply(to, self.apply(rt, command))
     }
 
-    // The reply to a line that is no command of its own. Here no reply has a place but the caller's: one for each arm would have to be
-    // cleared before each line.
+    // Hands over the reply to a line that is no command of its own, each where it arises.
     #[inline(always)]
-    fn told<R: Threads + Wait + Sync>(&mut self, rt: &R, line: Line) -> LineReply
+    fn tell<P: Replies<S>, R: Threads + Wait + Sync, S>(
+        &mut self,
+        rt: &R,
+        line: Line,
+        to: &mut S,
+    ) -> Result<(), RunFault>
         requires told { IsTold line }
-        ensures answers { Answers line self.old.state (Some result) self.new.state }
+        ensures answers { IsSaid P.takes (λ reply. Answers line self.old.state reply self.new.state) to.old to.new result }
     {
         match line {
-            Line::Get { page } => self.content(rt, page),
-            Line::Ticket { page } => self.ticket(rt, page),
-            Line::Mappers { place } => self.mappers(rt, place),
-            Line::ScanPages => self.scan_pages(rt),
-            Line::Show { shown } => self.value(rt, shown),
-            Line::Stat => self.counters(rt),
-            Line::Find { pass, place } => self.act(pass, Act::Find { place }),
-            Line::Equal { pass, place, bytes } => self.act(pass, Act::Equal { place, bytes }),
-            Line::Look { pass } => self.act(pass, Act::Look),
-            Line::Leave { pass } => self.act(pass, Act::Leave),
-            Line::Audit => self.audit(rt),
+            Line::Get { page } => P::reply(to, self.content(rt, page)),
+            Line::Ticket { page } => P::reply(to, self.ticket(rt, page)),
+            Line::Mappers { place } => P::reply(to, self.mappers(rt, place)),
+            Line::ScanPages => P::reply(to, self.scan_pages(rt)),
+            Line::Show { shown } => P::reply(to, self.value(rt, shown)),
+            Line::Stat => P::reply(to, self.counters(rt)),
+            Line::Find { pass, place } => P::reply(to, self.act(pass, Act::Find { place })),
+            Line::Equal { pass, place, bytes } => {
+                P::reply(to, self.act(pass, Act::Equal { place, bytes }))
+            }
+            Line::Look { pass } => P::reply(to, self.act(pass, Act::Look)),
+            Line::Leave { pass } => P::reply(to, self.act(pass, Act::Leave)),
+            Line::Audit => P::reply(to, self.audit(rt)),
             _ => unreachable!(),
         }
     }
@@ -186,6 +193,7 @@ impl<N: Naming> Session<N> {
         self.passes.give_back(self.ksm.table());
     }
 
+    #[inline(always)]
     fn act(&mut self, pass: u32, act: Act) -> LineReply
         ensures answers { OnPasses (AtPass pass (Acts act)) self.old.state (Some result) self.new.state }
     {
@@ -205,6 +213,7 @@ impl<N: Naming> Session<N> {
         self.apply(rt, scan_of(knobs.pages_to_scan))
     }
 
+    #[inline(always)]
     fn ticket<R: Wait>(&mut self, rt: &R, page: GuestPage) -> LineReply
         ensures reply { result ≡ ticket_reply (is_known self.old.state.book page) (ticket_of page self.old.state.book) }
         ensures state { self.new.state ≡ self.old.state }
@@ -249,6 +258,7 @@ impl<N: Naming> Session<N> {
         reply_to(answer.result())
     }
 
+    #[inline(always)]
     fn counters<R: Wait>(&mut self, rt: &R) -> LineReply
         ensures reply { result ≡ counters_reply (counters_of self.old.state.book) }
         ensures state { self.new.state ≡ self.old.state }
@@ -276,6 +286,7 @@ fn scan_of(visits: u32) -> Command
 }
 
 /// The reply to the answer of a command.
+#[inline(always)]
 fn reply_to(answer: Result<Reply, Fault>) -> LineReply
     ensures { result ≡ reply_to answer }
 {

@@ -1,4 +1,4 @@
-use Rattle.ksm_script.proofs.Turns.{IsSoFar}
+use Rattle.ksm_script.specs.Going.{IsSoFar}
 use Rattle.ksm_script.proofs.script.run_by.Given as goal
 
 abbrev pub invariant-lines : goal.invariant-lines
