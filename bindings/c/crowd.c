@@ -2,11 +2,13 @@
  * Four threads look pages up while the keeper moves them from frame to frame: crowd [LOOKUPS].
  *
  * Each page tells in its words which frame it is in, and in which life, so a reader sees whether all words that it read are of the life that it
- * holds. At the end every count has to be the keeper's own. Prints what was found, and ends with 1 if anything was wrong.
+ * holds. Readers begin once every place names a page. At the end every count has to be the keeper's own. Prints what was found, and ends with 1
+ * if anything was wrong, nothing was held, or no page moved beside the readers.
  */
 #include "../ksmbook.h"
 
 #include <pthread.h>
+#include <sched.h>
 #include <stdatomic.h>
 #include <stdio.h>
 #include <stdlib.h>
@@ -23,7 +25,8 @@ typedef struct reader {
     uint64_t wrong;
 } reader;
 
-static atomic_int reading = 0;
+/* How many readers have not ended, and whether every place names a page. */
+static atomic_int reading = 0, begun = 0;
 
 /* Word i of the page in this frame and life. */
 static uint64_t word_of(uint64_t frame, uint64_t life, uint64_t i) {
@@ -62,6 +65,8 @@ static void *read_pages(void *arg) {
     reader *r = arg;
     uint64_t words[KSM_PAGE_WORDS];
     uint32_t place = r->first;
+    while (!atomic_load(&begun))
+        sched_yield();
     for (uint64_t n = 0; n < r->lookups; n++) {
         place = (place + 7) % PLACES;
         uint32_t answer;
@@ -141,7 +146,8 @@ int main(int argc, char **argv) {
         }
         must(ksm_publish(&table, place, frame), "ksm_publish");
         at[place] = (int)frame;
-        moves++;
+        if (++moves == PLACES)
+            atomic_store(&begun, 1);
     }
 
     for (int i = 0; i < READERS; i++) {
@@ -166,5 +172,5 @@ int main(int argc, char **argv) {
            (unsigned long long)(lookups / READERS * READERS), (unsigned long long)found[KSM_DONE], (unsigned long long)found[KSM_VACANT],
            (unsigned long long)found[KSM_ZERO], (unsigned long long)found[KSM_LIFE], (unsigned long long)found[KSM_BUSY],
            (unsigned long long)moves, (unsigned long long)frozen, (unsigned long long)wrong);
-    return wrong != 0;
+    return wrong != 0 || found[KSM_DONE] == 0 || moves <= PLACES;
 }
