@@ -1,21 +1,5 @@
 //! The book of page sharing.
 
-ghost use Rattle.std.specs.Prelude.{◌≡◌, ◌≤◌, [], Some, IfOk, IfErr, IfSome, IsSome, option_map};
-ghost use Rattle.ksm_base.specs.Answers.{IsAnswerOrMemory};
-ghost use Rattle.ksm_base.specs.Apply.{after};
-ghost use Rattle.ksm_base.specs.Counting.{counters_of};
-ghost use Rattle.ksm_base.specs.Journal.{IsLegal, ReadsLastStored, journal_after, last_stored};
-ghost use Rattle.ksm_base.specs.Reading.{bytes_of, mappers_of, ticket_of};
-ghost use Rattle.ksm_base.specs.Refusals.{is_known};
-ghost use Rattle.ksm_base.specs.State.{opening};
-ghost use Rattle.ksm_base.specs.Values.{IsShape};
-ghost use Rattle.frame_core.specs.Ledger.{first_ledger};
-ghost use Rattle.ksm_book.specs.Carried.{CarriedOut, unjournaled};
-ghost use Rattle.ksm_layout.specs.Commands.{frame_of, listed_in};
-ghost use Rattle.ksm_layout.specs.Laid.{LoadsIf};
-ghost use Rattle.ksm_base.specs.Sound.{IsSound};
-ghost use Rattle.ksm_layout.specs.Keeping.{spent};
-ghost use Rattle.ksm_book.specs.Promised.{FindsPlace, LieOn, NumbersAreSmall};
 
 use crate::state::State;
 use frame_table::{FrameTable, Keeper};
@@ -26,7 +10,6 @@ use ksm_base::{
 };
 use ksm_journal::Journal;
 use std::alloc::Global;
-use std::marker::Model;
 
 /// The pages of the guests and the dups into which they are merged, in the frames of a keeper, with the journal of all commands. Contracts
 /// see the state of the book, the frame of each page, the keeper, and the entries of the journal.
@@ -37,25 +20,9 @@ pub struct Book {
     journal: Journal,
 }
 
-impl Model for Book {
-    ghost use Rattle.ksm_base.specs.Journal.{IsLegal};
-    ghost use Rattle.ksm_book.specs.Carried.{JournaledBook};
-
-    ghost Value = { JournaledBook };
-
-    ghost view = { λ b. record { state = b.state.state; frames = b.state.frames; keeper = b.state.keeper; journal = b.journal.entries } };
-
-    ghost invariant = { λ b. IsLegal b.state.keeper.table.shape b.journal.entries b.state.state };
-}
-
 impl Book {
     /// The opening book, in the frames of a keeper that has made no step. Refused for memory alone, it gives the keeper back.
     pub fn open(alloc: Global, keeper: Keeper, shape: Shape) -> Result<Book, (Keeper, Fault)>
-        requires shape { IsShape shape }
-        requires same { keeper.table.shape ≡ shape }
-        requires new { keeper.ledger ≡ first_ledger shape }
-        ensures opened { IfOk result (λ b. b ≡ record { state = opening shape; frames = []; keeper = keeper; journal = [] }) }
-        ensures refused { IfErr result (λ e. (e.0 ≡ keeper) × (e.1 ≡ Fault.Memory)) }
     {
         Ok(Book {
             state: State::open(alloc, keeper, shape)?,
@@ -67,11 +34,6 @@ impl Book {
     /// `Fault::Memory` may come in place of any answer; then no step was made on a frame, and there is no entry. The steps that it makes on
     /// the frames are told by its answer, and so is the frame on which each page lies then.
     pub fn apply(&mut self, table: &FrameTable, command: Command) -> Result<Reply, Fault>
-        requires own { self.old.keeper.table ≡ table.now }
-        ensures answer { IsAnswerOrMemory self.old.state command result }
-        ensures state { self.new.state ≡ after self.old.state command result }
-        ensures carried { CarriedOut (unjournaled self.old) (unjournaled self.new) command result }
-        ensures journal { self.new.journal ≡ journal_after self.old.journal command result }
     {
         a_journal_goes_on();
         self.journal.reserve()?;
@@ -85,35 +47,18 @@ impl Book {
 
     /// The journal: every command with its answer, in order, but those refused for memory.
     pub fn journal(&self) -> &Journal
-        ensures { result.now.entries ≡ self.now.journal }
     {
         &self.journal
     }
 
     /// A law, which costs nothing to call: what is true of the book and of its frames whenever no call is under way.
     pub fn lies_lawfully(&self)
-        ensures sound { IsSound self.now.state }
-        ensures placed { LieOn self.now.state self.now.frames self.now.keeper.ledger }
-        ensures place { FindsPlace self.now.state }
-        ensures lives { self.now.state.next ≤ spent self.now.keeper.ledger }
-        ensures numbers { NumbersAreSmall self.now.state }
-        ensures legal { IsLegal self.now.keeper.table.shape self.now.journal self.now.state }
-        ensures stored { ReadsLastStored self.now.journal self.now.state.rows }
     {
         each_page_has_what_was_stored_last();
-        self.state.lies_lawfully();
     }
 
     /// The bytes of a page, loaded from the words of its frame, or zeroes where it is mapped from the zero page; none where it has no row. They are those stored last by the journal.
     pub fn read(&mut self, table: &FrameTable, page: GuestPage) -> Option<PageBytes>
-        requires own { self.old.keeper.table ≡ table.now }
-        ensures own { self.new.keeper.table ≡ self.old.keeper.table }
-        ensures bytes { result ≡ bytes_of page self.old.state }
-        ensures stored { IfSome result (λ bytes. last_stored page self.old.journal ≡ Some bytes) }
-        ensures state { self.new.state ≡ self.old.state }
-        ensures frames { self.new.frames ≡ self.old.frames }
-        ensures journal { self.new.journal ≡ self.old.journal }
-        ensures loads { LoadsIf (frame_of (listed_in self.old.state self.old.frames) page) result self.old.keeper self.new.keeper }
     {
         each_page_has_what_was_stored_last();
         self.state.read(table, page)
@@ -121,14 +66,12 @@ impl Book {
 
     /// Whether the page is registered.
     pub fn registered(&self, page: GuestPage) -> bool
-        ensures { result ≡ is_known self.now.state page }
     {
         self.state.registered(page)
     }
 
     /// The place of the dup into which a page is merged; none where it is not merged.
     pub fn ticket(&self, page: GuestPage) -> Option<u32>
-        ensures { result ≡ ticket_of page self.now.state }
     {
         self.state.ticket(page)
     }
@@ -136,30 +79,24 @@ impl Book {
     /// The pages merged into the dup at a place, ascending; none where no dup with items stands there. Refused for memory alone, and
     /// only where pages are there.
     pub fn mappers(&self, alloc: Global, place: u32) -> Result<Option<Vec<GuestPage>>, Fault>
-        ensures mappers { IfOk result (λ pages. option_map (λ v. v.items) pages ≡ mappers_of place self.now.state) }
-        ensures fault { IfErr result (λ fault. fault ≡ Fault.Memory) }
-        ensures refused { IfErr result (λ _. IsSome (mappers_of place self.now.state)) }
     {
         self.state.mappers(alloc, place)
     }
 
     /// The counters, counted from the pages and dups as they are.
     pub fn counters(&self) -> Counters
-        ensures { result ≡ counters_of self.now.state }
     {
         self.state.counters()
     }
 
     /// The knobs.
     pub fn knobs(&self) -> Knobs
-        ensures { result ≡ self.now.state.knobs }
     {
         self.state.knobs()
     }
 
     /// The keeper, as it is.
     pub fn close(self) -> Keeper
-        ensures { result ≡ self.keeper }
     {
         let Book { state, journal: _ } = self;
         state.close()
@@ -168,8 +105,6 @@ impl Book {
 
 /// Does a command on the state.
 fn carry_out(state: &mut State, table: &FrameTable, command: Command) -> Result<Reply, Fault>
-    requires own { state.old.keeper.table ≡ table.now }
-    ensures { CarriedOut state.old state.new command result }
 {
     match command {
         Command::Register { page, node, bytes } => state.register(table, page, node, bytes),

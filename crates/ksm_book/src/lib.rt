@@ -7,8 +7,6 @@ mod moving;
 mod scan;
 mod state;
 mod unmerging;
-mod worked;
 
 pub use book::Book;
 pub use ksm_journal::Journal;
-pub use worked::{nodes_of_frames, steps_of_leaving, steps_of_visits};

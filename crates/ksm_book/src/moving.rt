@@ -1,30 +1,33 @@
 //! Dups that move to another frame.
 
-ghost use Rattle.std.specs.Prelude.{◌≡◌};
-ghost use Rattle.ksm_book.specs.Carried.{CarriedOut};
-
 use crate::state::State;
 use frame_table::FrameTable;
-use ksm_base::{Command, Fault, Reply};
+use ksm_base::{Fault, Reply};
+use ksm_layout::mounting::{mount, seek};
 
 impl State {
     /// Moves the dup with items at a place to another frame of a node.
-    pub fn move_dup(&mut self, table: &FrameTable, place: u32, node: u32) -> Result<Reply, Fault>
-        requires own { self.old.keeper.table ≡ table.now }
-        ensures { CarriedOut self.old self.new (Command.MoveDup place node) result }
-    {
-        if node >= self.layout.shape().nodes {
+    pub fn move_dup(&mut self, table: &FrameTable, place: u32, node: u32) -> Result<Reply, Fault> {
+        if node >= self.pages.shape.nodes {
             return Err(Fault::BadNode);
         }
-        let Some(dup) = self.layout.live_at(place) else {
+        let Some(dup) = self.pages.dups.live_at(place) else {
             return Err(Fault::UnknownPlace);
         };
-        if self.layout.knobs().merge_across_nodes == 0 && dup.tree != node {
+        if self.pages.knobs.merge_across_nodes == 0 && dup.tree != node {
             return Err(Fault::CrossesNodes);
         }
-        match self.layout.move_dup(table, dup, node) {
-            Ok(()) => Ok(Reply::Done),
-            Err(fault) => Err(fault),
+        let left = self.pages.dup_frame(place);
+        let shape = self.pages.shape;
+        let Some(frame) = seek(&mut self.keeper, table, shape, node) else {
+            return Err(Fault::NoFrame(node));
+        };
+        let items = self.keeper.base(left);
+        if !self.keeper.freeze(table, left) {
+            return Err(Fault::InUse);
         }
+        mount(&mut self.keeper, table, left, frame, place, items);
+        self.pages.set_dup_frame(place, frame);
+        Ok(Reply::Done)
     }
 }

@@ -1,99 +1,53 @@
-//! The state of the book, and its commands.
-
-ghost use Rattle.std.specs.Prelude.{◌≡◌, ◌≤◌, [], IfOk, IfErr, IsSome, option_map};
-ghost use Rattle.ksm_base.specs.Values.{IsShape};
-ghost use Rattle.ksm_base.specs.State.{opening};
-ghost use Rattle.ksm_base.specs.Counting.{counters_of};
-ghost use Rattle.ksm_base.specs.Reading.{bytes_of, mappers_of, ticket_of};
-ghost use Rattle.ksm_base.specs.declared.fault.Fault.TheVariants.{Memory};
-ghost use Rattle.ksm_base.specs.Refusals.{is_known};
-ghost use Rattle.frame_core.specs.Ledger.{first_ledger};
-ghost use Rattle.ksm_layout.specs.Commands.{frame_of};
-ghost use Rattle.ksm_layout.specs.Laid.{LoadsIf};
-ghost use Rattle.ksm_base.specs.Sound.{IsSound};
-ghost use Rattle.ksm_book.specs.Carried.{CarriedOut};
-ghost use Rattle.ksm_layout.specs.Keeping.{spent};
-ghost use Rattle.ksm_book.specs.Promised.{FindsPlace, LieOn, NumbersAreSmall};
-ghost use Rattle.ksm_book.specs.Whole.{rows_in};
+//! The pages in their frames, and the commands.
 
 use frame_table::{FrameTable, Keeper};
-use ksm_base::{Command, Counters, Fault, GuestPage, Knobs, PageBytes, PageState, Reply, Shape};
-use ksm_layout::Layout;
-use ksm_pages::row::{fresh_row, is_shared, moved, stored};
+use ksm_base::{Counters, Fault, GuestPage, Knobs, PAGE_WORDS, PageBytes, Reply, Shape};
+use ksm_layout::FrameKeeper;
+use ksm_layout::frames::{clear, load, release, release_if, take_frame, write};
+use ksm_pages::row::Kind;
+use ksm_pages::{Pages, fresh};
 use std::alloc::Global;
-use std::marker::Model;
 
 /// The rows and dups in their frames, the page visited last in this pass, and how many passes have ended.
 pub struct State {
-    pub(crate) alloc: Global,
-    pub(crate) layout: Layout,
+    pub(crate) pages: Pages,
+    pub(crate) keeper: FrameKeeper,
     pub(crate) cursor: Option<GuestPage>,
     pub(crate) passes: u64,
 }
 
-impl Model for State {
-    ghost use Rattle.ksm_base.specs.Sound.{IsSound};
-    ghost use Rattle.ksm_book.specs.Whole.{BookView};
-    ghost use Rattle.ksm_layout.specs.Laid.{state_of};
-
-    ghost Value = { BookView };
-
-    ghost view = { λ s. record { state = state_of s.layout s.cursor s.passes; frames = s.layout.frames; keeper = s.layout.keeper } };
-
-    ghost invariant = { λ s. IsSound (state_of s.layout s.cursor s.passes) };
-}
-
 impl State {
     /// The opening state, in the frames of a keeper that has made no step. Refused for memory alone, it gives the keeper back.
-    pub fn open(alloc: Global, keeper: Keeper, shape: Shape) -> Result<State, (Keeper, Fault)>
-        requires shape { IsShape shape }
-        requires same { keeper.table.shape ≡ shape }
-        requires new { keeper.ledger ≡ first_ledger shape }
-        ensures opened { IfOk result (λ s. s ≡ record { state = opening shape; frames = []; keeper = keeper }) }
-        ensures refused { IfErr result (λ e. (e.0 ≡ keeper) × (e.1 ≡ Memory)) }
-    {
-        Ok(State {
-            alloc,
-            layout: Layout::open(alloc, keeper, shape)?,
-            cursor: None,
-            passes: 0,
-        })
+    pub fn open(alloc: Global, keeper: Keeper, shape: Shape) -> Result<State, (Keeper, Fault)> {
+        match Pages::open(alloc, shape) {
+            Ok(pages) => Ok(State {
+                pages,
+                keeper: FrameKeeper::new(alloc, keeper, shape)?,
+                cursor: None,
+                passes: 0,
+            }),
+            Err(fault) => Err((keeper, fault)),
+        }
     }
 
     /// The keeper, as it is.
-    pub fn close(self) -> Keeper
-        ensures { result ≡ self.keeper }
-    {
+    pub fn close(self) -> Keeper {
         let State {
-            alloc: _,
-            layout,
+            pages: _,
+            keeper,
             cursor: _,
             passes: _,
         } = self;
-        layout.close()
-    }
-
-    /// A law: the facts of the book state, and how its rows and dups lie in the frames.
-    pub fn lies_lawfully(&self)
-        ensures sound { IsSound self.now.state }
-        ensures placed { LieOn self.now.state self.now.frames self.now.keeper.ledger }
-        ensures place { FindsPlace self.now.state }
-        ensures lives { self.now.state.next ≤ spent self.now.keeper.ledger }
-        ensures numbers { NumbersAreSmall self.now.state }
-    {
-        self.layout.lies_lawfully();
+        keeper.close()
     }
 
     /// The bytes of a page, loaded from the words of its frame, if it has one.
-    pub fn read(&mut self, table: &FrameTable, page: GuestPage) -> Option<PageBytes>
-        requires own { self.old.keeper.table ≡ table.now }
-        ensures own { self.new.keeper.table ≡ self.old.keeper.table }
-        ensures bytes { result ≡ bytes_of page self.old.state }
-        ensures state { self.new.state ≡ self.old.state }
-        ensures frames { self.new.frames ≡ self.old.frames }
-        ensures loads { LoadsIf (frame_of (rows_in self.old) page) result self.old.keeper self.new.keeper }
-    {
-        self.layout.read(table, page)
+    pub fn read(&mut self, table: &FrameTable, page: GuestPage) -> Option<PageBytes> {
+        let (_, entry) = self.pages.rows.find(page)?;
+        match self.pages.frame_of(entry) {
+            Some(frame) => Some(load(&mut self.keeper, table, frame)),
+            None => Some([0; PAGE_WORDS]),
+        }
     }
 
     /// Adds the row of a page.
@@ -103,19 +57,20 @@ impl State {
         page: GuestPage,
         node: u32,
         bytes: PageBytes,
-    ) -> Result<Reply, Fault>
-        requires own { self.old.keeper.table ≡ table.now }
-        ensures { CarriedOut self.old self.new (Command.Register page node bytes) result }
-    {
-        if node >= self.layout.shape().nodes {
+    ) -> Result<Reply, Fault> {
+        if node >= self.pages.shape.nodes {
             return Err(Fault::BadNode);
         }
-        if self.layout.rows().has(page) {
+        if self.pages.rows.has(page) {
             return Err(Fault::AlreadyRegistered);
         }
-        if !self.layout.admit(table, fresh_row(page, node, bytes))? {
+        let key = self.pages.rows.insert(fresh(page, node, bytes))?;
+        let shape = self.pages.shape;
+        let Some(frame) = take_frame(&mut self.keeper, table, shape, node, bytes) else {
+            self.pages.rows.remove(key);
             return Err(Fault::NoFrame(node));
-        }
+        };
+        self.pages.rows.settle_on(key, frame);
         Ok(Reply::Done)
     }
 
@@ -125,91 +80,109 @@ impl State {
         table: &FrameTable,
         page: GuestPage,
         bytes: PageBytes,
-    ) -> Result<Reply, Fault>
-        requires own { self.old.keeper.table ≡ table.now }
-        ensures { CarriedOut self.old self.new (Command.Store page bytes) result }
-    {
-        let Some(row) = self.layout.rows().row(page) else {
+    ) -> Result<Reply, Fault> {
+        let Some((key, entry)) = self.pages.rows.find(page) else {
             return Err(Fault::UnknownPage);
         };
-        if !is_shared(row.state) {
-            self.layout.rewrite(table, &row, &stored(row, bytes));
+        if let Kind::Own = entry.kind {
+            let frame = entry.at;
+            self.pages.store(key, &bytes);
+            write(&mut self.keeper, table, frame, bytes);
             return Ok(Reply::Done);
         }
-        if !self.layout.resettle(table, &row, &stored(row, bytes)) {
-            return Err(Fault::NoFrame(row.home));
-        }
+        let home = entry.home;
+        self.resettle(table, key, home, bytes)?;
+        self.pages.store(key, &bytes);
         Ok(Reply::Done)
     }
 
+    /// A page gets a frame of a node with these bytes, and leaves what it had.
+    pub(crate) fn resettle(
+        &mut self,
+        table: &FrameTable,
+        key: u32,
+        node: u32,
+        bytes: PageBytes,
+    ) -> Result<(), Fault> {
+        let shape = self.pages.shape;
+        let Some(frame) = take_frame(&mut self.keeper, table, shape, node, bytes) else {
+            return Err(Fault::NoFrame(node));
+        };
+        let left = self.pages.resettle(key, frame);
+        release_if(&mut self.keeper, table, left);
+        Ok(())
+    }
+
     /// Takes the row of a page away.
-    pub fn drop_page(&mut self, table: &FrameTable, page: GuestPage) -> Result<Reply, Fault>
-        requires own { self.old.keeper.table ≡ table.now }
-        ensures { CarriedOut self.old self.new (Command.Drop page) result }
-    {
-        if !self.layout.rows().has(page) {
+    pub fn drop_page(&mut self, table: &FrameTable, page: GuestPage) -> Result<Reply, Fault> {
+        let Some(key) = self.pages.rows.key(page) else {
             return Err(Fault::UnknownPage);
-        }
-        self.layout.dismiss(table, page);
+        };
+        let left = self.pages.remove(key);
+        release_if(&mut self.keeper, table, left);
         Ok(Reply::Done)
     }
 
     /// What is counted.
-    pub fn counters(&self) -> Counters
-        ensures { result ≡ counters_of self.now.state }
-    {
-        self.layout.counters(self.passes)
+    pub fn counters(&self) -> Counters {
+        let tally = self.pages.rows.tally();
+        let shared = self.pages.dups.count_shared() as u64;
+        let merged = tally.merged as u64;
+        let waiting = tally.waiting as u64;
+        let zero = tally.zero as u64;
+        let mergeable = self.pages.rows.mergeable() as u64;
+        Counters {
+            shared,
+            sharing: merged.saturating_sub(shared),
+            unshared: waiting,
+            volatile: mergeable.saturating_sub(merged + waiting + zero),
+            zero,
+            chains: self.pages.dups.count_chains() as u64,
+            dups: self.pages.dups.count_grouped() as u64,
+            full_scans: self.passes,
+        }
     }
 
     /// Whether there is a row of the page.
-    pub fn registered(&self, page: GuestPage) -> bool
-        ensures { result ≡ is_known self.now.state page }
-    {
-        self.layout.rows().has(page)
+    pub fn registered(&self, page: GuestPage) -> bool {
+        self.pages.rows.has(page)
     }
 
     /// The place of the dup into which a page is merged.
-    pub fn ticket(&self, page: GuestPage) -> Option<u32>
-        ensures { result ≡ ticket_of page self.now.state }
-    {
-        match self.layout.find(page)?.row.state {
-            PageState::Merged(number) => Some(self.layout.numbered(number)?.place),
+    pub fn ticket(&self, page: GuestPage) -> Option<u32> {
+        let (_, entry) = self.pages.rows.find(page)?;
+        match entry.kind {
+            Kind::Merged => Some(entry.at),
             _ => None,
         }
     }
 
     /// The pages merged into the dup at a place.
-    pub fn mappers(&self, alloc: Global, place: u32) -> Result<Option<Vec<GuestPage>>, Fault>
-        ensures mappers { IfOk result (λ pages. option_map (λ v. v.items) pages ≡ mappers_of place self.now.state) }
-        ensures fault { IfErr result (λ fault. fault ≡ Memory) }
-        ensures refused { IfErr result (λ _. IsSome (mappers_of place self.now.state)) }
-    {
-        self.layout.mappers(alloc, place)
+    pub fn mappers(&self, alloc: Global, place: u32) -> Result<Option<Vec<GuestPage>>, Fault> {
+        let items = self.pages.dups.items_at(place);
+        if items.is_empty() {
+            return Ok(None);
+        }
+        Ok(Some(Vec::from_slice(alloc, items)?))
     }
 
-    pub fn knobs(&self) -> Knobs
-        ensures { result ≡ self.now.state.knobs }
-    {
-        self.layout.knobs()
+    pub fn knobs(&self) -> Knobs {
+        self.pages.knobs
     }
 
     /// All stale dups go.
-    pub fn prune(&mut self, table: &FrameTable) -> Result<Reply, Fault>
-        requires own { self.old.keeper.table ≡ table.now }
-        ensures { CarriedOut self.old self.new Command.Prune result }
-    {
-        Ok(Reply::Pruned(self.layout.prune(table)))
+    pub fn prune(&mut self, table: &FrameTable) -> Result<Reply, Fault> {
+        Ok(Reply::Pruned(self.drop_stale(table)))
     }
 
-    /// All pages of a guest become mergeable.
-    pub fn mergeable(&mut self, guest: u16) -> Result<Reply, Fault>
-        ensures { CarriedOut self.old self.new (Command.Mergeable guest) result }
-    {
-        if !self.layout.rows().has_guest(guest) {
-            return Err(Fault::UnknownPage);
+    pub(crate) fn drop_stale(&mut self, table: &FrameTable) -> u64 {
+        let mut count = 0;
+        while let Some(place) = self.pages.dups.stale() {
+            clear(&mut self.keeper, table, place, true);
+            self.pages.dups.drop_stale(place);
+            count += 1;
         }
-        self.layout.make_mergeable(guest);
-        Ok(Reply::Done)
+        count
     }
 
     /// Moves a page to a node.
@@ -218,25 +191,23 @@ impl State {
         table: &FrameTable,
         page: GuestPage,
         node: u32,
-    ) -> Result<Reply, Fault>
-        requires own { self.old.keeper.table ≡ table.now }
-        ensures { CarriedOut self.old self.new (Command.MovePage page node) result }
-    {
-        if node >= self.layout.shape().nodes {
+    ) -> Result<Reply, Fault> {
+        if node >= self.pages.shape.nodes {
             return Err(Fault::BadNode);
         }
-        let Some(held) = self.layout.find(page) else {
+        let Some((key, entry)) = self.pages.rows.find(page) else {
             return Err(Fault::UnknownPage);
         };
-        if held.row.home == node {
+        if entry.home == node {
             return Ok(Reply::Done);
         }
-        if !self
-            .layout
-            .resettle(table, &held.row, &moved(held.row, node))
-        {
-            return Err(Fault::NoFrame(node));
-        }
+        let bytes = entry.bytes;
+        self.resettle(table, key, node, bytes)?;
+        self.pages.rows.set_home(key, node);
         Ok(Reply::Done)
+    }
+
+    pub(crate) fn release(&mut self, table: &FrameTable, frame: u32) {
+        release(&mut self.keeper, table, frame);
     }
 }

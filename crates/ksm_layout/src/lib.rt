@@ -1,10 +1,9 @@
-//! The pages as they lie in the frames of a table: each change of a page with the keeper's steps that it takes.
+//! The keeper's frames: which are free and which are dying, and what the book has the keeper do with them.
 #![tactic(auto)]
 
 mod frame_keeper;
 mod frame_set;
-mod frames;
-mod layout;
-mod mounting;
+pub mod frames;
+pub mod mounting;
 
-pub use layout::Layout;
+pub use frame_keeper::FrameKeeper;

@@ -1,13 +1,13 @@
 //! The pages of the book: which rows there are, on which frame each lies, which dups have them as items, and which of them wait.
 #![tactic(auto)]
 
-mod blocks;
-mod entry;
-mod page_map;
+mod order;
 mod pages;
+mod restless;
 pub mod row;
 mod rows;
-mod tally;
 
-pub use pages::Pages;
-pub use rows::{Held, Rows};
+pub use order::{Ahead, Named};
+pub use pages::{Find, Pages, fresh};
+pub use restless::Listed;
+pub use rows::Rows;

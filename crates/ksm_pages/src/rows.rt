@@ -1,536 +1,335 @@
-//! The rows in the order of their pages, each found by a hash: each page with what the book knows of it, and the frame
-//! that serves it, if one does.
-//!
-//! With n rows, `has`, `row`, `known`, `find`, `replace`, `revise` and `restate` cost a hash and a comparison in the mean. `insert` and
-//! `remove` also search in the order, in a number of steps in the order of log n, and an `insert` that finds no room moves all rows. The
-//! hash has a fixed seed, so pages can be picked that collide: then a search takes a step for each.
-//! `has_guest` searches once in the order. `next` and `next_shared` do so too, and take one step for each row that they
-//! pass over, which are rows of the guest alone where one is given; `ahead` so too, and one for each of its visits.
-//! `len`, `any_mergeable` and the counts take one. `make_mergeable` searches in the order for each row of the guest, and
-//! once more, and finds each by a hash. `settle_all` finds each row that waits by a hash, or walks over all rows where many wait. `unshare_all` walks over the rows.
+//! The rows, each under a key, with the order of their pages, those that a visit may change, and how many there are of each kind.
 
-ghost use Rattle.std.specs.Prelude.{◌≡◌, ◌<◌, ◌≤◌, [], None, Some, length, filter, find, count_by, map, insert, remove, slice_set, false, MatchOption, OnOk, OnErr, Err, is_some, true, option_map, ◌&&◌, slice_get, unwrap_or, IfSome, ⊤};
-ghost use Rattle.std.specs.List.{list_any};
-ghost use Rattle.std.specs.BTreeMap.Range.{entries_between};
-ghost use Rattle.std.specs.Map.Iter.{deref_pair};
-ghost use Rattle.std.specs.declared.ops.Bound.TheVariants.{Included, Unbounded};
-ghost use Rattle.ksm_base.specs.declared.fault.Fault.TheVariants.{Memory};
-ghost use Rattle.ksm_base.specs.Refusals.{is_of as is_of_guest};
-ghost use Rattle.ksm_base.specs.Apply.{unshared as as_unshared};
-ghost use Rattle.ksm_base.specs.Rows.{InPageOrder, row_at, with_row, without_page, change_row, change_rows, same_page, private_state, waiting_state, merged_state, zero_state, settled as as_settled};
-ghost use Rattle.ksm_base.specs.Visit.{after_cursor as comes_after, next_row as row_to_visit};
-ghost use Rattle.ksm_pages.specs.Listed.{AreNamed, rank, StandsAt};
-ghost use Rattle.ksm_pages.specs.RowEntries.{row_of, page_order, start_after, BeginsAt};
-ghost use Rattle.ksm_pages.specs.Scanned.{AreAhead, IsRun, page_of};
-ghost use Rattle.ksm_pages.specs.Blocked.{first_of, AreBooked, AreCounted, PassesTo};
-ghost use Rattle.ksm_pages.specs.Wanted.{is_shared_of as is_shared_of_guest, is_wanted as is_a_wanted, up_to};
-
-use crate::blocks::{Blocks, Passed, first_of_block};
-use crate::entry::Entry;
-use crate::page_map::PageMap;
-use crate::row::{Run, Wanted};
-use crate::tally::Tally;
-use ksm_base::{Fault, GuestPage, PageState, Row};
-use ksm_tree::Waiting;
+use crate::order::{Ahead, Named, Order};
+use crate::restless::{Listed, Restless};
+use crate::row::{Entry, Kind};
+use ksm_base::{Fault, GuestPage};
+use slab::Slab;
 use std::alloc::Global;
-use std::marker::Model;
-use std::ops::Bound;
 
-/// A row with the number of its frame; a row mapped from the zero page has none.
+/// How many rows are merged, wait, and are on the zero page.
 #[derive(Clone, Copy, Debug)]
-pub struct Held {
-    pub row: Row,
-    pub frame: Option<u32>,
+pub struct Tally {
+    pub merged: usize,
+    pub waiting: usize,
+    pub zero: usize,
 }
 
-/// The rows in the order of their pages, each page once, each with its frame.
+/// The rows.
 #[derive(Drop)]
 pub struct Rows {
-    entries: PageMap,
-    blocks: Blocks,
+    entries: Slab<Entry>,
+    order: Order,
+    restless: Restless,
     tally: Tally,
-}
-
-impl Model for Rows {
-    ghost use Rattle.ksm_pages.specs.Listed.{Listed};
-
-    ghost Value = { Listed };
-
-    ghost use Rattle.std.specs.Prelude.{map};
-    ghost use Rattle.ksm_pages.specs.RowEntries.{listed, row_of};
-    ghost use Rattle.ksm_pages.specs.Blocked.{AreBooked};
-
-    ghost view = { λ r. listed r.entries };
-
-    ghost invariant = { λ r. AreBooked (map row_of r.entries) r.tally r.blocks };
-}
-
-// The row of the entry that a search found.
-fn row_found(found: Option<(&GuestPage, &Entry)>) -> Option<Row>
-    ensures { result ≡ option_map (λ e. row_of (deref_pair e)) found.entry }
-{
-    let (page, entry) = found?;
-    Some(entry.row(*page))
-}
-
-// The page of the entry that a search found.
-fn page_found(found: Option<(&GuestPage, &Entry)>) -> Option<GuestPage>
-    ensures { result ≡ page_of (option_map (λ e. row_of (deref_pair e)) found.entry) }
-{
-    let (page, _) = found?;
-    Some(*page)
-}
-
-// Where the pages after the one visited last begin.
-fn after_cursor(cursor: Option<GuestPage>) -> Bound<GuestPage>
-    ensures { result ≡ start_after cursor }
-{
-    match cursor {
-        None => Bound::Unbounded,
-        Some(last) => Bound::Excluded(last),
-    }
-}
-
-// Where the pages of a guest after the cursor begin.
-fn guest_after(cursor: Option<GuestPage>, guest: u16) -> Bound<GuestPage>
-    ensures { BeginsAt guest cursor result }
-{
-    match cursor {
-        Some(last) if last.guest >= guest => Bound::Excluded(last),
-        _ => Bound::Included(GuestPage { guest, page: 0 }),
-    }
-}
-
-// What a walk stopped at, unless it is of a greater guest.
-fn up_to_guest(found: Option<Row>, guest: u16) -> Option<Row>
-    ensures { result ≡ up_to guest found }
-{
-    let row = found?;
-    if row.page.guest > guest {
-        return None;
-    }
-    Some(row)
-}
-
-// The first of the runs that were found, or this one where there was no room for any.
-fn first_run(found: &[Run], run: Run) -> Run
-    ensures { result ≡ unwrap_or (slice_get found.now 0) run }
-{
-    match found.first() {
-        Some(first) => *first,
-        None => run,
-    }
-}
-
-// Whether a page comes after the cursor.
-fn is_after(cursor: Option<GuestPage>, page: GuestPage) -> bool
-    ensures { result ≡ comes_after cursor page }
-{
-    match cursor {
-        None => true,
-        Some(last) => last < page,
-    }
-}
-
-// Passes over the blocks from a page's on that no visit changes, where the page seen last is in an earlier one. Gives their visits, for
-// `most` visits at most, up to the first one in the last of these blocks.
-fn pass_blocks(
-    entries: &PageMap,
-    blocks: &Blocks,
-    seen: Option<GuestPage>,
-    page: GuestPage,
-    most: u64,
-) -> Option<Passed>
-    requires { AreCounted (map row_of entries.now) blocks.now }
-    ensures { MatchOption result ⊤ (λ p. (comes_after seen (first_of page) ≡ true) × PassesTo most (entries_between page_order (Included (first_of page)) Unbounded entries.now) p.visits p.last) }
-{
-    let first = first_of_block(page);
-    if !is_after(seen, first) {
-        return None;
-    }
-    let over = blocks.pass_over(first, most)?;
-    let mut walk = entries.range(Bound::Included(over.last));
-    let last = page_found(walk.find(|(_, entry)| entry.is_mergeable()))?;
-    Some(Passed {
-        visits: over.visits + 1,
-        last,
-    })
-}
-
-// What comes after the cursor, run by run, for `most` visits at most: one walk along the entries, as far as there is memory for runs, which passes
-// over blocks that no visit changes. Gives the first.
-fn runs_along(
-    entries: &PageMap,
-    blocks: &Blocks,
-    cursor: Option<GuestPage>,
-    most: u64,
-    found: &mut Vec<Run>,
-) -> Run
-    requires counted { AreCounted (map row_of entries.now) blocks.now }
-    requires none { found.old.items ≡ [] }
-    ensures run { IsRun most (map row_of entries.now) cursor result }
-    ensures ahead { AreAhead most (map row_of entries.now) cursor found.new.items }
-    ensures first { IfSome (slice_get found.new.items 0) (λ run. run ≡ result) }
-{
-    let mut run = Run::from(cursor);
-    let mut left = most;
-    let mut seen = cursor;
-    let mut walk = entries.range(after_cursor(cursor));
-    while let Some((page, entry)) = walk.next() {
-        if let Some(passed) = pass_blocks(entries, blocks, seen, *page, left) {
-            run.visits += passed.visits;
-            run.last = Some(passed.last);
-            left -= passed.visits;
-            seen = run.last;
-            walk = entries.range(after_cursor(seen));
-            continue;
-        }
-        seen = Some(*page);
-        if !entry.is_mergeable() {
-            continue;
-        }
-        if left > 0 && entry.is_shared() {
-            run.visits += 1;
-            run.last = Some(*page);
-            left -= 1;
-            continue;
-        }
-        run.next = Some(*page);
-        if found.push(run).is_err() || left == 0 {
-            return first_run(found, run);
-        }
-        left -= 1;
-        run = Run::from(Some(*page));
-    }
-    let _ = found.push(run);
-    first_run(found, run)
+    /// One more whenever no row waits any longer.
+    pass: u64,
 }
 
 impl Rows {
-    /// No rows.
-    pub(crate) fn new(alloc: Global) -> Rows
-        ensures { result ≡ record { rows = []; frames = [] } }
-    {
+    pub fn new(alloc: Global) -> Rows {
         Rows {
-            entries: PageMap::new(alloc),
-            blocks: Blocks::new(alloc),
-            tally: Tally::NONE,
+            entries: Slab::new(alloc),
+            order: Order::new(alloc),
+            restless: Restless::new(alloc),
+            tally: Tally {
+                merged: 0,
+                waiting: 0,
+                zero: 0,
+            },
+            pass: 1,
         }
     }
 
-    /// Whether there is a row of the page.
-    pub fn has(&self, page: GuestPage) -> bool
-        ensures { result ≡ is_some (row_at page self.now.rows) }
-    {
-        self.entries.has(page)
+    /// The key of a page's row.
+    #[inline(always)]
+    pub fn key(&self, page: GuestPage) -> Option<u32> {
+        match self.order.find(page) {
+            Some(named) => Some(named.key),
+            None => None,
+        }
+    }
+
+    pub fn has(&self, page: GuestPage) -> bool {
+        self.order.find(page).is_some()
+    }
+
+    /// The row under a key.
+    #[inline(always)]
+    pub fn at(&self, key: u32) -> Option<&Entry> {
+        self.entries.get(key as usize)
     }
 
     /// The row of a page.
-    pub fn row(&self, page: GuestPage) -> Option<Row>
-        ensures row { result ≡ row_at page self.now.rows }
-        ensures order { InPageOrder self.now.rows }
-    {
-        match self.entries.get(page) {
-            None => None,
-            Some(entry) => Some(entry.row(page)),
-        }
-    }
-
-    // Inlined, for fewer instructions: a call would clear the row first, and copy it on its way out.
-
-    /// The row of a page that has one.
     #[inline(always)]
-    pub fn known(&self, page: GuestPage) -> Row
-        requires known { is_some (row_at page self.now.rows) ≡ true }
-        ensures row { row_at page self.now.rows ≡ Some result }
-        ensures order { InPageOrder self.now.rows }
-    {
-        match self.entries.get(page) {
-            None => unreachable!(),
-            Some(entry) => entry.row(page),
-        }
-    }
-
-    /// The row of a page, with its frame.
-    pub(crate) fn find(&self, page: GuestPage) -> Option<Held>
-        ensures known { is_some (row_at page self.now.rows) ≡ is_some result }
-        ensures at { MatchOption result (row_at page self.now.rows ≡ None) (λ held. StandsAt self.now page held.row held.frame) }
-    {
-        match self.entries.get(page) {
+    pub fn find(&self, page: GuestPage) -> Option<(u32, &Entry)> {
+        let key = self.order.find(page)?.key;
+        match self.entries.get(key as usize) {
+            Some(entry) => Some((key, entry)),
             None => None,
-            Some(entry) => Some(Held {
-                row: entry.row(page),
-                frame: entry.frame(),
-            }),
         }
     }
 
-    /// Adds the row of a page that has none, with its frame. Refused for memory alone, it changes nothing.
-    pub(crate) fn insert(&mut self, row: Row, frame: Option<u32>) -> Result<(), Fault>
-        requires { row_at row.page self.old.rows ≡ None }
-        ensures rows { OnOk result (self.new.rows ≡ insert self.old.rows (rank row.page self.old.rows) row) }
-        ensures frames { OnOk result (self.new.frames ≡ insert self.old.frames (rank row.page self.old.rows) frame) }
-        ensures added { OnOk result (self.new.rows ≡ with_row row self.old.rows) }
-        ensures place { OnOk result (rank row.page self.new.rows ≡ rank row.page self.old.rows) }
-        ensures within { rank row.page self.old.rows ≤ length self.old.rows }
-        ensures known { OnOk result (is_some (row_at row.page self.new.rows) ≡ true) }
-        ensures paired { length self.old.frames ≡ length self.old.rows }
-        ensures refused { OnErr result (self.new ≡ self.old) }
-        ensures fault { OnErr result (result ≡ Err Memory) }
-    {
-        // The contract of `len` says that the number fits.
-        let _ = self.entries.len();
-        self.blocks.add(&row)?;
-        match self.entries.insert(row.page, Entry::new(row, frame)) {
-            Ok(()) => {
-                self.tally = self.tally.with(&row);
-                Ok(())
-            }
-            Err(fault) => {
-                self.blocks.take(&row);
-                Err(fault)
-            }
-        }
+    pub fn pass(&self) -> u64 {
+        self.pass
     }
 
-    /// Puts a row and its frame in the stead of the row that its page has. Gives the number of the frame that this had.
-    pub(crate) fn replace(&mut self, old: &Row, row: &Row, frame: Option<u32>) -> Option<u32>
-        requires { row_at row.now.page self.old.rows ≡ Some old.now }
-        ensures stood { StandsAt self.old row.now.page old.now result }
-        ensures rows { self.new.rows ≡ slice_set self.old.rows (rank row.now.page self.old.rows) row.now }
-        ensures frames { self.new.frames ≡ slice_set self.old.frames (rank row.now.page self.old.rows) frame }
-        ensures changed { self.new.rows ≡ change_row row.now.page (λ _. row.now) self.old.rows }
-    {
-        // The contract of `len` says that the number fits.
-        let _ = self.entries.len();
-        let left = self.entries.replace(row, frame);
-        self.blocks.change(old, row);
-        self.tally = self.tally.without(old).with(row);
-        left
+    pub fn len(&self) -> usize {
+        self.order.len()
     }
 
-    /// Puts a row in the stead of the row that its page has, on the frame where this is, and gives the number of that.
-    pub(crate) fn revise(&mut self, old: &Row, row: &Row) -> Option<u32>
-        requires { row_at row.now.page self.old.rows ≡ Some old.now }
-        ensures stood { StandsAt self.old row.now.page old.now result }
-        ensures rows { self.new.rows ≡ slice_set self.old.rows (rank row.now.page self.old.rows) row.now }
-        ensures frames { self.new.frames ≡ self.old.frames }
-        ensures changed { self.new.rows ≡ change_row row.now.page (λ _. row.now) self.old.rows }
-    {
-        // The contract of `len` says that the number fits.
-        let _ = self.entries.len();
-        let frame = self.entries.revise(row);
-        self.blocks.change(old, row);
-        self.tally = self.tally.without(old).with(row);
-        frame
+    pub fn mergeable(&self) -> usize {
+        self.order.mergeable()
     }
 
-    // Inlined, for fewer instructions: each caller knows the state that it gives.
-
-    /// Gives a row another state, on the frame where it is, and gives the number of that.
-    #[inline(always)]
-    pub(crate) fn restate(&mut self, row: &Row, state: PageState) -> Option<u32>
-        requires { row_at row.now.page self.old.rows ≡ Some row.now }
-        ensures stood { StandsAt self.old row.now.page row.now result }
-        ensures rows { self.new.rows ≡ slice_set self.old.rows (rank row.now.page self.old.rows) (record row.now { state = state }) }
-        ensures frames { self.new.frames ≡ self.old.frames }
-        ensures changed { self.new.rows ≡ change_row row.now.page (λ _. record row.now { state = state }) self.old.rows }
-    {
-        // The contract of `len` says that the number fits.
-        let _ = self.entries.len();
-        let frame = self.entries.restate(row.page, state);
-        let stated = Row { state, ..*row };
-        self.blocks.change(row, &stated);
-        self.tally = self.tally.without(row).with(&stated);
-        frame
+    pub fn tally(&self) -> Tally {
+        self.tally
     }
 
-    /// Takes the row of a page away, which has one, and gives what stood there.
-    pub(crate) fn remove(&mut self, page: GuestPage) -> Option<Held>
-        requires { is_some (row_at page self.old.rows) ≡ true }
-        ensures stood { MatchOption result ⊥ (λ held. StandsAt self.old page held.row held.frame) }
-        ensures rows { self.new.rows ≡ remove self.old.rows (rank page self.old.rows) }
-        ensures frames { self.new.frames ≡ remove self.old.frames (rank page self.old.rows) }
-        ensures gone { self.new.rows ≡ without_page page self.old.rows }
-    {
-        let Some(entry) = self.entries.remove(page) else {
-            return None;
+    /// Adds a row of its own to those of a page that has none. The one fault is `Memory`, and then nothing changes.
+    pub fn insert(&mut self, entry: Entry) -> Result<u32, Fault> {
+        self.entries.reserve(1)?;
+        let Ok(key) = u32::try_from(self.entries.vacant_key()) else {
+            return Err(Fault::Memory);
         };
-        let row = entry.row(page);
-        self.blocks.take(&row);
-        self.tally = self.tally.without(&row);
-        Some(Held {
-            row,
-            frame: entry.frame(),
-        })
+        self.order.insert(entry.page, key)?;
+        let page = entry.page;
+        let _ = self.entries.insert_reserved(entry);
+        self.restless.add(page, key);
+        Ok(key)
     }
 
-    // The first row after the cursor that a search is for.
-    fn first_after(&self, cursor: Option<GuestPage>, wanted: Wanted) -> Option<Row>
-        ensures { result ≡ find (λ r. is_a_wanted wanted r && comes_after cursor r.page) self.now.rows }
-    {
-        row_found(
-            self.entries
-                .range(after_cursor(cursor))
-                .find(|(page, entry)| entry.is_wanted(**page, &wanted)),
-        )
+    /// The row under a key goes.
+    pub fn remove(&mut self, key: u32) {
+        let Some(entry) = self.entries.try_remove(key as usize) else {
+            return;
+        };
+        self.count_out(&entry);
+        self.order.remove(entry.page);
+        self.restless.remove(entry.page);
     }
 
-    /// The first row of a guest after the cursor that a search is for. It ends at the first row of a greater guest.
-    pub(crate) fn first_of(
-        &self,
-        cursor: Option<GuestPage>,
-        guest: u16,
-        wanted: Wanted,
-    ) -> Option<Row>
-        ensures { result ≡ find (λ r. (is_of_guest guest r && is_a_wanted wanted r) && comes_after cursor r.page) self.now.rows }
-    {
-        let found = self.entries.range(guest_after(cursor, guest)).find(|(page, entry)| page.guest
-            > guest
-            || entry.is_wanted(**page, &wanted));
-        up_to_guest(row_found(found), guest)
-    }
-
-    /// The page that is visited next: that of the least mergeable row after the cursor.
-    pub fn next(&self, cursor: Option<GuestPage>) -> Option<GuestPage>
-        ensures { result ≡ page_of (row_to_visit cursor self.now.rows) }
-    {
-        let mut walk = self.entries.range(after_cursor(cursor));
-        page_found(walk.find(|(_, entry)| entry.is_mergeable()))
-    }
-
-    /// What comes after the cursor, run by run, for `most` visits at most, up to the end of the pass or as far as there is
-    /// memory for runs. Gives the first run, which wants no memory.
-    pub fn ahead(&self, cursor: Option<GuestPage>, most: u64, found: &mut Vec<Run>) -> Run
-        requires { found.old.items ≡ [] }
-        ensures run { IsRun most self.now.rows cursor result }
-        ensures ahead { AreAhead most self.now.rows cursor found.new.items }
-        ensures first { IfSome (slice_get found.new.items 0) (λ run. run ≡ result) }
-    {
-        runs_along(&self.entries, &self.blocks, cursor, most, found)
-    }
-
-    /// The first merged or Zero row of a guest after the cursor, or of all where no guest is given.
-    pub fn next_shared(&self, cursor: Option<GuestPage>, guest: Option<u16>) -> Option<Row>
-        ensures { result ≡ find (λ r. is_shared_of_guest guest r && comes_after cursor r.page) self.now.rows }
-    {
-        match guest {
-            None => self.first_after(cursor, Wanted::Shared),
-            Some(guest) => self.first_of(cursor, guest, Wanted::Shared),
+    #[inline(always)]
+    fn count_out(&mut self, entry: &Entry) {
+        match entry.kind {
+            Kind::Own => {
+                if entry.number == self.pass {
+                    self.tally.waiting -= 1;
+                }
+            }
+            Kind::Merged => self.tally.merged -= 1,
+            Kind::Zero => self.tally.zero -= 1,
         }
     }
 
-    /// Whether the guest has a row.
-    pub fn has_guest(&self, guest: u16) -> bool
-        ensures { result ≡ list_any (is_of_guest guest) self.now.rows }
-    {
-        self.first_of(None, guest, Wanted::Before(None)).is_some()
-    }
-
-    /// Whether the scan has a row to visit.
-    pub fn any_mergeable(&self) -> bool
-        ensures { result ≡ list_any (λ r. r.mergeable) self.now.rows }
-    {
-        self.tally.mergeable > 0
-    }
-
-    /// How many rows there are.
-    pub fn len(&self) -> usize
-        ensures { result ≡ length self.now.rows }
-    {
-        self.entries.len()
-    }
-
-    /// How many rows are merged.
-    pub fn count_merged(&self) -> usize
-        ensures { result ≡ count_by (λ r. merged_state r.state) self.now.rows }
-    {
-        self.tally.merged
-    }
-
-    /// How many rows wait.
-    pub fn count_waiting(&self) -> usize
-        ensures { result ≡ count_by (λ r. waiting_state r.state) self.now.rows }
-    {
-        self.tally.waiting
-    }
-
-    /// How many rows are mergeable and Private.
-    pub fn count_volatile(&self) -> usize
-        ensures { result ≡ count_by (λ r. r.mergeable && private_state r.state) self.now.rows }
-    {
-        self.tally.volatile
-    }
-
-    /// How many rows are Zero.
-    pub fn count_zero(&self) -> usize
-        ensures { result ≡ count_by (λ r. zero_state r.state) self.now.rows }
-    {
-        self.tally.zero
-    }
-
-    /// All rows of a guest become mergeable.
-    pub(crate) fn make_mergeable(&mut self, guest: u16)
-        ensures rows { self.new.rows ≡ change_rows (is_of_guest guest) (λ r. record r { mergeable = true }) self.old.rows }
-        ensures frames { self.new.frames ≡ self.old.frames }
-    {
-        // The contract of `len` says that the keys ascend.
-        let _ = self.entries.len();
-        let mut last = None;
-        while let Some(row) = self.first_of(last, guest, Wanted::Before(None)) {
-            self.revise(
-                &row,
-                &Row {
-                    mergeable: true,
-                    ..row
-                },
-            );
-            last = Some(row.page);
+    /// The row gets a frame of its own in the stead of what it had.
+    #[inline(always)]
+    pub fn settle_on(&mut self, key: u32, frame: u32) {
+        let Some(entry) = self.entries.get_mut(key as usize) else {
+            return;
+        };
+        let old = Was {
+            kind: entry.kind,
+            number: entry.number,
+        };
+        entry.kind = Kind::Own;
+        entry.at = frame;
+        entry.number = 0;
+        let page = entry.page;
+        let mergeable = entry.mergeable;
+        match old.kind {
+            Kind::Own => {
+                if old.number == self.pass {
+                    self.tally.waiting -= 1;
+                }
+                return;
+            }
+            Kind::Merged => self.tally.merged -= 1,
+            Kind::Zero => self.tally.zero -= 1,
+        }
+        if mergeable {
+            self.restless.add(page, key);
         }
     }
 
-    /// No row waits any more: those that did, which are of these pages, are Private.
-    pub(crate) fn settle_all(&mut self, waiting: &Waiting)
-        requires { AreNamed waiting.now self.old.rows }
-        ensures rows { self.new.rows ≡ map as_settled self.old.rows }
-        ensures frames { self.new.frames ≡ self.old.frames }
-    {
-        // To find a page by a hash takes as long as to go by some eight.
-        if self.tally.waiting > self.entries.len() / 8 {
-            self.settle_every();
+    /// A row of its own becomes an item of the dup at a place.
+    #[inline(always)]
+    pub fn merge(&mut self, key: u32, number: u64, place: u32) {
+        let pass = self.pass;
+        if let Some(entry) = self.entries.get_mut(key as usize) {
+            if entry.number == pass {
+                self.tally.waiting -= 1;
+            }
+            entry.kind = Kind::Merged;
+            entry.number = number;
+            entry.at = place;
+            self.tally.merged += 1;
+        }
+    }
+
+    /// A row of its own goes to the zero page.
+    pub fn become_zero(&mut self, key: u32) {
+        let pass = self.pass;
+        if let Some(entry) = self.entries.get_mut(key as usize) {
+            if entry.number == pass {
+                self.tally.waiting -= 1;
+            }
+            entry.kind = Kind::Zero;
+            self.tally.zero += 1;
+        }
+    }
+
+    /// A row of its own waits from now on.
+    #[inline(always)]
+    pub fn wait(&mut self, key: u32, wait: u32) {
+        let pass = self.pass;
+        if let Some(entry) = self.entries.get_mut(key as usize) {
+            entry.number = pass;
+            entry.wait = wait;
+            self.tally.waiting += 1;
+        }
+    }
+
+    /// A row of its own waits no more.
+    #[inline(always)]
+    pub fn stop_waiting(&mut self, key: u32) {
+        let pass = self.pass;
+        if let Some(entry) = self.entries.get_mut(key as usize) {
+            if entry.number == pass {
+                entry.number = 0;
+                self.tally.waiting -= 1;
+            }
+        }
+    }
+
+    #[inline(always)]
+    pub fn set_group(&mut self, key: u32, group: u32) {
+        if let Some(entry) = self.entries.get_mut(key as usize) {
+            entry.group = group;
+        }
+    }
+
+    #[inline(always)]
+    pub fn set_unchanged(&mut self, key: u32, unchanged: bool) {
+        if let Some(entry) = self.entries.get_mut(key as usize) {
+            entry.unchanged = unchanged;
+        }
+    }
+
+    /// The row has these bytes from now on, and this home.
+    #[inline(always)]
+    pub fn write(&mut self, key: u32, bytes: &ksm_base::PageBytes) {
+        if let Some(entry) = self.entries.get_mut(key as usize) {
+            entry.bytes = *bytes;
+        }
+    }
+
+    pub fn set_home(&mut self, key: u32, home: u32) {
+        if let Some(entry) = self.entries.get_mut(key as usize) {
+            entry.home = home;
+        }
+    }
+
+    pub fn set_mergeable(&mut self, key: u32, mergeable: bool) {
+        let Some(entry) = self.entries.get_mut(key as usize) else {
+            return;
+        };
+        if entry.mergeable == mergeable {
+            return;
+        }
+        entry.mergeable = mergeable;
+        let page = entry.page;
+        let restless = entry.is_restless();
+        self.order.mark(page, mergeable);
+        if restless {
+            self.restless.add(page, key);
         } else {
-            self.settle_pages(waiting);
+            self.restless.remove(page);
         }
     }
 
-    // The same, by going by every row.
-    fn settle_every(&mut self)
-        ensures rows { self.new.rows ≡ map as_settled self.old.rows }
-        ensures frames { self.new.frames ≡ self.old.frames }
-    {
-        self.entries.settle_every();
-        self.tally = self.tally.settled();
+    /// No row waits any more.
+    pub fn settle_all(&mut self) {
+        self.pass = self.pass.saturating_add(1);
+        self.tally.waiting = 0;
     }
 
-    // The same, by finding each page that waits.
-    fn settle_pages(&mut self, waiting: &Waiting)
-        requires { AreNamed waiting.now self.old.rows }
-        ensures rows { self.new.rows ≡ map as_settled self.old.rows }
-        ensures frames { self.new.frames ≡ self.old.frames }
-    {
-        for page in waiting.pages() {
-            self.entries.settle(*page);
+    /// Each row is not unchanged.
+    pub fn unshare_all(&mut self) {
+        self.entries.retain(|_, entry| {
+            entry.unchanged = false;
+            true
+        });
+        self.settle_all();
+    }
+
+    /// The first page behind a cursor.
+    pub fn after(&self, cursor: Option<GuestPage>) -> Option<Named> {
+        self.order.after(cursor).copied()
+    }
+
+    /// The first page from this one on.
+    pub fn from(&self, page: GuestPage) -> Option<Named> {
+        self.order.from(page).copied()
+    }
+
+    pub fn ahead(&self, cursor: Option<GuestPage>, visits: u64) -> Ahead {
+        self.order.ahead(cursor, visits)
+    }
+
+    pub fn between(&self, cursor: Option<GuestPage>, page: GuestPage) -> (u64, Option<GuestPage>) {
+        self.order.between(cursor, page)
+    }
+
+    /// All rows that a visit may change are listed then. The one fault is `Memory`.
+    pub fn list_restless(&mut self) -> Result<(), Fault> {
+        if self.restless.is_known() {
+            return Ok(());
         }
-        self.tally = self.tally.settled();
+        self.gather()
     }
 
-    /// Every row becomes Private and not unchanged.
-    pub(crate) fn unshare_all(&mut self)
-        ensures rows { self.new.rows ≡ map as_unshared self.old.rows }
-        ensures frames { self.new.frames ≡ self.old.frames }
-    {
-        self.entries.unshare_all();
-        self.blocks.unshare_all();
-        self.tally = self.tally.unshared();
+    #[inline(never)]
+    fn gather(&mut self) -> Result<(), Fault> {
+        self.restless.clear();
+        let mut next = self.after(None);
+        while let Some(named) = next {
+            if let Some(entry) = self.entries.get(named.key as usize) {
+                if entry.is_restless() {
+                    self.restless.add(named.page, named.key);
+                }
+            }
+            next = self.after(Some(named.page));
+        }
+        if self.restless.is_known() {
+            Ok(())
+        } else {
+            Err(Fault::Memory)
+        }
     }
+
+    pub fn restless_up_to(&self, cursor: Option<GuestPage>) -> usize {
+        self.restless.up_to(cursor)
+    }
+
+    #[inline(always)]
+    pub fn restless_at(&self, at: usize) -> Option<Listed> {
+        self.restless.get(at)
+    }
+
+    #[inline(always)]
+    pub fn keep_restless(&mut self, to: usize, listed: Listed) {
+        self.restless.keep(to, listed);
+    }
+
+    pub fn cut_restless(&mut self, from: usize, to: usize) {
+        self.restless.cut(from, to);
+    }
+}
+
+// What a row was.
+#[derive(Clone, Copy)]
+struct Was {
+    kind: Kind,
+    number: u64,
 }

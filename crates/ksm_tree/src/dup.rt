@@ -2,9 +2,10 @@
 use ksm_base::DupRow;
 use ksm_rmap::Items;
 
-/// A dup with its items, the pages merged into it.
+/// A dup with its items, the pages merged into it, and the number of its group.
 #[derive(Drop)]
 pub struct Dup {
     pub row: DupRow,
     pub items: Items,
+    pub group: u32,
 }

@@ -1,103 +1,102 @@
 //! The dups with their items, as visits, stores and the counters ask for them (mm/ksm: the stable trees).
-//!
-//! `Slots` has the dups by place, `Index` leads to the places. Each call changes both, and the invariant says that they agree: callers see
-//! one list, of the dups in the order of their places.
-//!
-//! A page that looks for a dup to join walks along its chain, which mostly has one dup. Of a long chain most dups are full. So while there
-//! is a long one, the open places of all contents are kept, and such a page walks along these if they are fewer.
-ghost use Rattle.std.specs.Prelude.{◌≡◌, ℕ, ◌+◌, ◌^◌, ◌<◌, ◌≤◌, [], ◌∷◌, ◌&&◌, not, true, false, None, Some, count_by, filter, find, length, is_some, option_copied, option_map, slice_get, if◌then◌else◌, IfErr, IfOk, OnErr, OnOk};
-ghost use Rattle.ksm_base.specs.Counting.{in_chain, leads_group};
-ghost use Rattle.ksm_base.specs.Rows.{same_page};
-ghost use Rattle.ksm_rmap.specs.Items.{has_item, with_item, without_item};
-ghost use Rattle.ksm_tree.specs.Choosing.{ArePlacesToJoin, best_of, of_group, better as better_dup, choice_of, is_no_worse as no_worse_than};
-ghost use Rattle.ksm_tree.specs.Dups.{AreDups, change_items, dup_at, dup_of, is_live, is_stale, items_of, rows_of, stands_at, with_new, without_place};
 
 use crate::choice::Choice;
-use crate::content::Content;
 use crate::dup::Dup;
-use crate::index::Index;
+use crate::groups::Groups;
 use crate::slots::Slots;
+use crate::waiting::NO_NUMBER;
 use ksm_base::{DupRow, Fault, GuestPage, Knobs, PageBytes};
 use ksm_rmap::Items;
 use std::alloc::Global;
-use std::marker::Model;
+use std::collections::HashMap;
 
 // A chain of no more dups than this is walked along as a whole.
 const SHORT_CHAIN: usize = 16;
 
+/// A dup that may be joined.
+#[derive(Clone, Copy)]
+pub struct Best {
+    pub number: u64,
+    pub place: u32,
+}
+
 /// The dups with their items, by place, by number, and by tree and bytes (mm/ksm, stable nodes and their chains).
-///
-/// A look-up by number or by content costs a hash and a comparison, in the mean, and `best` the length of the chain too, or, where a chain is long, the number of dups that are not full, if that is less; what is counted is known. The hash has a fixed seed: where contents were picked that collide, a look-up costs a comparison for each. Room for every place is taken at the start, so only a new dup and a new item may want memory.
 #[derive(Drop)]
 pub struct Dups {
     alloc: Global,
     slots: Slots,
-    index: Index,
+    numbers: HashMap<u64, u32>,
+    groups: Groups,
     next: u64,
     limit: u32,
 }
 
-impl Model for Dups {
-    ghost use Rattle.ksm_tree.specs.Dups.{DupsState};
-    ghost use Rattle.ksm_tree.specs.Index.{AreIndexed, dups_seen};
-
-    ghost Value = { DupsState };
-
-    ghost view = { λ d. dups_seen d.slots d.next };
-
-    ghost invariant = { λ d. AreIndexed d.slots d.next d.index };
-}
-
 impl Dups {
     /// No dups, with room for one at each of so many places. The one fault is `Memory`.
-    pub fn open(alloc: Global, places: u32) -> Result<Dups, Fault>
-        requires least { 1 ≤ places }
-        requires most { places ≤ 1024 }
-        ensures opened { IfOk result (λ dups. dups ≡ record { places = places; dups = []; next = 0 }) }
-        ensures memory { IfErr result (λ fault. fault ≡ Fault.Memory) }
-    {
+    pub fn open(alloc: Global, places: u32) -> Result<Dups, Fault> {
         Ok(Dups {
             alloc,
             slots: Slots::open(alloc, places)?,
-            index: Index::new(alloc),
+            numbers: HashMap::new(alloc),
+            groups: Groups::new(alloc),
             next: 0,
             limit: Knobs::DEFAULT.max_page_sharing,
         })
     }
 
     /// The dup that a page of a tree and these bytes joins: of those with an item and fewer than the limit the one with the most items, ties to the lowest number.
-    pub fn best(&self, tree: u32, bytes: &PageBytes, limit: u32) -> Option<u64>
-        ensures best { result ≡ option_map (λ d. d.row.number) (best_of tree bytes.now limit self.now.dups) }
-        ensures lawful { AreDups self.now }
-    {
+    pub fn best(&self, tree: u32, bytes: &PageBytes, limit: u32) -> Option<u64> {
+        let group = self.groups.number(NO_NUMBER, tree, bytes)?;
+        let best = self.best_of(group, limit)?;
+        Some(best.number)
+    }
+
+    /// The number of the group of a tree and bytes. The guess is tried first. The one fault is `Memory`.
+    #[inline(always)]
+    pub fn group(&mut self, guess: u32, tree: u32, bytes: &PageBytes) -> Result<u32, Fault> {
+        self.groups.numbered(self.alloc, guess, tree, bytes)
+    }
+
+    /// The dup of a group that a page joins.
+    #[inline(always)]
+    pub fn best_of(&self, group: u32, limit: u32) -> Option<Best> {
+        let chain = self.groups.chain(group);
+        if chain.is_empty() {
+            return None;
+        }
+        self.best_in(group, chain, limit)
+    }
+
+    fn best_in(&self, group: u32, chain: &[u32], limit: u32) -> Option<Best> {
         let mut best: Option<&Dup> = None;
         // The fewest items of a dup that may be better, and how many more than these it may have.
         let mut least = 1;
         let mut room = limit.saturating_sub(least);
         let counts = self.slots.counts();
-        let (places, is_chain) = self.places_to_join(tree, bytes, limit);
-        for place in places {
+        for place in self.places_to_join(chain, limit) {
             let items = counts[*place as usize];
             // Fewer than the least wrap to more than there is room for, so one comparison is enough.
             if items.wrapping_sub(least) < room {
-                if let Some(dup) = self.candidate(*place, is_chain, tree, bytes) {
-                    best = Some(better(best, dup));
-                    least = items;
-                    room = limit - items;
+                if let Some(dup) = self.slots.at(*place) {
+                    if dup.group == group {
+                        best = Some(better(best, dup));
+                        least = items;
+                        room = limit - items;
+                    }
                 }
             }
         }
         match best {
-            Some(dup) => Some(dup.row.number),
+            Some(dup) => Some(Best {
+                number: dup.row.number,
+                place: dup.row.place,
+            }),
             None => None,
         }
     }
 
     /// Where a new dup goes: the least empty place, or where there is none that of the first stale dup.
-    pub fn choose_place(&self) -> Choice
-        requires { is_some (choice_of self.now) ≡ true }
-        ensures { choice_of self.now ≡ Some result }
-    {
+    pub fn choose_place(&self) -> Choice {
         if let Some(place) = self.slots.first_empty() {
             return Choice::Empty(place);
         }
@@ -115,21 +114,21 @@ impl Dups {
         bytes: &PageBytes,
         first: GuestPage,
         second: GuestPage,
-    ) -> Result<u64, Fault>
-        requires place { place < self.old.places }
-        requires free { find (λ d. stands_at place d && is_live d) self.old.dups ≡ None }
-        requires apart { same_page first second ≡ false }
-        requires number { self.old.next + 1 < 2 ^ 64 }
-        ensures number { IfOk result (λ number. number ≡ self.old.next) }
-        ensures made { OnOk result (self.new ≡ record {
-          places = self.old.places;
-          dups = with_new (record { row = record { number = self.old.next; place = place; tree = tree; bytes = bytes.now }; items = with_item second (first ∷ []) }) self.old.dups;
-          next = self.old.next + 1;
-        }) }
-        ensures kept { OnErr result (self.new ≡ self.old) }
-        ensures memory { IfErr result (λ fault. fault ≡ Fault.Memory) }
-        ensures lawful { AreDups self.old }
-    {
+    ) -> Result<u64, Fault> {
+        let group = self.group(NO_NUMBER, tree, bytes)?;
+        self.found(group, place, tree, bytes, first, second)
+    }
+
+    /// The same in a group whose number is known.
+    pub fn found(
+        &mut self,
+        group: u32,
+        place: u32,
+        tree: u32,
+        bytes: &PageBytes,
+        first: GuestPage,
+        second: GuestPage,
+    ) -> Result<u64, Fault> {
         let number = self.next;
         let row = DupRow {
             number,
@@ -138,59 +137,71 @@ impl Dups {
             bytes: *bytes,
         };
         let items = pair(self.alloc, first, second)?;
-        let old = self.slots.at(place);
-        self.index.add(self.alloc, &row)?;
-        match old {
-            Some(old) => self.index.replace(&old.row, &row),
-            None => {}
+        self.numbers.insert(number, place)?;
+        // A stale dup of the same group has the place there already.
+        let old = match self.slots.at(place) {
+            Some(dup) => Some((dup.group, dup.row.number)),
+            None => None,
+        };
+        let is_in = match old {
+            Some((its, _)) => its == group,
+            None => false,
+        };
+        if !is_in {
+            if let Err(fault) = self.groups.add(group, place) {
+                self.numbers.remove(&number);
+                return Err(fault);
+            }
         }
-        self.slots.put(Dup { row, items });
+        if let Some((its, old)) = old {
+            self.numbers.remove(&old);
+            if !is_in {
+                self.groups.remove(its, place);
+            }
+        }
+        self.slots.put(Dup { row, items, group });
         self.next += 1;
         self.keep_open();
         Ok(number)
     }
 
     /// A page becomes an item of a dup. Gives the place of the dup. The one fault is `Memory`, and then nothing changes.
-    pub fn join(&mut self, dup: u64, page: GuestPage) -> Result<u32, Fault>
-        requires known { is_some (dup_of dup self.old.dups) ≡ true }
-        requires fewer { length (items_of dup self.old.dups) < 1024 }
-        requires absent { has_item page (items_of dup self.old.dups) ≡ false }
-        ensures place { IfOk result (λ place. Some place ≡ option_map (λ d. d.row.place) (dup_of dup self.old.dups)) }
-        ensures joined { OnOk result (self.new ≡ record { places = self.old.places; dups = change_items dup (with_item page) self.old.dups; next = self.old.next }) }
-        ensures kept { OnErr result (self.new ≡ self.old) }
-        ensures memory { IfErr result (λ fault. fault ≡ Fault.Memory) }
-    {
-        match self.index.place(dup) {
+    pub fn join(&mut self, dup: u64, page: GuestPage) -> Result<u32, Fault> {
+        match self.place(dup) {
             Some(place) => {
-                self.slots.add_item(place, page)?;
+                self.join_at(place, page)?;
                 Ok(place)
             }
             None => unreachable!(),
         }
     }
 
+    /// A page becomes an item of the dup at a place. The one fault is `Memory`, and then nothing changes.
+    #[inline(always)]
+    pub fn join_at(&mut self, place: u32, page: GuestPage) -> Result<(), Fault> {
+        self.slots.add_item(place, page)
+    }
+
     /// A page is no item of a dup any more. Where there is no such dup or item, nothing changes. Gives the place of the dup.
-    pub fn leave(&mut self, dup: u64, page: GuestPage) -> Option<u32>
-        ensures place { result ≡ option_map (λ d. d.row.place) (dup_of dup self.old.dups) }
-        ensures left { self.new ≡ record { places = self.old.places; dups = change_items dup (without_item page) self.old.dups; next = self.old.next } }
-    {
-        let place = self.index.place(dup)?;
+    pub fn leave(&mut self, dup: u64, page: GuestPage) -> Option<u32> {
+        let place = self.place(dup)?;
         self.slots.remove_item(place, page);
         Some(place)
     }
 
+    /// A page is no item of the dup at a place any more.
+    #[inline(always)]
+    pub fn leave_at(&mut self, place: u32, page: GuestPage) {
+        self.slots.remove_item(place, page);
+    }
+
     /// The number of the dup at a place.
-    pub fn at(&self, place: u32) -> Option<u64>
-        ensures number { result ≡ option_map (λ d. d.row.number) (dup_at place self.now.dups) }
-        ensures lawful { AreDups self.now }
-    {
+    pub fn at(&self, place: u32) -> Option<u64> {
         self.slots.at(place).map(|dup| dup.row.number)
     }
 
     /// The row of the dup with items at a place.
-    pub fn live_at(&self, place: u32) -> Option<DupRow>
-        ensures { result ≡ option_map (λ d. d.row) (find (λ d. stands_at place d && is_live d) self.now.dups) }
-    {
+    pub fn live_at(&self, place: u32) -> Option<DupRow> {
         match self.slots.at(place) {
             Some(dup) => (dup.items.len() > 0).then_some(dup.row),
             None => None,
@@ -198,53 +209,48 @@ impl Dups {
     }
 
     /// The row of a dup.
-    pub fn row(&self, dup: u64) -> Option<DupRow>
-        ensures { result ≡ option_map (λ d. d.row) (dup_of dup self.now.dups) }
-    {
+    pub fn row(&self, dup: u64) -> Option<DupRow> {
         self.find(dup).map(|dup| dup.row)
     }
 
     /// The place of a dup.
-    pub fn place(&self, dup: u64) -> Option<u32>
-        ensures place { result ≡ option_map (λ d. d.row.place) (dup_of dup self.now.dups) }
-        ensures lawful { AreDups self.now }
-    {
-        self.index.place(dup)
+    pub fn place(&self, dup: u64) -> Option<u32> {
+        self.numbers.get(&dup).copied()
     }
 
     /// How many items a dup has: none where there is no such dup.
-    pub fn items(&self, dup: u64) -> u32
-        ensures { result ≡ length (items_of dup self.now.dups) }
-    {
+    pub fn items(&self, dup: u64) -> u32 {
         self.find(dup).map_or(0, |dup| dup.items.len() as u32)
     }
 
     /// The item of a dup at `i`, in ascending order from 0 on.
-    pub fn item(&self, dup: u64, i: u32) -> GuestPage
-        requires { i < length (items_of dup self.now.dups) }
-        ensures { slice_get (items_of dup self.now.dups) i ≡ Some result }
-    {
+    pub fn item(&self, dup: u64, i: u32) -> GuestPage {
         match self.find(dup) {
             Some(dup) => dup.items.at(i as usize),
             None => unreachable!(),
         }
     }
 
+    /// The items of the dup at a place, ascending.
+    pub fn items_at(&self, place: u32) -> &[GuestPage] {
+        match self.slots.at(place) {
+            Some(dup) => dup.items.as_slice(),
+            None => &[],
+        }
+    }
+
     /// The least place of a stale dup.
-    pub fn stale(&self) -> Option<u32>
-        ensures place { result ≡ option_map (λ d. d.row.place) (find is_stale self.now.dups) }
-        ensures lawful { AreDups self.now }
-    {
+    pub fn stale(&self) -> Option<u32> {
         self.slots.first_stale()
     }
 
     /// The stale dup at a place goes.
-    pub fn drop_stale(&mut self, place: u32)
-        requires { is_some (find (λ d. stands_at place d && is_stale d) self.old.dups) ≡ true }
-        ensures { self.new ≡ record { places = self.old.places; dups = without_place place self.old.dups; next = self.old.next } }
-    {
+    pub fn drop_stale(&mut self, place: u32) {
         match self.slots.at(place) {
-            Some(dup) => self.index.remove(&dup.row),
+            Some(dup) => {
+                self.numbers.remove(&dup.row.number);
+                self.groups.remove(dup.group, place);
+            }
             None => unreachable!(),
         }
         self.slots.clear(place);
@@ -252,80 +258,51 @@ impl Dups {
     }
 
     /// How many dups have an item.
-    pub fn count_shared(&self) -> usize
-        ensures { result ≡ count_by is_live self.now.dups }
-    {
+    pub fn count_shared(&self) -> usize {
         self.slots.count_live()
     }
 
     /// How many dups are stale.
-    pub fn count_stale(&self) -> usize
-        ensures { result ≡ count_by is_stale self.now.dups }
-    {
+    pub fn count_stale(&self) -> usize {
         self.slots.count_stale()
     }
 
     /// How many dups are in a group of two or more.
-    pub fn count_grouped(&self) -> usize
-        ensures { result ≡ count_by (in_chain (rows_of self.now.dups)) (rows_of self.now.dups) }
-    {
-        self.index.groups.totals.dups
+    pub fn count_grouped(&self) -> usize {
+        self.groups.totals.dups
     }
 
     /// How many groups have two dups or more.
-    pub fn count_chains(&self) -> usize
-        ensures { result ≡ count_by (λ d. in_chain (rows_of self.now.dups) d && leads_group (rows_of self.now.dups) d) (rows_of self.now.dups) }
-    {
-        self.index.groups.totals.chains
+    pub fn count_chains(&self) -> usize {
+        self.groups.totals.chains
     }
 
     /// The limit with which `best` is mostly asked: it passes over the full dups of a long chain then.
-    pub fn set_limit(&mut self, limit: u32)
-        ensures { self.new ≡ self.old }
-    {
+    pub fn set_limit(&mut self, limit: u32) {
         self.limit = limit;
         self.keep_open();
     }
 
     // The open places are kept while a chain is long: where none is, nobody asks for them.
-    fn keep_open(&mut self)
-        ensures { self.new ≡ self.old }
-    {
-        let is_long = self.index.groups.totals.longest > SHORT_CHAIN;
+    fn keep_open(&mut self) {
+        let is_long = self.groups.totals.longest > SHORT_CHAIN;
         self.slots.keep_open(if is_long { self.limit } else { 0 });
     }
 
-    // The places among which a dup to join is looked for, and whether they are those of the chain. Of a long chain the open ones are
-    // enough, so all open ones are taken where these are fewer.
-    fn places_to_join(&self, tree: u32, bytes: &PageBytes, limit: u32) -> (&[u32], bool)
-        ensures { ArePlacesToJoin tree bytes.now limit self.now.dups result.0.now result.1 }
-    {
-        let chain = self.index.places(tree, bytes);
+    // The places among which a dup to join is looked for. Of a long chain the open ones are enough, so all open ones are taken where
+    // these are fewer.
+    fn places_to_join<'a>(&'a self, chain: &'a [u32], limit: u32) -> &'a [u32] {
         if chain.len() <= SHORT_CHAIN {
-            return (chain, true);
+            return chain;
         }
         match self.slots.open_places(limit) {
-            Some(open) if open.len() < chain.len() => (open, false),
-            _ => (chain, true),
+            Some(open) if open.len() < chain.len() => open,
+            _ => chain,
         }
     }
 
-    // The dup at a place, if it is of that tree and these bytes, as each in the chain is.
-    fn candidate(&self, place: u32, is_chain: bool, tree: u32, bytes: &PageBytes) -> Option<&Dup>
-        ensures { option_copied result ≡ (if is_chain then dup_at place self.now.dups else of_group tree bytes.now (dup_at place self.now.dups)) }
-    {
-        let dup = self.slots.at(place)?;
-        if is_chain || (dup.row.tree == tree && dup.row.bytes == *bytes) {
-            Some(dup)
-        } else {
-            None
-        }
-    }
-
-    fn find(&self, number: u64) -> Option<&Dup>
-        ensures { option_copied result ≡ dup_of number self.now.dups }
-    {
-        match self.index.place(number) {
+    fn find(&self, number: u64) -> Option<&Dup> {
+        match self.place(number) {
             Some(place) => self.slots.at(place),
             None => None,
         }
@@ -333,11 +310,7 @@ impl Dups {
 }
 
 /// The items of a new dup. The one fault is `Memory`.
-fn pair(alloc: Global, first: GuestPage, second: GuestPage) -> Result<Items, Fault>
-    requires { same_page first second ≡ false }
-    ensures both { IfOk result (λ items. items ≡ with_item second (first ∷ [])) }
-    ensures memory { IfErr result (λ fault. fault ≡ Fault.Memory) }
-{
+fn pair(alloc: Global, first: GuestPage, second: GuestPage) -> Result<Items, Fault> {
     let mut items = Items::new(alloc);
     items.add(first)?;
     items.add(second)?;
@@ -345,18 +318,20 @@ fn pair(alloc: Global, first: GuestPage, second: GuestPage) -> Result<Items, Fau
 }
 
 /// The better of two dups with room, of which the second comes later.
-fn better<'a>(best: Option<&'a Dup>, dup: &'a Dup) -> &'a Dup
-    ensures { result.now ≡ better_dup (option_copied best.entry) dup.entry.now }
-{
+fn better<'a>(best: Option<&'a Dup>, dup: &'a Dup) -> &'a Dup {
     match best {
-        Some(best) => { if is_no_worse(best, dup) { best } else { dup } }
+        Some(best) => {
+            if is_no_worse(best, dup) {
+                best
+            } else {
+                dup
+            }
+        }
         None => dup,
     }
 }
 
-fn is_no_worse(dup: &Dup, other: &Dup) -> bool
-    ensures { result ≡ no_worse_than dup.now other.now }
-{
+fn is_no_worse(dup: &Dup, other: &Dup) -> bool {
     let items = dup.items.len();
     let others = other.items.len();
     others < items || others == items && dup.row.number <= other.row.number

@@ -1,53 +1,86 @@
-//! The groups, found by a hash of their content. How many are chains is kept beside them, so the counters of chains
-//! are read.
-ghost use Rattle.std.specs.Prelude.{◌≡◌, ℕ, List, [], ◌&&◌, ◌==◌, IfErr, OnOk, OnErr, bytes_eq, length, if◌then◌else◌};
-ghost use Rattle.ksm_tree.specs.Groups.{AllPeopled, chain_in};
-ghost use Rattle.ksm_tree.specs.Places.{with_place, without};
-ghost use Rattle.ksm_tree.specs.Totals.{IsRegrouped, Tells};
+//! The groups by number. How many are chains is kept beside them, so the counters of chains are read.
 
-use crate::content::Content;
+use crate::contents::Contents;
 use crate::places::Places;
 use crate::totals::Totals;
-use ksm_base::Fault;
+use ksm_base::{Fault, PageBytes};
 use std::alloc::Global;
-use std::collections::HashMap;
+
+// So many contents are kept beside those of dups.
+const SPARE: usize = 4_096;
 
 /// The groups: for each tree and bytes the places of its dups, in ascending order; and how many of them are chains.
 #[derive(Drop)]
 pub struct Groups {
-    pub chains: HashMap<Content, Places>,
+    contents: Contents,
+    chains: Vec<Places>,
     pub totals: Totals,
-    ghost peopled: { AllPeopled chains },
+    // With how many contents those are swept out that have no dup.
+    most: usize,
 }
 
 impl Groups {
     /// No groups.
-    pub fn new(alloc: Global) -> Groups
-        ensures none { (t : ℕ) (b : List ℕ) → chain_in t b result.chains.entries ≡ [] }
-        ensures totals { result.totals ≡ record { chains = 0; dups = 0; longest = 0 } }
-    {
+    pub fn new(alloc: Global) -> Groups {
         Groups {
-            chains: HashMap::new(alloc),
+            contents: Contents::new(alloc),
+            chains: Vec::new(alloc),
             totals: Totals {
                 chains: 0,
                 dups: 0,
                 longest: 0,
             },
+            most: SPARE,
         }
     }
 
+    /// The number of a group, if it has one. The guess is tried first.
+    #[inline(always)]
+    pub fn number(&self, guess: u32, tree: u32, bytes: &PageBytes) -> Option<u32> {
+        self.contents.number(guess, tree, bytes)
+    }
+
+    /// The number of a group, which it gets if it has none. The one fault is `Memory`, and then nothing changes.
+    #[inline(always)]
+    pub fn numbered(
+        &mut self,
+        alloc: Global,
+        guess: u32,
+        tree: u32,
+        bytes: &PageBytes,
+    ) -> Result<u32, Fault> {
+        match self.contents.number(guess, tree, bytes) {
+            Some(number) => Ok(number),
+            None => self.enter(alloc, tree, bytes),
+        }
+    }
+
+    #[inline(never)]
+    fn enter(&mut self, alloc: Global, tree: u32, bytes: &PageBytes) -> Result<u32, Fault> {
+        if self.contents.len() >= self.most {
+            self.sweep();
+        }
+        self.chains.reserve(1)?;
+        let number = self.contents.enter(tree, bytes)?;
+        if number as usize == self.chains.len() {
+            self.chains.push(Places::new(alloc))?;
+        }
+        Ok(number)
+    }
+
+    // The contents without a dup lose their numbers.
+    fn sweep(&mut self) {
+        for number in 0..self.chains.len() as u32 {
+            if self.chains[number as usize].is_empty() {
+                self.contents.forget(number);
+            }
+        }
+        self.most = self.contents.len() + SPARE;
+    }
+
     /// A place joins a group. The one fault is `Memory`, and then nothing changes.
-    pub fn add(&mut self, alloc: Global, content: Content, place: u32) -> Result<(), Fault>
-        requires told { Tells (length (chain_in content.tree content.bytes self.old.chains.entries)) self.old.totals }
-        ensures added { OnOk result ((t : ℕ) (b : List ℕ) → chain_in t b self.new.chains.entries
-            ≡ (if t == content.tree && bytes_eq b content.bytes then with_place place (chain_in t b self.old.chains.entries) else chain_in t b self.old.chains.entries)) }
-        ensures totals { OnOk result (IsRegrouped (length (chain_in content.tree content.bytes self.old.chains.entries))
-            (length (chain_in content.tree content.bytes self.new.chains.entries)) self.old.totals self.new.totals) }
-        ensures kept { OnErr result ((t : ℕ) (b : List ℕ) → chain_in t b self.new.chains.entries ≡ chain_in t b self.old.chains.entries) }
-        ensures kept_totals { OnErr result (self.new.totals ≡ self.old.totals) }
-        ensures memory { IfErr result (λ fault. fault ≡ Fault.Memory) }
-    {
-        match self.chains.get_mut(&content) {
+    pub fn add(&mut self, group: u32, place: u32) -> Result<(), Fault> {
+        match self.chains.get_mut(group as usize) {
             Some(chain) => {
                 chain.reserve()?;
                 let before = chain.len();
@@ -55,46 +88,26 @@ impl Groups {
                 self.totals = self.totals.regrouped(before, chain.len());
                 Ok(())
             }
-            None => {
-                let mut chain = Places::new(alloc);
-                chain.insert(place);
-                self.chains.insert(content, chain)?;
-                Ok(())
-            }
+            None => Ok(()),
         }
     }
 
-    /// A place leaves a group, and with its last place the group goes.
-    pub fn remove(&mut self, content: &Content, place: u32)
-        requires told { Tells (length (chain_in content.now.tree content.now.bytes self.old.chains.entries)) self.old.totals }
-        ensures removed { (t : ℕ) (b : List ℕ) → chain_in t b self.new.chains.entries
-            ≡ (if t == content.now.tree && bytes_eq b content.now.bytes then without place (chain_in t b self.old.chains.entries) else chain_in t b self.old.chains.entries) }
-        ensures totals { IsRegrouped (length (chain_in content.now.tree content.now.bytes self.old.chains.entries))
-            (length (chain_in content.now.tree content.now.bytes self.new.chains.entries)) self.old.totals self.new.totals }
-    {
-        match self.chains.get_mut(content) {
+    /// A place leaves a group.
+    pub fn remove(&mut self, group: u32, place: u32) {
+        match self.chains.get_mut(group as usize) {
             Some(chain) => {
                 let before = chain.len();
                 chain.remove(place);
                 self.totals = self.totals.regrouped(before, chain.len());
-                let emptied = chain.is_empty();
-                if emptied {
-                    self.chains.remove(content);
-                }
             }
             None => {}
         }
     }
 
     /// The places of a group.
-    pub fn chain(&self, content: &Content) -> &[u32]
-        ensures { result.now ≡ chain_in content.now.tree content.now.bytes self.now.chains.entries }
-    {
-        // Where no dup stands, nothing is hashed.
-        if self.chains.is_empty() {
-            return &[];
-        }
-        match self.chains.get(content) {
+    #[inline(always)]
+    pub fn chain(&self, group: u32) -> &[u32] {
+        match self.chains.get(group as usize) {
             Some(chain) => chain.list.as_slice(),
             None => &[],
         }

@@ -3,13 +3,10 @@
 //! The counts stand by themselves, four bytes each, so a walk along a chain reads no dup but one that may be joined. The open places are
 //! kept only while they are asked for: a store to a merged page may open or close one, and where all chains are short that costs more
 //! than it saves.
-ghost use Rattle.std.specs.Prelude.{◌≡◌, ℕ, ◌<◌, ◌≤◌, IfErr, IfOk, IfSome, length, replicate, slice_set};
-ghost use Rattle.ksm_tree.specs.Counts.{is_open as is_open_count, places_where};
 
 use crate::places::Places;
 use ksm_base::Fault;
 use std::alloc::Global;
-use std::marker::Model;
 
 /// How many items the dup at each place has: none where no dup stands. Beside that the places of the open ones, those with an item
 /// and fewer than the limit, in ascending order: of a long chain most dups are full, and a page that looks for one to join passes over them.
@@ -20,22 +17,10 @@ pub struct Counts {
     open_at: Places,
 }
 
-impl Model for Counts {
-    ghost use Rattle.std.specs.Prelude.{ℕ, List};
-    ghost use Rattle.ksm_tree.specs.Counts.{AreCounts};
-
-    ghost Value = { List ℕ };
-
-    ghost view = { λ c. c.each.items };
-
-    ghost invariant = { λ c. AreCounts c.limit c.each.items c.open_at.list };
-}
 
 impl Counts {
     /// No items at so many places, with room for each of them among the open ones. The one fault is `Memory`.
     pub fn open(alloc: Global, places: u32) -> Result<Counts, Fault>
-        ensures none { IfOk result (λ counts. counts ≡ replicate places 0) }
-        ensures memory { IfErr result (λ fault. fault ≡ Fault.Memory) }
     {
         let room = places as usize;
         Ok(Counts {
@@ -47,14 +32,12 @@ impl Counts {
 
     /// How many items there are at each place.
     pub fn each(&self) -> &[u32]
-        ensures { result.now ≡ self.now }
     {
         self.each.as_slice()
     }
 
     /// The open places, where they are known for this limit.
     pub fn open_places(&self, limit: u32) -> Option<&[u32]>
-        ensures { IfSome result (λ found. found.now ≡ places_where (is_open_count limit) 0 self.now) }
     {
         if limit != self.limit {
             return None;
@@ -64,8 +47,6 @@ impl Counts {
 
     /// The open places are kept from now on by this limit. By the limit 0 no place is open, and nothing has to be kept.
     pub fn keep_open(&mut self, limit: u32)
-        requires { length self.old ≤ 1024 }
-        ensures { self.new ≡ self.old }
     {
         if limit == self.limit {
             return;
@@ -76,8 +57,6 @@ impl Counts {
 
     /// There are so many items at a place from now on.
     pub fn set(&mut self, place: u32, count: u32)
-        requires { place < length self.old }
-        ensures { self.new ≡ slice_set self.old place count }
     {
         let was_open = is_open(self.limit, self.each[place as usize]);
         let opens = is_open(self.limit, count);
@@ -95,17 +74,12 @@ impl Counts {
 
 /// Whether a dup with so many items takes one more.
 fn is_open(limit: u32, count: u32) -> bool
-    ensures { result ≡ is_open_count limit count }
 {
     1 <= count && count < limit
 }
 
 /// The open places by a limit, in the stead of those that there were.
 fn open_anew(limit: u32, counts: &[u32], open_at: &mut Places)
-    requires few { length counts.now ≤ 1024 }
-    requires room { length counts.now ≤ open_at.old.list.capacity }
-    ensures opens { open_at.new.list.items ≡ places_where (is_open_count limit) 0 counts.now }
-    ensures capacity { open_at.new.list.capacity ≡ open_at.old.list.capacity }
 {
     open_at.clear();
     for place in 0..counts.len() as u32 {

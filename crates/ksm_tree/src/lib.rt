@@ -3,18 +3,16 @@
 
 mod choice;
 mod content;
+mod contents;
 mod dup;
 mod dups;
 mod groups;
-mod index;
 mod item_counts;
-pub mod laws;
 mod places;
 mod slots;
 mod totals;
 mod waiting;
-pub mod waiting_laws;
 
 pub use choice::Choice;
-pub use dups::Dups;
-pub use waiting::Waiting;
+pub use dups::{Best, Dups};
+pub use waiting::{NO_NUMBER, Waiting};

@@ -1,9 +1,5 @@
 //! Sorted lists of places: of a group, of the open dups, of empty and of stale places. Most groups have few dups, so
 //! four places lie in the list itself.
-ghost use Rattle.std.specs.Prelude.{◌≡◌, ℕ, ◌+◌, ◌-◌, ◌<◌, ◌≤◌, List, [], true, ◌==◌, not, length, filter, IfErr, IfOk, IsTrue, OnOk, OnErr, AllPairs, nat_lt, slice_get, slice_index_or};
-ghost use Rattle.std.specs.List.{list_any};
-ghost use Rattle.smallvec.specs.SmallVec.{HasRoomFor};
-ghost use Rattle.ksm_tree.specs.Places.{with_place, without};
 
 use ksm_base::Fault;
 use smallvec::SmallVec;
@@ -13,14 +9,11 @@ use std::alloc::Global;
 #[derive(Drop)]
 pub struct Places {
     pub list: SmallVec<u32, 4>,
-    ghost ascending: { AllPairs (λ p q. nat_lt p q ≡ true) list.items },
 }
 
 impl Places {
     /// No places.
     pub fn new(alloc: Global) -> Places
-        ensures none { result.list.items ≡ [] }
-        ensures room { 1 ≤ result.list.capacity }
     {
         Places {
             list: SmallVec::new(alloc),
@@ -29,9 +22,6 @@ impl Places {
 
     /// No places, with room for so many.
     pub fn with_room(alloc: Global, room: usize) -> Result<Places, Fault>
-        ensures none { IfOk result (λ places. places.list.items ≡ []) }
-        ensures room { IfOk result (λ places. room ≤ places.list.capacity) }
-        ensures memory { IfErr result (λ fault. fault ≡ Fault.Memory) }
     {
         Ok(Places {
             list: SmallVec::with_capacity(alloc, room)?,
@@ -39,45 +29,36 @@ impl Places {
     }
 
     pub fn is_empty(&self) -> bool
-        ensures { result ≡ (length self.now.list.items == 0) }
     {
         self.list.is_empty()
     }
 
     /// How many places there are.
     pub fn len(&self) -> usize
-        ensures { result ≡ length self.now.list.items }
     {
         self.list.len()
     }
 
     /// The least place.
     pub fn first(&self) -> Option<u32>
-        ensures { result ≡ slice_get self.now.list.items 0 }
     {
         self.list.as_slice().first().copied()
     }
 
     /// The greatest place.
     pub fn last(&self) -> Option<u32>
-        ensures { result ≡ slice_get self.now.list.items (length self.now.list.items - 1) }
     {
         self.list.as_slice().last().copied()
     }
 
     /// No places from now on.
     pub fn clear(&mut self)
-        ensures none { self.new.list.items ≡ [] }
-        ensures capacity { self.new.list.capacity ≡ self.old.list.capacity }
     {
         self.list.clear();
     }
 
     /// Takes room for one more place. The one fault is `Memory`, and then nothing changes.
     pub fn reserve(&mut self) -> Result<(), Fault>
-        ensures kept { self.new.list.items ≡ self.old.list.items }
-        ensures room { OnOk result (HasRoomFor self.new.list 1) }
-        ensures memory { IfErr result (λ fault. fault ≡ Fault.Memory) }
     {
         self.list.reserve(1)?;
         Ok(())
@@ -85,10 +66,6 @@ impl Places {
 
     /// The place is there from now on, if it was not.
     pub fn insert(&mut self, place: u32)
-        requires { HasRoomFor self.old.list 1 }
-        ensures with { self.new.list.items ≡ with_place place self.old.list.items }
-        ensures one { length self.new.list.items ≤ length self.old.list.items + 1 }
-        ensures capacity { self.new.list.capacity ≡ self.old.list.capacity }
     {
         let at = place_in(self.list.as_slice(), place);
         if !stands_at(self.list.as_slice(), at, place) {
@@ -98,9 +75,6 @@ impl Places {
 
     /// The place is not there from now on.
     pub fn remove(&mut self, place: u32)
-        ensures without { self.new.list.items ≡ without place self.old.list.items }
-        ensures less { length self.new.list.items ≤ length self.old.list.items }
-        ensures capacity { self.new.list.capacity ≡ self.old.list.capacity }
     {
         let at = place_in(self.list.as_slice(), place);
         if stands_at(self.list.as_slice(), at, place) {
@@ -111,9 +85,6 @@ impl Places {
 
 /// How many of the places come before one.
 fn place_in(places: &[u32], place: u32) -> usize
-    requires { AllPairs (λ p q. nat_lt p q ≡ true) places.now }
-    ensures count { result ≡ length (filter (λ p. nat_lt p place) places.now) }
-    ensures within { result ≤ length places.now }
 {
     let Some(last) = places.last() else {
         return 0;
@@ -127,11 +98,6 @@ fn place_in(places: &[u32], place: u32) -> usize
 
 /// Whether a place stands at an index.
 fn stands_at(places: &[u32], at: usize, place: u32) -> bool
-    requires order { AllPairs (λ p q. nat_lt p q ≡ true) places.now }
-    requires index { at ≡ length (filter (λ p. nat_lt p place) places.now) }
-    ensures found { result ≡ list_any (λ p. p == place) places.now }
-    ensures within { IsTrue result → at < length places.now }
-    ensures here { IsTrue result → (d : ℕ) → (slice_index_or places.now at d == place) ≡ true }
 {
     at < places.len() && places[at] == place
 }

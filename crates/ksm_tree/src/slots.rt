@@ -1,17 +1,11 @@
 //! The dups by their places, a slot for each: a place leads to its dup in one step, and room for all of them is taken
 //! once.
-ghost use Rattle.std.specs.Prelude.{◌≡◌, ℕ, ◌-◌, ◌<◌, ◌≤◌, [], true, false, None, Some, count_by, find, length, option_copied, option_map, is_some, slice_index_or, IfErr, IfOk, IfSome, OnErr, OnOk};
-ghost use Rattle.ksm_tree.specs.Choosing.{empty_place};
-ghost use Rattle.ksm_rmap.specs.Items.{has_item, with_item, without_item};
-ghost use Rattle.ksm_tree.specs.Dups.{dup_at, items_in, is_live, is_stale, places_open, rows_of, with_new, without_place};
-ghost use Rattle.ksm_tree.specs.Slots.{change_at};
 
 use crate::dup::Dup;
 use crate::item_counts::Counts;
 use crate::places::Places;
 use ksm_base::{Fault, GuestPage};
 use std::alloc::Global;
-use std::marker::Model;
 
 /// The dups by place, with how many items each has, the places that no dup has and those of the stale dups.
 /// An empty place is kept by its distance from the highest one: the least, which is taken first, then stands last.
@@ -23,22 +17,10 @@ pub struct Slots {
     stale: Places,
 }
 
-impl Model for Slots {
-    ghost use Rattle.ksm_tree.specs.Slots.{SlotsState, AreSlots, slots_seen};
-
-    ghost Value = { SlotsState };
-
-    ghost view = { λ s. slots_seen s.dups.items };
-
-    ghost invariant = { λ s. AreSlots s.dups.items s.counts s.empty.list s.stale.list };
-}
 
 impl Slots {
     /// So many empty places. The one fault is `Memory`.
     pub fn open(alloc: Global, places: u32) -> Result<Slots, Fault>
-        requires { places ≤ 1024 }
-        ensures opened { IfOk result (λ slots. slots ≡ record { places = places; dups = [] }) }
-        ensures memory { IfErr result (λ fault. fault ≡ Fault.Memory) }
     {
         let room = places as usize;
         let mut dups = Vec::with_capacity(alloc, room)?;
@@ -58,7 +40,6 @@ impl Slots {
 
     /// The dup at a place.
     pub fn at(&self, place: u32) -> Option<&Dup>
-        ensures { option_copied result ≡ dup_at place self.now.dups }
     {
         match self.dups.get(place as usize) {
             Some(slot) => slot.as_ref(),
@@ -68,29 +49,24 @@ impl Slots {
 
     /// How many items the dup at each place has: none where no dup stands.
     pub fn counts(&self) -> &[u32]
-        ensures places { length result.now ≡ self.now.places }
-        ensures each { (place : ℕ) → slice_index_or result.now place 0 ≡ length (items_in (dup_at place self.now.dups)) }
     {
         self.counts.each()
     }
 
     /// The places of the open dups, those with an item and fewer than the limit, where they are known for this limit.
     pub fn open_places(&self, limit: u32) -> Option<&[u32]>
-        ensures { IfSome result (λ found. found.now ≡ places_open limit self.now.dups) }
     {
         self.counts.open_places(limit)
     }
 
     /// The open places are kept from now on by this limit; by the limit 0 nothing has to be kept.
     pub fn keep_open(&mut self, limit: u32)
-        ensures { self.new ≡ self.old }
     {
         self.counts.keep_open(limit);
     }
 
     /// The least place that no dup has.
     pub fn first_empty(&self) -> Option<u32>
-        ensures { result ≡ empty_place self.now.places (rows_of self.now.dups) }
     {
         let distance = self.empty.last()?;
         Some(mirrored(self.dups.len(), distance))
@@ -98,30 +74,24 @@ impl Slots {
 
     /// The least place of a stale dup.
     pub fn first_stale(&self) -> Option<u32>
-        ensures { result ≡ option_map (λ d. d.row.place) (find is_stale self.now.dups) }
     {
         self.stale.first()
     }
 
     /// How many dups have an item.
     pub fn count_live(&self) -> usize
-        ensures { result ≡ count_by is_live self.now.dups }
     {
         self.dups.len() - self.empty.len() - self.stale.len()
     }
 
     /// How many dups are stale.
     pub fn count_stale(&self) -> usize
-        ensures { result ≡ count_by is_stale self.now.dups }
     {
         self.stale.len()
     }
 
     /// A dup with items takes its place, in the stead of one that stood there.
     pub fn put(&mut self, dup: Dup)
-        requires place { dup.row.place < self.old.places }
-        requires live { is_live dup ≡ true }
-        ensures { self.new ≡ record { places = self.old.places; dups = with_new dup self.old.dups } }
     {
         let place = dup.row.place;
         let was_empty = self.dups[place as usize].is_none();
@@ -137,8 +107,6 @@ impl Slots {
 
     /// The dup at a place goes.
     pub fn clear(&mut self, place: u32)
-        requires { is_some (dup_at place self.old.dups) ≡ true }
-        ensures { self.new ≡ record { places = self.old.places; dups = without_place place self.old.dups } }
     {
         let distance = mirrored(self.dups.len(), place);
         self.counts.set(place, 0);
@@ -149,12 +117,6 @@ impl Slots {
 
     /// A page becomes an item of the dup at a place. The one fault is `Memory`, and then nothing changes.
     pub fn add_item(&mut self, place: u32, page: GuestPage) -> Result<(), Fault>
-        requires known { is_some (dup_at place self.old.dups) ≡ true }
-        requires fewer { length (items_in (dup_at place self.old.dups)) < 1024 }
-        requires absent { has_item page (items_in (dup_at place self.old.dups)) ≡ false }
-        ensures added { OnOk result (self.new ≡ record { places = self.old.places; dups = change_at place (with_item page) self.old.dups }) }
-        ensures kept { OnErr result (self.new ≡ self.old) }
-        ensures memory { IfErr result (λ fault. fault ≡ Fault.Memory) }
     {
         match &mut self.dups[place as usize] {
             Some(dup) => {
@@ -172,8 +134,6 @@ impl Slots {
 
     /// A page is no item of the dup at a place any more.
     pub fn remove_item(&mut self, place: u32, page: GuestPage)
-        requires { is_some (dup_at place self.old.dups) ≡ true }
-        ensures { self.new ≡ record { places = self.old.places; dups = change_at place (without_item page) self.old.dups } }
     {
         match &mut self.dups[place as usize] {
             Some(dup) => {
@@ -193,9 +153,6 @@ impl Slots {
 
 /// How far a place is from the highest of so many, and the place that is so far from it.
 fn mirrored(places: usize, place: u32) -> u32
-    requires few { places ≤ 1024 }
-    requires place { place < places }
-    ensures { result ≡ places - 1 - place }
 {
     places as u32 - 1 - place
 }

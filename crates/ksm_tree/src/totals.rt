@@ -1,6 +1,4 @@
 //! The two counters of chains, which change with each group that grows or shrinks.
-ghost use Rattle.ksm_tree.specs.Totals.{IsRegrouped, Tells};
-ghost use Rattle.std.specs.Prelude.{◌≤◌, ◌+◌};
 
 /// How many groups are chains, of two dups or more, and how many dups are in chains (mm/ksm: stable_node_chains, stable_node_dups).
 #[derive(Clone, Copy)]
@@ -14,9 +12,6 @@ pub struct Totals {
 impl Totals {
     /// The totals once a group of `before` dups has `after`.
     pub fn regrouped(self, before: usize, after: usize) -> Totals
-        requires told { Tells before self }
-        requires step { after ≤ before + 1 }
-        ensures { IsRegrouped before after self result }
     {
         let mut totals = self;
         if before > 1 {

@@ -1,82 +1,122 @@
-//! The unstable tree. Nothing asks for an order of the waiting pages, so it is a map of hashes and no tree.
-ghost use Rattle.std.specs.Prelude.{◌≡◌, [], None, IfOk, IfErr, OnErr, is_some, map, true};
-ghost use Rattle.std.specs.Option.{unwrap_or};
-ghost use Rattle.ksm_tree.specs.Waits.{IsAdded, IsRemoved, waiting_page};
+//! The unstable tree: which page waits for each tree and bytes.
 
-use crate::content::Content;
+use crate::contents::Contents;
 use ksm_base::{Fault, GuestPage, PageBytes};
 use std::alloc::Global;
-use std::collections::HashMap;
-use std::collections::hash_map::Values;
-use std::marker::Model;
 
-/// The pages that wait for an equal one: at most one of each tree and bytes (mm/ksm, the unstable tree).
-///
-/// `find_or_add` and `remove` cost a hash and a comparison, in the mean; where a page is added and no room is left, all of them are moved.
-/// `clear` costs the number of the most that waited at once. The hash has a fixed seed: where contents were picked that collide, a look-up costs a
-/// comparison for each.
-#[derive(Drop)]
-pub struct Waiting {
-    pages: HashMap<Content, GuestPage>,
+/// Where a number is not known.
+pub const NO_NUMBER: u32 = u32::MAX;
+
+// So many contents are kept beside those that wait.
+const SPARE: usize = 4_096;
+
+/// The page that waited last for a content, and in which pass. It waits as long as that pass goes on.
+#[derive(Clone, Copy, Drop)]
+struct Wait {
+    page: GuestPage,
+    pass: u64,
 }
 
-impl Model for Waiting {
-    ghost use Rattle.std.specs.Prelude.{List, map};
-    ghost use Rattle.ksm_tree.specs.Waits.{WaitingPage, waiting_at};
-
-    ghost Value = { List WaitingPage };
-
-    ghost view = { λ w. map waiting_at w.pages.entries };
+/// The pages that wait for an equal one: at most one of each tree and bytes (mm/ksm, the unstable tree).
+#[derive(Drop)]
+pub struct Waiting {
+    contents: Contents,
+    waits: Vec<Wait>,
+    pass: u64,
+    // With how many contents those are swept out for which no page waits.
+    most: usize,
 }
 
 impl Waiting {
     /// No page waits.
-    pub fn new(alloc: Global) -> Waiting
-        ensures { result ≡ [] }
-    {
+    pub fn new(alloc: Global) -> Waiting {
         Waiting {
-            pages: HashMap::new(alloc),
+            contents: Contents::new(alloc),
+            waits: Vec::new(alloc),
+            pass: 1,
+            most: SPARE,
         }
     }
 
-    /// The page that waits in a tree with these bytes from now on: the one that did, or else this one. The one fault is `Memory`, where
-    /// none did, and then nothing changes.
+    /// The page that waits in a tree with these bytes from now on: the one that did, or else this one.
     pub fn find_or_add(
         &mut self,
         tree: u32,
         bytes: &PageBytes,
         page: GuestPage,
-    ) -> Result<GuestPage, Fault>
-        ensures found { IfOk result (λ found. found ≡ unwrap_or (waiting_page tree bytes.now self.old) page) }
-        ensures added { IfOk result (λ found. IsAdded tree bytes.now found self.old self.new) }
-        ensures kept { is_some (waiting_page tree bytes.now self.old) ≡ true → self.new ≡ self.old }
-        ensures absent { OnErr result (waiting_page tree bytes.now self.old ≡ None) }
-        ensures refused { OnErr result (self.new ≡ self.old) }
-        ensures memory { IfErr result (λ fault. fault ≡ Fault.Memory) }
-    {
-        let entry = self.pages.entry(Content::of(tree, bytes))?;
-        Ok(*entry.or_insert(page))
+    ) -> Result<GuestPage, Fault> {
+        let (_, found) = self.meet(NO_NUMBER, tree, bytes, page)?;
+        Ok(found)
+    }
+
+    /// The same, with the number of the content, which is tried first where it was given before.
+    #[inline(always)]
+    pub fn meet(
+        &mut self,
+        guess: u32,
+        tree: u32,
+        bytes: &PageBytes,
+        page: GuestPage,
+    ) -> Result<(u32, GuestPage), Fault> {
+        let pass = self.pass;
+        let Some(number) = self.contents.number(guess, tree, bytes) else {
+            return self.enter(tree, bytes, page);
+        };
+        if let Some(wait) = self.waits.get_mut(number as usize) {
+            if wait.pass == pass {
+                return Ok((number, wait.page));
+            }
+            *wait = Wait { page, pass };
+        }
+        Ok((number, page))
+    }
+
+    #[inline(never)]
+    fn enter(
+        &mut self,
+        tree: u32,
+        bytes: &PageBytes,
+        page: GuestPage,
+    ) -> Result<(u32, GuestPage), Fault> {
+        let wait = Wait {
+            page,
+            pass: self.pass,
+        };
+        if self.contents.len() >= self.most {
+            self.sweep();
+        }
+        self.waits.reserve(1)?;
+        let number = self.contents.enter(tree, bytes)?;
+        match self.waits.get_mut(number as usize) {
+            Some(at) => *at = wait,
+            None => self.waits.push(wait)?,
+        }
+        Ok((number, page))
+    }
+
+    // The contents for which no page waits lose their numbers.
+    fn sweep(&mut self) {
+        for number in 0..self.waits.len() as u32 {
+            if self.waits[number as usize].pass != self.pass {
+                self.contents.forget(number);
+            }
+        }
+        self.most = self.contents.len() + SPARE;
     }
 
     /// The page that waits in a tree with these bytes waits no more, if there is one.
-    pub fn remove(&mut self, tree: u32, bytes: &PageBytes)
-        ensures { IsRemoved tree bytes.now self.old self.new }
-    {
-        self.pages.remove(&Content::of(tree, bytes));
-    }
-
-    /// The pages that wait, in no order.
-    #[tactic(auto, using(crate::proofs::Keys::pages_are))]
-    pub fn pages(&self) -> Values<'_, Content, GuestPage>
-        ensures { result ≡ map (λ w. w.page) self.now }
-    {
-        self.pages.values()
+    pub fn remove(&mut self, guess: u32, tree: u32, bytes: &PageBytes) {
+        let Some(number) = self.contents.number(guess, tree, bytes) else {
+            return;
+        };
+        if let Some(wait) = self.waits.get_mut(number as usize) {
+            wait.pass = 0;
+        }
     }
 
     /// No page waits any more.
-    pub fn clear(&mut self)
-        ensures { self.new ≡ [] }
-    {
-        self.pages.clear();
+    pub fn clear(&mut self) {
+        // A program would have to end so many passes.
+        self.pass = self.pass.saturating_add(1);
     }
 }

@@ -1,0 +1,16 @@
+pub mod command;
+pub mod counters;
+pub mod fault;
+pub mod knobs;
+pub mod page;
+pub mod reply;
+pub mod row;
+pub mod shape;
+pub use self::command::Command;
+pub use self::counters::Counters;
+pub use self::fault::Fault;
+pub use self::knobs::Knobs;
+pub use self::page::{GuestPage, PAGE_WORDS, PageBytes};
+pub use self::reply::Reply;
+pub use self::row::{DupRow, PageState, Row};
+pub use self::shape::Shape;

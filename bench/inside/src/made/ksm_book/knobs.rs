@@ -1,0 +1,101 @@
+//! The commands that set a knob.
+#[allow(unused_imports)]
+use crate::shim::Vec;
+
+
+use crate::ksm_book::state::State;
+use crate::frame_table::FrameTable;
+use crate::ksm_base::{Command, Fault, Knobs, Reply};
+
+impl State {
+    /// Sets how many pages a scan visits.
+    pub fn set_pages_to_scan(&mut self, pages: u32) -> Result<Reply, Fault>
+    {
+        if !(1..=1_000_000).contains(&pages) {
+            return Err(Fault::BadValue);
+        }
+        let knobs = self.pages.knobs;
+        self.pages.set_knobs(Knobs {
+            pages_to_scan: pages,
+            ..knobs
+        });
+        Ok(Reply::Done)
+    }
+
+    // Whether a knob would get another value while pages are shared.
+    fn would_change_shared(&self, knob: u32, value: u32) -> bool
+    {
+        value != knob && self.pages.dups.count_shared() > 0
+    }
+
+    /// Sets whether pages of different nodes may be merged.
+    pub fn set_across(&mut self, table: &FrameTable, across: u32) -> Result<Reply, Fault>
+    {
+        if across > 1 {
+            return Err(Fault::BadValue);
+        }
+        let knobs = self.pages.knobs;
+        if self.would_change_shared(knobs.merge_across_nodes, across) {
+            return Err(Fault::SharedPages);
+        }
+        if across == knobs.merge_across_nodes {
+            return Ok(Reply::Done);
+        }
+        self.drop_stale(table);
+        self.pages.settle_all();
+        self.pages.set_knobs(Knobs {
+            merge_across_nodes: across,
+            ..knobs
+        });
+        Ok(Reply::Done)
+    }
+
+    /// Sets how many items a dup may have.
+    pub fn set_limit(&mut self, table: &FrameTable, limit: u32) -> Result<Reply, Fault>
+    {
+        if !(2..=1024).contains(&limit) {
+            return Err(Fault::BadValue);
+        }
+        let knobs = self.pages.knobs;
+        if self.would_change_shared(knobs.max_page_sharing, limit) {
+            return Err(Fault::SharedPages);
+        }
+        if limit == knobs.max_page_sharing {
+            return Ok(Reply::Done);
+        }
+        self.drop_stale(table);
+        self.pages.set_knobs(Knobs {
+            max_page_sharing: limit,
+            ..knobs
+        });
+        Ok(Reply::Done)
+    }
+
+    /// Sets whether empty pages merge with the zero page.
+    pub fn set_zero_pages(&mut self, zero_pages: u32) -> Result<Reply, Fault>
+    {
+        if zero_pages > 1 {
+            return Err(Fault::BadValue);
+        }
+        let knobs = self.pages.knobs;
+        self.pages.set_knobs(Knobs {
+            use_zero_pages: zero_pages,
+            ..knobs
+        });
+        Ok(Reply::Done)
+    }
+
+    /// Sets whether the scan stands (0) or runs (1), or unmerges all pages (2).
+    pub fn set_run(&mut self, table: &FrameTable, run: u32) -> Result<Reply, Fault>
+    {
+        if run > 2 {
+            return Err(Fault::BadValue);
+        }
+        if run == 2 {
+            return self.unshare(table);
+        }
+        let knobs = self.pages.knobs;
+        self.pages.set_knobs(Knobs { run, ..knobs });
+        Ok(Reply::Done)
+    }
+}

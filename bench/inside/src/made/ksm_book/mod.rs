@@ -1,0 +1,6 @@
+pub mod state;
+pub mod scan;
+pub mod moving;
+pub mod unmerging;
+pub mod knobs;
+

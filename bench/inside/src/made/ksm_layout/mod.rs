@@ -1,0 +1,5 @@
+pub mod frame_set;
+pub mod frame_keeper;
+pub mod mounting;
+pub mod frames;
+pub use self::frame_keeper::FrameKeeper;

@@ -1,0 +1,12 @@
+//! What groups and waiting pages are found by: a tree and the bytes of a page, in an order of its own.
+#[allow(unused_imports)]
+use crate::shim::Vec;
+
+use crate::ksm_base::PageBytes;
+
+/// A tree and the bytes of a page: what a group has in common, and what a page waits for.
+#[derive(Clone, Copy, Debug, PartialEq, Eq, PartialOrd, Ord)]
+pub struct Content {
+    pub tree: u32,
+    pub bytes: PageBytes,
+}

@@ -1,0 +1,92 @@
+//! How many items the dup at each place has, and which places are open: where a dup has an item and fewer than the limit.
+//!
+//! The counts stand by themselves, four bytes each, so a walk along a chain reads no dup but one that may be joined. The open places are
+//! kept only while they are asked for: a store to a merged page may open or close one, and where all chains are short that costs more
+//! than it saves.
+#[allow(unused_imports)]
+use crate::shim::Vec;
+
+use crate::ksm_tree::places::Places;
+use crate::ksm_base::Fault;
+use crate::shim::alloc::Global;
+
+/// How many items the dup at each place has: none where no dup stands. Beside that the places of the open ones, those with an item
+/// and fewer than the limit, in ascending order: of a long chain most dups are full, and a page that looks for one to join passes over them.
+
+pub struct Counts {
+    each: Vec<u32>,
+    limit: u32,
+    open_at: Places,
+}
+
+
+impl Counts {
+    /// No items at so many places, with room for each of them among the open ones. The one fault is `Memory`.
+    pub fn open(alloc: Global, places: u32) -> Result<Counts, Fault>
+    {
+        let room = places as usize;
+        Ok(Counts {
+            each: filled![alloc; 0; room]?,
+            limit: 0,
+            open_at: Places::with_room(alloc, room)?,
+        })
+    }
+
+    /// How many items there are at each place.
+    pub fn each(&self) -> &[u32]
+    {
+        self.each.as_slice()
+    }
+
+    /// The open places, where they are known for this limit.
+    pub fn open_places(&self, limit: u32) -> Option<&[u32]>
+    {
+        if limit != self.limit {
+            return None;
+        }
+        Some(self.open_at.list.as_slice())
+    }
+
+    /// The open places are kept from now on by this limit. By the limit 0 no place is open, and nothing has to be kept.
+    pub fn keep_open(&mut self, limit: u32)
+    {
+        if limit == self.limit {
+            return;
+        }
+        self.limit = limit;
+        open_anew(limit, self.each.as_slice(), &mut self.open_at);
+    }
+
+    /// There are so many items at a place from now on.
+    pub fn set(&mut self, place: u32, count: u32)
+    {
+        let was_open = is_open(self.limit, self.each[place as usize]);
+        let opens = is_open(self.limit, count);
+        self.each[place as usize] = count;
+        if opens == was_open {
+            return;
+        }
+        if opens {
+            self.open_at.insert(place);
+        } else {
+            self.open_at.remove(place);
+        }
+    }
+}
+
+/// Whether a dup with so many items takes one more.
+fn is_open(limit: u32, count: u32) -> bool
+{
+    1 <= count && count < limit
+}
+
+/// The open places by a limit, in the stead of those that there were.
+fn open_anew(limit: u32, counts: &[u32], open_at: &mut Places)
+{
+    open_at.clear();
+    for place in 0..counts.len() as u32 {
+        if is_open(limit, counts[place as usize]) {
+            open_at.insert(place);
+        }
+    }
+}

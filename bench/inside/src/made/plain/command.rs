@@ -1,0 +1,70 @@
+//! Commands, their answers, and what they may set and count.
+
+use crate::rows::Page;
+use crate::table::PageBytes;
+
+#[derive(Clone, Copy)]
+pub enum Command {
+    Register(Page, u32, PageBytes),
+    Drop(Page),
+    Store(Page, PageBytes),
+    Scan(u64),
+    Prune,
+    Unmerge(u32),
+    Mergeable(u32),
+    MovePage(Page, u32),
+    MoveDup(u32, u32),
+    SetRun(u32),
+    SetPagesToScan(u32),
+    SetAcross(u32),
+    SetLimit(u32),
+    SetZeroPages(u32),
+}
+
+#[derive(Clone, Copy)]
+pub enum Reply {
+    Done,
+    Scanned(u64),
+    Pruned(u64),
+    Unmerged(u64, Option<Fault>),
+}
+
+/// A refusal, with its number.
+#[derive(Clone, Copy, PartialEq, Eq)]
+pub enum Fault {
+    Memory = 1,
+    UnknownPage = 2,
+    AlreadyRegistered = 3,
+    NoFrame = 4,
+    NotRunning = 5,
+    SharedPages = 6,
+    BadValue = 7,
+    InUse = 8,
+    CrossesNodes = 9,
+    UnknownPlace = 10,
+    BadNode = 11,
+    NoPass = 12,
+    Holding = 13,
+    NotHolding = 14,
+}
+
+pub type Answer = Result<Reply, Fault>;
+
+pub struct Knobs {
+    pub run: u32,
+    pub pages_to_scan: u32,
+    pub merge_across_nodes: u32,
+    pub max_page_sharing: u32,
+    pub use_zero_pages: u32,
+}
+
+#[derive(Default)]
+pub struct Counters {
+    pub shared: u64,
+    pub merged: u64,
+    pub waiting: u64,
+    pub zero: u64,
+    pub chains: u64,
+    pub dups: u64,
+    pub full_scans: u64,
+}
