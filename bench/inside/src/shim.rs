@@ -210,6 +210,10 @@ pub mod slab {
             Ok(())
         }
 
+        pub fn capacity(&self) -> usize {
+            self.entries.capacity()
+        }
+
         pub fn vacant_key(&self) -> usize {
             self.next
         }

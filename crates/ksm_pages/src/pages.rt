@@ -3,7 +3,7 @@
 use crate::row::{Entry, Kind, all_zero};
 use crate::rows::Rows;
 use ksm_base::{Fault, GuestPage, Knobs, PageBytes, Shape};
-use ksm_tree::{Best, Choice, Dups, NO_NUMBER, Waiting};
+use ksm_tree::{Best, Choice, Dups, NO_NUMBER, same_bytes};
 use std::alloc::Global;
 
 /// The rows, the dups with their frames, the pages that wait, and the knobs, which say what tree a row is in.
@@ -13,14 +13,15 @@ pub struct Pages {
     pub rows: Rows,
     pub dups: Dups,
     frames: Vec<u32>,
-    waiting: Waiting,
     pub knobs: Knobs,
 }
 
 /// What a visit comes to, before anything has changed.
 pub enum Find {
-    /// The row joins a dup, on this frame.
-    Dup(Best, u32),
+    /// The row is not there, or can't be changed by a visit.
+    Gone,
+    /// It joins a dup.
+    Dup(Best),
     /// It becomes unchanged.
     Changed,
     /// It goes to the zero page.
@@ -40,7 +41,6 @@ pub fn fresh(page: GuestPage, node: u32, bytes: PageBytes) -> Entry {
         at: 0,
         home: node,
         group: NO_NUMBER,
-        wait: NO_NUMBER,
         kind: Kind::Own,
         mergeable: true,
         unchanged: false,
@@ -55,7 +55,6 @@ impl Pages {
             rows: Rows::new(alloc),
             dups: Dups::open(alloc, places)?,
             frames: vec![in alloc; 0; places as usize]?,
-            waiting: Waiting::new(alloc),
             knobs: Knobs::DEFAULT,
         })
     }
@@ -114,8 +113,8 @@ impl Pages {
             return;
         };
         if entry.is_waiting(self.rows.pass()) {
-            self.waiting
-                .remove(entry.wait, tree_in(&self.knobs, entry.home), &entry.bytes);
+            self.dups
+                .stop_waiting(entry.group, tree_in(&self.knobs, entry.home), &entry.bytes);
             self.rows.stop_waiting(key);
         }
     }
@@ -155,41 +154,40 @@ impl Pages {
         let Some(entry) = self.rows.at(key) else {
             return;
         };
-        if entry.bytes != *bytes {
+        if !same_bytes(&entry.bytes, bytes) {
             self.rows.write(key, bytes);
             self.rows.set_unchanged(key, false);
         }
     }
 
-    /// What the visit of a row of its own comes to. Refused for memory alone, it changes nothing.
+    /// What the visit of a row comes to, if it is of this page and may be changed. Refused for memory alone, it changes nothing.
     #[inline(always)]
-    pub fn visit(&mut self, key: u32) -> Result<Find, Fault> {
-        let Some(entry) = self.rows.at(key) else {
-            return Ok(Find::Waits);
+    pub fn visit(&mut self, key: u32, page: GuestPage) -> Result<Find, Fault> {
+        let Some(entry) = self.rows.entries.get_mut(key as usize) else {
+            return Ok(Find::Gone);
         };
+        if entry.page != page || !entry.is_restless() {
+            return Ok(Find::Gone);
+        }
         let tree = tree_in(&self.knobs, entry.home);
         let group = self.dups.group(entry.group, tree, &entry.bytes)?;
-        let guess = entry.group;
+        entry.group = group;
         if let Some(best) = self.dups.best_of(group, self.knobs.max_page_sharing) {
-            return Ok(Find::Dup(best, self.dup_frame(best.place)));
+            return Ok(Find::Dup(best));
         }
         if !entry.unchanged {
-            self.rows.set_unchanged(key, true);
-            self.rows.set_group(key, group);
+            entry.unchanged = true;
             return Ok(Find::Changed);
         }
         if self.knobs.use_zero_pages == 1 && all_zero(&entry.bytes) {
             return Ok(Find::Zero);
         }
-        let page = entry.page;
-        let (number, other) = self.waiting.meet(entry.wait, tree, &entry.bytes, page)?;
-        if group != guess {
-            self.rows.set_group(key, group);
-        }
+        let other = self.dups.meet(group, page);
         if other != page {
             return Ok(Find::Partner(other));
         }
-        self.rows.wait(key, number);
+        entry.number = self.rows.pass;
+        self.rows.tally.waiting += 1;
         Ok(Find::Waits)
     }
 
@@ -235,13 +233,13 @@ impl Pages {
     /// No row waits any more.
     pub fn settle_all(&mut self) {
         self.rows.settle_all();
-        self.waiting.clear();
+        self.dups.clear_waiting();
     }
 
     /// Every row is Private and not unchanged.
     pub fn unshare_all(&mut self) {
         self.rows.unshare_all();
-        self.waiting.clear();
+        self.dups.clear_waiting();
     }
 
     /// The row is out of the scan, Private and not unchanged.

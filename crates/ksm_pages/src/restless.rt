@@ -38,6 +38,10 @@ impl Restless {
         self.known = true;
     }
 
+    pub fn len(&self) -> usize {
+        self.list.len()
+    }
+
     // How many come before a page.
     fn place_of(&self, page: GuestPage) -> usize {
         self.list.as_slice().partition_point(|listed| listed.page < page)

@@ -23,9 +23,8 @@ pub struct Entry {
     /// Of a row of its own the frame, of a merged one the place of its dup.
     pub at: u32,
     pub home: u32,
-    /// Which group the row was in last, and by which number it waited last: these are guesses.
+    /// Which group the row was in last: a guess.
     pub group: u32,
-    pub wait: u32,
     pub kind: Kind,
     pub mergeable: bool,
     pub unchanged: bool,

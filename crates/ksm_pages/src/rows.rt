@@ -18,12 +18,12 @@ pub struct Tally {
 /// The rows.
 #[derive(Drop)]
 pub struct Rows {
-    entries: Slab<Entry>,
+    pub(crate) entries: Slab<Entry>,
     order: Order,
     restless: Restless,
-    tally: Tally,
+    pub(crate) tally: Tally,
     /// One more whenever no row waits any longer.
-    pass: u64,
+    pub(crate) pass: u64,
 }
 
 impl Rows {
@@ -179,17 +179,6 @@ impl Rows {
         }
     }
 
-    /// A row of its own waits from now on.
-    #[inline(always)]
-    pub fn wait(&mut self, key: u32, wait: u32) {
-        let pass = self.pass;
-        if let Some(entry) = self.entries.get_mut(key as usize) {
-            entry.number = pass;
-            entry.wait = wait;
-            self.tally.waiting += 1;
-        }
-    }
-
     /// A row of its own waits no more.
     #[inline(always)]
     pub fn stop_waiting(&mut self, key: u32) {
@@ -199,13 +188,6 @@ impl Rows {
                 entry.number = 0;
                 self.tally.waiting -= 1;
             }
-        }
-    }
-
-    #[inline(always)]
-    pub fn set_group(&mut self, key: u32, group: u32) {
-        if let Some(entry) = self.entries.get_mut(key as usize) {
-            entry.group = group;
         }
     }
 
@@ -310,6 +292,10 @@ impl Rows {
 
     pub fn restless_up_to(&self, cursor: Option<GuestPage>) -> usize {
         self.restless.up_to(cursor)
+    }
+
+    pub fn restless_len(&self) -> usize {
+        self.restless.len()
     }
 
     #[inline(always)]

@@ -8,3 +8,13 @@ pub struct Content {
     pub tree: u32,
     pub bytes: PageBytes,
 }
+
+/// Whether two pages read the same.
+#[inline(always)]
+pub fn same_bytes(one: &PageBytes, other: &PageBytes) -> bool {
+    let mut differ = 0;
+    for i in 0..one.len() {
+        differ |= one[i] ^ other[i];
+    }
+    differ == 0
+}

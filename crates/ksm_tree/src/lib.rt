@@ -3,7 +3,6 @@
 
 mod choice;
 mod content;
-mod contents;
 mod dup;
 mod dups;
 mod groups;
@@ -11,8 +10,7 @@ mod item_counts;
 mod places;
 mod slots;
 mod totals;
-mod waiting;
 
 pub use choice::Choice;
-pub use dups::{Best, Dups};
-pub use waiting::{NO_NUMBER, Waiting};
+pub use content::same_bytes;
+pub use dups::{Best, Dups, NO_NUMBER};

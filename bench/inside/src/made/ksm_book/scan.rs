@@ -17,6 +17,8 @@ enum Visited {
     Changed,
     // A visit leaves the row as it is from now on.
     Shared,
+    // The row is none that a visit may change.
+    Gone,
 }
 
 // Where a part of a pass stopped for memory: at the page that was not visited.
@@ -98,15 +100,21 @@ impl State {
         let mut kept = first;
         let mut quiet = true;
         let mut refused = None;
-        while let Some(listed) = self.pages.rows.restless_at(next) {
-            if let Some(last) = last {
-                if listed.page > last {
-                    break;
-                }
-            }
+        let end = match last {
+            Some(_) => self.pages.rows.restless_up_to(last),
+            None => self.pages.rows.restless_len(),
+        };
+        while next < end {
+            let Some(listed) = self.pages.rows.restless_at(next) else {
+                break;
+            };
             match self.visit(table, listed.key, listed.page) {
                 Ok(Visited::Same) => {}
                 Ok(Visited::Changed) => quiet = false,
+                Ok(Visited::Gone) => {
+                    next += 1;
+                    continue;
+                }
                 Ok(Visited::Shared) => {
                     quiet = false;
                     next += 1;
@@ -133,14 +141,12 @@ impl State {
     // What becomes of the page that is visited. Where memory is refused, nothing becomes of it.
     #[inline(always)]
     fn visit(&mut self, table: &FrameTable, key: u32, page: GuestPage) -> Result<Visited, Fault> {
-        match self.pages.rows.at(key) {
-            Some(entry) if entry.page == page && entry.is_restless() => {}
-            _ => return Ok(Visited::Shared),
-        }
-        match self.pages.visit(key)? {
+        match self.pages.visit(key, page)? {
+            Find::Gone => Ok(Visited::Gone),
             Find::Waits => Ok(Visited::Same),
             Find::Changed => Ok(Visited::Changed),
-            Find::Dup(best, frame) => {
+            Find::Dup(best) => {
+                let frame = self.pages.dup_frame(best.place);
                 let lone = self.pages.join(key, best)?;
                 share(&mut self.keeper, table, frame);
                 self.release(table, lone);

@@ -6,11 +6,13 @@ use crate::ksm_tree::choice::Choice;
 use crate::ksm_tree::dup::Dup;
 use crate::ksm_tree::groups::Groups;
 use crate::ksm_tree::slots::Slots;
-use crate::ksm_tree::waiting::NO_NUMBER;
 use crate::ksm_base::{DupRow, Fault, GuestPage, Knobs, PageBytes};
 use crate::ksm_rmap::Items;
 use crate::shim::alloc::Global;
 use crate::shim::collections::HashMap;
+
+/// Where a number is not known.
+pub const NO_NUMBER: u32 = u32::MAX;
 
 // A chain of no more dups than this is walked along as a whole.
 const SHORT_CHAIN: usize = 16;
@@ -62,7 +64,7 @@ impl Dups {
     /// The dup of a group that a page joins.
     #[inline(always)]
     pub fn best_of(&self, group: u32, limit: u32) -> Option<Best> {
-        let chain = self.groups.chain(group);
+        let chain = self.groups.places(group);
         if chain.is_empty() {
             return None;
         }
@@ -95,6 +97,25 @@ impl Dups {
             }),
             None => None,
         }
+    }
+
+    /// The page that waits in a group from now on: the one that did, or else this one.
+    #[inline(always)]
+    pub fn meet(&mut self, group: u32, page: GuestPage) -> GuestPage {
+        self.groups.meet(group, page)
+    }
+
+    /// The page that waits in a tree with these bytes waits no more.
+    #[inline(always)]
+    pub fn stop_waiting(&mut self, guess: u32, tree: u32, bytes: &PageBytes) {
+        if let Some(group) = self.groups.number(guess, tree, bytes) {
+            self.groups.stop_waiting(group);
+        }
+    }
+
+    /// No page waits any more.
+    pub fn clear_waiting(&mut self) {
+        self.groups.clear_waiting();
     }
 
     /// Where a new dup goes: the least empty place, or where there is none that of the first stale dup.

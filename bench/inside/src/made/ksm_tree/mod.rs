@@ -1,14 +1,12 @@
 pub mod slots;
-pub mod contents;
 pub mod totals;
 pub mod content;
 pub mod groups;
 pub mod places;
 pub mod item_counts;
-pub mod waiting;
 pub mod dups;
 pub mod dup;
 pub mod choice;
 pub use self::choice::Choice;
-pub use self::dups::{Best, Dups};
-pub use self::waiting::{NO_NUMBER, Waiting};
+pub use self::content::same_bytes;
+pub use self::dups::{Best, Dups, NO_NUMBER};
