@@ -1,5 +1,5 @@
 //! A run of pages in order, with how many of them a scan visits.
-ghost use Rattle.std.specs.Prelude.{◌≡◌, ℕ, ◌<◌, ◌≤◌, [], None, true, false, IfErr, IsTrue, OnErr, OnOk, count_by, filter, find, length, option_copied, slice_index_or};
+ghost use Rattle.std.specs.Prelude.{◌≡◌, ℕ, ◌<◌, ◌≤◌, [], None, true, false, IfErr, IsTrue, OnErr, OnOk, count_by, filter, find, length, is_some, option_copied, slice_index_or};
 ghost use Rattle.ksm_base.specs.Rows.{comes_before};
 ghost use Rattle.ksm_order.specs.Ordered.{AreAscending, is_of, with_named, without_named, marked};
 
@@ -36,6 +36,17 @@ fn place_of(pages: &[Named], page: GuestPage) -> usize
     pages.partition_point(|named| named.page < page)
 }
 
+/// Whether a page stands at a place, that of the page.
+fn stands_at(pages: &[Named], at: usize, page: GuestPage) -> bool
+    requires order { AreAscending pages.now }
+    requires place { at ≡ length (filter (λ n. comes_before n.page page) pages.now) }
+    ensures found { result ≡ is_some (find (is_of page) pages.now) }
+    ensures within { IsTrue result → at < length pages.now }
+    ensures here { IsTrue result → (d : Named) → is_of page (slice_index_or pages.now at d) ≡ true }
+{
+    at < pages.len() && pages[at].page == page
+}
+
 impl Run {
     /// No pages.
     pub fn new(alloc: Global) -> Run
@@ -66,9 +77,11 @@ impl Run {
         ensures { result ≡ find (is_of page) self.now }
     {
         let pages = self.pages.as_slice();
-        match pages.get(place_of(pages, page)) {
-            Some(named) if named.page == page => Some(*named),
-            _ => None,
+        let at = place_of(pages, page);
+        if stands_at(pages, at, page) {
+            Some(pages[at])
+        } else {
+            None
         }
     }
 
@@ -81,9 +94,7 @@ impl Run {
     {
         let at = place_of(self.pages.as_slice(), named.page);
         self.pages.insert(at, named)?;
-        if named.mergeable {
-            self.mergeable += 1;
-        }
+        self.mergeable += usize::from(named.mergeable);
         Ok(())
     }
 
@@ -92,11 +103,9 @@ impl Run {
         ensures { self.new ≡ without_named page self.old }
     {
         let at = place_of(self.pages.as_slice(), page);
-        if at < self.pages.len() && self.pages[at].page == page {
+        if stands_at(self.pages.as_slice(), at, page) {
             let gone = self.pages.remove(at);
-            if gone.mergeable {
-                self.mergeable -= 1;
-            }
+            self.mergeable -= usize::from(gone.mergeable);
         }
     }
 
@@ -105,16 +114,10 @@ impl Run {
         ensures { self.new ≡ marked page mergeable self.old }
     {
         let at = place_of(self.pages.as_slice(), page);
-        if at < self.pages.len() && self.pages[at].page == page {
+        if stands_at(self.pages.as_slice(), at, page) {
             let named = self.pages[at];
-            if named.mergeable != mergeable {
-                self.pages[at] = Named { mergeable, ..named };
-                if mergeable {
-                    self.mergeable += 1;
-                } else {
-                    self.mergeable -= 1;
-                }
-            }
+            self.pages[at] = Named { mergeable, ..named };
+            self.mergeable = self.mergeable - usize::from(named.mergeable) + usize::from(mergeable);
         }
     }
 }
