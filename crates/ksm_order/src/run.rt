@@ -78,7 +78,8 @@ impl Run {
     {
         let pages = self.pages.as_slice();
         let at = place_of(pages, page);
-        if stands_at(pages, at, page) {
+        let found = stands_at(pages, at, page);
+        if found {
             Some(pages[at])
         } else {
             None
@@ -103,7 +104,8 @@ impl Run {
         ensures { self.new ≡ without_named page self.old }
     {
         let at = place_of(self.pages.as_slice(), page);
-        if stands_at(self.pages.as_slice(), at, page) {
+        let found = stands_at(self.pages.as_slice(), at, page);
+        if found {
             let gone = self.pages.remove(at);
             self.mergeable -= usize::from(gone.mergeable);
         }
@@ -114,7 +116,8 @@ impl Run {
         ensures { self.new ≡ marked page mergeable self.old }
     {
         let at = place_of(self.pages.as_slice(), page);
-        if stands_at(self.pages.as_slice(), at, page) {
+        let found = stands_at(self.pages.as_slice(), at, page);
+        if found {
             let named = self.pages[at];
             self.pages[at] = Named { mergeable, ..named };
             self.mergeable = self.mergeable - usize::from(named.mergeable) + usize::from(mergeable);

@@ -10,7 +10,7 @@ pub returns-then-at-pages-clause-found : goal.returns-then-at-pages-clause-found
 returns-then-at-pages-clause-found c =
     let page = c.args.page in
     let pages = c.args.pages.now in
-    let d : Named = record { page = page; key = 0; mergeable = false } in
+    let d : Named = record { page = record { guest = 0; page = 0 }; key = 0; mergeable = false } in
     let within : length (filter (λ n. comes_before n.page page) pages) < length pages = omega (arith, c.requires.place) in
     c.eq.ensures ∙ ap (λ n. same_page (get_or pages n d).page page) c.requires.place ∙ sym (found_by (λ n. n.page) page pages d c.requires.order within)
 
