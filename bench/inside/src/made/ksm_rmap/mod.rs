@@ -1,2 +1,0 @@
-pub mod items;
-pub use self::items::Items;
