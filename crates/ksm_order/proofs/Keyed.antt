@@ -1,14 +1,16 @@
 -- Lists in the order of their pages: where a page stands or would stand, and what an insert, a removal or a write there leaves.
-use Rattle.std.proofs.Common.{◌≡◌, ℕ, zero, suc, ◌<◌, ◌≤◌, Bool, true, false, true≢false, List, [], ◌∷◌, ◌++◌, Option, Some, None, is_some, length, get_or, refl, sym, ap, ◌∙◌, inl, inr, arith}
-use Rattle.std.specs.Prelude.{not, All, AllPairs, filter, find, insert, map, remove, set, if◌then◌else◌}
+use Rattle.std.proofs.Common.{◌≡◌, ℕ, suc, ◌+◌, ◌-◌, ◌<◌, ◌≤◌, Bool, true, false, true≢false, List, [], ◌∷◌, ◌++◌, Option, Some, None, is_some, length, get_or, refl, sym, ap, ◌∙◌, inl, inr, arith}
+use Rattle.std.specs.Prelude.{cond, not, All, AllPairs, count_by, filter, find, insert, map, remove, set, if◌then◌else◌}
+use Rattle.std.specs.Int.{from_bool}
 use Rattle.std.specs.List.Sorted.{IsPartitionedBy}
 use Rattle.std.proofs.lemmas.Bool.{cases_Bool, cases_lt}
 use Rattle.std.proofs.lemmas.List.Elements.{All-weaker, All-cons, filter_passes}
 use Rattle.std.proofs.lemmas.List.Filters.{length-filter_both}
 use Rattle.std.proofs.lemmas.List.Kept.{AllPairs-cons, AllPairs-filter}
+use Rattle.std.proofs.lemmas.List.Sums.{sum_by-remove, sum_by-set}
 use Rattle.ksm_base.specs.declared.page.GuestPage.{GuestPage}
 use Rattle.ksm_base.specs.Rows.{comes_before, same_page}
-use Rattle.ksm_rmap.proofs.Ordered.{pairs_tail, pairs_append, filter_none, filter_all}
+use Rattle.ksm_rmap.proofs.Ordered.{pairs_head, pairs_tail, pairs_append, filter_none, filter_all}
 use Rattle.ksm_rmap.proofs.Pages.{pages_ordered}
 
 -- what is not something is nothing
@@ -16,10 +18,43 @@ pub none_of : {X : Type 0} (found : Option X) → is_some found ≡ false → fo
 none_of None none = refl
 none_of (Some x) none = absurd (true≢false none)
 
+-- what is counted for a yes and a no
+byte_of : (b : Bool) → from_bool b ≡ cond b 1 0
+byte_of true = refl
+byte_of false = refl
+
+-- how many pass once one is taken out
+pub count_removed : {X : Type 0} (p : X → Bool) (xs : List X) (i : ℕ) (d : X) (many gone : ℕ) → i < length xs → many ≡ count_by p xs → gone ≡ from_bool (p (get_or xs i d)) → many - gone ≡ count_by p (remove xs i)
+count_removed p xs i d many gone within counted taken =
+    let less : count_by p (remove xs i) + cond (p (get_or xs i d)) 1 0 ≡ count_by p xs = sum_by-remove (λ x. cond (p x) 1 0) xs i d within in
+    let one : gone ≡ cond (p (get_or xs i d)) 1 0 = taken ∙ byte_of _ in
+    omega (arith, less, counted, one)
+
+-- how many pass once one is changed
+pub count_changed : {X : Type 0} (p : X → Bool) (xs : List X) (i : ℕ) (y d : X) (many gone come : ℕ) → i < length xs → many ≡ count_by p xs → gone ≡ from_bool (p (get_or xs i d)) → come ≡ from_bool (p y) → many - gone + come ≡ count_by p (set xs i y)
+count_changed p xs i y d many gone come within counted taken put =
+    let less : count_by p (remove xs i) + cond (p (get_or xs i d)) 1 0 ≡ count_by p xs = sum_by-remove (λ x. cond (p x) 1 0) xs i d within in
+    let both : count_by p (set xs i y) + cond (p (get_or xs i d)) 1 0 ≡ count_by p xs + cond (p y) 1 0 = sum_by-set (λ x. cond (p x) 1 0) xs i y d within in
+    let one : gone ≡ cond (p (get_or xs i d)) 1 0 = taken ∙ byte_of _ in
+    let other : come ≡ cond (p y) 1 0 = put ∙ byte_of _ in
+    omega (arith, less, both, counted, one, other)
+
 module _ {X : Type 0} (key : X → GuestPage) where
   -- one page comes before the other
   abbrev Before : X → X → Type 0
   Before a b = comes_before (key a) (key b) ≡ true
+
+  changed_behind : (g : X → X) → ((y : X) → key (g y) ≡ key y) → (x : X) (ys : List X) → All (Before x) ys → All (Before (g x)) (map g ys)
+  changed_behind g same x [] all = λ k d lt. absurd (omega arith)
+  changed_behind g same x (y ∷ ys) all =
+      let here : comes_before (key (g x)) (key (g y)) ≡ true = rw (same x) (rw (same y) (all 0 y (omega arith))) in
+      All-cons (Before (g x)) (g y) (map g ys) here (changed_behind g same x ys (λ k d lt. all (suc k) d (omega arith)))
+
+  -- changes that keep the pages keep the order
+  changed_rises : (g : X → X) → ((y : X) → key (g y) ≡ key y) → (xs : List X) → AllPairs Before xs → AllPairs Before (map g xs)
+  changed_rises g same [] rise = λ i j d less lt. absurd (omega arith)
+  changed_rises g same (y ∷ ys) rise =
+      AllPairs-cons Before (g y) (map g ys) (changed_behind g same y ys (pairs_head Before y ys rise)) (changed_rises g same ys (pairs_tail Before y ys rise))
 
   module _ (page : GuestPage) where
     abbrev low : X → Bool
@@ -189,6 +224,21 @@ module _ {X : Type 0} (key : X → GuestPage) where
         let rest = kept_all f ys (λ k d lt. none (suc k) d (omega arith)) in
         grind (arith, here, rest)
 
+    absent_unchanged_all : (f : X → X) (xs : List X) → find is_it xs ≡ None → map (λ y. if is_it y then f y else y) xs ≡ xs
+    absent_unchanged_all f [] absent = refl
+    absent_unchanged_all f (y ∷ ys) absent =
+        elim (cases_Bool (is_it y)) [
+          | inl equal ↦ absurd (grind (arith, equal, absent))
+          | inr differ ↦
+              let absent_rest : find is_it ys ≡ None = grind (arith, absent, differ) in
+              let rest = absent_unchanged_all f ys absent_rest in
+              grind (arith, differ, rest)
+        ]
+
+    -- a change of a page that is not there leaves the list
+    pub absent_unchanged : (f : X → X) (xs : List X) → find is_it xs ≡ None → xs ≡ map (λ y. if is_it y then f y else y) xs
+    absent_unchanged f xs absent = sym (absent_unchanged_all f xs absent)
+
     -- a page that is there is changed by a write behind those before it
     pub write_at : (f : X → X) (xs : List X) (d : X) → AllPairs Before xs → length (filter low xs) < length xs → is_it (get_or xs (length (filter low xs)) d) ≡ true → set xs (length (filter low xs)) (f (get_or xs (length (filter low xs)) d)) ≡ map (λ y. if is_it y then f y else y) xs
     write_at f [] d rise within here = absurd (omega arith)
@@ -222,11 +272,19 @@ module _ {X : Type 0} (key : X → GuestPage) where
         let all_above : All (Before x) above = All-weaker (λ z. high z ≡ true) (Before x) behind above (filter_passes high xs) in
         let ahead : (y : X) → low y ≡ true → Before y x = λ y l. ap (comes_before (key y)) at ∙ l in
         let cross : All (λ y. All (Before y) (x ∷ above)) below =
-            All-weaker (λ y. low y ≡ true) (λ y. All (Before y) (x ∷ above))
-            (λ y l. All-cons (Before y) x above (ahead y l) (All-weaker (λ z. high z ≡ true) (Before y) (λ z h. pages_ordered.trans (key y) page (key z) l h) above (filter_passes high xs)))
-            below (filter_passes low xs) in
+        All-weaker (λ y. low y ≡ true) (λ y. All (Before y) (x ∷ above))
+        (λ y l. All-cons (Before y) x above (ahead y l) (All-weaker (λ z. high z ≡ true) (Before y) (λ z h. pages_ordered.trans (key y) page (key z) l h) above (filter_passes high xs)))
+        below (filter_passes low xs) in
         pairs_append Before below (x ∷ above) (AllPairs-filter Before low xs rise)
         (AllPairs-cons Before x above all_above (AllPairs-filter Before high xs rise)) cross
 
     pub without_rises : (xs : List X) → AllPairs Before xs → AllPairs Before (filter (λ y. not (is_it y)) xs)
     without_rises xs rise = AllPairs-filter Before (λ y. not (is_it y)) xs rise
+
+    pub write_rises : (f : X → X) → ((y : X) → key (f y) ≡ key y) → (xs : List X) → AllPairs Before xs → AllPairs Before (map (λ y. if is_it y then f y else y) xs)
+    write_rises f same xs rise =
+        changed_rises (λ y. if is_it y then f y else y)
+        (λ y. elim (cases_Bool (is_it y)) [
+          | inl equal ↦ let kept = same y in grind (arith, equal, kept)
+          | inr differ ↦ grind (arith, differ)
+        ]) xs rise

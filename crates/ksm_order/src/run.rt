@@ -79,11 +79,7 @@ impl Run {
         let pages = self.pages.as_slice();
         let at = place_of(pages, page);
         let found = stands_at(pages, at, page);
-        if found {
-            Some(pages[at])
-        } else {
-            None
-        }
+        if found { Some(pages[at]) } else { None }
     }
 
     /// Adds a page that is not there. The one fault is `Memory`, and then nothing changes.

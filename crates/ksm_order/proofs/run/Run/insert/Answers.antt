@@ -1,4 +1,4 @@
-use Rattle.std.proofs.Common.{◌≡◌, ◌∙◌, length, refl, sym, ap, arith}
+use Rattle.std.proofs.Common.{◌≡◌, ◌∙◌, length, refl, ap, arith}
 use Rattle.std.specs.Prelude.{cond, count_by, filter, insert}
 use Rattle.std.proofs.lemmas.List.Sums.{sum_by-insert}
 use Rattle.ksm_base.specs.Rows.{comes_before}

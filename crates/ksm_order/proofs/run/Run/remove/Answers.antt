@@ -1,10 +1,10 @@
-use Rattle.std.proofs.Common.{◌≡◌, ◌∙◌, ◌<◌, false, true, refl, get_or, is_some, length, sym, ap, arith}
-use Rattle.std.specs.Prelude.{cond, count_by, filter, find, remove}
-use Rattle.std.proofs.lemmas.List.Sums.{sum_by-remove}
+use Rattle.std.proofs.Common.{◌≡◌, ◌∙◌, ◌<◌, false, true, refl, get_or, is_some, length, sym, ap}
+use Rattle.std.specs.Prelude.{count_by, filter, find, remove}
+use Rattle.std.specs.Int.{from_bool}
 use Rattle.ksm_base.specs.Rows.{comes_before, same_page}
 use Rattle.ksm_order.specs.declared.named.Named.{Named}
 use Rattle.ksm_order.specs.Ordered.{is_of, without_named}
-use Rattle.ksm_order.proofs.Keyed.{remove_at, absent_kept, none_of, without_rises}
+use Rattle.ksm_order.proofs.Keyed.{count_removed, remove_at, absent_kept, none_of, without_rises}
 use Rattle.ksm_order.proofs.run.Run.remove.Goals as goal
 
 -- the page is taken out behind those before it
@@ -24,11 +24,11 @@ pub invariant_of-self : goal.invariant_of-self
 invariant_of-self c = record {
   ascending = rw (removed c) (without_rises (λ n. n.page) c.args.page c.self.inside.pages.items c.self.invariant.ascending);
   counted =
-      let d : Named = record { page = c.args.page; key = 0; mergeable = false } in
       let within : c.place_of-at.result < length c.self.inside.pages.items = rw (← c.as_slice-2.ensures.value) (c.if-found.ensures.within refl) in
-      let less = sum_by-remove (λ (n : Named). cond n.mergeable 1 0) c.self.inside.pages.items c.place_of-at.result d within in
-      let items = ap (count_by (λ n. n.mergeable)) c.remove-gone.ensures.items in
-      grind (arith, c.self.invariant.counted, items, less);
+      let gone = c.remove-gone.result in
+      let taken = c.from.ensures ∙ ap (λ (n : Named). from_bool n.mergeable) c.remove-gone.ensures.value in
+      count_removed (λ (n : Named). n.mergeable) c.self.inside.pages.items c.place_of-at.result gone c.self.inside.mergeable c.from.result within c.self.invariant.counted taken
+      ∙ ap (count_by (λ n. n.mergeable)) (sym c.remove-gone.ensures.items);
 }
 
 pub returns-then-found : goal.returns-then-found
