@@ -77,17 +77,17 @@ module _ {X : Type 0} (key : X → GuestPage) where
     none_low : (ys : List X) → All (λ z. high z ≡ true) ys → All (λ z. low z ≡ false) ys
     none_low ys behind k d lt = pages_ordered.asym page (key (get_or ys k d)) (behind k d lt)
 
-    none_same : (ys : List X) → All (λ z. high z ≡ true) ys → All (λ z. is_it z ≡ false) ys
+    pub none_same : (ys : List X) → All (λ z. high z ≡ true) ys → All (λ z. is_it z ≡ false) ys
     none_same ys behind k d lt = pages_ordered.apart_back page (key (get_or ys k d)) (behind k d lt)
 
-    behind_rest : (y : X) (ys : List X) → AllPairs Before (y ∷ ys) → high y ≡ true → All (λ z. high z ≡ true) ys
+    pub behind_rest : (y : X) (ys : List X) → AllPairs Before (y ∷ ys) → high y ≡ true → All (λ z. high z ≡ true) ys
     behind_rest y ys rise here k d lt = pages_ordered.trans page (key y) (key (get_or ys k d)) here (rise 0 (suc k) d (omega arith) (omega arith))
 
     behind_it : (y : X) (ys : List X) → AllPairs Before (y ∷ ys) → is_it y ≡ true → All (λ z. high z ≡ true) ys
     behind_it y ys rise equal k d lt =
         ap (λ p. comes_before p (key (get_or ys k d))) (sym (pages_ordered.same_eq (key y) page equal)) ∙ rise 0 (suc k) d (omega arith) (omega arith)
 
-    not_found : (ys : List X) → All (λ z. is_it z ≡ false) ys → find is_it ys ≡ None
+    pub not_found : (ys : List X) → All (λ z. is_it z ≡ false) ys → find is_it ys ≡ None
     not_found [] none = refl
     not_found (y ∷ ys) none =
         let here : is_it y ≡ false = none 0 y (omega arith) in
@@ -217,7 +217,7 @@ module _ {X : Type 0} (key : X → GuestPage) where
               grind (arith, differ, rest)
         ]
 
-    kept_all : (f : X → X) (ys : List X) → All (λ z. is_it z ≡ false) ys → map (λ y. if is_it y then f y else y) ys ≡ ys
+    pub kept_all : (f : X → X) (ys : List X) → All (λ z. is_it z ≡ false) ys → map (λ y. if is_it y then f y else y) ys ≡ ys
     kept_all f [] none = refl
     kept_all f (y ∷ ys) none =
         let here : is_it y ≡ false = none 0 y (omega arith) in
