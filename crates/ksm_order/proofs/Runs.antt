@@ -11,11 +11,22 @@ use Rattle.ksm_base.specs.declared.page.GuestPage.{GuestPage}
 use Rattle.ksm_base.specs.Rows.{comes_before, same_page}
 use Rattle.ksm_rmap.proofs.Ordered.{pairs_head, pairs_tail, filter_none, filter_all}
 use Rattle.ksm_rmap.proofs.Pages.{pages_ordered}
+use Rattle.ksm_order.specs.declared.named.Named.{Named}
+use Rattle.ksm_order.specs.Ordered.{begins_behind}
 use Rattle.ksm_order.proofs.Keyed.{behind_rest, kept_all, none_same, not_found}
 
 or_none : {X : Type 0} (found : Option X) → option_or found None ≡ found
 or_none None = refl
 or_none (Some x) = refl
+
+-- a run that is filled begins behind a page where its first does; one that is not never does
+pub begins_filled : (page : GuestPage) (run : List Named) (d : Named) → 0 < length run → begins_behind page run ≡ comes_before page (get_or run 0 d).page
+begins_filled page [] d filled = absurd (omega arith)
+begins_filled page (n ∷ ns) d filled = refl
+
+pub begins_empty : (page : GuestPage) (run : List Named) → length run ≡ 0 → begins_behind page run ≡ false
+begins_empty page [] empty = refl
+begins_empty page (n ∷ ns) empty = absurd (omega (arith, empty))
 
 module _ {X : Type 0} (key : X → GuestPage) (page : GuestPage) where
   abbrev Before : X → X → Type 0

@@ -1,5 +1,5 @@
 -- Pages in order, each with the key of its row, and whether a scan visits it. (own)
-use Rattle.std.specs.Prelude.{◌≡◌, ℕ, Bool, true, not, ◌&&◌, List, ◌∷◌, ◌++◌, AllPairs, count_by, filter, map, Option, if◌then◌else◌}
+use Rattle.std.specs.Prelude.{◌≡◌, ◌≢◌, ℕ, Bool, true, false, not, ◌&&◌, List, [], ◌∷◌, ◌++◌, All, AllPairs, count_by, filter, flat_map, length, map, Option, if◌then◌else◌}
 use Rattle.ksm_base.specs.declared.page.GuestPage.{GuestPage}
 use Rattle.ksm_base.specs.Rows.{comes_before, same_page}
 use Rattle.ksm_base.specs.Visit.{after_cursor}
@@ -33,3 +33,19 @@ ahead_of cursor named = filter (λ n. n.mergeable && after_cursor cursor n.page)
 pub record IsRun (named : List Named) (mergeable : ℕ) : Type 0 where
   pub ascending : AreAscending named
   pub counted : mergeable ≡ count_by (λ n. n.mergeable) named
+
+-- a run begins behind a page
+abbrev pub begins_behind : GuestPage → List Named → Bool
+begins_behind page [] = false
+begins_behind page (n ∷ ns) = comes_before page n.page
+
+-- the pages of runs beside each other, as one list
+abbrev pub pages_in : List (List Named) → List Named
+pages_in runs = flat_map (λ run. run) runs
+
+-- the runs are filled, their pages ascend from run to run, and there are so many of them, with so many that a scan visits
+pub record IsOrder (runs : List (List Named)) (len : ℕ) (mergeable : ℕ) : Type 0 where
+  pub filled : All (λ run. run ≢ []) runs
+  pub ascending : AreAscending (pages_in runs)
+  pub long : len ≡ length (pages_in runs)
+  pub counted : mergeable ≡ count_by (λ n. n.mergeable) (pages_in runs)

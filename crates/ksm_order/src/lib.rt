@@ -2,7 +2,9 @@
 #![tactic(auto)]
 
 mod named;
+mod order;
 mod run;
 
 pub use named::Named;
+pub use order::Order;
 pub use run::Run;

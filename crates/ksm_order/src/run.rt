@@ -1,7 +1,7 @@
 //! A run of pages in order, with how many of them a scan visits.
 ghost use Rattle.std.specs.Prelude.{◌≡◌, ℕ, ◌<◌, ◌≤◌, [], None, true, false, IfErr, IsTrue, OnErr, OnOk, count_by, filter, find, length, is_some, option_copied, slice_index_or};
 ghost use Rattle.ksm_base.specs.Rows.{comes_before};
-ghost use Rattle.ksm_order.specs.Ordered.{AreAscending, is_of, with_named, without_named, marked};
+ghost use Rattle.ksm_order.specs.Ordered.{AreAscending, begins_behind, is_of, with_named, without_named, marked};
 
 use crate::named::Named;
 use ksm_base::{Fault, GuestPage};
@@ -70,6 +70,14 @@ impl Run {
         ensures { result ≡ count_by (λ n. n.mergeable) self.now }
     {
         self.mergeable
+    }
+
+    /// Whether its first page comes behind a page.
+    pub fn begins_behind(&self, page: GuestPage) -> bool
+        ensures { result ≡ begins_behind page self.now }
+    {
+        let pages = self.pages.as_slice();
+        !pages.is_empty() && page < pages[0].page
     }
 
     /// What stands in the order for a page.
