@@ -1,18 +1,19 @@
 -- A list in order that is cut in three, what comes before a page, the run in which it is or would be, and what comes behind: only the run matters.
-use Rattle.std.proofs.Common.{◌≡◌, ◌<◌, Bool, true, false, List, [], ◌∷◌, ◌++◌, Option, Some, None, length, get_or, refl, sym, ap, ap₂, ◌∙◌, inl, inr, arith}
+use Rattle.std.proofs.Common.{◌≡◌, ◌≢◌, ℕ, zero, suc, ◌<◌, Bool, true, false, true≢false, List, [], ◌∷◌, ◌++◌, Option, Some, None, length, get_or, refl, sym, subst, ap, ap₂, ◌∙◌, inl, inr, arith}
 use Rattle.std.specs.Prelude.{not, All, AllPairs, filter, find, map, if◌then◌else◌}
+use Rattle.std.specs.List.Sorted.{IsPartitionedBy}
 use Rattle.std.specs.Option.{option_or}
 use Rattle.std.proofs.Math.Seq.{get_or-append_seam}
 use Rattle.std.proofs.lemmas.Bool.{cases_Bool}
-use Rattle.std.proofs.lemmas.List.{append_assoc, append-nil, length-append, map-append}
-use Rattle.std.proofs.lemmas.List.Elements.{All-cons, filter-append}
+use Rattle.std.proofs.lemmas.List.{append_assoc, append-nil, get_or_append_left, length-append, map-append}
+use Rattle.std.proofs.lemmas.List.Elements.{All-cons, All-tail, filter-append}
 use Rattle.std.proofs.lemmas.List.Folds.{find-append}
 use Rattle.ksm_base.specs.declared.page.GuestPage.{GuestPage}
 use Rattle.ksm_base.specs.Rows.{comes_before, same_page}
 use Rattle.ksm_rmap.proofs.Ordered.{pairs_head, pairs_tail, filter_none, filter_all}
 use Rattle.ksm_rmap.proofs.Pages.{pages_ordered}
 use Rattle.ksm_order.specs.declared.named.Named.{Named}
-use Rattle.ksm_order.specs.Ordered.{begins_behind}
+use Rattle.ksm_order.specs.Ordered.{AreAscending, begins_behind, pages_in}
 use Rattle.ksm_order.proofs.Keyed.{behind_rest, kept_all, none_same, not_found}
 
 or_none : {X : Type 0} (found : Option X) → option_or found None ≡ found
@@ -109,3 +110,44 @@ module _ {X : Type 0} (key : X → GuestPage) (page : GuestPage) where
         ap₂ (λ front back. front ++ x ∷ back) only_low only_high
         ∙ append_assoc xs (filter low run) (x ∷ (filter high run ++ ys))
         ∙ ap (λ back. xs ++ back) (sym (append_assoc (filter low run) (x ∷ filter high run) ys))
+
+all_first : {X : Type 0} (P : X → Type 0) (xs ys : List X) → All P (xs ++ ys) → All P xs
+all_first P xs ys all k d lt = subst P (get_or_append_left xs ys d k lt) (all k d (omega (arith, length-append xs ys)))
+
+all_second : {X : Type 0} (P : X → Type 0) (xs ys : List X) → All P (xs ++ ys) → All P ys
+all_second P [] ys all = all
+all_second P (x ∷ xs) ys all = all_second P xs ys (All-tail P x (xs ++ ys) all)
+
+pairs_second : {X : Type 0} (R : X → X → Type 0) (xs ys : List X) → AllPairs R (xs ++ ys) → AllPairs R ys
+pairs_second R [] ys pairs = pairs
+pairs_second R (x ∷ xs) ys pairs = pairs_second R xs ys (pairs_tail R x (xs ++ ys) pairs)
+
+-- what holds of each page of the runs holds of each page of one run
+all_in_run : (P : Named → Type 0) (runs : List (List Named)) (j : ℕ) (d : List Named) → All P (pages_in runs) → j < length runs → All P (get_or runs j d)
+all_in_run P [] j d all within = absurd (omega arith)
+all_in_run P (run ∷ runs) zero d all within = all_first P run (pages_in runs) all
+all_in_run P (run ∷ runs) (suc j) d all within = all_in_run P runs j d (all_second P run (pages_in runs) all) (omega arith)
+
+-- a run that is filled and behind a page begins behind it
+filled_behind : (page : GuestPage) (run : List Named) → run ≢ [] → All (λ n. comes_before page n.page ≡ true) run → begins_behind page run ≡ true
+filled_behind page [] filled all = absurd (filled refl)
+filled_behind page (n ∷ ns) filled all = all 0 n (omega arith)
+
+all_behind : (page : GuestPage) (run rest : List Named) → AreAscending (run ++ rest) → begins_behind page run ≡ true → All (λ n. comes_before page n.page ≡ true) (run ++ rest)
+all_behind page [] rest rise begins = absurd (true≢false (sym begins))
+all_behind page (n ∷ ns) rest rise begins = behind_first (λ m. m.page) page n (ns ++ rest) rise begins
+
+-- the runs that do not begin behind a page stand before all that do
+pub runs_parted : (page : GuestPage) (runs : List (List Named)) → All (λ run. run ≢ []) runs → AreAscending (pages_in runs) → IsPartitionedBy (λ run. not (begins_behind page run)) runs
+runs_parted page [] filled rise i j d le lt later = absurd (omega arith)
+runs_parted page (run ∷ runs) filled rise zero j d le lt later =
+    elim (cases_Bool (begins_behind page run)) [
+      | inl begins ↦
+          let all = all_in_run (λ n. comes_before page n.page ≡ true) (run ∷ runs) j d (all_behind page run (pages_in runs) rise begins) lt in
+          let behind = filled_behind page (get_or (run ∷ runs) j d) (filled j d lt) all in
+          absurd (true≢false (sym later ∙ ap not behind))
+      | inr from_it ↦ ap not from_it
+    ]
+runs_parted page (run ∷ runs) filled rise (suc i) zero d le lt later = absurd (omega arith)
+runs_parted page (run ∷ runs) filled rise (suc i) (suc j) d le lt later =
+    runs_parted page runs (All-tail (λ r. r ≢ []) run runs filled) (pairs_second (λ m n. comes_before m.page n.page ≡ true) run (pages_in runs) rise) i j d (omega arith) (omega arith) later
