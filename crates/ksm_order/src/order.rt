@@ -1,7 +1,9 @@
 //! All pages in order, in runs that know how many of their pages a scan visits.
-ghost use Rattle.std.specs.Prelude.{◌≡◌, [], count_by, length};
+ghost use Rattle.std.specs.Prelude.{◌≡◌, ◌≢◌, ◌≤◌, [], All, count_by, filter, length, not};
+ghost use Rattle.ksm_order.specs.Ordered.{AreAscending, begins_behind, pages_in};
 
 use crate::run::Run;
+use ksm_base::GuestPage;
 use std::alloc::Global;
 use std::marker::Model;
 
@@ -23,6 +25,16 @@ impl Model for Order {
     ghost view = { λ o. pages_in o.runs.items };
 
     ghost invariant = { λ o. IsOrder o.runs.items o.len o.mergeable };
+}
+
+/// How many runs do not begin behind a page: the last of them is its run.
+fn runs_before(runs: &[Run], page: GuestPage) -> usize
+    requires filled { All (λ run. run ≢ []) runs.now }
+    requires order { AreAscending (pages_in runs.now) }
+    ensures count { result ≡ length (filter (λ run. not (begins_behind page run)) runs.now) }
+    ensures within { result ≤ length runs.now }
+{
+    runs.partition_point(|run| !run.begins_behind(page))
 }
 
 impl Order {
