@@ -26,6 +26,7 @@ keeps_fresh count deal = record {
 }
 
 module _ (m : Sat) (found : ℕ) (w : Sat) (d : Drew m found w) where
+  -- a draw leaves the deal as it was
   pub same_deal : w.0.deal ≡ m.0.deal
   same_deal = ap (λ (q : Sat). q.0.deal) d.0
 
@@ -36,6 +37,7 @@ module _ (m : Sat) (found : ℕ) (w : Sat) (d : Drew m found w) where
       sums : (n places past : ℕ) → past ≡ 0 → n < places → past + once_from n places ≡ 0
       sums n places past none lt = grind (arith, nat_tests)
 
+  -- a worker whose numbers were all places has at most one number that is no place after its next draw
   pub one_at_most : m.0.past ≡ 0 → w.0.past ≤ 1
   one_at_most none = let e = ap (λ (q : Sat). q.0.past) d.0 in let s = sums found m.0.deal.places m.0.past none in omega (arith, e, s)
     where
@@ -119,6 +121,7 @@ module _ (may : ℕ → Type 0) (place : ℕ) (v : PassView) (ls : List Line) (r
   abbrev Looks : Type 0
   Looks = (r ≡ None) × (r' ≡ None) × ((row : Row) × (ls' ≡ ls ++ line place row ∷ []) × Visits v place row w)
 
+  -- `Keeps` stays true of a worker that drew one more place and answered it
   pub keeps_on : (count : ℕ) (m n : Sat) → Keeps count (places_of ls) r m → place < count → Drew m place n → Keeps count (places_of ls') r' n
   keeps_on count m n k lt d = ⊎_elim
       (λ (b : Before). subst (λ (x : List Line × Option ℕ). Keeps count (places_of x.0) x.1 n) (λ i. (sym b.2 i, sym (b.0 ∙ b.3.1) i)) (keeps_refused count (places_of ls) r m k place n d b.3.0))
@@ -127,6 +130,7 @@ module _ (may : ℕ → Type 0) (place : ℕ) (v : PassView) (ls : List Line) (r
       (λ (b : Looks). subst (λ (x : List ℕ × Option ℕ). Keeps count x.0 x.1 n) (λ i. (sym (ap places_of b.2.1 ∙ places_more ls place b.2.0) i, sym b.1 i)) (keeps_answered count (places_of ls) r m k place n d lt b.0)))
       a
 
+  -- once a place was answered, the place at which the gate refused, if any, is still one that it may refuse
   pub stop_on : (count : ℕ) → MayStop may count r → place < count → MayStop may count r'
   stop_on count stop lt at some = ⊎_elim
       (λ (b : Before). stop at (sym b.0 ∙ some))
@@ -135,6 +139,7 @@ module _ (may : ℕ → Type 0) (place : ℕ) (v : PassView) (ls : List Line) (r
       (λ (b : Looks). absurd (cc (b.1, some))))
       a
 
+  -- once a place was answered, the pass has made the lookups of all the lines
   pub made_on : (u : PassView) → Made u ls v → Made u ls' w
   made_on u made = ⊎_elim
       (λ (b : Before). subst (λ (x : List Line × PassView). Made u x.0 x.1) (λ i. (sym b.2 i, sym b.1 i)) made)
@@ -143,6 +148,7 @@ module _ (may : ℕ → Type 0) (place : ℕ) (v : PassView) (ls : List Line) (r
       (λ (b : Looks). subst (λ (x : List Line). Made u x w) (sym b.2.1) (made_more u v w ls place b.2.0 made b.2.2)))
       a
 
+  -- the pass is of the same table once a place was answered
   pub same_table : w.table ≡ v.table
   same_table = ⊎_elim (λ (b : Before). ap (λ (x : PassView). x.table) b.1) (⊎_elim (λ (b : Refuses). ap (λ (x : PassView). x.table) b.1) (λ (b : Looks). b.2.2.0)) a
 

@@ -65,6 +65,7 @@ module _ {M : Type 1} {𝓤 : Ura M} {𝓛 : Logic 𝓤} {K : Type 0} {Γ : List
   either_owned k a (block_ptr b o) None none one = fpick k (λ e. absurd e)
   either_owned k a (block_ptr b o) (Some x) none one = use1 𝓛 (given (Testable (block_ptr b o)) (‵ (boxed a (block_ptr b o) x))) (tested 𝓛 a (block_ptr b o) x) $ learn k (λ e. one b o x refl refl e)
 
+  -- a handle is taken apart: its values are its pointer and its allocator, and what each of them owns is at hand
   pub handle_out : K → (d : handle.the_row.Denot) (vs : List Val)
       → ((h : Val) → vs ≡ both (ptr_val d.at) h ∷ [] → Good (layout Z) h → Seq K 𝓛 (‵ (handle_owns d.alloc d.at d.thing) ∷ ‵ (Z.own_val d.alloc (h ∷ [])) ∷ Γ) G)
       → Seq K 𝓛 (‵ (handle.the_row.own_val d vs) ∷ Γ) G
@@ -73,6 +74,7 @@ module _ {M : Type 1} {𝓤 : Ura M} {𝓛 : Logic 𝓤} {K : Type 0} {Γ : List
       next h
       (subst (λ (ws : List Val). vs ≡ vstruct (of_list (ptr_val d.at ∷ (ws ++ []))) ∷ []) ea (subst (λ (ps : List Val). vs ≡ vstruct (of_list (ps ++ (vss.1.0 ++ []))) ∷ []) ep ev)) fits))))
 
+  -- a handle is put together from its pointer, its allocator and what each of them owns
   pub handle_in : K → (p : Ptr) (h : Val) (a : Global) (t : Option R.Denot)
       → Step K 𝓛 (‵ (handle.the_row.own_val (record { at = p; alloc = a; thing = t }) (both (ptr_val p) h ∷ [])) ∷ Γ) G (‵ (handle_owns a p t) ∷ ‵ (Z.own_val a (h ∷ [])) ∷ Γ) G
   handle_in k p h a t = step (λ s. let v : Val = both (ptr_val p) h in

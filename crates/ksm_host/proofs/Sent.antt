@@ -58,6 +58,7 @@ module _ (io : Streams) (from to : ScriptState) where
   pub stands_sent : (now : Option (List ℕ)) → Keeps io.written now → Stands io.written → Stands now
   stands_sent now kept s = (s.0, s.1, (s.2.0, s.2.1, s.2.2, Appends-kept io.begun io.written now s.2.0 s.2.3 kept))
 
+  -- however a run ended, what it wrote is a beginning of the replies to what it read
   pub stands_after : (r : Result End RunFault) → Runs io from to r → Stands io.written
   stands_after (Ok AllRead) run = let a = run.goes in (a.0, (run.last, inl a.1, run.given), whole io.begun io.written a.0 a.2)
   stands_after (Ok (BadLine number)) run =
@@ -85,6 +86,7 @@ module _ (io : Streams) (from to : ScriptState) where
     abbrev sends : Streams
     sends = record io { written = now }
 
+    -- where the status is `Done`, the run read all its input, and all that it wrote is sent
     pub sent_all : status_after ended sent ≡ Done → Runs sends from to (Ok AllRead)
     sent_all = all ended sent runs kept
       where
@@ -97,6 +99,7 @@ module _ (io : Streams) (from to : ScriptState) where
         all (Ok (BadLine number)) false run k e = absurd (cc e)
         all (Err fault) s run k e = absurd (cc e)
 
+    -- where the status is `NotUnderstood`, the run ended at a bad line, and all that it wrote is sent
     pub sent_to_bad : status_after ended sent ≡ NotUnderstood → (number : ℕ) × (bad_line_of ended ≡ Some number) × Runs sends from to (Ok (BadLine number))
     sent_to_bad = bad ended sent runs kept
       where

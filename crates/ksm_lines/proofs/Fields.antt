@@ -40,10 +40,12 @@ pub guest_again : (n : ℕ) (parts : List Part) (words : List (List ℕ)) → Ar
 guest_again n parts [] h = absurd h
 guest_again n parts (w ∷ ws) h = record { rest = ws; is = rw (h.0.1, number_again (2 ^ 16) n (omega arith) h.0.0) refl; others = h.1 }
 
+-- where the first word writes a number, reading takes that number and leaves the words of the other parts
 pub number_again_field : (n : ℕ) (parts : List Part) (words : List (List ℕ)) → AreWritten (number n ∷ parts) words → Taken (field number_of) n parts words
 number_again_field n parts [] h = absurd h
 number_again_field n parts (w ∷ ws) h = record { rest = ws; is = rw (h.0.1, number_again (2 ^ 32) n (omega arith) h.0.0) refl; others = h.1 }
 
+-- where the first word is the name of a knob, reading takes that knob and leaves the words of the other parts
 pub knob_again : (knob : Knob) (parts : List Part) (words : List (List ℕ)) → AreWritten (name (knob_name knob) ∷ parts) words → Taken (field knob_of) knob parts words
 knob_again knob parts [] h = absurd h
 knob_again knob parts (w ∷ ws) h = record { rest = ws; is = rw (h.0, knob_known knob) refl; others = h.1 }
@@ -52,16 +54,19 @@ pub shown_again : (shown : Shown) (parts : List Part) (words : List (List ℕ)) 
 shown_again shown parts [] h = absurd h
 shown_again shown parts (w ∷ ws) h = record { rest = ws; is = rw (h.0, shown_known shown) refl; others = h.1 }
 
+-- where the first two words write a page, reading takes that page and leaves the words of the other parts
 pub page_again : (page : GuestPage) (parts : List Part) (words : List (List ℕ)) → AreWritten (guest page.guest ∷ number page.page ∷ parts) words → Taken page_at page parts words
 page_again page parts words h =
     let g = guest_again page.guest (number page.page ∷ parts) words h in
     let p = number_again_field page.page parts g.rest g.others in
     record { rest = p.rest; is = rw (g.is, p.is) refl; others = p.others }
 
+-- where no part is written, reading finds the end of the words
 pub ended_again : (words : List (List ℕ)) → AreWritten [] words → ended words ≡ Some tt
 ended_again [] h = refl
 ended_again (w ∷ ws) h = absurd h
 
+-- where no part is written, there is no word
 pub no_words : (words : List (List ℕ)) → AreWritten [] words → words ≡ []
 no_words [] h = refl
 no_words (w ∷ ws) h = absurd h
@@ -70,16 +75,20 @@ no_words (w ∷ ws) h = absurd h
 pub number_alone_again : (n : ℕ) (words : List (List ℕ)) → AreWritten (number n ∷ []) words → alone number_of words ≡ Some n
 number_alone_again n words h = let f = number_again_field n [] words h in rw (f.is, ended_again f.rest f.others) refl
 
+-- a word alone that writes a guest is read as that guest
 pub guest_alone_again : (n : ℕ) (words : List (List ℕ)) → AreWritten (guest n ∷ []) words → alone guest_of words ≡ Some n
 guest_alone_again n words h = let f = guest_again n [] words h in rw (f.is, ended_again f.rest f.others) refl
 
+-- a word alone that names what is shown is read as what it names
 pub shown_alone_again : (shown : Shown) (words : List (List ℕ)) → AreWritten (name (shown_name shown) ∷ []) words → alone shown_of words ≡ Some shown
 shown_alone_again shown words h = let f = shown_again shown [] words h in rw (f.is, ended_again f.rest f.others) refl
 
+-- a word alone that writes a page's content is read as that content
 pub content_alone_again : (page : List ℕ) (words : List (List ℕ)) → AreWritten (content page ∷ []) words → alone content_of words ≡ Some page
 content_alone_again page [] h = absurd h
 content_alone_again page (w ∷ ws) h = rw (h.0, ended_again ws h.1) refl
 
+-- two words alone that write a page are read as that page
 pub page_alone_again : (page : GuestPage) (words : List (List ℕ)) → AreWritten (guest page.guest ∷ number page.page ∷ []) words → page_alone words ≡ Some page
 page_alone_again page words h = let p = page_again page [] words h in rw (p.is, ended_again p.rest p.others) refl
 

@@ -103,6 +103,7 @@ module _ (text : List ℕ) (i : ℕ) (inside : 16 * i + 16 ≤ length text) (byt
       ∙ list_all-map (λ x. not (eqb x 255)) digit_or_none (digits_of_word text i)
       ∙ same_test (λ x. not (eqb (digit_or_none x) 255)) is_ascii_hexdigit (digits_of_word text i) fits refl)
 
+  -- where none of the values is 255, all characters of the word are hexadecimal digits
   pub all_digits : (values : List ℕ) (b : Bool) → values ≡ map digit_or_none (digits_of_word text i) → b ≡ not (list_all (λ x. not (eqb x 255)) values) → b ≡ false
       → list_all is_ascii_hexdigit (digits_of_word text i) ≡ true
   all_digits values b is told none = true_of _ (sym none ∙ values_told values b is told)
@@ -118,11 +119,13 @@ module _ (text : List ℕ) (i : ℕ) (inside : 16 * i + 16 ≤ length text) (byt
         let is = digit_is byte (bytes (16 * i + k)).fits digit in
         (get_or-map digit_or_none v k 0 0 (omega (arith, length-chunk (16 * i) 16 text inside, lt)) ∙ ap digit_or_none same ∙ is.0, is.1)
 
+    -- the value of each digit is below 16
     pub values_small : All (λ v. v < 16) (map digit_or_none (digits_of_word text i))
     values_small = All-from_get_or (λ v. v < 16) _ 0 (λ k lt.
         let is = at_byte k (omega (arith, lt, length-map (digits_of_word text i) digit_or_none, length-chunk (16 * i) 16 text inside)) in
         subst (λ v. v < 16) (sym is.0) is.1)
 
+    -- the eight bytes that the values make in pairs are those that the digits write
     pub word_is : map (pair_in (map digit_or_none (digits_of_word text i))) (range_with_len 0 8) ≡ map (λ j. byte_at text (8 * i + j)) (range_with_len 0 8)
     word_is = same_below (pair_in (map digit_or_none (digits_of_word text i))) (λ j. byte_at text (8 * i + j)) 0 8 (λ j low high.
         let first : 16 * i + 2 * j ≡ 2 * (8 * i + j) = omega arith in

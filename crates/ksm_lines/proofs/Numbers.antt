@@ -60,12 +60,15 @@ digit_value_of c low high = let less : c < 58 = omega arith in rw (le-ltb _ _ lo
 -- one digit more
 module _ (word : List ℕ) (i value digit : ℕ) (lt : i < length word) (low : 48 ≤ get_or word i 0) (high : get_or word i 0 ≤ 57)
     (is : digit ≡ get_or word i 0 - 48) (read : IsReadTo i word value) where
+  -- the value with one digit more is that of the first i + 1 digits
   pub value_more : value * 10 + digit ≡ digits_value 10 (take (i + 1) word)
   value_more = ap₂ (λ v d. v * 10 + d) read.1 (is ∙ sym (digit_value_of (get_or word i 0) low high)) ∙ sym (digits_value_more 10 word i lt)
 
+  -- where the value with one digit more is below 2 ^ 32, the word is read up to behind that digit
   pub read_more : is_ascii_digit (get_or word i 0) ≡ true → value * 10 + digit < 2 ^ 32 → IsReadTo (i + 1) word (value * 10 + digit)
   read_more digits small = (list_all_more is_ascii_digit word i 0 lt ∙ ap₂ (λ a b. a && b) read.0 digits, value_more, small)
 
+  -- where the value with one digit more is 2 ^ 32 or above, the word writes a number out of range
   pub high_more : is_ascii_digit (get_or word i 0) ≡ true → 2 ^ 32 ≤ value * 10 + digit → IsHigh word
   high_more digits high = (i + 1, omega arith, list_all_more is_ascii_digit word i 0 lt ∙ ap₂ (λ a b. a && b) read.0 digits, subst (λ n. 2 ^ 32 ≤ n) value_more high)
 

@@ -26,6 +26,7 @@ module _ (parts : PartsId) (old new : Caller) (c : Command) (r : Answer) (one : 
   journaled : entries new.seen ≡ journal_after (entries old.seen) c r
   journaled = sym (new_journal (entries old.seen) (journal_after (entries old.seen) c r) old.seen new.seen old.number c r refl refl only_made)
 
+  -- a command of the only caller is a step of the script's state, with the reply to the command's answer
   pub commands : (passes : List PassState) → StepsAlone parts old new c r → Commands c (script_of parts old passes) (Some (reply_to r)) (script_of parts new passes)
   commands passes steps =
       let step = steps one in

@@ -21,9 +21,11 @@ present_all [] = refl
 present_all (s ∷ passes) = ap (λ (l : List PassState). s ∷ l) (present_all passes)
 
 module _ (slots : List (Option PassState)) (passes : List PassState) (is : slots ≡ map (λ s. Some s) passes) where
+  -- slots that are filled from a list of passes hold just those passes
   pub present_is : present slots ≡ passes
   present_is = ap (λ (l : List (Option PassState)). present l) is ∙ present_all passes
 
+  -- where the slots are filled from a list of passes, none is empty
   pub there_is : AreThere slots
   there_is = is ∙ ap (λ (l : List PassState). map (λ s. Some s) l) (sym present_is)
 
@@ -194,27 +196,33 @@ module _ (t : TableName) where
     next_is : next ≡ map (λ (s : PassState). let o : Option PassState = Some s in o) (changed (present slots) back)
     next_is = put ∙ ap (λ (l : List (Option PassState)). refilled l back) (out ∙ ap (λ (l : List (Option PassState)). map emptied l) there) ∙ refilled_is (present slots) back count
 
+    -- once the idle passes are put back, no slot is empty
     pub put_there : AreThere next
     put_there = there_is next (changed (present slots) back) next_is
 
     now_is : present next ≡ changed (present slots) back
     now_is = present_is next (changed (present slots) back) next_is
 
+    -- once the idle passes are put back, what held nothing still does, and each hold is as it was
     pub put_still : AllZip HoldsStill (present slots) (present next)
     put_still = subst (AllZip HoldsStill (present slots)) (sym now_is) (holds_still (present slots) back count)
 
+    -- the idle passes in the slots are those that were put back
     pub put_idle_is : idle_of (present next) ≡ back
     put_idle_is = ap idle_of now_is ∙ idle_back (present slots) back count
 
+    -- once the idle passes are put back, all passes are of the table
     pub put_own : All (λ (s : PassState). table_of s ≡ t) (present next)
     put_own = subst (All (λ (s : PassState). table_of s ≡ t)) (sym now_is) (changed_own (present slots) back count own own_back)
 
+    -- once the idle passes are put back, there are as many passes as before
     pub put_count : length (present next) ≡ length (present slots)
     put_count = ap (λ (l : List PassState). length l) now_is ∙ changed_count (present slots) back count
 
 -- ---- all slots
 
 module _ (P : PassState → Type 0) where
+  -- where no slot is empty, what holds of all passes holds of the pass in each slot
   pub slots_own : (slots : List (Option PassState)) → AreThere slots → All P (present slots) → All (λ (o : Option PassState). IsSomeAnd o P) slots
   slots_own slots there own = subst (All (λ (o : Option PassState). IsSomeAnd o P)) (sym there) (of (present slots) own)
     where
@@ -232,6 +240,7 @@ module _ (R : PassState → PassState → Type 0) where
   zip_there (s ∷ passes) (None ∷ next) z = absurd z.0
   zip_there (s ∷ passes) (Some x ∷ next) z = let h = zip_there passes next z.1 in (ap (λ (l : List (Option PassState)). Some x ∷ l) h.0, (z.0, h.1))
 
+  -- where R relates the passes of two lists of slots one by one, the second is full too, and R relates their passes
   pub all_there : (slots next : List (Option PassState)) → AreThere slots → AllZip (λ o. InBoth R o) slots next → AreThere next × AllZip R (present slots) (present next)
   all_there slots next there z = zip_there (present slots) next (subst (λ (l : List (Option PassState)). AllZip (λ o. InBoth R o) l next) there z)
 

@@ -218,6 +218,7 @@ module _ (first now later : Option (List ℕ)) (begun written : Option (List ℕ
     ended_by : ReadFor (so.lines ++ (line ++ 10 ∷ [])) (so.lines ++ read.bytes) later
     ended_by = read_for later end so.lines line read.bytes did.short read.ends read.last
 
+    -- once the line is carried out, all lines that were read are answered
     pub answered_all : AnsweredAll first later from next (so.text ++ reply_text reply)
     answered_all =
         (so.lines ++ (line ++ 10 ∷ []), so.lines ++ read.bytes, so.count + 1, turned, ended_by, consumed_then)
@@ -228,6 +229,7 @@ module _ (first now later : Option (List ℕ)) (begun written : Option (List ℕ
         let last = subst (λ (r : Option LineReply). CarriesOut state line r next) is carried in
         (so.lines, line, so.lines ++ read.bytes, so.count, state, so.answered, last, ended_by, consumed_then)
 
+    -- once its reply is written, the run goes on behind a line that did not end at the end of the input
     pub goes_on : (wrote : Option (List ℕ)) → end ≢ Input → Appends written wrote (reply_text reply) → IsSoFar first later begun wrote from next (number + 1)
     goes_on wrote open_end appended =
         record {
@@ -248,6 +250,7 @@ module _ (first now later : Option (List ℕ)) (begun written : Option (List ℕ
       let all : so.lines ++ read.bytes ≡ so.lines = ap (λ (t : List ℕ). so.lines ++ t) nothing ∙ append-nil so.lines in
       (so.lines, so.lines, so.count, so.answered, inl refl, subst (λ (t : List ℕ). Consumes first later t) all consumed_then)
 
+  -- where the line is bad, the lines before it are answered, and the bad line is read
   pub answered_to_bad : (fault : LineFault) → IsReadAs (Err fault) end line → AnsweredToBad first later from state so.text so.count
   answered_to_bad fault bad =
       (line, read.bytes, end, (so.lines, so.answered, consumed_then), read.plain, read.ends, bad_of later end line bad read.last)
