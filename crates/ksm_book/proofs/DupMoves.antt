@@ -50,6 +50,7 @@ module _ (b : BookState) (place node : ℕ) (dup : DupRow) (found : Some dup ≡
         (λ t. refused_if (there_is t) BadNode (refused_if (is_none (sym found t)) UnknownPlace (refused_if (crosses b node (sym found t)) CrossesNodes None)))
         ∙ ap (λ x. refused_if x CrossesNodes None) at_home
 
+    -- each error with which the move of a dup ends is an answer that `MoveDup` may give
     pub moved_answer : (X : Type 0) (v w : KeeperView) (q : ℕ) (f : Fault) → IsMoved {X = X} v w q node (Err f) → IsAnswerOrMemory b (MoveDup place node) (Err f)
     moved_answer X v w q Memory h = absurd h
     moved_answer X v w q UnknownPage h = absurd h
@@ -63,6 +64,7 @@ module _ (b : BookState) (place node : ℕ) (dup : DupRow) (found : Some dup ≡
     moved_answer X v w q UnknownPlace h = absurd h
     moved_answer X v w q BadNode h = absurd h
 
+    -- `Done` is an answer that `MoveDup` may give
     pub moved_done : IsAnswerOrMemory b (MoveDup place node) (Ok Done)
     moved_done = subst (λ o. IsAnswerUnless o b (MoveDup place node) (Ok Done)) (sym accepted) tt
 

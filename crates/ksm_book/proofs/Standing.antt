@@ -104,8 +104,8 @@ module _ (sh : Shape) (across : ℕ) (k : Ledger) (rows : List Row) (frames : Li
       let number : (e.number == e'.number) ≡ true = ap (merged_into e'.number) (sym state) ∙ both in
       sym (eqb-true e.number e'.number number)
 
-  -- the frames of dups with items differ, and none of them is a page's own
   module _ (rise : InPlaceOrder dups) where
+    -- two dups with items stand on different frames
     pub frames_apart : (n m : ℕ) (d : DupRow) → n < m → m < length dups → Lives k rows frames (get_or dups n d) → Lives k rows frames (get_or dups m d)
         → place_frame k (get_or dups n d).place ≢ place_frame k (get_or dups m d).place
     frames_apart n m d before lt a b same =
@@ -113,6 +113,7 @@ module _ (sh : Shape) (across : ℕ) (k : Ledger) (rows : List Row) (frames : Li
         let one = one_number n m d (omega (arith, before, lt)) lt a b same in
         absurd (grind (arith, nat_tests, other, one))
 
+  -- the frame of a page's own is not the frame of a dup with items
   pub own_apart : (i f : ℕ) → i < length rows → shared_state (row_in rows i).state ≡ false → frame_in frames i ≡ Some f → (d : DupRow) → Lives k rows frames d → f ≢ place_frame k d.place
   own_apart i f lt alone is d a same =
       let own = (subst (IsServed sh k dups (row_in rows i)) is (p.each_row i lt)).0.kind ∙ own_kind (row_in rows i).state alone in

@@ -76,6 +76,7 @@ module _ (words : List ℕ) (at : ℕ) where
           ap (has words) (there f later) ∙ has_rest (f - at) (omega (arith, less, w)) ∙ ap (λ b. b == 1) (lowest.2 (f - at) less)
     ]
 
+    -- the frame of the lowest bit set is the least frame of the set from low on, where it lies below high
     pub found_least : (low high : ℕ) → low ≤ at → HasNone words low at → found < high → IsLeast words low high found
     found_least low high onward before below = record {
       low_is = omega (arith, onward);
@@ -84,5 +85,6 @@ module _ (words : List ℕ) (at : ℕ) where
       least = before_found low onward before;
     }
 
+    -- no frame from low up to high is in the set, where the frame of the lowest bit set lies at high or beyond
     pub found_beyond : (low high : ℕ) → low ≤ at → HasNone words low at → high ≤ found → HasNone words low high
     found_beyond low high onward before beyond f from below = before_found low onward before f from (omega (arith, below, beyond))

@@ -166,6 +166,7 @@ module _ (sh : Shape) (v : Listed) (dups : List DupRow) (knobs : Knobs) (next : 
     taken_hand v' w g took own rows frames = subst (λ (z : List Row × List (Option ℕ) × Option ℕ). Placed sh across w.ledger z.0 z.1 dups z.2) (λ t. (sym rows t, sym frames t, at.frame_is t))
         (moved_there sh across k w v.rows v.frames dups h.same r.home r.bytes g took i r at.inside refl refl own h.placed)
 
+    -- rows and dups lie lawfully once a row moved to the frame taken and its old frame was let go of
     pub laid_moved : (v' : Listed) (w u : KeeperView) (g : ℕ) → w.table ≡ k.table → u.table ≡ w.table → Took k w r.home r.bytes g → Keeps w u f None → spent w.ledger ≤ spent u.ledger → r.state ≡ OwnPage → v'.rows ≡ set v.rows i r → v'.frames ≡ set v.frames i (Some g) → IsLaid sh v' dups knobs next u
     laid_moved v' w u g e e' took keeps more own rows frames = record {
       small = h.small;
@@ -179,6 +180,7 @@ module _ (sh : Shape) (v : Listed) (dups : List DupRow) (knobs : Knobs) (next : 
     emptied_hand v' z is rows frames = subst (λ (z : List Row × List (Option ℕ) × Option ℕ). Placed sh across k.ledger z.0 z.1 dups z.2) (λ t. (sym rows t, sym frames t, at.frame_is t))
         (swapped sh across k.ledger v.rows v.frames dups None i z at.inside h.placed (ap zero_state is))
 
+    -- rows and dups lie lawfully once a row became Zero and its old frame was let go of
     pub laid_emptied : (v' : Listed) (z : Row) (u : KeeperView) → u.table ≡ k.table → Keeps k u f None → spent k.ledger ≤ spent u.ledger → z.state ≡ Zero → v'.rows ≡ set v.rows i z → v'.frames ≡ set v.frames i None → IsLaid sh v' dups knobs next u
     laid_emptied v' z u e keeps more is rows frames = record {
       small = h.small;

@@ -286,6 +286,7 @@ module _ (sh : Shape) (across : ℕ) (k : Ledger) (rows : List Row) (frames : Li
           node = λ z. ap (node_of sh) fo ∙ m.node z;
         }
 
+    -- rows and dups lie lawfully once a dup, with all its items, moved from its frame to a free one
     pub remounted : Placed sh across next rows (map (instead left g) frames) dups None
     remounted = record {
       paired = length-map frames (instead left g) ∙ p.paired;

@@ -213,6 +213,7 @@ module _ (pages : PagesView) (k : KeeperView) (h : IsLaid pages.shape pages.list
         shape_is : w.table.shape ≡ sh
         shape_is = shape_same sh k w h.same same
 
+        -- the dup's frame is one of the table's and is Stable
         pub may_freeze : (g < frames_of w.table.shape) × (n.kind ≡ Stable)
         may_freeze = (subst (λ (x : Shape). g < frames_of x) (sym shape_is) fits.0.frame, stable)
 
@@ -253,6 +254,7 @@ module _ (pages : PagesView) (k : KeeperView) (h : IsLaid pages.shape pages.list
             still : u.ledger ≡ w.ledger
             still = ap (λ (z : KeeperView). z.ledger) freezes ∙ ap (λ (b : Bool). cond b (with_frame w.ledger g (record { kind = Dying; base = 0; generation = n.generation; content = n.content })) w.ledger) (ne_eqb (count_in found) n.base other)
 
+            -- the exchange of the dup's frame word was tried, and found another count than the keeper's references
             pub lost : HasLost now.keeper u
             lost = subst (λ (x : Lay). HasLost x.keeper u) is (record {
               part = part;
@@ -263,6 +265,7 @@ module _ (pages : PagesView) (k : KeeperView) (h : IsLaid pages.shape pages.list
               other = λ e. other (e ∙ ap (λ (z : Ledger). (frame_at z g).base) still);
             })
 
+            -- where a frame of the node was found and the exchange was not made, a reader holds the dup's frame, and the frame stays Stable
             pub found_held : Finds k w node f → FindsHeld (mapped_lay now) (mapped_lay (lay_of pages u)) dup node
             found_held found = subst (λ (x : Lay). FindsHeld (mapped_lay x) (mapped_lay (lay_of pages u)) dup node) is (record {
               frame = f;
@@ -273,6 +276,7 @@ module _ (pages : PagesView) (k : KeeperView) (h : IsLaid pages.shape pages.list
               frames = refl;
             })
 
+            -- rows and dups lie lawfully as before where the exchange was not made
             pub laid_lost : IsLaid sh v dups knobs next u
             laid_lost = record {
               small = h.small;
@@ -295,26 +299,33 @@ module _ (pages : PagesView) (k : KeeperView) (h : IsLaid pages.shape pages.list
             at_other : (x : ℕ) → x ≢ g → frame_at u.ledger x ≡ frame_at w.ledger x
             at_other x ne = ap (λ (z : Ledger). frame_at z x) frozen ∙ get_or-set_other w.ledger.frames g x dead blank ne
 
+            -- the ledger has a note of the frame found
             pub mount_within : f < length u.ledger.frames
             mount_within = (let e : length u.ledger.frames ≡ length w.ledger.frames = ap (λ (z : Ledger). length z.frames) frozen ∙ length-set w.ledger.frames g dead in let lt = within in omega (arith, e, lt))
 
+            -- the dup's place is one of the table's
             pub mount_place : dup.place < frames_of u.table.shape
             mount_place = subst (λ (x : Shape). dup.place < frames_of x) (sym (shape_same sh w u shape_is table_is)) (find_all test (DupFits sh across w.ledger) dups dup live p.each_dup).place
 
+            -- the frame found is still Free once the dup's old frame is frozen
             pub mount_free : (frame_at u.ledger f).kind ≡ Free
             mount_free = ap (λ (x : Note). x.kind) (at_other f apart) ∙ lowest.free
 
+            -- the dup's old frame is Dying once it is frozen
             pub mount_dying : (frame_at u.ledger g).kind ≡ Dying
             mount_dying = ap (λ (x : Note). x.kind) at_g
 
+            -- each frame holds the words of a whole page once the dup's old frame is frozen
             pub mount_wide : (x : ℕ) → length (frame_at u.ledger x).content ≡ PAGE_WORDS
             mount_wide x = dite (ℕ_discrete x g)
                 (λ e. ap (λ y. length (frame_at u.ledger y).content) e ∙ ap (λ (y : Note). length y.content) at_g ∙ p.widths g)
                 (λ ne. ap (λ (y : Note). length y.content) (at_other x ne) ∙ p.widths x)
 
+            -- the dup's old frame had at least one reference of the keeper
             pub mount_some : 1 ≤ n.base
             mount_some = (let b = base in let one = item_some in omega (arith, b, one))
 
+            -- the dup's old frame had at most 1024 references of the keeper
             pub mount_few : n.base ≤ 1024
             mount_few = (let b = base in let most = item_few in omega (arith, b, most))
 
@@ -322,6 +333,7 @@ module _ (pages : PagesView) (k : KeeperView) (h : IsLaid pages.shape pages.list
             loose_of None e = tt
             loose_of (Some life) e = λ _ kind. dying_not_stable (sym mount_dying ∙ ap (λ x. (frame_at u.ledger x).kind) (sym e) ∙ kind)
 
+            -- the dup's place names no Stable frame in its life once the dup's old frame is frozen
             pub mount_loose : IsLoose u.ledger (named_at u.ledger dup.place)
             mount_loose = loose_of (named_at u.ledger dup.place) (ap (λ (z : Ledger). place_frame z dup.place) frozen ∙ sym on_frame.0)
 
@@ -337,6 +349,7 @@ module _ (pages : PagesView) (k : KeeperView) (h : IsLaid pages.shape pages.list
 
             -- and the dup stands on the new frame
             module _ (x : KeeperView) (onward : x.table ≡ u.table) (mounted : Mounted u x g f dup.place n.base) where
+              -- a frame of the node was raised and then published at the dup's place
               pub has_moved : HasMoved now.keeper x dup.place node
               has_moved =
                   let lowest' : IsLowestFree u.table.shape u.ledger node f = subst (λ (y : Shape). IsLowestFree y u.ledger node f) (sym (shape_same sh w u shape_is table_is)) still_lowest in
@@ -349,6 +362,7 @@ module _ (pages : PagesView) (k : KeeperView) (h : IsLaid pages.shape pages.list
                     published = Contains-append_right part mounted.part _ mounted.published;
                   })
 
+              -- the dup moves as `Moves` says: the frame found is mounted in the stead of the old one, and all items lie on it
               pub moves : Finds k w node f → Made u x (mounting g f dup.place n.base (frame_at u.ledger g).content) → (pages' : PagesView)
                   → pages'.listed.frames ≡ lodged (λ r. merged_into dup.number r.state) f v.rows v.frames → Moves (mapped_lay now) (mapped_lay (lay_of pages' x)) dup node
               moves found mounts pages' frames = subst (λ (y : Lay). Moves (mapped_lay y) (mapped_lay (lay_of pages' x)) dup node) is (record {
@@ -379,6 +393,7 @@ module _ (pages : PagesView) (k : KeeperView) (h : IsLaid pages.shape pages.list
               left_is : g ≡ place_frame w.ledger m.place
               left_is = on_frame.0 ∙ ap (λ (y : DupRow). place_frame w.ledger y.place) (sym m_is)
 
+              -- rows and dups lie lawfully with the dup and its items on the frame found
               pub laid_moved_dup : (v' : Listed) → v'.rows ≡ v.rows → v'.frames ≡ lodged (λ r. merged_into dup.number r.state) f v.rows v.frames → IsLaid sh v' dups knobs next x
               laid_moved_dup v' rows frames =
                   let q = remounted sh across w.ledger v.rows v.frames dups p index.0 dup index.1 f inside lowest.free

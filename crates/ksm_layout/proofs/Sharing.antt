@@ -92,12 +92,15 @@ module _ (sh : Shape) (v : Listed) (dups : List DupRow) (knobs : Knobs) (next : 
     item_fits : Serves sh k.ledger dups item g
     item_fits = subst (λ (z : Row × Option ℕ). IsServed sh k.ledger dups z.0 z.1) (λ t. (there.row_is t, there.frame_is t)) (h.placed.each_row j there.inside)
 
+    -- the frame of a dup's item is one of the table's
     pub item_inside : g < frames_of k.table.shape
     item_inside = subst (λ (x : Shape). g < frames_of x) (sym h.same) item_fits.0.frame
 
+    -- the frame of a dup's item is Stable
     pub item_stable : (frame_at k.ledger g).kind ≡ Stable
     item_stable = item_fits.0.kind ∙ stable_kind item.state merged
 
+    -- the frame of a dup's item has at most 1023 references of the keeper where the dup has at most 1023 items
     pub item_base : (room : (d : DupRow) × Contains dups d × (merged_into d.number item.state ≡ true) × (item_count v.rows d ≤ 1023)) → (frame_at k.ledger g).base ≤ 1023
     item_base room =
         let d : DupRow = room.0 in
@@ -108,12 +111,14 @@ module _ (sh : Shape) (v : Listed) (dups : List DupRow) (knobs : Knobs) (next : 
         let few = room.3 in
         subst (λ x. x ≤ 1023) (sym base) few
 
+    -- rows and dups lie lawfully once the row lies on the item's frame, with the row's old frame in the command's hand
     pub joined_hand : (v' : Listed) (w : KeeperView) → Keeps k w None (Some g) → row.bytes ≡ item.bytes → v'.rows ≡ set v.rows i (record row { state = item.state }) → v'.frames ≡ set v.frames i (Some g) → Placed sh across w.ledger v'.rows v'.frames dups f
     joined_hand v' w keeps bytes rows frames =
         let p : Placed sh across w.ledger v.rows v.frames dups (Some g) = kept sh across k v.rows v.frames dups None h.same w (Some g) keeps h.placed in
         let p' = joined sh across w.ledger v.rows v.frames dups i j g (record row { state = item.state }) at.inside there.inside there.frame_is (ap (λ (x : Row). x.state) (sym there.row_is)) (bytes ∙ ap (λ (x : Row). x.bytes) (sym there.row_is)) (merged_is_shared item.state merged) p in
         subst (λ (z : List Row × List (Option ℕ) × Option ℕ). Placed sh across w.ledger z.0 z.1 dups z.2) (λ t. (sym rows t, sym frames t, at.frame_is t)) p'
 
+    -- rows and dups lie lawfully once the row lies on the item's frame and its old frame was let go of
     pub laid_joined : (v' : Listed) (w u : KeeperView) → w.table ≡ k.table → u.table ≡ w.table → Keeps k w None (Some g) → Keeps w u f None → spent k.ledger ≤ spent w.ledger → spent w.ledger ≤ spent u.ledger → row.bytes ≡ item.bytes → v'.rows ≡ set v.rows i (record row { state = item.state }) → v'.frames ≡ set v.frames i (Some g) → IsLaid sh v' dups knobs next u
     laid_joined v' w u e e' keeps keeps' more more' bytes rows frames = record {
       small = h.small;

@@ -188,6 +188,7 @@ module _ (shape : Shape) (rows : List Row) (dups : DupsState) (linked : AreLinke
   linked_unshared alone = linked_mapped shape rows dups linked unshared (λ r. refl) (λ k d lt. (refl, λ number. alone_same number (get_or rows k d).state (alone k d lt)))
 
   module _ (test : Row → Bool) where
+    -- rows and dups stay linked once the rows that pass a test are mergeable
     pub linked_mergeable : AreLinked shape (change_rows test (λ r. record r { mergeable = true }) rows) dups
     linked_mergeable =
         let f : Row → Row = λ r. record r { mergeable = true } in

@@ -105,6 +105,7 @@ module _ (rows : List Row) where
         (All-weaker IsCounted (λ e. is_no_rival (tree_of knobs row) row.bytes knobs.max_page_sharing d e ≡ is_no_rival_row knobs rows row d.row e.row) (λ e m. rival_alike d e n m) dups counted) in
         λ i. joins_alike d n i && rivals i
 
+    -- the dup that a page joins best is, by its row, the best dup row by the rules of the book
     pub best_found : (dups : List Dup) → AreCounted rows dups → option_map (λ d. d.row) (best_of (tree_of knobs row) row.bytes knobs.max_page_sharing dups) ≡ best_dup knobs rows (rows_of dups) row
     best_found dups counted =
         found_alike (is_best (tree_of knobs row) row.bytes knobs.max_page_sharing dups) (is_best_row knobs rows (rows_of dups) row) dups

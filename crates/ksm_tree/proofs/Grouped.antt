@@ -200,6 +200,7 @@ module _ (t : ℕ) (b : List ℕ) where
     same_size : (d : DupRow) → of_it d ≡ false → group_size more d ≡ group_size less d
     same_size d outside = let one = h.counts (same_group d) in let apart = group_apart d r outside inside in grind (arith, one, apart)
 
+    -- one dup row more in the group changes nothing of the number of other groups' dups that are in chains
     pub dups_kept : dups_apart more ≡ dups_apart less
     dups_kept =
         let one = h.counts (λ d. not (of_it d) && in_chain more d) in
@@ -210,6 +211,7 @@ module _ (t : ℕ) (b : List ℕ) where
         ]) in
         grind (arith, one, alike, inside)
 
+    -- one dup row more in the group changes nothing of the number of other groups' chains
     pub chains_kept : chains_apart more ≡ chains_apart less
     chains_kept =
         let one = h.counts (λ d. not (of_it d) && leads more d) in

@@ -240,6 +240,7 @@ module _ (knobs : Knobs) (rows : List Row) (w : List WaitingPage) (are : AreWait
           | inr never ↦ rw never refl
         ]
 
+    -- the waiting pages are those of the rows, once the row of a page is gone and the page has stopped waiting
     pub row_dropped : AreWaiting knobs (without_page page rows) new
     row_dropped = edited knobs page None rows (without_page page rows) w new (λ q. at_without page q rows) stopped_here stopped_others are
 
