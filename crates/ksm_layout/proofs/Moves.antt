@@ -158,7 +158,7 @@ module _ (sh : Shape) (across : ℕ) (k : Ledger) (rows : List Row) (frames : Li
       gen_same : (h : ℕ) → (frame_at next h).generation ≡ (frame_at k h).generation
       gen_same h = by_frame (λ x. x.generation ≡ (frame_at k h).generation) h (λ e. gens ∙ ap (λ y. (frame_at k y).generation) (sym e)) (λ _. refl)
 
-      -- rows and dups still lie lawfully once one frame has more or fewer references, in the life and with the content that it had
+      -- rows and dups still lie lawfully once one frame has more or fewer references in the same life
       pub referenced : (hand' : Option ℕ) → (1 ≤ uses g frames → fr.kind ≡ old.kind) → (fr.kind ≡ Private → old.kind ≡ Private) → fr.base ≡ uses g frames + in_hand g hand' → ((f : ℕ) → f ≢ g → in_hand f hand' ≡ in_hand f hand) → FitsBase fr.kind fr.base → GenerationFits sh.last_generation fr.kind fr.generation → Placed sh across next rows frames dups hand'
       referenced hand' kind shown base other fits lived = record {
         paired = p.paired;

@@ -129,7 +129,7 @@ module _ (p : PagesView) (k : KeeperView) (h : IsLaid p.shape p.listed p.dups p.
       (subst (λ rows. (d : DupRow) × Contains dups1 d × (merged_into d.number item.state ≡ true) × (item_count rows d ≤ 1023)) (sym both.first.changed) joins.room)
 
   module _ (w3 : KeeperView) (table3 : w3.table ≡ w2.table) (keeps3 : Keeps w2 w3 None (Some f)) where
-    -- there is a lawful placement once the new dup has its second item, with that row's old frame in the command's hand
+    -- there is a lawful placement once the new dup has two items, with the second row's old frame in the command's hand
     pub second_lawful : IsLawful w3 g
     second_lawful = lawful p.shape p.knobs.merge_across_nodes w3 new.listed.rows new.listed.frames dups1 g (shape_same p.shape w2 w3 laid_between.same table3)
         (joined_hand p.shape v1 dups1 p.knobs (p.next + 1) w2 laid_between second item g f second_there item_there joins.merged new.listed w3 keeps3 joins.bytes both.second.rows both.second.frames)

@@ -265,7 +265,7 @@ module _ (pages : PagesView) (k : KeeperView) (h : IsLaid pages.shape pages.list
               other = λ e. other (e ∙ ap (λ (z : Ledger). (frame_at z g).base) still);
             })
 
-            -- where a frame of the node was found and the exchange was not made, a reader holds the dup's frame, and the frame stays Stable
+            -- where a frame was found for the dup and the exchange was not made, a reader holds the dup's frame
             pub found_held : Finds k w node f → FindsHeld (mapped_lay now) (mapped_lay (lay_of pages u)) dup node
             found_held found = subst (λ (x : Lay). FindsHeld (mapped_lay x) (mapped_lay (lay_of pages u)) dup node) is (record {
               frame = f;
@@ -362,7 +362,7 @@ module _ (pages : PagesView) (k : KeeperView) (h : IsLaid pages.shape pages.list
                     published = Contains-append_right part mounted.part _ mounted.published;
                   })
 
-              -- the dup moves as `Moves` says: the frame found is mounted in the stead of the old one, and all items lie on it
+              -- the dup moves as `Moves` says: the frame found replaces the old one, and all items lie on it
               pub moves : Finds k w node f → Made u x (mounting g f dup.place n.base (frame_at u.ledger g).content) → (pages' : PagesView)
                   → pages'.listed.frames ≡ lodged (λ r. merged_into dup.number r.state) f v.rows v.frames → Moves (mapped_lay now) (mapped_lay (lay_of pages' x)) dup node
               moves found mounts pages' frames = subst (λ (y : Lay). Moves (mapped_lay y) (mapped_lay (lay_of pages' x)) dup node) is (record {
