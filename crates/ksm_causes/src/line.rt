@@ -9,25 +9,23 @@ ghost use Rattle.ksm_causes.specs.Troubles.{is_empty, missing_trouble, space_tro
 
 use crate::cause::{Cause, Trouble};
 use crate::part::{Number, Part, parts_of};
-use crate::word::{WORD_ROOM, cut, name_cause, strange_byte, word_trouble};
-
-/// How many bytes a line has at most.
-const LINE_ROOM: usize = WORD_ROOM;
+use crate::word::{cut, name_cause, strange_byte, word_trouble};
+use ksm_script::LONGEST_LINE;
 
 /// Why a line, without its newline, is bad; none where it is good.
 pub fn cause_of(line: &[u8]) -> Option<Trouble>
     ensures cause { result ≡ trouble_of line.now }
     ensures bad { (result ≡ None) ↔ IsGood line.now }
 {
-    if line.len() > LINE_ROOM {
-        return Some(Trouble::new(LINE_ROOM + 1, Cause::LongLine));
+    if line.len() > LONGEST_LINE {
+        return Some(Trouble::new(LONGEST_LINE + 1, Cause::LongLine));
     }
     words_trouble(line)
 }
 
 /// What is wrong with the words of a line that is not too long.
 fn words_trouble(line: &[u8]) -> Option<Trouble>
-    requires { length line.now ≤ 256 }
+    requires { length line.now ≤ LONGEST_LINE }
     ensures { result ≡ words_trouble (words_of line.now) }
 {
     let (name, left) = cut(line);
@@ -40,7 +38,7 @@ fn words_trouble(line: &[u8]) -> Option<Trouble>
 
 /// What is wrong with a line whose first word has bytes.
 fn named_trouble(name: &[u8], left: Option<&[u8]>) -> Option<Trouble>
-    requires { length name.now + left_length left ≤ 256 }
+    requires { length name.now + left_length left ≤ LONGEST_LINE }
     ensures { result ≡ named_trouble (parts_in forms name.now) name.now (words_left left.entry) }
 {
     match parts_of(name) {
@@ -51,7 +49,7 @@ fn named_trouble(name: &[u8], left: Option<&[u8]>) -> Option<Trouble>
 
 /// What is wrong with words that should be these parts, behind the column `start`.
 fn parts_trouble(start: usize, parts: &[Part], words: Option<&[u8]>) -> Option<Trouble>
-    requires { start + left_length words ≤ 257 }
+    requires { start + left_length words ≤ LONGEST_LINE + 1 }
     ensures { result ≡ parts_trouble start parts.now (words_left words.entry) }
 {
     let mut end = start;

@@ -14,9 +14,7 @@ ghost use Rattle.ksm_causes.specs.Sizes.{left_length};
 use crate::cause::{Cause, Trouble};
 use crate::part::{Number, Part, parts_of};
 use ksm_base::PAGE_WORDS;
-
-/// How many bytes a word has at most: as many as a line.
-pub(crate) const WORD_ROOM: usize = 256;
+use ksm_script::LONGEST_LINE;
 
 /// How many digits a page is written in.
 pub(crate) const PAGE_DIGITS: usize = 16 * PAGE_WORDS;
@@ -75,7 +73,7 @@ fn strange_cause(byte: u8) -> Cause
 /// Why a word is not this part. A byte that no line has comes first, so what follows is said of printable bytes.
 pub(crate) fn word_trouble(part: Part, column: usize, word: &[u8]) -> Option<Trouble>
     requires fits { column + length word.now ≤ 600 }
-    requires short { length word.now ≤ 256 }
+    requires short { length word.now ≤ LONGEST_LINE }
     ensures { result ≡ word_trouble part column word.now }
 {
     strange_byte(column, word).or(part_trouble(part, column, word))
@@ -83,7 +81,7 @@ pub(crate) fn word_trouble(part: Part, column: usize, word: &[u8]) -> Option<Tro
 
 fn part_trouble(part: Part, column: usize, word: &[u8]) -> Option<Trouble>
     requires fits { column + length word.now ≤ 600 }
-    requires short { length word.now ≤ 256 }
+    requires short { length word.now ≤ LONGEST_LINE }
     ensures { result ≡ part_trouble part column word.now }
 {
     match part {
@@ -201,7 +199,7 @@ fn length_cause(word: &[u8]) -> Option<Cause>
 }
 
 fn knob_cause(word: &[u8]) -> Option<Cause>
-    requires { length word.now ≤ 256 }
+    requires { length word.now ≤ LONGEST_LINE }
     ensures { result ≡ knob_cause word.now }
 {
     if is_knob(word) {
@@ -210,7 +208,7 @@ fn knob_cause(word: &[u8]) -> Option<Cause>
     if is_counter(word) {
         return Some(Cause::CounterSet);
     }
-    let mut room = [0; WORD_ROOM];
+    let mut room = [0; LONGEST_LINE];
     if is_knob(lowered(word, &mut room)) {
         return Some(Cause::Capital);
     }
@@ -218,13 +216,13 @@ fn knob_cause(word: &[u8]) -> Option<Cause>
 }
 
 fn shown_cause(word: &[u8]) -> Option<Cause>
-    requires { length word.now ≤ 256 }
+    requires { length word.now ≤ LONGEST_LINE }
     ensures { result ≡ shown_cause word.now }
 {
     if is_shown(word) {
         return None;
     }
-    let mut room = [0; WORD_ROOM];
+    let mut room = [0; LONGEST_LINE];
     if is_shown(lowered(word, &mut room)) {
         return Some(Cause::Capital);
     }
@@ -233,13 +231,13 @@ fn shown_cause(word: &[u8]) -> Option<Cause>
 
 /// Why a first word of printable bytes is none that a line begins with.
 pub(crate) fn name_cause(name: &[u8]) -> Cause
-    requires { length name.now ≤ 256 }
+    requires { length name.now ≤ LONGEST_LINE }
     ensures { result ≡ name_cause name.now }
 {
     if let [b'#', ..] = name {
         return Cause::Comment;
     }
-    let mut room = [0; WORD_ROOM];
+    let mut room = [0; LONGEST_LINE];
     if parts_of(lowered(name, &mut room)).is_some() {
         return Cause::Capital;
     }

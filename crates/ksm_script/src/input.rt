@@ -11,8 +11,11 @@ use memchr::memchr;
 use std::io::{BufRead, BufReader, BufWriter, Read, Write};
 use std::marker::Model;
 
-/// How many bytes are read of a line: one more than a line may have.
-const LINE_ROOM: usize = 257;
+/// How many bytes a line has at most.
+pub const LONGEST_LINE: usize = 256;
+
+/// How many bytes are read of a line: one more than the longest has.
+const LINE_ROOM: usize = LONGEST_LINE + 1;
 
 /// What ended a line.
 #[derive(Clone, Copy, Debug, PartialEq, Eq)]
@@ -37,7 +40,7 @@ impl Model for LineBuffer {
 
     ghost view = { λ b. take b.len b.bytes };
 
-    ghost invariant = { λ b. b.len ≤ 257 };
+    ghost invariant = { λ b. b.len ≤ LINE_ROOM };
 }
 
 impl LineBuffer {
@@ -60,15 +63,15 @@ impl LineBuffer {
 
     /// Whether the line is too long.
     pub fn is_too_long(&self) -> bool
-        ensures full { IsTrue result ↔ (length self.now ≡ 257) }
-        ensures room { length self.now ≤ 257 }
+        ensures full { IsTrue result ↔ (length self.now ≡ LINE_ROOM) }
+        ensures room { length self.now ≤ LINE_ROOM }
     {
         self.len == LINE_ROOM
     }
 
     /// Adds a byte, where there is room.
     pub fn push(&mut self, byte: u8)
-        requires { length self.old < 257 }
+        requires { length self.old < LINE_ROOM }
         ensures { self.new ≡ self.old ++ byte ∷ [] }
     {
         self.bytes[self.len] = byte;
@@ -77,14 +80,14 @@ impl LineBuffer {
 
     /// How many bytes more it can have.
     pub fn room(&self) -> usize
-        ensures { result + length self.now ≡ 257 }
+        ensures { result + length self.now ≡ LINE_ROOM }
     {
         LINE_ROOM - self.len
     }
 
     /// Adds some bytes, where there is room.
     pub fn extend(&mut self, bytes: &[u8])
-        requires { length self.old + length bytes.now ≤ 257 }
+        requires { length self.old + length bytes.now ≤ LINE_ROOM }
         ensures { self.new ≡ self.old ++ bytes.now }
     {
         let end = self.len + bytes.len();
@@ -95,7 +98,7 @@ impl LineBuffer {
     /// The bytes.
     pub fn as_slice(&self) -> &[u8]
         ensures value { result.now ≡ self.now }
-        ensures fits { length result.now ≤ 257 }
+        ensures fits { length result.now ≤ LINE_ROOM }
     {
         &self.bytes[..self.len]
     }
@@ -118,7 +121,7 @@ fn next_byte<R: Read>(reader: &mut R) -> Result<Option<u8>, RunFault>
 /// Adds the next byte to a line, and tells how the line ended with it, if it has.
 fn take_byte<R: Read>(reader: &mut R, line: &mut LineBuffer) -> Result<Option<LineEnd>, RunFault>
     requires plain { IsPlain line.old }
-    requires room { length line.old ≤ 256 }
+    requires room { length line.old ≤ LONGEST_LINE }
     ensures taken { IfOk result (λ end. Takes end line.old line.new (R.remaining reader.old) (R.remaining reader.new)) }
     ensures plain { IsPlain line.new }
     ensures end { result ≡ Ok (Some LineEnd.Input) → IsAtEnd (R.remaining reader.new) }
@@ -138,7 +141,7 @@ fn take_byte<R: Read>(reader: &mut R, line: &mut LineBuffer) -> Result<Option<Li
 /// Adds what the reader has in its buffer of a line, and tells how the line ended with it, if it has.
 fn take_block<R: Read>(reader: &mut BufReader<R>, line: &mut LineBuffer) -> Option<LineEnd>
     requires plain { IsPlain line.old }
-    requires room { length line.old ≤ 256 }
+    requires room { length line.old ≤ LONGEST_LINE }
     ensures taken { Takes result line.old line.new (reader_remaining R.remaining reader.old) (reader_remaining R.remaining reader.new) }
     ensures plain { IsPlain line.new }
     ensures end { result ≢ Some LineEnd.Input }
@@ -191,13 +194,13 @@ fn take_whole<R: Read>(reader: &mut BufReader<R>) -> Option<Line>
     Some(line)
 }
 
-/// Reads a line up to its newline, to the end of the input, or to its 257th byte. At a fault the line has what was read of it.
+/// Reads a line up to its newline, to the end of the input, or until it is too long. At a fault the line has what was read of it.
 pub fn next_line<R: Read>(reader: &mut R, line: &mut LineBuffer) -> Result<LineEnd, RunFault>
     ensures read { IfOk result (λ end. (bytes : List ℕ) × EndsAs end line.new bytes
         × Consumes (R.remaining reader.old) (R.remaining reader.new) bytes) }
     ensures plain { IsPlain line.new }
     ensures end { result ≡ Ok LineEnd.Input → IsAtEnd (R.remaining reader.new) }
-    ensures fault { IfErr result (λ e. (e ≡ RunFault.Read) × (length line.new ≤ 256)
+    ensures fault { IfErr result (λ e. (e ≡ RunFault.Read) × (length line.new ≤ LONGEST_LINE)
         × Consumes (R.remaining reader.old) (R.remaining reader.new) line.new) }
 {
     line.clear();
@@ -224,13 +227,13 @@ pub(crate) trait TakesLines<R, W: Write> {
         ensures taken { IfSome result (λ form. TakesForm form (remaining reader.old) (remaining reader.new)) }
         ensures none { IfNone result (reader.new ≡ reader.old) };
 
-    /// Reads a line up to its newline, to the end of the input, or to its 257th byte. At a fault the line has what was read of it.
+    /// Reads a line up to its newline, to the end of the input, or until it is too long. At a fault the line has what was read of it.
     fn next_line(reader: &mut R, writer: &mut W, line: &mut LineBuffer) -> Result<LineEnd, RunFault>
         ensures read { IfOk result (λ end. (bytes : List ℕ) × EndsAs end line.new bytes
             × Consumes (remaining reader.old) (remaining reader.new) bytes) }
         ensures plain { IsPlain line.new }
         ensures end { result ≡ Ok LineEnd.Input → IsAtEnd (remaining reader.new) }
-        ensures fault { IfErr result (λ e. (e ≡ RunFault.Read) × (length line.new ≤ 256)
+        ensures fault { IfErr result (λ e. (e ≡ RunFault.Read) × (length line.new ≤ LONGEST_LINE)
             × Consumes (remaining reader.old) (remaining reader.new) line.new) }
         ensures kept { Keeps (W.contents writer.old) (W.contents writer.new) };
 }
@@ -296,7 +299,7 @@ fn take_more<R: Read, W: Write + Drop>(
     line: &mut LineBuffer,
 ) -> Result<Option<LineEnd>, RunFault>
     requires plain { IsPlain line.old }
-    requires room { length line.old ≤ 256 }
+    requires room { length line.old ≤ LONGEST_LINE }
     ensures taken { IfOk result (λ end. Takes end line.old line.new (reader_remaining R.remaining reader.old) (reader_remaining R.remaining reader.new)) }
     ensures plain { IsPlain line.new }
     ensures end { result ≡ Ok (Some LineEnd.Input) → IsAtEnd (reader_remaining R.remaining reader.new) }

@@ -15,6 +15,7 @@ mod session;
 mod worked;
 
 pub use hears::{Hears, Unheard};
+pub use input::LONGEST_LINE;
 pub use pass_state::PassState;
 pub use refusal::Refusal;
 pub use reply::{LineReply, write_reply};

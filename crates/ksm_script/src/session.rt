@@ -13,6 +13,7 @@ ghost use Rattle.ksm_shared.specs.Locked.{EndsLawfully};
 ghost use Rattle.ksm_script.specs.declared.pass_state.PassState.TheVariants.{Idle as idle_state};
 ghost use Rattle.ksm_script.specs.Answering.{Answers, IsTold, AllGivenBack, OnPasses, Commands, IsMappers, reply_to, content_reply, ticket_reply};
 ghost use Rattle.ksm_script.specs.Input.{EndsAs, IsPlain};
+ghost use Rattle.ksm_script.specs.declared.input.TheConstants.{LONGEST_LINE as longest_line};
 ghost use Rattle.ksm_script.specs.Lookups.{Acts, AtPass, Audits};
 ghost use Rattle.ksm_script.specs.Said.{IsSaid};
 
@@ -115,14 +116,14 @@ impl<N: Naming> Session<N> {
             × Consumes (M.remaining reader.old) (M.remaining reader.new) bytes) }
         ensures plain { IsPlain self.new.line }
         ensures end { result ≡ Ok LineEnd.Input → IsAtEnd (M.remaining reader.new) }
-        ensures fault { IfErr result (λ e. (e ≡ RunFault.Read) × (length self.new.line ≤ 256)
+        ensures fault { IfErr result (λ e. (e ≡ RunFault.Read) × (length self.new.line ≤ longest_line)
             × Consumes (M.remaining reader.old) (M.remaining reader.new) self.new.line) }
         ensures kept { Keeps (W.contents writer.old) (W.contents writer.new) }
     {
         M::next_line(reader, writer, &mut self.line)
     }
 
-    /// The bytes of the line that was read last, without its newline: of one that is too long the first 257.
+    /// The bytes of the line that was read last, without its newline: of one that is too long, one byte more than a line may have.
     pub fn line(&self) -> &[u8]
         ensures { result.now ≡ self.now.line }
     {
