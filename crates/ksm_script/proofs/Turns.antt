@@ -20,7 +20,7 @@ use Rattle.ksm_script.specs.Input.{EndsAs, IsPlain}
 use Rattle.ksm_script.specs.Answering.{Answers, reply_text}
 use Rattle.ksm_script.specs.Going.{GoesOn, IsSoFar}
 use Rattle.ksm_script.specs.LastLine.{EndsBad}
-use Rattle.ksm_script.specs.Said.{IsSaid, KeepsReply, WritesReply}
+use Rattle.ksm_script.specs.Said.{IsSaid, ReturnsReply, WritesReply}
 use Rattle.ksm_script.specs.Takes.{TakesForm}
 use Rattle.ksm_script.specs.Script.{Answered, none, more, CarriesOut, ReadFor, AnsweredAll, AnsweredLast, IsBad, IsReadAs, AnsweredToBad, AnsweredOne, AnsweredPart, Streams, streams, Goes}
 use Rattle.ksm_script.proofs.Parts.{broken_after}
@@ -129,8 +129,8 @@ module _ {W : Type 0} (contents : W → Option (List ℕ)) (now later : Option (
   said_part e (inl said) = (said.2.1.0, (taken.0, said.0, carried_as now later state next form (Some said.0) taken said.1, taken.4, said.2.1.1))
   said_part e (inr quiet) = absurd (cc quiet.2)
 
--- what a line is answered that was kept
-pub kept_answer : (form : Line) (state next : ScriptState) (new : Option LineReply) (r : Result (Unit {0}) RunFault) → IsSaid KeepsReply (λ reply. Answers form state reply next) None new r
+-- the reply that was returned for a line, or none, is what the line is answered
+pub kept_answer : (form : Line) (state next : ScriptState) (new : Option LineReply) (r : Result (Unit {0}) RunFault) → IsSaid ReturnsReply (λ reply. Answers form state reply next) None new r
     → Answers form state new next
 kept_answer form state next new r (inl said) = subst (λ (x : Option LineReply). Answers form state x next) (sym said.2.0) said.1
 kept_answer form state next new r (inr quiet) = subst (λ (x : Option LineReply). Answers form state x next) (sym quiet.1) quiet.0

@@ -13,9 +13,9 @@ WritesReply contents old new reply result =
     OnOk result (Appends (contents old) (contents new) (text_of reply))
     × IfErr result (λ e. (e ≡ Write) × AppendsPart (contents old) (contents new) (text_of reply))
 
--- it was kept
-abbrev pub KeepsReply : Option LineReply → Option LineReply → LineReply → Result (Unit {0}) RunFault → Type 0
-KeepsReply old new reply result = (new ≡ Some reply) × (result ≡ Ok tt)
+-- it was returned to the caller
+abbrev pub ReturnsReply : Option LineReply → Option LineReply → LineReply → Result (Unit {0}) RunFault → Type 0
+ReturnsReply old new reply result = (new ≡ Some reply) × (result ≡ Ok tt)
 
 -- A reply of which something is true was handed over so; where it is true of no reply, nothing was.
 abbrev pub IsSaid : {S : Type 0} → (S → S → LineReply → Result (Unit {0}) RunFault → Type 0) → (Option LineReply → Type 0) → S → S → Result (Unit {0}) RunFault → Type 0

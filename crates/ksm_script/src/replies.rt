@@ -1,6 +1,6 @@
 //! What becomes of a reply where it arises.
 ghost use Rattle.std.specs.Prelude.{Result};
-ghost use Rattle.ksm_script.specs.Said.{KeepsReply, WritesReply};
+ghost use Rattle.ksm_script.specs.Said.{ReturnsReply, WritesReply};
 
 use crate::reply::{LineReply, write_reply};
 use crate::script::RunFault;
@@ -31,11 +31,11 @@ impl<W: Write> Replies<W> for Written {
     }
 }
 
-/// The reply is kept.
-pub(crate) struct Kept;
+/// The reply is returned to the caller, in the value.
+pub(crate) struct Returned;
 
-impl Replies<Option<LineReply>> for Kept {
-    ghost takes = { KeepsReply };
+impl Replies<Option<LineReply>> for Returned {
+    ghost takes = { ReturnsReply };
 
     fn reply(to: &mut Option<LineReply>, reply: LineReply) -> Result<(), RunFault> {
         *to = Some(reply);

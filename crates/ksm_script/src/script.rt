@@ -14,7 +14,7 @@ ghost use Rattle.ksm_script.specs.Texts.{AppendsPart};
 
 use crate::hears::{Hears, Unheard};
 use crate::input::{ByBlocks, ByBytes, LineEnd, TakesLines};
-use crate::replies::{Kept, Written};
+use crate::replies::{Returned, Written};
 use crate::reply::{LineReply, write_reply};
 use crate::session::Session;
 use ksm_lines::{Line, LineFault, read_line};
@@ -192,7 +192,7 @@ fn answer_next<M: TakesLines<R, W>, H: Hears<W>, N: Naming, T: Threads + Wait + 
         return Ok(Some(End::BadLine(number)));
     };
     let mut reply = None;
-    session.answer::<Kept, T, Option<LineReply>>(rt, line, &mut reply)?;
+    session.answer::<Returned, T, Option<LineReply>>(rt, line, &mut reply)?;
     write_answer(writer, hears, number, session.line(), reply)?;
     if end == LineEnd::Input {
         return Ok(Some(End::AllRead));
