@@ -6,24 +6,13 @@ use Rattle.frame_table.specs.Named.{TableName, PassView}
 use Rattle.frame_table.specs.Lookup.{ReaderLog}
 use Rattle.ksm_audit.specs.declared.report.Row.{Row}
 use Rattle.ksm_audit.specs.declared.job.Line.{Line}
-use Rattle.ksm_audit.specs.declared.claims.Deal.{Deal}
-use Rattle.ksm_audit.specs.Claims.{worker_hand, once_from, times}
+use Rattle.ksm_audit.specs.Claims.{once_from, times}
 use Rattle.ksm_audit.specs.Lookups.{IsLookup, Visits}
 use Rattle.ksm_audit.specs.Working.{Sat, Drew, line, places_of, AreLookups, Made, Keeps, Answers, MayStop}
 use Rattle.ksm_audit.proofs.Dealing.{times_append}
 
 pub apart : (x y : ℕ) → y ≢ x → times x (y ∷ []) ≡ 0
 apart x y ne = subst (λ (b : Bool). (if b then 1 else 0) + 0 ≡ 0) (sym (ne_eqb y x ne)) refl
-
-pub keeps_fresh : (count : ℕ) (deal : Deal) → Keeps count [] None (worker_hand deal, [])
-keeps_fresh count deal = record {
-  held = refl;
-  parts = refl;
-  room = omega arith;
-  inside = λ x le. refl;
-  most = λ x. omega arith;
-  all = λ none x lt. refl;
-}
 
 module _ (m : Sat) (found : ℕ) (w : Sat) (d : Drew m found w) where
   -- a draw leaves the deal as it was
