@@ -36,6 +36,9 @@ pub struct LineBuffer {
 }
 
 impl Model for LineBuffer {
+    ghost use Rattle.std.specs.Prelude.{◌≤◌, ℕ, List, take};
+    ghost use Rattle.ksm_script.specs.declared.input.TheConstants.{LINE_ROOM};
+
     ghost Value = { List ℕ };
 
     ghost view = { λ b. take b.len b.bytes };
