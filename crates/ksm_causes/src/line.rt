@@ -86,7 +86,7 @@ fn missing_trouble(end: usize, part: Part) -> Option<Trouble>
 
 /// What is wrong where a word should begin and a space stands.
 fn space_trouble(end: usize, behind: Option<&[u8]>) -> Trouble
-    requires { end ≤ 600 }
+    requires { end ≤ LONGEST_LINE }
     ensures { result ≡ space_trouble end (words_left behind.entry) }
 {
     if are_spaces(behind) {
@@ -114,7 +114,7 @@ fn has_spaces_alone(text: &[u8]) -> bool
 
 /// What is wrong with a text where the line should end.
 fn more_trouble(end: usize, text: &[u8]) -> Option<Trouble>
-    requires { end + length text.now ≤ 300 }
+    requires { end + length text.now ≤ LONGEST_LINE }
     ensures { result ≡ parts_trouble end [] (words_of text.now) }
 {
     let (word, behind) = cut(text);

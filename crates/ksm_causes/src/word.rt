@@ -46,7 +46,7 @@ pub(crate) fn is(word: &[u8], name: &str) -> bool
 
 /// The first byte of a word that stands in no word of any line.
 pub(crate) fn strange_byte(column: usize, word: &[u8]) -> Option<Trouble>
-    requires { column + length word.now ≤ 600 }
+    requires { column + length word.now ≤ LONGEST_LINE + 1 }
     ensures { result ≡ strange_trouble column word.now }
 {
     let at = first_strange(word)?;
@@ -72,7 +72,7 @@ fn strange_cause(byte: u8) -> Cause
 
 /// Why a word is not this part. A byte that no line has comes first, so what follows is said of printable bytes.
 pub(crate) fn word_trouble(part: Part, column: usize, word: &[u8]) -> Option<Trouble>
-    requires fits { column + length word.now ≤ 600 }
+    requires fits { column + length word.now ≤ LONGEST_LINE + 1 }
     requires short { length word.now ≤ LONGEST_LINE }
     ensures { result ≡ word_trouble part column word.now }
 {
@@ -80,7 +80,7 @@ pub(crate) fn word_trouble(part: Part, column: usize, word: &[u8]) -> Option<Tro
 }
 
 fn part_trouble(part: Part, column: usize, word: &[u8]) -> Option<Trouble>
-    requires fits { column + length word.now ≤ 600 }
+    requires fits { column + length word.now ≤ LONGEST_LINE + 1 }
     requires short { length word.now ≤ LONGEST_LINE }
     ensures { result ≡ part_trouble part column word.now }
 {
@@ -173,7 +173,7 @@ fn value_of(digits: &[u8]) -> Option<u32>
 }
 
 fn content_trouble(column: usize, word: &[u8]) -> Option<Trouble>
-    requires { column + length word.now ≤ 600 }
+    requires { column + length word.now ≤ LONGEST_LINE + 1 }
     ensures { result ≡ part_trouble content column word.now }
 {
     match first_not_hexadecimal(word) {
