@@ -112,7 +112,7 @@ module _ (sh : Shape) (s : State) (rule : Rule sh s) where
   pages_fit : (i : ℕ) → i < length s.ledger.frames → length (get_or s.ledger.frames i blank).content ≡ PAGE_WORDS
   pages_fit i below = (rule.frames i (omega (arith, below, rule.frame_count))).content
 
-  -- what stands there
+  -- the word of the frame f stands where its frame word lies
   pub word_get : (f : ℕ) → f < F → get_or (words_of s) (frame_word_at F f) 0 ≡ frame_word_of s f
   word_get f below =
       let moved : frame_word_at F f ≡ length places + (f * LINE_WORDS + 0) = omega (arith, places_long) in
@@ -153,7 +153,7 @@ module _ (sh : Shape) (s : State) (rule : Rule sh s) where
       ∙ λ i. places ++ ((flat_set line_of LINE_WORDS 0 words f 0 v v (λ i below. refl) (omega (arith, below, all_words)) (omega arith) refl ∙ ap (flat_map line_of) new) i
       ++ (replicate LINE_WORDS 0 ++ others i))))
 
-  -- the same where the references stay, and where the note stays
+  -- the word of the frame f becomes that of another note, with the same count and content
   pub note_set : (f v : ℕ) (note : Note) → f < F → v ≡ frame_word note.generation (count_at s f) → note.content ≡ (frame_at s.ledger f).content
       → set (words_of s) (frame_word_at F f) v ≡ words_of record { ledger = with_frame s.ledger f note; counts = s.counts; seats = s.seats }
   note_set f v note below is same = word_set f v (count_at s f) note below is same

@@ -21,7 +21,7 @@ module _ (sh : Shape) (s : State) (rule : Rule sh s) where
   pub count_found : (f : ℕ) → f < frames_of sh → count_in (frame_word_of s f) ≡ count_at s f
   count_found f below = count_packed (frame_at k f).generation (count_at s f) (omega (arith, count_at_most sh s rule f below))
 
-  -- and the life in it is its life
+  -- the life in the word of a frame is its life
   pub life_found : (f : ℕ) → f < frames_of sh → life_in (frame_word_of s f) ≡ (frame_at k f).generation
   life_found f below = life_packed (frame_at k f).generation (count_at s f) (omega (arith, count_at_most sh s rule f below))
 
@@ -67,7 +67,7 @@ module _ (sh : Shape) (s : State) (rule : Rule sh s) where
 
   -- ---------------------------------------------------------------- a reader's steps
 
-  -- what the word of a place that names a life tells
+  -- the word of a place that names a life is not 0, and tells that life
   pub life_of_word : (life : Life) → IsNamed sh k life → ¬ (place_word (Some life) ≡ 0) × (life_at (place_word (Some life)) ≡ life)
   life_of_word life r =
       let f = life.frame in
@@ -78,7 +78,7 @@ module _ (sh : Shape) (s : State) (rule : Rule sh s) where
       let b : (g * 1024 + f) / 1024 ≡ g = omega arith in
       ((λ e. omega (arith, some, e)), λ i. record { frame = a i; generation = b i })
 
-  -- what a seat is in that loaded it
+  -- a seat that loaded the word of a place that names a life is Placed, with that life as its aim
   pub aimed : (p : ℕ) (life : Life) → IsNamed sh k life
       → cond (place_word (Some life) == 0) Idle (Placed (aim_of p (place_word (Some life))) 0) ≡ Placed record { place = p; life = life } 0
   aimed p life r =

@@ -13,11 +13,11 @@ known_more : (known : List (Option ℕ)) (xs : List (ℕ × ℕ)) (i word : ℕ)
 known_more known [] i word = refl
 known_more known (x ∷ xs) i word = known_more (set known x.0 (Some x.1)) xs i word
 
--- nothing was read yet
+-- a hold is the same hold as itself
 pub same_hold : (v : HeldView) → SameHold v v
 same_hold v = ([], let e : v.log ++ [] ≡ v.log = append-nil v.log in λ i. let z : HeldView = record v { log = sym e i } in z)
 
--- one word more was read
+-- a hold that reads one word more is still the same hold
 pub reads_more : (v w x : HeldView) (i word : ℕ) → SameHold v w → ReadsWord w i word x → SameHold v x
 reads_more v w x i word h r =
     let xs = h.0 in

@@ -105,7 +105,7 @@ module _ (slots id : ℕ) (key sh : Shape) (me : Sat) (at : ℕ) (keeper : IsKee
   may_show f i is may = makes (Word f i) (λ n. n) (shows (step slots at 0 0 unsaid) me) is may (λ n small told. refl) (λ n m shape keeps g j below is'.
       let one = same_word f i g j is may.1 below shape is' in subst (λ (x : ℕ × ℕ). Keeps (Word x.0 x.1) me n m) (λ y. (one.0 y, one.1 y)) keeps)
 
-  -- the word of a place names the frame in its lowest bits
+  -- the keeper may store to a place the word that names a frame which it may publish there
   pub may_publish : (f w : ℕ) → f < 1024 → w ≡ place_word (Some record { frame = f; generation = (frame_at k f).generation }) % 2 ^ 64
       → MayStep sh k (Publish at f) → MayStore publishes slots id w key at me
   may_publish f w low is may =

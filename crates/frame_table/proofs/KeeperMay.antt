@@ -41,7 +41,7 @@ tied_beside_keeper sh h g tally tally' (suc q) (Reader sh' phase log order) same
 tied_beside_keeper sh h g tally tally' (suc q) Spent same ne tied = tt
 tied_beside_keeper sh h g tally tally' (suc q) (Keeper sh' ledger t log order) same ne tied = absurd tied
 
--- the keeper's view tells another tally
+-- the table keeps its rule where the keeper's view becomes one that tells another tally
 pub keeper_retold : (sh : Shape) (h : History) (tally tally' : Tally) (words : List ℕ) (views : List View) (v w : View)
     → phase_of w ≡ spent_phase → Tied sh h tally' 0 w → get_elem? views 0 ≡ some v → IsAfter sh h tally words views → IsAfter sh h tally' words (set views 0 w)
 keeper_retold sh h tally tally' words views v w keeper told at is = record {

@@ -12,13 +12,13 @@ module _ {A : Type 0} where
   got (y ∷ ys) zero x e = ap Some (some-injective y x e)
   got (y ∷ ys) (suc i) x e = got ys i x e
 
-  -- what is there, where the default is not
+  -- an element that is found as `Some`, where the default is None, is in the list
   pub there : (xs : List (Option A)) (i : ℕ) (x : A) → get_or xs i None ≡ Some x → slice_get xs i ≡ Some (Some x)
   there [] i x e = absurd (cc (e))
   there (y ∷ ys) zero x e = ap Some e
   there (y ∷ ys) (suc i) x e = there ys i x e
 
-  -- what holds of each element, with its number, after a write
+  -- what holds of each element, with its number, holds after a write of one of which it holds
   pub each_put : (P : ℕ → A → Type 0) (xs : List A) (i : ℕ) (a : A) → P i a → ((j : ℕ) (b : A) → j ≢ i → get_elem? xs j ≡ some b → P j b)
       → (j : ℕ) (b : A) → get_elem? (set xs i a) j ≡ some b → P j b
   each_put P xs i a here there j b at = ⊎_elim (λ (k : (j ≡ i) × (a ≡ b)). subst (λ (x : ℕ × A). P x.0 x.1) (λ t. (sym k.0 t, k.1 t)) here)

@@ -10,7 +10,7 @@ use Rattle.atomic_table.specs.Seated.{TableId}
 pub is_in : (sh : Shape) (phase : Phase) (log : ReaderLog) (m : Sat) → m ≡ sits sh phase log (order_in m) → IsIn sh phase m
 is_in sh phase log m e = e ∙ ap (λ (l : ReaderLog). sits sh phase l (order_in m)) (sym (ap log_in e))
 
--- after i rounds that were lost
+-- the seat stands after i rounds that were lost
 abbrev pub Tries : Shape → ReaderLog → ℕ → ℕ → ℕ → Sat → Type 0
 Tries sh log p w i m = (xs : List (ℕ × ℕ)) × AllLost (life_at w).generation xs × (length xs ≡ i)
     × (m ≡ sits sh (cond (nat_le sh.tries i) Idle (Placed (aim_of p w) i)) (log ++ lookup_so_far p w xs) (order_in m))
@@ -41,7 +41,7 @@ module _ (sh : Shape) (p w : ℕ) where
     pub stands : i < sh.tries → IsIn sh (at i) m
     stands more = is_in sh (at i) so_far m (here more)
 
-    -- a round, by the log so far
+    -- a round that the seat makes goes on from its log so far
     pub last_round : (r : Round) (m' : Sat) → i < sh.tries → GoesRound m.0 r m' → GoesRound (Reader sh (at i) so_far (order_in m)) r m'
     last_round r m' more goes = subst (λ (x : Sat). GoesRound x.0 r m') (here more) goes
 
@@ -64,7 +64,7 @@ module _ (sh : Shape) (p w : ℕ) where
         ∙ ap (λ (l : ReaderLog). log ++ (LoadPlace p, w) ∷ l) (sym (rounds_more t.0 c d)) in
         (xs, lost_more (life_at w).generation t.0 c d t.1 g.0 g.1, omega (arith, length-append t.0 ((c, d) ∷ [])), g.2 ∙ ap (λ (l : ReaderLog). sits sh phase l (order_in m')) same)
 
--- a frame word of the life named, with a reference, was loaded
+-- a seat that loaded a frame word of the life named, with a reference, is Counted
 pub counted : (sh : Shape) (aim : Aim) (failures n : ℕ) (me m : Sat) → IsIn sh (Placed aim failures) me → Steps LoadFrame me n m
     → IsAlive aim.life.generation n → (n ≡ frame_word aim.life.generation (count_in n)) × IsIn sh (Counted aim failures (count_in n)) m
 counted sh aim failures n me m is s alive =
@@ -77,19 +77,19 @@ counted sh aim failures n me m is s alive =
           (e ∙ ap (λ (b : Bool). sits sh (cond b (Counted aim failures (count_in n)) Idle) log (order_in m)) test),
     )
 
--- what the word of a place names, where it names something
+-- the word of a place that names a life is not 0, and tells that life
 pub word_names : (w : ℕ) (life : Life) (b : Bool) → eqb w 0 ≡ b → cond b None (Some (life_at w)) ≡ Some life → ¬ (w ≡ 0) × (life_at w ≡ life)
 word_names w life true is e = absurd (cc (e))
 word_names w life false is e = (eqb-false w 0 is, same_Some (life_at w) life e)
 
--- a lookup that ended with these steps: which table its pass is of, and the log
+-- a lookup that ended with these steps leaves its pass at its table, and its log has them at its end
 pub ended : (mine now : TableName) (id : TableId) (m : Sat) (phase : Phase) (log : ReaderLog) (p w : ℕ) (xs : List (ℕ × ℕ)) (last : ReaderLog)
     → id ≡ now.id → mine ≡ now → m ≡ sits now.shape phase ((log ++ lookup_so_far p w xs) ++ last) (order_in m)
     → (◌≡◌ {A = TableName} record { id = id; shape = shape_in m } mine) × (log_in m ≡ log ++ (lookup_so_far p w xs ++ last))
 ended mine now id m phase log p w xs last ids own is =
     ((λ i. record { id = ids i; shape = shape_in (is i) }) ∙ sym own, ap log_in is ∙ append_assoc log (lookup_so_far p w xs) last)
 
--- a lookup that ended in the round i
+-- a lookup goes on in the round i where i is below `tries` and each round before was lost
 pub tried_so_far : (mine now : TableName) (i w : ℕ) (life : Life) (xs : List (ℕ × ℕ)) → cond (eqb w 0) None (Some (life_at w)) ≡ Some life → i < now.shape.tries
     → AllLost (life_at w).generation xs → length xs ≡ i → mine ≡ now → GoesOn mine.shape w xs
 tried_so_far mine now i w life xs names more lost long own =

@@ -13,7 +13,7 @@ use Rattle.frame_table.proofs.Names.{Tally, View, Reader, Begins, IsPresent, pha
 use Rattle.frame_table.proofs.Looked.{got, each_put}
 use Rattle.frame_table.proofs.Orders.{in_order_more}
 
--- one view is another
+-- to replace a view is to replace it in the list of all views
 pub all_set : (sh : Shape) (tally : Tally) (views : List View) (j : ℕ) (v w : View) → get_elem? views j ≡ some v
     → all_views sh tally (set views j w) ≡ set (all_views sh tally views) j w
 all_set sh tally views j v w at = sym (set-append_left views (replicate tally.unmade (Reader sh Idle [] [])) j w (slice_get_within views j v (got views j v at)))
@@ -31,7 +31,7 @@ module _ (sh : Shape) (t : Moment) (h : Holds sh t) where
   abbrev past : History
   past = run_of sh h.events
 
-  -- the core's rule holds
+  -- the state so far keeps the core's rule
   pub kept : core_rule.Rule sh past.state
   kept = run_rule sh h.shape h.events
 
@@ -41,11 +41,11 @@ module _ (sh : Shape) (t : Moment) (h : Holds sh t) where
   at_all : (j : ℕ) (v : View) → get_elem? t.views j ≡ some v → get_elem? all j ≡ some v
   at_all j v at = at_longer t.views (replicate h.tally.unmade (Reader sh Idle [] [])) j v at
 
-  -- what the rule tells of a view that is there
+  -- the table's rule ties each view to the steps so far
   pub seen : (j : ℕ) (v : View) → get_elem? t.views j ≡ some v → Tied sh past h.tally j v
   seen j v at = h.after.tied j v (at_all j v at)
 
-  -- how far a seat has come in the core: its seat q is the seat q + 1 of the table
+  -- the seat q of the core has come as far as the view of the table's seat q + 1 says
   pub seated : (q : ℕ) (v : View) → get_elem? t.views (suc q) ≡ some v → slice_get past.state.seats q ≡ Some (phase_of v)
   seated q v at = got past.state.seats q (phase_of v)
       (subst (λ (l : List Phase). get_elem? l (suc q) ≡ some (phase_of v)) h.after.phases_are (at_map phase_of all (suc q) v (at_all (suc q) v at)))
@@ -61,11 +61,11 @@ module _ (sh : Shape) (t : Moment) (h : Holds sh t) where
     abbrev pub events : List Event
     events = h.events ++ this ∷ []
 
-    -- the run that has this step too
+    -- the steps so far with this one lead to the next state
     pub ran : run_of sh events ≡ next
     ran = run_step sh h.events this r is
 
-    -- the step is of the present, after an order that is a beginning
+    -- the step is of the present where the seat's order is a beginning of all steps
     pub present : (order : List Event) (n : ℕ) → Begins order h.events → n ≡ r.0 → IsPresent sh order events this n
     present order n first found = record {
       since = first.0;

@@ -15,7 +15,7 @@ notes_get notes f d below = get_or-map kept_of notes f blank d below
 pub notes_set : (notes : List Note) (f : ℕ) (x : Note) → map kept_of (set notes f x) ≡ set (map kept_of notes) f (kept_of x)
 notes_set notes f x = map-set kept_of notes f x
 
--- all of them, where a content alone is another
+-- the keeper's notes without contents stay where the content of one frame alone changes
 pub notes_kept : (notes : List Note) (f : ℕ) (x : Note) → kept_of x ≡ kept_of (get_or notes f blank) → map kept_of (set notes f x) ≡ map kept_of notes
 notes_kept notes f x same = notes_set notes f x
     ∙ (ap (set (map kept_of notes) f) (same ∙ sym (found_in_map kept_of notes f blank)) ∙ set-get_or (map kept_of notes) f (kept_of blank))

@@ -94,7 +94,7 @@ keeper_log_grows h (event.Keeper e) r = ((e, r.0) ∷ [], refl)
 
 -- ---------------------------------------------------------------- what a view knows of the order
 
--- more steps leave it a beginning
+-- a view's order is still a beginning once more steps were made
 pub in_order_more : (sh : Shape) (events more : List Event) (j : ℕ) (v : View) → IsInOrder sh events j v → IsInOrder sh (events ++ more) j v
 in_order_more sh events more zero (Keeper sh' ledger tally log order) is = (begins_more order events more is.0, is.1)
 in_order_more sh events more (suc q) (Reader sh' phase log order) is = (begins_more order events more is.0, is.1)

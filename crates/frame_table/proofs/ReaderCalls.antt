@@ -43,7 +43,7 @@ module _ (slots id : ℕ) (sh : Shape) (log : ReaderLog) (order : List Event) wh
       let r = reader_may slots Leave (Held aim known) log order (λ n. (n + (2 ^ 64 - 1)) % 2 ^ 64) sh id refl
       (λ n small told. one_less_word n told small) t h size at small in (r.0, r.1, r.2, r.3, λ is. r.4)
 
-  -- which word of the page a word of the table is
+  -- a pass that holds a frame may load each word of its page
   pub may_load_word : (aim : Aim) (known : List (Option ℕ)) (i : ℕ) → i < PAGE_WORDS → MayLoad loads_word slots id sh (content_at (frames_of sh) aim.life.frame i) (sits sh (Held aim known) log order)
   may_load_word aim known i below t h size at small = let r = reader_may slots (LoadWord i) (Held aim known) log order (λ n. n) sh id (lt-ltb i PAGE_WORDS below) (λ n small told. refl) t h size at small in
       (r.0, r.1, r.2, r.3, λ j within is. let same : i ≡ j = omega arith in subst (λ (k : ℕ). StepsNow (LoadWord k) (sits sh (Held aim known) log order) (get_or t.words (content_at (frames_of sh) aim.life.frame i) 0) (r.0, carried_after [] r.1)) same r.4)

@@ -25,7 +25,7 @@ lines_last : (p : ℕ) (row : Row) (xs : List Line) (l : Line) → l ≡ line p 
 lines_last p row [] l e = inl e
 lines_last p row (x ∷ xs) l e = inr (lines_last p row xs l e)
 
--- one line more
+-- one line more fills the row of its place
 pub fills_more : (ls : List Line) (l : Line) (before rows : List Row) → Fills ls before rows → Fills (ls ++ l ∷ []) before (set rows l.place l.row)
 fills_more ls l before rows h p row e = ⊎_elim
     (λ (t : (p ≡ l.place) × (l.row ≡ row)). inl (lines_last p row ls l (let z : l ≡ line p row = λ i. let x : Line = record { place = sym t.0 i; row = t.1 i } in x in z)))
@@ -116,14 +116,14 @@ gathers_more all jobs rest j before passes after v m n g is has more joined = re
 pub gathered_all : (all jobs : List Job) (before now : List PassView) (m : Sat) (g : Gathered all jobs before now m) → jobs ≡ [] → all ≡ g.done
 gathered_all all jobs before now m g none = g.parted ∙ ap (λ (l : List Job). l ++ g.done) none
 
--- one worker more has its pass
+-- the passes are those that are left and those that the jobs have, once one job more has the last one
 pub loaded_on : (all passes rest : List PassView) (jobs more : List Job) (j : Job) (v : PassView) → all ≡ passes ++ loaded jobs → passes ≡ rest ++ v ∷ [] → more ≡ jobs ++ j ∷ [] → j.pass ≡ Some v → all ≡ rest ++ loaded more
 loaded_on all passes rest jobs more j v is popped pushed has =
     is ∙ ap (λ (l : List PassView). l ++ loaded jobs) popped ∙ append_assoc rest (v ∷ []) (loaded jobs)
     ∙ ap (λ (o : Option PassView). rest ++ (option_to_list o ++ loaded jobs)) (sym has)
     ∙ ap (λ (l : List PassView). rest ++ l) (sym (loaded_append jobs (j ∷ []))) ∙ ap (λ (l : List Job). rest ++ loaded l) (sym pushed)
 
--- what the first seat keeps, once one worker more has its seat
+-- the first seat keeps what is left of the deal once one worker more has its seat
 pub remaining_less : (deal : Deal) (n more : ℕ) (m w : Sat) → m ≡ remaining deal n → more ≡ n + 1 → w ≡ (one_less m.0, m.1) → w ≡ remaining deal more
 remaining_less deal n more m w is one e =
     let a : deal.workers + 1 - n - 1 ≡ deal.workers + 1 - more = omega arith in

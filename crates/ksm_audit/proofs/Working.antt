@@ -19,7 +19,7 @@ module _ (m : Sat) (found : ℕ) (w : Sat) (d : Drew m found w) where
   pub same_deal : w.0.deal ≡ m.0.deal
   same_deal = ap (λ (q : Sat). q.0.deal) d.0
 
-  -- a place is not drawn in vain
+  -- a draw that finds a place leaves the count of numbers past the places at 0
   pub still_none : m.0.past ≡ 0 → found < m.0.deal.places → w.0.past ≡ 0
   still_none none lt = ap (λ (q : Sat). q.0.past) d.0 ∙ sums found m.0.deal.places m.0.past none lt
     where
@@ -48,7 +48,7 @@ module _ (count : ℕ) (places : List ℕ) (refused : Option ℕ) (m : Sat) (k :
       let n = ap (λ (q : Sat). q.0.next) d.0 in
       let o = d.1 in omega arith
 
-  -- the number drawn is no place
+  -- `Keeps` stays true of a worker that drew a number which is no place
   pub keeps_past : count ≤ found → Keeps count places refused w
   keeps_past le = record {
     held = held_now;

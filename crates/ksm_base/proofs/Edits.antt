@@ -60,7 +60,7 @@ module _ {X : Type 0} (p : X → Bool) where
             grind (arith, fails, induction)
       ]
 
-  -- an element that fails may stand anywhere
+  -- a search finds the same whether an element that fails its test stands in the list or not
   pub find_over : (xs ys : List X) (y : X) → p y ≡ false → find p (xs ++ y ∷ ys) ≡ find p (xs ++ ys)
   find_over [] ys y fails = grind (arith, fails)
   find_over (x ∷ xs) ys y fails = let induction = find_over xs ys y fails in grind (arith, induction)
@@ -70,7 +70,7 @@ module _ {X : Type 0} (p : X → Bool) where
   count_filter_le q [] = omega arith
   count_filter_le q (x ∷ xs) = let induction = count_filter_le q xs in grind (arith, count_more, induction)
 
-  -- of two filters that no element passes both
+  -- two filters that no element passes both count together no more than the whole list
   pub count_filters_le : (q s : X → Bool) (xs : List X) → All (λ x. q x ≡ true → s x ≡ false) xs
       → count_by p (filter q xs) + count_by p (filter s xs) ≤ count_by p xs
   count_filters_le q s [] apart = omega arith
@@ -79,7 +79,7 @@ module _ {X : Type 0} (p : X → Bool) where
       let induction = count_filters_le q s xs (All-tail (λ y. q y ≡ true → s y ≡ false) x xs apart) in
       grind (arith, count_more, here, induction)
 
-  -- a change after which no element passes that failed
+  -- a change after which no element passes that failed before counts no more
   pub count_map_le : (f : X → X) (xs : List X) → All (λ x. p (f x) ≡ true → p x ≡ true) xs → count_by p (map f xs) ≤ count_by p xs
   count_map_le f [] less = omega arith
   count_map_le f (x ∷ xs) less =

@@ -21,7 +21,7 @@ pairs_head R x xs pairs k d lt = pairs 0 (suc k) d (omega arith) (omega arith)
 pub pairs_tail : {X : Type 0} (R : X → X → Type 0) (x : X) (xs : List X) → AllPairs R (x ∷ xs) → AllPairs R xs
 pairs_tail R x xs pairs i j d lt in_range = pairs (suc i) (suc j) d (omega arith) (omega arith)
 
--- two lists in order, with each of the first before each of the second
+-- two lists in order make one in order where each element of the first comes before each of the second
 pub pairs_append : {X : Type 0} (R : X → X → Type 0) (xs ys : List X) → AllPairs R xs → AllPairs R ys → All (λ x. All (R x) ys) xs
     → AllPairs R (xs ++ ys)
 pairs_append R [] ys first second cross = second

@@ -4,7 +4,7 @@ use Rattle.std.proofs.lemmas.Bool.Decides.{nat_tests}
 use Rattle.ksm_base.specs.declared.page.GuestPage.{GuestPage}
 use Rattle.ksm_base.specs.Rows.{comes_before, same_page}
 
--- a page is itself
+-- a page tests as the same page as itself
 pub same_page_refl : (p : GuestPage) → same_page p p ≡ true
 same_page_refl p = grind (arith, nat_tests)
 

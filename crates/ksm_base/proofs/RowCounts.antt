@@ -30,7 +30,7 @@ abbrev one_if : Bool → ℕ
 one_if test = if test then 1 else 0
 
 module _ (p : Row → Bool) where
-  -- a page's row is changed
+  -- a change of a page's row changes a count by what the old row and the new one count
   pub count_change_row : (page : GuestPage) (f : Row → Row) (rows : List Row) (row : Row) → InPageOrder rows → row_at page rows ≡ Some row
       → count_by p (change_row page f rows) + one_if (p row) ≡ count_by p rows + one_if (p (f row))
   count_change_row page f [] row rise found = cc

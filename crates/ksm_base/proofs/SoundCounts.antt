@@ -29,7 +29,7 @@ not_an_item number Waiting single = refl
 not_an_item number (Merged n) single = cc
 not_an_item number Zero single = refl
 
--- a page that joins a dup is one item more
+-- a dup that a page joins has one item more
 pub joined_count : (rows : List Row) (row : Row) (dup : DupRow) → InPageOrder rows → row_at row.page rows ≡ Some row → merged_state row.state ≡ false → item_count (change_row row.page (λ r. record r { state = Merged dup.number }) rows) dup ≡ item_count rows dup + 1
 joined_count rows row dup rise found single =
     let p : Row → Bool = λ r. merged_into dup.number r.state in

@@ -67,7 +67,7 @@ pub record AreSoundRows (b : BookState) (rows : List Row) : Type 0 where
   pub items : All (λ r. (number : ℕ) → r.state ≡ Merged number → (dup : DupRow) × IsDupOf b.knobs b.dups r number dup) rows
   pub limit : All (λ d. item_count rows d ≤ b.knobs.max_page_sharing) b.dups
 
--- the rows may be others that are sound
+-- a sound book stays sound where its rows are replaced by sound ones
 pub sound_rows : (b : BookState) (rows : List Row) → IsSound b → AreSoundRows b rows → IsSound (record b { rows = rows })
 sound_rows b rows s h =
     record {
@@ -191,7 +191,7 @@ sound_calmed b f calmer homes s =
           omega (arith, fewer, s.limit k d lt);
     })
 
--- rows may go
+-- a sound book stays sound where rows go
 pub sound_filtered : (b : BookState) (test : Row → Bool) → IsSound b → IsSound (record b { rows = filter test b.rows })
 sound_filtered b test s =
     sound_rows b (filter test b.rows) s
@@ -212,7 +212,7 @@ sound_filtered b test s =
           omega (arith, fewer, s.limit k d lt);
     })
 
--- a private row may come
+-- a sound book stays sound where a private row comes
 pub sound_with_row : (b : BookState) (row : Row) → row.state ≡ Private → row.home < b.shape.nodes → IsSound b → IsSound (record b { rows = with_row row b.rows })
 sound_with_row b row is_private home s =
     sound_rows b (with_row row b.rows) s
@@ -252,7 +252,7 @@ item_of_dup knobs dups row number dup merged h =
 pub dup_has_items : (rows : List Row) (dup : DupRow) → All (λ r. merged_into dup.number r.state ≡ true → has_items rows dup ≡ true) rows
 dup_has_items rows dup k d lt merged = lt-ltb 0 (item_count rows dup) (counts_one (λ r. merged_into dup.number r.state) rows k d lt merged)
 
--- stale dups may go
+-- a sound book stays sound where its stale dups go
 pub sound_without_stale : (b : BookState) → IsSound b → IsSound (without_stale b)
 sound_without_stale b s =
     let live = has_items b.rows in
@@ -288,7 +288,7 @@ none_merged b s none k d lt number merged =
 pub no_dup_lives : (b : BookState) → shared_count b.rows b.dups ≡ 0 → filter (has_items b.rows) b.dups ≡ []
 no_dup_lives b none = filter_none (has_items b.rows) b.dups (none_counted (has_items b.rows) b.dups none)
 
--- a row that becomes private
+-- a row that becomes private is calmer than it was
 pub becomes_private : (old new : Row) → new.page ≡ old.page → new.state ≡ Private → IsCalmer old new
 becomes_private old new page is_private =
     let never : private_state new.state ≡ false → ⊥ = λ taken. true≢false (rw is_private at taken) in

@@ -66,7 +66,7 @@ sound_set_pages b v reply accepted s =
     let range = within 1 1000000 v (refused_none (not (is_within 1 1000000 v)) BadValue None accepted).0 in
     sound_settings b b.knobs.run v b.knobs.use_zero_pages b.passes b.cursor s.knobs.run range s.knobs.use_zero_pages s.passes s
 
--- the use of the zero page may change at any time
+-- `set use_zero_pages` keeps the state sound
 pub sound_set_zero_pages : (b : BookState) (v : ℕ) (reply : Reply) → refusal b (SetZeroPages v) ≡ None → IsSound b
     → IsSound (effect b (SetZeroPages v) reply)
 sound_set_zero_pages b v reply accepted s =

@@ -176,7 +176,7 @@ each_of_pair P b w row pair of_w of_row k d lt either =
       | inr same ↦ subst P (sym (pair.visited.once k d lt same)) of_row
     ]
 
--- a new dup is made of the two
+-- the book is sound once a new dup is made of the two pages
 pub sound_made : (b : BookState) (w row : Row) (place : ℕ) → IsPair b w row → IsFree b place → IsSound b → IsSound (made_dup place b w row)
 sound_made b w row place pair free s =
     let test : Row → Bool = λ r. same_page r.page w.page || same_page r.page row.page in

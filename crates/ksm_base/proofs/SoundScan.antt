@@ -19,7 +19,7 @@ use Rattle.ksm_base.proofs.SoundEdits.{IsCalmer, sound_settings, becomes_private
 use Rattle.ksm_base.proofs.SoundVisit.{IsVisited, best_dup_has_room, sound_joined, sound_waiting, sound_zero}
 use Rattle.ksm_base.proofs.SoundPair.{new_place_free, partner_pairs, sound_made}
 
--- the cursor may be anywhere
+-- a sound book stays sound wherever its cursor is
 pub sound_cursor : (b : BookState) (cursor : Option GuestPage) → IsSound b → IsSound (record b { cursor = cursor })
 sound_cursor b cursor s = sound_settings b b.knobs.run b.knobs.pages_to_scan b.knobs.use_zero_pages b.passes cursor s.knobs.run s.knobs.pages_to_scan s.knobs.use_zero_pages s.passes s
 

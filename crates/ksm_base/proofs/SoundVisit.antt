@@ -33,7 +33,7 @@ waiting_changed knobs test f rows like alone =
     waiting_map knobs (λ r. if test r then f r else r) rows
     (λ r. cond_both (test r) (f r) r (WaitsAs r) (λ _. like r) (λ _. record { page = refl; state = λ waits. waits; home = λ _. refl; bytes = λ _. refl })) alone
 
--- a row that merges waits in no new way
+-- a row that is merged waits nowhere that it did not wait before
 pub merged_waits : (number : ℕ) (r : Row) → WaitsAs r (record r { state = Merged number })
 merged_waits number r = record { page = refl; state = λ waits. absurd (false≢true waits); home = λ _. refl; bytes = λ _. refl }
 
@@ -64,7 +64,7 @@ best_dup_has_room b row dup s found =
       room = ltb-true (item_count b.rows dup) b.knobs.max_page_sharing room.1;
     }
 
--- a page joins a dup
+-- a sound book stays sound where a page joins a dup that it may join
 pub sound_joined : (b : BookState) (row : Row) (dup : DupRow) → IsVisited b row → IsJoined b row dup → IsSound b → IsSound (record b { rows = change_row row.page (λ r. record r { state = Merged dup.number }) b.rows })
 sound_joined b row dup visited joined s =
     let test : Row → Bool = λ r. same_page r.page row.page in
@@ -121,7 +121,7 @@ waits_back knobs r w state waits none =
     let trees = eqb_sym (tree_of knobs w) (tree_of knobs r) in
     both_differ (waiting_state r.state) (waiting_state state) _ _ _ _ _ _ waits pages trees contents none
 
--- a page waits, where no other of its tree and bytes does
+-- a sound book stays sound where a page waits and no other of its tree and bytes does
 pub sound_waiting : (b : BookState) (row : Row) → IsVisited b row → partner b.knobs b.rows row ≡ None → IsSound b → IsSound (record b { rows = change_row row.page (λ r. record r { state = Waiting }) b.rows })
 sound_waiting b row visited alone s =
     let test : Row → Bool = λ r. same_page r.page row.page in
@@ -160,7 +160,7 @@ sound_waiting b row visited alone s =
           omega (arith, fewer, s.limit k d lt);
     })
 
--- a page of zeroes becomes Zero
+-- a sound book stays sound where a page of zeroes becomes Zero
 pub sound_zero : (b : BookState) (row : Row) → IsVisited b row → all_zero row.bytes ≡ true → IsSound b
     → IsSound (record b { rows = change_row row.page (λ r. record r { state = Zero }) b.rows })
 sound_zero b row visited zeroes s =

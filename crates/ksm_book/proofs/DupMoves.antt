@@ -68,7 +68,7 @@ module _ (b : BookState) (place node : ℕ) (dup : DupRow) (found : Some dup ≡
     pub moved_done : IsAnswerOrMemory b (MoveDup place node) (Ok Done)
     moved_done = subst (λ o. IsAnswerUnless o b (MoveDup place node) (Ok Done)) (sym accepted) tt
 
--- what is shown of an answer
+-- each error with which the move of a dup ends shows in the log what it has to show
 pub moved_shown : (X : Type 0) (b : BookState) (v w : KeeperView) (place node q : ℕ) → q ≡ place → (f : Fault) → IsMoved {X = X} v w q node (Err f) → HasShown b v w (Err f) (MoveDup place node)
 moved_shown X b v w place node q same Memory h = absurd h
 moved_shown X b v w place node q same UnknownPage h = absurd h

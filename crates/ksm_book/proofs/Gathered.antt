@@ -139,7 +139,7 @@ alone_goes_on row change rows rise found alone keeps =
     change_goes_on (λ r. same_page r.page row.page) change rows
     (λ k d lt is. let r = get_or rows k d in ((keeps r).0, ((keeps r).1, λ s. absurd (grind (arith, s, ap stays (the_row row rows rise found k d lt is), alone)))))
 
--- a visit of a row
+-- the scan goes on over the rows that a visit of a row left
 pub visit_goes_on : (b : BookState) (row : Row) → IsSound b → next_row b.cursor b.rows ≡ Some row → GoOn b.rows (row_visited b row).rows
 visit_goes_on b row sound next =
     cond_both (shared_state row.state) b (handled best b row) Keeps (λ _ cursor. (refl, λ left. left)) (λ alone. by best alone)
@@ -186,7 +186,7 @@ begun_goes_on b = begins (pass_ended_at_last b) (cond_both (is_some b.cursor && 
 pub known_begun : (b begun : BookState) (ahead : Ahead) → IsKnown b.rows ahead → begun ≡ visit_begun b → IsKnown begun.rows ahead
 known_begun b begun ahead known is = subst (λ (x : BookState). IsKnown x.rows ahead) (sym is) (kept_known b.rows (visit_begun b).rows (begun_goes_on b) ahead known)
 
--- the row of a page that was merged
+-- the row of a page that was merged is one that a visit leaves as it is
 pub stays_merged : (page : GuestPage) (change : Row → Row) (rows : List Row) → ((r : Row) → stays (change r) ≡ true) → StaysNow page (change_row page change rows)
 stays_merged page change rows merged =
     All-map P (λ r. cond (same_page r.page page) (change r) r) rows (λ k d lt. by (get_or rows k d) (same_page (get_or rows k d).page page) refl)
@@ -200,7 +200,7 @@ stays_merged page change rows merged =
 
 -- ---------------------------------------------------------------- which rows wait
 
--- the rows tell the same where the one of a page has another in its stead that does
+-- what is told of each row stays where one row is replaced by one of which the same is told
 pub told_alike : {X : Type 0} (told : Row → X) (row new : Row) (rows : List Row) → InPageOrder rows → row_at row.page rows ≡ Some row → told new ≡ told row
     → map told (change_row row.page (λ _. new) rows) ≡ map told rows
 told_alike {X} told row new rows rise found same = change_told rows (the_row row rows rise found)
@@ -216,7 +216,7 @@ told_alike {X} told row new rows rise found same = change_told rows (the_row row
         by true is = same ∙ sym (ap told (is refl))
         by false is = refl
 
--- a row that waits is the same as one that does not, but for that
+-- a row that begins to wait settles to what it settled to before
 pub settled_alone : (row : Row) → shared_state row.state ≡ false → settled (record row { state = Waiting }) ≡ settled row
 settled_alone row alone = λ t. record row { state = by row.state alone t }
   where
@@ -257,7 +257,7 @@ pub run_at_page : (b : BookState) (run : Run) (page : GuestPage) → is_some b.c
 run_at_page b run page some over none next =
     (some, ap (λ (c : Option GuestPage). page_of (next_row c b.rows)) (sym (over.last ∙ ap (λ m. cursor_after m b.cursor b.rows) none)) ∙ sym over.next ∙ next)
 
--- where no page is found, no row is
+-- a search that finds no page finds no row
 pub none_found : (o : Option Row) → page_of o ≡ None → o ≡ None
 none_found None is = refl
 none_found (Some r) is = absurd (grind (arith, ap is_some is))
@@ -266,7 +266,7 @@ some_row : (o : Option Row) → is_some o ≡ true → (r : Row) × (o ≡ Some 
 some_row None is = absurd (grind (arith, is))
 some_row (Some r) is = (r, refl)
 
--- the row of the page that is visited next
+-- the row that is visited next is that of its page
 pub row_there : (b : BookState) (page : GuestPage) → InPageOrder b.rows → page_of (next_row b.cursor b.rows) ≡ Some page → row_at page b.rows ≡ next_row b.cursor b.rows
 row_there b page rise is = by (next_row b.cursor b.rows) refl is
   where
@@ -276,7 +276,7 @@ row_there b page rise is = by (next_row b.cursor b.rows) refl is
         ap (λ p. row_at p b.rows) (sym (same_Some r.page page is))
         ∙ find_all (λ x. x.mergeable && after_cursor b.cursor x.page) (λ x. row_at x.page b.rows ≡ Some x) b.rows r found (each_at_page b.rows rise)
 
--- the runs behind the row that is visited
+-- the runs that come next are runs behind the row that is visited
 pub behind_ahead : (b begun : BookState) (ahead : Ahead) (row : Row) → IsAhead b ahead → IfSome ahead.run (λ run. run.visits ≡ 0) → begun ≡ visit_begun b
     → next_row begun.cursor begun.rows ≡ Some row → AreRuns begun.rows (Some row.page) (behind ahead)
 behind_ahead b begun ahead row are none is next = by ahead.run are.0 none
@@ -372,7 +372,7 @@ pass_together : (rows : List Row) (from : Option GuestPage) (before : List Run) 
 pass_together rows None before first second both rest page next left is are = tt
 pass_together rows (Some p) before first second both rest page next left is are = put_together rows (Some p) before first second both rest page next left is are
 
--- the last of those that were gone through, and the one behind it
+-- the last run gone through and the one behind it are one run, once the page between them stays as it is
 pub last_together : (rows : List Row) (from : Option GuestPage) (items : List Run) (k : ℕ) (last run both : Run) (rest : List Run) (page : GuestPage) → k < length items
     → length items ≤ suc k → get_or items k last ≡ last → last.next ≡ Some page → StaysNow page rows → both ≡ record run { visits = run.visits + 1 + last.visits }
     → IfSome from (λ p. AreRuns rows (Some p) (items ++ (run ∷ rest))) → IfSome from (λ p. AreRuns rows (Some p) (slice_set items k both ++ rest))
@@ -400,7 +400,7 @@ none_behind : (rows : List Row) (runs : List Run) (o : Option GuestPage) → run
 none_behind rows runs None none = none
 none_behind rows runs (Some page) none = subst (AreRuns rows (Some page)) (sym none) tt
 
--- the first of the runs that were found, with those behind it, or alone
+-- the run that was found, with those behind it, are runs from the cursor on
 pub gathered : (n : ℕ) (rows : List Row) (cursor : Option GuestPage) (run : Run) (found later : List Run) (taken : Option Run) → IsRun n rows cursor run → AreAhead n rows cursor found
     → IfSome (slice_get found 0) (λ r. r ≡ run) → MatchOption taken ((found ≡ []) × (later ≡ [])) (λ r. found ≡ r ∷ later) → AreRuns rows cursor (run ∷ later)
 gathered n rows cursor run found later None is are first (none, alone) = subst (λ l. AreRuns rows cursor (run ∷ l)) (sym alone) (is.over, none_behind rows [] run.next refl)
@@ -413,7 +413,7 @@ pub known_from : (rows : List Row) (cursor : Option GuestPage) (runs : List Run)
 known_from rows None runs are = tt
 known_from rows (Some page) runs are = are
 
--- where no row is visited, nothing is behind
+-- no run comes next where no row is visited
 pub none_ahead : (b begun : BookState) (ahead : Ahead) → IsAhead b ahead → begun ≡ visit_begun b → next_row begun.cursor begun.rows ≡ None → behind ahead ≡ []
 none_ahead b begun ahead are is none = by ahead.run are.0
   where

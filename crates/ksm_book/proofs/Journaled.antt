@@ -6,7 +6,7 @@ use Rattle.ksm_base.specs.Journal.{Entry, IsLegal, replay, last_stored, ReadsLas
 use Rattle.ksm_base.specs.Reading.{bytes_of}
 use Rattle.ksm_base.specs.State.{BookState, opening}
 
--- what is stored last by a legal journal
+-- the rows of a book with a legal journal have the bytes stored last by it
 pub rows_stored : (shape : Shape) (journal : List Entry) (b : BookState) → ReadsLastStored journal (replay (opening shape) journal).rows → IsLegal shape journal b → ReadsLastStored journal b.rows
 rows_stored shape journal b law legal = subst (λ (x : BookState). ReadsLastStored journal x.rows) (sym legal.leads) law
 

@@ -21,7 +21,7 @@ pass_goes_on b row next = ap (λ o. if is_some b.cursor && is_none o then pass_e
     either true = refl
     either false = refl
 
--- what is done before a visit in the midst of a pass
+-- nothing is done before a visit in the midst of a pass
 pub begins_none : (b : BookState) (row : Row) → GoesOnAt b row → visit_begun b ≡ b
 begins_none b row goes = ap pass_begun (pass_goes_on b row goes.1) ∙ ap (λ (x : Bool). if x then with_none_waiting b else b) (none b.cursor goes.0)
   where
@@ -48,7 +48,7 @@ visiting_kept b frames row goes left =
 
 -- ---------------------------------------------------------------- a run of visits
 
--- a cursor that stands at a page stands at one after visits of the pass
+-- a cursor that has a page has one after visits of the pass
 pub cursor_stands : (n : ℕ) (cursor : Option GuestPage) (rows : List Row) → is_some cursor ≡ true → is_some (cursor_after n cursor rows) ≡ true
 cursor_stands zero cursor rows some = some
 cursor_stands (suc n) cursor rows some = moved (cursor_after n cursor rows) (next_row (cursor_after n cursor rows) rows) (cursor_stands n cursor rows some)
@@ -57,7 +57,7 @@ cursor_stands (suc n) cursor rows some = moved (cursor_after n cursor rows) (nex
     moved at None h = h
     moved at (Some row) h = refl
 
--- where a row is to be visited that stays as it is, there is one
+-- there is a row to visit, and a visit leaves it as it is, where `IsLeft` says so
 pub left_row : (o : Option Row) → IsLeft o → (row : Row) × (o ≡ Some row) × (stays row ≡ true)
 left_row None h = absurd h
 left_row (Some row) h = (row, refl, h)
@@ -125,7 +125,7 @@ scanning_on n (suc k) b frames =
     (let e : suc k + n ≡ suc (k + n) = omega arith in ap (λ m. scanning m b frames) e)
     ∙ (λ t. then_doing (rest t) (visiting (visits_on n k b t) (rest t).frames)) ∙ then_then so_far more (visiting (visits k (visits n b)) more.frames)
 
--- some visits, and then more
+-- the steps of n visits, and then those of k more, are the steps of k + n visits
 pub performs_on : (v u w : BookView) (n k : ℕ) → u.state ≡ visits n v.state → Performs (mapped v) (mapped u) (scanning n v.state v.frames)
     → Performs (mapped u) (mapped w) (scanning k u.state u.frames) → Performs (mapped v) (mapped w) (scanning (k + n) v.state v.frames)
 performs_on v u w n k state so_far last =

@@ -112,7 +112,7 @@ begins_on old begun row goes is = subst (Begins old) (sym (is ∙ begins_none ol
   rows = refl;
 })
 
--- no pass ended before the visit
+-- a visit before which no pass ended begins in the pass of the one before
 pub begins_as : (old begun : BookState) → begun ≡ visit_begun old → is_some begun.cursor ≡ is_some old.cursor → Begins old begun
 begins_as old begun is same = by old.cursor refl (next_row old.cursor old.rows) refl
   where
@@ -263,7 +263,7 @@ module _ (v w : BookView) (most k : ℕ) (some : k ≤ most) (performs : Perform
   on_frames : (n : ℕ) (start : BookState) → v.frames ≡ w.frames → ChangesNothing n start w.state v.frames → ChangesNothing n start w.state w.frames
   on_frames n start same quiet = subst (ChangesNothing n start w.state) same quiet
 
-  -- what is known of the pass under way, after some visits more
+  -- what is known of the pass under way is still known after some visits more
   pub so_far : (since : Option ℕ) (stood quiet : Bool) → stood ≡ is_some v.state.cursor → IsQuietSince since most v
       → (quiet ≡ true → ChangesNothing k v.state w.state v.frames) → IsQuietSoFar (if quiet then (if stood then since else Some most) else None) (most - k) w
   so_far since stood false none was changes = tt
@@ -278,11 +278,11 @@ module _ (v w : BookView) (most k : ℕ) (some : k ≤ most) (performs : Perform
       let both = quiet_on (q - most) k start v.state w.state v.frames before goes_on quiet in
       (omega (arith, left), start, began, subst (λ n. ChangesNothing n start w.state w.frames) same (on_frames (k + (q - most)) start (frames_stay quiet) both))
 
--- the pass goes on
+-- a pass that goes on has been quiet since it began, if its visits so far were
 pub since_on : (since : Option ℕ) (left : ℕ) (v : BookView) → is_some v.state.cursor ≡ true → IsQuietSoFar since left v → IsQuietSince since left v
 since_on None left v some quiet = tt
 since_on (Some most) left v some (le, start, began, quiet) = (le, some, start, began, quiet)
 
--- the pass has ended
+-- a pass that has ended was quiet, if all its visits were
 pub pass_quiet : (most left : ℕ) (v : BookView) → is_some v.state.cursor ≡ false → IsQuietSoFar (Some most) left v → IsQuietPass (most - left) v
 pass_quiet most left v ended (le, start, began, quiet) = (none_of v.state.cursor ended, start, began, quiet)

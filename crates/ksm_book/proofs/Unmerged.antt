@@ -179,7 +179,7 @@ pub order_kept : (guest : Option ℕ) (n : ℕ) (rows now : List Row) → InPage
 order_kept guest n rows now rise made = subst InPageOrder (sym (made ∙ all_before (is_shared_of guest) unshared (λ r. refl) (unshared_off guest) n rows rise))
     (ordered_change (λ r. is_shared_of guest r && is_before (slice_get (filter (is_shared_of guest) rows) n) r) unshared rows (λ r. refl) rise)
 
--- what a search finds after n of them
+-- the search for a shared row after n unsharings finds the row at n of those that were shared
 pub next_is : (guest : Option ℕ) (n : ℕ) (rows now seen : List Row) (o : Option Row) → now ≡ first_changed (is_shared_of guest) unshared n rows → seen ≡ now → o ≡ find (is_shared_of guest) seen → slice_get (filter (is_shared_of guest) rows) n ≡ o
 next_is guest n rows now seen o made same found = sym (found ∙ ap (find (is_shared_of guest)) (same ∙ made) ∙ first_left (is_shared_of guest) unshared (λ r. refl) (unshared_off guest) n rows)
 
@@ -231,7 +231,7 @@ stop_is : (rows : List Row) (k : ℕ) (stop : Option Row) → IsStop rows k stop
 stop_is rows k None h = slice_get_past rows k (omega (arith, h))
 stop_is rows k (Some row) h = h
 
--- the rows after n were unshared, said by the stop
+-- the rows after n unsharings are those in which each row before the stop is unshared
 pub met_rows : (guest : ℕ) (rows now : List Row) (k : ℕ) (stop : Option Row) → InPageOrder rows → now ≡ first_changed (is_shared_of (Some guest)) unshared k rows → IsStop (filter (is_shared_of (Some guest)) rows) k stop → now ≡ change_rows (met guest stop) unshared rows
 met_rows guest rows now k stop rise made at =
     made ∙ all_before (is_shared_of (Some guest)) unshared (λ r. refl) (unshared_off (Some guest)) k rows rise
@@ -242,7 +242,7 @@ not_merged true true c e h = sym (and_true c) ∙ e
 not_merged true false c e h = absurd (grind (arith, h))
 not_merged false b c e h = absurd (grind (arith, h))
 
--- none that is let go is merged
+-- no row that is let go is shared
 pub none_left : (guest : ℕ) (stop : Option Row) (rows now : List Row) → now ≡ change_rows (met guest stop) unshared rows → All (λ r. reached guest stop r ≡ true → shared_state r.state ≡ false) now
 none_left guest stop rows now made = subst (All (λ r. reached guest stop r ≡ true → shared_state r.state ≡ false)) (sym made)
     (All-map (λ r. reached guest stop r ≡ true → shared_state r.state ≡ false) (λ r. if met guest stop r then unshared r else r) rows (λ k d lt. one (get_or rows k d)))
@@ -280,7 +280,7 @@ is_unmerged rows k (Some row) at = subst (λ o. MatchOption o ⊥ (λ r. row.hom
 pub unmerge_answer : (b : BookState) (guest k : ℕ) (stop : Option Row) → has_guest b guest ≡ true → IsStop (shared_rows (is_of guest) b) k stop → IsAnswerOrMemory b (Unmerge guest) (Ok (Unmerged k (fault_of stop)))
 unmerge_answer b guest k stop has at = subst (λ (h : Bool). IsAnswerUnless (refused_if (not h) UnknownPage None) b (Unmerge guest) (Ok (Unmerged k (fault_of stop)))) (sym has) (is_unmerged (shared_rows (is_of guest) b) k stop at)
 
--- the frames that it gave
+-- an unmerging gave a frame on each of the nodes, whether it stopped or not
 pub gave_does : (v w : KeeperView) (nodes : List ℕ) (stop : Option Row) → Gave v w nodes stop → Does v w nodes
 gave_does v w nodes None h = h
 gave_does v w nodes (Some row) h = let u = h.0 in let first = h.1 in let left = h.2 in
@@ -298,7 +298,7 @@ unshared_before k rows = change_rows (λ r. shared_state r.state && is_before (s
 all_unshared : (rows now : List Row) (k : ℕ) → InPageOrder rows → now ≡ first_changed (is_shared_of None) unshared k rows → now ≡ unshared_before k rows
 all_unshared rows now k rise made = made ∙ all_before (is_shared_of None) unshared (λ r. refl) (unshared_off None) k rows rise
 
--- where it stopped
+-- a run of 2 that stopped leaves the state that the definition gives for its stop
 pub stopped_state : (lay mid new : Lay) (k : ℕ) (knobs : Knobs) (cursor : Option GuestPage) (passes : ℕ) → InPageOrder lay.rows
     → mid ≡ record lay { rows = first_changed (is_shared_of None) unshared k lay.rows; frames = mid.frames; keeper = mid.keeper }
     → knobs ≡ mid.knobs → new ≡ record mid { knobs = record knobs { run = 0 } }
@@ -317,7 +317,7 @@ unshared_twice test (r ∷ rows) = by (test r) (unshared_twice test rows)
     by true rest = ap (λ l. unshared r ∷ l) rest
     by false rest = ap (λ l. unshared r ∷ l) rest
 
--- where it went through
+-- a run of 2 that went through leaves the state that the definition gives
 pub ended_state : (lay mid wide new : Lay) (k : ℕ) (knobs : Knobs) (cursor : Option GuestPage) (passes : ℕ) → InPageOrder lay.rows
     → mid ≡ record lay { rows = first_changed (is_shared_of None) unshared k lay.rows; frames = mid.frames; keeper = mid.keeper }
     → knobs ≡ mid.knobs → wide ≡ record mid { rows = map unshared mid.rows } → new ≡ record wide { knobs = record knobs { run = 2 } }

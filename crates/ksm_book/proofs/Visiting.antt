@@ -229,7 +229,7 @@ module _ (lay : Lay) (cursor : Option GuestPage) (passes : ℕ) (row w : Row) (p
   pub same_dup : made ≡ record { number = lay.next; place = place; tree = tree_of lay.knobs row; bytes = row.bytes }
   same_dup = λ t. record { number = lay.next; place = place; tree = pair.tree t; bytes = pair.bytes t }
 
--- what a visit does with a row with a frame of its own
+-- a visit handles a row with a frame of its own by the dup that it may join
 pub visited_by : (b : BookState) (row : Row) (o : Option DupRow) → shared_state row.state ≡ false → best_dup b.knobs b.rows b.dups row ≡ o → row_visited b row ≡ handled o b row
 visited_by b row o alone best = ap (λ m. if m then b else handled (best_dup b.knobs b.rows b.dups row) b row) alone ∙ ap (λ x. handled x b row) best
 
@@ -237,13 +237,13 @@ visited_by b row o alone best = ap (λ m. if m then b else handled (best_dup b.k
 pub marked_by : (b : BookState) (row : Row) → row.unchanged ≡ false → handled None b row ≡ record b { rows = change_row row.page (λ r. record r { unchanged = true; state = Private }) b.rows }
 marked_by b row changed = ap (λ u. if u then stayed b row else record b { rows = change_row row.page (λ r. record r { unchanged = true; state = Private }) b.rows }) changed
 
--- what a visit does with the frames, by the dup that the row may join
+-- a visit of a row with a frame of its own makes the steps of the dup that the row may join
 pub visiting_by : (b : BookState) (frames : List (Option ℕ)) (row : Row) (o : Option DupRow) → shared_state row.state ≡ false
     → best_dup b.knobs b.rows b.dups row ≡ o → row_visiting b frames row ≡ handling o b frames row
 visiting_by b frames row o alone best = ap (λ m. if m then idle frames else handling (best_dup b.knobs b.rows b.dups row) b frames row) alone
     ∙ ap (λ x. handling x b frames row) best
 
--- a row that has stayed becomes Zero, or is paired
+-- a row that has stayed and is for the zero page becomes Zero
 pub emptied_by : (b : BookState) (row : Row) → is_for_zero b.knobs row ≡ true → stayed b row ≡ record b { rows = change_row row.page (λ r. record r { state = Zero }) b.rows }
 emptied_by b row is = ap (λ t. if t then record b { rows = change_row row.page (λ r. record r { state = Zero }) b.rows } else paired (partner b.knobs b.rows row) b row) is
 

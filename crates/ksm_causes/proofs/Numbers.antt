@@ -81,7 +81,7 @@ most_small Pass = omega arith
 most_small Visits = omega arith
 most_small Value = omega arith
 
--- the decimal text of a number in range
+-- the decimal text of a number in its range has no trouble
 pub number_stands : (number : Number) (n : ℕ) → n ≤ most number → number_cause number (decimal n) ≡ None
 number_stands number n le =
     let small = most_small number in
@@ -105,7 +105,7 @@ either_way : (a b : Bool) → (a ≡ true → b ≡ true) → (not a || b) ≡ t
 either_way true b h = h refl
 either_way false b h = refl
 
--- a word with no trouble as a number
+-- a word with no trouble as a number is the decimal text of one in its range
 pub stands_for_number : (number : Number) (word : List ℕ) → number_cause number word ≡ None → (n : ℕ) × (n ≤ most number) × (word ≡ decimal n)
 stands_for_number number word e =
     let one = untested (is_signed word) _ _ e in

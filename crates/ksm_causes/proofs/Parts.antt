@@ -16,12 +16,12 @@ with_word end part parts (byte ∷ bytes) words h = refl
 pub from_part : (parts : List Part) (i : ℕ) (d : Part) → i < length parts → drop i parts ≡ get_or parts i d ∷ drop (i + 1) parts
 from_part parts i d lt = let next : suc i ≡ i + 1 = omega arith in subst (λ j. drop i parts ≡ get_or parts i d ∷ drop j parts) next (drop-cons parts i d lt)
 
--- no word is left for a part
+-- the trouble of a line that ends before a part is that the part is missing
 pub part_missing : (end i : ℕ) (d : Part) (parts : List Part) → i < length parts
     → parts_trouble end (drop i parts) [] ≡ missing_trouble end (get_or parts i d ∷ drop (i + 1) parts)
 part_missing end i d parts lt = ap (λ (ps : List Part). parts_trouble end ps []) (from_part parts i d lt)
 
--- a word is the part that it should be
+-- a word that is the part that it should be leaves the trouble to the words behind it
 pub part_taken : (end i : ℕ) (d : Part) (parts : List Part) (word : List ℕ) (words : List (List ℕ)) → i < length parts → false ≡ (length word == 0)
     → (let none : Option Trouble = None in word_trouble (get_or parts i d) (end + 1) word ≡ none)
     → parts_trouble end (drop i parts) (word ∷ words) ≡ parts_trouble (end + (1 + length word)) (drop (i + 1) parts) words

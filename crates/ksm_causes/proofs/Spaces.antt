@@ -10,7 +10,7 @@ use Rattle.ksm_causes.specs.Troubles.{at, is_empty, words_trouble}
 longer : (x : ℕ) (parts : List (List ℕ)) (first : List ℕ) (rest : List (List ℕ)) → parts ≡ first ∷ rest → list_all is_empty (onto_first x parts) ≡ false
 longer x parts first rest e = ap (λ (all : List (List ℕ)). list_all is_empty (onto_first x all)) e
 
--- its parts are empty exactly where each of its bytes parts it
+-- the parts of a text are all empty exactly where each of its bytes parts it
 pub empty_parts : (p : ℕ → Bool) (text : List ℕ) → list_all is_empty (slice_split p text) ≡ list_all p text
 empty_parts p [] = refl
 empty_parts p (x ∷ xs) =
@@ -19,7 +19,7 @@ empty_parts p (x ∷ xs) =
       | false ↦ let part = split_part p xs in longer x (slice_split p xs) part.0 part.1 part.2
     ]
 
--- a line whose first word has no bytes, with words behind it
+-- a line with an empty first word and words behind it begins with a space
 pub begins_with_space : (name : List ℕ) (words : List (List ℕ)) (first : List ℕ) (rest : List (List ℕ)) → true ≡ (length name == 0) → words ≡ first ∷ rest
     → words_trouble (name ∷ words) ≡ Some (at 1 SpaceBefore)
 begins_with_space [] words first rest e is = ap (λ (all : List (List ℕ)). words_trouble ([] ∷ all)) is

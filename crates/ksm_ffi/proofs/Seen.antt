@@ -15,7 +15,7 @@ seen P b h before after x a n was stays is number told =
     let some : Some x ≡ Some (Book b h) = ap (λ y. Some y) is in
     subst (λ t. OnBook (SeesBook P) t n after) (sym (was ∙ some)) (a, b, (told, refl), number, stays ∙ some)
 
--- it stands for something else, and is as it was
+-- a handle that stands for something else than a book is as it was
 pub not_seen : (P : JournaledBook → Answer → Type 0) (before after : Option Thing) (x : Thing) (n : ℕ) → before ≡ Some x → after ≡ Some x → n ≡ number_of answer.Kind → ((b : JournaledBook) (h : HomeView) → x ≡ Book b h → ⊥) → OnBook (SeesBook P) before n after
 not_seen P before after (Table v h) n was stays number not = subst (λ t. OnBook (SeesBook P) t n after) (sym was) (number, stays)
 not_seen P before after (Pass v m) n was stays number not = subst (λ t. OnBook (SeesBook P) t n after) (sym was) (number, stays)

@@ -43,7 +43,7 @@ kept_where_sent inner buffer written (Ok x) empty kept is =
     subst (λ (o : Option (List ℕ)). Keeps written o) (ap (λ (l : List ℕ). append_known inner l) empty ∙ append_nothing inner) kept
 kept_where_sent inner buffer written (Err e) empty kept is = absurd (cc is)
 
--- the line that a run read last, by the number that is told of it
+-- what was read ends with the bad line of which the number is told
 pub line_told : (old new : Option (List ℕ)) (line : List ℕ) (r : Result End RunFault) → EndsBad old new line r → EndsBad old new line (bad_end (bad_line_of r))
 line_told old new line (Ok (BadLine number)) h = h
 line_told old new line (Ok AllRead) h = tt

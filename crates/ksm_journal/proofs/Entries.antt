@@ -65,7 +65,7 @@ all_told false false z y x a tells = refl
 told_beside : (b d : Bool) (z : Entry) (y x : Command) (a : Answer) → b ≡ false → d ≡ true → ◌≡◌ {A = Entry} (if b then z else (if d then y else x, a)) (y, a)
 told_beside b d z y x a off is = (λ i. if off i then z else (if is i then y else x, a))
 
--- the entries after one more that its codes tell all of
+-- an entry is added that its codes tell all of
 pub adds_short : (ps : List StoredPage) (ws : List Entry) (cs cs' : List CommandCode) (ts ts' : List AnswerCode) (c : CommandCode) (t : AnswerCode) (command : Command) (answer : Answer) (es : List Entry)
     → length ts ≡ length cs → entries_of ps ws cs ts ≡ es → cs' ≡ cs ++ c ∷ [] → ts' ≡ ts ++ t ∷ []
     → tells_all c.kind ≡ true → command_of c.kind c ≡ command → answer_of t c.number ≡ answer → entries_of ps ws cs' ts' ≡ es ++ (command, answer) ∷ []
@@ -90,7 +90,7 @@ adds_beside ps ps' ws cs cs' ts ts' c t p command answer es same all view paged 
     ∙ (λ i. es ++ (command_beside c.kind c (read i), answer_of t c.number) ∷ [])
     ∙ (λ i. es ++ (is i, answered i) ∷ [])
 
--- an entry is added that is kept whole
+-- an entry is added that is kept as a whole
 pub adds_whole : (ps : List StoredPage) (ws ws' : List Entry) (cs cs' : List CommandCode) (ts ts' : List AnswerCode) (c : CommandCode) (t : AnswerCode) (e : Entry) (es : List Entry)
     → length ts ≡ length cs → AreInside (length ps) (length ws) cs → entries_of ps ws cs ts ≡ es → ws' ≡ ws ++ e ∷ [] → cs' ≡ cs ++ c ∷ [] → ts' ≡ ts ++ t ∷ []
     → c.number ≡ length ws → is_whole c.kind ≡ true → entries_of ps ws' cs' ts' ≡ es ++ e ∷ []

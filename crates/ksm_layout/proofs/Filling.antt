@@ -52,7 +52,7 @@ set_again (x ∷ xs) zero a b = refl
 set_again (x ∷ xs) (suc i) a b = ap (λ ys. x ∷ ys) (set_again xs i a b)
 
 module _ (k : Ledger) (g : ℕ) (lt : g < length k.frames) (a : Note) where
-  -- the frame has the note that it got
+  -- a frame has the note that it was given
   pub at_again : frame_at (with_frame k g a) g ≡ a
   at_again = get_or-set_same k.frames g a blank lt
 
@@ -76,15 +76,15 @@ module _ (v w w' : KeeperView) (g i : ℕ) (bytes : List ℕ) (within : g < leng
             ∙ ap (λ c. with_frame v.ledger g (holding n c)) (word_written bytes n.content i wide lt),
       )
 
--- what the keeper knows with a frame written as it was
+-- to give a frame the note that it has changes nothing
 pub as_it_was : (k : Ledger) (g : ℕ) → with_frame k g (frame_at k g) ≡ k
 as_it_was k g = λ i. record { frames = set-get_or k.frames g blank i; places = k.places }
 
--- words of a frame are loaded one by one
+-- a load of the next word of a frame makes one word more loaded
 pub loaded_one : (v w w' : KeeperView) (g i : ℕ) (bytes : List ℕ) → i < length bytes → Did v w [] (loads g 0 (take i bytes)) → w' ≡ did w (Word g i) (get_or bytes i 0) → Did v w' [] (loads g 0 (take (i + 1) bytes))
 loaded_one v w w' g i bytes lt so_far is = subst (Did v w' []) (sym (loads_more g i bytes lt)) (chained v w w' [] [] _ _ so_far (one_step w w' (Word g i) (get_or bytes i 0) [] tt refl is))
 
--- a search for a frame finds none
+-- a node without a free frame, once its dying frames were reaped, was sought in vain
 pub sought : (v w : KeeperView) (node : ℕ) → Reaped v w (node * v.table.shape.frames_per_node) v.table.shape.frames_per_node → HasNoFree v.table.shape w.ledger node → Sought v w node
 sought v w node h none = record { left = record { part = h.part; did = h.did; waited = h.waited; none = none }; keeps = h.keeps; spent = h.spent }
 
@@ -162,7 +162,7 @@ module _ (v w : KeeperView) (node : ℕ) (bytes : List ℕ) (g found : ℕ) (rea
         node = on_node node sv.frames_per_node g lowest.low lowest.high;
       }
 
--- a reference goes
+-- every placement is still lawful once the frame in hand is given back
 pub released : (v w : KeeperView) (g found : ℕ) → g < frames_of v.table.shape → w ≡ did v (Sub g) found → Keeps v w (Some g) None
 released v w g found inside is across rows frames dups p = subst (λ (z : KeeperView). Placed v.table.shape across z.ledger rows frames dups None) (sym is) (sub_keeps v.table.shape across v.ledger rows frames dups g inside found p)
 
@@ -174,7 +174,7 @@ released_spends v w g found within is =
     let end : spent w.ledger ≡ spent (ledger_after v.table.shape v.ledger (Sub g) found) = ap (λ (z : KeeperView). spent z.ledger) is in
     omega (arith, more, end)
 
--- a reference comes
+-- every placement is still lawful once one more reference on a Stable frame is in hand
 pub shared : (v w : KeeperView) (g found : ℕ) → g < frames_of v.table.shape → (frame_at v.ledger g).kind ≡ Stable → w ≡ did v (Add g) found → Keeps v w None (Some g)
 shared v w g found inside stable is across rows frames dups p = subst (λ (z : KeeperView). Placed v.table.shape across z.ledger rows frames dups (Some g)) (sym is) (add_keeps v.table.shape across v.ledger rows frames dups g inside found p stable)
 

@@ -29,7 +29,7 @@ found_at page rows row found = by (position (λ s. same_page s.page page) rows) 
 pub found_all : (P : Row → Type 0) (page : GuestPage) (rows : List Row) (row : Row) → All P rows → row_at page rows ≡ Some row → P row
 found_all P page rows row all found = let at = found_at page rows row found in subst P at.2 (all at.0 row at.1.in_range)
 
--- a change of it is a change of the page's row
+-- to replace a page's row by what a change makes of it is to change the page's row
 pub change_known : (page : GuestPage) (f : Row → Row) (rows : List Row) (row : Row) → InPageOrder rows → row_at page rows ≡ Some row → change_row page (λ _. f row) rows ≡ change_row page f rows
 change_known page f rows row rise found =
     let at = found_at page rows row found in
@@ -39,11 +39,11 @@ change_known page f rows row rise found =
 pub change_own : (page : GuestPage) (f : Row → Row) (rows : List Row) (row : Row) → InPageOrder rows → row_at page rows ≡ Some row → (f row).page ≡ row.page → change_row (f row).page (λ _. f row) rows ≡ change_row page f rows
 change_own page f rows row rise found same = ap (λ p. change_row p (λ _. f row) rows) (same ∙ found_page page rows row found) ∙ change_known page f rows row rise found
 
--- a row with the page finds it
+-- a row is found by the page of another row of its page
 pub found_by : (page : GuestPage) (rows : List Row) (row new : Row) → row_at page rows ≡ Some row → new.page ≡ row.page → row_at new.page rows ≡ Some row
 found_by page rows row new found same = ap (λ p. row_at p rows) (same ∙ found_page page rows row found) ∙ found
 
--- a row that came is found
+-- a row that was added is found by its page
 pub found_come : (row : Row) (rows : List Row) → row_at row.page (with_row row rows) ≡ Some row
 found_come row rows = at_inserted row rows row.page ∙ ap (λ (b : Bool). if b then Some row else row_at row.page rows) (same_page_refl row.page)
 
@@ -53,7 +53,7 @@ change_nothing page f rows row rise found same =
     let at = found_at page rows row found in
     sym (change_found page f rows at.0 row rise at.1) ∙ ap (set rows at.0) (ap f at.2 ∙ same ∙ sym at.2) ∙ set-get_or rows at.0 row
 
--- a page that moves
+-- a page that moves to another node stays the same page
 pub moved_page : (node : ℕ) (r : Row) → (moved node r).page ≡ r.page
 moved_page node r = cond_both (r.home == node) r (record r { home = node; state = Private }) (λ x. x.page ≡ r.page) (λ _. refl) (λ _. refl)
 

@@ -9,7 +9,7 @@ use Rattle.std.proofs.lemmas.Nat.Bits.{bit_at-zero, bit_at_above, bit_at-trailin
 use Rattle.ksm_layout.specs.FrameSets.{has, HasNone, IsLeast}
 
 module _ (words : List ℕ) (frame word : ℕ) (room : frame < 64 * length words) where
-  -- the bit of the frame in the word put there
+  -- the frame is in the set exactly where its bit is set in the word that was put
   pub put_same : has (set words (frame / 64) word) frame ≡ (bit_at word (frame % 64) == 1)
   put_same = ap (λ n. bit_at n (frame % 64) == 1) (get_or-set_same words (frame / 64) word 0 (omega arith))
 

@@ -13,7 +13,7 @@ use Rattle.ksm_layout.specs.Steps.{free_kind, dying_kind}
 
 -- ---------------------------------------------------------------- one frame's note is changed
 
--- another frame is as it was
+-- a change of one frame's note leaves the note of each other frame
 pub other_frame : (k : Ledger) (f g : ℕ) (note : Note) → g ≢ f → frame_at (with_frame k f note) g ≡ frame_at k g
 other_frame k f g note differs = get_or-set_other k.frames f g note blank differs
 

@@ -37,7 +37,7 @@ module _ (sh : Shape) (across : ℕ) (v : KeeperView) (rows : List Row) (frames 
   pub lawful : Placed sh across v.ledger rows frames dups hand → IsLawful v hand
   lawful p = (across, rows, frames, dups, at_table p)
 
-  -- a call keeps it
+  -- a call that keeps every placement keeps a placement by this shape
   pub kept : (w : KeeperView) (hand' : Option ℕ) → Keeps v w hand hand' → Placed sh across v.ledger rows frames dups hand → Placed sh across w.ledger rows frames dups hand'
   kept w hand' keeps p = subst (λ (s : Shape). Placed s across w.ledger rows frames dups hand') same (keeps across rows frames dups (at_table p))
 
@@ -70,7 +70,7 @@ module _ (sh : Shape) (across : ℕ) (v w : KeeperView) (rows : List Row) (frame
   pub come_there : (i : ℕ) (r : Row) → i ≤ length rows → r.bytes ≡ bytes → r.home ≡ node → r.state ≡ OwnPage → Placed sh across v.ledger rows frames dups None → Placed sh across w.ledger (insert rows i r) (insert frames i (Some g)) dups None
   come_there i r le content home own p = inserted sh across w.ledger rows frames dups (Some g) i r le (in_new_hand p) (serves r content home own p)
 
--- the frame of a page with one of its own
+-- a page with a frame of its own lies on a Private frame
 pub own_kind : (s : PageState) → shared_state s ≡ false → kind_for s ≡ Private
 own_kind OwnPage e = refl
 own_kind Waiting e = refl
@@ -84,7 +84,7 @@ own_item Waiting e n = refl
 own_item (Merged d) e n = absurd (grind (arith, e))
 own_item Zero e n = refl
 
--- a page with a frame of its own has one
+-- a page with a frame of its own is not Zero
 pub own_framed : (s : PageState) → shared_state s ≡ false → zero_state s ≡ false
 own_framed OwnPage e = refl
 own_framed Waiting e = refl
@@ -130,7 +130,7 @@ module _ (sh : Shape) (v : Listed) (dups : List DupRow) (knobs : Knobs) (next : 
     spent = (let s = h.spent in omega (arith, s, more));
   }
 
-  -- rows and dups lie lawfully by other names of the lists and of what the keeper knows
+  -- rows and dups lie lawfully where the rows, the frames and what the keeper knows are the same
   pub laid_same : (v' : Listed) (w : KeeperView) → v'.rows ≡ v.rows → v'.frames ≡ v.frames → w.table ≡ k.table → w.ledger ≡ k.ledger → IsLaid sh v' dups knobs next w
   laid_same v' w e f t l = record {
     small = h.small;
@@ -139,7 +139,7 @@ module _ (sh : Shape) (v : Listed) (dups : List DupRow) (knobs : Knobs) (next : 
     spent = subst (λ (z : Ledger). next ≤ spent z) (sym l) h.spent;
   }
 
-  -- a row comes on the frame taken
+  -- rows and dups lie lawfully once a new row lies on the frame taken
   pub laid_with : (v' : Listed) (w : KeeperView) (i g : ℕ) (r : Row) → w.table ≡ k.table → Took k w r.home r.bytes g → i ≤ length v.rows → r.state ≡ OwnPage → v'.rows ≡ insert v.rows i r → v'.frames ≡ insert v.frames i (Some g) → IsLaid sh v' dups knobs next w
   laid_with v' w i g r e took le own rows frames = record {
     small = h.small;
@@ -189,7 +189,7 @@ module _ (sh : Shape) (v : Listed) (dups : List DupRow) (knobs : Knobs) (next : 
       spent = (let s = h.spent in omega (arith, s, more));
     }
 
-    -- the row changes on its frame
+    -- rows and dups lie lawfully once the row changes and stays on its frame
     pub laid_row_set : (v' : Listed) → LodgesAs r page_row → v'.rows ≡ set v.rows i r → v'.frames ≡ v.frames → IsLaid sh v' dups knobs next k
     laid_row_set v' lodges rows frames = record {
       small = h.small;
@@ -199,7 +199,7 @@ module _ (sh : Shape) (v : Listed) (dups : List DupRow) (knobs : Knobs) (next : 
       spent = h.spent;
     }
 
-    -- the row is written in place
+    -- rows and dups lie lawfully once the row has new bytes, which were written to its frame
     pub laid_written : (v' : Listed) (w : KeeperView) (g : ℕ) → f ≡ Some g → w.table ≡ k.table → Wrote k w g r.bytes → length r.bytes ≡ PAGE_WORDS → IsOnItsOwn r page_row → r.state ≡ OwnPage → v'.rows ≡ set v.rows i r → v'.frames ≡ v.frames → IsLaid sh v' dups knobs next w
     laid_written v' w g some e wrote wide own is rows frames =
         let fits : Serves sh k.ledger dups page_row g = subst (IsServed sh k.ledger dups page_row) some found_fits in
@@ -238,17 +238,17 @@ readable x Waiting framed e = subst IsReadable (sym e) tt
 readable x (Merged d) framed e = subst IsReadable (sym e) tt
 readable x Zero framed e = absurd (grind (arith, framed))
 
--- pages of which the rows alone changed
+-- pages lie lawfully where the rest of them is as it was and their new rows lie lawfully
 pub relisted : (p q : PagesView) (k : KeeperView) → q ≡ record p { listed = q.listed } → IsLaid p.shape q.listed p.dups p.knobs p.next k → IsLaid q.shape q.listed q.dups q.knobs q.next k
 relisted p q k rest h = subst (λ (z : PagesView). IsLaid z.shape z.listed z.dups z.knobs z.next k) (sym rest) h
 
--- the layout of such pages, with another keeper
+-- the layout of pages of which rows and frames changed is the old one with these
 pub relaid : (p q : PagesView) (now : Lay) (v k : KeeperView) (rows : List Row) → q ≡ record p { listed = q.listed } → lay_of p v ≡ now
     → q.listed.rows ≡ rows → lay_of q k ≡ record now { rows = rows; frames = q.listed.frames; keeper = k }
 relaid p q now v k rows rest view same = ap (λ (z : PagesView). lay_of z k) rest
     ∙ (λ t. record (view t) { rows = same t; frames = q.listed.frames; keeper = k })
 
--- the layout of pages of which each row stays on its frame, with another keeper
+-- the layout of pages of which the rows alone changed is the old one with the new rows
 pub relaid_there : (p q : PagesView) (now : Lay) (v k : KeeperView) (rows : List Row) → q ≡ record p { listed = q.listed } → lay_of p v ≡ now
     → q.listed.rows ≡ rows → q.listed.frames ≡ p.listed.frames → lay_of q k ≡ record now { rows = rows; keeper = k }
 relaid_there p q now v k rows rest view same frames = relaid p q now v k rows rest view same
@@ -258,7 +258,7 @@ relaid_there p q now v k rows rest view same frames = relaid p q now v k rows re
 pub rest_again : (p q r : PagesView) → q ≡ record p { listed = q.listed } → r ≡ record q { listed = r.listed } → r ≡ record p { listed = r.listed }
 rest_again p q r first second = second ∙ ap (λ (z : PagesView). record z { listed = r.listed }) first
 
--- other knobs, of which merge_across_nodes speaks of dups alone
+-- rows and dups lie lawfully by other knobs where merge_across_nodes stays or there is no dup
 pub retuned : (sh : Shape) (v : Listed) (dups : List DupRow) (knobs tuned : Knobs) (next : ℕ) (k : KeeperView) → (tuned.merge_across_nodes ≡ knobs.merge_across_nodes) ⊎ (dups ≡ []) → IsLaid sh v dups knobs next k → IsLaid sh v dups tuned next k
 retuned sh v dups knobs tuned next k (inl same) h = record {
   small = h.small;

@@ -30,7 +30,7 @@ change_at page f (r ∷ rs) (suc i) d rise in_range same =
 position_some_is : {X : Type 0} (p : X → Bool) (xs : List X) (i : ℕ) → position p xs ≡ Some i → position p xs ≡ Some (position_or_len p xs)
 position_some_is p xs i e = grind (arith, nat_tests, e)
 
--- where a search by page ends
+-- a search by page ends at the row of the page, or finds none where the page has no row
 pub index_facts : (page : GuestPage) (rows : List Row) (r : Option ℕ) → r ≡ position (λ s. same_page s.page page) rows → MatchOption r (row_at page rows ≡ None) (IsAt rows page)
 index_facts page rows None e =
     let p : Row → Bool = λ s. same_page s.page page in

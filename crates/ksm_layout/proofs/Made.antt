@@ -111,7 +111,7 @@ module _ (v w w' : KeeperView) (low n : ℕ) (so_far : Made v w (map Reap (dying
     λ f ge. ap (λ (z : KeeperView). frame_at z.ledger f) is ∙ later f (omega arith),
   )
 
--- the frames of a node, by its shape
+-- the reaps of the frames of a node are those of the node by the table's shape
 pub reaps_there : (v w : KeeperView) (sh : Shape) (node : ℕ) → sh ≡ v.table.shape
     → Made v w (map Reap (dying_from v.ledger (node * sh.frames_per_node) sh.frames_per_node)) → Made v w (map Reap (dying_on v.table.shape v.ledger node))
 reaps_there v w sh node e m = subst (λ (s : Shape). Made v w (map Reap (dying_on s v.ledger node))) e m
@@ -123,7 +123,7 @@ filled_by v a b w g found word bytes raised stored opened =
     made_then v a w (Raise g ∷ []) _ (made_one v a (Raise g) found raised)
     (made_then a b w _ (Open g ∷ []) (made_part a b [] (puts g 0 bytes) stored) (made_one b w (Open g) word opened))
 
--- references come one by one
+-- one reference more is one step `Add` more
 pub added_more : (v w w' : KeeperView) (f n found : ℕ) → Made v w (replicate n (Add f)) → w' ≡ did w (Add f) found → Made v w' (replicate (n + 1) (Add f))
 added_more v w w' f n found so_far is =
     subst (Made v w') (replicate-append-replicate n 1 (Add f)) (made_then v w w' _ _ so_far (made_one w w' (Add f) found is))

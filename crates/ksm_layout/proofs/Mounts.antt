@@ -18,7 +18,7 @@ use Rattle.ksm_layout.proofs.Filling.{again, at_again, as_it_was}
 use Rattle.ksm_layout.proofs.Logs.{chained, one_step, nothing_done}
 use Rattle.ksm_layout.proofs.Made.{made_one, made_part, made_then}
 
--- references come one by one
+-- before the first step no reference was added
 pub added_none : (v w : KeeperView) (f : ℕ) → w ≡ v → Added v w f 0
 added_none v w f is =
     let n : Note = frame_at v.ledger f in

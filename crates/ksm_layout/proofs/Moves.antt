@@ -50,7 +50,7 @@ pub one_other : (f : ℕ) (o : Option ℕ) → o ≢ Some f → one_at f o ≡ 0
 one_other f None ne = refl
 one_other f (Some g) ne = ap (λ (b : Bool). cond b 1 0) (ne_eqb g f (λ e. ne (ap Some e)))
 
--- what is tested is so
+-- a page whose frame tests as f is on f
 pub is_that : (f : ℕ) (o : Option ℕ) → is_frame f o ≡ true → o ≡ Some f
 is_that f None here = absurd (grind (arith, here))
 is_that f (Some g) here = ap Some (eqb-true g f here)
@@ -84,7 +84,7 @@ uses_once frames i j f lt lt' once e e' = dite (ℕ_discrete j i) (λ same. same
 abbrev pub Serves : Shape → Ledger → List DupRow → Row → ℕ → Type 0
 Serves sh k dups r f = RowFits sh k r f × All (Agrees k r f) dups
 
--- what a row's frame serves it with may change, where it has one
+-- a row stays served where its frame, if it has one, serves it after the change too
 pub served_as : (sh : Shape) (k k' : Ledger) (dups dups' : List DupRow) (r r' : Row) (o : Option ℕ) → r'.state ≡ r.state
     → ((f : ℕ) → o ≡ Some f → Serves sh k dups r f → Serves sh k' dups' r' f) → IsServed sh k dups r o → IsServed sh k' dups' r' o
 served_as sh k k' dups dups' r r' None same on h = ap zero_state same ∙ h
@@ -245,7 +245,7 @@ module _ (sh : Shape) (across : ℕ) (k : Ledger) (rows : List Row) (frames : Li
   abbrev Good : Row × Option ℕ → Type 0
   Good z = IsServed sh k dups z.0 z.1
 
-  -- the row at i takes what is in the hand, and its own frame, if it has one, comes into the hand
+  -- a placement stays lawful where the row at i takes the frame in hand and its own comes into the hand
   pub swapped : (g : Option ℕ) (i : ℕ) (r : Row) → i < length rows → Placed sh across k rows frames dups g → IsServed sh k dups r g → Placed sh across k (set rows i r) (set frames i g) dups (frame_in frames i)
   swapped g i r lt p new =
       let paired : length frames ≡ length rows = p.paired in
@@ -266,7 +266,7 @@ module _ (sh : Shape) (across : ℕ) (k : Ledger) (rows : List Row) (frames : Li
         empty = p.empty;
       }
 
-  -- the row at i changes on its frame
+  -- a placement stays lawful where the row at i changes and its frame still serves it
   pub rewritten : (hand : Option ℕ) (i : ℕ) (r : Row) → i < length rows → Placed sh across k rows frames dups hand → IsServed sh k dups r (frame_in frames i) → Placed sh across k (set rows i r) frames dups hand
   rewritten hand i r lt p new =
       let wide : length (set rows i r) ≡ length rows = length-set rows i r in
@@ -286,7 +286,7 @@ module _ (sh : Shape) (across : ℕ) (k : Ledger) (rows : List Row) (frames : Li
         empty = p.empty;
       }
 
-  -- a row comes on the frame in hand
+  -- a placement stays lawful where a new row takes the frame in hand
   pub inserted : (g : Option ℕ) (i : ℕ) (r : Row) → i ≤ length rows → Placed sh across k rows frames dups g → IsServed sh k dups r g → Placed sh across k (insert rows i r) (insert frames i g) dups None
   inserted g i r le p new =
       let paired : length frames ≡ length rows = p.paired in
@@ -315,7 +315,7 @@ module _ (sh : Shape) (across : ℕ) (k : Ledger) (rows : List Row) (frames : Li
         empty = p.empty;
       }
 
-  -- the row at i goes, and its frame comes into the hand
+  -- a placement stays lawful where the row at i goes and its frame comes into the hand
   pub removed : (i : ℕ) → i < length rows → Placed sh across k rows frames dups None → Placed sh across k (remove rows i) (remove frames i) dups (frame_in frames i)
   removed i lt p =
       let paired : length frames ≡ length rows = p.paired in

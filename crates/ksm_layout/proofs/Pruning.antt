@@ -80,7 +80,7 @@ fewer_stale rows (x ∷ xs) d found = elim (cases_Bool (is_stale rows x)) [
       ]
 ]
 
--- the dup whose place was found
+-- a place that a search for a dup gives is that of the dup found
 pub dup_at : (o : Option DupRow) (place : ℕ) → Some place ≡ option_map (λ d. d.place) o → (d : DupRow) × (o ≡ Some d) × (d.place ≡ place)
 dup_at None place e = absurd (grind (arith, e))
 dup_at (Some d) place e = (d, refl, sym (same_Some place d.place e))

@@ -11,7 +11,7 @@ pub rank_within : (page : GuestPage) (rows : List Row) → rank page rows ≤ le
 rank_within page [] = omega arith
 rank_within page (r ∷ rs) = grind (arith, rank_within page rs)
 
--- what came is written over, or goes again
+-- to write over an element just inserted is to insert the other one
 pub set_inserted : {X : Type 0} (xs : List X) (i : ℕ) (x y : X) → i ≤ length xs → set (insert xs i x) i y ≡ insert xs i y
 set_inserted [] zero x y le = refl
 set_inserted [] (suc i) x y le = absurd (omega arith)

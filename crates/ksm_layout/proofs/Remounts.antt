@@ -148,11 +148,11 @@ module _ (pages : PagesView) (k : KeeperView) (h : IsLaid pages.shape pages.list
     first_known : row_at first.page v.rows ≡ Some first
     first_known = find_all by_item (λ r. row_at r.page v.rows ≡ Some r) v.rows first (sym searched) (each_at_page v.rows s.rows_rise)
 
-    -- it lies where the dup's items do
+    -- the dup's first item stands on the frame on which all its items lie
     pub item_stands : (o : Option ℕ) → ItemsLieOn v dup.number o → StandsAt v first.page first o
     item_stands o lie = lie first.page first first_known (find_passes by_item v.rows first (sym searched))
 
-    -- it has a frame
+    -- the dup's first item has a frame
     pub framed_item : (item : Row) (o : Option ℕ) → StandsAt v first.page item o → is_some o ≡ true
     framed_item item o at =
         let into : merged_into dup.number item.state ≡ true = subst (λ (x : Row). merged_into dup.number x.state ≡ true) (same_Some _ _ (sym first_known ∙ at.found)) (find_passes by_item v.rows first (sym searched)) in

@@ -59,7 +59,7 @@ module _ (sh : Shape) (v : Listed) (dups : List DupRow) (knobs : Knobs) (next : 
   abbrev across : ℕ
   across = knobs.merge_across_nodes
 
-  -- the rows change on their frames
+  -- rows and dups lie lawfully once each row changes into one that its frame may serve too
   pub laid_mapped : (v' : Listed) (g : Row → Row) → All (λ r. LodgesAs (g r) r) v.rows → v'.rows ≡ map g v.rows → v'.frames ≡ v.frames → IsLaid sh v' dups knobs next k
   laid_mapped v' g lodges rows frames = record {
     small = h.small;
@@ -161,7 +161,7 @@ vacant_loose sh a k rows frames dups place p vacant = elim (cases_Bool (list_any
   | inr none ↦ subst (IsLoose k) (sym (not_taken sh a k rows frames dups place p none)) tt
 ]
 
--- a stale dup goes
+-- rows and dups lie lawfully once the dups at a place are gone and the place names nothing
 pub laid_cleared : (sh : Shape) (v : Listed) (dups : List DupRow) (knobs : Knobs) (next : ℕ) (k w : KeeperView) (place : ℕ) → IsLaid sh v dups knobs next k → place < frames_of sh → w.table ≡ k.table → w.ledger ≡ record { frames = k.ledger.frames; places = set k.ledger.places place None } → IsLaid sh v (filter (elsewhere place) dups) knobs next w
 laid_cleared sh v dups knobs next k w place h inside e is = record {
   small = h.small;

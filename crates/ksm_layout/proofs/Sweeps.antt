@@ -41,11 +41,11 @@ module _ (v w : KeeperView) (low from : ℕ) (onward : low ≤ from) (so_far : S
   passed frame later none = swept_on v w low (from - low) (frame - from) so_far (λ f ge lt. none f (omega (arith, onward, ge)) (omega
       (arith, onward, later, lt)))
 
-  -- to the end
+  -- the sweep has gone over all frames where none behind the last one reaped is dying
   pub swept_all : (count : ℕ) → from ≤ low + count → NoneOf dying_kind w.ledger from (low + count) → Swept v w low count
   swept_all count within none = let e : upto (low + count) ≡ count = omega (arith, onward, within) in subst (Swept v w low) e (passed (low + count) within none)
 
-  -- to the next dying frame, which is reaped
+  -- the sweep goes on past the next dying frame once that is reaped
   pub swept_one : (w' : KeeperView) (frame end found : ℕ) → IsLawful v None → IsFirstOf dying_kind w.ledger from end frame
       → frame < frames_of v.table.shape → w' ≡ did w (Reap frame) found
       → Swept v w' low (frame + 1 - low)

@@ -22,7 +22,7 @@ elsewhere_is q d e same = differ (d.place == q) e (eq-eqb d.place q same)
     differ : (b : Bool) → not b ≡ true → b ≡ true → ⊥
     differ b e f = grind (arith, e, f)
 
--- a dup that stands at another place tests so
+-- a dup at another place passes the test for dups elsewhere
 pub elsewhere_so : (q : ℕ) (d : DupRow) → d.place ≢ q → elsewhere q d ≡ true
 elsewhere_so q d ne = ap not (ne_eqb d.place q ne)
 

@@ -109,7 +109,7 @@ impl FrameKeeper {
     /// The first dying one of the frames from `from` on and below `end`.
     pub fn next_dying(&self, from: u32, end: u32) -> Option<u32>
         requires inside { end ≤ frames_of self.now.table.shape }
-        requires small { end < 1000000 }
+        requires checked { IsShape self.now.table.shape }
         ensures { MatchOption result (NoneOf dying_kind self.now.ledger from end) (IsFirstOf dying_kind self.now.ledger from end) }
     {
         self.dying.least(from, end)
@@ -118,7 +118,7 @@ impl FrameKeeper {
     /// The first free one of the frames from `from` on and below `end`.
     pub fn next_free(&self, from: u32, end: u32) -> Option<u32>
         requires inside { end ≤ frames_of self.now.table.shape }
-        requires small { end < 1000000 }
+        requires checked { IsShape self.now.table.shape }
         ensures { MatchOption result (NoneOf free_kind self.now.ledger from end) (IsFirstOf free_kind self.now.ledger from end) }
     {
         self.free.least(from, end)

@@ -1,6 +1,6 @@
 //! A set of frames, one bit for each. It takes all its memory as it is made.
 
-ghost use Rattle.std.specs.Prelude.{◌≡◌, ◌≢◌, ℕ, ◌*◌, ◌<◌, ◌≤◌, true, false, length, replicate, MatchOption, IfOk};
+ghost use Rattle.std.specs.Prelude.{◌≡◌, ◌≢◌, ℕ, ◌+◌, ◌*◌, ◌^◌, ◌<◌, ◌≤◌, true, false, length, replicate, MatchOption, IfOk};
 ghost use Rattle.ksm_layout.specs.FrameSets.{has, HasNone, IsLeast, Marks};
 
 use std::alloc::{AllocError, Global};
@@ -73,10 +73,11 @@ impl FrameSet {
         self.words[frame as usize / 64] &= !(1 << (frame % 64));
     }
 
-    /// The least frame of those from `from` on and below `end`.
+    /// The least frame of those from `from` on and below `end`. The last word may have bits behind `end`: their frames have
+    /// numbers of 32 bits too.
     pub fn least(&self, from: u32, end: u32) -> Option<u32>
         requires room { end ≤ 64 * length self.now }
-        requires small { end < 1000000 }
+        requires small { end + 64 ≤ 2 ^ 32 }
         ensures { MatchOption result (HasNone self.now from end) (IsLeast self.now from end) }
     {
         let mut at = from;

@@ -21,7 +21,7 @@ use ksm_base::{PAGE_WORDS, PageBytes, Shape};
 pub fn reap_node(keeper: &mut FrameKeeper, table: &FrameTable, first: u32, count: u32)
     requires own { keeper.old.table ≡ table.now }
     requires inside { first + count ≤ frames_of keeper.old.table.shape }
-    requires small { first + count < 1000000 }
+    requires checked { IsShape keeper.old.table.shape }
     requires lawful { IsLawful keeper.old None }
     ensures own { keeper.new.table ≡ keeper.old.table }
     ensures reaped { Reaped keeper.old keeper.new first count }

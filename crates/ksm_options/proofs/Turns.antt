@@ -100,7 +100,7 @@ pub waiting_hyphens : (s : Setting) (h : Held) → walked rules [] (waiting_for 
 unfolding clap_on_literals
 waiting_hyphens s h = refl
 
--- nothing may follow it
+-- a word after two hyphens is an argument that the program does not know
 pub no_more : (h : Held) (waiting : Waiting) (word : Text) → turn_fault shape [] (after_hyphens (record (walk_from h) { waiting = waiting })) word ≡ kind.UnknownArgument ∷ []
 unfolding clap_on_literals
 no_more h waiting word = refl

@@ -79,7 +79,7 @@ block_found k v bs found = ap (λ (x : Option Block). unwrap_or x no_block) foun
 pub none_found : (k : GuestPage) (bs : Counted) → lookup (asks k) bs ≡ None → block_at bs k ≡ no_block
 none_found k bs found = ap (λ (x : Option Block). unwrap_or x no_block) found
 
--- a block is written
+-- a block that is written shifts the blocks as it is shifted itself
 pub wrote : (less more : Option Row) (k : GuestPage) → IsOf k less → IsOf k more → (bs old new : Counted) (v w : Block) → bs ≡ old → lookup (asks k) bs ≡ Some v
     → new ≡ set_value (asks k) bs w → IsShift less more k v w → AreShifted less more old new
 wrote less more k of_less of_more bs old new v w is found made here =
@@ -101,7 +101,7 @@ wrote_none less more k of_less of_more bs between old new v w is found made none
     by s false miss =
         ap (λ x. cond (asks k s) None x) (ap (lookup (asks s)) made ∙ set_found k w v bs found s ∙ ap (λ (c : Bool). cond c (Some w) (lookup (asks s) bs)) miss)
 
--- a block is new
+-- a new block shifts the blocks as it is shifted from one without rows
 pub came : (less more : Option Row) (k : GuestPage) → IsOf k less → IsOf k more → (bs old new : Counted) (w : Block) → bs ≡ old → lookup (asks k) bs ≡ None
     → ((s : GuestPage) → lookup (asks s) new ≡ cond (asks k s) (Some w) (lookup (asks s) bs)) → IsShift less more k no_block w → AreShifted less more old new
 came less more k of_less of_more bs old new w is none made here =
@@ -207,7 +207,7 @@ block_counts rows i d row bs lt is are =
       restless = (let x = there (λ r. in_block k r && restless r) in let y = a.restless in omega (arith, three, x, y));
     }
 
--- few enough rows leave room
+-- blocks that count few enough rows have room for one more
 pub blocks_room : (rows : List Row) (bs : Counted) → length rows + 1 < 2 ^ 64 → AreCounted rows bs → HaveRoom bs
 blocks_room rows bs few are = λ s.
     let a = are s in

@@ -225,7 +225,7 @@ module _ (guest : ℕ) (stop : Option Row) (change : Row → Row) (keeps : (r : 
       → o ≡ find (left guest stop cursor) now → find (left guest stop cursor) rows ≡ o
   seen_before cursor rows now o made found = sym (found ∙ ap (find (left guest stop cursor)) made ∙ still_left cursor rows)
 
-  -- where none is left, all are changed
+  -- the rows of the guest are all changed where no row is left to change
   pub finished : (cursor : Option GuestPage) (rows : List Row) → find (left guest stop cursor) rows ≡ None
       → changed_to guest stop change cursor rows ≡ change_rows (λ r. is_of guest r && is_before stop r) change rows
   finished cursor rows none = go rows (find_none (left guest stop cursor) rows none)

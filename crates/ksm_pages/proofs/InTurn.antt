@@ -26,7 +26,7 @@ module _ (change : GuestPage → Entry → Entry) where
   one_more_changed write so (suc n) (e ∷ es) value here =
       ap (λ rest. (e.0, change e.0 e.1) ∷ rest) (one_more_changed write so n es value here)
 
-  -- where no entry is left
+  -- one change more changes nothing where no entry is left
   pub none_left : (n : ℕ) (es : Entries) → slice_get (values_of (changed_first n es)) n ≡ None → changed_first n es ≡ changed_first (suc n) es
   none_left zero [] none = refl
   none_left zero (e ∷ es) none = absurd (none-some e.1 (sym none))

@@ -208,12 +208,12 @@ place_of_row (Some d) = refl
 pub place_numbered : (number : ℕ) (dups : List Dup) → option_map (λ d. d.row.place) (dup_of number dups) ≡ option_map (λ d. d.place) (dup_numbered number (rows_of dups))
 place_numbered number dups = place_of_row (dup_of number dups) ∙ ap (option_map (λ (r : DupRow). r.place)) (row_numbered number dups)
 
--- a place that is told is that of a dup
+-- a place that is told of a dup is that of the dup found
 pub dup_placed : (o : Option DupRow) (p : ℕ) → option_map (λ d. d.place) o ≡ Some p → (d : DupRow) × (o ≡ Some d) × (d.place ≡ p)
 dup_placed None p is = cc
 dup_placed (Some d) p is = (d, refl, same_Some d.place p is)
 
--- where no place is told, there is no dup
+-- no dup is found where no place is told
 pub no_place : (o : Option DupRow) → option_map (λ d. d.place) o ≡ None → o ≡ None
 no_place None is = refl
 no_place (Some d) is = cc
@@ -265,7 +265,7 @@ vacant_at rows ds r (Some e) rise found is = subst (λ x. IfSome x (λ place. Is
 pub vacant_there : (rows : List Row) (s : DupsState) (r : Option ℕ) → AreDups s → AreTied rows s.dups → r ≡ option_map (λ d. d.row.place) (find is_stale s.dups) → IfSome r (λ place. IsVacant place rows (rows_of s.dups))
 vacant_there rows s r lawful tied is = vacant_at rows (rows_of s.dups) r (find (is_stale_row rows) (rows_of s.dups)) lawful.in_place_order refl (is ∙ stale_at rows s.dups tied)
 
--- where a new dup goes
+-- the place chosen for a new dup is the one that the definition gives
 pub choice_seen : (shape : Shape) (rows : List Row) (s : DupsState) (c : Choice) → AreLinked shape rows s → choice_of s ≡ Some c → place_in c ≡ new_place (place_count shape) rows (rows_of s.dups)
 choice_seen shape rows s c linked is = choice_alike rows s c (tied_counted rows s.dups linked.tied) is ∙ ap (λ n. new_place n rows (rows_of s.dups)) linked.places
 
@@ -336,7 +336,7 @@ found_room rows dups number (Some d) tied is room =
     let same : item_count rows d.row ≡ item_count rows room.0 = ap (λ n. count_by (λ r. merged_into n r.state) rows) (number_found number dups d is ∙ sym room.2) in
     (refl, omega (arith, counted, same, room.3))
 
--- a dup with room is there
+-- there is a dup of the number of which room is told
 pub known_room : (rows : List Row) (dups : List Dup) (number : ℕ) → AreTied rows dups → HasRoom rows (rows_of dups) number → is_some (dup_of number dups) ≡ true
 known_room rows dups number tied room = (found_room rows dups number (dup_of number dups) tied refl room).0
 
@@ -356,6 +356,6 @@ items_tied rows dups number (Some d) tied is there =
 pub items_numbered_are : (rows : List Row) (dups : List Dup) (number : ℕ) → AreTied rows dups → is_some (dup_numbered number (rows_of dups)) ≡ true → items_numbered number dups ≡ map (λ r. r.page) (filter (λ r. merged_into number r.state) rows)
 items_numbered_are rows dups number tied there = items_tied rows dups number (dup_of number dups) tied refl (known_by_row number dups there)
 
--- one item more is listed
+-- the first i + 1 elements are the first i and the next one
 pub take_next : {X : Type 0} (xs : List X) (i : ℕ) (x : X) → slice_get xs i ≡ Some x → take (i + 1) xs ≡ take i xs ++ x ∷ []
 take_next xs i x is = take_more xs i x (slice_get_within xs i x is) ∙ ap (λ y. take i xs ++ y ∷ []) (get_or_from_slice_get xs i x x is)

@@ -75,17 +75,17 @@ eq_is p q = grind (arith, nat_tests)
 pub equal_is : page_eq.ghosts.eq ≡ asks
 equal_is = λ t p q. eq_is p q t
 
--- a page that is asked for is that page
+-- a page that tests as the one asked for is that page
 pub page_is : (p q : GuestPage) → asks p q ≡ true → q ≡ p
 page_is p q is = same_page_eq q p (sym (asks_is p q) ∙ is)
 
--- a page asks for itself
+-- a page tests as itself
 pub own : (p : GuestPage) → asks p p ≡ true
 own p = laws.refl p
 
 -- ---------------------------------------------------------------- entries in order that find the same
 
--- nothing is not something
+-- None is never Some
 pub never_some : {X : Type 0} {x : X} → None ≡ Some x → ⊥
 never_some none = true≢false (sym (ap is_some none))
 
@@ -153,7 +153,7 @@ pub found_by : (found : Entries) (order : Indices) → IsPaged found order → (
 found_by found order is q =
     lookup-map_values (entry_at found) (asks q) order ∙ ap (option_map (entry_at found)) (is.indexed q) ∙ value_at (asks q) found
 
--- the entry that is read at an index
+-- an entry that a list of values has at an index is the one read there
 pub entry_is : (found : Entries) (i : ℕ) (v : Entry) → slice_get (values_of found) i ≡ Some v → entry_at found i ≡ v
 entry_is found i v read = get_or_from_slice_get (values_of found) i v of_none read
 
@@ -217,7 +217,7 @@ set_through found made order es page w o v seen is value some becomes =
 
 -- ---------------------------------------------------------------- a part of the pages
 
--- the pages in a range, with their entries
+-- the pages in a range of the order, with their entries, are that range of all pages with theirs
 pub range_paged : (found : Entries) (start : Bound GuestPage) (order : Indices) → paged found (from_here start order) ≡ from_here start (paged found order)
 range_paged found start [] = refl
 range_paged found start (e ∷ order) = by (range_contains page_order start Unbounded e.0) (range_paged found start order)

@@ -43,7 +43,7 @@ module _ (knobs : Knobs) (rows : List Row) (w : List WaitingPage) (row : Row) (r
     met_so : (o : Option GuestPage) → waiting_page (tree_of knobs row) row.bytes w ≡ o → met ≡ unwrap_or o row.page
     met_so o at = is ∙ ap (λ o. unwrap_or o row.page) at
 
-    -- where it is the row's own, no other row waits
+    -- no other row waits where the page that waits is the row's own
     pub met_own : same_page met row.page ≡ true → partner knobs rows row ≡ None
     met_own own = go (waiting_page (tree_of knobs row) row.bytes w) refl
       where

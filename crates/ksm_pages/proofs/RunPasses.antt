@@ -69,7 +69,7 @@ module _ (es : Entries) (sorted : Sorted es) (rows : List Row) (are : rows_of es
       walk_after es (so_far.ends.0 ++ p.front) (last, p.entry) p.rest sorted
       (so_far.ends.1 ∙ ap (λ l. so_far.ends.0 ++ l) p.parts ∙ sym (append_assoc so_far.ends.0 p.front ((last, p.entry) ∷ p.rest)))
 
-  -- fewer are left
+  -- a run that passes over entries leaves fewer of them
   pub passes_fewer : (n visits : ℕ) (last : GuestPage) (its : Entries) (p : PassesTo n its visits last) → length p.rest < length its
   passes_fewer n visits last its p =
       let one : length its ≡ length p.front + length ((last, p.entry) ∷ p.rest) = ap length p.parts ∙ length-append p.front ((last, p.entry) ∷ p.rest) in

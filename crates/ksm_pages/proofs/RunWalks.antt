@@ -178,7 +178,7 @@ module _ (es : Entries) (sorted : Sorted es) (rows : List Row) (are : rows_of es
     yet = refl;
   }
 
-  -- no row is left to meet
+  -- the run ends where no entry is left
   pub run_ends : (n : ℕ) (run : Run) → RunsTo es rows cursor run [] → run.visits ≤ n → IsRun n rows cursor run
   run_ends n run so_far most = record {
     over = record { left = so_far.left; last = so_far.last; next = so_far.yet ∙ sym (ap page_of so_far.onward) };

@@ -76,7 +76,7 @@ seen_state_set of (r ∷ rows) [] (suc i) row = refl
 seen_state_set of (r ∷ rows) (h ∷ frames) zero row = refl
 seen_state_set of (r ∷ rows) (h ∷ frames) (suc i) row = ap (λ l. frame_seen of r.state h ∷ l) (seen_state_set of rows frames i row)
 
--- a row and its frame that come
+-- a row and its frame that were added are seen in their place
 pub seen_inserted : (of : ℕ → Option ℕ) (rows : List Row) (frames : List (Option ℕ)) (i : ℕ) (row : Row) (own : Option ℕ) → length frames ≡ length rows
     → frames_seen of (insert rows i row) (insert frames i own) ≡ insert (frames_seen of rows frames) i (frame_seen of row.state own)
 seen_inserted of [] [] zero row own paired = refl
@@ -118,7 +118,7 @@ seen_alike of to (r ∷ rows) (h ∷ frames) same =
     let rest = seen_alike of to rows frames (All-tail (λ x. (own : Option ℕ) → frame_seen of x.state own ≡ frame_seen to x.state own) r rows same) in
     λ t. here h t ∷ rest t
 
--- dups that change, where the rows that pass come to lie on frame g
+-- rows are seen on the frame g where they pass the test, and else where they were
 pub seen_lodged : (of to : ℕ → Option ℕ) (test : Row → Bool) (g : ℕ) (rows : List Row) (frames : List (Option ℕ))
     → ((r : Row) (own : Option ℕ) → frame_seen of r.state own ≡ (if test r then Some g else frame_seen to r.state own))
     → frames_seen of rows frames ≡ lodged test g rows (frames_seen to rows frames)
@@ -166,7 +166,7 @@ items_lie dups lodgings v number rise paired page r found merged =
     subst (StandsAt (listed_seen dups lodgings v) page r) (item_lies dups lodgings v page r
     (frame_in (listed_seen dups lodgings v).frames (rank page v.rows)) number paired at merged) at
 
--- what stands at a page is seen there
+-- a row that stands at a page with its own frame stands there with the frame that is seen
 pub stands_seen : (dups : List DupRow) (lodgings : List (Option ℕ)) (v : Listed) (page : GuestPage) (held seen : FramedRow) → length v.frames ≡ length v.rows
     → StandsAt v page held.row held.frame → seen.row ≡ held.row → seen.frame ≡ frame_seen (lodging dups lodgings) held.row.state held.frame
     → StandsAt (listed_seen dups lodgings v) page seen.row seen.frame
@@ -180,7 +180,7 @@ stands_seen dups lodgings v page held seen paired at same is = record {
 
 -- ---------------------------------------------------------------- changes
 
--- a row and its frame in the stead of those of its page
+-- a row and its frame put in the stead of those of its page are seen in their place
 pub seen_put : (dups now : List DupRow) (lodgings : List (Option ℕ)) (v w : Listed) (row : Row) (own frame : Option ℕ) → now ≡ dups
     → w.rows ≡ set v.rows (rank row.page v.rows) row → w.frames ≡ set v.frames (rank row.page v.rows) own
     → frame_seen (lodging dups lodgings) row.state own ≡ frame
@@ -194,7 +194,7 @@ pub paired_put : (v w : Listed) (i : ℕ) (row : Row) (own : Option ℕ) → len
     → w.frames ≡ set v.frames i own → length w.frames ≡ length w.rows
 paired_put v w i row own paired rows frames = ap length frames ∙ length-set v.frames i own ∙ paired ∙ sym (ap length rows ∙ length-set v.rows i row)
 
--- a row in the stead of that of its page, where the entry keeps its frame
+-- a row put in the stead of that of its page, on the same frame, is seen in its place
 pub seen_put_there : (dups now : List DupRow) (lodgings : List (Option ℕ)) (v w : Listed) (row : Row) (frame : Option ℕ) → now ≡ dups
     → w.rows ≡ set v.rows (rank row.page v.rows) row → w.frames ≡ v.frames
     → frame_seen (lodging dups lodgings) row.state (frame_in v.frames (rank row.page v.rows)) ≡ frame
@@ -208,7 +208,7 @@ pub paired_there : (v w : Listed) (i : ℕ) (row : Row) → length v.frames ≡ 
     → length w.frames ≡ length w.rows
 paired_there v w i row paired rows frames = ap length frames ∙ paired ∙ sym (ap length rows ∙ length-set v.rows i row)
 
--- rows that change, each in its place
+-- rows that change each in its place stay as many as their frames
 pub paired_mapped : (f : Row → Row) (v w : Listed) → length v.frames ≡ length v.rows → w.rows ≡ map f v.rows → w.frames ≡ v.frames
     → length w.frames ≡ length w.rows
 paired_mapped f v w paired rows frames = ap length frames ∙ paired ∙ sym (ap length rows ∙ length-map v.rows f)
@@ -219,7 +219,7 @@ pub seen_kept : (of : ℕ → Option ℕ) (f : Row → Row) (v w : Listed) → w
     → frames_seen of w.rows w.frames ≡ frames_seen of v.rows v.frames
 seen_kept of f v w rows frames same = (λ t. frames_seen of (rows t) (frames t)) ∙ seen_mapped of f v.rows v.frames same
 
--- a row and its frame that came
+-- rows and frames stay as many once one of each was added
 pub paired_came : (v w : Listed) (i : ℕ) (row : Row) (own : Option ℕ) → length v.frames ≡ length v.rows → w.rows ≡ insert v.rows i row
     → w.frames ≡ insert v.frames i own → length w.frames ≡ length w.rows
 paired_came v w i row own paired rows frames = ap length frames ∙ inserted v.rows v.frames i paired ∙ sym (ap length rows)
@@ -232,7 +232,7 @@ paired_came v w i row own paired rows frames = ap length frames ∙ inserted v.r
     inserted (r ∷ rows) (h ∷ frames) zero paired = ap (λ n. suc n) paired
     inserted (r ∷ rows) (h ∷ frames) (suc i) paired = ap suc (inserted rows frames i (omega (arith, paired)))
 
--- a row and its frame that went
+-- rows and frames stay as many once one of each is gone
 pub paired_gone : (v w : Listed) (i : ℕ) → length v.frames ≡ length v.rows → w.rows ≡ remove v.rows i → w.frames ≡ remove v.frames i
     → length w.frames ≡ length w.rows
 paired_gone v w i paired rows frames = ap length frames ∙ removed v.rows v.frames i paired ∙ sym (ap length rows)
@@ -252,7 +252,7 @@ pub seen_gone : (dups now : List DupRow) (lodgings : List (Option ℕ)) (v w : L
 seen_gone dups now lodgings v w i paired same rows frames =
     (λ t. frames_seen (lodging (same t) lodgings) (rows t) (frames t)) ∙ seen_removed (lodging dups lodgings) v.rows v.frames i paired
 
--- a row with a frame of its own lies on it
+-- a row that is not merged is seen on its own frame
 pub own_lies : (dups : List DupRow) (lodgings : List (Option ℕ)) (v : Listed) (row : Row) (frame : Option ℕ) → length v.frames ≡ length v.rows
     → StandsAt v row.page row frame → merged_state row.state ≡ false → StandsAt (listed_seen dups lodgings v) row.page row frame
 own_lies dups lodgings v row frame paired at alone =
@@ -341,7 +341,7 @@ lodging_apart lodgings place frame (Some e) away =
     let off = away e refl in
     get_or-set_other lodgings place e.place frame None (λ same. true≢false (sym (eq-eqb e.place place same) ∙ off))
 
--- the frame of a dup that moves
+-- the items of a dup that moved are seen on its new frame, and each other row where it was
 pub moved_seen : (dups : List DupRow) (lodgings : List (Option ℕ)) (number g : ℕ) (d : DupRow) → InPlaceOrder dups → dup_numbered number dups ≡ Some d
     → d.place < length lodgings
     → (r : Row) (own : Option ℕ)

@@ -35,7 +35,7 @@ own_made number c r = elim (is_memory r) as (λ (b : Bool). entries_by number (i
 journal_made : (journal : List Entry) (c : Command) (r : Answer) → journal_after journal c r ≡ journal ++ made c r
 journal_made journal c r = elim (is_memory r) as (λ (b : Bool). (if b then journal else journal ++ (c, r) ∷ []) ≡ journal ++ (if b then [] else ((c, r) ∷ []))) [ true ↦ sym (append-nil journal) | false ↦ refl ]
 
--- the journal that the book's seat knows after a command
+-- the journal that the book's seat knows has the command's entry at its end after a command
 pub new_log : (bv : View) (sm : Me (Option Entry) View) (bv' sv' : View) (e : Option Entry) (c : Command) (r : Answer) → IsShareSeat sm → e ≡ said_of c r → Wrote bv sm.0 bv' sv' e
     → bv'.log ≡ bv.log ++ made_by (first sm.0.callers).number c r
 new_log bv sm bv' sv' e c r s is w =
@@ -43,7 +43,7 @@ new_log bv sm bv' sv' e c r s is w =
     let a : added sm.0.callers e ≡ made_by g.number c r = (λ i. added (s i).0.callers (is i)) ∙ added_made (caller g.number g.seen) c r in
     ap (λ (v : View). v.log) w.book_is ∙ ap (λ (l : List Owned). bv.log ++ l) a
 
--- and after a look
+-- the journal that the book's seat knows stays after a look
 pub same_log : (bv : View) (sm : Me (Option Entry) View) (bv' sv' : View) → IsShareSeat sm → Wrote bv sm.0 bv' sv' None → bv'.log ≡ bv.log
 same_log bv sm bv' sv' s w =
     let none : added sm.0.callers None ≡ [] = ap (λ (m : Me (Option Entry) View). added m.0.callers None) s in
@@ -109,7 +109,7 @@ shown_all bv sv bv' sv' e w =
     let number = (first sv.callers).number in
     ap (λ (v : View). first v.callers) w.share_is ∙ ap (λ (l : List Owned). caller number l) (sym (ap (λ (v : View). v.log) w.book_is))
 
--- the answers of a locked book's journal
+-- the answers in the journal of a locked book are those that its commands may have
 pub answers_seen : (parts : PartsId) (b : JournaledBook) (es : List Entry) → b.keeper.table ≡ parts.frames → b.journal ≡ es → IsLegal b.keeper.table.shape b.journal b.state
     → AreAnswers (opening parts.frames.shape) es
 answers_seen parts b es own journal legal =
@@ -204,13 +204,13 @@ entries_grow log log' number c r is = ap entries is ∙ entries_append log (made
 list_said : (said : Option Entry) (c : Command) (r : Answer) → said ≡ said_of c r → list_of said ≡ made c r
 list_said said c r is = ap list_of is ∙ elim (is_memory r) as (λ (b : Bool). list_of (if b then None else Some (c, r)) ≡ (if b then [] else ((c, r) ∷ []))) [ true ↦ refl | false ↦ refl ]
 
--- what was followed is the journal still
+-- the entries that were followed are still the journal after the next command
 pub follows_on : (j j' : List Entry) (log log' : List Owned) (number : ℕ) (c : Command) (r : Answer) (said : Option Entry) → log' ≡ log ++ made_by number c r → said ≡ said_of c r → j ≡ entries log
     → j' ≡ j ++ list_of said → j' ≡ entries log'
 follows_on j j' log log' number c r said more is now next =
     next ∙ (λ i. now i ++ list_said said c r is i) ∙ sym (entries_grow log log' number c r more)
 
--- what is followed next is the journal of the book
+-- the entries that are followed next are the journal of the book
 pub follows_book : (j b b' : List Entry) (c : Command) (r : Answer) (said : Option Entry) → j ≡ b → b' ≡ journal_after b c r → said ≡ said_of c r → b' ≡ j ++ list_of said
 follows_book j b b' c r said now next is = next ∙ journal_made b c r ∙ (λ i. sym now i ++ sym (list_said said c r is) i)
 

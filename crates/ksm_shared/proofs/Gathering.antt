@@ -130,6 +130,6 @@ lacks (suc n) cs lt = dite (ℕ_discrete (times n cs) 0)
     (λ (e : times n cs ≡ 0). (n, omega arith, e))
     (λ (ne : times n cs ≢ 0). let h = lacks n cs (omega arith) in (h.0, let lt = h.1 in omega arith, h.2))
 
--- where there are fewer than there should be, one isn't there
+-- fewer callers than the book has lack at least one
 pub lacks_one : (callers : ℕ) (cs : List Caller) → length cs < callers → LacksOne callers cs
 lacks_one callers cs few = lacks callers cs (let h = below_few callers cs in omega arith)

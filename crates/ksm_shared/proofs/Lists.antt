@@ -29,7 +29,7 @@ total_two f (x ∷ xs) zero (suc j) v u e d ne = let s : f x ≡ f v = ap f (som
 total_two f (x ∷ xs) (suc i) zero v u e d ne = let s : f x ≡ f u = ap f (some-injective x u d) in let t = total_one f xs i v e in omega arith
 total_two f (x ∷ xs) (suc i) (suc j) v u e d ne = let s = total_two f xs i j v u e d (λ q. ne (ap suc q)) in omega arith
 
--- one more view adds what it counts
+-- a total with one more view has what that view counts more
 pub total_snoc : (f : View → ℕ) (views : List View) (w : View) → total f (views ++ w ∷ []) ≡ total f views + f w
 total_snoc f [] w = omega arith
 total_snoc f (x ∷ xs) w = let s = total_snoc f xs w in omega arith
@@ -97,7 +97,7 @@ callers_grow log more count (g ∷ cs) apart fits = (
   callers_grow log more count cs (λ number pos. apart number (let q : times number cs ≤ times number (g ∷ cs) = omega arith in omega arith)) fits.1,
 )
 
--- callers that fit so many fit more
+-- callers that fit a book of so many fit one of more
 pub callers_more : (log : List Owned) (count more : ℕ) (cs : List Caller) → count ≤ more → CallersFit log count cs → CallersFit log more cs
 callers_more log count more [] le fits = tt
 callers_more log count more (g ∷ cs) le fits = ((let a = fits.0.0 in omega arith, fits.0.1), callers_more log count more cs le fits.1)
@@ -107,7 +107,7 @@ pub callers_append : (log : List Owned) (count : ℕ) (cs ds : List Caller) → 
 callers_append log count [] ds a b = b
 callers_append log count (g ∷ cs) ds a b = (a.0, callers_append log count cs ds a.1 b)
 
--- each has now seen the whole journal
+-- callers that are shown the whole journal fit it
 pub callers_fresh : (log now : List Owned) (count : ℕ) (cs : List Caller) → CallersFit log count cs → CallersFit now count (map (λ g. caller g.number now) cs)
 callers_fresh log now count [] fits = tt
 callers_fresh log now count (g ∷ cs) fits = ((fits.0.0, begins_all g.number now), callers_fresh log now count cs fits.1)
@@ -127,7 +127,7 @@ pub owners_more : (count : ℕ) (xs : List Owned) → OwnersBelow count xs → O
 owners_more count [] a = tt
 owners_more count (x ∷ xs) a = (let h = a.0 in omega arith, owners_more count xs a.1)
 
--- nobody else owns an entry
+-- nobody beside the callers owns an entry
 pub owners_none : (count : ℕ) (xs : List Owned) → OwnersBelow count xs → entries_by count xs ≡ []
 owners_none count [] a = refl
 owners_none count (x ∷ xs) a = let h = a.0 in

@@ -86,7 +86,7 @@ pub looks : (slots id : ℕ) (v : View) (held : List (ℕ × Option Entry)) → 
     → Allows Kept slots id (v, held) 0 (λ n. n) (Looks (step slots 0 0 0 none) (v, held))
 looks slots id v held kp s h len at small = (after v None, keeps, tt, writes_views s.views id v None kp h at, (refl, refl, knows s.views id v kp h at))
 
--- a whole view goes to a new seat
+-- a seat that is not the book's may give its whole view to a new seat
 pub moves_out : {S : Type 0} (id : ℕ) (v : View) → v.is_book ≡ false → Splits {S = S} Kept id v nobody v
 moves_out id v off s h at = record {
   book = h.book;
@@ -105,7 +105,7 @@ moves_out id v off s h at = record {
   owners = h.owners;
 }
 
--- the shares of a seat go to a new one
+-- a seat may give its shares to a new seat
 pub cuts : {S : Type 0} (id : ℕ) (v : View) → Splits {S = S} Kept id v (view_of v.is_book v.log v.shares []) (view_of false [] 0 v.callers)
 cuts id v s h at =
     let left = view_of v.is_book v.log v.shares [] in
@@ -126,7 +126,7 @@ cuts id v s h at =
       owners = h.owners;
     }
 
--- a seat takes in the shares of another
+-- a seat may take in the shares of another
 pub takes_in : {S : Type 0} (id : ℕ) (v : View) (other : ℕ) (w : View) → Joins {S = S} Kept id v other w (view_of v.is_book v.log v.shares (v.callers ++ w.callers)) nobody
 takes_in id v other w s h at apart there =
     let both = view_of v.is_book v.log v.shares (v.callers ++ w.callers) in
@@ -148,7 +148,7 @@ takes_in id v other w s h at apart there =
       owners = h.owners;
     }
 
--- one more share
+-- the book's seat may make one share more
 pub mints : {S : Type 0} (id : ℕ) (v : View) → v.is_book ≡ true → Splits {S = S} Kept id v (view_of v.is_book v.log (v.shares + 1) v.callers) (share_view v.shares [])
 mints id v kp s h at =
     let left = view_of v.is_book v.log (v.shares + 1) v.callers in

@@ -59,7 +59,7 @@ wrote bm sm jm xm b2 s2 e slots found s j w cut given =
 pub looked : (jm xm : Me') (slots found : ℕ) → Looks (step slots 0 0 0 none) jm found xm → Writes (step slots 0 0 0 (some None)) jm found xm
 looked jm xm slots found l e is = (l.0 ∙ ap (λ (x : Option Entry). after jm.0 x) (some-injective None e is), l.1, l.2)
 
--- a look of the book's seat with these shares: they fit, and are let go
+-- the shares that the book's seat took in fit its journal, and it is as before once they are let go
 pub let_go : (bm jm xm b2 : Me') (cs : List Caller) (slots found : ℕ) → IsBookSeat bm → jm ≡ (view_of true bm.0.log bm.0.shares cs, []) → Writes (step slots 0 0 0 (some None)) jm found xm
     → b2 ≡ (view_of xm.0.is_book xm.0.log xm.0.shares [], xm.1) → (b2 ≡ bm) × Knows (view_of true bm.0.log bm.0.shares cs)
 let_go bm jm xm b2 cs slots found b j w cut =
@@ -75,7 +75,7 @@ let_go bm jm xm b2 cs slots found b j w cut =
     nothing log [] = append-nil log
     nothing log (g ∷ cs) = append-nil log
 
--- where nothing is left, all were taken
+-- all callers were taken where none is left
 pub all_taken : (xs ys rest : List Caller) (n : ℕ) → xs ≡ ys ++ rest → n ≡ length rest → n ≡ 0 → xs ≡ ys
 all_taken xs ys [] n e l z = e ∙ append-nil ys
 all_taken xs ys (g ∷ rest) n e l z = absurd (omega arith)

@@ -30,7 +30,7 @@ impl Rule<Entry, u64> for HasLength {
     ghost moves = { λ ask before after answer. Unit {0} };
 }
 
-/// Nothing is traded for an entry.
+/// A step that adds an entry gains nothing beside it.
 pub struct NoTrade;
 
 impl Gain<Entry, u64> for NoTrade {
@@ -60,7 +60,7 @@ impl Plain<Entry, Entry, u64> for Adding {
 /// The word that has the length of the journal.
 pub type LengthWord = Word<Entry, u64, HasLength>;
 
-/// That the journal has begun so.
+/// A mark of the logbook, which says how the journal has begun.
 pub type SeenJournal = Seen<Entry, u64, HasLength>;
 
 /// A beginning of the journal. Contracts see its entries, and in which logbook the journal is.

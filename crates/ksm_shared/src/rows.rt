@@ -78,7 +78,7 @@ impl CountedRow {
     }
 }
 
-// No operation is logged for the copy that lacks it, so the two copies have nothing in common.
+// A row is written whole to one copy, and no operation is logged for the other: so there is nothing to absorb.
 impl Absorb<()> for CountedRow {
     type State = ();
 

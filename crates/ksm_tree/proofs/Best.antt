@@ -199,7 +199,7 @@ found_self (d ∷ dups) rise =
 abbrev has_room : ℕ → Dup → Bool
 has_room limit d = nat_le 1 (length d.items) && nat_lt (length d.items) limit
 
--- what a walk over places keeps
+-- the better of the best dup so far and the one found, if that has room
 abbrev pub joined : ℕ → Option Dup → Option Dup → Option Dup
 joined limit acc None = acc
 joined limit acc (Some d) = if has_room limit d then Some (better acc d) else acc
@@ -214,11 +214,11 @@ abbrev pub least_of : Option Dup → ℕ
 least_of None = 1
 least_of (Some d) = length d.items
 
--- how many items more than the least, counted round the numbers of 32 bits, against the room for them
+-- a count that is found to be within the room is the least and what it is above that
 pub above_least : (items least limit above : ℕ) → items < 2 ^ 32 → least < 2 ^ 32 → limit < 2 ^ 32 → above ≡ (items + (2 ^ 32 - least)) % 2 ^ 32 → above < limit - least → least + above ≡ items
 above_least items least limit above fits least_fits limit_fits is within = omega arith
 
--- one comparison tells too few items and too many
+-- a count that is found not to be within the room is below the least, or at the limit or above
 pub out_of_room : (items least limit above : ℕ) → items < 2 ^ 32 → least < 2 ^ 32 → limit < 2 ^ 32 → above ≡ (items + (2 ^ 32 - least)) % 2 ^ 32 → limit - least ≤ above → (nat_lt items least || nat_le limit items) ≡ true
 out_of_room items least limit above fits least_fits limit_fits is outside = grind (arith, nat_tests)
 

@@ -69,7 +69,7 @@ module _ (rows : List Row) where
   pub live_alike : (dups : List Dup) → AreCounted rows dups → rows_of (filter is_live dups) ≡ filter (has_items rows) (rows_of dups)
   live_alike dups counted = left_alike is_live (has_items rows) dups (All-weaker IsCounted (λ d. is_live d ≡ has_items rows d.row) (λ d n. ap (nat_lt 0) n) dups counted)
 
-  -- how many are stale, and how many have items
+  -- as many dups are stale as there are rows of dups that are stale
   pub stale_count : (dups : List Dup) → AreCounted rows dups → count_by is_stale dups ≡ count_by (is_stale_row rows) (rows_of dups)
   stale_count dups counted = count_alike is_stale (is_stale_row rows) dups (All-weaker IsCounted (λ d. is_stale d ≡ is_stale_row rows d.row) (λ d n. ap (λ k. k == 0) n) dups counted)
 

@@ -76,12 +76,12 @@ chain_empty key es f keeps none t b =
 pub chain_here : {S : Type 0} (key : Content) (old : HashMap Content Places S) (chain : Option Places) → chain ≡ get content_eq.ghosts.eq old key → chain_in key.tree key.bytes old.entries ≡ listed chain
 chain_here key old chain is = chain_found key old.entries ∙ ap listed (sym is)
 
--- a list of length 0
+-- a list of length 0 is empty
 pub none_of : (xs : List ℕ) → (length xs == 0) ≡ true → [] ≡ xs
 none_of [] none = refl
 none_of (x ∷ xs) none = grind (arith, nat_tests, none)
 
--- the chain of a key after its entry has changed
+-- the chain of a key is what its entry has after a change
 pub chain_now : {S : Type 0} (key : Content) (old new : HashMap Content Places S) (w : Option Places) → UpdatesBy content_eq.ghosts.eq (content_eq.ghosts.eq key) old new w → chain_in key.tree key.bytes new.entries ≡ listed w
 chain_now key old new w updates = chain_here key new w (sym updates.1)
 
@@ -113,7 +113,7 @@ with_peopled place places = let n = length-append (filter (λ p. nat_lt p place)
 pub some_of : (xs : List ℕ) → (length xs == 0) ≡ false → 0 < length xs
 some_of xs more = grind (arith, nat_tests, more)
 
--- one entry put in, or refused
+-- chains stay without an empty one where one with a dup is put in, or refused
 pub peopled_inserted : {S T E : Type 0} (key : Content) (old new : HashMap Content Places S) (w : Option Places) (r : Result T E) → OnOk r (UpdatesBy content_eq.ghosts.eq (content_eq.ghosts.eq key) old new w) → OnErr r (IsUnchanged old new) → AllPeopled old → IsPeopled w → AllPeopled new
 peopled_inserted key old new w (Ok x) updates kept was is = peopled_changed key old new w updates was is
 peopled_inserted key old new w (Err e) updates kept was is =

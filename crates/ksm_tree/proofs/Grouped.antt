@@ -264,7 +264,7 @@ totals_tell t b p rows totals few below rise are =
       small = omega (arith, small.1);
     }
 
--- once one group has changed
+-- the totals are right once one group alone has changed
 pub totals_moved : (t : ℕ) (b : List ℕ) (rows new : List DupRow) (old_totals new_totals : Totals) → InPlaceOrder rows → InPlaceOrder new → dups_apart t b new ≡ dups_apart t b rows → chains_apart t b new ≡ chains_apart t b rows
     → IsRegrouped (length (group_places t b rows)) (length (group_places t b new)) old_totals new_totals → AreTotals rows old_totals → AreTotals new new_totals
 totals_moved t b rows new old_totals new_totals rise new_rise dups chains regrouped are =
@@ -288,7 +288,7 @@ regrouped_twice a b c t u v first second = record {
 -- a row in the stead of another: first the one comes, then the other goes
 module _ (old r : DupRow) (less rows new : List DupRow) (there : IsMore old less rows) (here : IsMore r less new)
     (rise : InPlaceOrder rows) (less_rise : InPlaceOrder less) (new_rise : InPlaceOrder new) where
-  -- of one group
+  -- the totals are right once a dup of the same group stands in the stead of one that goes
   pub totals_same : (t u v : Totals) (n : ℕ) → in_group r.tree r.bytes old ≡ true
       → IsRegrouped (length (group_places r.tree r.bytes rows)) n t u → IsRegrouped n (length (group_places r.tree r.bytes new)) u v → AreTotals rows t → AreTotals new v
   totals_same t u v n same first second are =
@@ -298,7 +298,7 @@ module _ (old r : DupRow) (less rows new : List DupRow) (there : IsMore old less
       (chains_kept r.tree r.bytes r less new here own ∙ sym (chains_kept r.tree r.bytes old less rows there same))
       (regrouped_twice _ n _ t u v first second) are
 
-  -- of two groups
+  -- the totals are right once a dup of another group stands in the stead of one that goes
   pub totals_apart : (t u v : Totals) → in_group r.tree r.bytes old ≡ false
       → IsRegrouped (length (group_places r.tree r.bytes rows)) (length (group_places r.tree r.bytes new)) t u
       → IsRegrouped (length (group_places old.tree old.bytes rows)) (length (group_places old.tree old.bytes new)) u v → AreTotals rows t → AreTotals new v

@@ -87,7 +87,7 @@ pub told : (s : SlotsState) (next : ℕ) (index : Index) → AreIndexed s next i
 told s next index h t b =
     rw (h.grouped t b) (totals_tell t b s.places (rows_of s.dups) index.groups.totals h.few h.lawful.places_below h.lawful.in_place_order h.counted)
 
--- the row of the dup at a place
+-- the row found at a place is that of the dup there
 pub row_at_place : (p : ℕ) (dups : List Dup) (d : Option Dup) → dup_at p dups ≡ d → find (λ r. r.place == p) (rows_of dups) ≡ option_map (λ e. e.row) d
 row_at_place p dups d is = sym (row_found (stands_at p) (λ r. r.place == p) (λ e. refl) dups) ∙ ap (option_map (λ e. e.row)) is
 
@@ -145,7 +145,7 @@ gone_indexed s next index new p d h found at numbers groups regrouped =
 pub found_stands : (p : ℕ) (dups : List Dup) (d : Dup) → dup_at p dups ≡ Some d → d.row.place ≡ p
 found_stands p dups d found = eqb-true d.row.place p (found_passes (stands_at p) dups d found)
 
--- where nothing stands, nothing that passes a test stands
+-- no dup that passes a test is found at a place where no dup stands
 pub none_there : (p : ℕ) (test : Dup → Bool) (dups : List Dup) → None ≡ dup_at p dups → is_some (find (λ d. stands_at p d && test d) dups) ≡ true → ⊥
 none_there p test [] none there = false≢true there
 none_there p test (d ∷ dups) none there =

@@ -40,7 +40,7 @@ pub pages_are : (es : List (Content × GuestPage)) → values_of es ≡ map (λ 
 pages_are [] = refl
 pages_are (e ∷ es) = ap (λ l. e.1 ∷ l) (pages_are es)
 
--- whether a content is a row's
+-- a row is of a group exactly where its tree and its bytes are the group's
 pub own_group : (t : ℕ) (b : List ℕ) (row : DupRow) → in_group t b row ≡ (t == row.tree && bytes_eq b row.bytes)
 own_group t b row = let swapped = eq_bytes row.bytes b in grind (arith, nat_tests, swapped)
 

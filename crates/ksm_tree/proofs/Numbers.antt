@@ -8,12 +8,12 @@ use Rattle.std.proofs.lemmas.Option.{get_or_from_slice_get, slice_get_within}
 use Rattle.ksm_rmap.proofs.Ordered.{IsOrder, insert_at, with_found, remove_at, absent_kept, point_is_count}
 use Rattle.ksm_tree.specs.Places.{with_place, without}
 
--- what holds of an `Ok`, where the result is one
+-- what holds wherever a result is `Ok` holds of a result that is
 pub at_ok : {T E : Type 0} {P : Type 0} (r : Result T E) → IsOk r → OnOk r P → P
 at_ok (Ok x) good holds = holds
 at_ok (Err e) bad holds = absurd (false≢true bad)
 
--- what holds anyway holds of a failure
+-- what holds anyway holds where a result is an error
 pub on_err : {T E : Type 0} {P : Type 0} (r : Result T E) → P → OnErr r P
 on_err (Ok x) holds = tt
 on_err (Err e) holds = holds

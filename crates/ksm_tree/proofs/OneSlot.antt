@@ -74,7 +74,7 @@ slot_put k p (suc i) (Some d ∷ slots) dup is at within placed =
     let rest = slot_put (suc k) p i slots dup (omega arith) at (omega arith) placed.1 in
     grind (arith, nat_tests, h, rest)
 
--- a slot emptied
+-- a slot that is emptied takes its dup out of those that are seen
 pub slot_emptied : (k p i : ℕ) (slots : List (Option Dup)) → p ≡ k + i → ArePlaced k slots → present (set slots i None) ≡ without_place p (present slots)
 slot_emptied k p i [] is placed = refl
 slot_emptied k p zero (None ∷ slots) is placed =
@@ -307,7 +307,7 @@ mirrored_absent : (test : Option Dup → Bool) (p m : ℕ) (slots : List (Option
 mirrored_absent test p m slots at fails =
     ap (λ slots. places_where test 0 (reverse slots)) (sym (set-get_or slots p None)) ∙ mirrored_without test p m slots (get_or slots p None) at fails
 
--- what is not in a slot: a stale dup where there is none, and no dup where there is one
+-- a place without a dup is none of the stale places
 pub stale_absent : (p : ℕ) (slots : List (Option Dup)) (r : Option Dup) (stale : List ℕ) → p < length slots → r ≡ get_or slots p r → is_some r ≡ false → stale ≡ places_where is_stale_slot 0 slots → stale ≡ without p stale
 stale_absent p slots r stale within read none is =
     let here : get_or slots p None ≡ r = get_or_default slots p None r within ∙ sym read in
@@ -328,7 +328,7 @@ empty_absent p m slots r empty at read some is =
     ] some in
     is ∙ mirrored_absent is_empty_slot p m slots at (ap is_empty_slot here ∙ fails) ∙ ap (without m) (sym is)
 
--- a dup with items put into its slot
+-- the slots are right once a dup with items is put into one
 pub slots_put : (slots : List (Option Dup)) (counts : List ℕ) (empty stale empty' stale' : SmallVec ℕ) (dup : Dup) (m n : ℕ) → m + dup.row.place + 1 ≡ length slots → n ≡ length dup.items → is_live dup ≡ true → AreSlots slots counts empty stale → empty'.items ≡ without m empty.items → empty'.capacity ≡ empty.capacity → stale'.items ≡ without dup.row.place stale.items → stale'.capacity ≡ stale.capacity → AreSlots (set slots dup.row.place (Some dup)) (set counts dup.row.place n) empty' stale'
 slots_put slots counts empty stale empty' stale' dup m n at is live h left room left_stale room_stale =
     let p = dup.row.place in
@@ -343,7 +343,7 @@ slots_put slots counts empty stale empty' stale' dup m n at is live h left room 
       stale_room = rw (length-set, room_stale) h.stale_room;
     }
 
--- what is seen of the slots once a dup was put in one
+-- a dup put into its slot is seen among the others
 pub seen_put : (slots : List (Option Dup)) (state : SlotsState) (dup : Dup) → slots_seen slots ≡ state → dup.row.place < state.places → ArePlaced 0 slots → slots_seen (set slots dup.row.place (Some dup)) ≡ record { places = state.places; dups = with_new dup state.dups }
 seen_put slots state dup seen place placed =
     let p = dup.row.place in
@@ -380,7 +380,7 @@ pub read_dup : (p : ℕ) (slots : List (Option Dup)) (r : Option Dup) → ArePla
 read_dup p slots r placed within read =
     slot_found 0 p p slots (omega arith) placed ∙ get_or_default slots p None r within ∙ sym read
 
--- the dup of a slot goes
+-- the slots are right once one is emptied
 pub slots_cleared : (p m : ℕ) (slots : List (Option Dup)) (counts : List ℕ) (empty stale empty' stale' : SmallVec ℕ) → m + p + 1 ≡ length slots → AreSlots slots counts empty stale → empty'.items ≡ with_place m empty.items → empty'.capacity ≡ empty.capacity → stale'.items ≡ without p stale.items → stale'.capacity ≡ stale.capacity → AreSlots (set slots p None) (set counts p 0) empty' stale'
 slots_cleared p m slots counts empty stale empty' stale' at h more room left room_stale =
     let within : p < length slots = omega (arith, at) in
@@ -478,7 +478,7 @@ slots_joined p n slots counts empty stale d page within h filled is live =
     (counted_set p n slots counts (Some e) h.counted is)
     (h.stales ∙ sym (where_same is_stale_slot None 0 p slots (Some e) (grown_not_stale page d.items ∙ sym (ap is_stale_slot filled ∙ live)))) refl
 
--- the view after a change of the items at a place
+-- a change of the items in a slot is seen as that change of the dup at its place
 pub view_changed : (p : ℕ) (slots : List (Option Dup)) (s : SlotsState) (d : Dup) (f : List GuestPage → List GuestPage) → slots_seen slots ≡ s → ArePlaced 0 slots → get_or slots p None ≡ Some d → slots_seen (set slots p (Some (record d { items = f d.items }))) ≡ record { places = s.places; dups = change_at p f s.dups }
 view_changed p slots s d f view placed filled =
     (λ i. record { places = length-set slots p (Some (record d { items = f d.items })) i; dups = slot_changed 0 p p slots d f (omega arith) filled placed i })

@@ -13,7 +13,7 @@ use Rattle.ksm_tree.specs.Places.{with_place, without}
 use Rattle.ksm_tree.specs.Slots.{present, count_in, ArePlaced}
 use Rattle.ksm_tree.proofs.Where.{where_with, where_without, where_same, where_room}
 
--- two answers that are alike, and two of which the first is yes and the other is not like it
+-- two answers that test as alike are the same
 pub agree : (a b : Bool) → beq a b ≡ true → a ≡ b
 agree true true same = refl
 agree true false same = grind (arith, same)
@@ -48,7 +48,7 @@ pub counts_begun : (limit n : ℕ) (places : SmallVec ℕ) → places.items ≡ 
 counts_begun limit n places none room =
     record { opens = none ∙ sym (none_open limit 0 (replicate n 0) (all_none n)); room = rw length_zeroes room }
 
--- a place where the number changes: it is open as before, or opens, or is open no more
+-- the open places stay where a count changes and its place is open as before
 pub counts_same : (limit p n : ℕ) (counts : List ℕ) (places : SmallVec ℕ) → is_open limit n ≡ is_open limit (get_or counts p 0) → AreCounts limit counts places → AreCounts limit (set counts p n) places
 counts_same limit p n counts places same h =
     record { opens = h.opens ∙ sym (where_same (is_open limit) 0 0 p counts n same); room = rw length-set h.room }

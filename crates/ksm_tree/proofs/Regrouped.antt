@@ -3,7 +3,7 @@ use Rattle.std.proofs.Common.{◌≡◌, ℕ}
 use Rattle.ksm_tree.specs.declared.totals.Totals.{Totals}
 use Rattle.ksm_tree.specs.Totals.{IsRegrouped, Tells}
 
--- totals tell of an equal number the same
+-- totals tell the same of equal numbers
 pub tells_as : (t : Totals) (a b : ℕ) → a ≡ b → Tells a t → Tells b t
 tells_as t a b same h = rw (← same) h
 

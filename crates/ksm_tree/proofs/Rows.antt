@@ -43,7 +43,7 @@ module _ (p : ℕ) where
         | inr no_greater ↦ grind (arith, nat_tests, no_greater, rest)
       ]
 
-  -- the places of a group, without one
+  -- the places of a group among the dups elsewhere are its places without this one
   pub group_elsewhere : (t : ℕ) (b : List ℕ) (rows : List DupRow) → group_places t b (filter elsewhere rows) ≡ without p (group_places t b rows)
   group_elsewhere t b [] = refl
   group_elsewhere t b (r ∷ rows) =
@@ -110,7 +110,7 @@ group_append t b (x ∷ xs) ys =
       | inr outside ↦ grind (arith, outside, rest)
     ]
 
--- the places of a group with a new row
+-- a new row of a group adds its place to the places of the group
 pub group_joined : (t : ℕ) (b : List ℕ) (row : DupRow) (rows : List DupRow) → in_group t b row ≡ true → group_places t b (with_dup row rows) ≡ with_place row.place (group_places t b rows)
 group_joined t b row rows inside =
     let lower = filter (below row.place) rows in
@@ -145,7 +145,7 @@ find_to test x (z ∷ xs) ys none passes =
     let rest = find_to test x xs ys (All-tail (λ w. test w ≡ false) z xs none) passes in
     grind (arith, here, rest)
 
--- the place of a number with a new row
+-- the number of a new row has the place of the row
 pub place_new : (row : DupRow) (rows : List DupRow) → All (λ r. r.number < row.number) rows → row_place row.number (with_dup row rows) ≡ Some row.place
 place_new row rows fresh =
     let F : DupRow → Type 0 = λ r. r.number < row.number in
@@ -264,7 +264,7 @@ place_gone p q rows e rise found =
       | inr other ↦ rw other (stayed p q e rows other only)
     ]
 
--- the order of a list with a new row
+-- rows stay in the order of their places with a new row
 pub rows_with : (row : DupRow) (rows : List DupRow) → InPlaceOrder rows → All (λ r. r.number < row.number) rows → InPlaceOrder (with_dup row rows)
 rows_with row rows rise fresh =
     let F : DupRow → Type 0 = λ d. d.number < row.number in

@@ -141,11 +141,11 @@ module _ (rows : List Row) (d : DupRow) (rise : InPageOrder rows) (page : GuestP
   abbrev merged : Row → Bool
   merged r = merged_into d.number r.state
 
-  -- the row of the page goes
+  -- the items of a dup are without the page once the page's row is gone
   pub items_dropped : items_of (without_page page rows) d ≡ without_item page (items_of rows d)
   items_dropped = pages_chosen merged (λ p. not (same_page p page)) rows
 
-  -- the row of the page becomes, or stays, an item
+  -- the items of a dup have the page once the page's row is merged into it
   pub items_joined : (new : Row) → new.page ≡ page → is_some (row_at page rows) ≡ true → merged new ≡ true → items_of (change_row page (λ _. new) rows) d ≡ with_item page (items_of rows d)
   items_joined new at there passes =
       let first : pages_that merged (new ∷ filter (behind page) rows) ≡ page ∷ pages_that merged (filter (behind page) rows) = grind (arith, passes, at) in
@@ -153,7 +153,7 @@ module _ (rows : List Row) (d : DupRow) (rise : InPageOrder rows) (page : GuestP
       ∙ pages_append merged (filter (ahead page) rows) (new ∷ filter (behind page) rows)
       ∙ (λ i. pages_chosen merged (λ p. comes_before p page) rows i ++ (first ∙ ap (λ ps. page ∷ ps) (pages_chosen merged (λ p. comes_before page p) rows)) i)
 
-  -- the row of the page becomes, or stays, no item
+  -- the items of a dup are without the page once the page's row is not merged into it
   pub items_left : (new : Row) → is_some (row_at page rows) ≡ true → merged new ≡ false → items_of (change_row page (λ _. new) rows) d ≡ without_item page (items_of rows d)
   items_left new there fails =
       let first : pages_that merged (new ∷ filter (behind page) rows) ≡ pages_that merged (filter (behind page) rows) = grind (arith, fails) in
@@ -164,7 +164,7 @@ module _ (rows : List Row) (d : DupRow) (rise : InPageOrder rows) (page : GuestP
       ∙ ap (pages_that merged) (sym (without_splits page rows rise))
       ∙ items_dropped
 
--- each row changed, but not its page nor whether it is an item
+-- the items of a dup stay where each row changes but for its page and its dup
 pub items_kept : (rows : List Row) (d : DupRow) (f : Row → Row) → All (λ r. ((f r).page ≡ r.page) × (merged_into d.number (f r).state ≡ merged_into d.number r.state)) rows → items_of (map f rows) d ≡ items_of rows d
 items_kept [] d f same = refl
 items_kept (r ∷ rows) d f same =

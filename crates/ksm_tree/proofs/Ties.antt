@@ -86,7 +86,7 @@ module _ (rows : List Row) (page : GuestPage) (old : Row) (rise : InPageOrder ro
       out_of old.state refl (change_row page (λ _. row) rows) dups
       (λ d. items_left rows d rise page row (ap is_some found) (not_an_item d.number row.state alone)) tied
 
-  -- where the page becomes an item
+  -- rows and dups stay tied where a page becomes an item
   pub tied_joined : (row : Row) (number : ℕ) (dups : List Dup) → merged_state old.state ≡ false → row.page ≡ page → row.state ≡ Merged number → AreTied rows dups → AreTied (change_row page (λ _. row) rows) (change_items number (with_item page) dups)
   tied_joined row number dups alone at is tied =
       let new = change_row page (λ _. row) rows in
@@ -188,7 +188,7 @@ module _ (rows : List Row) (first second : Row) (row : DupRow) (rise : InPageOrd
       tied k e lt ∙ sym (others d.row (ne_eqb row.number d.row.number (λ same. omega (arith, older, same)))))
       (sym both_in)
 
--- a row that is not merged comes
+-- rows and dups stay tied where a row that is not merged comes
 pub tied_inserted : (rows : List Row) (row : Row) (dups : List Dup) → InPageOrder rows → row_at row.page rows ≡ None → merged_state row.state ≡ false → AreTied rows dups → AreTied (with_row row rows) dups
 tied_inserted rows row dups rise absent alone tied =
     let page = row.page in
@@ -204,11 +204,11 @@ tied_inserted rows row dups rise absent alone tied =
     ∙ sym (pages_append m (filter (ahead page) rows) (filter (behind page) rows))
     ∙ ap (pages_that m) (sym (without_splits page rows rise) ∙ same))) dups tied
 
--- each row changed, but not its page nor the dup that it is merged into
+-- rows and dups stay tied where each row changes but for its page and its dup
 pub tied_mapped : (f : Row → Row) (rows : List Row) (dups : List Dup) → All (λ r. ((f r).page ≡ r.page) × ((number : ℕ) → merged_into number (f r).state ≡ merged_into number r.state)) rows → AreTied rows dups → AreTied (map f rows) dups
 tied_mapped f rows dups same tied =
     All-weaker (IsTied rows) (IsTied (map f rows)) (λ d e. e ∙ sym (items_kept rows d.row f (λ k r lt. ((same k r lt).0, (same k r lt).1 d.row.number)))) dups tied
 
--- a dup goes
+-- rows and dups stay tied where a dup goes
 pub tied_pruned : (rows : List Row) (dups : List Dup) (place : ℕ) → AreTied rows dups → AreTied rows (without_place place dups)
 tied_pruned rows dups place tied = All-filter (λ d. not (stands_at place d)) (IsTied rows) dups tied

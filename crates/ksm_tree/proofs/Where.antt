@@ -27,7 +27,7 @@ module _ {X : Type 0} (test : X → Bool) where
   where_apart : (k p : ℕ) (xs : List X) → p < k → All (λ q. not (q == p) ≡ true) (places_where test k xs)
   where_apart k p xs below i d lt = let h = where_above k xs i d lt in grind (arith, nat_tests, h)
 
-  -- an element that passes from now on
+  -- the places of elements that pass have one more where an element comes to pass
   pub where_with : (k p i : ℕ) (xs : List X) (x : X) → p ≡ k + i → i < length xs → test x ≡ true → places_where test k (set xs i x) ≡ with_place p (places_where test k xs)
   where_with k p i [] x is within passes = absurd (omega arith)
   where_with k p zero (y ∷ xs) x is within passes =
@@ -47,7 +47,7 @@ module _ {X : Type 0} (test : X → Bool) where
         | false ↦ so_far
       ]
 
-  -- an element that fails from now on
+  -- the places of elements that pass have one less where an element comes to fail
   pub where_without : (k p i : ℕ) (xs : List X) (x : X) → p ≡ k + i → i < length xs → test x ≡ false → places_where test k (set xs i x) ≡ without p (places_where test k xs)
   where_without k p i [] x is within fails = absurd (omega arith)
   where_without k p zero (y ∷ xs) x is within fails =
@@ -66,7 +66,7 @@ module _ {X : Type 0} (test : X → Bool) where
         | false ↦ so_far
       ]
 
-  -- an element that passes as it did
+  -- the places of elements that pass stay where an element passes as it did
   pub where_same : (d : X) (k i : ℕ) (xs : List X) (x : X) → test x ≡ test (get_or xs i d) → places_where test k (set xs i x) ≡ places_where test k xs
   where_same d k i [] x same = refl
   where_same d k zero (y ∷ xs) x same = rw same refl
