@@ -20,7 +20,7 @@ use std::thread::Threads;
 
 /// How many bytes are read at once, at most. The reader fills its buffer with zeroes first, and a line that lies across its end is read by
 /// parts: a larger buffer costs more at the start, a smaller one more for each such line.
-const READ_BLOCK: usize = 16384;
+const READ_BLOCK: usize = 8192;
 
 /// How many bytes are sent at once, at most.
 const WRITE_BLOCK: usize = 65536;

@@ -17,7 +17,7 @@ use Rattle.std.specs.Char.{digit_value}
 use Rattle.ksm_lines.proofs.Booleans.{chosen, is_chosen, first_true, second_true}
 
 -- decimal digits, as a test
-own : IsNumeralModel (λ word. list_all is_ascii_digit word ≡ true) (digits_value 10)
+pub own : IsNumeralModel (λ word. list_all is_ascii_digit word ≡ true) (digits_value 10)
 own = numerals_by_value _ (search rules)
 
 pub record IsPlain (word : List ℕ) : Type 0 where

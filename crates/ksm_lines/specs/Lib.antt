@@ -4,4 +4,5 @@ pub mod Grammar
 pub mod Reading
 pub mod Digits
 pub mod Forms
+pub mod Leading
 pub mod Worked

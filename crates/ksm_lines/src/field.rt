@@ -15,7 +15,7 @@ use std::array;
 use std::simd::prelude::*;
 
 /// How many digits a page is written in.
-const PAGE_DIGITS: usize = 16 * PAGE_WORDS;
+pub const PAGE_DIGITS: usize = 16 * PAGE_WORDS;
 
 /// The value of each byte as a hexadecimal digit, 0 of any other byte.
 const DIGIT_VALUES: [u8; 256] = [
@@ -117,7 +117,8 @@ fn number_in(word: &[u8]) -> Result<u32, LineFault>
 }
 
 /// The number that the digits at the front of a text write, leading zeros included, and how many they are.
-fn digits_at(text: &[u8]) -> Result<(u32, usize), LineFault>
+#[inline(always)]
+pub fn digits_at(text: &[u8]) -> Result<(u32, usize), LineFault>
     ensures front { IfOk result (λ r. IsReadTo r.1 text.now r.0) }
     ensures inside { IfOk result (λ r. r.1 ≤ length text.now) }
     ensures stops { IfOk result (λ r. r.1 < length text.now → is_ascii_digit (slice_index text.now r.1) ≡ false) }
@@ -196,8 +197,6 @@ pub fn guest(left: Option<&[u8]>) -> Result<(u16, Option<&[u8]>), LineFault>
         Err(_) => Err(LineFault::Bad),
     }
 }
-
-// It is inlined for the same reason as `content_alone`: fewer instructions were counted. Its contract is not touched by that.
 
 /// The next two words as a page.
 #[inline(always)]
@@ -335,7 +334,8 @@ fn page_in(digits: &[u8]) -> Result<PageBytes, LineFault>
 }
 
 /// The page that a word of two digits fills, or that one of as many digits as a page has writes.
-fn content_in(word: &[u8]) -> Result<PageBytes, LineFault>
+#[inline(always)]
+pub fn content_in(word: &[u8]) -> Result<PageBytes, LineFault>
     ensures { Gives result (content_of word.now) }
 {
     if word.len() == PAGE_DIGITS {
@@ -350,10 +350,7 @@ fn content_in(word: &[u8]) -> Result<PageBytes, LineFault>
     Ok([u64::from_le_bytes([byte_of(word, 0); 8]); PAGE_WORDS])
 }
 
-// One of the hints of inlining that together took small merges from 95.0 to 89.4 million instructions.
-
 /// The last word as the content of a page.
-#[inline(always)]
 pub fn content_alone(left: Option<&[u8]>) -> Result<PageBytes, LineFault>
     ensures { Gives result (alone content_of (words_left left.entry)) }
 {

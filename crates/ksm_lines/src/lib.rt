@@ -3,9 +3,11 @@
 
 mod field;
 mod knob;
+mod leading;
 mod line;
 mod worked;
 
 pub use knob::{Knob, Shown};
+pub use leading::{PageLine, ShortLine, leading_page_line, leading_short_line};
 pub use line::{Line, LineFault, read_line};
 pub use worked::bad_lines;

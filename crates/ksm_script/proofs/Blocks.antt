@@ -1,5 +1,6 @@
 -- What a reader's buffer has of a line.
-use Rattle.std.proofs.Common.{◌≡◌, ◌≢◌, ◌==◌, ℕ, ◌+◌, ◌<◌, ◌≤◌, Bool, true, false, cond, List, [], ◌∷◌, ◌++◌, Option, None, Some, length, take, drop, get_or, refl, sym, ap, ◌∙◌, arith, zero-le, append_assoc, take-append-drop, take-take}
+use Rattle.std.proofs.Common.{◌≡◌, ◌≢◌, ◌==◌, ℕ, ◌+◌, ◌<◌, ◌≤◌, Bool, true, false, cond, List, [], ◌∷◌, ◌++◌, Option, None, Some, length, take, drop, get_or, refl, sym, ap, ◌∙◌, arith, zero-le, append_assoc, length-append, take-append-drop, take-take}
+use Rattle.std.proofs.Transfers.{drop-appended}
 use Rattle.std.specs.Prelude.{if◌then◌else◌, IsTrue, ◌↔◌}
 use Rattle.std.specs.Bool.{then_some}
 use Rattle.ksm_script.specs.declared.input.LineEnd.TheVariants.{TooLong}
@@ -58,3 +59,14 @@ extends_so false before line part is full room = (is, less (λ e. let h = full.1
   where
     less : length line ≢ 257 → length line ≤ 256
     less other = omega (arith, other)
+
+-- a buffer whose beginning is a line, its newline and a rest, up to that newline
+pub up_to_line : (buffer line rest : List ℕ) (n : ℕ) → take n buffer ≡ line ++ 10 ∷ rest → buffer ≡ (line ++ 10 ∷ []) ++ drop (length line + 1) buffer
+up_to_line buffer line rest n is =
+    let whole : buffer ≡ (line ++ 10 ∷ []) ++ (rest ++ drop n buffer) =
+    sym (take-append-drop n buffer) ∙ ap (λ l. l ++ drop n buffer) (is ∙ sym (append_assoc line (10 ∷ []) rest)) ∙ append_assoc (line ++ 10 ∷ []) rest (drop n buffer) in
+    whole ∙ ap (λ l. (line ++ 10 ∷ []) ++ l) (sym (ap (drop (length line + 1)) whole ∙ behind line (rest ++ drop n buffer)))
+  where
+    behind : (line rest : List ℕ) → drop (length line + 1) ((line ++ 10 ∷ []) ++ rest) ≡ rest
+    behind line rest =
+        ap (λ n. drop n ((line ++ 10 ∷ []) ++ rest)) (sym (length-append line (10 ∷ []))) ∙ drop-appended (line ++ 10 ∷ []) ((line ++ 10 ∷ []) ++ rest) rest refl

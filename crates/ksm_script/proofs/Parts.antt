@@ -82,3 +82,18 @@ whole_is r a b text wanted e = subst (λ t. OnOk r (Appends a b t)) e
 pub part_is : {A : Type 0} (r : Result A RunFault) (a b : Option (List ℕ)) (text wanted : List ℕ) → text ≡ wanted
     → IfErr r (λ e. (e ≡ Write) × AppendsPart a b text) → IfErr r (λ e. (e ≡ Write) × AppendsPart a b wanted)
 part_is r a b text wanted e = subst (λ t. IfErr r (λ f. (f ≡ Write) × AppendsPart a b t)) e
+
+-- a text is its beginning, and what is behind that
+rest_is : (text : List ℕ) (n : ℕ) → take n text ++ take (length text - n) (drop n text) ≡ text
+rest_is text n = ap (λ (t : List ℕ). take n text ++ t) (take_rest text n) ∙ take-append-drop n text
+
+-- the beginning of a text was written, and then what is behind it
+pub whole_behind : {A : Type 0} (r : Result A RunFault) (a b c : Option (List ℕ)) (text : List ℕ) (n : ℕ) → Appends a b (take n text)
+    → OnOk r (Appends b c (take (length text - n) (drop n text))) → OnOk r (Appends a c text)
+whole_behind (Ok x) a b c text n p q = subst (Appends a c) (rest_is text n) (Appends-trans a b c _ _ p q)
+whole_behind (Err e) a b c text n p q = tt
+
+-- the beginning of a text was written, and then a part of what is behind it
+pub part_behind : {A : Type 0} (r : Result A RunFault) (a b c : Option (List ℕ)) (text : List ℕ) (n : ℕ) → Appends a b (take n text)
+    → IfErr r (λ e. (e ≡ Write) × AppendsPart b c (take (length text - n) (drop n text))) → IfErr r (λ e. (e ≡ Write) × AppendsPart a c text)
+part_behind r a b c text n p q = part_is r a c _ text (rest_is text n) (fault_after r a b c (take n text) _ p q)

@@ -2,11 +2,13 @@
 ghost use Rattle.std.specs.Prelude.{◌≡◌, ◌≢◌, ◌+◌, ◌<◌, ◌≤◌, ◌++◌, ◌∷◌, ◌⊎◌, [], ℕ, List, Option, Some, Ok, true, false, length, take, IfOk, IfErr, IfNone, IfSome, IsTrue, ◌↔◌, option_to_list};
 ghost use Rattle.std.specs.Io.Buffered.{reader_inner, reader_remaining, writer_buffer, writer_contents};
 ghost use Rattle.std.specs.Io.KnownBytes.{Consumes, Keeps, IsAtEnd};
+ghost use Rattle.ksm_lines.specs.Leading.{short_form, page_form};
 ghost use Rattle.ksm_script.specs.Takes.{Takes, TakesForm};
 ghost use Rattle.ksm_script.specs.Input.{EndsAs, IsPlain};
 
 use crate::script::RunFault;
-use ksm_lines::{Line, read_line};
+use ksm_base::PageBytes;
+use ksm_lines::{Line, PageLine, ShortLine, leading_page_line, leading_short_line, read_line};
 use memchr::memchr;
 use std::io::{BufRead, BufReader, BufWriter, Read, Write};
 use std::marker::Model;
@@ -180,6 +182,36 @@ fn take_empty<R: Read>(reader: &mut BufReader<R>) -> bool
     true
 }
 
+/// Takes the short line that a reader has next in its buffer, read where it lies, if it is one. Else nothing is taken.
+#[inline(always)]
+fn take_short<R: Read>(reader: &mut BufReader<R>) -> Option<ShortLine>
+    ensures taken { IfSome result (λ line. TakesForm (short_form line) (reader_remaining R.remaining reader.old) (reader_remaining R.remaining reader.new)) }
+    ensures none { IfNone result (reader.new ≡ reader.old) }
+{
+    let buffer = reader.buffer();
+    let block = &buffer[..buffer.len().min(LINE_ROOM)];
+    let Some((line, left)) = leading_short_line(block) else {
+        return None;
+    };
+    let taken = block.len() - left.len();
+    reader.consume(taken);
+    Some(line)
+}
+
+/// Takes the line with a content that a reader has next in its buffer, read where it lies, if it is one. Else nothing is taken.
+#[inline(always)]
+fn take_page<R: Read>(reader: &mut BufReader<R>) -> Option<(PageLine, PageBytes)>
+    ensures taken { IfSome result (λ r. TakesForm (page_form r.0 r.1) (reader_remaining R.remaining reader.old) (reader_remaining R.remaining reader.new)) }
+    ensures none { IfNone result (reader.new ≡ reader.old) }
+{
+    let buffer = reader.buffer();
+    let block = &buffer[..buffer.len().min(LINE_ROOM)];
+    let (line, bytes, left) = leading_page_line(block)?;
+    let taken = block.len() - left.len();
+    reader.consume(taken);
+    Some((line, bytes))
+}
+
 /// Takes the line that a reader has whole in its buffer, read where it lies, if it is one of the forms. Else nothing is taken.
 fn take_whole<R: Read>(reader: &mut BufReader<R>) -> Option<Line>
     ensures taken { IfSome result (λ form. TakesForm form (reader_remaining R.remaining reader.old) (reader_remaining R.remaining reader.new)) }
@@ -225,6 +257,16 @@ pub(crate) trait TakesLines<R, W: Write> {
         ensures taken { result ≡ true → TakesForm Line.Empty (remaining reader.old) (remaining reader.new) }
         ensures none { result ≡ false → reader.new ≡ reader.old };
 
+    /// Takes the next line at once, if it is at hand and a short one. Else nothing is taken, which may be of any line.
+    fn take_short(reader: &mut R) -> Option<ShortLine>
+        ensures taken { IfSome result (λ line. TakesForm (short_form line) (remaining reader.old) (remaining reader.new)) }
+        ensures none { IfNone result (reader.new ≡ reader.old) };
+
+    /// Takes the next line at once, if it is at hand and has a content, which comes apart. Else nothing is taken, which may be of any line.
+    fn take_page(reader: &mut R) -> Option<(PageLine, PageBytes)>
+        ensures taken { IfSome result (λ r. TakesForm (page_form r.0 r.1) (remaining reader.old) (remaining reader.new)) }
+        ensures none { IfNone result (reader.new ≡ reader.old) };
+
     /// Takes the next line at once, if it is at hand and one of the forms. Else nothing is taken.
     fn take_whole(reader: &mut R) -> Option<Line>
         ensures taken { IfSome result (λ form. TakesForm form (remaining reader.old) (remaining reader.new)) }
@@ -251,6 +293,14 @@ impl<R: Read, W: Write> TakesLines<R, W> for ByBytes {
         false
     }
 
+    fn take_short(_reader: &mut R) -> Option<ShortLine> {
+        None
+    }
+
+    fn take_page(_reader: &mut R) -> Option<(PageLine, PageBytes)> {
+        None
+    }
+
     fn take_whole(_reader: &mut R) -> Option<Line> {
         None
     }
@@ -273,6 +323,16 @@ impl<R: Read, W: Write + Drop> TakesLines<BufReader<R>, BufWriter<W>> for ByBloc
     #[inline(always)]
     fn take_empty(reader: &mut BufReader<R>) -> bool {
         take_empty(reader)
+    }
+
+    #[inline(always)]
+    fn take_short(reader: &mut BufReader<R>) -> Option<ShortLine> {
+        take_short(reader)
+    }
+
+    #[inline(always)]
+    fn take_page(reader: &mut BufReader<R>) -> Option<(PageLine, PageBytes)> {
+        take_page(reader)
     }
 
     fn take_whole(reader: &mut BufReader<R>) -> Option<Line> {

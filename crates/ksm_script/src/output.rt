@@ -8,9 +8,28 @@ use std::io::Write;
 
 // It is inlined so that the compiler knows the length of a text, and writes a short one by a few stores to the writer's buffer.
 
-/// Writes a text, or the beginning of it that the writer took before its fault.
+/// Writes a text, or the beginning of it that the writer took before its fault. Mostly the writer takes all of it at once.
 #[inline(always)]
 pub fn write_text<W: Write>(writer: &mut W, text: &[u8]) -> Result<(), RunFault>
+    ensures whole { OnOk result (Appends (W.contents writer.old) (W.contents writer.new) text.now) }
+    ensures fault { IfErr result (λ e. (e ≡ RunFault.Write)
+        × AppendsPart (W.contents writer.old) (W.contents writer.new) text.now) }
+{
+    let Ok(count) = writer.write(text) else {
+        return Err(RunFault::Write);
+    };
+    if count == text.len() {
+        return Ok(());
+    }
+    if count == 0 {
+        return Err(RunFault::Write);
+    }
+    write_parts(writer, &text[count..])
+}
+
+/// Writes a text part by part.
+#[inline(never)]
+fn write_parts<W: Write>(writer: &mut W, text: &[u8]) -> Result<(), RunFault>
     ensures whole { OnOk result (Appends (W.contents writer.old) (W.contents writer.new) text.now) }
     ensures fault { IfErr result (λ e. (e ≡ RunFault.Write)
         × AppendsPart (W.contents writer.old) (W.contents writer.new) text.now) }

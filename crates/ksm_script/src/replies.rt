@@ -2,8 +2,9 @@
 ghost use Rattle.std.specs.Prelude.{Result};
 ghost use Rattle.ksm_script.specs.Said.{ReturnsReply, WritesReply};
 
-use crate::reply::{LineReply, write_reply};
+use crate::reply::{LineReply, write_content, write_reply};
 use crate::script::RunFault;
+use ksm_base::PageBytes;
 use std::io::Write;
 
 /// What becomes of the reply to a line: it is handed over to a value of the type `S` where it arises.
@@ -17,6 +18,10 @@ pub(crate) trait Replies<S> {
     /// Hands a reply over.
     fn reply(to: &mut S, reply: LineReply) -> Result<(), RunFault>
         ensures { takes to.old to.new reply result };
+
+    /// Hands the content of a page over, as the reply that it is.
+    fn content(to: &mut S, content: &PageBytes) -> Result<(), RunFault>
+        ensures { takes to.old to.new (LineReply.Content content.now) result };
 }
 
 /// Each reply is written at once.
@@ -29,6 +34,11 @@ impl<W: Write> Replies<W> for Written {
     fn reply(to: &mut W, reply: LineReply) -> Result<(), RunFault> {
         write_reply(to, &reply)
     }
+
+    #[inline(always)]
+    fn content(to: &mut W, content: &PageBytes) -> Result<(), RunFault> {
+        write_content(to, content)
+    }
 }
 
 /// The reply is returned to the caller, in the value.
@@ -39,6 +49,11 @@ impl Replies<Option<LineReply>> for Returned {
 
     fn reply(to: &mut Option<LineReply>, reply: LineReply) -> Result<(), RunFault> {
         *to = Some(reply);
+        Ok(())
+    }
+
+    fn content(to: &mut Option<LineReply>, content: &PageBytes) -> Result<(), RunFault> {
+        *to = Some(LineReply::Content(*content));
         Ok(())
     }
 }

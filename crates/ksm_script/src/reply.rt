@@ -98,7 +98,7 @@ pub fn write_reply<W: Write>(writer: &mut W, reply: &LineReply) -> Result<(), Ru
 }
 
 /// Writes the content of a page, its bytes in order, two digits each.
-fn write_content<W: Write>(writer: &mut W, content: &PageBytes) -> Result<(), RunFault>
+pub(crate) fn write_content<W: Write>(writer: &mut W, content: &PageBytes) -> Result<(), RunFault>
     ensures whole { OnOk result (Appends (W.contents writer.old) (W.contents writer.new) (content_line content.now)) }
     ensures fault { IfErr result (λ e. (e ≡ RunFault.Write)
         × AppendsPart (W.contents writer.old) (W.contents writer.new) (content_line content.now)) }

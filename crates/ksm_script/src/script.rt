@@ -157,6 +157,56 @@ fn answer_whole<M: TakesLines<R, W>, N: Naming, T: Threads + Wait + Sync, R, W: 
     if is_heard {
         return Ok(false);
     }
+    let Some(line) = M::take_short(reader) else {
+        return answer_page::<M, N, T, R, W>(rt, reader, writer, session);
+    };
+    session.answer_short::<Written, T, W>(rt, line, writer)?;
+    Ok(true)
+}
+
+/// Answers the next line at once, if it is at hand and one of the forms, first tried as one with a content; tells whether it did. Else
+/// nothing is read.
+///
+/// It stands apart, so that a page is cleared before no short line.
+#[inline(never)]
+fn answer_page<M: TakesLines<R, W>, N: Naming, T: Threads + Wait + Sync, R, W: Write>(
+    rt: &T,
+    reader: &mut R,
+    writer: &mut W,
+    session: &mut Session<N>,
+) -> Result<bool, RunFault>
+    ensures answered { result ≡ Ok true → AnsweredOne (streams (M.remaining reader.old) (M.remaining reader.new) (W.contents writer.old) (W.contents writer.new))
+        session.old.state session.new.state }
+    ensures none { result ≡ Ok false → (session.new ≡ session.old) × (reader.new ≡ reader.old) × (writer.new ≡ writer.old) }
+    ensures fault { IfErr result (λ e. (e ≡ RunFault.Write)
+        × AnsweredPart (streams (M.remaining reader.old) (M.remaining reader.new) (W.contents writer.old) (W.contents writer.new))
+        session.old.state session.new.state) }
+{
+    let Some(taken) = M::take_page(reader) else {
+        return answer_any::<M, N, T, R, W>(rt, reader, writer, session);
+    };
+    let (line, bytes) = taken;
+    session.answer_page::<Written, T, W>(rt, line, bytes, writer)?;
+    Ok(true)
+}
+
+/// Answers the next line at once, if it is at hand and one of the forms; tells whether it did. Else nothing is read.
+///
+/// It stands apart, so that no value with room for any line is cleared before those that come by the million.
+#[inline(never)]
+fn answer_any<M: TakesLines<R, W>, N: Naming, T: Threads + Wait + Sync, R, W: Write>(
+    rt: &T,
+    reader: &mut R,
+    writer: &mut W,
+    session: &mut Session<N>,
+) -> Result<bool, RunFault>
+    ensures answered { result ≡ Ok true → AnsweredOne (streams (M.remaining reader.old) (M.remaining reader.new) (W.contents writer.old) (W.contents writer.new))
+        session.old.state session.new.state }
+    ensures none { result ≡ Ok false → (session.new ≡ session.old) × (reader.new ≡ reader.old) × (writer.new ≡ writer.old) }
+    ensures fault { IfErr result (λ e. (e ≡ RunFault.Write)
+        × AnsweredPart (streams (M.remaining reader.old) (M.remaining reader.new) (W.contents writer.old) (W.contents writer.new))
+        session.old.state session.new.state) }
+{
     let Some(line) = M::take_whole(reader) else {
         return Ok(false);
     };

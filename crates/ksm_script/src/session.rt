@@ -6,6 +6,8 @@ ghost use Rattle.ksm_base.specs.Reading.{bytes_of, ticket_of, mappers_of};
 ghost use Rattle.ksm_base.specs.Refusals.{is_known};
 ghost use Rattle.ksm_base.specs.declared.command.Command.TheVariants.{Scan as scan};
 ghost use Rattle.ksm_lines.specs.Knobs.{shown_in};
+ghost use Rattle.ksm_lines.specs.Leading.{short_form, page_form};
+ghost use Rattle.ksm_lines.specs.declared.line.Line.TheVariants.{Get as get_line, Ticket as ticket_line, Find as find_line, Look as look_line, Leave as leave_line, Stat as stat_line};
 ghost use Rattle.ksm_base.specs.Counting.{counters_of};
 ghost use Rattle.ksm_script.specs.declared.reply.LineReply.TheVariants.{Counters as counters_reply, Value as value_reply};
 ghost use Rattle.frame_table.specs.Seats.{new_pass};
@@ -25,8 +27,8 @@ use crate::replies::Replies;
 use crate::reply::LineReply;
 use crate::script::RunFault;
 use frame_table::ClosedTable;
-use ksm_base::{Command, Fault, GuestPage, Reply};
-use ksm_lines::{Line, Shown};
+use ksm_base::{Command, Fault, GuestPage, PageBytes, Reply};
+use ksm_lines::{Line, PageLine, ShortLine, Shown};
 use ksm_shared::{Ksm, Naming, Parts, Share};
 use std::alloc::Global;
 use std::io::Write;
@@ -130,8 +132,118 @@ impl<N: Naming> Session<N> {
         self.line.as_slice()
     }
 
-    /// Does what a line says, and hands its reply over, if it has one.
+    // Each line that comes by the million has a function of its own, which is not inlined: so the values of the others are not cleared
+    // before it.
+
+    /// Does what a short line says, and hands its reply over.
     #[inline(always)]
+    pub(crate) fn answer_short<P: Replies<S>, R: Wait, S>(
+        &mut self,
+        rt: &R,
+        line: ShortLine,
+        to: &mut S,
+    ) -> Result<(), RunFault>
+        ensures answers { IsSaid P.takes (λ reply. Answers (short_form line) self.old.state reply self.new.state) to.old to.new result }
+    {
+        match line {
+            ShortLine::Get { page } => self.tell_content::<P, R, S>(rt, page, to),
+            ShortLine::Ticket { page } => self.tell_ticket::<P, R, S>(rt, page, to),
+            ShortLine::Find { pass, place } => self.tell_found::<P, S>(pass, place, to),
+            ShortLine::Look { pass } => self.tell_held::<P, S>(pass, to),
+            ShortLine::Leave { pass } => self.tell_left::<P, S>(pass, to),
+            ShortLine::Stat => self.tell_counters::<P, R, S>(rt, to),
+        }
+    }
+
+    #[inline(never)]
+    fn tell_content<P: Replies<S>, R: Wait, S>(
+        &mut self,
+        rt: &R,
+        page: GuestPage,
+        to: &mut S,
+    ) -> Result<(), RunFault>
+        ensures answers { IsSaid P.takes (λ reply. Answers (get_line page) self.old.state reply self.new.state) to.old to.new result }
+    {
+        match self.ksm.read(rt, &mut self.share, page) {
+            None => P::reply(to, LineReply::Refused(Refusal::Book(Fault::UnknownPage))),
+            Some(content) => P::content(to, &content),
+        }
+    }
+
+    #[inline(never)]
+    fn tell_ticket<P: Replies<S>, R: Wait, S>(
+        &mut self,
+        rt: &R,
+        page: GuestPage,
+        to: &mut S,
+    ) -> Result<(), RunFault>
+        ensures answers { IsSaid P.takes (λ reply. Answers (ticket_line page) self.old.state reply self.new.state) to.old to.new result }
+    {
+        P::reply(to, self.ticket(rt, page))
+    }
+
+    #[inline(never)]
+    fn tell_found<P: Replies<S>, S>(
+        &mut self,
+        pass: u32,
+        place: u32,
+        to: &mut S,
+    ) -> Result<(), RunFault>
+        ensures answers { IsSaid P.takes (λ reply. Answers (find_line pass place) self.old.state reply self.new.state) to.old to.new result }
+    {
+        P::reply(to, self.act(pass, Act::Find { place }))
+    }
+
+    #[inline(never)]
+    fn tell_held<P: Replies<S>, S>(&mut self, pass: u32, to: &mut S) -> Result<(), RunFault>
+        ensures answers { IsSaid P.takes (λ reply. Answers (look_line pass) self.old.state reply self.new.state) to.old to.new result }
+    {
+        P::reply(to, self.act(pass, Act::Look))
+    }
+
+    #[inline(never)]
+    fn tell_left<P: Replies<S>, S>(&mut self, pass: u32, to: &mut S) -> Result<(), RunFault>
+        ensures answers { IsSaid P.takes (λ reply. Answers (leave_line pass) self.old.state reply self.new.state) to.old to.new result }
+    {
+        P::reply(to, self.act(pass, Act::Leave))
+    }
+
+    #[inline(never)]
+    fn tell_counters<P: Replies<S>, R: Wait, S>(
+        &mut self,
+        rt: &R,
+        to: &mut S,
+    ) -> Result<(), RunFault>
+        ensures answers { IsSaid P.takes (λ reply. Answers stat_line self.old.state reply self.new.state) to.old to.new result }
+    {
+        P::reply(to, self.counters(rt))
+    }
+
+    /// Does what a line with this content says, and hands its reply over.
+    #[inline(always)]
+    pub(crate) fn answer_page<P: Replies<S>, R: Wait, S>(
+        &mut self,
+        rt: &R,
+        line: PageLine,
+        bytes: PageBytes,
+        to: &mut S,
+    ) -> Result<(), RunFault>
+        ensures answers { IsSaid P.takes (λ reply. Answers (page_form line bytes) self.old.state reply self.new.state) to.old to.new result }
+    {
+        match line {
+            PageLine::Store { page } => {
+                P::reply(to, self.apply(rt, Command::Store { page, bytes }))
+            }
+            PageLine::Register { page, node } => {
+                P::reply(to, self.apply(rt, Command::Register { page, node, bytes }))
+            }
+            PageLine::Equal { pass, place } => {
+                P::reply(to, self.act(pass, Act::Equal { place, bytes }))
+            }
+        }
+    }
+
+    /// Does what a line says, and hands its reply over, if it has one.
     pub(crate) fn answer<P: Replies<S>, R: Threads + Wait + Sync, S>(
         &mut self,
         rt: &R,
@@ -158,7 +270,6 @@ impl<N: Naming> Session<N> {
     }
 
     // Hands over the reply to a line that is no command of its own, each where it arises.
-    #[inline(always)]
     fn tell<P: Replies<S>, R: Threads + Wait + Sync, S>(
         &mut self,
         rt: &R,
@@ -169,18 +280,18 @@ impl<N: Naming> Session<N> {
         ensures answers { IsSaid P.takes (λ reply. Answers line self.old.state reply self.new.state) to.old to.new result }
     {
         match line {
-            Line::Get { page } => P::reply(to, self.content(rt, page)),
-            Line::Ticket { page } => P::reply(to, self.ticket(rt, page)),
+            Line::Get { page } => self.tell_content::<P, R, S>(rt, page, to),
+            Line::Ticket { page } => self.tell_ticket::<P, R, S>(rt, page, to),
             Line::Mappers { place } => P::reply(to, self.mappers(rt, place)),
             Line::ScanPages => P::reply(to, self.scan_pages(rt)),
             Line::Show { shown } => P::reply(to, self.value(rt, shown)),
-            Line::Stat => P::reply(to, self.counters(rt)),
-            Line::Find { pass, place } => P::reply(to, self.act(pass, Act::Find { place })),
+            Line::Stat => self.tell_counters::<P, R, S>(rt, to),
+            Line::Find { pass, place } => self.tell_found::<P, S>(pass, place, to),
             Line::Equal { pass, place, bytes } => {
                 P::reply(to, self.act(pass, Act::Equal { place, bytes }))
             }
-            Line::Look { pass } => P::reply(to, self.act(pass, Act::Look)),
-            Line::Leave { pass } => P::reply(to, self.act(pass, Act::Leave)),
+            Line::Look { pass } => self.tell_held::<P, S>(pass, to),
+            Line::Leave { pass } => self.tell_left::<P, S>(pass, to),
             Line::Audit => P::reply(to, self.audit(rt)),
             _ => unreachable!(),
         }
@@ -265,16 +376,6 @@ impl<N: Naming> Session<N> {
         ensures state { self.new.state ≡ self.old.state }
     {
         LineReply::Counters(self.ksm.counters(rt, &mut self.share))
-    }
-
-    fn content<R: Wait>(&mut self, rt: &R, page: GuestPage) -> LineReply
-        ensures reply { result ≡ content_reply (bytes_of page self.old.state.book) }
-        ensures state { self.new.state ≡ self.old.state }
-    {
-        match self.ksm.read(rt, &mut self.share, page) {
-            None => LineReply::Refused(Refusal::Book(Fault::UnknownPage)),
-            Some(content) => LineReply::Content(content),
-        }
     }
 }
 

@@ -1,0 +1,163 @@
+-- Words at the front of a text, each with the byte behind it.
+use Rattle.std.proofs.Common.{◌≡◌, ◌≢◌, ℕ, zero, suc, ◌+◌, ◌-◌, ◌^◌, ◌<◌, ◌≤◌, Bool, true, false, cond, not, ◌&&◌, eqb, All, List, [], ◌∷◌, ◌++◌, length, take, drop, get_or, Option, None, Some, refl, sym, ap, ap₂, subst, ◌∙◌, arith, append_assoc, take-append-drop}
+use Rattle.std.specs.Prelude.{decimal}
+use Rattle.std.specs.Char.{is_ascii_digit, is_ascii_hexdigit}
+use Rattle.std.specs.List.{list_all, onto_first}
+use Rattle.std.specs.Str.Parse.{digits_value}
+use Rattle.std.proofs.lemmas.Bool.{and_parts, eqb-true}
+use Rattle.std.proofs.lemmas.Fmt.{digits_decimal, decimal-digits_value}
+use Rattle.std.proofs.lemmas.List.{length-take-le, take_more, take_rest}
+use Rattle.std.proofs.lemmas.List.Elements.{All-nil, All-cons}
+use Rattle.std.proofs.lemmas.List.Folds.{list_all-append}
+use Rattle.ksm_lines.specs.declared.line.Line.{Line}
+use Rattle.ksm_lines.specs.Content.{content_of}
+use Rattle.ksm_lines.specs.Digits.{IsReadTo}
+use Rattle.ksm_lines.specs.Grammar.{AreWritten, parts_of, words_of}
+use Rattle.ksm_lines.specs.Leading.{BeginsWith}
+use Rattle.ksm_lines.proofs.Numbers.{own}
+
+-- a byte of a word: neither a space nor a newline
+abbrev is_inner : ℕ → Bool
+is_inner byte = not (eqb byte 32) && not (eqb byte 10)
+
+-- a byte of a line
+abbrev is_plain : ℕ → Bool
+is_plain byte = not (eqb byte 10)
+
+-- a word has neither a space nor a newline
+abbrev pub IsWord : List ℕ → Type 0
+IsWord word = list_all is_inner word ≡ true
+
+-- ---- what is a word
+
+inner_of : (p : ℕ → Bool) (byte : ℕ) → p 32 ≡ false → p 10 ≡ false → p byte ≡ true → is_inner byte ≡ true
+inner_of p byte space newline passes = of (eqb byte 32) (eqb byte 10) refl refl
+  where
+    of : (a b : Bool) → eqb byte 32 ≡ a → eqb byte 10 ≡ b → (not a && not b) ≡ true
+    of false false e f = refl
+    of true b e f = absurd (cc (sym passes ∙ ap p (eqb-true byte 32 e) ∙ space))
+    of false true e f = absurd (cc (sym passes ∙ ap p (eqb-true byte 10 f) ∙ newline))
+
+-- bytes that pass a test are a word, where neither a space nor a newline passes it
+word_of : (p : ℕ → Bool) (word : List ℕ) → p 32 ≡ false → p 10 ≡ false → list_all p word ≡ true → IsWord word
+word_of p [] space newline passes = refl
+word_of p (byte ∷ bytes) space newline passes =
+    let parts = and_parts (p byte) (list_all p bytes) passes in
+    ap₂ (λ a b. a && b) (inner_of p byte space newline parts.0) (word_of p bytes space newline parts.1)
+
+-- the decimal of a number is a word
+pub decimal_is_word : (n : ℕ) → n < 2 ^ 64 → IsWord (decimal n)
+decimal_is_word n small = word_of is_ascii_digit (decimal n) refl refl (digits_decimal own n small)
+
+-- a content is a word
+pub content_is_word : (word page : List ℕ) → content_of word ≡ Some page → IsWord word
+content_is_word word page read = word_of is_ascii_hexdigit word refl refl (of (list_all is_ascii_hexdigit word) _ read)
+  where
+    of : (digits : Bool) (found : Option (List ℕ)) → cond (not digits) None found ≡ Some page → digits ≡ true
+    of true found e = refl
+    of false found e = absurd cc
+
+-- ---- a number that was read
+
+-- digits that were read up to the byte behind them are the number's decimal
+pub number_in_front : (text : List ℕ) (at number end : ℕ) → IsReadTo at text number → at < length text → 0 < at → (get_or text 0 0 ≡ 48 → at ≤ 1)
+    → get_or text at 0 ≡ end → text ≡ decimal number ++ end ∷ take (length text - (at + 1)) (drop (at + 1) text)
+number_in_front text at number end read lt long single is =
+    let word = take at text in
+    let size : length word ≡ at = length-take-le at text (omega arith) in
+    let first : get_or word 0 0 ≡ get_or text 0 0 = first_of text at long in
+    let wide : digits_value 10 word < 2 ^ 64 = omega (arith, read.1, read.2) in
+    let written : decimal (digits_value 10 word) ≡ word =
+    decimal-digits_value own word read.0 (omega (arith, size)) (λ e. let short = single (sym first ∙ e) in omega (arith, short, size)) wide in
+    let rest = drop (at + 1) text in
+    sym (take-append-drop (at + 1) text) ∙ ap (λ l. l ++ rest) (take_more text at 0 lt) ∙ append_assoc word (get_or text at 0 ∷ []) rest
+    ∙ ap₂ (λ w b. w ++ b ∷ rest) (sym written ∙ ap decimal (sym read.1)) is
+    ∙ ap (λ l. decimal number ++ end ∷ l) (sym (take_rest text (at + 1)))
+  where
+    first_of : (text : List ℕ) (at : ℕ) → 0 < at → get_or (take at text) 0 0 ≡ get_or text 0 0
+    first_of text zero lt = absurd (omega arith)
+    first_of [] (suc n) lt = refl
+    first_of (x ∷ xs) (suc n) lt = refl
+
+-- a text is what stands before one of its bytes, that byte, and what is behind it
+pub parted_at : (text : List ℕ) (at byte : ℕ) → at < length text → get_or text at 0 ≡ byte → text ≡ take at text ++ byte ∷ take (length text - (at + 1)) (drop (at + 1) text)
+parted_at text at byte lt is =
+    let rest = drop (at + 1) text in
+    sym (take-append-drop (at + 1) text) ∙ ap (λ l. l ++ rest) (take_more text at 0 lt) ∙ append_assoc (take at text) (get_or text at 0 ∷ []) rest
+    ∙ ap (λ b. take at text ++ b ∷ rest) is ∙ ap (λ l. take at text ++ byte ∷ l) (sym (take_rest text (at + 1)))
+
+-- ---- the words of a line
+
+first_word : (word rest : List ℕ) → IsWord word → words_of (word ++ 32 ∷ rest) ≡ word ∷ words_of rest
+first_word [] rest is = refl
+first_word (byte ∷ bytes) rest is =
+    let parts = and_parts (is_inner byte) (list_all is_inner bytes) is in
+    later (eqb byte 32) (words_of (bytes ++ 32 ∷ rest)) (first_of (eqb byte 32) (not (eqb byte 10)) parts.0) (first_word bytes rest parts.1)
+  where
+    first_of : (a b : Bool) → (not a && b) ≡ true → a ≡ false
+    first_of false b e = refl
+    first_of true b e = absurd cc
+
+    later : (space : Bool) (words : List (List ℕ)) → space ≡ false → words ≡ bytes ∷ words_of rest
+        → cond space ([] ∷ words) (onto_first byte words) ≡ (byte ∷ bytes) ∷ words_of rest
+    later true words none same = absurd cc
+    later false words none same = ap (onto_first byte) same
+
+last_word : (word : List ℕ) → IsWord word → words_of word ≡ word ∷ []
+last_word [] is = refl
+last_word (byte ∷ bytes) is =
+    let parts = and_parts (is_inner byte) (list_all is_inner bytes) is in
+    later (eqb byte 32) (words_of bytes) (first_of (eqb byte 32) (not (eqb byte 10)) parts.0) (last_word bytes parts.1)
+  where
+    first_of : (a b : Bool) → (not a && b) ≡ true → a ≡ false
+    first_of false b e = refl
+    first_of true b e = absurd cc
+
+    later : (space : Bool) (words : List (List ℕ)) → space ≡ false → words ≡ bytes ∷ [] → cond space ([] ∷ words) (onto_first byte words) ≡ (byte ∷ bytes) ∷ []
+    later true words none same = absurd cc
+    later false words none same = ap (onto_first byte) same
+
+plain_word : (word : List ℕ) → IsWord word → list_all is_plain word ≡ true
+plain_word [] is = refl
+plain_word (byte ∷ bytes) is =
+    let parts = and_parts (is_inner byte) (list_all is_inner bytes) is in
+    ap₂ (λ a b. a && b) (of (not (eqb byte 32)) (not (eqb byte 10)) parts.0) (plain_word bytes parts.1)
+  where
+    of : (a b : Bool) → (a && b) ≡ true → b ≡ true
+    of true b e = e
+    of false b e = absurd cc
+
+-- a text is a line of these words, its newline, and the rest
+pub record Leads (words : List (List ℕ)) (text rest : List ℕ) : Type 0 where
+  pub line : List ℕ
+  pub parts : words_of line ≡ words
+  pub plain : list_all is_plain line ≡ true
+  pub is : text ≡ line ++ 10 ∷ rest
+
+-- a word and a newline are a line
+pub last : (word text rest : List ℕ) → IsWord word → text ≡ word ++ 10 ∷ rest → Leads (word ∷ []) text rest
+last word text rest is same = record { line = word; parts = last_word word is; plain = plain_word word is; is = same }
+
+-- a word and a space before a line make a longer one
+pub more : (word text behind rest : List ℕ) (words : List (List ℕ)) → IsWord word → text ≡ word ++ 32 ∷ behind → Leads words behind rest → Leads (word ∷ words) text rest
+more word text behind rest words is same later =
+    record {
+      line = word ++ 32 ∷ later.line;
+      parts = first_word word later.line is ∙ ap (λ (ws : List (List ℕ)). word ∷ ws) later.parts;
+      plain = list_all-append is_plain word (32 ∷ later.line) ∙ ap₂ (λ a b. a && b) (plain_word word is) later.plain;
+      is = same ∙ ap (λ l. word ++ 32 ∷ l) later.is ∙ sym (append_assoc word (32 ∷ later.line) (10 ∷ rest));
+    }
+
+all_plain : (line : List ℕ) → list_all is_plain line ≡ true → All (λ byte. byte ≢ 10) line
+all_plain [] is = All-nil (λ byte. byte ≢ 10)
+all_plain (byte ∷ bytes) is =
+    let parts = and_parts (is_plain byte) (list_all is_plain bytes) is in
+    All-cons (λ byte. byte ≢ 10) byte bytes (other parts.0) (all_plain bytes parts.1)
+  where
+    other : is_plain byte ≡ true → byte ≢ 10
+    other h e = absurd (cc (sym h ∙ ap is_plain e))
+
+-- such a text begins with each form that the words write
+pub begins : (form : Line) (words : List (List ℕ)) (text rest : List ℕ) → AreWritten (parts_of form) words → Leads words text rest → BeginsWith form text rest
+begins form words text rest written lead =
+    (lead.line, subst (λ (ws : List (List ℕ)). AreWritten (parts_of form) ws) (sym lead.parts) written, all_plain lead.line lead.plain, lead.is)

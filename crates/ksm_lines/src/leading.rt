@@ -1,0 +1,225 @@
+//! The lines that come by the million, read where they lie: at the front of a text that has more behind them.
+//!
+//! A number ends at the byte behind it, and a line at its newline, so nobody looks for the newline first. No line is laid in a value
+//! that has room for a page: a short line has none, and one with a content gives that apart. What is not read here may still be a line;
+//! `read_line` tells.
+ghost use Rattle.std.specs.Prelude.{◌≡◌, ◌<◌, ◌^◌, ◌++◌, ◌∷◌, ℕ, List, IfSome, Some, decimal};
+ghost use Rattle.ksm_lines.specs.Content.{content_of};
+ghost use Rattle.ksm_lines.specs.Leading.{BeginsWith, short_form, page_form};
+
+use crate::field::{PAGE_DIGITS, behind_name, content_in, digits_at};
+use ksm_base::{GuestPage, PageBytes};
+
+/// A line without a content that comes by the million.
+#[derive(Clone, Copy)]
+pub enum ShortLine {
+    /// `get G P`
+    Get { page: GuestPage },
+    /// `ticket G P`
+    Ticket { page: GuestPage },
+    /// `find K PLACE`
+    Find { pass: u32, place: u32 },
+    /// `look K`
+    Look { pass: u32 },
+    /// `leave K`
+    Leave { pass: u32 },
+    /// `stat`
+    Stat,
+}
+
+/// A line with the content of a page, without that content.
+#[derive(Clone, Copy)]
+pub enum PageLine {
+    /// `reg G P NODE HEX`
+    Register { page: GuestPage, node: u32 },
+    /// `put G P HEX`
+    Store { page: GuestPage },
+    /// `equal K PLACE HEX`
+    Equal { pass: u32, place: u32 },
+}
+
+/// The short line at the front of a text, and what is behind its newline.
+#[inline(always)]
+pub fn leading_short_line(text: &[u8]) -> Option<(ShortLine, &[u8])>
+    ensures { IfSome result (λ r. BeginsWith (short_form r.0) text.now r.1.now) }
+{
+    match text {
+        [b'g', ..] => get(text),
+        [b't', ..] => ticket(text),
+        [b'f', ..] => find(text),
+        [b'l', b'o', ..] => look(text),
+        [b'l', ..] => leave(text),
+        [b's', ..] => stat(text),
+        _ => None,
+    }
+}
+
+/// The line with a content at the front of a text, its content, and what is behind its newline.
+#[inline(always)]
+pub fn leading_page_line(text: &[u8]) -> Option<(PageLine, PageBytes, &[u8])>
+    ensures { IfSome result (λ r. BeginsWith (page_form r.0 r.1) text.now r.2.now) }
+{
+    match text {
+        [b'p', ..] => store(text),
+        [b'e', ..] => equal(text),
+        [b'r', b'e', ..] => register(text),
+        _ => None,
+    }
+}
+
+#[inline(always)]
+fn get(text: &[u8]) -> Option<(ShortLine, &[u8])>
+    ensures { IfSome result (λ r. BeginsWith (short_form r.0) text.now r.1.now) }
+{
+    let left = behind_name(text, b"get ")?;
+    let (page, left) = page_to(left, b'\n')?;
+    Some((ShortLine::Get { page }, left))
+}
+
+#[inline(always)]
+fn ticket(text: &[u8]) -> Option<(ShortLine, &[u8])>
+    ensures { IfSome result (λ r. BeginsWith (short_form r.0) text.now r.1.now) }
+{
+    let left = behind_name(text, b"ticket ")?;
+    let (page, left) = page_to(left, b'\n')?;
+    Some((ShortLine::Ticket { page }, left))
+}
+
+#[inline(always)]
+fn find(text: &[u8]) -> Option<(ShortLine, &[u8])>
+    ensures { IfSome result (λ r. BeginsWith (short_form r.0) text.now r.1.now) }
+{
+    let left = behind_name(text, b"find ")?;
+    let (pass, left) = number_to(left, b' ')?;
+    let (place, left) = number_to(left, b'\n')?;
+    Some((ShortLine::Find { pass, place }, left))
+}
+
+#[inline(always)]
+fn look(text: &[u8]) -> Option<(ShortLine, &[u8])>
+    ensures { IfSome result (λ r. BeginsWith (short_form r.0) text.now r.1.now) }
+{
+    let left = behind_name(text, b"look ")?;
+    let (pass, left) = number_to(left, b'\n')?;
+    Some((ShortLine::Look { pass }, left))
+}
+
+#[inline(always)]
+fn leave(text: &[u8]) -> Option<(ShortLine, &[u8])>
+    ensures { IfSome result (λ r. BeginsWith (short_form r.0) text.now r.1.now) }
+{
+    let left = behind_name(text, b"leave ")?;
+    let (pass, left) = number_to(left, b'\n')?;
+    Some((ShortLine::Leave { pass }, left))
+}
+
+#[inline(always)]
+fn stat(text: &[u8]) -> Option<(ShortLine, &[u8])>
+    ensures { IfSome result (λ r. BeginsWith (short_form r.0) text.now r.1.now) }
+{
+    let left = behind_name(text, b"stat\n")?;
+    Some((ShortLine::Stat, left))
+}
+
+#[inline(always)]
+fn store(text: &[u8]) -> Option<(PageLine, PageBytes, &[u8])>
+    ensures { IfSome result (λ r. BeginsWith (page_form r.0 r.1) text.now r.2.now) }
+{
+    let left = behind_name(text, b"put ")?;
+    let (page, left) = page_to(left, b' ')?;
+    let (bytes, left) = content_to_newline(left)?;
+    Some((PageLine::Store { page }, bytes, left))
+}
+
+#[inline(always)]
+fn equal(text: &[u8]) -> Option<(PageLine, PageBytes, &[u8])>
+    ensures { IfSome result (λ r. BeginsWith (page_form r.0 r.1) text.now r.2.now) }
+{
+    let left = behind_name(text, b"equal ")?;
+    let (pass, left) = number_to(left, b' ')?;
+    let (place, left) = number_to(left, b' ')?;
+    let (bytes, left) = content_to_newline(left)?;
+    Some((PageLine::Equal { pass, place }, bytes, left))
+}
+
+#[inline(always)]
+fn register(text: &[u8]) -> Option<(PageLine, PageBytes, &[u8])>
+    ensures { IfSome result (λ r. BeginsWith (page_form r.0 r.1) text.now r.2.now) }
+{
+    let left = behind_name(text, b"reg ")?;
+    let (page, left) = page_to(left, b' ')?;
+    let (node, left) = number_to(left, b' ')?;
+    let (bytes, left) = content_to_newline(left)?;
+    Some((PageLine::Register { page, node }, bytes, left))
+}
+
+/// The page at the front of a text, and what is behind the byte that ends it.
+#[inline(always)]
+fn page_to(text: &[u8], end: u8) -> Option<(GuestPage, &[u8])>
+    ensures text { IfSome result (λ r. text.now ≡ decimal r.0.guest ++ 32 ∷ (decimal r.0.page ++ end ∷ r.1.now)) }
+    ensures fits { IfSome result (λ r. (r.0.guest < 2 ^ 16) × (r.0.page < 2 ^ 32)) }
+{
+    let (guest, left) = guest_to(text, b' ')?;
+    let (page, left) = number_to(left, end)?;
+    Some((GuestPage { guest, page }, left))
+}
+
+/// The number of a guest at the front of a text, and what is behind the byte that ends it.
+#[inline(always)]
+fn guest_to(text: &[u8], end: u8) -> Option<(u16, &[u8])>
+    ensures text { IfSome result (λ r. text.now ≡ decimal r.0 ++ end ∷ r.1.now) }
+    ensures fits { IfSome result (λ r. r.0 < 2 ^ 16) }
+{
+    let (number, left) = number_to(text, end)?;
+    match u16::try_from(number) {
+        Ok(guest) => Some((guest, left)),
+        Err(_) => None,
+    }
+}
+
+/// The number at the front of a text, and what is behind the byte that ends it.
+#[inline(always)]
+fn number_to(text: &[u8], end: u8) -> Option<(u32, &[u8])>
+    ensures text { IfSome result (λ r. text.now ≡ decimal r.0 ++ end ∷ r.1.now) }
+    ensures fits { IfSome result (λ r. r.0 < 2 ^ 32) }
+{
+    let Ok((number, at)) = digits_at(text) else {
+        return None;
+    };
+    if at >= text.len() || text[at] != end {
+        return None;
+    }
+    let left = &text[at + 1..];
+    if at == 1 {
+        return Some((number, left));
+    }
+    if at == 0 || text[0] == b'0' {
+        return None;
+    }
+    Some((number, left))
+}
+
+/// The content at the front of a text, and what is behind the newline that ends it.
+#[inline(always)]
+fn content_to_newline(text: &[u8]) -> Option<(PageBytes, &[u8])>
+    ensures { IfSome result (λ r. (word : List ℕ) × (content_of word ≡ Some r.0) × (text.now ≡ word ++ 10 ∷ r.1.now)) }
+{
+    if let Some(read) = content_of_length(text, 2) {
+        return Some(read);
+    }
+    content_of_length(text, PAGE_DIGITS)
+}
+
+/// The content of so many digits at the front of a text, and what is behind the newline that ends it.
+#[inline(always)]
+fn content_of_length(text: &[u8], digits: usize) -> Option<(PageBytes, &[u8])>
+    ensures { IfSome result (λ r. (word : List ℕ) × (content_of word ≡ Some r.0) × (text.now ≡ word ++ 10 ∷ r.1.now)) }
+{
+    if digits >= text.len() || text[digits] != b'\n' {
+        return None;
+    }
+    match content_in(&text[..digits]) {
+        Ok(bytes) => Some((bytes, &text[digits + 1..])),
+        Err(_) => None,
+    }
+}
