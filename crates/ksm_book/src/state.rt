@@ -174,7 +174,7 @@ impl State {
     pub fn ticket(&self, page: GuestPage) -> Option<u32>
         ensures { result ≡ ticket_of page self.now.state }
     {
-        match self.layout.framed_row(page)?.row.state {
+        match self.layout.rows().row(page)?.state {
             PageState::Merged(number) => Some(self.layout.numbered(number)?.place),
             _ => None,
         }
