@@ -1,0 +1,22 @@
+use Rattle.std.proofs.Common.{◌≡◌, ◌∙◌, ◌<◌, Some, false, true, refl, get_or, length, sym, ap}
+use Rattle.std.specs.Prelude.{filter, find}
+use Rattle.ksm_base.specs.Rows.{comes_before, same_page}
+use Rattle.ksm_order.specs.declared.named.Named.{Named}
+use Rattle.ksm_order.specs.Ordered.{is_of}
+use Rattle.ksm_order.proofs.Keyed.{found_at}
+use Rattle.ksm_order.proofs.run.Run.find.Goals as goal
+
+pub returns-then-found : goal.returns-then-found
+returns-then-found c =
+    let pages = c.self.inside.pages.items in
+    let page = c.args.page in
+    let at = c.place_of-at.result in
+    let d : Named = record { page = record { guest = 0; page = 0 }; key = 0; mergeable = false } in
+    let seen = c.as_slice-pages.ensures.value in
+    let place = c.place_of-at.ensures.count ∙ ap (λ ps. length (filter (λ n. comes_before n.page page) ps)) seen in
+    let within : at < length pages = rw (← seen) (c.if-found.ensures.within refl) in
+    let here : same_page (get_or pages at d).page page ≡ true = rw (← seen) (c.if-found.ensures.here refl d) in
+    ap (λ ps. Some (get_or ps at d)) seen
+    ∙ ap (λ n. Some (get_or pages n d)) place
+    ∙ sym (found_at (λ (n : Named). n.page) page pages d c.self.invariant.ascending (rw (← place) within) (rw (← place) here))
+    ∙ ap (find (is_of page)) c.self.view_is

@@ -1,0 +1,47 @@
+use Rattle.std.proofs.Common.{◌≡◌, ◌∙◌, ℕ, ◌<◌, Bool, true, List, refl, get_or, is_some, length, sym, ap}
+use Rattle.std.specs.Prelude.{filter, find, set}
+use Rattle.std.specs.Int.{from_bool}
+use Rattle.ksm_base.specs.declared.page.GuestPage.{GuestPage}
+use Rattle.ksm_base.specs.Rows.{comes_before, same_page}
+use Rattle.ksm_order.specs.declared.named.Named.{Named}
+use Rattle.ksm_order.specs.Ordered.{AreAscending, is_of, marked}
+use Rattle.ksm_order.proofs.Keyed.{absent_unchanged, count_changed, none_of, write_at, write_rises}
+use Rattle.ksm_order.proofs.run.Run.mark.Goals as goal
+
+-- the page is changed where it stands
+written : (pages : List Named) (page : GuestPage) (mergeable : Bool) (at : ℕ) (named : Named) → AreAscending pages → at ≡ length (filter (λ n. comes_before n.page page) pages) → at < length pages → named ≡ get_or pages at named → same_page (get_or pages at named).page page ≡ true → set pages at (record named { mergeable = mergeable }) ≡ marked page mergeable pages
+written pages page mergeable at named rise place within is_named here =
+    ap (λ (n : Named). set pages at (record n { mergeable = mergeable })) is_named
+    ∙ ap (λ i. set pages i (record (get_or pages i named) { mergeable = mergeable })) place
+    ∙ write_at (λ n. n.page) page (λ (n : Named). record n { mergeable = mergeable }) pages named rise (rw (← place) within) (rw (← place) here)
+
+pub invariant_of-self : goal.invariant_of-self
+invariant_of-self c =
+    let pages = c.self.inside.pages.items in
+    let named = c.index-named.result.now in
+    let at = c.place_of-at.result in
+    let place = c.place_of-at.ensures.count ∙ ap (λ ps. length (filter (λ n. comes_before n.page c.args.page) ps)) c.as_slice.ensures.value in
+    let within : at < length pages = rw (← c.as_slice-2.ensures.value) (c.if-found.ensures.within refl) in
+    let here : same_page (get_or pages at named).page c.args.page ≡ true = rw (← c.as_slice-2.ensures.value) (c.if-found.ensures.here refl named) in
+    let is = written pages c.args.page c.args.mergeable at named c.self.invariant.ascending place within c.index-named.ensures here in
+    record {
+      ascending = rw is (write_rises (λ n. n.page) c.args.page (λ (n : Named). record n { mergeable = c.args.mergeable }) (λ n. refl) pages c.self.invariant.ascending);
+      counted =
+          let taken = c.from.ensures ∙ ap (λ (n : Named). from_bool n.mergeable) c.index-named.ensures in
+          count_changed (λ (n : Named). n.mergeable) pages at (record named { mergeable = c.args.mergeable }) named c.self.inside.mergeable c.from.result c.from-then-found.result within c.self.invariant.counted taken c.from-then-found.ensures;
+    }
+
+pub returns-then-found : goal.returns-then-found
+returns-then-found c =
+    let pages = c.self.inside.pages.items in
+    let named = c.index-named.result.now in
+    let at = c.place_of-at.result in
+    let place = c.place_of-at.ensures.count ∙ ap (λ ps. length (filter (λ n. comes_before n.page c.args.page) ps)) c.as_slice.ensures.value in
+    let within : at < length pages = rw (← c.as_slice-2.ensures.value) (c.if-found.ensures.within refl) in
+    let here : same_page (get_or pages at named).page c.args.page ≡ true = rw (← c.as_slice-2.ensures.value) (c.if-found.ensures.here refl named) in
+    rw (← c.self.view_is) (written pages c.args.page c.args.mergeable at named c.self.invariant.ascending place within c.index-named.ensures here)
+
+pub returns-else-found : goal.returns-else-found
+returns-else-found c =
+    let seen = c.as_slice-2.ensures.value ∙ c.self.view_is in
+    absent_unchanged (λ n. n.page) c.args.page (λ (n : Named). record n { mergeable = c.args.mergeable }) c.args.self.now (none_of (find (is_of c.args.page) c.args.self.now) (ap (λ ps. is_some (find (is_of c.args.page) ps)) (sym seen) ∙ sym c.if-found.ensures.found))
