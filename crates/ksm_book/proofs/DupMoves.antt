@@ -1,8 +1,9 @@
 -- What is answered where a dup is to move.
-use Rattle.std.proofs.Common.{inl, inr, ◌≡◌, ℕ, ◌<◌, true, false, Some, None, sym, ap, ◌∙◌, subst, arith, eq-eqb}
+use Rattle.std.proofs.Common.{inl, inr, ◌≡◌, ℕ, ◌<◌, List, [], true, false, Some, None, sym, ap, ◌∙◌, subst, arith, eq-eqb}
 use Rattle.std.specs.Prelude.{find, ◌==◌, ◌&&◌, nat_le, is_none, Ok, Err, MatchOption}
 use Rattle.std.proofs.lemmas.Bool.{cases_Bool, and_parts, eqb-true, leb-true}
 use Rattle.ksm_base.specs.declared.row.DupRow.{DupRow}
+use Rattle.ksm_base.specs.declared.row.Row.{Row}
 use Rattle.ksm_base.specs.declared.command.Command.TheVariants.{MoveDup}
 use Rattle.ksm_base.specs.declared.fault.Fault.{Fault}
 use Rattle.ksm_base.specs.declared.fault.Fault.TheVariants.{Memory, UnknownPage, AlreadyRegistered, NoFrame, NotRunning, SharedPages, BadValue, InUse, CrossesNodes, UnknownPlace, BadNode}
@@ -14,10 +15,12 @@ use Rattle.ksm_base.proofs.Edits.{find_passes}
 use Rattle.frame_table.specs.Named.{KeeperView}
 use Rattle.ksm_base.specs.declared.reply.Reply.TheVariants.{Done}
 use Rattle.ksm_book.specs.Carried.{TakesSteps}
-use Rattle.ksm_layout.specs.Commands.{Mapped, TurnsAway, Moves, FindsHeld}
-use Rattle.ksm_layout.specs.Keeping.{NoneLeft}
-use Rattle.ksm_layout.specs.Laid.{Lay, MovesOr, mapped_lay}
-use Rattle.ksm_layout.specs.Mounted.{IsMoved}
+use Rattle.ksm_book.specs.Commands.{Mapped, TurnsAway, Moves, FindsHeld}
+use Rattle.ksm_book.specs.Keeping.{NoneLeft}
+use Rattle.ksm_book.specs.Laid.{MovesOr, lying}
+use Rattle.ksm_book.specs.Linked.{PagesView}
+use Rattle.ksm_book.specs.Mounted.{IsMoved}
+use Rattle.ksm_book.specs.Steps.{Does}
 use Rattle.ksm_book.specs.Whole.{BookView, HasShown, mapped}
 
 module _ (b : BookState) (place node : ℕ) (dup : DupRow) (found : Some dup ≡ live_dup_at b place) where
@@ -80,16 +83,29 @@ moved_shown X b v w place node q same CrossesNodes h = absurd h
 moved_shown X b v w place node q same UnknownPlace h = absurd h
 moved_shown X b v w place node q same BadNode h = absurd h
 
+-- no frame is given where the dup stays
+pub moved_frames : (X : Type 0) (v w : KeeperView) (place node : ℕ) (f : Fault) → IsMoved {X = X} v w place node (Err f) → Does v w []
+moved_frames X v w place node Memory h = absurd h
+moved_frames X v w place node UnknownPage h = absurd h
+moved_frames X v w place node AlreadyRegistered h = absurd h
+moved_frames X v w place node (NoFrame n) h = (h.1.part, h.1.did)
+moved_frames X v w place node NotRunning h = absurd h
+moved_frames X v w place node SharedPages h = absurd h
+moved_frames X v w place node BadValue h = absurd h
+moved_frames X v w place node InUse h = (h.part, h.did)
+moved_frames X v w place node CrossesNodes h = absurd h
+moved_frames X v w place node UnknownPlace h = absurd h
+moved_frames X v w place node BadNode h = absurd h
+
 -- the steps of an answer
-module _ (v w : BookView) (old new : Lay) (place node : ℕ) (dup : DupRow) (found : Some dup ≡ live_dup_at v.state place)
-    (before : mapped_lay old ≡ mapped v) (behind : mapped_lay new ≡ mapped w) where
+module _ (p q : PagesView) (k l : KeeperView) (v w : BookView) (before : lying p k ≡ mapped v) (behind : lying q l ≡ mapped w) (rows : p.rows ≡ v.state.rows) (place node : ℕ) (dup : DupRow) (found : Some dup ≡ live_dup_at v.state place) where
   -- a dup that moved has made the steps that the answer `Done` stands for
-  pub done_steps : Moves (mapped_lay old) (mapped_lay new) dup node → TakesSteps v w (MoveDup place node) (Ok Done)
-  done_steps h = subst (λ o. MatchOption o ⊥ (λ d. Moves (mapped v) (mapped w) d node)) found
-      (subst (λ (z : Mapped × Mapped). Moves z.0 z.1 dup node) (λ i. (before i, behind i)) h)
+  pub done_steps : Moves (lying p k) (lying q l) p.rows dup node → TakesSteps v w (MoveDup place node) (Ok Done)
+  done_steps h = subst (λ o. MatchOption o ⊥ (λ d. Moves (mapped v) (mapped w) v.state.rows d node)) found
+      (subst (λ (z : Mapped × Mapped × List Row). Moves z.0 z.1 z.2 dup node) (λ i. (before i, behind i, rows i)) h)
 
   -- a dup that did not move has made the steps that its refusal stands for
-  pub fault_steps : (X : Type 0) (f : Fault) → MovesOr {X = X} old new dup node (Err f) → TakesSteps v w (MoveDup place node) (Err f)
+  pub fault_steps : (X : Type 0) (f : Fault) → MovesOr {X = X} p q k l dup node (Err f) → TakesSteps v w (MoveDup place node) (Err f)
   fault_steps X Memory h = absurd h
   fault_steps X UnknownPage h = absurd h
   fault_steps X AlreadyRegistered h = absurd h
@@ -97,8 +113,8 @@ module _ (v w : BookView) (old new : Lay) (place node : ℕ) (dup : DupRow) (fou
   fault_steps X NotRunning h = absurd h
   fault_steps X SharedPages h = absurd h
   fault_steps X BadValue h = absurd h
-  fault_steps X InUse h = subst (λ o. MatchOption o ⊥ (λ d. FindsHeld (mapped v) (mapped w) d node)) found
-      (subst (λ (z : Mapped × Mapped). FindsHeld z.0 z.1 dup node) (λ i. (before i, behind i)) h)
+  fault_steps X InUse h = subst (λ o. MatchOption o ⊥ (λ d. FindsHeld (mapped v) (mapped w) v.state.rows d node)) found
+      (subst (λ (z : Mapped × Mapped × List Row). FindsHeld z.0 z.1 z.2 dup node) (λ i. (before i, behind i, rows i)) h)
   fault_steps X CrossesNodes h = absurd h
   fault_steps X UnknownPlace h = absurd h
   fault_steps X BadNode h = absurd h

@@ -1,343 +1,264 @@
--- Rows that are changed one after another, in order.
-use Rattle.std.proofs.Common.{◌≡◌, ℕ, zero, suc, ◌+◌, ◌<◌, ◌≤◌, Bool, true, false, cond, List, [], ◌∷◌, ◌++◌, length, map, take, get_or, Option, Some, None, Ok, append-nil, refl, sym, ap, ◌∙◌, subst, arith}
-use Rattle.std.specs.Prelude.{All, filter, find, slice_get, not, option_map, MatchOption, ◌&&◌, if◌then◌else◌}
-use Rattle.std.proofs.lemmas.List.Sums.{length-filter, count_by-le-length}
-use Rattle.std.proofs.lemmas.List.Elements.{All-head, All-tail, All-map}
-use Rattle.std.proofs.lemmas.Option.{same_Some, slice_get_past}
+-- Pages that leave their dups, or the zero page, one after another.
+use Rattle.std.proofs.Common.{inl, inr, ◌⊎◌, ◌≡◌, ◌∙◌, ◌+◌, ◌<◌, ◌≤◌, ℕ, suc, Bool, true, false, List, [], ◌∷◌, ◌++◌, append-nil, get_or, length, map, take, Option, Some, None, refl, sym, ap, subst, arith}
+use Rattle.std.specs.Prelude.{All, MatchBool, MatchOption, filter, find, is_some, option_map, slice_get, ◌&&◌, if◌then◌else◌}
+use Rattle.std.proofs.lemmas.Bool.{cases_Bool, cond_both}
+use Rattle.std.proofs.lemmas.List.{append_assoc, length-append, map-append}
+use Rattle.std.proofs.lemmas.List.Elements.{filter-append}
+use Rattle.std.proofs.lemmas.Option.{same_Some}
+use Rattle.std.proofs.Math.Seq.{take-append_seam}
+use Rattle.ksm_base.specs.declared.fault.Fault.{Fault}
+use Rattle.ksm_base.specs.declared.fault.Fault.TheVariants.{NoFrame}
+use Rattle.ksm_base.specs.declared.page.GuestPage.{GuestPage}
 use Rattle.ksm_base.specs.declared.row.Row.{Row}
 use Rattle.ksm_base.specs.Apply.{is_before, let_go, unshared}
-use Rattle.ksm_base.specs.Refusals.{is_of, has_guest, refused_if}
-use Rattle.ksm_base.specs.Rows.{comes_before, same_page, InPageOrder, row_at, change_row, change_rows, shared_state}
-use Rattle.ksm_base.specs.declared.page.GuestPage.{GuestPage}
-use Rattle.ksm_base.specs.declared.knobs.Knobs.{Knobs}
-use Rattle.ksm_base.specs.declared.command.Command.TheVariants.{Unmerge}
-use Rattle.ksm_base.specs.declared.reply.Reply.TheVariants.{Unmerged}
-use Rattle.ksm_base.specs.declared.fault.Fault.{Fault}
-use Rattle.ksm_base.specs.declared.fault.Fault.TheVariants.{NoFrame, UnknownPage}
-use Rattle.ksm_base.specs.Answers.{IsUnmerged, IsAnswerUnless, IsAnswerOrMemory, shared_rows}
-use Rattle.ksm_base.specs.State.{BookState}
+use Rattle.ksm_base.specs.Rows.{InPageOrder, change_row, change_rows, row_at, same_page, shared_state}
+use Rattle.ksm_base.specs.Visit.{after_cursor}
+use Rattle.ksm_base.proofs.Orders.{filter_none}
+use Rattle.ksm_base.proofs.Edits.{find_passes}
 use Rattle.frame_table.specs.Named.{KeeperView}
-use Rattle.ksm_layout.specs.Laid.{Lay, state_of}
-use Rattle.ksm_layout.specs.Steps.{Does}
-use Rattle.ksm_book.specs.Unmerged.{first_changed, IsStop, Gave}
-use Rattle.ksm_pages.specs.Wanted.{is_shared_of}
-use Rattle.ksm_base.proofs.Orders.{ordered_change}
-use Rattle.ksm_layout.proofs.Logs.{chained}
-use Rattle.ksm_base.proofs.Pages.{same_page_refl, before_irrefl, not_both, before_differs, after_differs}
-use Rattle.ksm_base.proofs.Orders.{pairs_head, pairs_tail}
-use Rattle.ksm_base.proofs.Edits.{find_all}
-use Rattle.ksm_base.proofs.RowCounts.{change_none, each_at_page}
+use Rattle.ksm_book.specs.Carried.{UnmergesTo}
+use Rattle.ksm_book.specs.Commands.{IsIdle, Mapped, Resettles, ResettlesEach}
+use Rattle.ksm_book.specs.Laid.{IsLaid, Resettled, lying}
+use Rattle.ksm_book.specs.Linked.{IsAlone, PagesView, is_next, of_guest, on_its_own}
+use Rattle.ksm_book.specs.Keeping.{NoneLeft}
+use Rattle.ksm_book.specs.Steps.{Does}
+use Rattle.ksm_book.specs.Unmerged.{Gave, HasLeft, IsStop, MayNotLeave, Unshares, is_shared_of, left_by}
+use Rattle.ksm_book.proofs.Along.{FitsPage, IsAlong, along_end, along_first, along_next, along_stop, and_true, before, further, of, passed, position, rest, row_there, whole}
+use Rattle.ksm_book.proofs.ByPage.{found_page, row_of_page}
+use Rattle.ksm_book.proofs.Laying.{laid_mapped}
+use Rattle.ksm_book.proofs.Made.{made_none}
+use Rattle.ksm_book.proofs.Shown.{does_then, quiet_does}
+use Rattle.ksm_book.proofs.Singles.{change_still, change_twice, settled_laid, settled_pages, settled_steps}
 
-and_false : (b : Bool) → (b && false) ≡ false
-and_false true = refl
-and_false false = refl
+-- a row that is left keeps its page
+pub page_left : (guest : Option ℕ) (r : Row) → (left_by guest r).page ≡ r.page
+page_left None r = cond_both (shared_state r.state) (unshared r) r (λ x. x.page ≡ r.page) (λ _. refl) (λ _. refl)
+page_left (Some guest) r = refl
 
-and_true : (b : Bool) → (b && true) ≡ b
-and_true true = refl
-and_true false = refl
+-- ---------------------------------------------------------------- one page
 
--- a row comes before all of these
-abbrev Behind : Row → List Row → Type 0
-Behind r rows = All (λ s. comes_before r.page s.page ≡ true) rows
+-- no step gives no frame
+pub does_nothing : (k : KeeperView) → Does k k []
+does_nothing k = quiet_does k k [] (made_none k k refl) tt
 
-behind : (r : Row) (rows : List Row) → InPageOrder (r ∷ rows) → Behind r rows
-behind r rows rise = pairs_head (λ a b. comes_before a.page b.page ≡ true) r rows rise
+module _ (p : PagesView) (k : KeeperView) (page : GuestPage) (row : Row) (rise : InPageOrder p.rows) (found : row_at page p.rows ≡ Some row) (h : IsLaid p k) where
+  -- a page with a frame of its own leaves the scan
+  pub left_alone : (guest : Option ℕ) → is_some guest ≡ true → (q : PagesView) → shared_state row.state ≡ false → q ≡ record p { rows = change_row page let_go p.rows; restless = q.restless } → HasLeft p q k k guest page 0
+  left_alone None none q alone goes = absurd (grind (arith, none))
+  left_alone (Some guest) some q alone goes =
+      let one = row_of_page page p.rows row rise found in
+      let c = λ (r : Row). if same_page r.page page then let_go r else r in
+      record {
+        row = row;
+        found = found;
+        given = sym (ap (λ (b : Bool). if b then 1 else 0) alone);
+        pages = goes ∙ (λ t. record p { rows = change_row page let_go p.rows; frame = sym (ap (λ (x : PagesView). x.frame) goes) t; restless = q.restless });
+        steps = subst (λ b. MatchBool b (Resettles (lying p k) (lying q k) row.page row.home row.bytes) (IsIdle (lying p k) (lying q k))) (sym alone) (record { keeper = refl; frame = ap (λ (x : PagesView). x.frame) goes });
+        does = subst (λ (b : Bool). Does k k (if b then row.home ∷ [] else [])) (sym alone) (does_nothing k);
+        laid = subst (λ (x : PagesView). IsLaid x k) (sym goes)
+            (laid_mapped p k h c q.restless (λ r. cond_both (same_page r.page page) (let_go r) r (λ x. x.page ≡ r.page) (λ _. refl) (λ _. refl))
+            (λ i d lt. let r = get_or p.rows i d in cond_both (same_page r.page page) (let_go r) r (λ x. (x.home ≡ r.home) × (x.bytes ≡ r.bytes) × ((x.state ≡ r.state) ⊎ ((shared_state r.state ≡ false) × (shared_state x.state ≡ false))))
+            (λ same. (refl, refl, inr (ap (λ (x : Row). shared_state x.state) (one i d lt same) ∙ alone, refl))) (λ _. (refl, refl, inl refl))));
+      }
 
-in_order : (r : Row) (rows : List Row) → InPageOrder (r ∷ rows) → InPageOrder rows
-in_order r rows rise = pairs_tail (λ a b. comes_before a.page b.page ≡ true) r rows rise
+  -- and stays as it is where no guest is told
+  pub left_still : (guest : Option ℕ) → is_some guest ≡ false → shared_state row.state ≡ false → HasLeft p p k k guest page 0
+  left_still (Some guest) some alone = absurd (grind (arith, some))
+  left_still None none alone =
+      let one = row_of_page page p.rows row rise found in
+      let still = change_still page (left_by None) p.rows (λ i d lt same. subst (λ r. left_by None r ≡ r) (sym (one i d lt same)) (ap (λ (b : Bool). if b then unshared row else row) alone)) in
+      record {
+        row = row;
+        found = found;
+        given = sym (ap (λ (b : Bool). if b then 1 else 0) alone);
+        pages = λ t. record p { rows = sym still t };
+        steps = subst (λ b. MatchBool b (Resettles (lying p k) (lying p k) row.page row.home row.bytes) (IsIdle (lying p k) (lying p k))) (sym alone) (record { keeper = refl; frame = refl });
+        does = subst (λ (b : Bool). Does k k (if b then row.home ∷ [] else [])) (sym alone) (does_nothing k);
+        laid = h;
+      }
 
--- a test, and a change that keeps the page and after which the test fails
-module _ (t : Row → Bool) (f : Row → Row) (keeps : (r : Row) → (f r).page ≡ r.page) (off : (r : Row) → t (f r) ≡ false) where
-  -- the first that is left is the next of those that passed
-  pub first_left : (n : ℕ) (rows : List Row) → find t (first_changed t f n rows) ≡ slice_get (filter t rows) n
-  first_left zero [] = refl
-  first_left zero (r ∷ rows) = by (t r) (first_left zero rows)
-    where
-      by : (b : Bool) → find t rows ≡ slice_get (filter t rows) 0 → cond b (Some r) (find t rows) ≡ slice_get (cond b (r ∷ filter t rows) (filter t rows)) 0
-      by true rest = refl
-      by false rest = rest
-  first_left (suc n) [] = refl
-  first_left (suc n) (r ∷ rows) = by (t r) refl (first_left n rows) (first_left (suc n) rows)
-    where
-      by : (b : Bool) → t r ≡ b → find t (first_changed t f n rows) ≡ slice_get (filter t rows) n → find t (first_changed t f (suc n) rows) ≡ slice_get (filter t rows) (suc n) → find t (cond b (f r ∷ first_changed t f n rows) (r ∷ first_changed t f (suc n) rows)) ≡ slice_get (cond b (r ∷ filter t rows) (filter t rows)) (suc n)
-      by true is there rest = ap (λ (b : Bool). cond b (Some (f r)) (find t (first_changed t f n rows))) (off r) ∙ there
-      by false is there rest = ap (λ (b : Bool). cond b (Some r) (find t (first_changed t f (suc n) rows))) is ∙ rest
+  -- a shared page gets a frame of its own first
+  module _ (m q : PagesView) (l : KeeperView) (r : Resettled p m k l page row.home row.bytes) (shared : shared_state row.state ≡ true) where
+    left_shared : (guest : Option ℕ) (d : Row → Row) → q ≡ record m { rows = change_row page d m.rows; restless = q.restless } → ((x : Row) → shared_state x.state ≡ true → d (on_its_own x) ≡ left_by guest x)
+        → ((left_by guest row).state ≡ (on_its_own row).state) × ((left_by guest row).home ≡ row.home) × ((left_by guest row).bytes ≡ row.bytes) → HasLeft p q k l guest page 1
+    left_shared guest d goes same kept =
+        let one = row_of_page page p.rows row rise found in
+        let table = r.does.1.table in
+        let rows = change_twice page on_its_own d (left_by guest) p.rows (λ x. refl) (λ i x lt at. same (get_or p.rows i x) (ap (λ (y : Row). shared_state y.state) (one i x lt at) ∙ shared)) in
+        record {
+          row = row;
+          found = found;
+          given = sym (ap (λ (b : Bool). if b then 1 else 0) shared);
+          pages = settled_pages p m q k l page row.home row.bytes h table r d (left_by guest) goes rows;
+          steps = subst (λ b. MatchBool b (Resettles (lying p k) (lying q l) row.page row.home row.bytes) (IsIdle (lying p k) (lying q l))) (sym shared)
+              (subst (λ x. Resettles (lying p k) (lying q l) x row.home row.bytes) (sym (found_page page p.rows row found)) (settled_steps p m q k l page row.home row.bytes h table r d (left_by guest) goes rows));
+          does = subst (λ (b : Bool). Does k l (if b then row.home ∷ [] else [])) (sym shared) r.does;
+          laid = settled_laid p m q k l page row.home row.bytes h table r d (left_by guest) goes rows (record {
+            pages = page_left guest;
+            row = subst (λ o. MatchOption o ⊥ (λ x. ((left_by guest x).state ≡ (on_its_own row).state) × ((left_by guest x).home ≡ row.home) × ((left_by guest x).bytes ≡ row.bytes))) (sym found) kept;
+          });
+        }
 
-  -- a row comes before the stop where it comes before all
-  before_stop : (r : Row) (rows : List Row) → Behind r rows → (n : ℕ) → is_before (slice_get (filter t rows) n) r ≡ true
-  before_stop r [] after n = refl
-  before_stop r (s ∷ rows) after n = by (t s) n (before_stop r rows (All-tail (λ x. comes_before r.page x.page ≡ true) s rows after))
-    where
-      by : (b : Bool) (n : ℕ) → ((m : ℕ) → is_before (slice_get (filter t rows) m) r ≡ true) → is_before (slice_get (cond b (s ∷ filter t rows) (filter t rows)) n) r ≡ true
-      by true zero rest = All-head (λ x. comes_before r.page x.page ≡ true) s rows after
-      by true (suc m) rest = rest m
-      by false m rest = rest m
+    -- and leaves the scan, where it is a guest's
+    pub left_guest : (guest : Option ℕ) → is_some guest ≡ true → q ≡ record m { rows = change_row page let_go m.rows; restless = q.restless } → HasLeft p q k l guest page 1
+    left_guest None none goes = absurd (grind (arith, none))
+    left_guest (Some guest) some goes = left_shared (Some guest) let_go goes (λ x _. refl) (refl, refl, refl)
 
-  other_page : (r : Row) (rows : List Row) → Behind r rows → (n : ℕ) (row : Row) → find t (first_changed t f n rows) ≡ Some row → same_page r.page row.page ≡ false
-  other_page r rows after n row found = after_differs r.page row.page (ap (λ o. is_before o r) (sym found ∙ first_left n rows) ∙ before_stop r rows after n)
+    -- or is not unchanged
+    pub left_any : (guest : Option ℕ) → is_some guest ≡ false → q ≡ record m { rows = change_row page (λ x. record x { unchanged = false }) m.rows; restless = q.restless } → HasLeft p q k l guest page 1
+    left_any (Some guest) some goes = absurd (grind (arith, some))
+    left_any None none goes =
+        let to : left_by None row ≡ unshared row = ap (λ (b : Bool). if b then unshared row else row) shared in
+        left_shared None (λ x. record x { unchanged = false }) goes (λ x is. sym (ap (λ (b : Bool). if b then unshared x else x) is))
+        (ap (λ (x : Row). x.state) to, ap (λ (x : Row). x.home) to, ap (λ (x : Row). x.bytes) to)
 
-  -- a change of the first that is left is a change of one more
-  pub one_more : (n : ℕ) (rows : List Row) (row : Row) → InPageOrder rows → find t (first_changed t f n rows) ≡ Some row → change_row row.page (λ _. f row) (first_changed t f n rows) ≡ first_changed t f (suc n) rows
-  one_more zero [] row rise found = refl
-  one_more (suc n) [] row rise found = refl
-  one_more zero (r ∷ rows) row rise found = by (t r) refl (one_more zero rows row (in_order r rows rise))
-    where
-      by : (b : Bool) → t r ≡ b → (find t rows ≡ Some row → change_row row.page (λ _. f row) rows ≡ first_changed t f 1 rows) → change_row row.page (λ _. f row) (r ∷ rows) ≡ cond b (f r ∷ rows) (r ∷ first_changed t f 1 rows)
-      by true is rest =
-          let e : r ≡ row = same_Some r row (sym (ap (λ (b : Bool). cond b (Some r) (find t rows)) is) ∙ found) in
-          subst (λ (x : Row). change_row x.page (λ _. f x) (r ∷ rows) ≡ f r ∷ rows) e
-          (ap (λ (b : Bool). cond b (f r) r ∷ change_row r.page (λ _. f r) rows) (same_page_refl r.page)
-          ∙ ap (λ l. f r ∷ l) (change_none (λ s. same_page s.page r.page) (λ _. f r) rows (λ k d lt. before_differs r.page (get_or rows k d).page (behind r rows rise k d lt))))
-      by false is rest =
-          let left : find t rows ≡ Some row = sym (ap (λ (b : Bool). cond b (Some r) (find t rows)) is) ∙ found in
-          ap (λ (b : Bool). cond b (f row) r ∷ change_row row.page (λ _. f row) rows) (other_page r rows (behind r rows rise) 0 row left)
-          ∙ ap (λ l. r ∷ l) (rest left)
-  one_more (suc n) (r ∷ rows) row rise found = by (t r) refl (one_more n rows row (in_order r rows rise)) (one_more (suc n) rows row (in_order r rows rise))
-    where
-      first : List Row
-      first = f r ∷ first_changed t f n rows
+-- ---------------------------------------------------------------- pages one after another
 
-      second : List Row
-      second = r ∷ first_changed t f (suc n) rows
+-- rows that are resettled after others
+each_then : (xs ys : List Row) (u v w : Mapped) → ResettlesEach xs u v → ResettlesEach ys v w → ResettlesEach (xs ++ ys) u w
+each_then [] ys u v w idle more = subst (λ (x : Mapped). ResettlesEach ys x w) (λ t. record { frame = idle.frame t; keeper = idle.keeper t }) more
+each_then (x ∷ xs) ys u v w (between, first, others) more = (between, first, each_then xs ys between v w others more)
 
-      by : (b : Bool) → t r ≡ b
-          → (find t (first_changed t f n rows) ≡ Some row → change_row row.page (λ _. f row) (first_changed t f n rows) ≡ first_changed t f (suc n) rows)
-          → (find t (first_changed t f (suc n) rows) ≡ Some row → change_row row.page (λ _. f row) (first_changed t f (suc n) rows) ≡ first_changed t f (suc (suc n)) rows)
-          → change_row row.page (λ _. f row) (cond b first second) ≡ cond b (f r ∷ first_changed t f (suc n) rows) (r ∷ first_changed t f (suc (suc n)) rows)
-      by true is there rest =
-          let left : find t (first_changed t f n rows) ≡ Some row = sym (ap (λ (b : Bool). cond b (Some (f r)) (find t (first_changed t f n rows))) (off r)) ∙ sym (ap (λ (b : Bool). find t (cond b first second)) is) ∙ found in
-          let other : same_page (f r).page row.page ≡ false = ap (λ p. same_page p row.page) (keeps r) ∙ other_page r rows (behind r rows rise) n row left in
-          ap (λ (b : Bool). cond b (f row) (f r) ∷ change_row row.page (λ _. f row) (first_changed t f n rows)) other
-          ∙ ap (λ l. f r ∷ l) (there left)
-      by false is there rest =
-          let left : find t (first_changed t f (suc n) rows) ≡ Some row = sym (ap (λ (b : Bool). cond b (Some r) (find t (first_changed t f (suc n) rows))) is) ∙ sym (ap (λ (b : Bool). find t (cond b first second)) is) ∙ found in
-          ap (λ (b : Bool). cond b (f row) r ∷ change_row row.page (λ _. f row) (first_changed t f (suc n) rows)) (other_page r rows (behind r rows rise) (suc n) row left)
-          ∙ ap (λ l. r ∷ l) (rest left)
+-- so many pages of the guest, or of all, got frames of their own; the cursor is behind the last page that was looked at
+pub record IsUnsharing (p q : PagesView) (k l : KeeperView) (guest : Option ℕ) (count : ℕ) (last : Option GuestPage) : Type 0 where
+  pub along : IsAlong guest (left_by guest) p.rows q.rows last
+  pub pages : q ≡ record p { rows = q.rows; frame = q.frame; restless = q.restless }
+  pub counted : count ≡ length (filter (is_shared_of guest) along.done)
+  pub each : ResettlesEach (filter (is_shared_of guest) along.done) (lying p k) (lying q l)
+  pub does : Does k l (map (λ r. r.home) (filter (is_shared_of guest) along.done))
+  pub laid : IsLaid q l
+  pub few : count ≤ position last
+  pub fits : FitsPage last
 
-  -- what was changed is what passed and comes before the stop
-  pub all_before : (n : ℕ) (rows : List Row) → InPageOrder rows → first_changed t f n rows ≡ change_rows (λ r. t r && is_before (slice_get (filter t rows) n) r) f rows
-  all_before zero [] rise = refl
-  all_before (suc n) [] rise = refl
-  all_before zero (r ∷ rows) rise = by (t r) refl (all_before zero rows (in_order r rows rise))
-    where
-      by : (b : Bool) → t r ≡ b → rows ≡ change_rows (λ x. t x && is_before (slice_get (filter t rows) 0) x) f rows → (r ∷ rows) ≡ change_rows (λ x. t x && is_before (slice_get (cond b (r ∷ filter t rows) (filter t rows)) 0) x) f (r ∷ rows)
-      by true is rest =
-          let here : (t r && comes_before r.page r.page) ≡ false = ap (λ b. t r && b) (before_irrefl r.page) ∙ and_false (t r) in
-          let none : change_rows (λ x. t x && comes_before x.page r.page) f rows ≡ rows = change_none (λ x. t x && comes_before x.page r.page) f rows (λ k d lt. ap (λ b. t (get_or rows k d) && b) (not_both r.page (get_or rows k d).page (behind r rows rise k d lt)) ∙ and_false (t (get_or rows k d))) in
-          λ i. cond (sym here i) (f r) r ∷ sym none i
-      by false is rest = λ i. cond (sym is i && is_before (slice_get (filter t rows) 0) r) (f r) r ∷ rest i
-  all_before (suc n) (r ∷ rows) rise = by (t r) refl (all_before n rows (in_order r rows rise)) (all_before (suc n) rows (in_order r rows rise))
-    where
-      by : (b : Bool) → t r ≡ b
-          → first_changed t f n rows ≡ change_rows (λ x. t x && is_before (slice_get (filter t rows) n) x) f rows
-          → first_changed t f (suc n) rows ≡ change_rows (λ x. t x && is_before (slice_get (filter t rows) (suc n)) x) f rows
-          → cond b (f r ∷ first_changed t f n rows) (r ∷ first_changed t f (suc n) rows) ≡ change_rows (λ x. t x && is_before (slice_get (cond b (r ∷ filter t rows) (filter t rows)) (suc n)) x) f (r ∷ rows)
-      by true is there rest = λ i. cond (sym is i && sym (before_stop r rows (behind r rows rise) n) i) (f r) r ∷ there i
-      by false is there rest = λ i. cond (sym is i && is_before (slice_get (filter t rows) (suc n)) r) (f r) r ∷ rest i
+-- at first none did
+pub unsharing_first : (p : PagesView) (k : KeeperView) (guest : Option ℕ) → IsLaid p k → IsUnsharing p p k k guest 0 None
+unsharing_first p k guest h = record {
+  along = along_first guest (left_by guest) (page_left guest) p.rows;
+  pages = refl;
+  counted = refl;
+  each = record { keeper = refl; frame = refl };
+  does = does_nothing k;
+  laid = h;
+  few = omega arith;
+  fits = tt;
+}
 
--- rows that were unshared on the way are let go as they would have been
-module _ (guest : ℕ) (stop : Option Row) where
-  abbrev pub reached : Row → Bool
-  reached r = is_of guest r && is_before stop r
+-- a row whose page is told is there
+pub told_row : (o : Option Row) (page : GuestPage) → option_map (λ r. r.page) o ≡ Some page → (r : Row) × (o ≡ Some r) × (r.page ≡ page)
+told_row None page told = absurd (grind (arith, told))
+told_row (Some r) page told = (r, refl, same_Some r.page page told)
 
-  abbrev pub met : Row → Bool
-  met r = is_shared_of (Some guest) r && is_before stop r
+module _ (p q : PagesView) (k l : KeeperView) (guest : Option ℕ) (count : ℕ) (last : Option GuestPage) (u : IsUnsharing p q k l guest count last) (rise : InPageOrder p.rows) where
+  abbrev keeps : (r : Row) → (left_by guest r).page ≡ r.page
+  keeps = page_left guest
 
-  met_reached : (a b c : Bool) → ((a && c) && b) ≡ true → (a && b) ≡ true
-  met_reached true true c e = refl
-  met_reached true false true e = e
-  met_reached true false false e = e
-  met_reached false b c e = e
+  abbrev met : List Row
+  met = filter (is_shared_of guest) u.along.done
 
-  still_reached : (r : Row) → reached (unshared r) ≡ reached r
-  still_reached r = by stop
-    where
-      by : (s : Option Row) → (is_of guest (unshared r) && is_before s (unshared r)) ≡ (is_of guest r && is_before s r)
-      by None = refl
-      by (Some s) = refl
+  module _ (r : Row) (found : find (is_next guest last) q.rows ≡ Some r) where
+    abbrev pre : List Row
+    pre = before guest (left_by guest) keeps p.rows q.rows last u.along rise r found
 
-  let_go_one : (r : Row) → (let x : Row = if met r then unshared r else r in if reached x then let_go x else x) ≡ (if reached r then let_go r else r)
-  let_go_one r = by (met r) (met_reached (is_of guest r) (is_before stop r) (shared_state r.state))
-    where
-      by : (m : Bool) → (m ≡ true → reached r ≡ true) → (let x : Row = cond m (unshared r) r in cond (reached x) (let_go x) x) ≡ cond (reached r) (let_go r) r
-      by true e = ap (λ (b : Bool). cond b (let_go r) (unshared r)) (still_reached r ∙ e refl) ∙ sym (ap (λ (b : Bool). cond b (let_go r) r) (e refl))
-      by false e = refl
+    met_before : filter (is_shared_of guest) pre ≡ met
+    met_before =
+        let none = passed guest (left_by guest) keeps p.rows q.rows last u.along rise r found in
+        filter-append (is_shared_of guest) u.along.done _
+        ∙ ap (λ l. met ++ l) (filter_none (is_shared_of guest) _ (λ i d lt. ap (λ b. b && shared_state (get_or _ i d).state) (none i d lt)))
+        ∙ append-nil met
 
-  pub let_go_all : (rows : List Row) → change_rows reached let_go (change_rows met unshared rows) ≡ change_rows reached let_go rows
-  let_go_all [] = refl
-  let_go_all (r ∷ rows) = λ i. let_go_one r i ∷ let_go_all rows i
+    met_one : filter (is_shared_of guest) (r ∷ []) ≡ (if shared_state r.state then r ∷ [] else [])
+    met_one = ap (λ (b : Bool). if b && shared_state r.state then r ∷ [] else []) (of guest (left_by guest) keeps p.rows q.rows last u.along rise r found)
 
--- ---------------------------------------------------------------- merged rows that get frames of their own
+    met_more : filter (is_shared_of guest) (pre ++ r ∷ []) ≡ met ++ (if shared_state r.state then r ∷ [] else [])
+    met_more = filter-append (is_shared_of guest) pre (r ∷ []) ∙ (λ t. met_before t ++ met_one t)
 
--- a row that was unshared is shared no more
-pub unshared_off : (guest : Option ℕ) (r : Row) → is_shared_of guest (unshared r) ≡ false
-unshared_off None r = refl
-unshared_off (Some g) r = and_false (is_of g r)
-
--- the rows keep their order
-pub order_kept : (guest : Option ℕ) (n : ℕ) (rows now : List Row) → InPageOrder rows → now ≡ first_changed (is_shared_of guest) unshared n rows → InPageOrder now
-order_kept guest n rows now rise made = subst InPageOrder (sym (made ∙ all_before (is_shared_of guest) unshared (λ r. refl) (unshared_off guest) n rows rise))
-    (ordered_change (λ r. is_shared_of guest r && is_before (slice_get (filter (is_shared_of guest) rows) n) r) unshared rows (λ r. refl) rise)
-
--- what a search finds after n of them
-pub next_is : (guest : Option ℕ) (n : ℕ) (rows now seen : List Row) (o : Option Row) → now ≡ first_changed (is_shared_of guest) unshared n rows → seen ≡ now → o ≡ find (is_shared_of guest) seen → slice_get (filter (is_shared_of guest) rows) n ≡ o
-next_is guest n rows now seen o made same found = sym (found ∙ ap (find (is_shared_of guest)) (same ∙ made) ∙ first_left (is_shared_of guest) unshared (λ r. refl) (unshared_off guest) n rows)
-
--- to unshare the first shared row of a guest is one step of unsharing them all
-pub one_unshared : (guest : Option ℕ) (n : ℕ) (rows now : List Row) (row new : Row) → InPageOrder rows → now ≡ first_changed (is_shared_of guest) unshared n rows → new ≡ unshared row → find (is_shared_of guest) now ≡ Some row → change_row new.page (λ _. new) now ≡ first_changed (is_shared_of guest) unshared (n + 1) rows
-one_unshared guest n rows now row new rise made is found =
-    (λ i. change_row (is i).page (λ _. is i) (made i))
-    ∙ one_more (is_shared_of guest) unshared (λ r. refl) (unshared_off guest) n rows row rise (sym (ap (find (is_shared_of guest)) made) ∙ found)
-    ∙ (let e : suc n ≡ n + 1 = omega arith in ap (λ k. first_changed (is_shared_of guest) unshared k rows) e)
-
--- where no member is at an index, the list ends there or before
-pub none_past : {X : Type 0} (xs : List X) (n : ℕ) → slice_get xs n ≡ None → length xs ≤ n
-none_past [] n none = omega arith
-none_past (x ∷ xs) zero none = absurd (grind (arith, none))
-none_past (x ∷ xs) (suc n) none = omega (arith, none_past xs n none)
-
--- where a member is at an index, the list goes past it
-pub some_within : {X : Type 0} (xs : List X) (n : ℕ) (x : X) → slice_get xs n ≡ Some x → n < length xs
-some_within [] n x some = absurd (grind (arith, some))
-some_within (y ∷ ys) zero x some = omega arith
-some_within (y ∷ ys) (suc n) x some = omega (arith, some_within ys n x some)
-
--- what holds of all members holds of the one at an index
-pub all_some : {X : Type 0} (P : X → Type 0) (xs : List X) (n : ℕ) (x : X) → All P xs → slice_get xs n ≡ Some x → P x
-all_some P [] n x all some = absurd (grind (arith, some))
-all_some P (y ∷ ys) zero x all some = subst P (same_Some y x some) (All-head P y ys all)
-all_some P (y ∷ ys) (suc n) x all some = all_some P ys n x (All-tail P y ys all) some
-
-homes_suc : (rows : List Row) (n : ℕ) (row : Row) → slice_get rows n ≡ Some row → map (λ r. r.home) (take (suc n) rows) ≡ map (λ r. r.home) (take n rows) ++ row.home ∷ []
-homes_suc [] n row some = absurd (grind (arith, some))
-homes_suc (r ∷ rows) zero row some = ap (λ (x : Row). x.home ∷ []) (same_Some r row some)
-homes_suc (r ∷ rows) (suc n) row some = ap (λ l. r.home ∷ l) (homes_suc rows n row some)
-
--- the homes of the first n + 1 rows are those of the first n and one more
-pub homes_more : (rows : List Row) (n : ℕ) (row : Row) → slice_get rows n ≡ Some row → map (λ r. r.home) (take (n + 1) rows) ≡ map (λ r. r.home) (take n rows) ++ row.home ∷ []
-homes_more rows n row some = (let e : n + 1 ≡ suc n = omega arith in ap (λ k. map (λ (r : Row). r.home) (take k rows)) e) ∙ homes_suc rows n row some
-
--- a row found by a test is found by its page
-pub find_known : (t : Row → Bool) (rows : List Row) (row : Row) → InPageOrder rows → find t rows ≡ Some row → row_at row.page rows ≡ Some row
-find_known t rows row rise found = find_all t (λ s. row_at s.page rows ≡ Some s) rows row found (each_at_page rows rise)
-
--- a filter keeps no more rows than there are
-pub filter_fits : (t : Row → Bool) (rows : List Row) → length (filter t rows) ≤ length rows
-filter_fits t rows = omega (arith, length-filter t rows, count_by-le-length t rows)
-
--- ---------------------------------------------------------------- the commands
-
-stop_is : (rows : List Row) (k : ℕ) (stop : Option Row) → IsStop rows k stop → slice_get rows k ≡ stop
-stop_is rows k None h = slice_get_past rows k (omega (arith, h))
-stop_is rows k (Some row) h = h
-
--- the rows after n were unshared, said by the stop
-pub met_rows : (guest : ℕ) (rows now : List Row) (k : ℕ) (stop : Option Row) → InPageOrder rows → now ≡ first_changed (is_shared_of (Some guest)) unshared k rows → IsStop (filter (is_shared_of (Some guest)) rows) k stop → now ≡ change_rows (met guest stop) unshared rows
-met_rows guest rows now k stop rise made at =
-    made ∙ all_before (is_shared_of (Some guest)) unshared (λ r. refl) (unshared_off (Some guest)) k rows rise
-    ∙ ap (λ o. change_rows (met guest o) unshared rows) (stop_is (filter (is_shared_of (Some guest)) rows) k stop at)
-
-not_merged : (a b c : Bool) → ((a && c) && b) ≡ false → (a && b) ≡ true → c ≡ false
-not_merged true true c e h = sym (and_true c) ∙ e
-not_merged true false c e h = absurd (grind (arith, h))
-not_merged false b c e h = absurd (grind (arith, h))
-
--- none that is let go is merged
-pub none_left : (guest : ℕ) (stop : Option Row) (rows now : List Row) → now ≡ change_rows (met guest stop) unshared rows → All (λ r. reached guest stop r ≡ true → shared_state r.state ≡ false) now
-none_left guest stop rows now made = subst (All (λ r. reached guest stop r ≡ true → shared_state r.state ≡ false)) (sym made)
-    (All-map (λ r. reached guest stop r ≡ true → shared_state r.state ≡ false) (λ r. if met guest stop r then unshared r else r) rows (λ k d lt. one (get_or rows k d)))
-  where
-    one : (r : Row) → (let x : Row = if met guest stop r then unshared r else r in reached guest stop x ≡ true → shared_state x.state ≡ false)
-    one r = by (met guest stop r) (not_merged (is_of guest r) (is_before stop r) (shared_state r.state))
+    after_last : after_cursor last r.page ≡ true
+    after_last = second (of_guest guest r) (after_cursor last r.page) (find_passes (is_next guest last) q.rows r found)
       where
-        by : (m : Bool) → (m ≡ false → reached guest stop r ≡ true → shared_state r.state ≡ false) → (let x : Row = cond m (unshared r) r in reached guest stop x ≡ true → shared_state x.state ≡ false)
-        by true h = λ there. refl
-        by false h = h refl
+        second : (a b : Bool) → (a && b) ≡ true → b ≡ true
+        second true b e = e
+        second false b e = absurd (grind (arith, e))
 
--- a guest's rows unshared up to a stop are the state after its unmerging
-pub unmerged_state : (guest : ℕ) (lay mid new : Lay) (k : ℕ) (stop : Option Row) (cursor : Option GuestPage) (passes : ℕ) → InPageOrder lay.rows
-    → mid ≡ record lay { rows = first_changed (is_shared_of (Some guest)) unshared k lay.rows; frames = mid.frames; keeper = mid.keeper }
-    → IsStop (filter (is_shared_of (Some guest)) lay.rows) k stop
-    → new ≡ record mid { rows = change_rows (reached guest stop) let_go mid.rows }
-    → state_of new cursor passes ≡ record (state_of lay cursor passes) { rows = change_rows (λ r. is_of guest r && is_before (slice_get (filter (is_shared_of (Some guest)) lay.rows) k) r) let_go lay.rows }
-unmerged_state guest lay mid new k stop cursor passes rise made at gone =
-    let rows : change_rows (reached guest stop) let_go mid.rows ≡ change_rows (λ r. is_of guest r && is_before (slice_get (filter (is_shared_of (Some guest)) lay.rows) k) r) let_go lay.rows =
-    ap (change_rows (reached guest stop) let_go) (met_rows guest lay.rows mid.rows k stop rise (ap (λ (x : Lay). x.rows) made) at)
-    ∙ let_go_all guest stop lay.rows
-    ∙ ap (λ o. change_rows (λ r. is_of guest r && is_before o r) let_go lay.rows) (sym (stop_is (filter (is_shared_of (Some guest)) lay.rows) k stop at)) in
-    ap (λ (x : Lay). state_of x cursor passes) gone ∙ (λ i. record (state_of (made i) cursor passes) { rows = rows i })
-
--- the answer of an unmerging
-abbrev pub fault_of : Option Row → Option Fault
-fault_of stop = option_map (λ r. NoFrame r.home) stop
-
--- where an unmerging stops, its answer says so
-pub is_unmerged : (rows : List Row) (k : ℕ) (stop : Option Row) → IsStop rows k stop → IsUnmerged rows (Ok (Unmerged k (fault_of stop)))
-is_unmerged rows k None at = at
-is_unmerged rows k (Some row) at = subst (λ o. MatchOption o ⊥ (λ r. row.home ≡ r.home)) (sym at) refl
-
--- the answer of an unmerging is one that the definition allows
-pub unmerge_answer : (b : BookState) (guest k : ℕ) (stop : Option Row) → has_guest b guest ≡ true → IsStop (shared_rows (is_of guest) b) k stop → IsAnswerOrMemory b (Unmerge guest) (Ok (Unmerged k (fault_of stop)))
-unmerge_answer b guest k stop has at = subst (λ (h : Bool). IsAnswerUnless (refused_if (not h) UnknownPage None) b (Unmerge guest) (Ok (Unmerged k (fault_of stop)))) (sym has) (is_unmerged (shared_rows (is_of guest) b) k stop at)
-
--- the frames that it gave
-pub gave_does : (v w : KeeperView) (nodes : List ℕ) (stop : Option Row) → Gave v w nodes stop → Does v w nodes
-gave_does v w nodes None h = h
-gave_does v w nodes (Some row) h = let u = h.0 in let first = h.1 in let left = h.2 in
-    subst (λ ns. Does v w ns) (append-nil nodes) (_, chained v u w nodes [] first.0 left.part first.1 left.did)
-
--- ---------------------------------------------------------------- all pages
-
--- the rows without those mapped from the zero page
-abbrev pub merged_at : List Row → List Row
-merged_at rows = filter (is_shared_of None) rows
-
-abbrev pub unshared_before : ℕ → List Row → List Row
-unshared_before k rows = change_rows (λ r. shared_state r.state && is_before (slice_get (merged_at rows) k) r) unshared rows
-
-all_unshared : (rows now : List Row) (k : ℕ) → InPageOrder rows → now ≡ first_changed (is_shared_of None) unshared k rows → now ≡ unshared_before k rows
-all_unshared rows now k rise made = made ∙ all_before (is_shared_of None) unshared (λ r. refl) (unshared_off None) k rows rise
-
--- where it stopped
-pub stopped_state : (lay mid new : Lay) (k : ℕ) (knobs : Knobs) (cursor : Option GuestPage) (passes : ℕ) → InPageOrder lay.rows
-    → mid ≡ record lay { rows = first_changed (is_shared_of None) unshared k lay.rows; frames = mid.frames; keeper = mid.keeper }
-    → knobs ≡ mid.knobs → new ≡ record mid { knobs = record knobs { run = 0 } }
-    → state_of new cursor passes ≡ record (state_of lay cursor passes) { rows = unshared_before k lay.rows; knobs = record lay.knobs { run = 0 } }
-stopped_state lay mid new k knobs cursor passes rise made same set =
-    let kept : knobs ≡ lay.knobs = same ∙ ap (λ (x : Lay). x.knobs) made in
-    let rows : mid.rows ≡ unshared_before k lay.rows = all_unshared lay.rows mid.rows k rise (ap (λ (x : Lay). x.rows) made) in
-    ap (λ (x : Lay). state_of x cursor passes) set
-    ∙ (λ i. record (state_of (made i) cursor passes) { rows = rows i; knobs = record (kept i) { run = 0 } })
-
-unshared_twice : (test : Row → Bool) (rows : List Row) → map unshared (change_rows test unshared rows) ≡ map unshared rows
-unshared_twice test [] = refl
-unshared_twice test (r ∷ rows) = by (test r) (unshared_twice test rows)
-  where
-    by : (b : Bool) → map unshared (change_rows test unshared rows) ≡ map unshared rows → map unshared (cond b (unshared r) r ∷ change_rows test unshared rows) ≡ map unshared (r ∷ rows)
-    by true rest = ap (λ l. unshared r ∷ l) rest
-    by false rest = ap (λ l. unshared r ∷ l) rest
-
--- where it went through
-pub ended_state : (lay mid wide new : Lay) (k : ℕ) (knobs : Knobs) (cursor : Option GuestPage) (passes : ℕ) → InPageOrder lay.rows
-    → mid ≡ record lay { rows = first_changed (is_shared_of None) unshared k lay.rows; frames = mid.frames; keeper = mid.keeper }
-    → knobs ≡ mid.knobs → wide ≡ record mid { rows = map unshared mid.rows } → new ≡ record wide { knobs = record knobs { run = 2 } }
-    → state_of new None passes ≡ record (state_of lay cursor passes) { rows = map unshared lay.rows; cursor = None; knobs = record lay.knobs { run = 2 } }
-ended_state lay mid wide new k knobs cursor passes rise made same alone set =
-    let kept : knobs ≡ lay.knobs = same ∙ ap (λ (x : Lay). x.knobs) made in
-    let rows : map unshared mid.rows ≡ map unshared lay.rows = ap (map unshared) (all_unshared lay.rows mid.rows k rise (ap (λ (x : Lay). x.rows) made)) ∙ unshared_twice (λ r. shared_state r.state && is_before (slice_get (merged_at lay.rows) k) r) lay.rows in
-    ap (λ (x : Lay). state_of x None passes) set
-    ∙ (λ i. record (state_of (alone i) None passes) { knobs = record knobs { run = 2 } })
-    ∙ (λ i. record (state_of (made i) None passes) { rows = rows i; knobs = record (kept i) { run = 2 } })
-
--- where no row was left to take, no row is merged or Zero
-pub none_merged : (rows now : List Row) (k : ℕ) (stop : Option Row) → InPageOrder rows → now ≡ first_changed (is_shared_of None) unshared k rows → IsStop (merged_at rows) k stop → stop ≡ None → All (λ r. shared_state r.state ≡ false) now
-none_merged rows now k stop rise made at ended =
-    let still : now ≡ change_rows (λ r. shared_state r.state && true) unshared rows = all_unshared rows now k rise made ∙ ap (λ o. change_rows (λ r. shared_state r.state && is_before o r) unshared rows) (stop_is (merged_at rows) k stop at ∙ ended) in
-    subst (All (λ r. shared_state r.state ≡ false)) (sym still) (All-map (λ r. shared_state r.state ≡ false) (λ r. if shared_state r.state && true then unshared r else r) rows (λ i d lt. one (get_or rows i d)))
-  where
-    one : (r : Row) → (let x : Row = if shared_state r.state && true then unshared r else r in shared_state x.state ≡ false)
-    one r = by (shared_state r.state && true) (λ e. sym (and_true (shared_state r.state)) ∙ e)
+    -- the next page was left
+    pub unsharing_next : (v : PagesView) (w : KeeperView) (given : ℕ) → HasLeft q v l w guest r.page given → r.page.guest < 65536 → r.page.page < 4294967296 → IsUnsharing p v k w guest (count + given) (Some r.page)
+    unsharing_next v w given h low small =
+        let e : h.row ≡ r = same_Some h.row r (sym h.found ∙ row_there guest (left_by guest) keeps p.rows q.rows last u.along rise r found) in
+        let rows : v.rows ≡ change_row r.page (left_by guest) q.rows = ap (λ (x : PagesView). x.rows) h.pages in
+        let steps = subst (λ (x : Row). MatchBool (shared_state x.state) (Resettles (lying q l) (lying v w) x.page x.home x.bytes) (IsIdle (lying q l) (lying v w))) e h.steps in
+        let does = subst (λ (x : Row). Does l w (if shared_state x.state then x.home ∷ [] else [])) e h.does in
+        let more : given ≡ (if shared_state r.state then 1 else 0) = h.given ∙ ap (λ (x : Row). if shared_state x.state then 1 else 0) e in
+        record {
+          along = subst (λ x. IsAlong guest (left_by guest) p.rows x (Some r.page)) (sym rows) (along_next guest (left_by guest) keeps p.rows q.rows last u.along rise r found);
+          pages = h.pages ∙ (λ t. record (u.pages t) { rows = sym rows t; frame = v.frame; restless = v.restless });
+          counted = (λ t. u.counted t + more t) ∙ ap (λ n. length met + n) (one_count (shared_state r.state)) ∙ sym (length-append met _) ∙ ap length (sym met_more);
+          each = subst (λ xs. ResettlesEach xs (lying p k) (lying v w)) (sym met_more) (each_then met _ (lying p k) (lying q l) (lying v w) u.each (one_each (shared_state r.state) v w steps));
+          does = subst (Does k w) (ap (λ ns. map (λ (x : Row). x.home) met ++ ns) (one_home (shared_state r.state)) ∙ sym (map-append (λ (x : Row). x.home) met _) ∙ ap (map (λ (x : Row). x.home)) (sym met_more))
+              (does_then k l w (map (λ (x : Row). x.home) met) _ u.does does);
+          laid = h.laid;
+          few = (let far = further last r.page u.fits after_last in let was = u.few in let one = at_most (shared_state r.state) in omega (arith, far, was, one, more));
+          fits = (low, small);
+        }
       where
-        by : (m : Bool) → (m ≡ false → shared_state r.state ≡ false) → (let x : Row = cond m (unshared r) r in shared_state x.state ≡ false)
-        by true h = refl
-        by false h = h refl
+        one_count : (b : Bool) → (if b then 1 else 0) ≡ length (if b then r ∷ [] else [])
+        one_count true = refl
+        one_count false = refl
+
+        one_home : (b : Bool) → (if b then r.home ∷ [] else []) ≡ map (λ (x : Row). x.home) (if b then r ∷ [] else [])
+        one_home true = refl
+        one_home false = refl
+
+        at_most : (b : Bool) → (if b then 1 else 0) ≤ 1
+        at_most true = omega arith
+        at_most false = omega arith
+
+        one_each : (b : Bool) (v : PagesView) (w : KeeperView) → MatchBool b (Resettles (lying q l) (lying v w) r.page r.home r.bytes) (IsIdle (lying q l) (lying v w)) → ResettlesEach (if b then r ∷ [] else []) (lying q l) (lying v w)
+        one_each true v w steps = (lying v w, steps, record { keeper = refl; frame = refl })
+        one_each false v w idle = idle
+
+    -- no frame was left for the next page
+    pub unsharing_stop : (v : PagesView) (w : KeeperView) (fault : Fault) → MayNotLeave q v l w r.page fault → Unshares p v k w guest count (Some fault)
+    unsharing_stop v w fault h =
+        let e : h.row ≡ r = same_Some h.row r (sym h.found ∙ row_there guest (left_by guest) keeps p.rows q.rows last u.along rise r found) in
+        let home = ap (λ (x : Row). x.home) e in
+        let behind = rest guest (left_by guest) keeps p.rows q.rows last u.along rise r found in
+        let all : filter (is_shared_of guest) p.rows ≡ met ++ r ∷ filter (is_shared_of guest) behind =
+        ap (filter (is_shared_of guest)) (whole guest (left_by guest) keeps p.rows q.rows last u.along rise r found) ∙ filter-append (is_shared_of guest) pre (r ∷ behind)
+        ∙ (λ t. met_before t ++ (if of guest (left_by guest) keeps p.rows q.rows last u.along rise r found t && shared_state r.state then r ∷ filter (is_shared_of guest) behind else filter (is_shared_of guest) behind))
+        ∙ ap (λ (b : Bool). met ++ (if b then r ∷ filter (is_shared_of guest) behind else filter (is_shared_of guest) behind)) (ap (λ (x : Row). shared_state x.state) (sym e) ∙ h.shared) in
+        let taken : met ≡ take count (filter (is_shared_of guest) p.rows) = sym (ap (take count) all ∙ ap (λ n. take n (met ++ r ∷ filter (is_shared_of guest) behind)) u.counted ∙ take-append_seam met _) in
+        record {
+          at = Some r;
+          fault = ap Some (h.says ∙ ap NoFrame home);
+          stands = ap (λ xs. slice_get xs count) all ∙ ap (slice_get (met ++ r ∷ filter (is_shared_of guest) behind)) u.counted ∙ get_seam met r _;
+          pages = h.turned.pages ∙ u.pages ∙ (λ t. record p {
+            rows = along_stop guest (left_by guest) keeps p.rows q.rows last u.along rise r found t;
+            frame = ap (λ (x : PagesView). x.frame) (sym h.turned.pages) t;
+            restless = ap (λ (x : PagesView). x.restless) (sym h.turned.pages) t;
+          });
+          unmerges = subst (λ f. UnmergesTo (take count (filter (is_shared_of guest) p.rows)) (Some f) (lying p k) (lying v w)) (sym h.says)
+              (lying q l, subst (λ xs. ResettlesEach xs (lying p k) (lying q l)) taken u.each, h.turned.turns);
+          gave = (l, subst (λ xs. Does k l (map (λ (x : Row). x.home) xs)) taken u.does, subst (λ n. NoneLeft l w n) home h.turned.left);
+          laid = h.turned.laid;
+        }
+      where
+        get_seam : (xs : List Row) (x : Row) (ys : List Row) → slice_get (xs ++ x ∷ ys) (length xs) ≡ Some x
+        get_seam [] x ys = refl
+        get_seam (y ∷ xs) x ys = get_seam xs x ys
+
+  -- no page was left to look at
+  pub unsharing_end : find (is_next guest last) q.rows ≡ None → Unshares p q k l guest count None
+  unsharing_end ended =
+      let done = along_end guest (left_by guest) keeps p.rows q.rows last u.along ended in
+      let all : filter (is_shared_of guest) p.rows ≡ met =
+      ap (filter (is_shared_of guest)) u.along.whole ∙ filter-append (is_shared_of guest) u.along.done u.along.left
+      ∙ ap (λ l. met ++ l) (filter_none (is_shared_of guest) u.along.left (λ i d lt. ap (λ b. b && shared_state (get_or u.along.left i d).state) (done.1 i d lt))) ∙ append-nil met in
+      let taken : met ≡ take count (filter (is_shared_of guest) p.rows) = sym (ap (take count) (all ∙ sym (append-nil met)) ∙ ap (λ n. take n (met ++ [])) u.counted ∙ take-append_seam met []) in
+      record {
+        at = None;
+        fault = refl;
+        stands = u.counted ∙ ap length (sym all);
+        pages = u.pages ∙ (λ t. record p { rows = (done.0 ∙ ap (λ (test : Row → Bool). change_rows test (left_by guest) p.rows) (λ i r. sym (and_true (of_guest guest r)) i)) t; frame = q.frame; restless = q.restless });
+        unmerges = subst (λ xs. ResettlesEach xs (lying p k) (lying q l)) taken u.each;
+        gave = subst (λ xs. Does k l (map (λ (x : Row). x.home) xs)) taken u.does;
+        laid = u.laid;
+      }

@@ -5,7 +5,8 @@ use Rattle.ksm_base.specs.declared.row.Row.{Row}
 use Rattle.ksm_base.specs.Rows.{settled, shared_state}
 use Rattle.ksm_base.specs.State.{BookState}
 use Rattle.ksm_base.specs.Visit.{best_dup, is_for_zero, partner, visits}
-use Rattle.ksm_layout.specs.Commands.{idle, scanning}
+use Rattle.ksm_book.specs.Commands.{idle, scanning}
+use Rattle.ksm_book.specs.Linked.{Frames}
 use Rattle.ksm_book.specs.Whole.{BookView}
 
 -- a row whose bytes stayed has nothing to be merged with
@@ -25,17 +26,17 @@ counted (Some page) passes = passes
 
 -- so many visits change nothing but which rows wait, where the cursor stands and the count of passes, and make no step. Whatever
 -- that count is, a pass ends with the last of them, or none does
-pub record ChangesNothing (n : ℕ) (old new : BookState) (frames : List (Option ℕ)) : Type 0 where
+pub record ChangesNothing (n : ℕ) (old new : BookState) (frame : Frames) : Type 0 where
   pub rest : new ≡ record old { rows = new.rows; cursor = new.cursor; passes = new.passes }
   pub rows : map settled new.rows ≡ map settled old.rows
   pub state : (passes : ℕ) → visits n (record old { passes = passes }) ≡ record new { passes = counted new.cursor passes }
-  pub steps : (passes : ℕ) → scanning n (record old { passes = passes }) frames ≡ idle frames
+  pub steps : (passes : ℕ) → scanning n (record old { passes = passes }) frame ≡ idle frame
 
 -- a pass of so many visits has ended, which changed nothing
 abbrev pub IsQuietPass : ℕ → BookView → Type 0
-IsQuietPass n v = (v.state.cursor ≡ None) × (start : BookState) × (start.cursor ≡ None) × ChangesNothing n start v.state v.frames
+IsQuietPass n v = (v.state.cursor ≡ None) × (start : BookState) × (start.cursor ≡ None) × ChangesNothing n start v.state v.frame
 
 -- a pass is under way whose visits changed nothing: as it began, `since` visits were to be made, of which so many are left
 abbrev pub IsQuietSince : Option ℕ → ℕ → BookView → Type 0
 IsQuietSince since left v =
-    MatchOption since ⊤ (λ most. (left ≤ most) × (is_some v.state.cursor ≡ true) × (start : BookState) × (start.cursor ≡ None) × ChangesNothing (most - left) start v.state v.frames)
+    MatchOption since ⊤ (λ most. (left ≤ most) × (is_some v.state.cursor ≡ true) × (start : BookState) × (start.cursor ≡ None) × ChangesNothing (most - left) start v.state v.frame)

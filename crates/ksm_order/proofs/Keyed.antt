@@ -1,13 +1,15 @@
 -- Lists in the order of their pages: where a page stands or would stand, and what an insert, a removal or a write there leaves.
 use Rattle.std.proofs.Common.{◌≡◌, ℕ, suc, ◌+◌, ◌-◌, ◌<◌, ◌≤◌, Bool, true, false, true≢false, List, [], ◌∷◌, ◌++◌, Option, Some, None, is_some, length, get_or, refl, sym, ap, ◌∙◌, inl, inr, arith}
-use Rattle.std.specs.Prelude.{cond, not, All, AllPairs, count_by, filter, find, insert, map, remove, set, if◌then◌else◌}
+use Rattle.std.specs.Prelude.{cond, not, All, AllPairs, count_by, filter, find, insert, map, remove, set, slice_get, if◌then◌else◌}
 use Rattle.std.specs.Int.{from_bool}
 use Rattle.std.specs.List.Sorted.{IsPartitionedBy}
-use Rattle.std.proofs.lemmas.Bool.{cases_Bool, cases_lt}
+use Rattle.std.proofs.lemmas.Bool.{both_ways, cases_Bool, cases_lt, not-true}
 use Rattle.std.proofs.lemmas.List.Elements.{All-weaker, All-cons, filter_passes}
 use Rattle.std.proofs.lemmas.List.Filters.{length-filter_both}
 use Rattle.std.proofs.lemmas.List.Kept.{AllPairs-cons, AllPairs-filter}
-use Rattle.std.proofs.lemmas.List.Sums.{sum_by-remove, sum_by-set}
+use Rattle.std.proofs.lemmas.List.Edits.{length-insert, length-remove}
+use Rattle.std.proofs.lemmas.List.Sums.{count_by-le-length, length-filter, sum_by-insert, sum_by-remove, sum_by-set}
+use Rattle.std.proofs.lemmas.Option.{none-some, same_Some}
 use Rattle.ksm_base.specs.declared.page.GuestPage.{GuestPage}
 use Rattle.ksm_base.specs.Rows.{comes_before, same_page}
 use Rattle.ksm_base.proofs.Orders.{pairs_head, pairs_tail, pairs_append, filter_none}
@@ -19,7 +21,7 @@ pub none_of : {X : Type 0} (found : Option X) → is_some found ≡ false → fo
 none_of None none = refl
 none_of (Some x) none = absurd (true≢false none)
 
--- what is counted for a yes and a no
+-- what is counted for a passes and a no
 byte_of : (b : Bool) → from_bool b ≡ cond b 1 0
 byte_of true = refl
 byte_of false = refl
@@ -75,6 +77,17 @@ module _ {X : Type 0} (key : X → GuestPage) where
           | inr no_less ↦ let e : j ≡ i = omega arith in rw (← e) later
         ]
 
+    -- what a search for the first that comes behind the page asks of it
+    pub parted_behind : (xs : List X) → AllPairs Before xs → IsPartitionedBy (λ y. not (high y)) xs
+    parted_behind xs rise i j d le lt later =
+        elim (cases_lt i j) [
+          | inl less ↦ elim (cases_Bool (high (get_or xs i d))) [
+            | inl first ↦ absurd (both_ways (high (get_or xs j d)) (not-true _ later) (pages_ordered.trans page (key (get_or xs i d)) (key (get_or xs j d)) first (rise i j d less lt)))
+            | inr fine ↦ ap not fine
+          ]
+          | inr no_less ↦ let e : j ≡ i = omega arith in rw (← e) later
+        ]
+
     none_low : (ys : List X) → All (λ z. high z ≡ true) ys → All (λ z. low z ≡ false) ys
     none_low ys behind k d lt = pages_ordered.asym page (key (get_or ys k d)) (behind k d lt)
 
@@ -94,6 +107,19 @@ module _ {X : Type 0} (key : X → GuestPage) where
         let here : is_it y ≡ false = none 0 y (omega arith) in
         let rest = not_found ys (λ k d lt. none (suc k) d (omega arith)) in
         grind (arith, here, rest)
+
+    -- the first behind the page stands behind those that do not come behind it
+    pub found_behind : (xs : List X) → AllPairs Before xs → find high xs ≡ slice_get xs (length (filter (λ y. not (high y)) xs))
+    found_behind [] rise = refl
+    found_behind (y ∷ ys) rise =
+        elim (cases_Bool (high y)) [
+          | inl first ↦
+              let e = filter_none (λ z. not (high z)) ys (λ k d lt. ap not (behind_rest y ys rise first k d lt)) in
+              grind (arith, first, e)
+          | inr second ↦
+              let rest = found_behind ys (pairs_tail Before y ys rise) in
+              grind (arith, second, rest)
+        ]
 
     -- a page that is not there goes in behind those before it
     pub insert_at : (x : X) (xs : List X) → key x ≡ page → AllPairs Before xs → find is_it xs ≡ None → insert xs (length (filter low xs)) x ≡ filter low xs ++ x ∷ filter high xs
@@ -289,3 +315,58 @@ module _ {X : Type 0} (key : X → GuestPage) where
           | inl equal ↦ let kept = same y in grind (arith, equal, kept)
           | inr differ ↦ grind (arith, differ)
         ]) xs rise
+
+    -- where a page is found
+    pub found_place : (xs : List X) (x : X) → AllPairs Before xs → find is_it xs ≡ Some x → (length (filter low xs) < length xs) × ((is_it (get_or xs (length (filter low xs)) x) ≡ true) × (get_or xs (length (filter low xs)) x ≡ x))
+    found_place xs x rise found =
+        let within : length (filter low xs) < length xs = elim (cases_lt (length (filter low xs)) (length xs)) [
+          | inl less ↦ less
+          | inr past ↦ absurd (none-some x (sym (absent_past xs rise past) ∙ found))
+        ] in
+        let here : is_it (get_or xs (length (filter low xs)) x) ≡ true = elim (cases_Bool (is_it (get_or xs (length (filter low xs)) x))) [
+          | inl passes ↦ passes
+          | inr other ↦ absurd (none-some x (sym (absent_at xs x rise within other) ∙ found))
+        ] in
+        (within, (here, same_Some _ x (sym (found_at xs x rise within here) ∙ found)))
+
+    -- what is counted of a page that is found
+    module _ (p : X → Bool) (x : X) (xs : List X) (rise : AllPairs Before xs) (found : find is_it xs ≡ Some x) where
+      -- it is one of them, if it passes
+      pub found_counted : from_bool (p x) ≤ count_by p xs
+      found_counted =
+          let at = found_place xs x rise found in
+          let less : count_by p (remove xs (length (filter low xs))) + cond (p (get_or xs (length (filter low xs)) x)) 1 0 ≡ count_by p xs = sum_by-remove (λ y. cond (p y) 1 0) xs (length (filter low xs)) x at.0 in
+          let one = byte_of (p x) ∙ ap (λ y. cond (p y) 1 0) (sym at.1.1) in
+          omega (arith, less, one)
+
+      -- once it is taken out
+      pub removed_count : count_by p xs - from_bool (p x) ≡ count_by p (filter (λ y. not (is_it y)) xs)
+      removed_count =
+          let at = found_place xs x rise found in
+          count_removed p xs (length (filter low xs)) x (count_by p xs) (from_bool (p x)) at.0 refl (ap (λ y. from_bool (p y)) (sym at.1.1))
+          ∙ ap (count_by p) (remove_at xs x rise at.0 at.1.0)
+
+      -- there is one less
+      pub removed_length : length (filter (λ y. not (is_it y)) xs) + 1 ≡ length xs
+      removed_length =
+          let at = found_place xs x rise found in
+          ap (λ ys. length ys + 1) (sym (remove_at xs x rise at.0 at.1.0)) ∙ length-remove xs (length (filter low xs)) at.0
+
+      -- once it is changed
+      pub changed_count : (f : X → X) → count_by p xs - from_bool (p x) + from_bool (p (f x)) ≡ count_by p (map (λ y. if is_it y then f y else y) xs)
+      changed_count f =
+          let at = found_place xs x rise found in
+          count_changed p xs (length (filter low xs)) (f (get_or xs (length (filter low xs)) x)) x (count_by p xs) (from_bool (p x)) (from_bool (p (f x))) at.0 refl
+          (ap (λ y. from_bool (p y)) (sym at.1.1)) (ap (λ y. from_bool (p (f y))) (sym at.1.1))
+          ∙ ap (count_by p) (write_at f xs x rise at.0 at.1.0)
+
+    -- one page more
+    pub length_with : (x : X) (xs : List X) → key x ≡ page → AllPairs Before xs → find is_it xs ≡ None → length (filter low xs ++ x ∷ filter high xs) ≡ length xs + 1
+    length_with x xs at rise absent =
+        let few : length (filter low xs) ≤ length xs = omega (arith, length-filter low xs, count_by-le-length low xs) in
+        ap length (sym (insert_at x xs at rise absent)) ∙ length-insert xs (length (filter low xs)) x few
+
+    -- and what is counted with it
+    pub count_with : (p : X → Bool) (x : X) (xs : List X) → key x ≡ page → AllPairs Before xs → find is_it xs ≡ None → count_by p (filter low xs ++ x ∷ filter high xs) ≡ count_by p xs + cond (p x) 1 0
+    count_with p x xs at rise absent =
+        ap (count_by p) (sym (insert_at x xs at rise absent)) ∙ sum_by-insert (λ y. cond (p y) 1 0) xs (length (filter low xs)) x

@@ -1,1 +1,4 @@
 pub mod Ordered
+pub mod Held
+pub mod Filed
+pub mod Paged

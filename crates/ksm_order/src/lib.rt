@@ -1,10 +1,23 @@
-//! Pages in order, in runs that know how many of their pages a scan visits.
+//! The pages of the book: their order, in runs that know how many of their pages a scan visits, and the rows.
 #![tactic(auto)]
 
+mod ahead;
 mod named;
 mod order;
+mod pages;
+mod restless;
+pub mod row;
+mod rows;
 mod run;
+mod runs;
+mod tally;
+mod visits;
 
+pub use ahead::Ahead;
 pub use named::Named;
 pub use order::Order;
+pub use pages::{Find, Held, Pages};
+pub use restless::Restless;
+pub use rows::Rows;
 pub use run::Run;
+pub use tally::Tally;

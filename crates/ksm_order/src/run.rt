@@ -1,7 +1,8 @@
 //! A run of pages in order, with how many of them a scan visits.
-ghost use Rattle.std.specs.Prelude.{◌≡◌, ℕ, ◌<◌, ◌≤◌, [], None, true, false, IfErr, IsTrue, OnErr, OnOk, count_by, filter, find, length, is_some, option_copied, slice_index_or};
+ghost use Rattle.std.specs.Prelude.{◌≡◌, ℕ, ◌<◌, ◌≤◌, [], None, true, false, not, IfErr, IfOk, IsTrue, OnErr, OnOk, count_by, drop, filter, find, length, is_some, slice_get, slice_index_or, take};
+ghost use Rattle.std.specs.List.{list_all};
 ghost use Rattle.ksm_base.specs.Rows.{comes_before};
-ghost use Rattle.ksm_order.specs.Ordered.{AreAscending, begins_behind, is_of, with_named, without_named, marked};
+ghost use Rattle.ksm_order.specs.Ordered.{AreAscending, begins_behind, is_of, page_at, visited, with_named, without_named, marked};
 
 use crate::named::Named;
 use ksm_base::{Fault, GuestPage};
@@ -36,6 +37,15 @@ fn place_of(pages: &[Named], page: GuestPage) -> usize
     pages.partition_point(|named| named.page < page)
 }
 
+/// How many of the pages do not come behind one.
+fn place_behind(pages: &[Named], page: GuestPage) -> usize
+    requires { AreAscending pages.now }
+    ensures count { result ≡ length (filter (λ n. not (comes_before page n.page)) pages.now) }
+    ensures within { result ≤ length pages.now }
+{
+    pages.partition_point(|named| !(page < named.page))
+}
+
 /// Whether a page stands at a place, that of the page.
 fn stands_at(pages: &[Named], at: usize, page: GuestPage) -> bool
     requires order { AreAscending pages.now }
@@ -45,6 +55,34 @@ fn stands_at(pages: &[Named], at: usize, page: GuestPage) -> bool
     ensures here { IsTrue result → (d : Named) → is_of page (slice_index_or pages.now at d) ≡ true }
 {
     at < pages.len() && pages[at].page == page
+}
+
+/// The page at a place.
+fn page_of(pages: &[Named], place: usize) -> Option<GuestPage>
+    ensures { result ≡ page_at pages.now place }
+{
+    if place < pages.len() {
+        Some(pages[place].page)
+    } else {
+        None
+    }
+}
+
+/// How many of the pages a scan visits.
+fn count_visited(pages: &[Named]) -> usize
+    ensures { result ≡ count_by (λ n. n.mergeable) pages.now }
+{
+    pages.iter().filter(|named| named.mergeable).count()
+}
+
+/// The page at a place among those that a scan visits.
+fn nth_visited(pages: &[Named], place: usize) -> Option<GuestPage>
+    ensures { result ≡ page_at (visited pages.now) place }
+{
+    match pages.iter().filter(|named| named.mergeable).nth(place) {
+        Some(named) => Some(named.page),
+        None => None,
+    }
 }
 
 impl Run {
@@ -80,6 +118,21 @@ impl Run {
         !pages.is_empty() && page < pages[0].page
     }
 
+    /// Whether all its pages come before a page.
+    pub fn ends_before(&self, page: GuestPage) -> bool
+        ensures { result ≡ list_all (λ n. comes_before n.page page) self.now }
+    {
+        let pages = self.pages.as_slice();
+        place_of(pages, page) == pages.len()
+    }
+
+    /// The first page.
+    pub fn first(&self) -> Option<Named>
+        ensures { result ≡ slice_get self.now 0 }
+    {
+        self.pages.as_slice().first().copied()
+    }
+
     /// What stands in the order for a page.
     pub fn find(&self, page: GuestPage) -> Option<Named>
         ensures { result ≡ find (is_of page) self.now }
@@ -88,6 +141,55 @@ impl Run {
         let at = place_of(pages, page);
         let found = stands_at(pages, at, page);
         if found { Some(pages[at]) } else { None }
+    }
+
+    /// The first page behind a page.
+    pub fn after(&self, page: GuestPage) -> Option<Named>
+        ensures { result ≡ find (λ n. comes_before page n.page) self.now }
+    {
+        let pages = self.pages.as_slice();
+        let at = place_behind(pages, page);
+        if at < pages.len() {
+            Some(pages[at])
+        } else {
+            None
+        }
+    }
+
+    /// How many of the pages that a scan visits do not come behind a page.
+    pub fn visited_to(&self, page: GuestPage) -> usize
+        ensures { result ≡ count_by (λ n. not (comes_before page n.page)) (visited self.now) }
+    {
+        let pages = self.pages.as_slice();
+        let place = place_behind(pages, page);
+        // Where a scan visits all of them none is looked at.
+        if self.mergeable == pages.len() {
+            return place;
+        }
+        count_visited(&pages[..place])
+    }
+
+    /// How many of the pages that a scan visits come before a page.
+    pub fn visited_before(&self, page: GuestPage) -> usize
+        ensures { result ≡ count_by (λ n. comes_before n.page page) (visited self.now) }
+    {
+        let pages = self.pages.as_slice();
+        let place = place_of(pages, page);
+        if self.mergeable == pages.len() {
+            return place;
+        }
+        count_visited(&pages[..place])
+    }
+
+    /// The page at a place among those that a scan visits.
+    pub fn nth_visited(&self, place: usize) -> Option<GuestPage>
+        ensures { result ≡ page_at (visited self.now) place }
+    {
+        let pages = self.pages.as_slice();
+        if self.mergeable == pages.len() {
+            return page_of(pages, place);
+        }
+        nth_visited(pages, place)
     }
 
     /// Adds a page that is not there. The one fault is `Memory`, and then nothing changes.
@@ -103,21 +205,26 @@ impl Run {
         Ok(())
     }
 
-    /// Takes a page away, if it is there.
-    pub fn remove(&mut self, page: GuestPage)
-        ensures { self.new ≡ without_named page self.old }
+    /// Takes a page away, if it is there, and answers what stood for it.
+    pub fn remove(&mut self, page: GuestPage) -> Option<Named>
+        ensures was { result ≡ find (is_of page) self.old }
+        ensures removed { self.new ≡ without_named page self.old }
     {
         let at = place_of(self.pages.as_slice(), page);
         let found = stands_at(self.pages.as_slice(), at, page);
         if found {
             let gone = self.pages.remove(at);
             self.mergeable -= usize::from(gone.mergeable);
+            Some(gone)
+        } else {
+            None
         }
     }
 
-    /// A scan visits the page from now on, or does not, if it is there.
-    pub fn mark(&mut self, page: GuestPage, mergeable: bool)
-        ensures { self.new ≡ marked page mergeable self.old }
+    /// A scan visits the page from now on, or does not, if it is there. Answers what stood for it before.
+    pub fn mark(&mut self, page: GuestPage, mergeable: bool) -> Option<Named>
+        ensures was { result ≡ find (is_of page) self.old }
+        ensures marked { self.new ≡ marked page mergeable self.old }
     {
         let at = place_of(self.pages.as_slice(), page);
         let found = stands_at(self.pages.as_slice(), at, page);
@@ -125,6 +232,23 @@ impl Run {
             let named = self.pages[at];
             self.pages[at] = Named { mergeable, ..named };
             self.mergeable = self.mergeable - usize::from(named.mergeable) + usize::from(mergeable);
+            Some(named)
+        } else {
+            None
         }
+    }
+
+    /// Keeps so many pages, and hands out those behind. The one fault is `Memory`, and then nothing changes.
+    pub fn split_off(&mut self, at: usize) -> Result<Run, Fault>
+        requires { at ≤ length self.old }
+        ensures front { OnOk result (self.new ≡ take at self.old) }
+        ensures back { IfOk result (λ run. run ≡ drop at self.old) }
+        ensures kept { OnErr result (self.new ≡ self.old) }
+        ensures memory { IfErr result (λ fault. fault ≡ Fault.Memory) }
+    {
+        let pages = self.pages.split_off(at)?;
+        let mergeable = count_visited(pages.as_slice());
+        self.mergeable -= mergeable;
+        Ok(Run { pages, mergeable })
     }
 }

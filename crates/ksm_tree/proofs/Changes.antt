@@ -87,7 +87,7 @@ row_there p None is = absurd (none-some p is)
 row_there p (Some e) is = (e, refl, same_Some e.place p is)
 
 -- two tests that agree on each dup find one dup and change one
-agree_found : (test by : Dup → Bool) (dups : List Dup) → All (λ d. test d ≡ by d) dups → find test dups ≡ find by dups
+pub agree_found : (test by : Dup → Bool) (dups : List Dup) → All (λ d. test d ≡ by d) dups → find test dups ≡ find by dups
 agree_found test by [] same = refl
 agree_found test by (d ∷ dups) same =
     let here = All-head (λ d. test d ≡ by d) d dups same in
@@ -121,29 +121,13 @@ number_place_found q p dups rise is = agree_found (has_number q) (stands_at p) d
 pub number_place_changed : (q p : ℕ) (f : List GuestPage → List GuestPage) (dups : List Dup) → InPlaceOrder (rows_of dups) → row_place q (rows_of dups) ≡ Some p → change_items q f dups ≡ change_at p f dups
 number_place_changed q p f dups rise is = agree_changed (has_number q) (stands_at p) f dups (one_dup q p dups rise is)
 
--- without a row of the number there is no such dup, and nothing is changed
-no_row : (r : Option DupRow) → option_map (λ s. s.place) r ≡ None → r ≡ None
-no_row None is = refl
-no_row (Some e) is = absurd (none-some e.place (sym is))
-
-no_dup : (d : Option Dup) → option_map (λ e. e.row) d ≡ None → d ≡ None
-no_dup None is = refl
-no_dup (Some e) is = absurd (none-some e.row (sym is))
-
--- a number without a place has no dup
-pub unknown_found : (q : ℕ) (dups : List Dup) → row_place q (rows_of dups) ≡ None → dup_of q dups ≡ None
-unknown_found q dups is = no_dup (dup_of q dups) (row_found (has_number q) (λ r. r.number == q) (λ d. refl) dups ∙ no_row (find (λ r. r.number == q) (rows_of dups)) is)
-
-unknown_changed_from : (q : ℕ) (f : List GuestPage → List GuestPage) (dups : List Dup) → dup_of q dups ≡ None → dups ≡ change_items q f dups
-unknown_changed_from q f [] is = refl
-unknown_changed_from q f (d ∷ dups) is =
+-- to change the items of a number that no dup has changes nothing
+pub unchanged_items : (q : ℕ) (f : List GuestPage → List GuestPage) (dups : List Dup) → dup_of q dups ≡ None → dups ≡ change_items q f dups
+unchanged_items q f [] is = refl
+unchanged_items q f (d ∷ dups) is =
     elim (cases_Bool (has_number q d)) [
       | inl here ↦ absurd (none-some d (sym is ∙ grind (arith, here)))
       | inr away ↦
-          let rest = unknown_changed_from q f dups (grind (arith, away, is)) in
+          let rest = unchanged_items q f dups (grind (arith, away, is)) in
           grind (arith, away, rest)
     ]
-
--- to change the items of a number without a place changes nothing
-pub unknown_changed : (q : ℕ) (f : List GuestPage → List GuestPage) (dups : List Dup) → row_place q (rows_of dups) ≡ None → dups ≡ change_items q f dups
-unknown_changed q f dups is = unknown_changed_from q f dups (unknown_found q dups is)

@@ -11,7 +11,8 @@ use Rattle.ksm_base.proofs.RowCounts.{filter_all}
 use Rattle.ksm_base.proofs.Edits.{find_nothing, find_none}
 use Rattle.ksm_tree.specs.declared.dup.Dup.{Dup}
 use Rattle.ksm_tree.specs.declared.index.Index.{Index}
-use Rattle.ksm_tree.specs.Dups.{AreDups, rows_of, dup_at, with_new}
+use Rattle.ksm_tree.specs.Dups.{AreDups, DupsState, rows_of, dup_at, with_new}
+use Rattle.ksm_tree.specs.Groups.{SameWaits}
 use Rattle.ksm_tree.specs.Index.{AreIndexed, dups_seen, in_group, place_of, places_of, row_place, group_places}
 use Rattle.ksm_tree.specs.Places.{with_place, without}
 use Rattle.ksm_tree.specs.Slots.{SlotsState}
@@ -38,7 +39,7 @@ module _ (s : SlotsState) (next : ℕ) (index new : Index) (dup : Dup) (h : AreI
   fresh : All (λ r. r.number < dup.row.number) (rows_of s.dups)
   fresh = rw number h.lawful.numbers_below
 
-  lawful_new : AreDups (dups_seen (record { places = s.places; dups = with_new dup s.dups }) (next + 1))
+  lawful_new : AreDups (dups_seen (record { places = s.places; dups = with_new dup s.dups }) (next + 1) new)
   lawful_new =
       let rows = rows_of s.dups in
       let is = rows_new dup s.dups in
@@ -207,6 +208,13 @@ module _ (s : SlotsState) (next : ℕ) (index new : Index) (dup : Dup) (h : AreI
             ∙ ap (row_place q) (sym (rows_new dup s.dups));
         grouped = λ t b. grouped t b ∙ ap (group_places t b) (sym (rows_new dup s.dups));
       }
+
+-- what callers see once a dup is made
+pub seen_made : (s : SlotsState) (next : ℕ) (index new : Index) (dup : ℕ → Dup) (old : DupsState) → dups_seen s next index ≡ old → SameWaits index.groups new.groups
+    → dups_seen (record { places = s.places; dups = with_new (dup next) s.dups }) (next + 1) new ≡ record old { dups = with_new (dup old.next) old.dups; next = old.next + 1 }
+seen_made s next index new dup old view same =
+    (λ i. record { places = s.places; dups = with_new (dup next) s.dups; next = next + 1; waiting = same.waiting i; numbers = same.numbers i })
+    ∙ ap {A = DupsState} {B = DupsState} (λ o. record o { dups = with_new (dup o.next) o.dups; next = o.next + 1 }) view
 
 -- the next number is that of no dup
 pub next_unused : (s : SlotsState) (next : ℕ) (index : Index) → AreIndexed s next index → place_of next index ≡ None

@@ -1,8 +1,8 @@
 -- Places in order: what an insert or a removal where a search ends leaves.
-use Rattle.std.proofs.Common.{◌≡◌, ◌∙◌, ℕ, ◌-◌, ◌<◌, List, true, false, length, get_or, sym, ap, arith}
+use Rattle.std.proofs.Common.{◌≡◌, ◌∙◌, ℕ, ◌-◌, ◌<◌, List, true, false, length, get_or, sym, ap, inl, inr, arith}
 use Rattle.std.specs.Prelude.{◌==◌, nat_lt, filter, insert, remove, slice_get, AllPairs, Some, Result, Ok, Err, IsOk, OnOk, OnErr}
 use Rattle.std.specs.List.{list_any}
-use Rattle.std.proofs.lemmas.Bool.{false≢true}
+use Rattle.std.proofs.lemmas.Bool.{cases_lt, false≢true}
 use Rattle.std.proofs.lemmas.Bool.Decides.{nat_tests}
 use Rattle.std.proofs.lemmas.Option.{get_or_from_slice_get, slice_get_within}
 use Rattle.ksm_rmap.proofs.Ordered.{IsOrder, insert_at, with_found, remove_at, absent_kept, point_is_count}
@@ -39,6 +39,19 @@ last_counted place places rise last =
     point_is_count (λ p. nat_lt p place) places at (omega arith)
     (λ k d low below. ap (nat_lt (get_or places k d)) (sym (stands d)) ∙ rise k at d below within)
     (λ k d from below. let here : k ≡ at = omega arith in let is = stands d in rw here (grind (arith, nat_tests, is)))
+
+-- where the last place comes before this one, all do
+pub all_counted : (place last : ℕ) (places : List ℕ) → AllPairs (λ p q. nat_lt p q ≡ true) places → slice_get places (length places - 1) ≡ Some last → last < place → length places ≡ length (filter (λ p. nat_lt p place) places)
+all_counted place last places rise is before =
+    let at = length places - 1 in
+    let within : at < length places = slice_get_within places at last is in
+    let stands : (d : ℕ) → get_or places at d ≡ last = λ d. get_or_from_slice_get places at last d is in
+    point_is_count (λ p. nat_lt p place) places (length places) (omega arith)
+    (λ k d low below. let end = stands d in elim (cases_lt k at) [
+      | inl earlier ↦ let less = rise k at d earlier within in grind (arith, nat_tests, end, less)
+      | inr later ↦ let here : k ≡ at = omega arith in rw here (grind (arith, nat_tests, end))
+    ])
+    (λ k d from below. absurd (omega arith))
 
 module _ (place : ℕ) (places : List ℕ) (rise : AllPairs (λ p q. nat_lt p q ≡ true) places) (at : ℕ) (count : at ≡ length (filter (λ p. nat_lt p place) places)) where
   -- a place that was not in the list is inserted where the search for it ended

@@ -118,7 +118,10 @@ fn place_in(places: &[u32], place: u32) -> usize
     let Some(last) = places.last() else {
         return 0;
     };
-    // Mostly the last place is the one looked for, so it is tried before the search.
+    // Mostly the place comes behind all, or is the last one, so that is tried before the search.
+    if *last < place {
+        return places.len();
+    }
     if *last == place {
         return places.len() - 1;
     }

@@ -3,7 +3,7 @@ use Rattle.std.proofs.Common.{◌∙◌, sym, ap}
 use Rattle.std.specs.Prelude.{◌==◌, nat_lt, option_copied, Some}
 use Rattle.std.proofs.lemmas.List.Sorted.{IsPartitionPoint-from_clause}
 use Rattle.ksm_rmap.proofs.Ordered.{parted, point_is_count}
-use Rattle.ksm_tree.proofs.Numbers.{last_counted, places_ordered}
+use Rattle.ksm_tree.proofs.Numbers.{all_counted, last_counted, places_ordered}
 use Rattle.ksm_tree.proofs.places.place_in.Goals as goal
 
 pub returns-clause-count : goal.returns-clause-count
@@ -16,4 +16,8 @@ returns-clause-count c =
 
 pub returns-then-last-place-clause-count : goal.returns-then-last-place-clause-count
 returns-then-last-place-clause-count c =
-    last_counted c.args.place c.args.places.now c.requires (sym c.last.ensures.value ∙ ap option_copied c.in-Some.is ∙ ap Some c.if-last-place.true)
+    all_counted c.args.place c.in-Some.last.now c.args.places.now c.requires (sym c.last.ensures.value ∙ ap option_copied c.in-Some.is) c.if-last-place.true
+
+pub returns-then-last-place-2-clause-count : goal.returns-then-last-place-2-clause-count
+returns-then-last-place-2-clause-count c =
+    last_counted c.args.place c.args.places.now c.requires (sym c.last.ensures.value ∙ ap option_copied c.in-Some.is ∙ ap Some c.if-last-place-2.true)

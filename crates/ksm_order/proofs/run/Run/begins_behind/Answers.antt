@@ -3,7 +3,7 @@ use Rattle.std.specs.Prelude.{not}
 use Rattle.ksm_base.specs.Rows.{comes_before}
 use Rattle.ksm_order.specs.declared.named.Named.{Named}
 use Rattle.ksm_order.specs.Ordered.{begins_behind}
-use Rattle.ksm_order.proofs.Runs.{begins_empty, begins_filled}
+use Rattle.ksm_order.proofs.Between.{begins_empty, begins_filled}
 use Rattle.ksm_order.proofs.run.Run.begins_behind.Goals as goal
 
 pub returns-then-not-is_empty : goal.returns-then-not-is_empty

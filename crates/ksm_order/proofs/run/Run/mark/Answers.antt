@@ -1,11 +1,11 @@
-use Rattle.std.proofs.Common.{◌≡◌, ◌∙◌, ℕ, ◌<◌, Bool, true, List, refl, get_or, is_some, length, sym, ap}
+use Rattle.std.proofs.Common.{◌≡◌, ◌∙◌, ℕ, ◌<◌, Bool, true, List, Some, refl, get_or, is_some, length, sym, ap}
 use Rattle.std.specs.Prelude.{filter, find, set}
 use Rattle.std.specs.Int.{from_bool}
 use Rattle.ksm_base.specs.declared.page.GuestPage.{GuestPage}
 use Rattle.ksm_base.specs.Rows.{comes_before, same_page}
 use Rattle.ksm_order.specs.declared.named.Named.{Named}
 use Rattle.ksm_order.specs.Ordered.{AreAscending, is_of, marked}
-use Rattle.ksm_order.proofs.Keyed.{absent_unchanged, count_changed, none_of, write_at, write_rises}
+use Rattle.ksm_order.proofs.Keyed.{absent_unchanged, count_changed, found_at, none_of, write_at, write_rises}
 use Rattle.ksm_order.proofs.run.Run.mark.Goals as goal
 
 -- the page is changed where it stands
@@ -31,8 +31,8 @@ invariant_of-self c =
           count_changed (λ (n : Named). n.mergeable) pages at (record named { mergeable = c.args.mergeable }) named c.self.inside.mergeable c.from.result c.from-then-found.result within c.self.invariant.counted taken c.from-then-found.ensures;
     }
 
-pub returns-then-found : goal.returns-then-found
-returns-then-found c =
+pub returns-then-found-clause-marked : goal.returns-then-found-clause-marked
+returns-then-found-clause-marked c =
     let pages = c.self.inside.pages.items in
     let named = c.index-named.result.now in
     let at = c.place_of-at.result in
@@ -41,7 +41,20 @@ returns-then-found c =
     let here : same_page (get_or pages at named).page c.args.page ≡ true = rw (← c.as_slice-2.ensures.value) (c.if-found.ensures.here refl named) in
     rw (← c.self.view_is) (written pages c.args.page c.args.mergeable at named c.self.invariant.ascending place within c.index-named.ensures here)
 
-pub returns-else-found : goal.returns-else-found
-returns-else-found c =
+pub returns-else-found-clause-marked : goal.returns-else-found-clause-marked
+returns-else-found-clause-marked c =
     let seen = c.as_slice-2.ensures.value ∙ c.self.view_is in
     absent_unchanged (λ n. n.page) c.args.page (λ (n : Named). record n { mergeable = c.args.mergeable }) c.args.self.now (none_of (find (is_of c.args.page) c.args.self.now) (ap (λ ps. is_some (find (is_of c.args.page) ps)) (sym seen) ∙ sym c.if-found.ensures.found))
+
+pub returns-then-found-clause-was : goal.returns-then-found-clause-was
+returns-then-found-clause-was c =
+    let pages = c.self.inside.pages.items in
+    let named = c.index-named.result.now in
+    let at = c.place_of-at.result in
+    let place = c.place_of-at.ensures.count ∙ ap (λ ps. length (filter (λ n. comes_before n.page c.args.page) ps)) c.as_slice.ensures.value in
+    let within : at < length pages = rw (← c.as_slice-2.ensures.value) (c.if-found.ensures.within refl) in
+    let here : same_page (get_or pages at named).page c.args.page ≡ true = rw (← c.as_slice-2.ensures.value) (c.if-found.ensures.here refl named) in
+    ap Some c.index-named.ensures
+    ∙ ap (λ n. Some (get_or pages n named)) place
+    ∙ sym (found_at (λ (n : Named). n.page) c.args.page pages named c.self.invariant.ascending (rw (← place) within) (rw (← place) here))
+    ∙ ap (find (is_of c.args.page)) c.self.view_is

@@ -1,10 +1,10 @@
-use Rattle.std.proofs.Common.{◌≡◌, ◌∙◌, ◌<◌, false, true, refl, get_or, is_some, length, sym, ap}
+use Rattle.std.proofs.Common.{◌≡◌, ◌∙◌, ◌<◌, Some, false, true, refl, get_or, is_some, length, sym, ap}
 use Rattle.std.specs.Prelude.{count_by, filter, find, remove}
 use Rattle.std.specs.Int.{from_bool}
 use Rattle.ksm_base.specs.Rows.{comes_before, same_page}
 use Rattle.ksm_order.specs.declared.named.Named.{Named}
 use Rattle.ksm_order.specs.Ordered.{is_of, without_named}
-use Rattle.ksm_order.proofs.Keyed.{count_removed, remove_at, absent_kept, none_of, without_rises}
+use Rattle.ksm_order.proofs.Keyed.{count_removed, found_at, remove_at, absent_kept, none_of, without_rises}
 use Rattle.ksm_order.proofs.run.Run.remove.Goals as goal
 
 -- the page is taken out behind those before it
@@ -31,10 +31,23 @@ invariant_of-self c = record {
       ∙ ap (count_by (λ n. n.mergeable)) (sym c.remove-gone.ensures.items);
 }
 
-pub returns-then-found : goal.returns-then-found
-returns-then-found c = rw (← c.self.view_is) (removed c)
+pub returns-then-found-clause-removed : goal.returns-then-found-clause-removed
+returns-then-found-clause-removed c = rw (← c.self.view_is) (removed c)
 
-pub returns-else-found : goal.returns-else-found
-returns-else-found c =
+pub returns-else-found-clause-removed : goal.returns-else-found-clause-removed
+returns-else-found-clause-removed c =
     let seen = c.as_slice-2.ensures.value ∙ c.self.view_is in
     absent_kept (λ n. n.page) c.args.page c.args.self.now (none_of (find (is_of c.args.page) c.args.self.now) (ap (λ ps. is_some (find (is_of c.args.page) ps)) (sym seen) ∙ sym c.if-found.ensures.found))
+
+pub returns-then-found-clause-was : goal.returns-then-found-clause-was
+returns-then-found-clause-was c =
+    let pages = c.self.inside.pages.items in
+    let gone = c.remove-gone.result in
+    let at = c.place_of-at.result in
+    let place = c.place_of-at.ensures.count ∙ ap (λ ps. length (filter (λ n. comes_before n.page c.args.page) ps)) c.as_slice.ensures.value in
+    let within : at < length pages = rw (← c.as_slice-2.ensures.value) (c.if-found.ensures.within refl) in
+    let here : same_page (get_or pages at gone).page c.args.page ≡ true = rw (← c.as_slice-2.ensures.value) (c.if-found.ensures.here refl gone) in
+    ap Some c.remove-gone.ensures.value
+    ∙ ap (λ n. Some (get_or pages n gone)) place
+    ∙ sym (found_at (λ (n : Named). n.page) c.args.page pages gone c.self.invariant.ascending (rw (← place) within) (rw (← place) here))
+    ∙ ap (find (is_of c.args.page)) c.self.view_is

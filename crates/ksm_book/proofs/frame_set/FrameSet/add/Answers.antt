@@ -1,0 +1,20 @@
+use Rattle.std.proofs.Common.{◌/◌, ◌%◌, ◌∙◌, ap, rules, arith, w64}
+use Rattle.std.specs.Prelude.{◌==◌}
+use Rattle.std.specs.Int.{bit_at}
+use Rattle.std.proofs.lemmas.List.{get_or_default}
+use Rattle.std.proofs.lemmas.Nat.Bits.{bit_at_set_same, bit_at_set_other}
+use Rattle.ksm_book.proofs.FrameBits.{put_same, put_other}
+use Rattle.ksm_book.proofs.frame_set.FrameSet.add.Goals as goal
+
+pub returns-clause-here : goal.returns-clause-here
+returns-clause-here c =
+    put_same c.self.inside.words.items c.args.frame _ (search rules)
+    ∙ ap (λ b. b == 1) (bit_at_set_same w64 c.index_mut.result.now (c.args.frame % 64) (omega arith))
+
+pub returns-clause-others : goal.returns-clause-others
+returns-clause-others c f apart =
+    put_other c.self.inside.words.items c.args.frame _ (search rules)
+    (λ i low other. bit_at_set_other w64 _ (c.args.frame % 64) (omega arith) i other
+    ∙ ap (λ n. bit_at n i) (c.index_mut.ensures.value ∙ get_or_default c.self.inside.words.items (c.args.frame / 64) c.index_mut.result.now 0
+    (search rules)))
+    f apart ∙ search rules

@@ -1,0 +1,10 @@
+use Rattle.std.proofs.Common.{◌≡◌, take}
+use Rattle.frame_core.specs.Ledger.{frame_at}
+use Rattle.ksm_book.specs.Steps.{puts, stepped}
+use Rattle.ksm_book.proofs.frames.write.Given as goal
+
+abbrev pub invariant-loop-i : goal.invariant-loop-i
+invariant-loop-i l = record {
+  wrote : l.keeper ≡ stepped l.fn.keeper (puts l.frame 0 (take l.i l.bytes));
+  kind : (frame_at l.keeper.ledger l.frame).kind ≡ (frame_at l.fn.keeper.ledger l.frame).kind;
+}

@@ -1,0 +1,11 @@
+use Rattle.std.proofs.Common.{sym, ap, ◌∙◌, subst}
+use Rattle.ksm_book.specs.Folded.{pages_ahead}
+use Rattle.ksm_book.specs.Scanned.{EndsAt}
+use Rattle.ksm_book.specs.Whole.{BookValue}
+use Rattle.ksm_book.proofs.Listed.{ahead_ends}
+use Rattle.ksm_book.proofs.state.State.ahead.Goals as goal
+
+pub returns : goal.returns
+returns c =
+    subst (λ (v : BookValue). EndsAt (pages_ahead v.state) c.args.visits c.ahead.result) c.self.view_is
+    (ahead_ends c.self.inside.cursor c.self.inside.pages.rows c.args.visits c.ahead.result c.ahead.ensures)

@@ -1,0 +1,19 @@
+use Rattle.std.proofs.Common.{sym, ap, ◌∙◌, length, refl, arith}
+use Rattle.std.specs.Prelude.{not}
+use Rattle.std.proofs.lemmas.List.Sums.{length-filter, count_by-le-length}
+use Rattle.ksm_base.specs.Visit.{after_cursor}
+use Rattle.ksm_base.specs.declared.page.GuestPage.{GuestPage}
+use Rattle.ksm_base.proofs.RowCounts.{filter_all}
+use Rattle.ksm_book.specs.Scanned.{up_to}
+use Rattle.ksm_book.proofs.state.State.listed_to.Goals as goal
+
+pub returns-in-Some-clause-within : goal.returns-in-Some-clause-within
+returns-in-Some-clause-within c =
+    let low = λ (p : GuestPage). not (after_cursor c.args.last p) in
+    let pages = c.args.self.now.restless.pages in
+    omega (arith, c.listed_up_to.ensures, length-filter low pages, count_by-le-length low pages)
+
+pub returns-in-None-clause-many : goal.returns-in-None-clause-many
+returns-in-None-clause-many c =
+    let pages = c.args.self.now.restless.pages in
+    c.listed_len.ensures ∙ ap length (sym (filter_all (up_to c.args.last) pages (λ k d lt. rw c.in-None.is refl)))

@@ -1,0 +1,11 @@
+use Rattle.std.proofs.Common.{sym, ap, ◌∙◌, filter, subst}
+use Rattle.ksm_base.specs.Rows.{comes_before}
+use Rattle.ksm_base.specs.State.{BookState}
+use Rattle.ksm_book.specs.Folded.{last_of, pages_ahead}
+use Rattle.ksm_book.specs.Scanned.{Reached}
+use Rattle.ksm_book.proofs.state.State.stop_at.Goals as goal
+
+pub returns-clause-comes : goal.returns-clause-comes
+returns-clause-comes c = λ from s before.
+    subst (λ o. Reached from c.set_cursor.new.self (record s.0 { cursor = o }, s.1))
+    (c.between.ensures.last ∙ ap (λ (b : BookState). last_of b.cursor (filter (λ p. comes_before p c.args.page) (pages_ahead b))) before.0) (c.set_cursor.ensures.comes from s before)

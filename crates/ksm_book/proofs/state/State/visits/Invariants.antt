@@ -1,0 +1,11 @@
+use Rattle.std.proofs.Common.{◌≡◌, true, ◌≤◌, ◌-◌}
+use Rattle.ksm_book.specs.Folded.{visits_beside}
+use Rattle.ksm_book.specs.Scanned.{Comes, doing}
+use Rattle.ksm_book.proofs.state.State.visits.Given as goal
+
+abbrev pub invariant-loop-done : goal.invariant-loop-done
+invariant-loop-done l =
+    (l.done ≤ l.count) × (l.self.restless.known ≡ true) × Comes l.fn.self l.self (visits_beside doing l.done) × (l.self.keeper.table ≡ l.fn.self.keeper.table)
+
+abbrev pub decreases-loop-done : goal.decreases-loop-done
+decreases-loop-done l = l.count - l.done

@@ -1,0 +1,225 @@
+-- What is read of the pages: rows and dups found by their pages, places and numbers.
+use Rattle.std.proofs.Common.{◌≡◌, ℕ, ◌+◌, ◌<◌, ◌-◌, Bool, true, false, true≢false, List, [], ◌∷◌, Option, None, Some, length, get_or, map, unwrap_or, refl, sym, ap, ap₂, subst, ◌∙◌, inl, inr, arith}
+use Rattle.std.specs.Prelude.{◌==◌, ◌&&◌, All, Contains, cond, filter, find, is_some, option_map, slice_get}
+use Rattle.std.specs.Option.{option_and_then, is_none}
+use Rattle.std.specs.List.{list_any}
+use Rattle.std.proofs.lemmas.Bool.{cases_Bool, eq-eqb, eqb-true}
+use Rattle.std.proofs.lemmas.Option.{same_Some, slice_get-get_or, slice_get-map, unwrap_or-slice_get}
+use Rattle.std.proofs.lemmas.List.{length-map}
+use Rattle.std.proofs.lemmas.Map.Views.{Contains-from_any}
+use Rattle.std.proofs.lemmas.List.Elements.{All-cons}
+use Rattle.ksm_base.specs.declared.page.GuestPage.{GuestPage}
+use Rattle.ksm_base.specs.declared.row.PageState.{PageState}
+use Rattle.ksm_base.specs.declared.row.PageState.TheVariants.{Private, Waiting, Merged, Zero}
+use Rattle.ksm_base.specs.declared.row.Row.{Row}
+use Rattle.ksm_base.specs.declared.row.DupRow.{DupRow}
+use Rattle.ksm_base.specs.declared.knobs.Knobs.{Knobs}
+use Rattle.ksm_base.specs.Reading.{items_of}
+use Rattle.ksm_base.specs.Rows.{InPageOrder, InPlaceOrder, comes_before, dup_numbered, has_items, is_stale as is_stale_row, merged_into, row_at, same_page, shared_state, waiting_state}
+use Rattle.ksm_base.proofs.Edits.{find_all}
+use Rattle.ksm_base.proofs.Orders.{pairs_head, pairs_tail}
+use Rattle.ksm_base.proofs.Pages.{same_page_eq}
+use Rattle.ksm_tree.specs.declared.dup.Dup.{Dup}
+use Rattle.ksm_tree.specs.Bridge.{AreTied}
+use Rattle.ksm_tree.specs.Dups.{AreDups, DupsState, dup_at, dup_of, has_number, is_live, is_stale, items_in, rows_of as dup_rows, stands_at}
+use Rattle.ksm_tree.specs.Waits.{AreWaiting, WaitingPage, waits_there}
+use Rattle.ksm_tree.proofs.Bridge.{live_placed, stale_alike}
+use Rattle.ksm_tree.proofs.Changes.{row_found as dup_row_found}
+use Rattle.ksm_tree.proofs.Indexed.{found_passing, passing, stands_numbered}
+use Rattle.ksm_tree.proofs.Rows.{Comes, found_in}
+use Rattle.ksm_tree.proofs.Tied.{tied_counted}
+use Rattle.ksm_order.specs.declared.row.Kind.{Kind}
+use Rattle.ksm_order.specs.declared.row.Kind.TheVariants as kinds
+use Rattle.ksm_order.specs.declared.ahead.Ahead.{Ahead}
+use Rattle.ksm_order.specs.declared.ahead.Ahead.TheVariants.{At, End}
+use Rattle.ksm_order.specs.Held.{AreAllListed, Held, Reaches, frame_of, held_at, last_or, pages_ahead, rows_of, state_of}
+use Rattle.ksm_order.specs.Paged.{ComesTo, frame_of as lies_at, frame_seen, is_restless, last_page, lodging, lodgings_of, rows_ahead, rows_between}
+use Rattle.ksm_order.proofs.Alike.{filter_mapped}
+use Rattle.ksm_order.proofs.Changing.{row_found}
+use Rattle.ksm_order.proofs.Found.{each_found}
+use Rattle.ksm_order.proofs.Lodgings.{frame_by, seat}
+
+-- ---------------------------------------------------------------- options
+
+-- an option that is mapped twice
+pub mapped_twice : {X Y Z : Type 0} (f : Y → Z) (g : X → Y) (o : Option X) → option_map f (option_map g o) ≡ option_map (λ x. f (g x)) o
+mapped_twice f g None = refl
+mapped_twice f g (Some x) = refl
+
+some_mapped : {X Y : Type 0} (f : X → Y) (o : Option X) → is_some (option_map f o) ≡ is_some o
+some_mapped f None = refl
+some_mapped f (Some x) = refl
+
+-- ---------------------------------------------------------------- rows
+
+-- a page has a row where what is kept of one is found
+pub row_known : (page : GuestPage) (held : List Held) → is_some (held_at page held) ≡ is_some (row_at page (rows_of held))
+row_known page held = sym (some_mapped (λ (h : Held). h.row) (held_at page held)) ∙ ap is_some (sym (row_found page held))
+
+-- a row is merged or Zero where it has no frame of its own
+pub shared_by : (kind : Kind) (number pass at : ℕ) → is_none (frame_of kind at) ≡ shared_state (state_of kind number pass)
+shared_by kinds.Own number pass at = elim (cases_Bool (number == pass)) [
+  | inl yes_it ↦ let e = yes_it in grind (arith, e)
+  | inr not_it ↦ let e = not_it in grind (arith, e)
+]
+shared_by kinds.Merged number pass at = refl
+shared_by kinds.Zero number pass at = refl
+
+-- where no row waits, the knobs do not matter
+pub knobs_free : (knobs tuned : Knobs) (rows : List Row) (w : List WaitingPage) → AreWaiting knobs rows w → All (λ r. waiting_state r.state ≡ false) rows → AreWaiting tuned rows w
+knobs_free knobs tuned rows w are still t b q = are t b q ∙ go (row_at q rows) refl
+  where
+    go : (o : Option Row) → row_at q rows ≡ o → waits_there knobs t b o ≡ waits_there tuned t b o
+    go None found = refl
+    go (Some r) found =
+        let alone = find_all (λ s. same_page s.page q) (λ s. waiting_state s.state ≡ false) rows r found still in
+        grind (arith, alone)
+
+-- ---------------------------------------------------------------- dups
+
+-- the place of the dup with a number
+pub place_numbered : (number : ℕ) (dups : List Dup) → option_map (λ d. d.row.place) (dup_of number dups) ≡ option_map (λ d. d.place) (dup_numbered number (dup_rows dups))
+place_numbered number dups =
+    sym (mapped_twice (λ (d : DupRow). d.place) (λ (d : Dup). d.row) (dup_of number dups))
+    ∙ ap (option_map (λ (d : DupRow). d.place)) (dup_row_found (has_number number) (λ r. r.number == number) (λ d. refl) dups)
+
+-- a dup that stands at a place with a number is the one with that number
+pub place_guessed : (guess number : ℕ) (dups : List Dup) → InPlaceOrder (dup_rows dups) → option_map (λ d. d.row.number) (dup_at guess dups) ≡ Some number → Some guess ≡ option_map (λ d. d.place) (dup_numbered number (dup_rows dups))
+place_guessed guess number dups rise is = go (dup_at guess dups) refl is ∙ place_numbered number dups
+  where
+    go : (o : Option Dup) → dup_at guess dups ≡ o → option_map (λ d. d.row.number) o ≡ Some number → Some guess ≡ option_map (λ d. d.row.place) (dup_of number dups)
+    go None there none = absurd (grind (arith, none))
+    go (Some d) there has = stands_numbered guess number dups d rise there (same_Some d.row.number number has)
+
+-- a dup is found at a place exactly where a row stands there
+pub any_at : (place : ℕ) (dups : List Dup) → is_some (option_map (λ d. d.row.number) (dup_at place dups)) ≡ list_any (λ d. d.place == place) (dup_rows dups)
+any_at place [] = refl
+any_at place (d ∷ dups) =
+    let rest = any_at place dups in
+    elim (cases_Bool (d.row.place == place)) [
+      | inl here ↦ grind (arith, here, rest)
+      | inr away ↦ grind (arith, away, rest)
+    ]
+
+-- the first stale dup by its items is the first by the rows
+pub stale_at : (rows : List Row) (dups : List Dup) → AreTied rows dups → option_map (λ d. d.row.place) (find is_stale dups) ≡ option_map (λ (r : DupRow). r.place) (find (is_stale_row rows) (dup_rows dups))
+stale_at rows dups tied =
+    sym (mapped_twice (λ (d : DupRow). d.place) (λ (d : Dup). d.row) (find is_stale dups))
+    ∙ ap (option_map (λ (r : DupRow). r.place)) (stale_alike rows dups (tied_counted rows dups tied))
+
+-- ---------------------------------------------------------------- frames
+
+-- what is kept at the place of a dup
+pub kept_at_place : (frames : List ℕ) (o : Option DupRow) → option_and_then (slice_get frames) (option_map (λ d. d.place) o) ≡ option_and_then (λ d. slice_get frames d.place) o
+kept_at_place frames None = refl
+kept_at_place frames (Some d) = refl
+
+-- ---------------------------------------------------------------- the row of a page
+
+-- what is kept of a page tells its row
+pub row_told : (page : GuestPage) (held : List Held) (h : Held) → held_at page held ≡ Some h → row_at page (rows_of held) ≡ Some h.row
+row_told page held h is = row_found page held ∙ ap (option_map (λ (g : Held). g.row)) is
+
+-- and where nothing is kept of it, it has none
+pub row_gone : (page : GuestPage) (held : List Held) → held_at page held ≡ None → row_at page (rows_of held) ≡ None
+row_gone page held is = row_found page held ∙ ap (option_map (λ (g : Held). g.row)) is
+
+pub none_known : {X : Type 0} (o : Option X) → false ≡ is_some o → o ≡ None
+none_known None is = refl
+none_known (Some x) is = absurd (true≢false (sym is))
+
+-- a page without a row lies on no frame
+pub lies_nowhere : (of_dup : ℕ → Option ℕ) (held : List Held) (page : GuestPage) → row_at page (rows_of held) ≡ None → lies_at (lodgings_of of_dup held) page ≡ None
+lies_nowhere of_dup held page gone = frame_by of_dup held page ∙ go (held_at page held) (sym (row_found page held) ∙ gone)
+  where
+    go : (o : Option Held) → option_map (λ (g : Held). g.row) o ≡ None → seat of_dup o ≡ None
+    go None is = refl
+    go (Some h) is = absurd (grind (arith, is))
+
+-- pages that are listed, as the callers say it
+pub listed_pages : (rows : List Row) (pages : List GuestPage) → AreAllListed rows pages → All (λ r. is_restless r ≡ true → Contains pages r.page) rows
+listed_pages rows pages all k d lt may = Contains-from_any {eq = λ q p. same_page p q} (λ p q same. sym (same_page_eq q p same)) (get_or rows k d).page pages (all k d lt may)
+
+-- ---------------------------------------------------------------- the dups at their places
+
+-- a dup is found by its number
+numbers_found : (dups : List DupRow) → InPlaceOrder dups → All (λ d. dup_numbered d.number dups ≡ Some d) dups
+numbers_found [] rise = λ k d lt. absurd (omega (arith, lt))
+numbers_found (x ∷ xs) rise =
+    All-cons (λ z. dup_numbered z.number (x ∷ xs) ≡ Some z) x xs
+    (ap (λ b. cond b (Some x) (dup_numbered x.number xs)) (eq-eqb x.number x.number refl))
+    (λ k d lt.
+    let z = get_or xs k d in
+    ap (λ b. cond b (Some x) (dup_numbered z.number xs)) ((pairs_head Comes x xs rise k d lt).1)
+    ∙ numbers_found xs (pairs_tail Comes x xs rise) k d lt)
+
+merged_is : (number : ℕ) (state : PageState) → merged_into number state ≡ true → state ≡ Merged number
+merged_is number Private no_it = absurd (true≢false (sym no_it))
+merged_is number Waiting no_it = absurd (true≢false (sym no_it))
+merged_is number (Merged n) is = ap Merged (eqb-true n number is)
+merged_is number Zero no_it = absurd (true≢false (sym no_it))
+
+-- the items of a dup lie on the frame that is kept at its place
+pub items_lodge : (held : List Held) (s : DupsState) (frames : List ℕ) → InPageOrder (rows_of held) → AreDups s → s.places ≡ length frames → (place : ℕ) (frame : ℕ) → frame ≡ unwrap_or (slice_get frames place) 0
+    → All (λ d. d.place ≡ place → All (λ r. merged_into d.number r.state ≡ true → lies_at (lodgings_of (lodging (dup_rows s.dups) frames) held) r.page ≡ Some frame) (rows_of held)) (dup_rows s.dups)
+items_lodge held s frames rise lawful as_many place frame is k e lt at i f lt_row merged =
+    let of_dup = lodging (dup_rows s.dups) frames in
+    let d = get_or (dup_rows s.dups) k e in
+    let r = get_or (rows_of held) i f in
+    let there : row_at r.page (rows_of held) ≡ Some r = each_found (λ (x : Row). x.page) (rows_of held) rise i f lt_row in
+    let lodges : of_dup d.number ≡ Some frame =
+        ap (option_and_then (λ (x : DupRow). slice_get frames x.place)) (numbers_found (dup_rows s.dups) lawful.in_place_order k e lt)
+        ∙ ap (slice_get frames) at
+        ∙ within place (let below = lawful.places_below k e lt in omega (arith, below, at, as_many))
+        ∙ ap Some (sym is) in
+    frame_by of_dup held r.page ∙ go of_dup d.number r merged (held_at r.page held) (sym (row_found r.page held) ∙ there) ∙ lodges
+  where
+    within : (p : ℕ) → p < length frames → slice_get frames p ≡ Some (unwrap_or (slice_get frames p) 0)
+    within p lt = slice_get-get_or frames p 0 lt ∙ ap Some (sym (unwrap_or-slice_get frames p 0))
+
+    go : (of_dup : ℕ → Option ℕ) (number : ℕ) (r : Row) → merged_into number r.state ≡ true → (o : Option Held) → option_map (λ (g : Held). g.row) o ≡ Some r → seat of_dup o ≡ of_dup number
+    go of_dup number r merged None no_it = absurd (grind (arith, no_it))
+    go of_dup number r merged (Some h) is = ap (λ state. frame_seen of_dup state h.frame) (ap (λ (x : Row). x.state) (same_Some h.row r is) ∙ merged_is number r.state merged)
+
+module _ (rows : List Row) (dups : List Dup) (place : ℕ) (tied : AreTied rows dups) where
+  -- no dup with items stands at a place where none is found
+  pub items_none : None ≡ option_map (λ (d : Dup). d.row) (find (λ d. stands_at place d && is_live d) dups) → find (λ d. d.place == place && has_items rows d) (dup_rows dups) ≡ None
+  items_none is = sym (live_placed rows place dups (tied_counted rows dups tied)) ∙ sym is
+
+  -- the items of the dup at a place are the pages of the rows merged into it
+  pub items_there : (row : DupRow) → InPlaceOrder (dup_rows dups) → Some row ≡ option_map (λ (d : Dup). d.row) (find (λ d. stands_at place d && is_live d) dups)
+      → option_map (items_of rows) (find (λ d. d.place == place && has_items rows d) (dup_rows dups)) ≡ Some (items_in (dup_at place dups))
+  items_there row rise is =
+      ap (option_map (items_of rows)) (sym (live_placed rows place dups (tied_counted rows dups tied)))
+      ∙ go (dup_at place dups) refl (is ∙ ap (option_map (λ (d : Dup). d.row)) (found_passing place is_live dups rise))
+    where
+      go : (o : Option Dup) → dup_at place dups ≡ o → Some row ≡ option_map (λ (d : Dup). d.row) (passing is_live o)
+          → option_map (items_of rows) (option_map (λ (d : Dup). d.row) (find (λ d. stands_at place d && is_live d) dups)) ≡ Some (items_in (dup_at place dups))
+      go None there no_it = absurd (grind (arith, no_it))
+      go (Some d) there one = elim (cases_Bool (is_live d)) [
+        | inl live ↦
+            ap (λ o. option_map (items_of rows) (option_map (λ (d : Dup). d.row) o)) (found_passing place is_live dups rise ∙ ap (passing is_live) there ∙ ap (λ b. cond b (Some d) None) live)
+            ∙ ap Some (sym (found_in (λ e. e.items ≡ items_of rows e.row) (stands_at place) dups d tied there))
+            ∙ ap (λ o. Some (items_in o)) (sym there)
+        | inr stale ↦ absurd (grind (arith, one, stale))
+      ]
+
+-- ---------------------------------------------------------------- the scan's way
+
+abbrev page_of : Row → GuestPage
+page_of r = r.page
+
+-- visits that come to a page are visits of rows that come to it
+pub comes : (rows : List Row) (visits : ℕ) (to : Ahead) → Reaches (map page_of rows) visits to → ComesTo rows visits to
+comes rows visits (At page) is = (subst (λ n. visits < n) (length-map rows page_of) is.0, sym (slice_get-map page_of rows (visits - 1)) ∙ is.1)
+comes rows visits (End made) is = (is.0 ∙ length-map rows page_of, is.1)
+
+-- the pages behind a cursor and before a page are those of the rows there
+pub passed : (cursor : Option GuestPage) (page : GuestPage) (rows : List Row) → filter (λ p. comes_before p page) (pages_ahead cursor rows) ≡ map page_of (rows_between cursor page rows)
+passed cursor page rows = filter_mapped page_of (λ p. comes_before p page) (λ r. comes_before r.page page) (rows_ahead cursor rows) (λ k d lt. refl)
+
+-- the last of the pages is that of the last row
+pub last_is : (cursor : Option GuestPage) (rows : List Row) → last_or cursor (map page_of rows) ≡ last_page cursor rows
+last_is cursor [] = refl
+last_is cursor (r ∷ []) = refl
+last_is cursor (r ∷ s ∷ rows) = last_is cursor (s ∷ rows)

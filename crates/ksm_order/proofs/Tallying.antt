@@ -1,0 +1,78 @@
+-- The tally of rows once one came, went or changed.
+use Rattle.std.proofs.Common.{◌≡◌, ℕ, ◌+◌, ◌<◌, ◌≤◌, ◌^◌, Bool, List, length, Some, None, refl, ap, arith}
+use Rattle.std.specs.Prelude.{count_by, if◌then◌else◌}
+use Rattle.std.proofs.lemmas.List.{length-map}
+use Rattle.std.proofs.lemmas.List.Sums.{count_by-le-length}
+use Rattle.ksm_base.specs.declared.page.GuestPage.{GuestPage}
+use Rattle.ksm_base.specs.declared.row.PageState.TheVariants.{Private}
+use Rattle.ksm_base.specs.declared.row.Row.{Row}
+use Rattle.ksm_base.specs.Rows.{InPageOrder, change_row, merged_state, row_at, same_page, waiting_state, with_row, without_page, zero_state}
+use Rattle.ksm_order.specs.declared.tally.Tally.{Tally}
+use Rattle.ksm_order.specs.Filed.{CanMove, IsMoved, IsTally, one_if}
+use Rattle.ksm_order.proofs.Found.{count_one_changed, count_one_gone, counted_once}
+use Rattle.ksm_order.proofs.Keyed.{count_with}
+
+abbrev page_of : Row → GuestPage
+page_of r = r.page
+
+module _ (rows : List Row) (rise : InPageOrder rows) (page : GuestPage) (old : Row) (found : row_at page rows ≡ Some old) (tally later : Tally) (are : IsTally rows tally) where
+  -- the row of a page went to another state
+  module _ (new : Row) where
+    abbrev changed : List Row
+    changed = change_row page (λ _. new) rows
+
+    counts : (p : Row → Bool) → count_by p changed + one_if (p old) ≡ count_by p rows + one_if (p new)
+    counts p = count_one_changed page_of page p (λ _. new) rows old rise found
+
+    most : (p : Row → Bool) → count_by p changed ≤ length rows
+    most p =
+        let le = count_by-le-length p changed in
+        let same = length-map rows (λ r. if same_page r.page page then new else r) in
+        omega (arith, le, same)
+
+    room : length rows < 2 ^ 64 → (p : Row → Bool) (n : ℕ) → n ≡ count_by p rows → n + one_if (p new) < 2 ^ 64 + one_if (p old)
+    room few p n is = let c = counts p in let m = most p in omega (arith, c, m, is, few)
+
+    has : (p : Row → Bool) (n : ℕ) → n ≡ count_by p rows → one_if (p old) ≤ n
+    has p n is = let c = counted_once page_of page p rows old found in omega (arith, c, is)
+
+    pub can_move : length rows < 2 ^ 64 → CanMove old.state new.state tally
+    can_move few = record {
+      merged = has (λ r. merged_state r.state) tally.merged are.merged;
+      merged_room = room few (λ r. merged_state r.state) tally.merged are.merged;
+      waiting = has (λ r. waiting_state r.state) tally.waiting are.waiting;
+      waiting_room = room few (λ r. waiting_state r.state) tally.waiting are.waiting;
+      zero = has (λ r. zero_state r.state) tally.zero are.zero;
+      zero_room = room few (λ r. zero_state r.state) tally.zero are.zero;
+    }
+
+    meets : (p : Row → Bool) (n m : ℕ) → n ≡ count_by p rows → m + one_if (p old) ≡ n + one_if (p new) → m ≡ count_by p changed
+    meets p n m is moved = let c = counts p in omega (arith, c, is, moved)
+
+    pub tally_changed : IsMoved old.state new.state tally later → IsTally changed later
+    tally_changed moved = record {
+      merged = meets (λ r. merged_state r.state) tally.merged later.merged are.merged moved.merged;
+      waiting = meets (λ r. waiting_state r.state) tally.waiting later.waiting are.waiting moved.waiting;
+      zero = meets (λ r. zero_state r.state) tally.zero later.zero are.zero moved.zero;
+    }
+
+  -- the row of a page went
+  left : (p : Row → Bool) (n m : ℕ) → n ≡ count_by p rows → m + one_if (p old) ≡ n + 0 → m ≡ count_by p (without_page page rows)
+  left p n m is moved = let c = count_one_gone page_of page p rows old rise found in omega (arith, c, is, moved)
+
+  pub tally_gone : IsMoved old.state Private tally later → IsTally (without_page page rows) later
+  tally_gone moved = record {
+    merged = left (λ r. merged_state r.state) tally.merged later.merged are.merged moved.merged;
+    waiting = left (λ r. waiting_state r.state) tally.waiting later.waiting are.waiting moved.waiting;
+    zero = left (λ r. zero_state r.state) tally.zero later.zero are.zero moved.zero;
+  }
+
+-- a Private row came, which is not counted
+pub tally_put : (rows : List Row) (row : Row) (tally : Tally) → InPageOrder rows → row_at row.page rows ≡ None → row.state ≡ Private → IsTally rows tally → IsTally (with_row row rows) tally
+tally_put rows row tally rise absent alone are =
+    let more : (p : Row → Bool) → count_by p (with_row row rows) ≡ count_by p rows + one_if (p row) = λ p. count_with page_of row.page p row rows refl rise absent in
+    record {
+      merged = let m = more (λ r. merged_state r.state) in let n = ap (λ s. one_if (merged_state s)) alone in omega (arith, m, n, are.merged);
+      waiting = let m = more (λ r. waiting_state r.state) in let n = ap (λ s. one_if (waiting_state s)) alone in omega (arith, m, n, are.waiting);
+      zero = let m = more (λ r. zero_state r.state) in let n = ap (λ s. one_if (zero_state s)) alone in omega (arith, m, n, are.zero);
+    }

@@ -1,0 +1,16 @@
+use Rattle.std.proofs.Common.{◌∙◌, true, refl, sym, ap}
+use Rattle.std.specs.Prelude.{find, slice_get}
+use Rattle.ksm_base.specs.Visit.{after_cursor}
+use Rattle.ksm_order.specs.declared.named.Named.{Named}
+use Rattle.ksm_order.specs.Ordered.{pages_in}
+use Rattle.ksm_order.proofs.Placed.{find_first}
+use Rattle.ksm_order.proofs.order.Order.after.Goals as goal
+
+pub returns-in-None : goal.returns-in-None
+returns-in-None c =
+    let all = pages_in c.self.inside.runs.items in
+    c.first_from.ensures
+    ∙ ap (λ rs. slice_get (pages_in rs) 0) c.as_slice-runs.ensures.value
+    ∙ sym (find_first (λ (n : Named). true) all (λ k d lt. refl))
+    ∙ ap (λ cursor. find (λ (n : Named). after_cursor cursor n.page) all) (sym c.in-None.is)
+    ∙ ap (find (λ (n : Named). after_cursor c.args.cursor n.page)) c.self.view_is

@@ -1,0 +1,34 @@
+use Rattle.std.proofs.Common.{◌∙◌, ◌<◌, ap, subst, sym}
+use Rattle.ksm_base.specs.State.{place_count}
+use Rattle.ksm_base.specs.Visit.{new_place as place_of_new}
+use Rattle.ksm_tree.specs.declared.choice.Choice.TheVariants.{Empty, Stale}
+use Rattle.ksm_tree.specs.Dups.{rows_of as dup_rows}
+use Rattle.ksm_tree.proofs.Bridge.{choice_alike, choice_exists}
+use Rattle.ksm_tree.proofs.Tied.{tied_counted}
+use Rattle.ksm_order.specs.Held.{rows_of}
+use Rattle.ksm_order.specs.Paged.{PagesValue}
+use Rattle.ksm_order.proofs.pages.Pages.new_place.Goals as goal
+
+pub choose_place-requires : goal.choose_place-requires
+choose_place-requires c =
+    let rows = rows_of c.self.inside.rows.held in
+    let s = c.self.inside.dups in
+    let room = subst (λ (v : PagesValue). place_of_new (place_count v.shape) v.rows v.dups < place_count v.shape) (sym c.self.view_is) c.requires.room in
+    choice_exists rows s (tied_counted rows s.dups c.self.invariant.tied)
+    (subst (λ n. place_of_new n rows (dup_rows s.dups) < n) (sym c.self.invariant.places) room)
+
+pub returns-in-Empty : goal.returns-in-Empty
+returns-in-Empty c =
+    let rows = rows_of c.self.inside.rows.held in
+    let s = c.self.inside.dups in
+    choice_alike rows s (Empty c.in-Empty.place) (tied_counted rows s.dups c.self.invariant.tied) c.in-Empty.ensures
+    ∙ ap (λ n. place_of_new n rows (dup_rows s.dups)) c.self.invariant.places
+    ∙ ap (λ (v : PagesValue). place_of_new (place_count v.shape) v.rows v.dups) c.self.view_is
+
+pub returns-in-Stale : goal.returns-in-Stale
+returns-in-Stale c =
+    let rows = rows_of c.self.inside.rows.held in
+    let s = c.self.inside.dups in
+    choice_alike rows s (Stale c.in-Stale.place) (tied_counted rows s.dups c.self.invariant.tied) c.in-Stale.ensures
+    ∙ ap (λ n. place_of_new n rows (dup_rows s.dups)) c.self.invariant.places
+    ∙ ap (λ (v : PagesValue). place_of_new (place_count v.shape) v.rows v.dups) c.self.view_is

@@ -1,0 +1,12 @@
+use Rattle.std.proofs.Common.{◌∙◌, ap}
+use Rattle.std.specs.Prelude.{find, option_map}
+use Rattle.ksm_base.specs.Rows.{is_stale}
+use Rattle.ksm_order.specs.Held.{rows_of}
+use Rattle.ksm_order.specs.Paged.{PagesValue}
+use Rattle.ksm_order.proofs.Paging.{stale_at}
+use Rattle.ksm_order.proofs.pages.Pages.stale_place.Goals as goal
+
+pub returns : goal.returns
+returns c =
+    c.stale.ensures.place ∙ stale_at (rows_of c.self.inside.rows.held) c.self.inside.dups.dups c.self.invariant.tied
+    ∙ ap (λ (v : PagesValue). option_map (λ d. d.place) (find (is_stale v.rows) v.dups)) c.self.view_is

@@ -1,0 +1,39 @@
+use Rattle.std.proofs.Common.{◌≡◌, Some, true, false, sym, ap, subst, ◌∙◌, arith, rules}
+use Rattle.slab.specs.Slab.{get, Updates as Fills}
+use Rattle.ksm_base.specs.declared.row.PageState.{PageState}
+use Rattle.ksm_order.specs.declared.row.Entry.{Entry}
+use Rattle.ksm_order.specs.declared.row.Kind.TheVariants as kinds
+use Rattle.ksm_order.specs.Filed.{IsRows, held_in}
+use Rattle.ksm_order.specs.Held.{mapped, held_of, with_held}
+use Rattle.ksm_order.proofs.Writing.{no_name, rests_now, still_put, viewed_put, with_room}
+use Rattle.ksm_order.proofs.rows.Rows.insert.Goals as goal
+
+pub insert-requires : goal.insert-requires
+insert-requires c = record { absent = no_name c.self.inside c.self.invariant c.args.page c.args.self.now c.self.view_is c.requires.absent }
+
+pub invariant_of-self-in_err-insert : goal.invariant_of-self-in_err-insert
+invariant_of-self-in_err-insert c =
+    let s = c.self.inside in
+    subst (λ order. IsRows c.reserve.new.self order s.restless s.tally s.pass) (sym c.in_err-insert.ensures.kept) (with_room s c.self.invariant c.reserve.new.self c.reserve.ensures.rest_kept)
+
+pub invariant_of-self-2 : goal.invariant_of-self-2
+invariant_of-self-2 c =
+    let s = c.self.inside in
+    let e : Entry = record { page = c.args.page; bytes = c.args.bytes; number = 0; at = c.args.frame; home = c.args.home; group = 4294967295; kind = kinds.Own; mergeable = true; unchanged = false } in
+    let key : c.insert_reserved.result ≡ c.in-Ok.key = search rules in
+    let fills = subst (λ n. Fills c.reserve.new.self c.insert_reserved.new.self n (Some e)) key c.insert_reserved.ensures.updates in
+    let vacant = ap (λ n. get c.reserve.new.self n) (sym key) ∙ c.insert_reserved.ensures.was_vacant in
+    subst (λ order. IsRows c.insert_reserved.new.self order c.add.new.self s.tally s.pass) (sym c.in_ok-insert.ensures.added)
+    (still_put s c.self.invariant c.args.self.now c.self.view_is c.reserve.new.self c.reserve.ensures.rest_kept c.in-Ok.key e c.insert_reserved.new.self vacant c.requires.absent fills
+    (rests_now s.pass c.self.invariant.counting) (omega arith) c.add.new.self c.add.ensures)
+
+pub returns-clause-added : goal.returns-clause-added
+returns-clause-added c =
+    let s = c.self.inside in
+    let e : Entry = record { page = c.args.page; bytes = c.args.bytes; number = 0; at = c.args.frame; home = c.args.home; group = 4294967295; kind = kinds.Own; mergeable = true; unchanged = false } in
+    let key : c.insert_reserved.result ≡ c.in-Ok.key = search rules in
+    let fills = subst (λ n. Fills c.reserve.new.self c.insert_reserved.new.self n (Some e)) key c.insert_reserved.ensures.updates in
+    let vacant = ap (λ n. get c.reserve.new.self n) (sym key) ∙ c.insert_reserved.ensures.was_vacant in
+    ap (λ order. record { held = held_in s.pass c.insert_reserved.new.self order; restless = c.add.new.self; pass = s.pass }) c.in_ok-insert.ensures.added
+    ∙ viewed_put s c.self.invariant c.args.self.now c.self.view_is c.reserve.new.self c.reserve.ensures.rest_kept c.in-Ok.key e c.insert_reserved.new.self vacant c.requires.absent fills c.add.new.self
+    ∙ ap (λ (st : PageState). record c.args.self.now { held = with_held (mapped st (Some c.args.frame) (held_of s.pass e)) c.args.self.now.held; restless = c.add.new.self }) (rests_now s.pass c.self.invariant.counting)

@@ -1,0 +1,12 @@
+use Rattle.std.proofs.Common.{sym, ap, ◌∙◌}
+use Rattle.std.specs.Prelude.{count_by}
+use Rattle.ksm_order.specs.Held.{RowsView, rows_of}
+use Rattle.ksm_order.proofs.Reading.{flags_counted}
+use Rattle.ksm_order.proofs.rows.Rows.mergeable.Goals as goal
+
+pub returns : goal.returns
+returns c =
+    let s = c.self.inside in
+    c.mergeable.ensures
+    ∙ sym (flags_counted s.pass s.entries s.order c.self.invariant.ascending c.self.invariant.filed)
+    ∙ ap (λ (v : RowsView). count_by (λ r. r.mergeable) (rows_of v.held)) c.self.view_is

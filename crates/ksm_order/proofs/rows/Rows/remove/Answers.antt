@@ -1,0 +1,30 @@
+use Rattle.std.proofs.Common.{sym, ap, subst, ◌∙◌}
+use Rattle.ksm_base.specs.declared.row.PageState.TheVariants.{Private}
+use Rattle.ksm_order.specs.Filed.{CanMove, IsMoved, IsRows, held_in}
+use Rattle.ksm_order.proofs.Writing.{can_be, nothing_gone, still_gone, viewed_gone}
+use Rattle.ksm_order.proofs.rows.Rows.remove.Goals as goal
+
+pub returns-in_default : goal.returns-in_default
+returns-in_default c = nothing_gone c.self.inside c.self.invariant c.args.spot.page c.in_default.ensures.told c.args.self.now c.self.view_is
+
+pub moved-self-inside-requires : goal.moved-self-inside-requires
+moved-self-inside-requires c =
+    let e = c.remove-gone.result in
+    subst (λ st. CanMove st Private c.self.inside.tally) (sym c.state.ensures)
+    (can_be c.self.inside c.self.invariant c.args.spot.page c.in-Some.key c.in-Some.ensures.there e c.remove-gone.ensures.value Private (rw (← c.len.ensures) c.len.type_inv))
+
+pub invariant_of-self : goal.invariant_of-self
+invariant_of-self c =
+    let s = c.self.inside in
+    let tally = c.moved-self-inside.result in
+    let moved = subst (λ st. IsMoved st Private s.tally tally) c.state.ensures c.moved-self-inside.ensures in
+    subst (λ order. IsRows c.remove-gone.new.self order c.remove-2.new.self tally s.pass) (sym c.remove.ensures)
+    (still_gone s c.self.invariant c.args.spot.page c.in-Some.key c.in-Some.ensures.there c.remove-gone.result c.remove-gone.ensures.value
+    c.remove-gone.new.self c.remove-gone.ensures.updates c.remove-2.new.self c.remove-2.ensures tally moved)
+
+pub returns : goal.returns
+returns c =
+    let s = c.self.inside in
+    ap (λ order. record { held = held_in s.pass c.remove-gone.new.self order; restless = c.remove-2.new.self; pass = s.pass }) c.remove.ensures
+    ∙ viewed_gone s c.self.invariant c.args.spot.page c.in-Some.key c.in-Some.ensures.there c.remove-gone.result c.remove-gone.ensures.value
+    c.remove-gone.new.self c.remove-gone.ensures.updates c.remove-2.new.self c.args.self.now c.self.view_is

@@ -1,0 +1,25 @@
+use Rattle.std.proofs.Common.{false, map, refl, ap, ◌∙◌, rules}
+use Rattle.ksm_base.specs.Rows.{settled}
+use Rattle.ksm_order.specs.declared.row.Entry.{Entry}
+use Rattle.ksm_order.specs.Filed.{held_in}
+use Rattle.ksm_order.specs.Held.{RowsView, on_row}
+use Rattle.ksm_order.proofs.Alike.{map_mapped}
+use Rattle.ksm_order.proofs.Settling.{plain_rows, plain_seen, retained_all}
+use Rattle.ksm_order.proofs.rows.Rows.unshare_all.Goals as goal
+
+pub invariant_of-self : goal.invariant_of-self
+invariant_of-self c =
+    let s = c.self.inside in
+    plain_rows s.entries s.order s.restless s.tally s.pass c.self.invariant c.retain.new.self
+    (retained_all _ (λ (e : Entry). record e { unchanged = false }) (λ f k old keep new next t. search rules) _ 0 s.entries.slots c.retain.new.self.slots c.retain.ensures.retained)
+
+pub returns : goal.returns
+returns c =
+    let s = c.self.inside in
+    let held = held_in s.pass s.entries s.order in
+    let slots = retained_all _ (λ (e : Entry). record e { unchanged = false }) (λ f k old keep new next t. search rules) _ 0 s.entries.slots c.retain.new.self.slots c.retain.ensures.retained in
+    c.settle_all.ensures
+    ∙ ap (λ hs. record { held = hs; restless = s.restless; pass = c.settle_all.new.self.pass })
+    (ap (map (on_row settled)) (plain_seen s.entries s.order s.restless s.tally s.pass c.self.invariant c.retain.new.self slots)
+    ∙ map_mapped (on_row settled) (on_row (λ r. record r { unchanged = false })) (on_row (λ r. record (settled r) { unchanged = false })) held (λ k d lt. refl))
+    ∙ ap (λ (v : RowsView). record v { held = map (on_row (λ r. record (settled r) { unchanged = false })) v.held; pass = c.settle_all.new.self.pass }) c.self.view_is

@@ -1,0 +1,103 @@
+//! A row as it is kept, and how it is found.
+//!
+//! The state of a row is kept as a kind and a number. A row with a frame of its own waits exactly where its number is
+//! that of the pass that goes on: so when a pass begins and none waits any more, one number grows, and no row is written.
+
+ghost use Rattle.std.specs.Prelude.{◌≡◌};
+ghost use Rattle.ksm_order.specs.Held.{forgotten, frame_of, held_of, is_restless as is_a_restless, state_of};
+
+use ksm_base::{GuestPage, PageBytes, PageState, Row};
+
+/// A page with a guess of the key under which its row is kept. A call compares the guess before it believes it, so a
+/// wrong one costs a search and changes nothing else.
+#[derive(Clone, Copy, Debug)]
+pub struct Spot {
+    pub page: GuestPage,
+    pub key: u32,
+}
+
+/// How a page is mapped.
+#[derive(Clone, Copy, Debug, PartialEq, Eq)]
+pub enum Kind {
+    /// From a frame of its own.
+    Own,
+    /// From the frame of a dup.
+    Merged,
+    /// From the zero page.
+    Zero,
+}
+
+/// A row as it is kept. The fields stand in an order that leaves no gaps.
+#[derive(Clone, Copy, Debug)]
+pub struct Entry {
+    pub page: GuestPage,
+    pub bytes: PageBytes,
+    /// Of a row with a frame of its own the pass since which it waits, or an earlier one; of a merged one the number of
+    /// its dup.
+    pub number: u64,
+    /// Of a row with a frame of its own that frame; of a merged one a guess of the place of its dup.
+    pub at: u32,
+    pub home: u32,
+    /// A guess of the number that the row's tree and bytes have among the groups.
+    pub group: u32,
+    pub kind: Kind,
+    pub mergeable: bool,
+    pub unchanged: bool,
+}
+
+impl Entry {
+    /// Whether a visit may change the row: it is mergeable, and has a frame of its own.
+    #[inline(always)]
+    pub fn is_restless(&self) -> bool
+        ensures { result ≡ is_a_restless self.now }
+    {
+        self.mergeable && matches!(self.kind, Kind::Own)
+    }
+
+    /// The state of the row in a pass.
+    #[inline(always)]
+    pub fn state(&self, pass: u64) -> PageState
+        ensures { result ≡ state_of self.now.kind self.now.number pass }
+    {
+        match self.kind {
+            Kind::Own if self.number == pass => PageState::Waiting,
+            Kind::Own => PageState::Private,
+            Kind::Merged => PageState::Merged(self.number),
+            Kind::Zero => PageState::Zero,
+        }
+    }
+
+    /// The frame of its own, if it has one.
+    #[inline(always)]
+    pub fn own_frame(&self) -> Option<u32>
+        ensures { result ≡ frame_of self.now.kind self.now.at }
+    {
+        match self.kind {
+            Kind::Own => Some(self.at),
+            Kind::Merged | Kind::Zero => None,
+        }
+    }
+
+    /// An entry with a frame of its own says no longer in which pass it came to wait.
+    pub fn forget_pass(&mut self)
+        ensures { self.new ≡ forgotten self.old }
+    {
+        if let Kind::Own = self.kind {
+            self.number = 0;
+        }
+    }
+
+    /// The row that the entry stands for in a pass.
+    pub fn row(&self, pass: u64) -> Row
+        ensures { result ≡ (held_of pass self.now).row }
+    {
+        Row {
+            page: self.page,
+            home: self.home,
+            bytes: self.bytes,
+            mergeable: self.mergeable,
+            unchanged: self.unchanged,
+            state: self.state(pass),
+        }
+    }
+}

@@ -1,0 +1,494 @@
+//! The rows: each in a slab under a key, with the order of their pages, those that a visit of the scan may change, and
+//! how many there are of each state.
+//!
+//! A call that is told a right key costs no search, and one that is told a wrong one two binary searches: of the run in
+//! which the page is, and of the page in it. `settle_all` writes no row. `unshare_all` walks over all.
+
+ghost use Rattle.std.specs.Prelude.{◌≡◌, ◌≤◌, true, false, [], None, Some, All, IfErr, IfOk, IfSome, MatchOption, OnErr, OnOk, count_by, filter, find, is_some, length, map, not, option_map, slice_get};
+ghost use Rattle.ksm_base.specs.declared.page.GuestPage.{GuestPage};
+ghost use Rattle.ksm_base.specs.declared.row.PageState.TheVariants.{Private, Waiting, Merged, Zero};
+ghost use Rattle.ksm_base.specs.Apply.{fresh_row};
+ghost use Rattle.ksm_base.specs.Rows.{InPageOrder, comes_before, settled, shared_state};
+ghost use Rattle.ksm_base.specs.Visit.{after_cursor};
+ghost use Rattle.ksm_rmap.specs.Items.{AreAscending as AreRising};
+ghost use Rattle.ksm_order.specs.Filed.{AreFiled, AreListed, IsTally, IsUnder, key_in};
+ghost use Rattle.ksm_order.specs.Held.{AreAllListed, Reaches, change_held, held_at, held_of, last_or, mapped, on_row, pages_ahead, rows_of, with_held, without_held};
+ghost use Rattle.ksm_order.specs.Ordered.{AreAscending, is_of};
+
+use crate::ahead::Ahead;
+use crate::order::Order;
+use crate::restless::Restless;
+use crate::row::{Entry, Kind, Spot};
+use crate::tally::Tally;
+use ksm_base::{Fault, GuestPage, PageBytes, PageState};
+use slab::Slab;
+use std::alloc::Global;
+use std::marker::Model;
+
+/// The rows, each with the frame of its own.
+#[derive(Drop)]
+pub struct Rows {
+    entries: Slab<Entry>,
+    order: Order,
+    restless: Restless,
+    tally: Tally,
+    /// One more whenever no row waits any longer.
+    pass: u64,
+}
+
+impl Model for Rows {
+    ghost use Rattle.ksm_order.specs.Filed.{IsRows, held_in};
+    ghost use Rattle.ksm_order.specs.Held.{RowsView};
+
+    ghost Value = { RowsView };
+
+    ghost view = { λ r. record { held = held_in r.pass r.entries r.order; restless = r.restless; pass = r.pass } };
+
+    ghost invariant = { λ r. IsRows r.entries r.order r.restless r.tally r.pass };
+}
+
+/// The key of a page's row. The guess is tried first.
+#[inline(always)]
+fn key_of(entries: &Slab<Entry>, order: &Order, spot: Spot) -> Option<u32>
+    requires { AreFiled entries.now order.now }
+    ensures told { result ≡ key_in order.now spot.page }
+    ensures there { IfSome result (λ key. IsUnder entries.now spot.page key) }
+{
+    if let Some(entry) = entries.get(spot.key as usize) {
+        if entry.page == spot.page {
+            return Some(spot.key);
+        }
+    }
+    search(order, spot.page)
+}
+
+/// The same, without a guess.
+#[inline(never)]
+fn search(order: &Order, page: GuestPage) -> Option<u32>
+    ensures { result ≡ key_in order.now page }
+{
+    match order.find(page) {
+        Some(named) => Some(named.key),
+        None => None,
+    }
+}
+
+/// Lists anew all pages that a visit may change, by a walk over all.
+#[inline(never)]
+fn gather(entries: &Slab<Entry>, order: &Order, restless: &mut Restless)
+    requires filed { AreFiled entries.now order.now }
+    requires ascending { AreAscending order.now }
+    ensures { restless.new.known ≡ true → AreListed entries.now restless.new.pages }
+{
+    restless.clear();
+    let mut last = None;
+    while let Some(named) = order.after(last) {
+        if entries[named.key as usize].is_restless() {
+            restless.add(Spot {
+                page: named.page,
+                key: named.key,
+            });
+        }
+        last = Some(named.page);
+    }
+}
+
+impl Rows {
+    /// No rows.
+    pub fn new(alloc: Global) -> Rows
+        ensures held { result.held ≡ [] }
+    {
+        Rows {
+            entries: Slab::new(alloc),
+            order: Order::new(alloc),
+            restless: Restless::new(alloc),
+            tally: Tally::NONE,
+            pass: 1,
+        }
+    }
+
+    // ------------------------------------------------------------ what is read
+
+    /// A law: the rows are in the order of their pages, those with frames of their own have them, and those that a visit
+    /// may change are listed, if all of them are known.
+    pub fn are_lawful(&self)
+        ensures rise { InPageOrder (rows_of self.now.held) }
+        ensures framed { All (λ h. is_some h.frame ≡ not (shared_state h.row.state)) self.now.held }
+        ensures listed { self.now.restless.known ≡ true → AreAllListed (rows_of self.now.held) self.now.restless.pages }
+    {
+        // A law is told of the fields where one of them is read.
+        let _ = self.order.len();
+    }
+
+    /// What is kept of the row of a page, if it has one.
+    #[inline(always)]
+    pub fn find(&self, spot: Spot) -> Option<&Entry>
+        ensures { MatchOption result (held_at spot.page self.now.held ≡ None) (λ entry. held_at spot.page self.now.held ≡ Some (held_of self.now.pass entry.now)) }
+    {
+        let key = key_of(&self.entries, &self.order, spot)?;
+        Some(&self.entries[key as usize])
+    }
+
+    /// A page with the key of its row, if it has one.
+    pub fn spot(&self, page: GuestPage) -> Option<Spot>
+        ensures known { is_some result ≡ is_some (held_at page self.now.held) }
+        ensures page { IfSome result (λ spot. spot.page ≡ page) }
+    {
+        match search(&self.order, page) {
+            Some(key) => Some(Spot { page, key }),
+            None => None,
+        }
+    }
+
+    /// The number of the pass: a row waits exactly where its number is this one, and it has a frame of its own.
+    #[inline(always)]
+    pub fn pass(&self) -> u64
+        ensures { result ≡ self.now.pass }
+    {
+        self.pass
+    }
+
+    /// How many rows there are.
+    pub fn len(&self) -> usize
+        ensures { result ≡ length self.now.held }
+    {
+        self.order.len()
+    }
+
+    /// How many rows a scan visits.
+    pub fn mergeable(&self) -> usize
+        ensures { result ≡ count_by (λ r. r.mergeable) (rows_of self.now.held) }
+    {
+        self.order.mergeable()
+    }
+
+    /// How many rows are merged, wait, and are on the zero page.
+    pub fn tally(&self) -> Tally
+        ensures { IsTally (rows_of self.now.held) result }
+    {
+        self.tally
+    }
+
+    /// The first page behind a cursor.
+    pub fn after(&self, cursor: Option<GuestPage>) -> Option<Spot>
+        ensures { option_map (λ s. s.page) result ≡ option_map (λ r. r.page) (find (λ r. after_cursor cursor r.page) (rows_of self.now.held)) }
+    {
+        match self.order.after(cursor) {
+            Some(named) => Some(Spot {
+                page: named.page,
+                key: named.key,
+            }),
+            None => None,
+        }
+    }
+
+    /// What so many visits behind the cursor come to.
+    pub fn ahead(&self, cursor: Option<GuestPage>, visits: u64) -> Ahead
+        requires { 1 ≤ visits }
+        ensures { Reaches (pages_ahead cursor (rows_of self.now.held)) visits result }
+    {
+        self.order.ahead(cursor, visits)
+    }
+
+    /// How many pages behind the cursor and before a page a scan visits, and the last of them, or else the cursor.
+    pub fn between(&self, cursor: Option<GuestPage>, page: GuestPage) -> (u64, Option<GuestPage>)
+        ensures many { result.0 ≡ length (filter (λ p. comes_before p page) (pages_ahead cursor (rows_of self.now.held))) }
+        ensures last { result.1 ≡ last_or cursor (filter (λ p. comes_before p page) (pages_ahead cursor (rows_of self.now.held))) }
+    {
+        self.order.between(cursor, page)
+    }
+
+    // ------------------------------------------------------------ rows that come and go
+
+    /// Adds the row of a page that has none, on a frame. The one fault is `Memory`, and then nothing changes.
+    pub fn insert(
+        &mut self,
+        page: GuestPage,
+        home: u32,
+        bytes: PageBytes,
+        frame: u32,
+    ) -> Result<Spot, Fault>
+        requires absent { held_at page self.old.held ≡ None }
+        ensures added { OnOk result (self.new ≡ record self.old { held = with_held (record { row = fresh_row page home bytes; frame = Some frame }) self.old.held; restless = self.new.restless }) }
+        ensures spot { IfOk result (λ spot. spot.page ≡ page) }
+        ensures kept { OnErr result (self.new ≡ self.old) }
+        ensures memory { IfErr result (λ fault. fault ≡ Fault.Memory) }
+    {
+        self.entries.reserve(1)?;
+        let Ok(key) = u32::try_from(self.entries.vacant_key()) else {
+            return Err(Fault::Memory);
+        };
+        self.order.insert(page, key)?;
+        let _ = self.entries.insert_reserved(Entry {
+            page,
+            bytes,
+            number: 0,
+            at: frame,
+            home,
+            group: u32::MAX,
+            kind: Kind::Own,
+            mergeable: true,
+            unchanged: false,
+        });
+        let spot = Spot { page, key };
+        self.restless.add(spot);
+        Ok(spot)
+    }
+
+    /// The row of a page goes, if it has one.
+    pub fn remove(&mut self, spot: Spot)
+        ensures { self.new ≡ record self.old { held = without_held spot.page self.old.held; restless = self.new.restless } }
+    {
+        let Some(key) = key_of(&self.entries, &self.order, spot) else {
+            return;
+        };
+        // Called for its contract alone: the number of pages fits 64 bits.
+        let _ = self.order.len();
+        let gone = self.entries.remove(key as usize);
+        self.tally = self.tally.moved(gone.state(self.pass), PageState::Private);
+        self.order.remove(spot.page);
+        self.restless.remove(spot.page);
+    }
+
+    // ------------------------------------------------------------ how a page is mapped
+
+    /// The page of a row gets a frame of its own in the stead of what it had, and is Private.
+    pub fn settle_on(&mut self, spot: Spot, frame: u32)
+        ensures { self.new ≡ record self.old { held = change_held spot.page (mapped Private (Some frame)) self.old.held; restless = self.new.restless } }
+    {
+        let Some(key) = key_of(&self.entries, &self.order, spot) else {
+            return;
+        };
+        // Called for its contract alone: the number of pages fits 64 bits.
+        let _ = self.order.len();
+        let entry = &mut self.entries[key as usize];
+        let old = entry.state(self.pass);
+        entry.kind = Kind::Own;
+        entry.number = 0;
+        entry.at = frame;
+        let restless = entry.mergeable;
+        self.tally = self.tally.moved(old, PageState::Private);
+        if restless {
+            self.restless.add(Spot {
+                page: spot.page,
+                key,
+            });
+        }
+    }
+
+    /// The page of a row is mapped from the frame of the dup with a number, at a place that is a guess.
+    pub fn merge(&mut self, spot: Spot, number: u64, place: u32)
+        ensures { self.new ≡ record self.old { held = change_held spot.page (mapped (Merged number) None) self.old.held } }
+    {
+        let Some(key) = key_of(&self.entries, &self.order, spot) else {
+            return;
+        };
+        // Called for its contract alone: the number of pages fits 64 bits.
+        let _ = self.order.len();
+        let entry = &mut self.entries[key as usize];
+        let old = entry.state(self.pass);
+        entry.kind = Kind::Merged;
+        entry.number = number;
+        entry.at = place;
+        self.tally = self.tally.moved(old, PageState::Merged(number));
+        self.restless.let_be();
+    }
+
+    /// The page of a row is mapped from the zero page.
+    pub fn become_zero(&mut self, spot: Spot)
+        ensures { self.new ≡ record self.old { held = change_held spot.page (mapped Zero None) self.old.held } }
+    {
+        let Some(key) = key_of(&self.entries, &self.order, spot) else {
+            return;
+        };
+        // Called for its contract alone: the number of pages fits 64 bits.
+        let _ = self.order.len();
+        let entry = &mut self.entries[key as usize];
+        let old = entry.state(self.pass);
+        entry.kind = Kind::Zero;
+        self.tally = self.tally.moved(old, PageState::Zero);
+        self.restless.let_be();
+    }
+
+    /// A row with a frame of its own waits.
+    #[inline(always)]
+    pub fn wait(&mut self, spot: Spot)
+        requires own { IfSome (held_at spot.page self.old.held) (λ h. shared_state h.row.state ≡ false) }
+        ensures { self.new ≡ record self.old { held = change_held spot.page (on_row (λ r. record r { state = Waiting })) self.old.held } }
+    {
+        let Some(key) = key_of(&self.entries, &self.order, spot) else {
+            return;
+        };
+        // Called for its contract alone: the number of pages fits 64 bits.
+        let _ = self.order.len();
+        let entry = &mut self.entries[key as usize];
+        let old = entry.state(self.pass);
+        entry.number = self.pass;
+        self.tally = self.tally.moved(old, PageState::Waiting);
+    }
+
+    /// A row that waits is Private; any other stays as it is.
+    #[inline(always)]
+    pub fn stop_waiting(&mut self, spot: Spot)
+        ensures { self.new ≡ record self.old { held = change_held spot.page (on_row settled) self.old.held } }
+    {
+        let Some(key) = key_of(&self.entries, &self.order, spot) else {
+            return;
+        };
+        // Called for its contract alone: the number of pages fits 64 bits.
+        let _ = self.order.len();
+        let entry = &mut self.entries[key as usize];
+        let old = entry.state(self.pass);
+        entry.forget_pass();
+        let new = entry.state(self.pass);
+        self.tally = self.tally.moved(old, new);
+    }
+
+    // ------------------------------------------------------------ what else a row says
+
+    /// The row has other bytes, and is not unchanged.
+    pub fn write(&mut self, spot: Spot, bytes: &PageBytes)
+        ensures { self.new ≡ record self.old { held = change_held spot.page (on_row (λ r. record r { bytes = bytes.now; unchanged = false })) self.old.held } }
+    {
+        let Some(key) = key_of(&self.entries, &self.order, spot) else {
+            return;
+        };
+        let entry = &mut self.entries[key as usize];
+        entry.bytes = *bytes;
+        entry.unchanged = false;
+    }
+
+    /// Says whether the bytes have stayed since a visit.
+    #[inline(always)]
+    pub fn set_unchanged(&mut self, spot: Spot, unchanged: bool)
+        ensures { self.new ≡ record self.old { held = change_held spot.page (on_row (λ r. record r { unchanged = unchanged })) self.old.held } }
+    {
+        let Some(key) = key_of(&self.entries, &self.order, spot) else {
+            return;
+        };
+        self.entries[key as usize].unchanged = unchanged;
+    }
+
+    /// The home of the row is another node.
+    pub fn set_home(&mut self, spot: Spot, home: u32)
+        ensures { self.new ≡ record self.old { held = change_held spot.page (on_row (λ r. record r { home = home })) self.old.held } }
+    {
+        let Some(key) = key_of(&self.entries, &self.order, spot) else {
+            return;
+        };
+        self.entries[key as usize].home = home;
+    }
+
+    /// A scan visits the row from now on, or does not.
+    pub fn set_mergeable(&mut self, spot: Spot, mergeable: bool)
+        ensures { self.new ≡ record self.old { held = change_held spot.page (on_row (λ r. record r { mergeable = mergeable })) self.old.held; restless = self.new.restless } }
+    {
+        let Some(key) = key_of(&self.entries, &self.order, spot) else {
+            return;
+        };
+        let entry = &mut self.entries[key as usize];
+        entry.mergeable = mergeable;
+        let restless = entry.is_restless();
+        self.order.mark(spot.page, mergeable);
+        if restless {
+            self.restless.add(Spot {
+                page: spot.page,
+                key,
+            });
+        } else {
+            self.restless.remove(spot.page);
+        }
+    }
+
+    /// Remembers the number of the group in which the row was found, as a guess for the next time.
+    #[inline(always)]
+    pub fn remember(&mut self, spot: Spot, group: u32)
+        ensures { self.new ≡ self.old }
+    {
+        let Some(key) = key_of(&self.entries, &self.order, spot) else {
+            return;
+        };
+        self.entries[key as usize].group = group;
+    }
+
+    // ------------------------------------------------------------ changes of all rows
+
+    /// No row waits any more: those that did are Private.
+    pub fn settle_all(&mut self)
+        ensures { self.new ≡ record self.old { held = map (on_row settled) self.old.held; pass = self.new.pass } }
+    {
+        self.tally.waiting = 0;
+        match self.pass.checked_add(1) {
+            Some(pass) => self.pass = pass,
+            None => {
+                // Numbers of passes have come to their end, so each row forgets its own, and they begin anew.
+                self.entries.retain(|_, entry| {
+                    entry.forget_pass();
+                    true
+                });
+                self.pass = 1;
+            }
+        }
+    }
+
+    /// No row waits any more, and none is unchanged.
+    pub fn unshare_all(&mut self)
+        ensures { self.new ≡ record self.old { held = map (on_row (λ r. record (settled r) { unchanged = false })) self.old.held; pass = self.new.pass } }
+    {
+        self.entries.retain(|_, entry| {
+            entry.unchanged = false;
+            true
+        });
+        self.settle_all();
+    }
+
+    // ------------------------------------------------------------ rows that a visit may change
+
+    /// All rows that a visit may change are listed then. The one fault is `Memory`.
+    pub fn list_restless(&mut self) -> Result<(), Fault>
+        ensures known { OnOk result (self.new.restless.known ≡ true) }
+        ensures rest { self.new ≡ record self.old { restless = self.new.restless } }
+        ensures memory { IfErr result (λ fault. fault ≡ Fault.Memory) }
+    {
+        if self.restless.is_known() {
+            return Ok(());
+        }
+        gather(&self.entries, &self.order, &mut self.restless);
+        if self.restless.is_known() {
+            Ok(())
+        } else {
+            Err(Fault::Memory)
+        }
+    }
+
+    /// How many pages are listed.
+    pub fn restless_len(&self) -> usize
+        ensures count { result ≡ length self.now.restless.pages }
+        ensures ascending { AreRising self.now.restless.pages }
+    {
+        self.restless.len()
+    }
+
+    /// How many listed pages come up to a cursor.
+    pub fn restless_up_to(&self, cursor: Option<GuestPage>) -> usize
+        ensures { result ≡ length (filter (λ p. not (after_cursor cursor p)) self.now.restless.pages) }
+    {
+        self.restless.up_to(cursor)
+    }
+
+    /// The listed page at an index.
+    #[inline(always)]
+    pub fn restless_at(&self, at: usize) -> Option<Spot>
+        ensures { option_map (λ s. s.page) result ≡ slice_get self.now.restless.pages at }
+    {
+        self.restless.get(at)
+    }
+
+    /// Of the listed pages those that no visit may change are listed no more, once they may be many.
+    pub fn sweep_restless(&mut self)
+        ensures rest { self.new ≡ record self.old { restless = self.new.restless } }
+        ensures known { self.new.restless.known ≡ self.old.restless.known }
+    {
+        self.restless.sweep(&self.entries);
+    }
+}

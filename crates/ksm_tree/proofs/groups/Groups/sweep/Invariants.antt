@@ -1,0 +1,6 @@
+use Rattle.std.proofs.Common.{◌≡◌}
+use Rattle.ksm_tree.specs.Groups.{SameChains, waiting_in}
+use Rattle.ksm_tree.proofs.groups.Groups.sweep.Given as goal
+
+abbrev pub invariant-loop-number : goal.invariant-loop-number
+invariant-loop-number l = SameChains l.fn.self l.self × (waiting_in l.self ≡ waiting_in l.fn.self)
