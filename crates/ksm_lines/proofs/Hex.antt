@@ -1,9 +1,9 @@
 -- The values of hexadecimal digits.
-use Rattle.std.proofs.Common.{◌≡◌, ℕ, zero, suc, ◌<◌, ◌==◌, Bool, true, ◌&&◌, ltb, inl, inr, refl, arith}
+use Rattle.std.proofs.Common.{◌≡◌, ℕ, zero, suc, ◌<◌, ◌==◌, Bool, true, false, not, ◌&&◌, ◌||◌, eqb, ltb, inl, inr, refl, arith, ◌∙◌}
 use Rattle.std.specs.Prelude.{slice_index}
-use Rattle.std.proofs.lemmas.Bool.{and_parts, cases_lt, eqb-true, ltb-true}
+use Rattle.std.proofs.lemmas.Bool.{and_parts, cases_lt, eqb-true, lt-ltb}
 use Rattle.ksm_lines.specs.declared.field.TheConstants.{DIGIT_VALUES}
-use Rattle.ksm_lines.specs.Content.{hex_value}
+use Rattle.ksm_lines.specs.Content.{digit_or_none, hex_value}
 
 -- a test of all numbers below n
 abbrev pub passes_below : (ℕ → Bool) → ℕ → Bool
@@ -20,10 +20,15 @@ passes_at test (suc n) d h lt =
       | inr top ↦ let e : d ≡ n = omega arith in rw e parts.0
     ]
 
--- the table has the value of each byte as a digit
-pub value_of : (byte : ℕ) → byte < 256 → slice_index DIGIT_VALUES byte ≡ hex_value byte
-value_of byte lt = eqb-true _ _ (passes_at (λ byte. slice_index DIGIT_VALUES byte == hex_value byte) 256 byte refl lt)
+-- the table has the value of each byte as a digit, or none
+pub value_of : (byte : ℕ) → byte < 256 → slice_index DIGIT_VALUES byte ≡ digit_or_none byte
+value_of byte lt = eqb-true _ _ (passes_at (λ byte. slice_index DIGIT_VALUES byte == digit_or_none byte) 256 byte refl lt)
 
--- each value in the table is below 16
-pub small_value : (byte : ℕ) → byte < 256 → slice_index DIGIT_VALUES byte < 16
-small_value byte lt = ltb-true _ _ (passes_at (λ byte. ltb (slice_index DIGIT_VALUES byte) 16) 256 byte refl lt)
+-- a small value in the table is the digit's
+pub small_value : {value : ℕ} (byte : ℕ) → byte < 256 → value ≡ digit_or_none byte → value < 16 → value ≡ hex_value byte
+small_value byte lt is small =
+    is ∙ eqb-true _ _ (later (ltb (digit_or_none byte) 16) _ (lt-ltb _ _ (omega (arith, is, small))) (passes_at (λ b. not (ltb (digit_or_none b) 16) || eqb (digit_or_none b) (hex_value b)) 256 byte refl lt))
+  where
+    later : (a b : Bool) → a ≡ true → (not a || b) ≡ true → b ≡ true
+    later true b e h = h
+    later false b e h = absurd cc

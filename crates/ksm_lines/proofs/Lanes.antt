@@ -1,15 +1,14 @@
 -- Digits, many at once.
-use Rattle.std.proofs.Common.{◌≡◌, ℕ, zero, suc, ◌+◌, ◌*◌, ◌<◌, ◌≤◌, ◌&&◌, ◌||◌, All, get_or, arith, take, drop, length-drop, take-append-drop, subst, Bool, true, false, cond, not, eqb, ltb, List, [], ◌∷◌, map, length, replicate, Fits, w8, refl, sym, ap, ap₂, ◌∙◌}
-use Rattle.std.proofs.lemmas.Simd.{chunk-fits, length-chunk, get_or-chunk, zip2_of_maps, splat_is_map}
-use Rattle.std.proofs.lemmas.Bool.{and_parts, eqb-true, ltb-true, ne_eqb}
+use Rattle.std.proofs.Common.{◌≡◌, ℕ, zero, suc, ◌+◌, ◌*◌, ◌%◌, ◌^◌, ◌++◌, ◌<◌, ◌≤◌, ◌&&◌, ◌||◌, get_or, arith, take, Bool, true, false, cond, not, eqb, ltb, List, [], ◌∷◌, map, length, replicate, Fits, w8, refl, sym, ap, ap₂, ◌∙◌}
+use Rattle.std.proofs.lemmas.Simd.{bitmask_splat, length-chunk, get_or-chunk, zip2_of_maps, splat_is_map}
+use Rattle.std.proofs.lemmas.Bool.{and_parts, eqb-true, ltb-true, ltb-false, lt-ltb, ne_eqb}
 use Rattle.std.specs.List.{list_all, range_with_len}
 use Rattle.std.proofs.Math.Seq.{take-add}
 use lib.Lanes.{Each1, zip2, sel_l, top, mask_l}
 use Rattle.std.specs.Char.{is_ascii_hexdigit}
 use Rattle.std.proofs.lemmas.List.Folds.{list_all-append, list_all-map}
-use Rattle.ksm_lines.specs.Content.{hex_value, digit_or_none, digits_of_word, pair_in, byte_at}
-use Rattle.std.proofs.lemmas.List.{get_or-drop, get_or-map, length-map}
-use Rattle.std.proofs.lemmas.List.Elements.{All-from_get_or}
+use Rattle.ksm_lines.specs.Content.{hex_value, is_small, digits_of_word, pair_in, byte_at}
+use Rattle.std.proofs.lemmas.List.{get_or-map, get_or_append_left, take_all}
 use Rattle.ksm_lines.proofs.Front.{passes_in}
 use Rattle.ksm_lines.proofs.Hex.{passes_below, passes_at}
 
@@ -67,96 +66,116 @@ same_test p q (x ∷ xs) fits all = ap₂ (λ a b. a && b) (of (p x) (q x) (pass
     of true false h = absurd cc
     of false true h = absurd cc
 
-pub true_of : (b : Bool) → false ≡ not b → b ≡ true
-true_of true e = refl
-true_of false e = absurd cc
+-- what is not said by a contrary
+pub other_way : (a b : Bool) → a ≡ not b → b ≡ not a
+other_way a true e = sym (ap not e)
+other_way a false e = sym (ap not e)
 
--- where a test's contrary is true, the test is false
-pub false_of : (b : Bool) → true ≡ not b → b ≡ false
-false_of true e = absurd cc
-false_of false e = refl
+-- small values were computed of those bytes that are digits
+pub small_for_digits : (f : ℕ → ℕ) (v : List ℕ) {a : List ℕ} → a ≡ map f v → Each1 (Fits w8) v
+    → passes_below (λ k. (not (is_small (f k)) || is_ascii_hexdigit k) && (is_small (f k) || not (is_ascii_hexdigit k))) 256 ≡ true
+    → list_all is_small a ≡ list_all is_ascii_hexdigit v
+small_for_digits f v is fits all = ap (list_all is_small) is ∙ list_all-map is_small f v ∙ same_test (λ k. is_small (f k)) is_ascii_hexdigit v fits all
+
+-- what was computed of digits is their values
+pub values_of_digits : (f : ℕ → ℕ) (v : List ℕ) {a : List ℕ} → a ≡ map f v → Each1 (Fits w8) v
+    → passes_below (λ k. not (is_ascii_hexdigit k) || eqb (f k) (hex_value k)) 256 ≡ true → list_all is_ascii_hexdigit v ≡ true → a ≡ map hex_value v
+values_of_digits f v is fits all digits = is ∙ of v fits digits
+  where
+    later : (a b : Bool) → a ≡ true → (not a || b) ≡ true → b ≡ true
+    later true b e h = h
+    later false b e h = absurd cc
+
+    of : (v : List ℕ) → Each1 (Fits w8) v → list_all is_ascii_hexdigit v ≡ true → map f v ≡ map hex_value v
+    of [] h e = refl
+    of (x ∷ xs) h e =
+        let parts = and_parts (is_ascii_hexdigit x) (list_all is_ascii_hexdigit xs) e in
+        let told = passes_at (λ k. not (is_ascii_hexdigit k) || eqb (f k) (hex_value k)) 256 x all h.0.fits in
+        ap₂ (λ y ys. y ∷ ys) (eqb-true _ _ (later (is_ascii_hexdigit x) _ parts.0 told)) (of xs h.1 parts.1)
+
+flipped : {A B C : Type 0} (f : A → B → C) (xs : List A) (ys : List B) → zip2 f xs ys ≡ zip2 (λ b a. f a b) ys xs
+flipped f [] [] = refl
+flipped f [] (y ∷ ys) = refl
+flipped f (x ∷ xs) [] = refl
+flipped f (x ∷ xs) (y ∷ ys) = ap (λ r. f x y ∷ r) (flipped f xs ys)
+
+-- no bit of the mask of the values above 15 is set exactly where all are small
+pub none_above : (v : List ℕ) → length v ≡ 16 → Each1 (Fits w8) v
+    → not (eqb (mask_l (map (top 7) (zip2 (λ a b. cond (ltb a b) 255 0) (replicate 16 15) v)) % 2 ^ 64) 0) ≡ not (list_all is_small v)
+none_above v long fits =
+    ap (λ l. not (eqb (mask_l (map (top 7) l) % 2 ^ 64) 0)) (flipped (λ (a b : ℕ). cond (ltb a b) 255 0) (replicate 16 15) v)
+    ∙ ap (λ m. not (eqb m 0)) (bitmask_splat w8 (λ a b. ltb b a) v 16 15 long (omega arith))
+    ∙ ap not (none_set (λ x. ltb 15 x) v ∙ same_test (λ x. not (ltb 15 x)) is_small v fits refl)
+
+-- the larger of two values in each lane are small where those of both are
+pub larger_small : (a b : List ℕ) → length a ≡ length b
+    → list_all is_small (sel_l (map (top 7) (zip2 (λ x y. cond (ltb x y) 255 0) a b)) b a) ≡ (list_all is_small a && list_all is_small b)
+larger_small [] [] e = refl
+larger_small [] (y ∷ ys) e = absurd (omega (arith, e))
+larger_small (x ∷ xs) [] e = absurd (omega (arith, e))
+larger_small (x ∷ xs) (y ∷ ys) e = ap₂ (λ a b. a && b) (of (ltb x y) refl) (larger_small xs ys (omega (arith, e))) ∙ four (is_small x) (is_small y) _ _
+  where
+    both : (p q : Bool) → (p ≡ true → q ≡ true) → p ≡ (q && p)
+    both true q h = sym (ap (λ c. c && true) (h refl))
+    both false true h = refl
+    both false false h = refl
+
+    turned : (p q : Bool) → (p && q) ≡ (q && p)
+    turned true true = refl
+    turned true false = refl
+    turned false true = refl
+    turned false false = refl
+
+    of : (less : Bool) → ltb x y ≡ less → is_small (cond (top 7 (cond less 255 0)) y x) ≡ (is_small x && is_small y)
+    of true h = both (is_small y) (is_small x) (λ s. lt-ltb _ _ (omega (arith, ltb-true _ _ h, ltb-true _ _ s)))
+    of false h = both (is_small x) (is_small y) (λ s. lt-ltb _ _ (omega (arith, ltb-false _ _ h, ltb-true _ _ s))) ∙ turned (is_small y) (is_small x)
+
+    four : (p q r s : Bool) → ((p && q) && (r && s)) ≡ ((p && r) && (q && s))
+    four true true r s = refl
+    four true false true s = refl
+    four true false false s = refl
+    four false q r s = refl
 
 -- ---- the digits of a word
-
-digit_is : (byte : ℕ) → byte < 256 → is_ascii_hexdigit byte ≡ true → (digit_or_none byte ≡ hex_value byte) × (hex_value byte < 16)
-digit_is byte lt digit =
-    let told = passes_at (λ b. not (is_ascii_hexdigit b) || (eqb (digit_or_none b) (hex_value b) && ltb (hex_value b) 16)) 256 byte refl lt in
-    let both = and_parts (eqb (digit_or_none byte) (hex_value byte)) (ltb (hex_value byte) 16) (of (is_ascii_hexdigit byte) _ digit told) in
-    (eqb-true _ _ both.0, ltb-true _ _ both.1)
-  where
-    of : (a b : Bool) → a ≡ true → (not a || b) ≡ true → b ≡ true
-    of true b e h = h
-    of false b e h = absurd cc
 
 same_below : (f g : ℕ → ℕ) (a n : ℕ) → ((j : ℕ) → a ≤ j → j < a + n → f j ≡ g j) → map f (range_with_len a n) ≡ map g (range_with_len a n)
 same_below f g a zero h = refl
 same_below f g a (suc n) h = ap₂ (λ x xs. x ∷ xs) (h a (omega arith) (omega arith)) (same_below f g (a + 1) n (λ j low high. h j (omega (arith, low)) (omega (arith, high))))
 
-module _ (text : List ℕ) (i : ℕ) (inside : 16 * i + 16 ≤ length text) (bytes : (k : ℕ) → Fits w8 (get_or text k 0)) where
-  fits : Each1 (Fits w8) (digits_of_word text i)
-  fits = chunk-fits w8 (16 * i) 16 text bytes
+-- the eight bytes that the values of its digits make in pairs
+pub word_is : (text : List ℕ) (i : ℕ) → 16 * i + 16 ≤ length text
+    → map (pair_in (map hex_value (digits_of_word text i))) (range_with_len 0 8) ≡ map (λ j. byte_at text (8 * i + j)) (range_with_len 0 8)
+word_is text i inside =
+    same_below (pair_in (map hex_value (digits_of_word text i))) (λ j. byte_at text (8 * i + j)) 0 8 (λ j low high.
+    let first : 16 * i + 2 * j ≡ 2 * (8 * i + j) = omega arith in
+    let second : 16 * i + (2 * j + 1) ≡ 2 * (8 * i + j) + 1 = omega arith in
+    ap₂ (λ a b. a * 16 + b) (at_digit (2 * j) (omega (arith, high)) ∙ ap (λ k. hex_value (get_or text k 0)) first)
+    (at_digit (2 * j + 1) (omega (arith, high)) ∙ ap (λ k. hex_value (get_or text k 0)) second))
+  where
+    at_digit : (k : ℕ) → k < 16 → get_or (map hex_value (digits_of_word text i)) k 0 ≡ hex_value (get_or text (16 * i + k) 0)
+    at_digit k lt =
+        get_or-map hex_value (digits_of_word text i) k 0 0 (omega (arith, length-chunk (16 * i) 16 text inside, lt)) ∙ ap hex_value (get_or-chunk (16 * i) 16 text k 0 lt)
 
-  -- each of them is a digit where none of the values is 255
-  pub values_told : (values : List ℕ) (b : Bool) → values ≡ map digit_or_none (digits_of_word text i) → b ≡ not (list_all (λ x. not (eqb x 255)) values)
-      → b ≡ not (list_all is_ascii_hexdigit (digits_of_word text i))
-  values_told values b is told = told ∙ ap not (ap (list_all (λ x. not (eqb x 255))) is
-      ∙ list_all-map (λ x. not (eqb x 255)) digit_or_none (digits_of_word text i)
-      ∙ same_test (λ x. not (eqb (digit_or_none x) 255)) is_ascii_hexdigit (digits_of_word text i) fits refl)
-
-  -- where none of the values is 255, all characters of the word are hexadecimal digits
-  pub all_digits : (values : List ℕ) (b : Bool) → values ≡ map digit_or_none (digits_of_word text i) → b ≡ not (list_all (λ x. not (eqb x 255)) values) → b ≡ false
-      → list_all is_ascii_hexdigit (digits_of_word text i) ≡ true
-  all_digits values b is told none = true_of _ (sym none ∙ values_told values b is told)
-
-  module _ (digits : list_all is_ascii_hexdigit (digits_of_word text i) ≡ true) where
-    at_byte : (k : ℕ) → k < 16 → (get_or (map digit_or_none (digits_of_word text i)) k 0 ≡ hex_value (get_or text (16 * i + k) 0)) × (hex_value (get_or text (16 * i + k) 0) < 16)
-    at_byte k lt =
-        let v = digits_of_word text i in
-        let byte = get_or text (16 * i + k) 0 in
-        let room : 16 ≤ length (drop (16 * i) text) = omega (arith, length-drop (16 * i) text, inside) in
-        let same : get_or v k 0 ≡ byte = get_or-chunk (16 * i) 16 text k 0 lt in
-        let digit : is_ascii_hexdigit byte ≡ true = ap is_ascii_hexdigit (sym (get_or-drop (16 * i) text k 0)) ∙ passes_in is_ascii_hexdigit (drop (16 * i) text) 16 k digits lt room in
-        let is = digit_is byte (bytes (16 * i + k)).fits digit in
-        (get_or-map digit_or_none v k 0 0 (omega (arith, length-chunk (16 * i) 16 text inside, lt)) ∙ ap digit_or_none same ∙ is.0, is.1)
-
-    -- the value of each digit is below 16
-    pub values_small : All (λ v. v < 16) (map digit_or_none (digits_of_word text i))
-    values_small = All-from_get_or (λ v. v < 16) _ 0 (λ k lt.
-        let is = at_byte k (omega (arith, lt, length-map (digits_of_word text i) digit_or_none, length-chunk (16 * i) 16 text inside)) in
-        subst (λ v. v < 16) (sym is.0) is.1)
-
-    -- the eight bytes that the values make in pairs are those that the digits write
-    pub word_is : map (pair_in (map digit_or_none (digits_of_word text i))) (range_with_len 0 8) ≡ map (λ j. byte_at text (8 * i + j)) (range_with_len 0 8)
-    word_is = same_below (pair_in (map digit_or_none (digits_of_word text i))) (λ j. byte_at text (8 * i + j)) 0 8 (λ j low high.
-        let first : 16 * i + 2 * j ≡ 2 * (8 * i + j) = omega arith in
-        let second : 16 * i + (2 * j + 1) ≡ 2 * (8 * i + j) + 1 = omega arith in
-        ap₂ (λ a b. a * 16 + b) ((at_byte (2 * j) (omega (arith, high))).0 ∙ ap (λ k. hex_value (get_or text k 0)) first)
-        ((at_byte (2 * j + 1) (omega (arith, high))).0 ∙ ap (λ k. hex_value (get_or text k 0)) second))
+-- small values make their bytes in pairs, whose sums wrap nowhere
+pub pairs_told : (values : List ℕ) → length values ≡ 16 → list_all is_small values ≡ true
+    → map (λ k. (get_or (values ++ values) (2 * k) 0 * 16 % 256 + get_or (values ++ values) (2 * k + 1) 0) % 256) (range_with_len 0 8) ≡ map (pair_in values) (range_with_len 0 8)
+pairs_told values long small =
+    same_below _ (pair_in values) 0 8 (λ j low high.
+    let first = get_or_append_left values values 0 (2 * j) (omega (arith, high, long)) in
+    let second = get_or_append_left values values 0 (2 * j + 1) (omega (arith, high, long)) in
+    let a = value (2 * j) (omega (arith, high)) in
+    let b = value (2 * j + 1) (omega (arith, high)) in
+    ap₂ (λ x y. (x * 16 % 256 + y) % 256) first second ∙ omega (arith, a, b))
+  where
+    value : (k : ℕ) → k < 16 → get_or values k 0 < 16
+    value k lt = ltb-true _ _ (passes_in is_small values 16 k (ap (list_all is_small) (take_all 16 values (omega (arith, long))) ∙ small) lt (omega (arith, long)))
 
 -- ---- the digits of a page, word by word
 
--- where all digits of i words, and those of one more, are hexadecimal, all of i + 1 words are
-pub one_more : (text : List ℕ) (i : ℕ) → list_all is_ascii_hexdigit (take (16 * i) text) ≡ true → list_all is_ascii_hexdigit (digits_of_word text i) ≡ true
-    → list_all is_ascii_hexdigit (take (16 * (i + 1)) text) ≡ true
-one_more text i before word =
+-- the digits of i + 1 words are those of i words and of one more
+pub one_more : (text : List ℕ) (i : ℕ)
+    → list_all is_ascii_hexdigit (take (16 * (i + 1)) text) ≡ (list_all is_ascii_hexdigit (take (16 * i) text) && list_all is_ascii_hexdigit (digits_of_word text i))
+one_more text i =
     let more : 16 * (i + 1) ≡ 16 * i + 16 = omega arith in
     ap (λ n. list_all is_ascii_hexdigit (take n text)) more ∙ ap (list_all is_ascii_hexdigit) (take-add (16 * i) 16 text)
-    ∙ list_all-append is_ascii_hexdigit (take (16 * i) text) (digits_of_word text i) ∙ ap₂ (λ a b. a && b) before word
-
--- where one word has another byte, the text has
-pub none_other : (text : List ℕ) (i : ℕ) → ((list_all is_ascii_hexdigit (digits_of_word text i) ≡ true) → ⊥) → list_all is_ascii_hexdigit text ≡ false
-none_other text i other =
-    let rest = drop (16 * i) text in
-    ap (list_all is_ascii_hexdigit) (sym (take-append-drop (16 * i) text)) ∙ list_all-append is_ascii_hexdigit (take (16 * i) text) rest
-    ∙ ap (λ b. list_all is_ascii_hexdigit (take (16 * i) text) && b)
-    (ap (list_all is_ascii_hexdigit) (sym (take-append-drop 16 rest)) ∙ list_all-append is_ascii_hexdigit (digits_of_word text i) (drop 16 rest)
-    ∙ ap (λ b. b && list_all is_ascii_hexdigit (drop 16 rest)) (of (list_all is_ascii_hexdigit (digits_of_word text i)) other))
-    ∙ both_ways (list_all is_ascii_hexdigit (take (16 * i) text))
-  where
-    of : (b : Bool) → ((b ≡ true) → ⊥) → b ≡ false
-    of true h = absurd (h refl)
-    of false h = refl
-
-    both_ways : (b : Bool) → (b && false) ≡ false
-    both_ways true = refl
-    both_ways false = refl
+    ∙ list_all-append is_ascii_hexdigit (take (16 * i) text) (digits_of_word text i)

@@ -1,9 +1,9 @@
 //! The fields of a line: its words, read one by one.
-ghost use Rattle.std.specs.Prelude.{◌≡◌, ◌+◌, ◌*◌, ◌<◌, ◌≤◌, ◌↔◌, ◌==◌, ◌∷◌, ◌++◌, All, map, not, false, true, length, take, slice_index, None, IsSome, IsTrue, IfSome, IfOk, IfErr, bytes_eq, position};
+ghost use Rattle.std.specs.Prelude.{◌≡◌, ◌+◌, ◌*◌, ◌<◌, ◌≤◌, ◌↔◌, ◌==◌, ◌∷◌, ◌++◌, ◌&&◌, map, not, false, true, length, take, slice_index, None, IsSome, IsTrue, IfSome, IfOk, IfErr, bytes_eq, position};
 ghost use Rattle.std.specs.Char.{is_ascii_digit, is_ascii_hexdigit};
 ghost use Rattle.std.specs.List.{list_all, range_with_len};
-ghost use Rattle.std.specs.Int.{w64, from_le_bytes};
-ghost use Rattle.ksm_lines.specs.Content.{hex_value, digit_or_none, byte_at, word_at, pair_in, digits_of_word, page_of_digits, content_of};
+ghost use Rattle.std.specs.Int.{w32, w64, from_le_bytes, to_le_bytes};
+ghost use Rattle.ksm_lines.specs.Content.{AreValues, digit_or_none, is_small, byte_at, pair_in, page_of_digits, content_of};
 ghost use Rattle.ksm_lines.specs.Grammar.{words_of};
 ghost use Rattle.ksm_lines.specs.Digits.{digits_of, IsReadTo, IsHigh};
 ghost use Rattle.ksm_lines.specs.Reading.{Gives, GivesField, words_left, field, guest_of, number_of, page_at, alone, page_alone, knob_of, shown_of, ended};
@@ -17,17 +17,22 @@ use std::simd::prelude::*;
 /// How many digits a page is written in.
 pub const PAGE_DIGITS: usize = 16 * PAGE_WORDS;
 
-/// The value of each byte as a hexadecimal digit, 0 of any other byte.
+/// The value of each byte as a hexadecimal digit, 255 of any other byte.
 const DIGIT_VALUES: [u8; 256] = [
-    0, 0, 0, 0, 0, 0, 0, 0, 0, 0, 0, 0, 0, 0, 0, 0, 0, 0, 0, 0, 0, 0, 0, 0, 0, 0, 0, 0, 0, 0, 0, 0,
-    0, 0, 0, 0, 0, 0, 0, 0, 0, 0, 0, 0, 0, 0, 0, 0, 0, 1, 2, 3, 4, 5, 6, 7, 8, 9, 0, 0, 0, 0, 0, 0,
-    0, 10, 11, 12, 13, 14, 15, 0, 0, 0, 0, 0, 0, 0, 0, 0, 0, 0, 0, 0, 0, 0, 0, 0, 0, 0, 0, 0, 0, 0,
-    0, 0, 0, 10, 11, 12, 13, 14, 15, 0, 0, 0, 0, 0, 0, 0, 0, 0, 0, 0, 0, 0, 0, 0, 0, 0, 0, 0, 0, 0,
-    0, 0, 0, 0, 0, 0, 0, 0, 0, 0, 0, 0, 0, 0, 0, 0, 0, 0, 0, 0, 0, 0, 0, 0, 0, 0, 0, 0, 0, 0, 0, 0,
-    0, 0, 0, 0, 0, 0, 0, 0, 0, 0, 0, 0, 0, 0, 0, 0, 0, 0, 0, 0, 0, 0, 0, 0, 0, 0, 0, 0, 0, 0, 0, 0,
-    0, 0, 0, 0, 0, 0, 0, 0, 0, 0, 0, 0, 0, 0, 0, 0, 0, 0, 0, 0, 0, 0, 0, 0, 0, 0, 0, 0, 0, 0, 0, 0,
-    0, 0, 0, 0, 0, 0, 0, 0, 0, 0, 0, 0, 0, 0, 0, 0, 0, 0, 0, 0, 0, 0, 0, 0, 0, 0, 0, 0, 0, 0, 0, 0,
-    0, 0, 0, 0,
+    255, 255, 255, 255, 255, 255, 255, 255, 255, 255, 255, 255, 255, 255, 255, 255, 255, 255, 255,
+    255, 255, 255, 255, 255, 255, 255, 255, 255, 255, 255, 255, 255, 255, 255, 255, 255, 255, 255,
+    255, 255, 255, 255, 255, 255, 255, 255, 255, 255, 0, 1, 2, 3, 4, 5, 6, 7, 8, 9, 255, 255, 255,
+    255, 255, 255, 255, 10, 11, 12, 13, 14, 15, 255, 255, 255, 255, 255, 255, 255, 255, 255, 255,
+    255, 255, 255, 255, 255, 255, 255, 255, 255, 255, 255, 255, 255, 255, 255, 255, 10, 11, 12, 13,
+    14, 15, 255, 255, 255, 255, 255, 255, 255, 255, 255, 255, 255, 255, 255, 255, 255, 255, 255,
+    255, 255, 255, 255, 255, 255, 255, 255, 255, 255, 255, 255, 255, 255, 255, 255, 255, 255, 255,
+    255, 255, 255, 255, 255, 255, 255, 255, 255, 255, 255, 255, 255, 255, 255, 255, 255, 255, 255,
+    255, 255, 255, 255, 255, 255, 255, 255, 255, 255, 255, 255, 255, 255, 255, 255, 255, 255, 255,
+    255, 255, 255, 255, 255, 255, 255, 255, 255, 255, 255, 255, 255, 255, 255, 255, 255, 255, 255,
+    255, 255, 255, 255, 255, 255, 255, 255, 255, 255, 255, 255, 255, 255, 255, 255, 255, 255, 255,
+    255, 255, 255, 255, 255, 255, 255, 255, 255, 255, 255, 255, 255, 255, 255, 255, 255, 255, 255,
+    255, 255, 255, 255, 255, 255, 255, 255, 255, 255, 255, 255, 255, 255, 255, 255, 255, 255, 255,
+    255, 255, 255,
 ];
 
 /// Where the first space of a text is.
@@ -47,15 +52,25 @@ pub fn cut(text: &[u8]) -> (&[u8], Option<&[u8]>)
     }
 }
 
+/// The first four bytes of a text as one number: a name is compared four bytes at a time.
+#[inline(always)]
+pub fn first_four(text: &[u8]) -> u32
+    requires { 4 ≤ length text.now }
+    ensures { to_le_bytes w32 result ≡ take 4 text.now }
+{
+    u32::from_le_bytes([text[0], text[1], text[2], text[3]])
+}
+
 /// What is left of a text behind these bytes, where it begins with them.
 #[inline(always)]
 pub fn behind_name<'a, const N: usize>(text: &'a [u8], name: &[u8; N]) -> Option<&'a [u8]>
+    requires { 4 ≤ N }
     ensures { IfSome result (λ left. text.now ≡ name.now ++ left.now) }
 {
-    if text.len() < N {
+    if text.len() < N || first_four(text) != first_four(name) {
         return None;
     }
-    for i in 0..N {
+    for i in 4..N {
         if text[i] != name[i] {
             return None;
         }
@@ -66,6 +81,7 @@ pub fn behind_name<'a, const N: usize>(text: &'a [u8], name: &[u8; N]) -> Option
 /// Whether a text is these bytes.
 #[inline(always)]
 pub fn is_name<const N: usize>(text: &[u8], name: &[u8; N]) -> bool
+    requires { 4 ≤ N }
     ensures { IsTrue result → text.now ≡ name.now }
 {
     let Some(left) = behind_name(text, name) else {
@@ -89,20 +105,6 @@ pub fn ended(left: Option<&[u8]>) -> Result<(), LineFault>
         None => Ok(()),
         Some(_) => Err(LineFault::Bad),
     }
-}
-
-/// Whether each byte is a hexadecimal digit.
-fn are_hex_digits(word: &[u8]) -> bool
-    ensures { result ≡ list_all is_ascii_hexdigit word.now }
-{
-    word.iter().all(|byte| is_hex_digit(*byte))
-}
-
-/// Whether a byte is a hexadecimal digit.
-fn is_hex_digit(byte: u8) -> bool
-    ensures { result ≡ is_ascii_hexdigit byte }
-{
-    digit(byte) != 0 || byte == b'0'
 }
 
 /// The number that a word writes in decimal digits without leading zeros.
@@ -255,80 +257,82 @@ pub fn shown_alone(left: Option<&[u8]>) -> Result<Shown, LineFault>
     Ok(shown)
 }
 
-/// The byte that digits 2k and 2k + 1 write.
-fn byte_of(digits: &[u8], k: usize) -> u8
-    requires { 2 * k + 1 < length digits.now }
-    ensures { result ≡ byte_at digits.now k }
+/// The byte that two digits write, where they are digits.
+#[inline(always)]
+fn byte_in(word: &[u8]) -> Option<u8>
+    requires { length word.now ≡ 2 }
+    ensures digits { IsSome result ↔ (list_all is_ascii_hexdigit word.now ≡ true) }
+    ensures byte { IfSome result (λ byte. byte ≡ byte_at word.now 0) }
 {
-    digit(digits[2 * k]) * 16 + digit(digits[2 * k + 1])
+    let high = digit_value(word[0]);
+    let low = digit_value(word[1]);
+    if high > 15 || low > 15 {
+        return None;
+    }
+    Some(high * 16 + low)
 }
 
-/// The value of a hexadecimal digit.
-fn digit(byte: u8) -> u8
-    ensures value { result ≡ hex_value byte }
-    ensures small { result < 16 }
+/// The value of a hexadecimal digit, 255 of any other byte.
+fn digit_value(byte: u8) -> u8
+    ensures { result ≡ digit_or_none byte }
 {
     DIGIT_VALUES[byte as usize]
 }
 
-/// The value of each hexadecimal digit, 255 of any other byte.
+// Sums wrap. A decimal digit comes to 240 to 249, any other byte to less; a letter to 0 to 5, any other byte to more.
+
+/// The value of each hexadecimal digit, 16 or more of any other byte.
 #[inline(always)]
 fn digit_values(digits: u8x16) -> u8x16
     requires { length digits ≡ 16 }
-    ensures { result ≡ map digit_or_none digits }
+    ensures { AreValues digits result }
 {
-    let number = digits - u8x16::splat(b'0');
-    let letter = (digits | u8x16::splat(0x20)) - u8x16::splat(b'a');
-    let letters = letter
-        .simd_lt(u8x16::splat(6))
-        .select(letter + u8x16::splat(10), u8x16::splat(255));
-    number.simd_lt(u8x16::splat(10)).select(number, letters)
+    let numbers = (digits + u8x16::splat(198)).saturating_sub(u8x16::splat(6));
+    let letters = (digits & u8x16::splat(0xdf)) - u8x16::splat(b'A');
+    let letters = letters.simd_min(u8x16::splat(245));
+    (numbers + u8x16::splat(16)).simd_min(letters + u8x16::splat(10))
 }
 
-/// Whether a byte was none of the digits.
+/// The larger of two values in each lane.
+#[inline(always)]
+fn larger(a: u8x16, b: u8x16) -> u8x16
+    ensures { list_all is_small result ≡ (list_all is_small a && list_all is_small b) }
+{
+    a.simd_max(b)
+}
+
+/// Whether a value is that of no digit.
 #[inline(always)]
 fn has_other(values: u8x16) -> bool
-    ensures { result ≡ not (list_all (λ value. not (value == 255)) values) }
+    ensures { result ≡ not (list_all is_small values) }
 {
-    values.simd_eq(u8x16::splat(255)).to_bitmask() != 0
+    values.simd_gt(u8x16::splat(15)).to_bitmask() != 0
 }
 
 /// The word of a page whose digits have these values.
 #[inline(always)]
 fn word_of(values: u8x16) -> u64
-    requires { All (λ value. value < 16) values }
-    ensures { result ≡ from_le_bytes w64 (map (pair_in values) (range_with_len 0 8)) }
+    ensures { list_all is_small values ≡ true → result ≡ from_le_bytes w64 (map (pair_in values) (range_with_len 0 8)) }
 {
     let high = values.swizzle::<8>([0, 2, 4, 6, 8, 10, 12, 14]);
     let low = values.swizzle::<8>([1, 3, 5, 7, 9, 11, 13, 15]);
     u64::from_le_bytes((high * u8x8::splat(16) + low).to_array())
 }
 
-/// Word i of the page that the digits write, where its bytes are digits.
-#[inline(always)]
-fn word_in(digits: &[u8], i: usize) -> Option<u64>
-    requires { 16 * i + 16 ≤ length digits.now }
-    ensures digits { IsSome result ↔ (list_all is_ascii_hexdigit (digits_of_word digits.now i) ≡ true) }
-    ensures word { IfSome result (λ word. word ≡ word_at (byte_at digits.now) i) }
-{
-    let values = digit_values(u8x16::from_slice(&digits[16 * i..]));
-    if has_other(values) {
-        return None;
-    }
-    Some(word_of(values))
-}
-
-/// The page that the digits write, where each byte is a digit.
+/// The page that the digits write, where each byte is a digit. Whether one is none is asked once, at the end.
 fn page_in(digits: &[u8]) -> Result<PageBytes, LineFault>
     requires { length digits.now ≡ 16 * PAGE_WORDS }
     ensures { Gives result (page_of_digits digits.now) }
 {
     let mut page = [0; PAGE_WORDS];
+    let mut most = u8x16::splat(0);
     for i in 0..PAGE_WORDS {
-        let Some(word) = word_in(digits, i) else {
-            return Err(LineFault::Bad);
-        };
-        page[i] = word;
+        let values = digit_values(u8x16::from_slice(&digits[16 * i..]));
+        most = larger(most, values);
+        page[i] = word_of(values);
+    }
+    if has_other(most) {
+        return Err(LineFault::Bad);
     }
     Ok(page)
 }
@@ -344,10 +348,10 @@ pub fn content_in(word: &[u8]) -> Result<PageBytes, LineFault>
     if word.len() != 2 {
         return Err(LineFault::Bad);
     }
-    if !are_hex_digits(word) {
-        return Err(LineFault::Bad);
+    match byte_in(word) {
+        Some(byte) => Ok([u64::from_le_bytes([byte; 8]); PAGE_WORDS]),
+        None => Err(LineFault::Bad),
     }
-    Ok([u64::from_le_bytes([byte_of(word, 0); 8]); PAGE_WORDS])
 }
 
 /// The last word as the content of a page.

@@ -7,8 +7,11 @@ ghost use Rattle.std.specs.Prelude.{◌≡◌, ◌<◌, ◌^◌, ◌++◌, ◌�
 ghost use Rattle.ksm_lines.specs.Content.{content_of};
 ghost use Rattle.ksm_lines.specs.Leading.{BeginsWith, short_form, page_form};
 
-use crate::field::{PAGE_DIGITS, behind_name, content_in, digits_at};
+use crate::field::{PAGE_DIGITS, behind_name, content_in, first_four};
 use ksm_base::{GuestPage, PageBytes};
+
+/// With a digit more, a number up to this one fits.
+const MOST_BEFORE_A_DIGIT: u32 = 429_496_728;
 
 /// A line without a content that comes by the million.
 #[derive(Clone, Copy)]
@@ -43,15 +46,30 @@ pub enum PageLine {
 pub fn leading_short_line(text: &[u8]) -> Option<(ShortLine, &[u8])>
     ensures { IfSome result (λ r. BeginsWith (short_form r.0) text.now r.1.now) }
 {
-    match text {
-        [b'g', ..] => get(text),
-        [b't', ..] => ticket(text),
-        [b'f', ..] => find(text),
-        [b'l', b'o', ..] => look(text),
-        [b'l', ..] => leave(text),
-        [b's', ..] => stat(text),
-        _ => None,
+    if text.len() < 4 {
+        return None;
     }
+    // Only a hint: each form reads its own name.
+    let front = first_four(text);
+    if front == first_four(b"get ") {
+        return get(text);
+    }
+    if front == first_four(b"ticket ") {
+        return ticket(text);
+    }
+    if front == first_four(b"find ") {
+        return find(text);
+    }
+    if front == first_four(b"look ") {
+        return look(text);
+    }
+    if front == first_four(b"leave ") {
+        return leave(text);
+    }
+    if front == first_four(b"stat\n") {
+        return stat(text);
+    }
+    None
 }
 
 /// The line with a content at the front of a text, its content, and what is behind its newline.
@@ -59,12 +77,20 @@ pub fn leading_short_line(text: &[u8]) -> Option<(ShortLine, &[u8])>
 pub fn leading_page_line(text: &[u8]) -> Option<(PageLine, PageBytes, &[u8])>
     ensures { IfSome result (λ r. BeginsWith (page_form r.0 r.1) text.now r.2.now) }
 {
-    match text {
-        [b'p', ..] => store(text),
-        [b'e', ..] => equal(text),
-        [b'r', b'e', ..] => register(text),
-        _ => None,
+    if text.len() < 4 {
+        return None;
     }
+    let front = first_four(text);
+    if front == first_four(b"put ") {
+        return store(text);
+    }
+    if front == first_four(b"equal ") {
+        return equal(text);
+    }
+    if front == first_four(b"reg ") {
+        return register(text);
+    }
+    None
 }
 
 #[inline(always)]
@@ -171,32 +197,37 @@ fn guest_to(text: &[u8], end: u8) -> Option<(u16, &[u8])>
     ensures fits { IfSome result (λ r. r.0 < 2 ^ 16) }
 {
     let (number, left) = number_to(text, end)?;
-    match u16::try_from(number) {
-        Ok(guest) => Some((guest, left)),
-        Err(_) => None,
+    if number > u32::from(u16::MAX) {
+        return None;
     }
+    Some((number as u16, left))
 }
 
-/// The number at the front of a text, and what is behind the byte that ends it.
+/// The number at the front of a text, and what is behind the byte that ends it. It need not be among the last few that fit.
 #[inline(always)]
 fn number_to(text: &[u8], end: u8) -> Option<(u32, &[u8])>
     ensures text { IfSome result (λ r. text.now ≡ decimal r.0 ++ end ∷ r.1.now) }
     ensures fits { IfSome result (λ r. r.0 < 2 ^ 32) }
 {
-    let Ok((number, at)) = digits_at(text) else {
-        return None;
-    };
-    if at >= text.len() || text[at] != end {
+    if text.is_empty() || !text[0].is_ascii_digit() {
         return None;
     }
-    let left = &text[at + 1..];
-    if at == 1 {
-        return Some((number, left));
+    let mut value = u32::from(text[0]) - u32::from(b'0');
+    for at in 1..text.len() {
+        let byte = text[at];
+        if !byte.is_ascii_digit() {
+            if byte != end {
+                return None;
+            }
+            return Some((value, &text[at + 1..]));
+        }
+        // Behind a leading zero there is no digit.
+        if value == 0 || value > MOST_BEFORE_A_DIGIT {
+            return None;
+        }
+        value = value * 10 + (u32::from(byte) - u32::from(b'0'));
     }
-    if at == 0 || text[0] == b'0' {
-        return None;
-    }
-    Some((number, left))
+    None
 }
 
 /// The content at the front of a text, and what is behind the newline that ends it.

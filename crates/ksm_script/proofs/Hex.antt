@@ -1,12 +1,13 @@
 -- Bytes in hexadecimal digits, many at once.
 use Rattle.std.proofs.Common.{◌≡◌, ◌∙◌, ℕ, zero, suc, ◌/◌, ◌%◌, ◌<◌, All, eqb, true, false, List, [], ◌∷◌, ◌++◌, map, Fits, w8, w64, refl, sym, ap, ap₂, subst, arith}
 use Rattle.std.proofs.lemmas.Bool.{eqb-true}
+use Rattle.std.proofs.lemmas.List.Folds.{flat_map-map}
 use Rattle.std.specs.Fmt.{digit_glyph}
 use Rattle.std.specs.Int.{to_le_bytes}
 use Rattle.std.specs.List.{flat_map}
 use lib.Lanes.{Each1, pick_l}
 use Rattle.ksm_lines.proofs.Hex.{passes_below, passes_at}
-use Rattle.ksm_script.specs.Texts.{byte_digits, word_digits}
+use Rattle.ksm_script.specs.Texts.{byte_digits, content_text, word_digits}
 
 -- what was computed of each of these values is another function of it, where the two agree on all values below a number
 pub agrees_below : (n : ℕ) (f g : ℕ → ℕ) (v : List ℕ) {a : List ℕ} → a ≡ map f v → All (λ x. x < n) v → passes_below (λ k. eqb (f k) (g k)) n ≡ true → a ≡ map g v
@@ -57,3 +58,7 @@ module _ (word : ℕ) (bytes : List ℕ) (is : bytes ≡ to_le_bytes w64 word) w
   -- their digits are those of the word
   pub woven_digits : {high low : List ℕ} → high ≡ map (λ b. b / 16) bytes → low ≡ map (λ b. b % 16) bytes → map (digit_glyph false) (woven high low) ≡ word_digits word
   woven_digits {high = high} {low = low} h l = ap (map (digit_glyph false)) (woven_is high low h l) ∙ halves_digits (to_le_bytes w64 word)
+
+-- the digits of the words, one behind the other, are those of the content
+pub flat_digits : (content : List ℕ) {text : List ℕ} {digits : List (List ℕ)} → text ≡ flat_map (λ x. x) digits → digits ≡ map word_digits content → text ≡ content_text content
+flat_digits content e d = e ∙ ap (flat_map (λ x. x)) d ∙ flat_map-map (λ x. x) word_digits content

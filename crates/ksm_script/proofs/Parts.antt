@@ -73,6 +73,12 @@ pub fault_after : {A : Type 0} (r : Result A RunFault) (a b c : Option (List ℕ
 fault_after (Ok x) a b c text next p h = tt
 fault_after (Err e) a b c text next p h = (h.0, part_after a b c text next p h.1)
 
+-- a text was written before, and then a text whole
+pub whole_after : {A : Type 0} (r : Result A RunFault) (a b c : Option (List ℕ)) (text next : List ℕ) → Appends a b text
+    → OnOk r (Appends b c next) → OnOk r (Appends a c (text ++ next))
+whole_after (Ok x) a b c text next p h = Appends-trans a b c text next p h
+whole_after (Err e) a b c text next p h = tt
+
 -- a text was written, whole or in part, that is the wanted one
 pub whole_is : {A : Type 0} (r : Result A RunFault) (a b : Option (List ℕ)) (text wanted : List ℕ) → text ≡ wanted
     → OnOk r (Appends a b text) → OnOk r (Appends a b wanted)

@@ -11,9 +11,6 @@ use std::simd::prelude::*;
 /// How many digits a page is written in.
 pub const PAGE_DIGITS: usize = 16 * PAGE_WORDS;
 
-/// How many bytes a page's line has.
-const PAGE_LINE: usize = PAGE_DIGITS + 1;
-
 /// A text of at most so many bytes that is put together from its end. Contracts see its bytes.
 #[derive(Drop)]
 pub struct LineText<const ROOM: usize> {
@@ -38,10 +35,7 @@ fn digits_of_values(values: u8x16) -> u8x16
     requires small { All (λ value. value < 16) values }
     ensures { result ≡ map (digit_glyph false) values }
 {
-    let letters = values
-        .simd_gt(u8x16::splat(9))
-        .select(u8x16::splat(b'a' - 10), u8x16::splat(b'0'));
-    values + letters
+    u8x16::from_array(*b"0123456789abcdef").swizzle_dyn(values)
 }
 
 /// The digits of a word of a page, from its lowest byte on.
@@ -58,7 +52,7 @@ fn digits_of(word: u64) -> [u8; 16]
 
 /// The digits of the words of a page.
 #[inline(always)]
-fn digits_of_words(content: &PageBytes) -> [[u8; 16]; PAGE_WORDS]
+pub fn digits_of_words(content: &PageBytes) -> [[u8; 16]; PAGE_WORDS]
     ensures { result ≡ map word_digits content.now }
 {
     let mut digits = [[0; 16]; PAGE_WORDS];
@@ -66,17 +60,6 @@ fn digits_of_words(content: &PageBytes) -> [[u8; 16]; PAGE_WORDS]
         digits[i] = digits_of(content[i]);
     }
     digits
-}
-
-/// The digits of a page's content, and a newline.
-#[inline(always)]
-pub fn page_line(content: &PageBytes) -> [u8; PAGE_LINE]
-    ensures { result ≡ content_text content.now ++ 10 ∷ [] }
-{
-    let digits = digits_of_words(content);
-    let mut line = [b'\n'; PAGE_LINE];
-    line[..PAGE_DIGITS].copy_from_slice(digits.as_flattened());
-    line
 }
 
 impl<const ROOM: usize> LineText<ROOM> {

@@ -6,7 +6,7 @@ ghost use Rattle.ksm_script.specs.Texts.{AppendsPart};
 ghost use Rattle.ksm_audit.specs.declared.report.Row.TheVariants.{Found as found_row, Gone as gone_row};
 ghost use Rattle.ksm_script.specs.Replies.{text_of, content_line, counted_text, stopped_text, counters_text, mapper_text, mappers_text, held_text, row_text, audit_text};
 
-use crate::line_text::{LineText, PAGE_DIGITS, page_line};
+use crate::line_text::{LineText, PAGE_DIGITS, digits_of_words};
 use crate::output::write_text;
 use crate::refusal::Refusal;
 use crate::script::RunFault;
@@ -97,13 +97,16 @@ pub fn write_reply<W: Write>(writer: &mut W, reply: &LineReply) -> Result<(), Ru
     }
 }
 
+// The newline is written apart: as many bytes as a page has digits are copied without a call.
+
 /// Writes the content of a page, its bytes in order, two digits each.
 pub(crate) fn write_content<W: Write>(writer: &mut W, content: &PageBytes) -> Result<(), RunFault>
     ensures whole { OnOk result (Appends (W.contents writer.old) (W.contents writer.new) (content_line content.now)) }
     ensures fault { IfErr result (λ e. (e ≡ RunFault.Write)
         × AppendsPart (W.contents writer.old) (W.contents writer.new) (content_line content.now)) }
 {
-    write_text(writer, &page_line(content))
+    write_text(writer, digits_of_words(content).as_flattened())?;
+    write_text(writer, b"\n")
 }
 
 /// Writes a name and a number.

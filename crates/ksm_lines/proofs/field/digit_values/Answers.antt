@@ -1,15 +1,21 @@
-use Rattle.std.proofs.Common.{refl}
-use Rattle.ksm_lines.proofs.Lanes.{itself, joined, splat_is, picked, agrees}
-use Rattle.ksm_lines.specs.Content.{digit_or_none}
+use Rattle.std.proofs.Common.{ℕ, refl}
+use borrow.Rule.Simd.Lanes.{act2}
+use borrow.Table.Row.{s_int}
+use mir.Syntax.{w8, bit_and, lt, mask, unsigned, wrap_add, wrap_sub}
+use Rattle.ksm_lines.proofs.Lanes.{itself, joined, splat_is, picked, small_for_digits, values_of_digits}
 use Rattle.ksm_lines.proofs.field.digit_values.Goals as goal
 
 pub returns : goal.returns
 returns c =
     let v = c.args.digits in
-    let long = c.requires in
-    let number = joined _ _ _ v (itself v) (splat_is v 16 48 long) in
-    let letter = joined _ _ _ v (joined _ _ _ v (itself v) (splat_is v 16 32 long)) (splat_is v 16 97 long) in
-    let ten = joined _ _ _ v letter (splat_is v 16 10 long) in
-    let letters = picked _ _ _ v (joined _ _ _ v letter (splat_is v 16 6 long)) ten (splat_is v 16 255 long) in
-    let numbers = picked _ _ _ v (joined _ _ _ v number (splat_is v 16 10 long)) number letters in
-    agrees _ digit_or_none v numbers c.fits-digits.1 refl
+    let splat = λ (y : ℕ). splat_is v 16 y c.requires in
+    let raised = joined (act2 wrap_add (s_int w8) (s_int w8) (s_int w8)) _ _ v (itself v) (splat 198) in
+    let lower = joined (act2 (mask (lt unsigned)) (s_int w8) (s_int w8) (s_int w8)) _ _ v raised (splat 6) in
+    let numbers = joined (act2 wrap_sub (s_int w8) (s_int w8) (s_int w8)) _ _ v (picked _ _ _ v lower (splat 6) raised) (splat 6) in
+    let upper = joined (act2 bit_and (s_int w8) (s_int w8) (s_int w8)) _ _ v (itself v) (splat 223) in
+    let letters = joined (act2 wrap_sub (s_int w8) (s_int w8) (s_int w8)) _ _ v upper (splat 65) in
+    let least = picked _ _ _ v (joined (act2 (mask (lt unsigned)) (s_int w8) (s_int w8) (s_int w8)) _ _ v letters (splat 245)) letters (splat 245) in
+    let number = joined (act2 wrap_add (s_int w8) (s_int w8) (s_int w8)) _ _ v numbers (splat 16) in
+    let letter = joined (act2 wrap_add (s_int w8) (s_int w8) (s_int w8)) _ _ v least (splat 10) in
+    let values = picked _ _ _ v (joined (act2 (mask (lt unsigned)) (s_int w8) (s_int w8) (s_int w8)) _ _ v number letter) number letter in
+    (small_for_digits _ v values c.fits-digits.1 refl, values_of_digits _ v values c.fits-digits.1 refl)

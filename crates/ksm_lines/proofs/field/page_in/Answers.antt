@@ -1,34 +1,47 @@
-use Rattle.std.proofs.Common.{sym, subst, ap, ◌∙◌, ◌<◌, ℕ, ◌≡◌, ◌+◌, ◌*◌, arith, get_or, set, length-set, take, List, true, Some, refl}
+use Rattle.std.proofs.Common.{◌≡◌, ◌+◌, ◌*◌, ◌<◌, ◌∙◌, ◌&&◌, true, List, ℕ, Some, ap, ap₂, arith, get_or, length-set, map, refl, set, subst, sym}
+use Rattle.std.proofs.lemmas.Bool.{and_parts}
 use Rattle.std.proofs.lemmas.List.{take_all}
 use Rattle.std.proofs.lemmas.List.Edits.{fill_by_more}
 use Rattle.std.proofs.lemmas.List.FromFn.{fill_by_all}
 use Rattle.std.specs.Char.{is_ascii_hexdigit}
-use Rattle.std.specs.List.{list_all}
+use Rattle.std.specs.Int.{w64, from_le_bytes}
+use Rattle.std.specs.List.{list_all, range_with_len}
 use Rattle.ksm_base.specs.declared.page.TheConstants.{PAGE_WORDS}
-use Rattle.ksm_lines.specs.Content.{byte_at, word_at, page_of}
-use Rattle.ksm_lines.proofs.Lanes.{one_more, none_other}
+use Rattle.ksm_lines.specs.Content.{byte_at, is_small, page_of, pair_in, word_at}
+use Rattle.ksm_lines.proofs.Lanes.{one_more, other_way, word_is}
 use Rattle.ksm_lines.proofs.field.page_in.Goals as goal
 
 pub loop-i-preserved : goal.loop-i-preserved
 loop-i-preserved c =
-    let long = c.loop-i.invariant.0 in
     let digits = c.args.digits.now in
-    let more = fill_by_more (word_at (byte_at digits)) c.loop-i.page c.loop-i.i 0 (omega (arith, c.loop-i-test.true, long)) c.loop-i.invariant.1 in (
-      length-set c.loop-i.page c.loop-i.i c.in-Some.word ∙ long,
-      subst (λ (w : ℕ). (k : ℕ) → k < c.loop-i.i + 1 → get_or (set c.loop-i.page c.loop-i.i w) k 0 ≡ word_at (byte_at digits) k) (sym c.in-Some.ensures.word) more,
-      one_more digits c.loop-i.i c.loop-i.invariant.2 (c.in-Some.ensures.digits.0 refl),
+    let i = c.loop-i.i in
+    let page = c.loop-i.page in
+    let before = c.loop-i.invariant in
+    let values = c.digit_values-values.ensures in
+    let parted = one_more digits i in (
+      length-set page i c.word_of.result ∙ before.0,
+      c.larger-most.ensures ∙ ap₂ (λ a b. a && b) before.1 values.0 ∙ sym parted,
+      λ all.
+          let both = and_parts _ _ (sym parted ∙ all) in
+          let is = c.word_of.ensures (values.0 ∙ both.1) ∙ ap (λ (v : List ℕ). from_le_bytes w64 (map (pair_in v) (range_with_len 0 8))) (values.1 both.1)
+          ∙ ap (from_le_bytes w64) (word_is digits i (omega (arith, c.requires, c.loop-i-test.true))) in
+          let more = fill_by_more (word_at (byte_at digits)) page i 0 (omega (arith, c.loop-i-test.true, before.0)) (before.2 both.0) in
+          subst (λ (w : ℕ). (k : ℕ) → k < i + 1 → get_or (set page i w) k 0 ≡ word_at (byte_at digits) k) (sym is) more,
     )
+
+pub returns-then-has_other : goal.returns-then-has_other
+returns-then-has_other c =
+    let digits = c.args.digits.now in
+    let whole = take_all (16 * c.loop-i.i) digits (omega (arith, c.requires, c.loop-i-test.false)) in
+    let other = ap (list_all is_ascii_hexdigit) (sym whole) ∙ sym c.loop-i.invariant.1 ∙ other_way _ (list_all is_small c.loop-i.most) c.if-has_other.ensures in
+    rw other refl
 
 pub returns : goal.returns
 returns c =
     let digits = c.args.digits.now in
-    let whole : take (16 * c.loop-i.i) digits ≡ digits = take_all (16 * c.loop-i.i) digits (omega (arith, c.requires, c.loop-i-test.false)) in
-    let all : list_all is_ascii_hexdigit digits ≡ true = ap (list_all is_ascii_hexdigit) (sym whole) ∙ c.loop-i.invariant.2 in
+    let whole = take_all (16 * c.loop-i.i) digits (omega (arith, c.requires, c.loop-i-test.false)) in
+    let read = sym c.loop-i.invariant.1 ∙ other_way _ (list_all is_small c.loop-i.most) c.if-has_other.ensures in
+    let all : list_all is_ascii_hexdigit digits ≡ true = ap (list_all is_ascii_hexdigit) (sym whole) ∙ read in
     let page : page_of (byte_at digits) ≡ c.loop-i.page =
-    sym (fill_by_all (word_at (byte_at digits)) c.loop-i.page PAGE_WORDS 0 c.loop-i.invariant.0 (λ k lt. c.loop-i.invariant.1 k (omega (arith, c.loop-i-test.false)))) in
+    sym (fill_by_all (word_at (byte_at digits)) c.loop-i.page PAGE_WORDS 0 c.loop-i.invariant.0 (λ k lt. c.loop-i.invariant.2 read k (omega (arith, lt, c.loop-i-test.false)))) in
     rw all (ap (λ (p : List ℕ). Some p) page)
-
-pub returns-in_default : goal.returns-in_default
-returns-in_default c =
-    let other = none_other c.args.digits.now c.loop-i.i (λ all. absurd (cc (c.in_default.ensures.digits.1 all))) in
-    rw other refl

@@ -2,10 +2,11 @@ use Rattle.std.proofs.Common.{◌≡◌, ℕ, ◌*◌, ◌<◌, true, length, ta
 use Rattle.std.specs.Char.{is_ascii_hexdigit}
 use Rattle.std.specs.List.{list_all}
 use Rattle.ksm_base.specs.declared.page.TheConstants.{PAGE_WORDS}
-use Rattle.ksm_lines.specs.Content.{byte_at, word_at}
+use Rattle.ksm_lines.specs.Content.{byte_at, is_small, word_at}
 use Rattle.ksm_lines.proofs.field.page_in.Given as goal
 
+-- the first words are there, where their bytes are digits; and that they are is told by the largest values
 abbrev pub invariant-loop-i : goal.invariant-loop-i
 invariant-loop-i l =
-    (length l.page ≡ PAGE_WORDS) × ((k : ℕ) → k < l.i → get_or l.page k 0 ≡ word_at (byte_at l.digits) k)
-    × (list_all is_ascii_hexdigit (take (16 * l.i) l.digits) ≡ true)
+    (length l.page ≡ PAGE_WORDS) × (list_all is_small l.most ≡ list_all is_ascii_hexdigit (take (16 * l.i) l.digits))
+    × (list_all is_ascii_hexdigit (take (16 * l.i) l.digits) ≡ true → (k : ℕ) → k < l.i → get_or l.page k 0 ≡ word_at (byte_at l.digits) k)
