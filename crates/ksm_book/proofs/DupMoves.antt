@@ -1,24 +1,5 @@
 -- What is answered where a dup is to move.
-use Rattle.std.proofs.Common.{inl, inr, ◌≡◌, ℕ, ◌<◌, true, false, Some, None, sym, ap, ◌∙◌, subst, arith, eq-eqb}
-use Rattle.std.specs.Prelude.{find, ◌==◌, ◌&&◌, nat_le, is_none, Ok, Err, MatchOption}
-use Rattle.std.proofs.lemmas.Bool.{cases_Bool, and_parts, eqb-true, leb-true}
-use Rattle.ksm_base.specs.declared.row.DupRow.{DupRow}
-use Rattle.ksm_base.specs.declared.command.Command.TheVariants.{MoveDup}
-use Rattle.ksm_base.specs.declared.fault.Fault.{Fault}
-use Rattle.ksm_base.specs.declared.fault.Fault.TheVariants.{Memory, UnknownPage, AlreadyRegistered, NoFrame, NotRunning, SharedPages, BadValue, InUse, CrossesNodes, UnknownPlace, BadNode}
-use Rattle.ksm_base.specs.Answers.{IsAnswerUnless, IsAnswerOrMemory}
-use Rattle.ksm_base.specs.Refusals.{refusal, refused_if, crosses, is_no_node, live_dup_at}
-use Rattle.ksm_base.specs.Rows.{has_items}
-use Rattle.ksm_base.specs.State.{BookState}
-use Rattle.ksm_base.proofs.Edits.{find_passes}
-use Rattle.frame_table.specs.Named.{KeeperView}
-use Rattle.ksm_base.specs.declared.reply.Reply.TheVariants.{Done}
-use Rattle.ksm_book.specs.Carried.{TakesSteps}
-use Rattle.ksm_layout.specs.Commands.{Mapped, TurnsAway, Moves, FindsHeld}
-use Rattle.ksm_layout.specs.Keeping.{NoneLeft}
-use Rattle.ksm_layout.specs.Laid.{Lay, MovesOr, mapped_lay}
-use Rattle.ksm_layout.specs.Mounted.{IsMoved}
-use Rattle.ksm_book.specs.Whole.{BookView, HasShown, mapped}
+use Rattle.ksm_book.proofs.Names.{[], AlreadyRegistered, and_parts, ap, arith, BadNode, BadValue, BookState, BookView, cases_Bool, crosses, CrossesNodes, Does, Done, DupRow, eq-eqb, eqb-true, Err, false, Fault, find, find_passes, FindsHeld, has_items, HasShown, inl, inr, InUse, is_no_node, is_none, IsAnswerOrMemory, IsAnswerUnless, IsMoved, KeeperView, leb-true, List, live_dup_at, lying, Mapped, mapped, MatchOption, Memory, MoveDup, Moves, MovesOr, nat_le, NoFrame, None, NoneLeft, NotRunning, Ok, PagesView, refusal, refused_if, Row, SharedPages, Some, subst, sym, TakesSteps, true, TurnsAway, UnknownPage, UnknownPlace, ℕ, ◌&&◌, ◌<◌, ◌==◌, ◌∙◌, ◌≡◌}
 
 module _ (b : BookState) (place node : ℕ) (dup : DupRow) (found : Some dup ≡ live_dup_at b place) where
   -- the dup that was found stands at the place that was asked for
@@ -52,17 +33,9 @@ module _ (b : BookState) (place node : ℕ) (dup : DupRow) (found : Some dup ≡
 
     -- each error with which the move of a dup ends is an answer that `MoveDup` may give
     pub moved_answer : (X : Type 0) (v w : KeeperView) (q : ℕ) (f : Fault) → IsMoved {X = X} v w q node (Err f) → IsAnswerOrMemory b (MoveDup place node) (Err f)
-    moved_answer X v w q Memory h = absurd h
-    moved_answer X v w q UnknownPage h = absurd h
-    moved_answer X v w q AlreadyRegistered h = absurd h
     moved_answer X v w q (NoFrame n) h = subst (λ o. IsAnswerUnless o b (MoveDup place node) (Err (NoFrame n))) (sym accepted) h.0
-    moved_answer X v w q NotRunning h = absurd h
-    moved_answer X v w q SharedPages h = absurd h
-    moved_answer X v w q BadValue h = absurd h
     moved_answer X v w q InUse h = subst (λ o. IsAnswerUnless o b (MoveDup place node) (Err InUse)) (sym accepted) tt
-    moved_answer X v w q CrossesNodes h = absurd h
-    moved_answer X v w q UnknownPlace h = absurd h
-    moved_answer X v w q BadNode h = absurd h
+    moved_answer X v w q _ h = absurd h
 
     -- `Done` is an answer that `MoveDup` may give
     pub moved_done : IsAnswerOrMemory b (MoveDup place node) (Ok Done)
@@ -70,28 +43,25 @@ module _ (b : BookState) (place node : ℕ) (dup : DupRow) (found : Some dup ≡
 
 -- each error with which the move of a dup ends shows in the log what it has to show
 pub moved_shown : (X : Type 0) (b : BookState) (v w : KeeperView) (place node q : ℕ) → q ≡ place → (f : Fault) → IsMoved {X = X} v w q node (Err f) → HasShown b v w (Err f) (MoveDup place node)
-moved_shown X b v w place node q same Memory h = absurd h
-moved_shown X b v w place node q same UnknownPage h = absurd h
-moved_shown X b v w place node q same AlreadyRegistered h = absurd h
 moved_shown X b v w place node q same (NoFrame n) h = subst (NoneLeft v w) (sym h.0) h.1
-moved_shown X b v w place node q same NotRunning h = absurd h
-moved_shown X b v w place node q same SharedPages h = absurd h
-moved_shown X b v w place node q same BadValue h = absurd h
 moved_shown X b v w place node q same InUse h = h
-moved_shown X b v w place node q same CrossesNodes h = absurd h
-moved_shown X b v w place node q same UnknownPlace h = absurd h
-moved_shown X b v w place node q same BadNode h = absurd h
+moved_shown X b v w place node q same _ h = absurd h
+
+-- no frame is given where the dup stays
+pub moved_frames : (X : Type 0) (v w : KeeperView) (place node : ℕ) (f : Fault) → IsMoved {X = X} v w place node (Err f) → Does v w []
+moved_frames X v w place node (NoFrame n) h = (h.1.part, h.1.did)
+moved_frames X v w place node InUse h = (h.part, h.did)
+moved_frames X v w place node _ h = absurd h
 
 -- the steps of an answer
-module _ (v w : BookView) (old new : Lay) (place node : ℕ) (dup : DupRow) (found : Some dup ≡ live_dup_at v.state place)
-    (before : mapped_lay old ≡ mapped v) (behind : mapped_lay new ≡ mapped w) where
+module _ (p q : PagesView) (k l : KeeperView) (v w : BookView) (before : lying p k ≡ mapped v) (behind : lying q l ≡ mapped w) (rows : p.rows ≡ v.state.rows) (place node : ℕ) (dup : DupRow) (found : Some dup ≡ live_dup_at v.state place) where
   -- a dup that moved has made the steps that the answer `Done` stands for
-  pub done_steps : Moves (mapped_lay old) (mapped_lay new) dup node → TakesSteps v w (MoveDup place node) (Ok Done)
-  done_steps h = subst (λ o. MatchOption o ⊥ (λ d. Moves (mapped v) (mapped w) d node)) found
-      (subst (λ (z : Mapped × Mapped). Moves z.0 z.1 dup node) (λ i. (before i, behind i)) h)
+  pub done_steps : Moves (lying p k) (lying q l) p.rows dup node → TakesSteps v w (MoveDup place node) (Ok Done)
+  done_steps h = subst (λ o. MatchOption o ⊥ (λ d. Moves (mapped v) (mapped w) v.state.rows d node)) found
+      (subst (λ (z : Mapped × Mapped × List Row). Moves z.0 z.1 z.2 dup node) (λ i. (before i, behind i, rows i)) h)
 
   -- a dup that did not move has made the steps that its refusal stands for
-  pub fault_steps : (X : Type 0) (f : Fault) → MovesOr {X = X} old new dup node (Err f) → TakesSteps v w (MoveDup place node) (Err f)
+  pub fault_steps : (X : Type 0) (f : Fault) → MovesOr {X = X} p q k l dup node (Err f) → TakesSteps v w (MoveDup place node) (Err f)
   fault_steps X Memory h = absurd h
   fault_steps X UnknownPage h = absurd h
   fault_steps X AlreadyRegistered h = absurd h
@@ -99,8 +69,7 @@ module _ (v w : BookView) (old new : Lay) (place node : ℕ) (dup : DupRow) (fou
   fault_steps X NotRunning h = absurd h
   fault_steps X SharedPages h = absurd h
   fault_steps X BadValue h = absurd h
-  fault_steps X InUse h = subst (λ o. MatchOption o ⊥ (λ d. FindsHeld (mapped v) (mapped w) d node)) found
-      (subst (λ (z : Mapped × Mapped). FindsHeld z.0 z.1 dup node) (λ i. (before i, behind i)) h)
+  fault_steps X InUse h = subst (λ o. MatchOption o ⊥ (λ d. FindsHeld (mapped v) (mapped w) v.state.rows d node)) found
+      (subst (λ (z : Mapped × Mapped × List Row). FindsHeld z.0 z.1 z.2 dup node) (λ i. (before i, behind i, rows i)) h)
   fault_steps X CrossesNodes h = absurd h
-  fault_steps X UnknownPlace h = absurd h
-  fault_steps X BadNode h = absurd h
+  fault_steps X _ h = absurd h

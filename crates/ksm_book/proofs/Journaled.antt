@@ -1,10 +1,5 @@
 -- What a legal journal says of the state to which it leads.
-use Rattle.std.proofs.Common.{◌≡◌, ℕ, List, Option, Some, None, IfSome, sym, ap, ◌∙◌, subst}
-use Rattle.ksm_base.specs.declared.page.GuestPage.{GuestPage}
-use Rattle.ksm_base.specs.declared.shape.Shape.{Shape}
-use Rattle.ksm_base.specs.Journal.{Entry, IsLegal, replay, last_stored, ReadsLastStored}
-use Rattle.ksm_base.specs.Reading.{bytes_of}
-use Rattle.ksm_base.specs.State.{BookState, opening}
+use Rattle.ksm_book.proofs.Names.{ap, BookState, bytes_of, Entry, GuestPage, IfSome, IsLegal, last_stored, List, None, opening, Option, ReadsLastStored, replay, Shape, Some, subst, sym, ℕ, ◌∙◌, ◌≡◌}
 
 -- the rows of a book with a legal journal have the bytes stored last by it
 pub rows_stored : (shape : Shape) (journal : List Entry) (b : BookState) → ReadsLastStored journal (replay (opening shape) journal).rows → IsLegal shape journal b → ReadsLastStored journal b.rows

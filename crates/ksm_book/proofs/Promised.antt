@@ -1,49 +1,10 @@
 -- A lawful placement says the sentences that are promised.
-use Rattle.std.proofs.Common.{inl, inr, ◌≡◌, ◌≢◌, ℕ, zero, suc, ◌+◌, ◌<◌, ◌≤◌, Bool, true, false, List, [], ◌∷◌, ◌++◌, length, map, get_or, Option, Some, None, refl, sym, ap, ◌∙◌, subst, arith}
-use Rattle.std.specs.Prelude.{All, AllPairs, Contains, ◌==◌, not, count_by, filter, is_some, MatchOption}
-use Rattle.std.specs.List.{zip}
-use Rattle.std.proofs.lemmas.Bool.{cases_Bool, lt-ltb, not-true}
-use Rattle.std.proofs.lemmas.Bool.Decides.{nat_tests}
-use Rattle.std.proofs.lemmas.List.Elements.{All-cons, All-head, All-tail, All-filter, All-map, All-weaker, filter_passes, Contains-append_left, Contains-append_right}
-use Rattle.std.proofs.lemmas.List.Kept.{AllPairs-cons, AllPairs-filter}
-use Rattle.ksm_base.specs.declared.row.PageState.{PageState}
-use Rattle.ksm_base.specs.declared.row.PageState.TheVariants.{Private as OwnPage, Waiting, Merged, Zero}
-use Rattle.ksm_base.specs.declared.row.Row.{Row}
-use Rattle.ksm_base.specs.declared.row.DupRow.{DupRow}
-use Rattle.ksm_base.specs.Rows.{dup_numbered, has_items, item_count, merged_into, shared_state, zero_state, all_zero}
-use Rattle.ksm_base.specs.Sound.{IsSound}
-use Rattle.ksm_base.specs.State.{BookState}
-use Rattle.ksm_base.proofs.Edits.{count_more, counts_one, none_counted}
-use Rattle.ksm_base.proofs.Orders.{pairs_append, pairs_head, pairs_tail}
-use Rattle.ksm_base.proofs.SoundItems.{dup_of_item, home_of_item}
-use Rattle.frame_core.specs.declared.frame.Kind.{Kind}
-use Rattle.frame_core.specs.declared.frame.Kind.TheVariants.{Free, Filling, Private, Stable, Dying, Retired}
-use Rattle.frame_core.specs.declared.ledger.Ledger.{Ledger}
-use Rattle.frame_core.specs.declared.seat.Life.{Life}
-use Rattle.frame_core.specs.Ledger.{frame_at, named_at}
-use Rattle.frame_table.specs.Named.{KeeperView}
-use Rattle.ksm_layout.specs.Commands.{frame_number}
-use Rattle.ksm_layout.specs.Lawful.{LieLawfully}
-use Rattle.ksm_layout.specs.Placement.{uses, kind_for, IsServed, FitsBase, life_or, place_frame, Placed}
-use Rattle.ksm_pages.specs.Listed.{frame_in, row_in, no_row, is_frame}
-use Rattle.ksm_book.specs.Promised.{own_frames, dup_frames, is_in_use, HasItsOwn, StandsOn, IsOutlived, LieOn}
-use Rattle.ksm_layout.proofs.Laying.{own_kind, own_framed}
-use Rattle.ksm_layout.proofs.Moves.{base_is_items, stale_is_loose, framed, is_that}
-use Rattle.ksm_book.proofs.Standing.{Lives, frames_apart, item_framed, lives}
-
--- what holds of each row with its frame
-zip_all : (P : Row × Option ℕ → Type 0) (rows : List Row) (frames : List (Option ℕ)) → length frames ≡ length rows → ((i : ℕ) → i < length rows → P (row_in rows i, frame_in frames i)) → All P (zip rows frames)
-zip_all P [] [] long each = λ k d lt. absurd (omega arith)
-zip_all P [] (f ∷ frames) long each = λ k d lt. absurd (omega arith)
-zip_all P (r ∷ rows) [] long each = λ k d lt. absurd (omega arith)
-zip_all P (r ∷ rows) (f ∷ frames) long each =
-    All-cons P (r, f) (zip rows frames) (each 0 (omega arith)) (zip_all P rows frames (omega (arith, long)) (λ i lt. each (suc i) (omega arith)))
-
-zip_at : (rows : List Row) (frames : List (Option ℕ)) (i : ℕ) → length frames ≡ length rows → i < length rows → (i < length (zip rows frames)) × ((d : Row × Option ℕ) → get_or (zip rows frames) i d ≡ (row_in rows i, frame_in frames i))
-zip_at [] frames i long lt = absurd (omega arith)
-zip_at (r ∷ rows) [] i long lt = absurd (omega arith)
-zip_at (r ∷ rows) (f ∷ frames) zero long lt = (omega arith, λ d. refl)
-zip_at (r ∷ rows) (f ∷ frames) (suc i) long lt = let rest = zip_at rows frames i (omega (arith, long)) (omega arith) in ((let l = rest.0 in omega (arith, l)), rest.1)
+use Rattle.ksm_book.proofs.Names.{eqb-true, find_passes, eq-eqb, [], All, All-filter, All-head, All-map, All-tail, AllPairs, AllPairs-cons, AllPairs-filter, ap, arith, BookState, Bool, cases_Bool, Contains, Contains-append_left, Contains-append_right, count_by, count_more, counts_one, dup_frames, dup_of_item, DupRow, false, Filling, filter, filter_passes, FitsBase, frame_at, frame_number, Frames, get_or, GuestPage, has_items, HasItsOwn, home_of_item, if◌then◌else◌, inl, inr, is_frame, is_in_use, is_some, IsOutlived, IsServed, IsSound, item_count, Kind, kind_for, Ledger, length, LieOn, Life, life_or, List, lt-ltb, map, MatchOption, Merged, merged_into, named_at, nat_tests, None, none_counted, not, not-true, Option, own_frames, PageState, pairs_append, pairs_head, pairs_tail, place_frame, Placed, Private, refl, Row, row_at, shared_state, Some, Stable, StandsOn, subst, suc, sym, true, uses, Zero, zero, zero_state, ℕ, ◌++◌, ◌+◌, ◌<◌, ◌==◌, ◌∙◌, ◌∷◌, ◌≡◌, ◌≢◌, ◌≤◌}
+use Rattle.ksm_book.proofs.ByPage.{is_that}
+use Rattle.ksm_book.proofs.Laying.{own_kind, own_framed}
+use Rattle.ksm_book.proofs.Moves.{base_is_items, stale_is_loose, framed}
+use Rattle.ksm_book.proofs.Standing.{Lives, frames_apart, lives}
+use Rattle.ksm_book.proofs.Sharing.{first_found, index_found, state_of_item}
 
 -- what passes a test is among those that pass, and so is what is made of it
 passing : {X : Type 0} (f : X → ℕ) (test : X → Bool) (xs : List X) (i : ℕ) (d : X) → i < length xs → test (get_or xs i d) ≡ true → Contains (map f (filter test xs)) (f (get_or xs i d))
@@ -74,62 +35,61 @@ abbrev IsThere : Option ℕ → Type 0
 IsThere None = ⊥
 IsThere (Some f) = Unit {0}
 
--- a frame is a row's own at most as often as it is listed
-own_count : (f : ℕ) (rows : List Row) (frames : List (Option ℕ)) → All (λ z. shared_state z.0.state ≡ false → IsThere z.1) (zip rows frames) → count_by (λ g. g == f) (own_frames rows frames) ≤ uses f frames
-own_count f [] frames all = omega arith
-own_count f (r ∷ rows) [] all = omega arith
-own_count f (r ∷ rows) (None ∷ frames) all =
-    let P : Row × Option ℕ → Type 0 = λ z. shared_state z.0.state ≡ false → IsThere z.1 in
-    let rest = own_count f rows frames (All-tail P (r, None) (zip rows frames) all) in
-    let here = All-head P (r, None) (zip rows frames) all in
-    let more = count_more (is_frame f) None frames in
+-- a frame is a row's own at most as often as rows lie on it
+own_count : (f : ℕ) (frame : Frames) (rows : List Row) → All (λ r. shared_state r.state ≡ false → IsThere (frame r.page)) rows → count_by (λ g. g == f) (own_frames rows frame) ≤ uses f frame rows
+own_count f frame [] all = omega arith
+own_count f frame (r ∷ rows) all =
+    let Q : Row → Type 0 = λ r. shared_state r.state ≡ false → IsThere (frame r.page) in
+    let rest = own_count f frame rows (All-tail Q r rows all) in
+    let here = All-head Q r rows all in
+    let more = count_more (λ s. is_frame f (frame s.page)) r rows in
     elim (cases_Bool (shared_state r.state)) [
       | inl shared ↦ grind (arith, rest, more, shared)
-      | inr own ↦ absurd (here own)
+      | inr own ↦ by (frame r.page) refl rest more own (here own)
     ]
-own_count f (r ∷ rows) (Some h ∷ frames) all =
-    let P : Row × Option ℕ → Type 0 = λ z. shared_state z.0.state ≡ false → IsThere z.1 in
-    let rest = own_count f rows frames (All-tail P (r, Some h) (zip rows frames) all) in
-    let more = count_more (is_frame f) (Some h) frames in
-    let own = count_more (λ g. g == f) h (own_frames rows frames) in
-    grind (arith, rest, more, own)
+  where
+    by : (o : Option ℕ) → frame r.page ≡ o → count_by (λ g. g == f) (own_frames rows frame) ≤ uses f frame rows → uses f frame (r ∷ rows) ≡ (if is_frame f (frame r.page) then 1 else 0) + uses f frame rows
+        → shared_state r.state ≡ false → IsThere o → count_by (λ g. g == f) (own_frames (r ∷ rows) frame) ≤ uses f frame (r ∷ rows)
+    by None e rest more own none = absurd none
+    by (Some h) e rest more own there =
+        let list : own_frames (r ∷ rows) frame ≡ frame_number (frame r.page) ∷ own_frames rows frame = grind (arith, own) in
+        let count = ap (count_by (λ g. g == f)) list ∙ count_more (λ g. g == f) (frame_number (frame r.page)) (own_frames rows frame) in
+        let number = ap {B = ℕ} (λ n. if n == f then 1 else 0) (ap frame_number e) in
+        let test = ap {B = ℕ} (λ (o : Option ℕ). if is_frame f o then 1 else 0) e in
+        omega (arith, rest, more, count, number, test)
 
-all_own : (P : ℕ → Type 0) (rows : List Row) (frames : List (Option ℕ)) → All (λ z. shared_state z.0.state ≡ false → P (frame_number z.1)) (zip rows frames) → All P (own_frames rows frames)
-all_own P rows frames all =
-    let test : Row × Option ℕ → Bool = λ z. not (shared_state z.0.state) in
-    let zs = zip rows frames in
-    let passes = filter_passes test zs in
-    let kept = All-filter test (λ z. shared_state z.0.state ≡ false → P (frame_number z.1)) zs all in
-    All-map P (λ z. frame_number z.1) (filter test zs) (λ k d lt. kept k d lt (not-true _ (passes k d lt)))
+all_own : (P : ℕ → Type 0) (rows : List Row) (frame : Frames) → All (λ r. shared_state r.state ≡ false → P (frame_number (frame r.page))) rows → All P (own_frames rows frame)
+all_own P rows frame all =
+    let test : Row → Bool = λ r. not (shared_state r.state) in
+    let passes = filter_passes test rows in
+    let kept = All-filter test (λ r. shared_state r.state ≡ false → P (frame_number (frame r.page))) rows all in
+    All-map P (λ r. frame_number (frame r.page)) (filter test rows) (λ k d lt. kept k d lt (not-true _ (passes k d lt)))
 
 named_life : (o : Option Life) → is_some o ≡ true → o ≡ Some (life_or o)
 named_life None some = absurd (grind (arith, some))
 named_life (Some life) some = refl
 
 alone_of_kind : (s : PageState) → kind_for s ≡ Private → shared_state s ≡ false
-alone_of_kind OwnPage is = refl
-alone_of_kind Waiting is = refl
 alone_of_kind (Merged n) is = cc
 alone_of_kind Zero is = cc
+alone_of_kind _ is = refl
 
 number_of_kind : (s : PageState) → kind_for s ≡ Stable → (n : ℕ) × (s ≡ Merged n)
-number_of_kind OwnPage is = cc
-number_of_kind Waiting is = cc
 number_of_kind (Merged n) is = (n, refl)
-number_of_kind Zero is = cc
+number_of_kind _ is = cc
 
-module _ (b : BookState) (k : Ledger) (s : IsSound b) (frames : List (Option ℕ)) (p : Placed b.shape b.knobs.merge_across_nodes k b.rows frames b.dups None) where
+module _ (b : BookState) (k : Ledger) (s : IsSound b) (frame : Frames) (p : Placed b.shape b.knobs.merge_across_nodes k b.rows frame b.dups None) (absent : (page : GuestPage) → row_at page b.rows ≡ None → frame page ≡ None) where
   abbrev across : ℕ
   across = b.knobs.merge_across_nodes
 
   abbrev own : List ℕ
-  own = own_frames b.rows frames
+  own = own_frames b.rows frame
 
   abbrev shown : List ℕ
   shown = dup_frames b k
 
-  abbrev Owns : Row × Option ℕ → Type 0
-  Owns z = shared_state z.0.state ≡ false → MatchOption z.1 ⊥ (HasItsOwn b.shape k z.0)
+  abbrev Owns : Row → Type 0
+  Owns r = shared_state r.state ≡ false → MatchOption (frame r.page) ⊥ (HasItsOwn b.shape k r)
 
   has_its_own : (r : Row) (o : Option ℕ) → IsServed b.shape k b.dups r o → shared_state r.state ≡ false → MatchOption o ⊥ (HasItsOwn b.shape k r)
   has_its_own r None zero_is alone = let none = own_framed r.state alone in absurd (grind (arith, zero_is, none))
@@ -144,8 +104,8 @@ module _ (b : BookState) (k : Ledger) (s : IsSound b) (frames : List (Option ℕ
         content = fits.content;
       }
 
-  owns : All Owns (zip b.rows frames)
-  owns = zip_all Owns b.rows frames p.paired (λ i lt. has_its_own (row_in b.rows i) (frame_in frames i) (p.each_row i lt))
+  owns : All Owns b.rows
+  owns = λ i r lt. has_its_own (get_or b.rows i r) (frame (get_or b.rows i r).page) (p.each_row i r lt)
 
   -- what is true of an own frame
   of_own : (P : ℕ → Type 0) (r : Row) (o : Option ℕ) → ((f : ℕ) → HasItsOwn b.shape k r f → P f) → MatchOption o ⊥ (HasItsOwn b.shape k r) → P (frame_number o)
@@ -156,16 +116,16 @@ module _ (b : BookState) (k : Ledger) (s : IsSound b) (frames : List (Option ℕ
   there_is None r h = h
   there_is (Some g) r h = tt
 
-  owns_there : All (λ z. shared_state z.0.state ≡ false → IsThere z.1) (zip b.rows frames)
-  owns_there = All-weaker Owns (λ z. shared_state z.0.state ≡ false → IsThere z.1) (λ z h alone. there_is z.1 z.0 (h alone)) (zip b.rows frames) owns
+  owns_there : All (λ r. shared_state r.state ≡ false → IsThere (frame r.page)) b.rows
+  owns_there = λ i r lt alone. let row = get_or b.rows i r in there_is (frame row.page) row (owns i r lt alone)
 
   -- a Zero row has no frame, and only zeroes
   zero_none : (r : Row) (o : Option ℕ) → IsServed b.shape k b.dups r o → zero_state r.state ≡ true → o ≡ None
   zero_none r None served zero_is = refl
   zero_none r (Some f) served zero_is = (let not_so = served.0.mapped in absurd (grind (arith, not_so, zero_is)))
 
-  dup_lives : All (λ d. has_items b.rows d ≡ true → Lives k b.rows frames d) b.dups
-  dup_lives n d lt some = lives b.shape across k b.rows frames b.dups p n d lt (λ none. absurd (grind (arith, nat_tests, some, none)))
+  dup_lives : All (λ d. has_items b.rows d ≡ true → Lives k b.dups b.shape frame d) b.dups
+  dup_lives n d lt some = lives b.shape across k b.rows frame b.dups p n d lt (λ none. absurd (grind (arith, nat_tests, some, none)))
 
   stands : All (λ d. has_items b.rows d ≡ true → StandsOn b k d (place_frame k d.place)) b.dups
   stands n d lt some =
@@ -176,7 +136,7 @@ module _ (b : BookState) (k : Ledger) (s : IsSound b) (frames : List (Option ℕ
         named = named_life (named_at k e.place) fit.named ∙ ap (λ g. Some (record { frame = place_frame k e.place; generation = g })) (sym a.life);
         exists = fit.frame;
         kind = a.kind;
-        base = base_is_items b.shape across k b.rows frames b.dups p n d lt a.life;
+        base = base_is_items b.shape across k b.rows frame b.dups p n d lt a.life;
         limit = s.limit n d lt;
         content = fit.content a.life;
         bytes = λ j r l into. sym (dup_of_item b s n d lt j r l into).bytes;
@@ -185,20 +145,19 @@ module _ (b : BookState) (k : Ledger) (s : IsSound b) (frames : List (Option ℕ
       }
 
   own_kinds : All (λ f. (frame_at k f).kind ≡ Private) own
-  own_kinds = all_own (λ f. (frame_at k f).kind ≡ Private) b.rows frames (All-weaker Owns (λ z. shared_state z.0.state ≡ false → (frame_at k (frame_number z.1)).kind ≡ Private)
-      (λ z h alone. of_own (λ f. (frame_at k f).kind ≡ Private) z.0 z.1 (λ f own. own.kind) (h alone)) (zip b.rows frames) owns)
+  own_kinds = all_own (λ f. (frame_at k f).kind ≡ Private) b.rows frame (λ i r lt alone. let row = get_or b.rows i r in of_own (λ f. (frame_at k f).kind ≡ Private) row (frame row.page) (λ f own. own.kind) (owns i r lt alone))
 
   -- a frame with one reference is listed once
   own_distinct : AllPairs (λ f g. f ≢ g) own
   own_distinct = once_each own (λ i d lt.
       let f = get_or own i d in
       let one : (frame_at k f).base ≡ 1 = subst (λ (x : Kind). FitsBase x (frame_at k f).base) (own_kinds i d lt) (p.kinds f) in
-      let listed : (frame_at k f).base ≡ uses f frames + 0 = p.bases f in
-      let few = own_count f b.rows frames owns_there in
+      let listed : (frame_at k f).base ≡ uses f frame b.rows + 0 = p.bases f in
+      let few = own_count f frame b.rows owns_there in
       omega (arith, one, listed, few))
 
   abbrev Live : DupRow → Type 0
-  Live d = Lives k b.rows frames d
+  Live d = Lives k b.dups b.shape frame d
 
   live_kept : All Live (filter (has_items b.rows) b.dups)
   live_kept =
@@ -210,7 +169,7 @@ module _ (b : BookState) (k : Ledger) (s : IsSound b) (frames : List (Option ℕ
   shown_kinds = All-map (λ f. (frame_at k f).kind ≡ Stable) (λ d. place_frame k d.place) (filter (has_items b.rows) b.dups) (λ i d lt. (live_kept i d lt).kind)
 
   shown_distinct : AllPairs (λ f g. f ≢ g) shown
-  shown_distinct = go (filter (has_items b.rows) b.dups) live_kept (AllPairs-filter Apart (has_items b.rows) b.dups (λ i j d before lt. frames_apart b.shape across k b.rows frames b.dups p s.dups_rise i j d before lt))
+  shown_distinct = go (filter (has_items b.rows) b.dups) live_kept (AllPairs-filter Apart (has_items b.rows) b.dups (λ i j d before lt. frames_apart b.shape across k b.rows frame b.dups p s.dups_rise i j d before lt))
     where
       Apart : DupRow → DupRow → Type 0
       Apart d e = Live d → Live e → place_frame k d.place ≢ place_frame k e.place
@@ -231,66 +190,49 @@ module _ (b : BookState) (k : Ledger) (s : IsSound b) (frames : List (Option ℕ
       let both : Private ≡ Stable = sym private' ∙ ap (λ h. (frame_at k h).kind) same ∙ stable in
       cc)
 
-  -- a frame that is listed is listed somewhere
-  listed_at : (f : ℕ) (fs : List (Option ℕ)) → 1 ≤ uses f fs → (i : ℕ) × (i < length fs) × (frame_in fs i ≡ Some f)
-  listed_at f [] some = absurd (omega (arith, some))
-  listed_at f (g ∷ fs) some = elim (cases_Bool (is_frame f g)) [
-    | inl here ↦ (0, omega arith, is_that f g here)
-    | inr there ↦
-        let more = count_more (is_frame f) g fs in
-        let rest = listed_at f fs (grind (arith, more, there, some)) in
-        (suc rest.0, (let lt = rest.1 in omega (arith, lt)), rest.2)
-  ]
+  -- a frame that is used has a row on it
+  row_on : (f : ℕ) (rows : List Row) → 1 ≤ uses f frame rows → (i : ℕ) × (r : Row) × (i < length rows) × (frame (get_or rows i r).page ≡ Some f)
+  row_on f rows some =
+      let test : Row → Bool = λ r. is_frame f (frame r.page) in
+      let first = first_found test rows some in
+      let at = index_found test rows first.0 first.1 in
+      (at.0, first.0, at.1, ap (λ (r : Row). frame r.page) (at.2 first.0) ∙ is_that f (frame first.0.page) (find_passes test rows first.0 first.1))
 
-  own_listed : (f i : ℕ) → i < length b.rows → frame_in frames i ≡ Some f → (frame_at k f).kind ≡ Private → Contains (own ++ shown) f
-  own_listed f i lt is kind =
-      let at = zip_at b.rows frames i p.paired lt in
-      let d0 : Row × Option ℕ = (no_row, None) in
-      let fits = subst (IsServed b.shape k b.dups (row_in b.rows i)) is (p.each_row i lt) in
-      let alone = alone_of_kind (row_in b.rows i).state (sym fits.0.kind ∙ kind) in
-      let there = passing (λ z. frame_number z.1) (λ z. not (shared_state z.0.state)) (zip b.rows frames) i d0 at.0 (ap (λ (z : Row × Option ℕ). not (shared_state z.0.state)) (at.1 d0) ∙ ap not alone) in
-      Contains-append_left own shown f (subst (Contains own) (ap (λ (z : Row × Option ℕ). frame_number z.1) (at.1 d0) ∙ ap frame_number is) there)
+  own_listed : (f i : ℕ) (r : Row) → i < length b.rows → frame (get_or b.rows i r).page ≡ Some f → (frame_at k f).kind ≡ Private → Contains (own ++ shown) f
+  own_listed f i r lt is kind =
+      let row = get_or b.rows i r in
+      let fits = subst (IsServed b.shape k b.dups row) is (p.each_row i r lt) in
+      let alone = alone_of_kind row.state (sym fits.0.kind ∙ kind) in
+      let there = passing (λ z. frame_number (frame z.page)) (λ z. not (shared_state z.state)) b.rows i r lt (ap not alone) in
+      Contains-append_left own shown f (subst (Contains own) (ap frame_number is) there)
 
-  shown_listed : (f i : ℕ) → i < length b.rows → frame_in frames i ≡ Some f → (frame_at k f).kind ≡ Stable → Contains (own ++ shown) f
-  shown_listed f i lt is kind =
-      let row = row_in b.rows i in
-      let fits = subst (IsServed b.shape k b.dups row) is (p.each_row i lt) in
+  shown_listed : (f i : ℕ) (r : Row) → i < length b.rows → frame (get_or b.rows i r).page ≡ Some f → (frame_at k f).kind ≡ Stable → Contains (own ++ shown) f
+  shown_listed f i r lt is kind =
+      let row = get_or b.rows i r in
+      let fits = subst (IsServed b.shape k b.dups row) is (p.each_row i r lt) in
       let number = number_of_kind row.state (sym fits.0.kind ∙ kind) in
-      let its = s.items i no_row lt number.0 number.1 in
-      let at = numbered_at number.0 b.dups its.0 its.1.stands in
-      let into : merged_into (get_or b.dups at.0 its.0).number row.state ≡ true = ap (merged_into (get_or b.dups at.0 its.0).number) number.1 ∙ at.2 in
+      let its = s.items i r lt number.0 number.1 in
+      let at = index_found (λ d. d.number == number.0) b.dups its.0 its.1.stands in
+      let into : merged_into (get_or b.dups at.0 its.0).number row.state ≡ true = ap (merged_into (get_or b.dups at.0 its.0).number) number.1 ∙ eq-eqb number.0 (get_or b.dups at.0 its.0).number (sym (ap (λ (d : DupRow). d.number) (at.2 its.0) ∙ eqb-true its.0.number number.0 (find_passes (λ d. d.number == number.0) b.dups its.0 its.1.stands))) in
       let lies = (fits.1 at.0 its.0 at.1).item into in
-      let counted : 0 < item_count b.rows (get_or b.dups at.0 its.0) = counts_one (λ r. merged_into (get_or b.dups at.0 its.0).number r.state) b.rows i no_row lt into in
+      let counted : 0 < item_count b.rows (get_or b.dups at.0 its.0) = counts_one (λ r. merged_into (get_or b.dups at.0 its.0).number r.state) b.rows i r lt into in
       let there = passing (λ d. place_frame k d.place) (has_items b.rows) b.dups at.0 its.0 at.1 (lt-ltb 0 (item_count b.rows (get_or b.dups at.0 its.0)) counted) in
       Contains-append_right own shown f (subst (Contains shown) (sym lies.0) there)
-    where
-      numbered_at : (n : ℕ) (ds : List DupRow) (d : DupRow) → dup_numbered n ds ≡ Some d → (j : ℕ) × (j < length ds) × ((n == (get_or ds j d).number) ≡ true)
-      numbered_at n [] d found = cc
-      numbered_at n (e ∷ ds) d found = elim (cases_Bool (e.number == n)) [
-        | inl here ↦ (0, omega arith, grind (arith, nat_tests, here))
-        | inr there ↦ let rest = numbered_at n ds d (grind (arith, there, found)) in (suc rest.0, (let l = rest.1 in omega (arith, l)), rest.2)
-      ]
 
   in_use_listed : (f : ℕ) → is_in_use (frame_at k f).kind ≡ true → Contains (own ++ shown) f
   in_use_listed f used = go (frame_at k f).kind refl used
     where
-      at_row : 1 ≤ (frame_at k f).base → (i : ℕ) × (i < length b.rows) × (frame_in frames i ≡ Some f)
-      at_row some =
-          let listed : (frame_at k f).base ≡ uses f frames + 0 = p.bases f in
-          let at = listed_at f frames (omega (arith, some, listed)) in
-          let long = p.paired in
-          (at.0, (let lt = at.1 in omega (arith, lt, long)), at.2)
+      at_row : 1 ≤ (frame_at k f).base → (i : ℕ) × (r : Row) × (i < length b.rows) × (frame (get_or b.rows i r).page ≡ Some f)
+      at_row some = let used : (frame_at k f).base ≡ uses f frame b.rows + 0 = p.bases f in row_on f b.rows (omega (arith, some, used))
 
       fits_as : (kind : Kind) → (frame_at k f).kind ≡ kind → FitsBase kind (frame_at k f).base
       fits_as kind is = subst (λ (x : Kind). FitsBase x (frame_at k f).base) is (p.kinds f)
 
       go : (kind : Kind) → (frame_at k f).kind ≡ kind → is_in_use kind ≡ true → Contains (own ++ shown) f
-      go Free is some = absurd (grind (arith, some))
       go Filling is some = absurd (fits_as Filling is)
-      go Private is some = let one = fits_as Private is in let at = at_row (omega (arith, one)) in own_listed f at.0 at.1 at.2 is
-      go Stable is some = let at = at_row (fits_as Stable is) in shown_listed f at.0 at.1 at.2 is
-      go Dying is some = absurd (grind (arith, some))
-      go Retired is some = absurd (grind (arith, some))
+      go Private is some = let one = fits_as Private is in let at = at_row (omega (arith, one)) in own_listed f at.0 at.1 at.2 at.3 is
+      go Stable is some = let at = at_row (fits_as Stable is) in shown_listed f at.0 at.1 at.2 at.3 is
+      go _ is some = absurd (grind (arith, some))
 
   outlived : All (λ d. has_items b.rows d ≡ false → IsOutlived k d.place) b.dups
   outlived n d lt none =
@@ -299,19 +241,18 @@ module _ (b : BookState) (k : Ledger) (s : IsSound b) (frames : List (Option ℕ
       record {
         life = life_or (named_at k e.place);
         named = named_life (named_at k e.place) fit.named;
-        over = λ life. stale_is_loose b.shape across k b.rows frames b.dups p n d lt (let zero_is : item_count b.rows e ≡ 0 = grind (arith, nat_tests, none) in zero_is) life;
+        over = λ life. stale_is_loose b.shape across k b.rows frame b.dups p n d lt (let zero_is : item_count b.rows e ≡ 0 = grind (arith, nat_tests, none) in zero_is) life;
       }
 
-  pub lie_on : LieOn b frames k
+  pub lie_on : LieOn b frame k
   lie_on = record {
-    one_each = p.paired;
     own = owns;
-    merged = zip_all (λ z. All (λ d. merged_into d.number z.0.state ≡ true → z.1 ≡ Some (place_frame k d.place)) b.dups) b.rows frames p.paired
-        (λ i lt n d l into.
-        let has = framed b.shape k b.dups (row_in b.rows i) (frame_in frames i) (item_framed (get_or b.dups n d).number (row_in b.rows i).state into) (p.each_row i lt) in
-        has.1 ∙ ap Some ((has.2.1 n d l).item into).0);
-    zero = zip_all (λ z. zero_state z.0.state ≡ true → (z.1 ≡ None) × (all_zero z.0.bytes ≡ true)) b.rows frames p.paired
-        (λ i lt zero_is. (zero_none (row_in b.rows i) (frame_in frames i) (p.each_row i lt) zero_is, s.zero i no_row lt zero_is));
+    merged = λ i r lt n d l into.
+        let row = get_or b.rows i r in
+        let has = framed b.shape k b.dups row (frame row.page) (ap zero_state (state_of_item (get_or b.dups n d).number row.state into)) (p.each_row i r lt) in
+        has.1 ∙ ap Some ((has.2.1 n d l).item into).0;
+    zero = λ i r lt zero_is. let row = get_or b.rows i r in (zero_none row (frame row.page) (p.each_row i r lt) zero_is, s.zero i r lt zero_is);
+    absent = absent;
     dups = stands;
     distinct = all_distinct;
     no_other = in_use_listed;
@@ -319,7 +260,3 @@ module _ (b : BookState) (k : Ledger) (s : IsSound b) (frames : List (Option ℕ
     stale = outlived;
     empty = p.empty;
   }
-
--- a sound book that lies lawfully by the invariant does so by what is promised
-pub lies_on : (b : BookState) (frames : List (Option ℕ)) (k : KeeperView) → IsSound b → LieLawfully b frames k → LieOn b frames k.ledger
-lies_on b frames k s lies = lie_on b k.ledger s frames lies

@@ -1,123 +1,65 @@
 -- The frames of dups with items in a lawful placement, and why a new dup finds a place.
-use Rattle.std.proofs.Common.{inl, inr, ◌≡◌, ◌≢◌, ℕ, zero, suc, ◌+◌, ◌<◌, ◌≤◌, ◌^◌, Bool, true, false, List, [], ◌∷◌, length, map, get_or, Option, Some, None, refl, sym, ap, ◌∙◌, subst, arith}
-use Rattle.std.specs.Prelude.{All, ◌==◌, count_by, find, nat_lt}
-use Rattle.std.specs.List.{list_any}
-use Rattle.std.proofs.Math.Dec.{eqb}
-use Rattle.std.proofs.lemmas.Bool.{cases_Bool, cond_both, eqb-true, ne_eqb, ltb-true}
-use Rattle.std.proofs.lemmas.Bool.Decides.{nat_tests}
-use Rattle.std.proofs.lemmas.List.{get_or-map, length-map, get_or_default}
-use Rattle.std.proofs.lemmas.List.Elements.{All-cons, All-head, All-tail}
-use Rattle.std.proofs.lemmas.Map.Keys.{IsDistinct-from_apart}
-use Rattle.std.proofs.lemmas.Map.Steps.{length-le_from_distinct_below}
-use Rattle.ksm_base.specs.declared.shape.Shape.{Shape}
-use Rattle.ksm_base.specs.declared.row.PageState.{PageState}
-use Rattle.ksm_base.specs.declared.row.PageState.TheVariants.{Private as OwnPage, Waiting, Merged, Zero}
-use Rattle.ksm_base.specs.declared.row.Row.{Row}
-use Rattle.ksm_base.specs.declared.row.DupRow.{DupRow}
-use Rattle.ksm_base.specs.Rows.{InPlaceOrder, item_count, is_stale, merged_into, shared_state, zero_state}
-use Rattle.ksm_base.specs.Values.{frames_of}
-use Rattle.ksm_base.specs.declared.page.GuestPage.{GuestPage}
-use Rattle.ksm_base.specs.Sound.{IsSound}
-use Rattle.ksm_base.specs.State.{BookState, place_count}
-use Rattle.ksm_base.specs.Visit.{empty_from, new_place, partner, place_or, waits_for}
-use Rattle.ksm_base.proofs.Edits.{count_more, find_all, find_none, find_passes}
-use Rattle.ksm_base.proofs.SoundPair.{waits_tells}
-use Rattle.frame_core.specs.declared.frame.Kind.{Kind}
-use Rattle.frame_core.specs.declared.frame.Kind.TheVariants.{Private, Stable}
-use Rattle.frame_core.specs.declared.ledger.Ledger.{Ledger}
-use Rattle.frame_core.specs.Ledger.{frame_at}
-use Rattle.ksm_layout.specs.Placement.{kind_for, place_frame, IsInLife, IsServed, Placed}
-use Rattle.ksm_pages.specs.Listed.{frame_in, row_in, no_row}
-use Rattle.frame_table.specs.Named.{KeeperView}
-use Rattle.ksm_layout.specs.Laid.{Lay, state_of}
-use Rattle.ksm_book.specs.Promised.{FindsPlace, NumbersAreSmall}
-use Rattle.ksm_layout.specs.Lawful.{LieLawfully}
-use Rattle.ksm_layout.proofs.Laying.{own_kind, own_framed}
-use Rattle.ksm_layout.proofs.Moves.{Serves, framed}
-use Rattle.ksm_book.proofs.Visiting.{waiting_is_alone}
-use Rattle.ksm_layout.proofs.Joining.{state_of_item}
-
-kind_of_item : (n : ℕ) (s : PageState) → merged_into n s ≡ true → kind_for s ≡ Stable
-kind_of_item n OwnPage e = absurd (grind (arith, e))
-kind_of_item n Waiting e = absurd (grind (arith, e))
-kind_of_item n (Merged d) e = refl
-kind_of_item n Zero e = absurd (grind (arith, e))
-
--- an item has a frame
-pub item_framed : (n : ℕ) (s : PageState) → merged_into n s ≡ true → zero_state s ≡ false
-item_framed n OwnPage e = refl
-item_framed n Waiting e = refl
-item_framed n (Merged d) e = refl
-item_framed n Zero e = absurd (grind (arith, e))
-
--- an element that is counted stands somewhere
-counted_at : (test : Row → Bool) (rows : List Row) → (count_by test rows ≡ 0 → ⊥) → (j : ℕ) × (j < length rows) × (test (row_in rows j) ≡ true)
-counted_at test [] some = absurd (some refl)
-counted_at test (r ∷ rows) some = elim (cases_Bool (test r)) [
-  | inl here ↦ (0, omega arith, here)
-  | inr there ↦
-      let more = count_more test r rows in
-      let rest = counted_at test rows (λ none. some (grind (arith, more, there, none))) in
-      (suc rest.0, (let lt = rest.1 in omega (arith, lt)), rest.2)
-]
+use Rattle.ksm_book.proofs.Names.{find_passes, Merged, [], All, All-cons, All-head, All-tail, ap, arith, BookState, Bool, cases_Bool, cond_both, DupRow, empty_from, eqb, eqb-true, false, find, find_all, find_none, FindsPlace, frame_at, Frames, frames_of, get_or, get_or-map, GuestPage, inl, InPlaceOrder, inr, is_stale, IsDistinct-from_apart, IsInLife, IsLaid, IsServed, IsSound, item_count, KeeperView, kind_for, Ledger, length, length-le_from_distinct_below, length-map, List, list_any, ltb-true, map, merged_into, nat_lt, nat_tests, ne_eqb, new_place, None, NumbersAreSmall, Option, PagesView, place_frame, place_or, Placed, Private, refl, Row, Shape, shared_state, Some, Stable, state_of, subst, suc, sym, true, zero, zero_state, ℕ, ◌+◌, ◌<◌, ◌==◌, ◌^◌, ◌∙◌, ◌∷◌, ◌≡◌, ◌≢◌, ◌≤◌}
+use Rattle.ksm_book.proofs.Laying.{own_kind, own_framed}
+use Rattle.ksm_book.proofs.Moves.{Serves, framed}
+use Rattle.ksm_book.proofs.Sharing.{first_found, state_of_item}
 
 -- a dup with items: an item lies on the frame that its place names, which is stable in the life named
-pub record Lives (k : Ledger) (rows : List Row) (frames : List (Option ℕ)) (d : DupRow) : Type 0 where
-  pub item : ℕ
-  pub inside : item < length rows
-  pub merged : merged_into d.number (row_in rows item).state ≡ true
-  pub lies : frame_in frames item ≡ Some (place_frame k d.place)
+pub record Lives (k : Ledger) (dups : List DupRow) (sh : Shape) (frame : Frames) (d : DupRow) : Type 0 where
+  pub item : Row
+  pub served : IsServed sh k dups item (frame item.page)
+  pub merged : merged_into d.number item.state ≡ true
+  pub lies : frame item.page ≡ Some (place_frame k d.place)
   pub life : IsInLife k d.place
   pub kind : (frame_at k (place_frame k d.place)).kind ≡ Stable
 
-abbrev is_private : Kind → Type 0
-is_private Private = Unit {0}
-is_private _ = ⊥
-
-module _ (sh : Shape) (across : ℕ) (k : Ledger) (rows : List Row) (frames : List (Option ℕ)) (dups : List DupRow) (p : Placed sh across k rows frames dups None) where
+module _ (sh : Shape) (across : ℕ) (k : Ledger) (rows : List Row) (frame : Frames) (dups : List DupRow) (p : Placed sh across k rows frame dups None) where
   -- a dup with items has one on the frame that its place names, in the life that it names
-  pub lives : (n : ℕ) (d : DupRow) → n < length dups → (item_count rows (get_or dups n d) ≡ 0 → ⊥) → Lives k rows frames (get_or dups n d)
+  pub lives : (n : ℕ) (d : DupRow) → n < length dups → (item_count rows (get_or dups n d) ≡ 0 → ⊥) → Lives k dups sh frame (get_or dups n d)
   lives n d lt some =
       let e = get_or dups n d in
-      let at = counted_at (λ r. merged_into e.number r.state) rows some in
-      let row = row_in rows at.0 in
-      let has = framed sh k dups row (frame_in frames at.0) (item_framed e.number row.state at.2) (p.each_row at.0 at.1) in
+      let test : Row → Bool = λ r. merged_into e.number r.state in
+      let first = first_found test rows (omega (arith, some)) in
+      let row = first.0 in
+      let into = find_passes test rows row first.1 in
+      let state : row.state ≡ Merged e.number = state_of_item e.number row.state into in
+      let served = find_all test (λ r. IsServed sh k dups r (frame r.page)) rows row first.1 p.each_row in
+      let has = framed sh k dups row (frame row.page) (ap zero_state state) served in
       let fits = has.2 in
-      let on = (fits.1 n d lt).item at.2 in
+      let on = (fits.1 n d lt).item into in
       record {
-        item = at.0;
-        inside = at.1;
-        merged = at.2;
+        item = row;
+        served = served;
+        merged = into;
         lies = has.1 ∙ ap Some on.0;
         life = on.1;
-        kind = ap (λ f. (frame_at k f).kind) (sym on.0) ∙ fits.0.kind ∙ kind_of_item e.number row.state at.2;
+        kind = ap (λ f. (frame_at k f).kind) (sym on.0) ∙ fits.0.kind ∙ ap kind_for state;
       }
 
   -- two dups with items on one frame have one number
-  one_number : (n m : ℕ) (d : DupRow) → n < length dups → m < length dups → Lives k rows frames (get_or dups n d) → Lives k rows frames (get_or dups m d)
+  one_number : (n m : ℕ) (d : DupRow) → n < length dups → m < length dups → Lives k dups sh frame (get_or dups n d) → Lives k dups sh frame (get_or dups m d)
       → place_frame k (get_or dups n d).place ≡ place_frame k (get_or dups m d).place → (get_or dups m d).number ≡ (get_or dups n d).number
   one_number n m d lt lt' a b same =
       let e = get_or dups n d in
       let e' = get_or dups m d in
-      let state = state_of_item e.number (row_in rows a.item).state a.merged in
-      let both : merged_into e'.number (row_in rows a.item).state ≡ true = ((subst (IsServed sh k dups (row_in rows a.item)) a.lies (p.each_row a.item a.inside)).1 m d lt').back b.life same in
+      let state = state_of_item e.number a.item.state a.merged in
+      let both : merged_into e'.number a.item.state ≡ true = ((subst (IsServed sh k dups a.item) a.lies a.served).1 m d lt').back b.life same in
       let number : (e.number == e'.number) ≡ true = ap (merged_into e'.number) (sym state) ∙ both in
       sym (eqb-true e.number e'.number number)
 
+  -- the frames of dups with items differ, and none of them is a page's own
   module _ (rise : InPlaceOrder dups) where
-    -- two dups with items stand on different frames
-    pub frames_apart : (n m : ℕ) (d : DupRow) → n < m → m < length dups → Lives k rows frames (get_or dups n d) → Lives k rows frames (get_or dups m d)
+    pub frames_apart : (n m : ℕ) (d : DupRow) → n < m → m < length dups → Lives k dups sh frame (get_or dups n d) → Lives k dups sh frame (get_or dups m d)
         → place_frame k (get_or dups n d).place ≢ place_frame k (get_or dups m d).place
     frames_apart n m d before lt a b same =
         let other = (rise n m d before lt).1 in
         let one = one_number n m d (omega (arith, before, lt)) lt a b same in
         absurd (grind (arith, nat_tests, other, one))
 
-  -- the frame of a page's own is not the frame of a dup with items
-  pub own_apart : (i f : ℕ) → i < length rows → shared_state (row_in rows i).state ≡ false → frame_in frames i ≡ Some f → (d : DupRow) → Lives k rows frames d → f ≢ place_frame k d.place
-  own_apart i f lt alone is d a same =
-      let own = (subst (IsServed sh k dups (row_in rows i)) is (p.each_row i lt)).0.kind ∙ own_kind (row_in rows i).state alone in
-      subst is_private (sym (ap (λ f. (frame_at k f).kind) (sym same) ∙ own) ∙ a.kind) tt
+  pub own_apart : (row : Row) (f : ℕ) → IsServed sh k dups row (frame row.page) → shared_state row.state ≡ false → frame row.page ≡ Some f → (d : DupRow) → Lives k dups sh frame d → f ≢ place_frame k d.place
+  own_apart row f served alone is d a same =
+      let own = (subst (IsServed sh k dups row) is served).0.kind ∙ own_kind row.state alone in
+      let both : Private ≡ Stable = sym (ap (λ f. (frame_at k f).kind) (sym same) ∙ own) ∙ a.kind in cc
 
 below_any : (xs : List ℕ) (n q : ℕ) → All (λ x. x < n) xs → list_any (eqb q) xs ≡ true → q < n
 below_any [] n q all some = absurd (grind (arith, some))
@@ -134,77 +76,59 @@ empty_from_most p (d ∷ ds) =
     cond_both (d.place == p) (empty_from (p + 1) ds) p (λ n. n ≤ p + length (d ∷ ds)) (λ _. omega (arith, rest)) (λ _. omega arith)
 
 -- beside a page with a frame of its own a new dup finds a place: where no dup is stale, each has a frame, and the page's is one more
-pub finds_place : (sh : Shape) (across : ℕ) (k : Ledger) (rows : List Row) (frames : List (Option ℕ)) (dups : List DupRow) → Placed sh across k rows frames dups None → InPlaceOrder dups
-    → (i : ℕ) → i < length rows → shared_state (row_in rows i).state ≡ false → new_place (frames_of sh) rows dups < frames_of sh
-finds_place sh across k rows frames dups p rise i lt alone =
+pub finds_place : (sh : Shape) (across : ℕ) (k : Ledger) (rows : List Row) (frame : Frames) (dups : List DupRow) → Placed sh across k rows frame dups None → InPlaceOrder dups
+    → (row : Row) → IsServed sh k dups row (frame row.page) → shared_state row.state ≡ false → new_place (frames_of sh) rows dups < frames_of sh
+finds_place sh across k rows frame dups p rise row served alone =
     cond_both (nat_lt empty (frames_of sh)) empty (place_or empty (find (is_stale rows) dups)) (λ n. n < frames_of sh) (λ fits. ltb-true empty (frames_of sh) fits) (λ _. go (find (is_stale rows) dups) refl)
   where
     empty : ℕ
     empty = empty_from 0 dups
 
     -- the frame of that page
-    own : (f : ℕ) × (frame_in frames i ≡ Some f) × Serves sh k dups (row_in rows i) f
-    own = framed sh k dups (row_in rows i) (frame_in frames i) (own_framed (row_in rows i).state alone) (p.each_row i lt)
+    own : (f : ℕ) × (frame row.page ≡ Some f) × Serves sh k dups row f
+    own = framed sh k dups row (frame row.page) (own_framed row.state alone) served
 
     go : (stale : Option DupRow) → find (is_stale rows) dups ≡ stale → place_or empty stale < frames_of sh
     go (Some d) is = find_all (is_stale rows) (λ e. e.place < frames_of sh) dups d is (λ n e l. (p.each_dup n e l).place)
     go None is =
         let none = find_none (is_stale rows) dups is in
-        let live : (n : ℕ) (d : DupRow) → n < length dups → Lives k rows frames (get_or dups n d) = λ n d l.
-        lives sh across k rows frames dups p n d l (λ zero_is. let not_stale = none n d l in absurd (grind (arith, nat_tests, not_stale, zero_is))) in
-        let frame : DupRow → ℕ = λ d. place_frame k d.place in
-        let all = own.0 ∷ map frame dups in
-        let inside : All (λ f. f < frames_of sh) all = All-cons (λ f. f < frames_of sh) own.0 (map frame dups) own.2.0.frame
-        (λ n f l. let l' : n < length dups = (let wide = length-map dups frame in omega (arith, l, wide)) in
-        subst (λ x. x < frames_of sh) (sym (get_or-map frame dups n d0 f l')) (p.each_dup n d0 l').frame) in
+        let live : (n : ℕ) (d : DupRow) → n < length dups → Lives k dups sh frame (get_or dups n d) = λ n d l.
+        lives sh across k rows frame dups p n d l (λ zero_is. let not_stale = none n d l in absurd (grind (arith, nat_tests, not_stale, zero_is))) in
+        let of_dup : DupRow → ℕ = λ d. place_frame k d.place in
+        let all = own.0 ∷ map of_dup dups in
+        let inside : All (λ f. f < frames_of sh) all = All-cons (λ f. f < frames_of sh) own.0 (map of_dup dups) own.2.0.frame
+        (λ n f l. let l' : n < length dups = (let wide = length-map dups of_dup in omega (arith, l, wide)) in
+        subst (λ x. x < frames_of sh) (sym (get_or-map of_dup dups n d0 f l')) (p.each_dup n d0 l').frame) in
         let apart : (n m : ℕ) (f : ℕ) → n < m → m < length all → eqb (get_or all n f) (get_or all m f) ≡ false = λ n m f before l. differ live n m f before l in
         let most = length-le_from_distinct_below all (frames_of sh) (IsDistinct-from_apart eqb all apart) (λ q. below_any all (frames_of sh) q inside) in
-        let wide = length-map dups frame in
+        let wide = length-map dups of_dup in
         let few = empty_from_most 0 dups in
         omega (arith, most, wide, few)
       where
         d0 : DupRow
         d0 = record { number = 0; place = 0; tree = 0; bytes = [] }
 
-        differ : ((n : ℕ) (d : DupRow) → n < length dups → Lives k rows frames (get_or dups n d)) → (n m f : ℕ) → n < m → m < length (own.0 ∷ map (λ d. place_frame k d.place) dups)
+        differ : ((n : ℕ) (d : DupRow) → n < length dups → Lives k dups sh frame (get_or dups n d)) → (n m f : ℕ) → n < m → m < length (own.0 ∷ map (λ d. place_frame k d.place) dups)
             → eqb (get_or (own.0 ∷ map (λ d. place_frame k d.place) dups) n f) (get_or (own.0 ∷ map (λ d. place_frame k d.place) dups) m f) ≡ false
         differ live n zero f before l = absurd (omega (arith, before))
         differ live zero (suc m) f before l =
-            let frame : DupRow → ℕ = λ d. place_frame k d.place in
-            let wide = length-map dups frame in
+            let of_dup : DupRow → ℕ = λ d. place_frame k d.place in
+            let wide = length-map dups of_dup in
             let l' : m < length dups = omega (arith, l, wide) in
-            ne_eqb _ _ (λ same. own_apart sh across k rows frames dups p i own.0 lt alone own.1 (get_or dups m d0) (live m d0 l') (same ∙ get_or-map frame dups m d0 f l'))
+            ne_eqb _ _ (λ same. own_apart sh across k rows frame dups p row own.0 served alone own.1 (get_or dups m d0) (live m d0 l') (same ∙ get_or-map of_dup dups m d0 f l'))
         differ live (suc n) (suc m) f before l =
-            let frame : DupRow → ℕ = λ d. place_frame k d.place in
-            let wide = length-map dups frame in
+            let of_dup : DupRow → ℕ = λ d. place_frame k d.place in
+            let wide = length-map dups of_dup in
             let l' : m < length dups = omega (arith, l, wide) in
             let l'' : n < length dups = omega (arith, before, l') in
-            ne_eqb _ _ (λ same. frames_apart sh across k rows frames dups p rise n m d0 (omega (arith, before)) l' (live n d0 l'') (live m d0 l')
-            (sym (get_or-map frame dups n d0 f l'') ∙ same ∙ get_or-map frame dups m d0 f l'))
-
--- a row that is found stands somewhere
-found_at : (test : Row → Bool) (rows : List Row) (r : Row) → find test rows ≡ Some r → (i : ℕ) × (i < length rows) × (row_in rows i ≡ r)
-found_at test [] r found = cc
-found_at test (x ∷ xs) r found = elim (cases_Bool (test x)) [
-  | inl here ↦ (0, omega arith, grind (arith, here, found))
-  | inr there ↦ let rest = found_at test xs r (grind (arith, there, found)) in (suc rest.0, (let lt = rest.1 in omega (arith, lt)), rest.2)
-]
-
--- the waiting page leaves a place for the dup that is made of it
-pub partner_finds_place : (lay : Lay) (cursor : Option GuestPage) (passes : ℕ) (row w : Row) → IsSound (state_of lay cursor passes) → partner lay.knobs lay.rows row ≡ Some w → LieLawfully (state_of lay cursor passes) lay.frames lay.keeper
-    → new_place (place_count lay.shape) lay.rows lay.dups < place_count lay.shape
-partner_finds_place lay cursor passes row w s waits lies =
-    let test = waits_for lay.knobs row in
-    let at = found_at test lay.rows w waits in
-    let tells = waits_tells lay.knobs row w (find_passes test lay.rows w waits) in
-    finds_place lay.shape lay.knobs.merge_across_nodes lay.keeper.ledger lay.rows lay.frames lay.dups lies s.dups_rise at.0 at.1
-    (ap (λ (r : Row). shared_state r.state) at.2 ∙ waiting_is_alone w.state tells.state)
+            ne_eqb _ _ (λ same. frames_apart sh across k rows frame dups p rise n m d0 (omega (arith, before)) l' (live n d0 l'') (live m d0 l')
+            (sym (get_or-map of_dup dups n d0 f l'') ∙ same ∙ get_or-map of_dup dups m d0 f l'))
 
 -- each page with a frame of its own leaves a place for a dup that is made of it
-pub finds_places : (b : BookState) (frames : List (Option ℕ)) (k : KeeperView) → IsSound b → LieLawfully b frames k → FindsPlace b
-finds_places b frames k s lies row in_rows alone =
-    finds_place b.shape b.knobs.merge_across_nodes k.ledger b.rows frames b.dups lies s.dups_rise in_rows.0 in_rows.1
-    (ap (λ (r : Row). shared_state r.state) (sym (get_or_default b.rows in_rows.0 row no_row in_rows.1) ∙ in_rows.2) ∙ alone)
+pub finds_places : (p : PagesView) (k : KeeperView) (cursor : Option GuestPage) (passes : ℕ) → IsSound (state_of p cursor passes) → IsLaid p k → FindsPlace (state_of p cursor passes)
+finds_places p k cursor passes s h row in_rows alone =
+    finds_place p.shape p.knobs.merge_across_nodes k.ledger p.rows p.frame p.dups h.placed s.dups_rise row
+    (subst (λ r. IsServed p.shape k.ledger p.dups r (p.frame r.page)) in_rows.2 (h.placed.each_row in_rows.0 row in_rows.1)) alone
 
 -- no number reaches that of the next dup
 pub numbers_small : (b : BookState) → IsSound b → b.next ≤ 2 ^ 50 → NumbersAreSmall b

@@ -1,343 +1,347 @@
--- Rows that are changed one after another, in order.
-use Rattle.std.proofs.Common.{◌≡◌, ℕ, zero, suc, ◌+◌, ◌<◌, ◌≤◌, Bool, true, false, cond, List, [], ◌∷◌, ◌++◌, length, map, take, get_or, Option, Some, None, Ok, append-nil, refl, sym, ap, ◌∙◌, subst, arith}
-use Rattle.std.specs.Prelude.{All, filter, find, slice_get, not, option_map, MatchOption, ◌&&◌, if◌then◌else◌}
-use Rattle.std.proofs.lemmas.List.Sums.{length-filter, count_by-le-length}
-use Rattle.std.proofs.lemmas.List.Elements.{All-head, All-tail, All-map}
-use Rattle.std.proofs.lemmas.Option.{same_Some, slice_get_past}
-use Rattle.ksm_base.specs.declared.row.Row.{Row}
-use Rattle.ksm_base.specs.Apply.{is_before, let_go, unshared}
-use Rattle.ksm_base.specs.Refusals.{is_of, has_guest, refused_if}
-use Rattle.ksm_base.specs.Rows.{comes_before, same_page, InPageOrder, row_at, change_row, change_rows, shared_state}
-use Rattle.ksm_base.specs.declared.page.GuestPage.{GuestPage}
-use Rattle.ksm_base.specs.declared.knobs.Knobs.{Knobs}
-use Rattle.ksm_base.specs.declared.command.Command.TheVariants.{Unmerge}
-use Rattle.ksm_base.specs.declared.reply.Reply.TheVariants.{Unmerged}
-use Rattle.ksm_base.specs.declared.fault.Fault.{Fault}
-use Rattle.ksm_base.specs.declared.fault.Fault.TheVariants.{NoFrame, UnknownPage}
-use Rattle.ksm_base.specs.Answers.{IsUnmerged, IsAnswerUnless, IsAnswerOrMemory, shared_rows}
-use Rattle.ksm_base.specs.State.{BookState}
-use Rattle.frame_table.specs.Named.{KeeperView}
-use Rattle.ksm_layout.specs.Laid.{Lay, state_of}
-use Rattle.ksm_layout.specs.Steps.{Does}
-use Rattle.ksm_book.specs.Unmerged.{first_changed, IsStop, Gave}
-use Rattle.ksm_pages.specs.Wanted.{is_shared_of}
-use Rattle.ksm_base.proofs.Orders.{ordered_change}
-use Rattle.ksm_layout.proofs.Logs.{chained}
-use Rattle.ksm_base.proofs.Pages.{same_page_refl, before_irrefl, not_both, before_differs, after_differs}
-use Rattle.ksm_base.proofs.Orders.{pairs_head, pairs_tail}
-use Rattle.ksm_base.proofs.Edits.{find_all}
-use Rattle.ksm_base.proofs.RowCounts.{change_none, each_at_page}
+-- Pages that leave their dups, or the zero page, one after another.
+use Rattle.ksm_book.proofs.Names.{[], All, All-head, All-tail, and-true, ap, append-nil, arith, change_row, change_rows, cond-false, cond-true, cond_both, Does, false, Fault, filter, filter-append, filter_none, find, get_or, GuestPage, HasLeft, Held, if◌then◌else◌, inl, InPageOrder, inr, is_next, is_of, is_shared_of, is_some, IsAlone, IsHeld, IsKnown, IsLaid, KeeperView, left_by, length, length-append, let_go, List, list_any, list_any-append, lying, map, map-append, Mapped, MatchOption, MayNotLeave, NoFrame, None, NoneLeft, not, not-false, not-true, of_guest, on_its_own, Option, option_map, or_right, PagesView, refl, Resettled, Resettles, ResettlesEach, Row, row_at, same_page, same_Some, shared_of, shared_state, slice_get, Some, subst, sym, take, take-append_seam, true, UnmergesTo, unshared, Unshares, ℕ, ◌&&◌, ◌++◌, ◌+◌, ◌<◌, ◌||◌, ◌∙◌, ◌∷◌, ◌≡◌, ◌≤◌}
+use Rattle.ksm_base.specs.declared.row.PageState.TheVariants.{Private}
+use Rattle.ksm_book.proofs.Along.{FitsPage, IsAlong, IsCut, along_cut, along_end, along_first, further, position}
+use Rattle.ksm_book.proofs.ByPage.{found_page, row_of_page}
+use Rattle.ksm_book.proofs.Laying.{LodgesAs, laid_mapped}
+use Rattle.ksm_book.proofs.Made.{made_none}
+use Rattle.ksm_book.proofs.Shown.{does_then, quiet_does}
+use Rattle.ksm_book.proofs.Singles.{alone_now, at_changed, change_still, change_twice, settled_laid, settled_pages, settled_steps}
 
-and_false : (b : Bool) → (b && false) ≡ false
-and_false true = refl
-and_false false = refl
+-- a row that is left keeps its page
+pub page_left : (guest : Option ℕ) (r : Row) → (left_by guest r).page ≡ r.page
+page_left None r = cond_both (shared_state r.state) (unshared r) r (λ x. x.page ≡ r.page) (λ _. refl) (λ _. refl)
+page_left (Some guest) r = refl
 
-and_true : (b : Bool) → (b && true) ≡ b
-and_true true = refl
-and_true false = refl
+-- a guest's is let go
+guest_left : (guest : Option ℕ) → is_some guest ≡ true → left_by guest ≡ let_go
+guest_left (Some guest) some = refl
+guest_left None none = absurd (grind (arith, none))
 
--- a row comes before all of these
-abbrev Behind : Row → List Row → Type 0
-Behind r rows = All (λ s. comes_before r.page s.page ≡ true) rows
+-- where no guest is told, any is left alike
+any_left : (guest : Option ℕ) → is_some guest ≡ false → left_by guest ≡ left_by None
+any_left (Some guest) some = absurd (grind (arith, some))
+any_left None none = refl
 
-behind : (r : Row) (rows : List Row) → InPageOrder (r ∷ rows) → Behind r rows
-behind r rows rise = pairs_head (λ a b. comes_before a.page b.page ≡ true) r rows rise
+-- ---------------------------------------------------------------- one page
 
-in_order : (r : Row) (rows : List Row) → InPageOrder (r ∷ rows) → InPageOrder rows
-in_order r rows rise = pairs_tail (λ a b. comes_before a.page b.page ≡ true) r rows rise
+-- no step gives no frame
+pub does_nothing : (k : KeeperView) → Does k k []
+does_nothing k = quiet_does k k [] (made_none k k refl) tt
 
--- a test, and a change that keeps the page and after which the test fails
-module _ (t : Row → Bool) (f : Row → Row) (keeps : (r : Row) → (f r).page ≡ r.page) (off : (r : Row) → t (f r) ≡ false) where
-  -- the first that is left is the next of those that passed
-  pub first_left : (n : ℕ) (rows : List Row) → find t (first_changed t f n rows) ≡ slice_get (filter t rows) n
-  first_left zero [] = refl
-  first_left zero (r ∷ rows) = by (t r) (first_left zero rows)
-    where
-      by : (b : Bool) → find t rows ≡ slice_get (filter t rows) 0 → cond b (Some r) (find t rows) ≡ slice_get (cond b (r ∷ filter t rows) (filter t rows)) 0
-      by true rest = refl
-      by false rest = rest
-  first_left (suc n) [] = refl
-  first_left (suc n) (r ∷ rows) = by (t r) refl (first_left n rows) (first_left (suc n) rows)
-    where
-      by : (b : Bool) → t r ≡ b → find t (first_changed t f n rows) ≡ slice_get (filter t rows) n → find t (first_changed t f (suc n) rows) ≡ slice_get (filter t rows) (suc n) → find t (cond b (f r ∷ first_changed t f n rows) (r ∷ first_changed t f (suc n) rows)) ≡ slice_get (cond b (r ∷ filter t rows) (filter t rows)) (suc n)
-      by true is there rest = ap (λ (b : Bool). cond b (Some (f r)) (find t (first_changed t f n rows))) (off r) ∙ there
-      by false is there rest = ap (λ (b : Bool). cond b (Some r) (find t (first_changed t f (suc n) rows))) is ∙ rest
+-- the row of a page is left: a guest's, or any
+module _ {p : PagesView} {k : KeeperView} (guest : Option ℕ) {page : GuestPage} {held : Held} (told : IsHeld p page held) (h : IsLaid p k)
+    (rise : InPageOrder p.rows) where
+  abbrev row : Row
+  row = told.row
 
-  -- a row comes before the stop where it comes before all
-  before_stop : (r : Row) (rows : List Row) → Behind r rows → (n : ℕ) → is_before (slice_get (filter t rows) n) r ≡ true
-  before_stop r [] after n = refl
-  before_stop r (s ∷ rows) after n = by (t s) n (before_stop r rows (All-tail (λ x. comes_before r.page x.page ≡ true) s rows after))
-    where
-      by : (b : Bool) (n : ℕ) → ((m : ℕ) → is_before (slice_get (filter t rows) m) r ≡ true) → is_before (slice_get (cond b (s ∷ filter t rows) (filter t rows)) n) r ≡ true
-      by true zero rest = All-head (λ x. comes_before r.page x.page ≡ true) s rows after
-      by true (suc m) rest = rest m
-      by false m rest = rest m
+  one : All (λ r. same_page r.page page ≡ true → r ≡ row) p.rows
+  one = row_of_page page p.rows row rise told.found
 
-  other_page : (r : Row) (rows : List Row) → Behind r rows → (n : ℕ) (row : Row) → find t (first_changed t f n rows) ≡ Some row → same_page r.page row.page ≡ false
-  other_page r rows after n row found = after_differs r.page row.page (ap (λ o. is_before o r) (sym found ∙ first_left n rows) ∙ before_stop r rows after n)
+  module _ (test : not held.shared ≡ true) where
+    alone : shared_state row.state ≡ false
+    alone = sym told.shared ∙ not-true held.shared test
 
-  -- a change of the first that is left is a change of one more
-  pub one_more : (n : ℕ) (rows : List Row) (row : Row) → InPageOrder rows → find t (first_changed t f n rows) ≡ Some row → change_row row.page (λ _. f row) (first_changed t f n rows) ≡ first_changed t f (suc n) rows
-  one_more zero [] row rise found = refl
-  one_more (suc n) [] row rise found = refl
-  one_more zero (r ∷ rows) row rise found = by (t r) refl (one_more zero rows row (in_order r rows rise))
-    where
-      by : (b : Bool) → t r ≡ b → (find t rows ≡ Some row → change_row row.page (λ _. f row) rows ≡ first_changed t f 1 rows) → change_row row.page (λ _. f row) (r ∷ rows) ≡ cond b (f r ∷ rows) (r ∷ first_changed t f 1 rows)
-      by true is rest =
-          let e : r ≡ row = same_Some r row (sym (ap (λ (b : Bool). cond b (Some r) (find t rows)) is) ∙ found) in
-          subst (λ (x : Row). change_row x.page (λ _. f x) (r ∷ rows) ≡ f r ∷ rows) e
-          (ap (λ (b : Bool). cond b (f r) r ∷ change_row r.page (λ _. f r) rows) (same_page_refl r.page)
-          ∙ ap (λ l. f r ∷ l) (change_none (λ s. same_page s.page r.page) (λ _. f r) rows (λ k d lt. before_differs r.page (get_or rows k d).page (behind r rows rise k d lt))))
-      by false is rest =
-          let left : find t rows ≡ Some row = sym (ap (λ (b : Bool). cond b (Some r) (find t rows)) is) ∙ found in
-          ap (λ (b : Bool). cond b (f row) r ∷ change_row row.page (λ _. f row) rows) (other_page r rows (behind r rows rise) 0 row left)
-          ∙ ap (λ l. r ∷ l) (rest left)
-  one_more (suc n) (r ∷ rows) row rise found = by (t r) refl (one_more n rows row (in_order r rows rise)) (one_more (suc n) rows row (in_order r rows rise))
-    where
-      first : List Row
-      first = f r ∷ first_changed t f n rows
+    still : left_by None row ≡ row
+    still = cond-false (shared_state row.state) (unshared row) row alone
 
-      second : List Row
-      second = r ∷ first_changed t f (suc n) rows
+    lodges : (g : Option ℕ) → LodgesAs (left_by g row) row
+    lodges (Some n) = (refl, refl, inr (alone, refl))
+    lodges None = subst (λ (x : Row). LodgesAs x row) (sym still) (refl, refl, inl refl)
 
-      by : (b : Bool) → t r ≡ b
-          → (find t (first_changed t f n rows) ≡ Some row → change_row row.page (λ _. f row) (first_changed t f n rows) ≡ first_changed t f (suc n) rows)
-          → (find t (first_changed t f (suc n) rows) ≡ Some row → change_row row.page (λ _. f row) (first_changed t f (suc n) rows) ≡ first_changed t f (suc (suc n)) rows)
-          → change_row row.page (λ _. f row) (cond b first second) ≡ cond b (f r ∷ first_changed t f (suc n) rows) (r ∷ first_changed t f (suc (suc n)) rows)
-      by true is there rest =
-          let left : find t (first_changed t f n rows) ≡ Some row = sym (ap (λ (b : Bool). cond b (Some (f r)) (find t (first_changed t f n rows))) (off r)) ∙ sym (ap (λ (b : Bool). find t (cond b first second)) is) ∙ found in
-          let other : same_page (f r).page row.page ≡ false = ap (λ p. same_page p row.page) (keeps r) ∙ other_page r rows (behind r rows rise) n row left in
-          ap (λ (b : Bool). cond b (f row) (f r) ∷ change_row row.page (λ _. f row) (first_changed t f n rows)) other
-          ∙ ap (λ l. f r ∷ l) (there left)
-      by false is there rest =
-          let left : find t (first_changed t f (suc n) rows) ≡ Some row = sym (ap (λ (b : Bool). cond b (Some r) (find t (first_changed t f (suc n) rows))) is) ∙ sym (ap (λ (b : Bool). find t (cond b first second)) is) ∙ found in
-          ap (λ (b : Bool). cond b (f row) r ∷ change_row row.page (λ _. f row) (first_changed t f (suc n) rows)) (other_page r rows (behind r rows rise) (suc n) row left)
-          ∙ ap (λ l. r ∷ l) (rest left)
+    -- a page with a frame of its own gets none
+    left_own : (q : PagesView) → q ≡ record p { rows = change_row page (left_by guest) p.rows; restless = q.restless }
+        → HasLeft p q k k guest page 0
+    left_own q goes =
+        let frame : q.frame ≡ p.frame = ap (λ (x : PagesView). x.frame) goes in
+        let none : shared_of row ≡ [] = cond-false (shared_state row.state) (row ∷ []) [] alone in
+        record {
+          row = row;
+          found = told.found;
+          given = ap length (sym none);
+          pages = goes ∙ (λ t. record p { rows = change_row page (left_by guest) p.rows; frame = sym frame t; restless = q.restless });
+          steps = subst (λ rs. ResettlesEach rs (lying p k) (lying q k)) (sym none) (record { keeper = refl; frame = frame });
+          does = subst (λ rs. Does k k (map (λ (x : Row). x.home) rs)) (sym none) (does_nothing k);
+          laid =
+              let there = λ (r : Row). same_page r.page page in
+              let lodged : All (λ r. LodgesAs (if there r then left_by guest r else r) r) p.rows = λ i d lt. let r = get_or p.rows i d in
+              cond_both (there r) (left_by guest r) r (λ x. LodgesAs x r)
+              (λ same. subst (λ (x : Row). LodgesAs (left_by guest x) x) (sym (one i d lt same)) (lodges guest))
+              (λ _. (refl, refl, inl refl)) in
+              subst (λ (x : PagesView). IsLaid x k) (sym goes) (laid_mapped p k h (λ r. if there r then left_by guest r else r) q.restless
+              (λ r. cond_both (there r) (left_by guest r) r (λ x. x.page ≡ r.page) (λ _. page_left guest r) (λ _. refl)) lodged);
+        }
 
-  -- what was changed is what passed and comes before the stop
-  pub all_before : (n : ℕ) (rows : List Row) → InPageOrder rows → first_changed t f n rows ≡ change_rows (λ r. t r && is_before (slice_get (filter t rows) n) r) f rows
-  all_before zero [] rise = refl
-  all_before (suc n) [] rise = refl
-  all_before zero (r ∷ rows) rise = by (t r) refl (all_before zero rows (in_order r rows rise))
-    where
-      by : (b : Bool) → t r ≡ b → rows ≡ change_rows (λ x. t x && is_before (slice_get (filter t rows) 0) x) f rows → (r ∷ rows) ≡ change_rows (λ x. t x && is_before (slice_get (cond b (r ∷ filter t rows) (filter t rows)) 0) x) f (r ∷ rows)
-      by true is rest =
-          let here : (t r && comes_before r.page r.page) ≡ false = ap (λ b. t r && b) (before_irrefl r.page) ∙ and_false (t r) in
-          let none : change_rows (λ x. t x && comes_before x.page r.page) f rows ≡ rows = change_none (λ x. t x && comes_before x.page r.page) f rows (λ k d lt. ap (λ b. t (get_or rows k d) && b) (not_both r.page (get_or rows k d).page (behind r rows rise k d lt)) ∙ and_false (t (get_or rows k d))) in
-          λ i. cond (sym here i) (f r) r ∷ sym none i
-      by false is rest = λ i. cond (sym is i && is_before (slice_get (filter t rows) 0) r) (f r) r ∷ rest i
-  all_before (suc n) (r ∷ rows) rise = by (t r) refl (all_before n rows (in_order r rows rise)) (all_before (suc n) rows (in_order r rows rise))
-    where
-      by : (b : Bool) → t r ≡ b
-          → first_changed t f n rows ≡ change_rows (λ x. t x && is_before (slice_get (filter t rows) n) x) f rows
-          → first_changed t f (suc n) rows ≡ change_rows (λ x. t x && is_before (slice_get (filter t rows) (suc n)) x) f rows
-          → cond b (f r ∷ first_changed t f n rows) (r ∷ first_changed t f (suc n) rows) ≡ change_rows (λ x. t x && is_before (slice_get (cond b (r ∷ filter t rows) (filter t rows)) (suc n)) x) f (r ∷ rows)
-      by true is there rest = λ i. cond (sym is i && sym (before_stop r rows (behind r rows rise) n) i) (f r) r ∷ there i
-      by false is there rest = λ i. cond (sym is i && is_before (slice_get (filter t rows) (suc n)) r) (f r) r ∷ rest i
-
--- rows that were unshared on the way are let go as they would have been
-module _ (guest : ℕ) (stop : Option Row) where
-  abbrev pub reached : Row → Bool
-  reached r = is_of guest r && is_before stop r
-
-  abbrev pub met : Row → Bool
-  met r = is_shared_of (Some guest) r && is_before stop r
-
-  met_reached : (a b c : Bool) → ((a && c) && b) ≡ true → (a && b) ≡ true
-  met_reached true true c e = refl
-  met_reached true false true e = e
-  met_reached true false false e = e
-  met_reached false b c e = e
-
-  still_reached : (r : Row) → reached (unshared r) ≡ reached r
-  still_reached r = by stop
-    where
-      by : (s : Option Row) → (is_of guest (unshared r) && is_before s (unshared r)) ≡ (is_of guest r && is_before s r)
-      by None = refl
-      by (Some s) = refl
-
-  let_go_one : (r : Row) → (let x : Row = if met r then unshared r else r in if reached x then let_go x else x) ≡ (if reached r then let_go r else r)
-  let_go_one r = by (met r) (met_reached (is_of guest r) (is_before stop r) (shared_state r.state))
-    where
-      by : (m : Bool) → (m ≡ true → reached r ≡ true) → (let x : Row = cond m (unshared r) r in cond (reached x) (let_go x) x) ≡ cond (reached r) (let_go r) r
-      by true e = ap (λ (b : Bool). cond b (let_go r) (unshared r)) (still_reached r ∙ e refl) ∙ sym (ap (λ (b : Bool). cond b (let_go r) r) (e refl))
-      by false e = refl
-
-  pub let_go_all : (rows : List Row) → change_rows reached let_go (change_rows met unshared rows) ≡ change_rows reached let_go rows
-  let_go_all [] = refl
-  let_go_all (r ∷ rows) = λ i. let_go_one r i ∷ let_go_all rows i
-
--- ---------------------------------------------------------------- merged rows that get frames of their own
-
--- a row that was unshared is shared no more
-pub unshared_off : (guest : Option ℕ) (r : Row) → is_shared_of guest (unshared r) ≡ false
-unshared_off None r = refl
-unshared_off (Some g) r = and_false (is_of g r)
-
--- the rows keep their order
-pub order_kept : (guest : Option ℕ) (n : ℕ) (rows now : List Row) → InPageOrder rows → now ≡ first_changed (is_shared_of guest) unshared n rows → InPageOrder now
-order_kept guest n rows now rise made = subst InPageOrder (sym (made ∙ all_before (is_shared_of guest) unshared (λ r. refl) (unshared_off guest) n rows rise))
-    (ordered_change (λ r. is_shared_of guest r && is_before (slice_get (filter (is_shared_of guest) rows) n) r) unshared rows (λ r. refl) rise)
-
--- the search for a shared row after n unsharings finds the row at n of those that were shared
-pub next_is : (guest : Option ℕ) (n : ℕ) (rows now seen : List Row) (o : Option Row) → now ≡ first_changed (is_shared_of guest) unshared n rows → seen ≡ now → o ≡ find (is_shared_of guest) seen → slice_get (filter (is_shared_of guest) rows) n ≡ o
-next_is guest n rows now seen o made same found = sym (found ∙ ap (find (is_shared_of guest)) (same ∙ made) ∙ first_left (is_shared_of guest) unshared (λ r. refl) (unshared_off guest) n rows)
-
--- to unshare the first shared row of a guest is one step of unsharing them all
-pub one_unshared : (guest : Option ℕ) (n : ℕ) (rows now : List Row) (row new : Row) → InPageOrder rows → now ≡ first_changed (is_shared_of guest) unshared n rows → new ≡ unshared row → find (is_shared_of guest) now ≡ Some row → change_row new.page (λ _. new) now ≡ first_changed (is_shared_of guest) unshared (n + 1) rows
-one_unshared guest n rows now row new rise made is found =
-    (λ i. change_row (is i).page (λ _. is i) (made i))
-    ∙ one_more (is_shared_of guest) unshared (λ r. refl) (unshared_off guest) n rows row rise (sym (ap (find (is_shared_of guest)) made) ∙ found)
-    ∙ (let e : suc n ≡ n + 1 = omega arith in ap (λ k. first_changed (is_shared_of guest) unshared k rows) e)
-
--- where no member is at an index, the list ends there or before
-pub none_past : {X : Type 0} (xs : List X) (n : ℕ) → slice_get xs n ≡ None → length xs ≤ n
-none_past [] n none = omega arith
-none_past (x ∷ xs) zero none = absurd (grind (arith, none))
-none_past (x ∷ xs) (suc n) none = omega (arith, none_past xs n none)
-
--- where a member is at an index, the list goes past it
-pub some_within : {X : Type 0} (xs : List X) (n : ℕ) (x : X) → slice_get xs n ≡ Some x → n < length xs
-some_within [] n x some = absurd (grind (arith, some))
-some_within (y ∷ ys) zero x some = omega arith
-some_within (y ∷ ys) (suc n) x some = omega (arith, some_within ys n x some)
-
--- what holds of all members holds of the one at an index
-pub all_some : {X : Type 0} (P : X → Type 0) (xs : List X) (n : ℕ) (x : X) → All P xs → slice_get xs n ≡ Some x → P x
-all_some P [] n x all some = absurd (grind (arith, some))
-all_some P (y ∷ ys) zero x all some = subst P (same_Some y x some) (All-head P y ys all)
-all_some P (y ∷ ys) (suc n) x all some = all_some P ys n x (All-tail P y ys all) some
-
-homes_suc : (rows : List Row) (n : ℕ) (row : Row) → slice_get rows n ≡ Some row → map (λ r. r.home) (take (suc n) rows) ≡ map (λ r. r.home) (take n rows) ++ row.home ∷ []
-homes_suc [] n row some = absurd (grind (arith, some))
-homes_suc (r ∷ rows) zero row some = ap (λ (x : Row). x.home ∷ []) (same_Some r row some)
-homes_suc (r ∷ rows) (suc n) row some = ap (λ l. r.home ∷ l) (homes_suc rows n row some)
-
--- the homes of the first n + 1 rows are those of the first n and one more
-pub homes_more : (rows : List Row) (n : ℕ) (row : Row) → slice_get rows n ≡ Some row → map (λ r. r.home) (take (n + 1) rows) ≡ map (λ r. r.home) (take n rows) ++ row.home ∷ []
-homes_more rows n row some = (let e : n + 1 ≡ suc n = omega arith in ap (λ k. map (λ (r : Row). r.home) (take k rows)) e) ∙ homes_suc rows n row some
-
--- a row found by a test is found by its page
-pub find_known : (t : Row → Bool) (rows : List Row) (row : Row) → InPageOrder rows → find t rows ≡ Some row → row_at row.page rows ≡ Some row
-find_known t rows row rise found = find_all t (λ s. row_at s.page rows ≡ Some s) rows row found (each_at_page rows rise)
-
--- a filter keeps no more rows than there are
-pub filter_fits : (t : Row → Bool) (rows : List Row) → length (filter t rows) ≤ length rows
-filter_fits t rows = omega (arith, length-filter t rows, count_by-le-length t rows)
-
--- ---------------------------------------------------------------- the commands
-
-stop_is : (rows : List Row) (k : ℕ) (stop : Option Row) → IsStop rows k stop → slice_get rows k ≡ stop
-stop_is rows k None h = slice_get_past rows k (omega (arith, h))
-stop_is rows k (Some row) h = h
-
--- the rows after n unsharings are those in which each row before the stop is unshared
-pub met_rows : (guest : ℕ) (rows now : List Row) (k : ℕ) (stop : Option Row) → InPageOrder rows → now ≡ first_changed (is_shared_of (Some guest)) unshared k rows → IsStop (filter (is_shared_of (Some guest)) rows) k stop → now ≡ change_rows (met guest stop) unshared rows
-met_rows guest rows now k stop rise made at =
-    made ∙ all_before (is_shared_of (Some guest)) unshared (λ r. refl) (unshared_off (Some guest)) k rows rise
-    ∙ ap (λ o. change_rows (met guest o) unshared rows) (stop_is (filter (is_shared_of (Some guest)) rows) k stop at)
-
-not_merged : (a b c : Bool) → ((a && c) && b) ≡ false → (a && b) ≡ true → c ≡ false
-not_merged true true c e h = sym (and_true c) ∙ e
-not_merged true false c e h = absurd (grind (arith, h))
-not_merged false b c e h = absurd (grind (arith, h))
-
--- no row that is let go is shared
-pub none_left : (guest : ℕ) (stop : Option Row) (rows now : List Row) → now ≡ change_rows (met guest stop) unshared rows → All (λ r. reached guest stop r ≡ true → shared_state r.state ≡ false) now
-none_left guest stop rows now made = subst (All (λ r. reached guest stop r ≡ true → shared_state r.state ≡ false)) (sym made)
-    (All-map (λ r. reached guest stop r ≡ true → shared_state r.state ≡ false) (λ r. if met guest stop r then unshared r else r) rows (λ k d lt. one (get_or rows k d)))
-  where
-    one : (r : Row) → (let x : Row = if met guest stop r then unshared r else r in reached guest stop x ≡ true → shared_state x.state ≡ false)
-    one r = by (met guest stop r) (not_merged (is_of guest r) (is_before stop r) (shared_state r.state))
+    -- where no guest is told, the row stays as it is
+    pub left_still : is_some guest ≡ false → HasLeft p p k k guest page 0
+    left_still none = left_own p (λ t. record p { rows = sym same t })
       where
-        by : (m : Bool) → (m ≡ false → reached guest stop r ≡ true → shared_state r.state ≡ false) → (let x : Row = cond m (unshared r) r in reached guest stop x ≡ true → shared_state x.state ≡ false)
-        by true h = λ there. refl
-        by false h = h refl
+        same : change_row page (left_by guest) p.rows ≡ p.rows
+        same = ap (λ f. change_row page f p.rows) (any_left guest none)
+            ∙ change_still page (left_by None) p.rows (λ i d lt is. subst (λ r. left_by None r ≡ r) (sym (one i d lt is)) still)
 
--- a guest's rows unshared up to a stop are the state after its unmerging
-pub unmerged_state : (guest : ℕ) (lay mid new : Lay) (k : ℕ) (stop : Option Row) (cursor : Option GuestPage) (passes : ℕ) → InPageOrder lay.rows
-    → mid ≡ record lay { rows = first_changed (is_shared_of (Some guest)) unshared k lay.rows; frames = mid.frames; keeper = mid.keeper }
-    → IsStop (filter (is_shared_of (Some guest)) lay.rows) k stop
-    → new ≡ record mid { rows = change_rows (reached guest stop) let_go mid.rows }
-    → state_of new cursor passes ≡ record (state_of lay cursor passes) { rows = change_rows (λ r. is_of guest r && is_before (slice_get (filter (is_shared_of (Some guest)) lay.rows) k) r) let_go lay.rows }
-unmerged_state guest lay mid new k stop cursor passes rise made at gone =
-    let rows : change_rows (reached guest stop) let_go mid.rows ≡ change_rows (λ r. is_of guest r && is_before (slice_get (filter (is_shared_of (Some guest)) lay.rows) k) r) let_go lay.rows =
-    ap (change_rows (reached guest stop) let_go) (met_rows guest lay.rows mid.rows k stop rise (ap (λ (x : Lay). x.rows) made) at)
-    ∙ let_go_all guest stop lay.rows
-    ∙ ap (λ o. change_rows (λ r. is_of guest r && is_before o r) let_go lay.rows) (sym (stop_is (filter (is_shared_of (Some guest)) lay.rows) k stop at)) in
-    ap (λ (x : Lay). state_of x cursor passes) gone ∙ (λ i. record (state_of (made i) cursor passes) { rows = rows i })
+    -- a guest's leaves the scan
+    pub left_alone : is_some guest ≡ true → {q : PagesView} → q ≡ record p { rows = change_row page let_go p.rows; restless = q.restless }
+        → HasLeft p q k k guest page 0
+    left_alone some {q} goes =
+        left_own q (subst (λ f. q ≡ record p { rows = change_row page f p.rows; restless = q.restless }) (sym (guest_left guest some)) goes)
 
--- the answer of an unmerging
-abbrev pub fault_of : Option Row → Option Fault
-fault_of stop = option_map (λ r. NoFrame r.home) stop
+  -- a shared page gets a frame of its own first
+  module _ {m : PagesView} {l : KeeperView} {bytes : List ℕ} (test : not held.shared ≡ false)
+      (are : option_map (λ r. r.bytes) (row_at page p.rows) ≡ Some bytes) (r : Resettled p m k l page held.home bytes) where
+    shared : shared_state row.state ≡ true
+    shared = sym told.shared ∙ not-false held.shared test
 
--- where an unmerging stops, its answer says so
-pub is_unmerged : (rows : List Row) (k : ℕ) (stop : Option Row) → IsStop rows k stop → IsUnmerged rows (Ok (Unmerged k (fault_of stop)))
-is_unmerged rows k None at = at
-is_unmerged rows k (Some row) at = subst (λ o. MatchOption o ⊥ (λ r. row.home ≡ r.home)) (sym at) refl
+    now : row_at page m.rows ≡ Some (on_its_own row)
+    now = ap (λ (x : PagesView). row_at page x.rows) r.pages ∙ at_changed page on_its_own p.rows row (λ x. refl) told.found
 
--- the answer of an unmerging is one that the definition allows
-pub unmerge_answer : (b : BookState) (guest k : ℕ) (stop : Option Row) → has_guest b guest ≡ true → IsStop (shared_rows (is_of guest) b) k stop → IsAnswerOrMemory b (Unmerge guest) (Ok (Unmerged k (fault_of stop)))
-unmerge_answer b guest k stop has at = subst (λ (h : Bool). IsAnswerUnless (refused_if (not h) UnknownPage None) b (Unmerge guest) (Ok (Unmerged k (fault_of stop)))) (sym has) (is_unmerged (shared_rows (is_of guest) b) k stop at)
+    pub left_known : IsKnown page m.rows
+    left_known = ap is_some now
 
--- an unmerging gave a frame on each of the nodes, whether it stopped or not
-pub gave_does : (v w : KeeperView) (nodes : List ℕ) (stop : Option Row) → Gave v w nodes stop → Does v w nodes
-gave_does v w nodes None h = h
-gave_does v w nodes (Some row) h = let u = h.0 in let first = h.1 in let left = h.2 in
-    subst (λ ns. Does v w ns) (append-nil nodes) (_, chained v u w nodes [] first.0 left.part first.1 left.did)
+    pub left_lone : IsAlone page m.rows
+    left_lone = alone_now m.rows page (on_its_own row) now refl
 
--- ---------------------------------------------------------------- all pages
+    left_shared : (q : PagesView) (d : Row → Row) → q ≡ record m { rows = change_row page d m.rows; restless = q.restless }
+        → ((x : Row) → shared_state x.state ≡ true → d (on_its_own x) ≡ left_by guest x) → (d (on_its_own row)).state ≡ Private
+        → (d (on_its_own row)).home ≡ row.home → (d (on_its_own row)).bytes ≡ row.bytes → HasLeft p q k l guest page 1
+    left_shared q d goes same state home content =
+        let table = r.does.1.table in
+        let rows = change_twice page on_its_own d (left_by guest) p.rows (λ x. refl)
+        (λ i x lt at. same (get_or p.rows i x) (ap (λ (y : Row). shared_state y.state) (one i x lt at) ∙ shared)) in
+        let wrote : bytes ≡ row.bytes = same_Some bytes row.bytes (sym are ∙ ap (option_map (λ (x : Row). x.bytes)) told.found) in
+        let got = subst (λ (z : ℕ × List ℕ). Resettled p m k l page z.0 z.1) (λ t. (told.home t, wrote t)) r in
+        let all : shared_of row ≡ row ∷ [] = cond-true (shared_state row.state) (row ∷ []) [] shared in
+        record {
+          row = row;
+          found = told.found;
+          given = ap length (sym all);
+          pages = settled_pages p m q k l page row.home row.bytes h table got d (left_by guest) goes rows;
+          steps = subst (λ rs. ResettlesEach rs (lying p k) (lying q l)) (sym all) (
+            lying q l,
+            subst (λ x. Resettles (lying p k) (lying q l) x row.home row.bytes) (sym (found_page page p.rows row told.found))
+                (settled_steps p m q k l page row.home row.bytes h table got d (left_by guest) goes rows),
+            record { keeper = refl; frame = refl },
+          );
+          does = subst (λ rs. Does k l (map (λ (x : Row). x.home) rs)) (sym all) got.does;
+          laid = settled_laid p m q k l page row.home row.bytes h table got d (left_by guest) goes rows (record {
+            pages = page_left guest;
+            row = subst (λ o. MatchOption o ⊥ (λ (x : Row). ((left_by guest x).state ≡ Private) × ((left_by guest x).home ≡ row.home)
+                × ((left_by guest x).bytes ≡ row.bytes))) (sym told.found)
+                (subst (λ (x : Row). (x.state ≡ Private) × (x.home ≡ row.home) × (x.bytes ≡ row.bytes)) (same row shared)
+                (state, home, content));
+          });
+        }
 
--- the rows without those mapped from the zero page
-abbrev pub merged_at : List Row → List Row
-merged_at rows = filter (is_shared_of None) rows
+    -- and leaves the scan, where it is a guest's
+    pub left_guest : is_some guest ≡ true → {q : PagesView} → q ≡ record m { rows = change_row page let_go m.rows; restless = q.restless }
+        → HasLeft p q k l guest page 1
+    left_guest some {q} goes = left_shared q let_go goes (λ x _ t. sym (guest_left guest some) t x) refl refl refl
 
-abbrev pub unshared_before : ℕ → List Row → List Row
-unshared_before k rows = change_rows (λ r. shared_state r.state && is_before (slice_get (merged_at rows) k) r) unshared rows
+    -- or is not unchanged
+    pub left_any : is_some guest ≡ false → {q : PagesView}
+        → q ≡ record m { rows = change_row page (λ x. record x { unchanged = false }) m.rows; restless = q.restless }
+        → HasLeft p q k l guest page 1
+    left_any none {q} goes = left_shared q (λ x. record x { unchanged = false }) goes
+        (λ x is. sym ((λ t. any_left guest none t x) ∙ cond-true (shared_state x.state) (unshared x) x is)) refl refl refl
 
-all_unshared : (rows now : List Row) (k : ℕ) → InPageOrder rows → now ≡ first_changed (is_shared_of None) unshared k rows → now ≡ unshared_before k rows
-all_unshared rows now k rise made = made ∙ all_before (is_shared_of None) unshared (λ r. refl) (unshared_off None) k rows rise
+-- ---------------------------------------------------------------- pages one after another
 
--- a run of 2 that stopped leaves the state that the definition gives for its stop
-pub stopped_state : (lay mid new : Lay) (k : ℕ) (knobs : Knobs) (cursor : Option GuestPage) (passes : ℕ) → InPageOrder lay.rows
-    → mid ≡ record lay { rows = first_changed (is_shared_of None) unshared k lay.rows; frames = mid.frames; keeper = mid.keeper }
-    → knobs ≡ mid.knobs → new ≡ record mid { knobs = record knobs { run = 0 } }
-    → state_of new cursor passes ≡ record (state_of lay cursor passes) { rows = unshared_before k lay.rows; knobs = record lay.knobs { run = 0 } }
-stopped_state lay mid new k knobs cursor passes rise made same set =
-    let kept : knobs ≡ lay.knobs = same ∙ ap (λ (x : Lay). x.knobs) made in
-    let rows : mid.rows ≡ unshared_before k lay.rows = all_unshared lay.rows mid.rows k rise (ap (λ (x : Lay). x.rows) made) in
-    ap (λ (x : Lay). state_of x cursor passes) set
-    ∙ (λ i. record (state_of (made i) cursor passes) { rows = rows i; knobs = record (kept i) { run = 0 } })
+-- rows that are resettled after others
+each_then : (xs ys : List Row) (u v w : Mapped) → ResettlesEach xs u v → ResettlesEach ys v w → ResettlesEach (xs ++ ys) u w
+each_then [] ys u v w idle more =
+    subst (λ (x : Mapped). ResettlesEach ys x w) (λ t. record { frame = idle.frame t; keeper = idle.keeper t }) more
+each_then (x ∷ xs) ys u v w (between, first, others) more = (between, first, each_then xs ys between v w others more)
 
-unshared_twice : (test : Row → Bool) (rows : List Row) → map unshared (change_rows test unshared rows) ≡ map unshared rows
-unshared_twice test [] = refl
-unshared_twice test (r ∷ rows) = by (test r) (unshared_twice test rows)
-  where
-    by : (b : Bool) → map unshared (change_rows test unshared rows) ≡ map unshared rows → map unshared (cond b (unshared r) r ∷ change_rows test unshared rows) ≡ map unshared (r ∷ rows)
-    by true rest = ap (λ l. unshared r ∷ l) rest
-    by false rest = ap (λ l. unshared r ∷ l) rest
+-- so many pages of the guest, or of all, got frames of their own; the cursor is behind the last page that was looked at
+pub record IsUnsharing (p q : PagesView) (k l : KeeperView) (guest : Option ℕ) (count : ℕ) (last : Option GuestPage) : Type 0 where
+  pub done : List Row
+  pub left : List Row
+  pub along : IsAlong (of_guest guest) (left_by guest) p.rows q.rows last done left
+  pub pages : q ≡ record p { rows = q.rows; frame = q.frame; restless = q.restless }
+  pub counted : count ≡ length (filter (is_shared_of guest) done)
+  pub each : ResettlesEach (filter (is_shared_of guest) done) (lying p k) (lying q l)
+  pub does : Does k l (map (λ r. r.home) (filter (is_shared_of guest) done))
+  pub laid : IsLaid q l
+  pub few : count ≤ position last
+  pub fits : FitsPage last
 
--- a run of 2 that went through leaves the state that the definition gives
-pub ended_state : (lay mid wide new : Lay) (k : ℕ) (knobs : Knobs) (cursor : Option GuestPage) (passes : ℕ) → InPageOrder lay.rows
-    → mid ≡ record lay { rows = first_changed (is_shared_of None) unshared k lay.rows; frames = mid.frames; keeper = mid.keeper }
-    → knobs ≡ mid.knobs → wide ≡ record mid { rows = map unshared mid.rows } → new ≡ record wide { knobs = record knobs { run = 2 } }
-    → state_of new None passes ≡ record (state_of lay cursor passes) { rows = map unshared lay.rows; cursor = None; knobs = record lay.knobs { run = 2 } }
-ended_state lay mid wide new k knobs cursor passes rise made same alone set =
-    let kept : knobs ≡ lay.knobs = same ∙ ap (λ (x : Lay). x.knobs) made in
-    let rows : map unshared mid.rows ≡ map unshared lay.rows = ap (map unshared) (all_unshared lay.rows mid.rows k rise (ap (λ (x : Lay). x.rows) made)) ∙ unshared_twice (λ r. shared_state r.state && is_before (slice_get (merged_at lay.rows) k) r) lay.rows in
-    ap (λ (x : Lay). state_of x None passes) set
-    ∙ (λ i. record (state_of (alone i) None passes) { knobs = record knobs { run = 2 } })
-    ∙ (λ i. record (state_of (made i) None passes) { rows = rows i; knobs = record (kept i) { run = 2 } })
+-- at first none did
+pub unsharing_first : (p : PagesView) (k : KeeperView) (guest : Option ℕ) → IsLaid p k → IsUnsharing p p k k guest 0 None
+unsharing_first p k guest h = record {
+  done = [];
+  left = p.rows;
+  along = along_first (of_guest guest) (left_by guest) p.rows;
+  pages = refl;
+  counted = refl;
+  each = record { keeper = refl; frame = refl };
+  does = does_nothing k;
+  laid = h;
+  few = omega arith;
+  fits = tt;
+}
 
--- where no row was left to take, no row is merged or Zero
-pub none_merged : (rows now : List Row) (k : ℕ) (stop : Option Row) → InPageOrder rows → now ≡ first_changed (is_shared_of None) unshared k rows → IsStop (merged_at rows) k stop → stop ≡ None → All (λ r. shared_state r.state ≡ false) now
-none_merged rows now k stop rise made at ended =
-    let still : now ≡ change_rows (λ r. shared_state r.state && true) unshared rows = all_unshared rows now k rise made ∙ ap (λ o. change_rows (λ r. shared_state r.state && is_before o r) unshared rows) (stop_is (merged_at rows) k stop at ∙ ended) in
-    subst (All (λ r. shared_state r.state ≡ false)) (sym still) (All-map (λ r. shared_state r.state ≡ false) (λ r. if shared_state r.state && true then unshared r else r) rows (λ i d lt. one (get_or rows i d)))
-  where
-    one : (r : Row) → (let x : Row = if shared_state r.state && true then unshared r else r in shared_state x.state ≡ false)
-    one r = by (shared_state r.state && true) (λ e. sym (and_true (shared_state r.state)) ∙ e)
+-- what holds of each element holds of one in their midst
+all_seam : (P : Row → Type 0) (xs : List Row) (r : Row) (ys : List Row) → All P (xs ++ r ∷ ys) → P r
+all_seam P [] r ys all = All-head P r ys all
+all_seam P (x ∷ xs) r ys all = all_seam P xs r ys (All-tail P x (xs ++ r ∷ ys) all)
+
+module _ {p q : PagesView} {k l : KeeperView} {guest : Option ℕ} {count : ℕ} {last : Option GuestPage}
+    (u : IsUnsharing p q k l guest count last) (rise : InPageOrder p.rows) where
+  abbrev met : List Row
+  met = filter (is_shared_of guest) u.done
+
+  module _ {page : GuestPage} (told : option_map (λ r. r.page) (find (is_next guest last) q.rows) ≡ Some page) where
+    cut : IsCut (of_guest guest) (left_by guest) p.rows q.rows u.done page
+    cut = along_cut (left_by guest) (page_left guest) u.along rise page told
+
+    abbrev r : Row
+    r = cut.row
+
+    met_before : filter (is_shared_of guest) cut.before ≡ met
+    met_before = cut.met (λ x. shared_state x.state)
+
+    -- the next page is at home on a node that is there
+    pub unsharing_home : {held : Held} → IsHeld q page held → All (λ x. x.home < p.shape.nodes) p.rows → held.home < q.shape.nodes
+    unsharing_home {held} h homes =
+        let fits = λ (x : Row). x.home < p.shape.nodes in
+        let at : r.home < p.shape.nodes = all_seam fits cut.before r cut.rest (subst (All fits) cut.whole homes) in
+        let home : held.home ≡ r.home = h.home ∙ ap (λ (x : Row). x.home) (same_Some h.row r (sym h.found ∙ cut.there)) in
+        subst (λ (z : ℕ × ℕ). z.0 < z.1) (λ t. (sym home t, (sym u.pages t).shape.nodes)) at
+
+    -- the next page was left
+    pub unsharing_next : {v : PagesView} {w : KeeperView} {given : ℕ} → HasLeft q v l w guest page given → FitsPage (Some page)
+        → IsUnsharing p v k w guest (count + given) (Some page)
+    unsharing_next {v} {w} {given} h fits =
+        let e : h.row ≡ r = same_Some h.row r (sym h.found ∙ cut.there) in
+        let rows : v.rows ≡ change_row page (left_by guest) q.rows = ap (λ (x : PagesView). x.rows) h.pages in
+        let more : filter (is_shared_of guest) (cut.before ++ r ∷ []) ≡ met ++ shared_of h.row =
+        filter-append (is_shared_of guest) cut.before (r ∷ [])
+        ∙ (λ t. met_before t ++ (if cut.of t && shared_state r.state then r ∷ [] else [])) ∙ ap (λ x. met ++ shared_of x) (sym e) in
+        record {
+          done = cut.before ++ r ∷ [];
+          left = cut.rest;
+          along = subst (λ x. IsAlong (of_guest guest) (left_by guest) p.rows x (Some page) (cut.before ++ r ∷ []) cut.rest) (sym rows)
+              cut.next;
+          pages = h.pages ∙ (λ t. record (u.pages t) { rows = sym rows t; frame = v.frame; restless = v.restless });
+          counted = (λ t. u.counted t + h.given t) ∙ sym (length-append met (shared_of h.row)) ∙ ap length (sym more);
+          each = subst (λ xs. ResettlesEach xs (lying p k) (lying v w)) (sym more)
+              (each_then met (shared_of h.row) (lying p k) (lying q l) (lying v w) u.each h.steps);
+          does = subst (λ xs. Does k w (map (λ (x : Row). x.home) xs)) (sym more)
+              (subst (Does k w) (sym (map-append (λ (x : Row). x.home) met (shared_of h.row)))
+              (does_then k l w (map (λ (x : Row). x.home) met) _ u.does h.does));
+          laid = h.laid;
+          few =
+              let far = further guest last q.rows page u.fits told in
+              let was = u.few in
+              let one : length (shared_of h.row) ≤ 1 =
+              cond_both (shared_state h.row.state) (h.row ∷ []) [] (λ xs. length xs ≤ 1) (λ _. omega arith) (λ _. omega arith) in
+              let more = h.given in
+              omega (arith, far, was, one, more);
+          fits = fits;
+        }
+
+    -- no frame was left for the next page
+    pub unsharing_stop : {v : PagesView} {w : KeeperView} {fault : Fault} → MayNotLeave q v l w page fault
+        → Unshares p v k w guest count (Some fault)
+    unsharing_stop {v} {w} {fault} h =
+        let e : h.row ≡ r = same_Some h.row r (sym h.found ∙ cut.there) in
+        let home = ap (λ (x : Row). x.home) e in
+        let is : shared_state r.state ≡ true = ap (λ (x : Row). shared_state x.state) (sym e) ∙ h.shared in
+        let later = filter (is_shared_of guest) cut.rest in
+        let all : filter (is_shared_of guest) p.rows ≡ met ++ r ∷ later =
+        ap (filter (is_shared_of guest)) cut.whole ∙ filter-append (is_shared_of guest) cut.before (r ∷ cut.rest)
+        ∙ (λ t. met_before t ++ (if cut.of t && is t then r ∷ later else later)) in
+        let taken : met ≡ take count (filter (is_shared_of guest) p.rows) =
+        sym (ap (take count) all ∙ ap (λ n. take n (met ++ r ∷ later)) u.counted ∙ take-append_seam met _) in
+        record {
+          at = Some r;
+          fault = ap Some (h.says ∙ ap NoFrame home);
+          stands = ap (λ xs. slice_get xs count) all ∙ ap (slice_get (met ++ r ∷ later)) u.counted ∙ get_seam met r _;
+          pages = h.turned.pages ∙ u.pages ∙ (λ t. record p {
+            rows = cut.stop t;
+            frame = ap (λ (x : PagesView). x.frame) (sym h.turned.pages) t;
+            restless = ap (λ (x : PagesView). x.restless) (sym h.turned.pages) t;
+          });
+          unmerges = subst (λ f. UnmergesTo (take count (filter (is_shared_of guest) p.rows)) (Some f) (lying p k) (lying v w)) (sym h.says)
+              (lying q l, subst (λ xs. ResettlesEach xs (lying p k) (lying q l)) taken u.each, h.turned.turns);
+          gave = (l, subst (λ xs. Does k l (map (λ (x : Row). x.home) xs)) taken u.does, subst (λ n. NoneLeft l w n) home h.turned.left);
+          laid = h.turned.laid;
+        }
       where
-        by : (m : Bool) → (m ≡ false → shared_state r.state ≡ false) → (let x : Row = cond m (unshared r) r in shared_state x.state ≡ false)
-        by true h = refl
-        by false h = h refl
+        get_seam : (xs : List Row) (x : Row) (ys : List Row) → slice_get (xs ++ x ∷ ys) (length xs) ≡ Some x
+        get_seam [] x ys = refl
+        get_seam (y ∷ xs) x ys = get_seam xs x ys
+
+  -- no page was left to look at
+  pub unsharing_end : find (is_next guest last) q.rows ≡ None → Unshares p q k l guest count None
+  unsharing_end ended =
+      let done = along_end (left_by guest) (page_left guest) u.along ended in
+      let all : filter (is_shared_of guest) p.rows ≡ met =
+      ap (filter (is_shared_of guest)) u.along.whole ∙ filter-append (is_shared_of guest) u.done u.left
+      ∙ ap (λ l. met ++ l) (filter_none (is_shared_of guest) u.left (λ i d lt. ap (λ b. b && shared_state (get_or u.left i d).state)
+      (done.2 i d lt))) ∙ append-nil met in
+      let taken : met ≡ take count (filter (is_shared_of guest) p.rows) =
+      sym (ap (take count) (all ∙ sym (append-nil met)) ∙ ap (λ n. take n (met ++ [])) u.counted ∙ take-append_seam met []) in
+      record {
+        at = None;
+        fault = refl;
+        stands = u.counted ∙ ap length (sym all);
+        pages =
+            let rows = done.0 ∙ (λ i. change_rows (λ r. sym (and-true (of_guest guest r)) i) (left_by guest) p.rows) in
+            u.pages ∙ (λ t. record p { rows = rows t; frame = q.frame; restless = q.restless });
+        unmerges = subst (λ xs. ResettlesEach xs (lying p k) (lying q l)) taken u.each;
+        gave = subst (λ xs. Does k l (map (λ (x : Row). x.home) xs)) taken u.does;
+        laid = u.laid;
+      }
+
+-- ---------------------------------------------------------------- pages that come into the scan
+
+-- the row is visited by the scan
+abbrev pub in_scan : Row → Row
+in_scan r = record r { mergeable = true }
+
+-- a guest's pages are mergeable up to the cursor, which is at one of them where there is one
+pub record IsMarking (p q : PagesView) (guest : ℕ) (last : Option GuestPage) : Type 0 where
+  pub done : List Row
+  pub left : List Row
+  pub along : IsAlong (is_of guest) in_scan p.rows q.rows last done left
+  pub pages : q ≡ record p { rows = q.rows; restless = q.restless }
+  pub any : is_some last ≡ list_any (is_of guest) done
+  pub fits : FitsPage last
+
+-- at first none is
+pub marking_first : (p : PagesView) (guest : ℕ) → IsMarking p p guest None
+marking_first p guest =
+    record { done = []; left = p.rows; along = along_first (is_of guest) in_scan p.rows; pages = refl; any = refl; fits = tt }
+
+module _ {p q : PagesView} {guest : ℕ} {last : Option GuestPage} (u : IsMarking p q guest last) where
+  -- the next page is there
+  module _ (rise : InPageOrder p.rows) {page : GuestPage}
+      (told : option_map (λ r. r.page) (find (is_next (Some guest) last) q.rows) ≡ Some page) where
+    at : IsCut (is_of guest) in_scan p.rows q.rows u.done page
+    at = along_cut in_scan (λ _. refl) u.along rise page told
+
+    pub marking_known : IsKnown page q.rows
+    marking_known = ap is_some at.there
+
+    -- and becomes mergeable
+    pub marking_next : {v : PagesView} → v ≡ record q { rows = change_row page in_scan q.rows; restless = v.restless }
+        → FitsPage (Some page) → IsMarking p v guest (Some page)
+    marking_next {v} goes fits =
+        let rows : v.rows ≡ change_row page in_scan q.rows = ap (λ (x : PagesView). x.rows) goes in
+        record {
+          done = at.before ++ at.row ∷ [];
+          left = at.rest;
+          along = subst (λ x. IsAlong (is_of guest) in_scan p.rows x (Some page) (at.before ++ at.row ∷ []) at.rest) (sym rows) at.next;
+          pages = goes ∙ (λ t. record (u.pages t) { rows = sym rows t; restless = v.restless });
+          any = sym (list_any-append (is_of guest) at.before (at.row ∷ [])
+              ∙ or_right (list_any (is_of guest) at.before) _ (ap (λ b. b || false) at.of));
+          fits = fits;
+        }
+
+  -- where there is no next, all are
+  pub marking_end : find (is_next (Some guest) last) q.rows ≡ None → (is_some last ≡ list_any (is_of guest) p.rows)
+      × (q ≡ record p { rows = change_rows (is_of guest) in_scan p.rows; restless = q.restless })
+  marking_end ended =
+      let done = along_end in_scan (λ _. refl) u.along ended in
+      (u.any ∙ sym done.1, u.pages ∙ (λ t. record p { rows = done.0 t; restless = q.restless }))

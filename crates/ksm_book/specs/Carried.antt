@@ -1,4 +1,4 @@
--- A command carried out: what it answered, the state after it, the steps that it made on the frames, and where each row lies then (own).
+-- A command carried out: what it answered, the state after it, the steps that it made on the frames, and where each page lies then (own).
 use Rattle.std.specs.Prelude.{◌≡◌, ℕ, ◌==◌, List, take, Option, Some, None, Ok, Err, MatchBool, MatchOption}
 use Rattle.ksm_base.specs.declared.row.Row.{Row}
 use Rattle.ksm_base.specs.declared.command.Command.{Command}
@@ -7,47 +7,46 @@ use Rattle.ksm_base.specs.declared.reply.Reply.TheVariants.{Done, Scanned, Prune
 use Rattle.ksm_base.specs.declared.fault.Fault.{Fault}
 use Rattle.ksm_base.specs.declared.fault.Fault.TheVariants.{NoFrame, InUse}
 use Rattle.ksm_base.specs.Answers.{Answer, IsAnswerOrMemory, shared_rows, every_row}
-use Rattle.ksm_base.specs.Apply.{after, fresh_row, stored, moved}
+use Rattle.ksm_base.specs.Apply.{after}
 use Rattle.ksm_base.specs.Refusals.{is_of, live_dup_at}
 use Rattle.ksm_base.specs.Rows.{row_at, shared_state}
 use Rattle.ksm_base.specs.Journal.{Entry}
 use Rattle.ksm_base.specs.State.{BookState}
 use Rattle.frame_table.specs.Named.{KeeperView}
-use Rattle.ksm_layout.specs.Commands.{Mapped, IsIdle, TurnsAway, Admits, Resettles, ResettlesEach, Moves, FindsHeld, Performs, rewriting, dismissing, pruning, scanning}
-use Rattle.ksm_layout.specs.Steps.{Does}
-use Rattle.ksm_book.specs.Whole.{BookView, mapped, rows_in, nodes_got, HasShown}
+use Rattle.ksm_book.specs.Commands.{Mapped, IsIdle, TurnsAway, Admits, Resettles, ResettlesEach, Moves, FindsHeld, Performs, rewriting, emptying, pruning, scanning}
+use Rattle.ksm_book.specs.Steps.{Does}
+use Rattle.ksm_pages.specs.Paged.{Lodging, frame_of}
+use Rattle.ksm_book.specs.Whole.{BookView, mapped, nodes_got, HasShown}
 
 -- a page with a frame of its own is stored to in place, a merged or Zero one gets a new frame first
 abbrev pub StoresTo : Mapped → Mapped → List ℕ → Row → Type 0
-StoresTo v w bytes row = MatchBool (shared_state row.state) (Resettles v w (stored bytes row)) (Performs v w (rewriting v.listed (stored bytes row)))
+StoresTo v w bytes row = MatchBool (shared_state row.state) (Resettles v w row.page row.home bytes) (Performs v w (rewriting v.frame row.page bytes))
 
 -- a page that moves to another node gets a new frame there
 abbrev pub MovesTo : Mapped → Mapped → ℕ → Row → Type 0
-MovesTo v w node row = MatchBool (row.home == node) (IsIdle v w) (Resettles v w (moved node row))
+MovesTo v w node row = MatchBool (row.home == node) (IsIdle v w) (Resettles v w row.page node row.bytes)
 
 -- these rows are resettled, one after another; where there was a stop, no frame was found for the next
 abbrev pub UnmergesTo : List Row → Option Fault → Mapped → Mapped → Type 0
 UnmergesTo rows None v w = ResettlesEach rows v w
-UnmergesTo rows (Some (NoFrame node)) v w =
-    (keeper : KeeperView) × (frames : List (Option ℕ)) × ResettlesEach rows v (record { listed = record { rows = v.listed.rows; frames = frames }; keeper = keeper })
-    × TurnsAway (record { listed = record { rows = v.listed.rows; frames = frames }; keeper = keeper }) w node
+UnmergesTo rows (Some (NoFrame node)) v w = (between : Mapped) × ResettlesEach rows v between × TurnsAway between w node
 UnmergesTo rows (Some fault) v w = ⊥
 
 -- a knob that gets another value: the stale dups go first
 abbrev pub PrunesUnless : BookView → BookView → ℕ → ℕ → Type 0
-PrunesUnless v w value knob = MatchBool (value == knob) (IsIdle (mapped v) (mapped w)) (Performs (mapped v) (mapped w) (pruning v.state.dups (rows_in v)))
+PrunesUnless v w value knob = MatchBool (value == knob) (IsIdle (mapped v) (mapped w)) (Performs (mapped v) (mapped w) (pruning v.state.rows v.state.dups v.frame))
 
 -- the steps of each command and answer, in their order, and no others; of all that is not listed there are none
 abbrev pub TakesSteps : BookView → BookView → Command → Answer → Type 0
-TakesSteps v w (Register page node bytes) (Ok Done) = Admits (mapped v) (mapped w) (fresh_row page node bytes)
-TakesSteps v w (Drop page) (Ok Done) = Performs (mapped v) (mapped w) (dismissing (rows_in v) page)
+TakesSteps v w (Register page node bytes) (Ok Done) = Admits (mapped v) (mapped w) page node bytes
+TakesSteps v w (Drop page) (Ok Done) = Performs (mapped v) (mapped w) (emptying v.frame page)
 TakesSteps v w (Store page bytes) (Ok Done) = MatchOption (row_at page v.state.rows) ⊥ (StoresTo (mapped v) (mapped w) bytes)
-TakesSteps v w (Scan n) (Ok (Scanned made stop)) = Performs (mapped v) (mapped w) (scanning made v.state v.frames)
-TakesSteps v w Prune (Ok (Pruned count)) = Performs (mapped v) (mapped w) (pruning v.state.dups (rows_in v))
+TakesSteps v w (Scan n) (Ok (Scanned made stop)) = Performs (mapped v) (mapped w) (scanning made v.state v.frame)
+TakesSteps v w Prune (Ok (Pruned count)) = Performs (mapped v) (mapped w) (pruning v.state.rows v.state.dups v.frame)
 TakesSteps v w (Unmerge guest) (Ok (Unmerged k stop)) = UnmergesTo (take k (shared_rows (is_of guest) v.state)) stop (mapped v) (mapped w)
 TakesSteps v w (MovePage page node) (Ok Done) = MatchOption (row_at page v.state.rows) ⊥ (MovesTo (mapped v) (mapped w) node)
-TakesSteps v w (MoveDup place node) (Ok Done) = MatchOption (live_dup_at v.state place) ⊥ (λ d. Moves (mapped v) (mapped w) d node)
-TakesSteps v w (MoveDup place node) (Err InUse) = MatchOption (live_dup_at v.state place) ⊥ (λ d. FindsHeld (mapped v) (mapped w) d node)
+TakesSteps v w (MoveDup place node) (Ok Done) = MatchOption (live_dup_at v.state place) ⊥ (λ d. Moves (mapped v) (mapped w) v.state.rows d node)
+TakesSteps v w (MoveDup place node) (Err InUse) = MatchOption (live_dup_at v.state place) ⊥ (λ d. FindsHeld (mapped v) (mapped w) v.state.rows d node)
 TakesSteps v w (SetRun run) (Ok (Unmerged k stop)) = UnmergesTo (take k (shared_rows every_row v.state)) stop (mapped v) (mapped w)
 TakesSteps v w (SetAcross across) (Ok Done) = PrunesUnless v w across v.state.knobs.merge_across_nodes
 TakesSteps v w (SetLimit limit) (Ok Done) = PrunesUnless v w limit v.state.knobs.max_page_sharing
@@ -62,20 +61,20 @@ pub record CarriedOut (v w : BookView) (command : Command) (given : Answer) : Ty
   pub answer : IsAnswerOrMemory v.state command given
   -- the state after it
   pub state : w.state ≡ after v.state command given
-  -- the steps that it made, and no others, and the frame of each row after them
+  -- the steps that it made, and no others, and the frame of each page after them
   pub steps : TakesSteps v w command given
   -- the frames that it gave: the lowest free one of each node on which it needed one and got it
   pub frames : Does v.keeper w.keeper (nodes_got v.state given command)
   -- what the log shows of no frame, in use, and a dup that moved
   pub shown : HasShown v.state v.keeper w.keeper given command
 
--- what contracts see of a book: its state, the frame of each row, in the order of the rows, the keeper of the frames, and its journal
+-- what contracts see of a book: its state, where its pages lie, the keeper of the frames, and its journal
 pub record JournaledBook : Type 0 where
   pub state : BookState
-  pub frames : List (Option ℕ)
+  pub lodgings : List Lodging
   pub keeper : KeeperView
   pub journal : List Entry
 
 -- a book without its journal
 abbrev pub unjournaled : JournaledBook → BookView
-unjournaled b = record { state = b.state; frames = b.frames; keeper = b.keeper }
+unjournaled b = record { state = b.state; frame = frame_of b.lodgings; keeper = b.keeper }

@@ -1,7 +1,14 @@
+pub mod Placement
+pub mod Steps
+pub mod Commands
+pub mod Keeping
+pub mod Laid
+pub mod Mounted
+pub mod FrameSets
 pub mod Whole
 pub mod Carried
-pub mod Unmerged
 pub mod Promised
-pub mod Gathered
-pub mod Quiet
+pub mod Unmerged
 pub mod Worked
+pub mod Folded
+pub mod Scanned

@@ -1,10 +1,10 @@
 -- What is promised of the book and its frames between any two calls (own).
-use Rattle.std.specs.Prelude.{◌≡◌, ◌≢◌, ℕ, ◌<◌, ◌≤◌, ◌^◌, Bool, true, false, not, List, ◌++◌, length, map, filter, AllPairs, All, Contains, Option, Some, None, MatchOption}
-use Rattle.std.specs.List.{zip}
+use Rattle.std.specs.Prelude.{◌≡◌, ◌≢◌, ℕ, ◌<◌, ◌≤◌, ◌^◌, Bool, true, false, not, List, ◌++◌, map, filter, AllPairs, All, Contains, Some, None, MatchOption}
+use Rattle.ksm_base.specs.declared.page.GuestPage.{GuestPage}
 use Rattle.ksm_base.specs.declared.shape.Shape.{Shape}
 use Rattle.ksm_base.specs.declared.row.Row.{Row}
 use Rattle.ksm_base.specs.declared.row.DupRow.{DupRow}
-use Rattle.ksm_base.specs.Rows.{zero_state, shared_state, merged_into, item_count, has_items, all_zero}
+use Rattle.ksm_base.specs.Rows.{zero_state, shared_state, merged_into, item_count, has_items, all_zero, row_at}
 use Rattle.ksm_base.specs.State.{BookState, place_count}
 use Rattle.ksm_base.specs.Values.{frames_of}
 use Rattle.ksm_base.specs.Visit.{new_place}
@@ -13,12 +13,13 @@ use Rattle.frame_core.specs.declared.frame.Kind.TheVariants.{Free, Filling, Priv
 use Rattle.frame_core.specs.declared.ledger.Ledger.{Ledger}
 use Rattle.frame_core.specs.declared.seat.Life.{Life}
 use Rattle.frame_core.specs.Ledger.{frame_at, named_at}
-use Rattle.ksm_layout.specs.Placement.{node_of, place_frame}
-use Rattle.ksm_layout.specs.Commands.{frame_number}
+use Rattle.ksm_book.specs.Placement.{node_of, place_frame}
+use Rattle.ksm_book.specs.Commands.{frame_number}
+use Rattle.ksm_pages.specs.Paged.{Frames}
 
--- the frames of the rows with a frame of their own, where each row has one of these frames or none, in order
-abbrev pub own_frames : List Row → List (Option ℕ) → List ℕ
-own_frames rows frames = map (λ z. frame_number z.1) (filter (λ z. not (shared_state z.0.state)) (zip rows frames))
+-- the frames of the rows with a frame of their own, in order
+abbrev pub own_frames : List Row → Frames → List ℕ
+own_frames rows frame = map (λ r. frame_number (frame r.page)) (filter (λ r. not (shared_state r.state)) rows)
 
 -- the frames of the dups with items, as their places name them
 abbrev pub dup_frames : BookState → Ledger → List ℕ
@@ -60,21 +61,21 @@ pub record IsOutlived (k : Ledger) (place : ℕ) : Type 0 where
   pub named : named_at k place ≡ Some life
   pub over : (frame_at k life.frame).generation ≡ life.generation → (frame_at k life.frame).kind ≢ Stable
 
--- rows, each with its frame if it has one, and dups lie lawfully in what the keeper knows
-pub record LieOn (b : BookState) (frames : List (Option ℕ)) (k : Ledger) : Type 0 where
-  -- each row has a frame, or none
-  pub one_each : length frames ≡ length b.rows
+-- rows, each on the frame of its page if it has one, and dups lie lawfully in what the keeper knows
+pub record LieOn (b : BookState) (frame : Frames) (k : Ledger) : Type 0 where
   -- a row that is neither merged nor Zero has its own
-  pub own : All (λ z. shared_state z.0.state ≡ false → MatchOption z.1 ⊥ (HasItsOwn b.shape k z.0)) (zip b.rows frames)
+  pub own : All (λ r. shared_state r.state ≡ false → MatchOption (frame r.page) ⊥ (HasItsOwn b.shape k r)) b.rows
   -- a merged row lies on the frame that its dup's place names
-  pub merged : All (λ z. All (λ d. merged_into d.number z.0.state ≡ true → z.1 ≡ Some (place_frame k d.place)) b.dups) (zip b.rows frames)
+  pub merged : All (λ r. All (λ d. merged_into d.number r.state ≡ true → frame r.page ≡ Some (place_frame k d.place)) b.dups) b.rows
   -- a Zero row has none, and reads zeroes alone
-  pub zero : All (λ z. zero_state z.0.state ≡ true → (z.1 ≡ None) × (all_zero z.0.bytes ≡ true)) (zip b.rows frames)
+  pub zero : All (λ r. zero_state r.state ≡ true → (frame r.page ≡ None) × (all_zero r.bytes ≡ true)) b.rows
+  -- a page without a row has none
+  pub absent : (page : GuestPage) → row_at page b.rows ≡ None → frame page ≡ None
   -- a dup with items stands on that frame
   pub dups : All (λ d. has_items b.rows d ≡ true → StandsOn b k d (place_frame k d.place)) b.dups
   -- the frames of the rows and dups differ from one another, and no other frame is in use
-  pub distinct : AllPairs (λ f g. f ≢ g) (own_frames b.rows frames ++ dup_frames b k)
-  pub no_other : (f : ℕ) → is_in_use (frame_at k f).kind ≡ true → Contains (own_frames b.rows frames ++ dup_frames b k) f
+  pub distinct : AllPairs (λ f g. f ≢ g) (own_frames b.rows frame ++ dup_frames b k)
+  pub no_other : (f : ℕ) → is_in_use (frame_at k f).kind ≡ true → Contains (own_frames b.rows frame ++ dup_frames b k) f
   -- each dup stands at one of the places; that of a stale dup names a frame whose life is over, and one without a dup names none
   pub places : All (λ d. d.place < place_count b.shape) b.dups
   pub stale : All (λ d. has_items b.rows d ≡ false → IsOutlived k d.place) b.dups

@@ -8,25 +8,33 @@ use Rattle.ksm_base.specs.Refusals.{is_of}
 use Rattle.ksm_base.specs.Answers.{Answer, frame_needed, shared_rows, every_row}
 use Rattle.ksm_base.specs.State.{BookState}
 use Rattle.frame_table.specs.Named.{KeeperView}
-use Rattle.ksm_layout.specs.Steps.{Does}
-use Rattle.ksm_layout.specs.Commands.{Mapped, listed_in}
-use Rattle.ksm_layout.specs.Keeping.{NoneLeft}
-use Rattle.ksm_layout.specs.Mounted.{HasLost, HasMoved}
-use Rattle.ksm_pages.specs.Listed.{Listed}
+use Rattle.ksm_book.specs.Steps.{Does}
+use Rattle.ksm_book.specs.Commands.{Mapped}
+use Rattle.ksm_book.specs.Keeping.{NoneLeft}
+use Rattle.ksm_book.specs.Mounted.{HasLost, HasMoved}
+use Rattle.ksm_pages.specs.Paged.{Frames, Lodging, frame_of}
+use Rattle.ksm_pages.specs.Held.{Listing}
 
--- what is seen of the book: its state, the frame of each row, in the order of the rows, and the keeper
+-- what is seen of the book: its state, the frame of each page, and the keeper
 pub record BookView : Type 0 where
   pub state : BookState
-  pub frames : List (Option ℕ)
+  pub frame : Frames
   pub keeper : KeeperView
 
--- the rows with their frames
-abbrev pub rows_in : BookView → Listed
-rows_in v = listed_in v.state v.frames
+-- the value by which proofs tell such books apart: a list in the place of the function that `BookView` has, and the list of the rows
+-- that a visit may change
+pub record BookValue : Type 0 where
+  pub state : BookState
+  pub lodgings : List Lodging
+  pub keeper : KeeperView
+  pub restless : Listing
 
--- the rows with their frames, and the keeper
+abbrev pub view_of : BookValue → BookView
+view_of b = record { state = b.state; frame = frame_of b.lodgings; keeper = b.keeper }
+
+-- where each page lies, and the keeper
 abbrev pub mapped : BookView → Mapped
-mapped v = record { listed = rows_in v; keeper = v.keeper }
+mapped v = record { frame = v.frame; keeper = v.keeper }
 
 abbrev pub listed : Option ℕ → List ℕ
 listed None = []

@@ -1,5 +1,5 @@
 -- Worked commands: three equal pages, as they lie in the frames of two nodes, and what a command does with these. Own.
-use Rattle.std.specs.Prelude.{ℕ, ◌*◌, ◌^◌, List, [], ◌∷◌, Option, None, Some, Ok}
+use Rattle.std.specs.Prelude.{ℕ, ◌*◌, ◌^◌, List, [], ◌∷◌, None, Some, Ok}
 use Rattle.std.specs.List.{repeat}
 use Rattle.ksm_base.specs.declared.page.GuestPage.{GuestPage}
 use Rattle.ksm_base.specs.declared.page.TheConstants.{PAGE_WORDS}
@@ -9,8 +9,7 @@ use Rattle.ksm_base.specs.declared.reply.Reply.TheVariants.{Done, Scanned}
 use Rattle.ksm_base.specs.declared.shape.Shape.{Shape}
 use Rattle.ksm_base.specs.State.{BookState, opening}
 use Rattle.ksm_base.specs.Apply.{after}
-use Rattle.ksm_layout.specs.Commands.{listed_in}
-use Rattle.ksm_pages.specs.Listed.{Listed}
+use Rattle.ksm_pages.specs.Paged.{Frames, lies_on, nowhere}
 
 -- two nodes of four frames
 abbrev pub shape : Shape
@@ -38,21 +37,17 @@ abbrev pub three : BookState
 three = done (opening shape) (Register (page 0) 0 (full 0xaa) ∷ Register (page 1) 0 (full 0xaa) ∷ Register (page 2) 1 (full 0xaa) ∷ SetRun 1 ∷ [])
 
 -- the lowest frames of their nodes
-abbrev pub apart : List (Option ℕ)
-apart = Some 0 ∷ Some 1 ∷ Some 4 ∷ []
+abbrev pub apart : Frames
+apart = lies_on (page 0) (Some 0) (lies_on (page 1) (Some 1) (lies_on (page 2) (Some 4) nowhere))
 
 -- the three merged, after two passes
 abbrev pub merged : BookState
 merged = scanned 6 three
 
 -- all on the frame of the first
-abbrev pub together : List (Option ℕ)
-together = Some 0 ∷ Some 0 ∷ Some 0 ∷ []
+abbrev pub together : Frames
+together = lies_on (page 0) (Some 0) (lies_on (page 1) (Some 0) (lies_on (page 2) (Some 0) nowhere))
 
 -- the three merged, and then stored to or dropped, so that their dup is stale
 abbrev pub stale : BookState
 stale = done merged (Store (page 0) (full 0xbb) ∷ Store (page 1) (full 0xcc) ∷ Drop (page 2) ∷ [])
-
--- the rows with their frames
-abbrev pub all_merged : Listed
-all_merged = listed_in merged together

@@ -12,10 +12,11 @@ ghost use Rattle.ksm_base.specs.State.{opening};
 ghost use Rattle.ksm_base.specs.Values.{IsShape};
 ghost use Rattle.frame_core.specs.Ledger.{first_ledger};
 ghost use Rattle.ksm_book.specs.Carried.{CarriedOut, unjournaled};
-ghost use Rattle.ksm_layout.specs.Commands.{frame_of, listed_in};
-ghost use Rattle.ksm_layout.specs.Laid.{LoadsIf};
+ghost use Rattle.ksm_pages.specs.Paged.{nowhere};
+ghost use Rattle.ksm_book.specs.Laid.{LoadsIf};
 ghost use Rattle.ksm_base.specs.Sound.{IsSound};
-ghost use Rattle.ksm_layout.specs.Keeping.{spent};
+ghost use Rattle.ksm_book.specs.Keeping.{spent};
+ghost use Rattle.ksm_book.specs.Whole.{view_of};
 ghost use Rattle.ksm_book.specs.Promised.{FindsPlace, LieOn, NumbersAreSmall};
 
 use crate::state::State;
@@ -44,7 +45,7 @@ impl Model for Book {
 
     ghost Value = { JournaledBook };
 
-    ghost view = { λ b. record { state = b.state.state; frames = b.state.frames; keeper = b.state.keeper; journal = b.journal.entries } };
+    ghost view = { λ b. record { state = b.state.state; lodgings = b.state.lodgings; keeper = b.state.keeper; journal = b.journal.entries } };
 
     ghost invariant = { λ b. IsLegal b.state.keeper.table.shape b.journal.entries b.state.state };
 }
@@ -56,7 +57,8 @@ impl Book {
         requires shape { IsShape shape }
         requires same { keeper.table.shape ≡ shape }
         requires new { keeper.ledger ≡ first_ledger shape }
-        ensures opened { IfOk result (λ b. b ≡ record { state = opening shape; frames = []; keeper = keeper; journal = [] }) }
+        ensures opened { IfOk result (λ b. unjournaled b ≡ record { state = opening shape; frame = nowhere; keeper = keeper }) }
+        ensures journal { IfOk result (λ b. b.journal ≡ []) }
         ensures refused { IfErr result (λ e. (e.0 ≡ keeper) × (e.1 ≡ Fault.Memory)) }
     {
         Ok(Book {
@@ -95,7 +97,7 @@ impl Book {
     /// A law, which costs nothing to call: what is true of the book and of its frames whenever no call is under way.
     pub fn lies_lawfully(&self)
         ensures sound { IsSound self.now.state }
-        ensures placed { LieOn self.now.state self.now.frames self.now.keeper.ledger }
+        ensures placed { LieOn self.now.state (unjournaled self.now).frame self.now.keeper.ledger }
         ensures place { FindsPlace self.now.state }
         ensures lives { self.now.state.next ≤ spent self.now.keeper.ledger }
         ensures numbers { NumbersAreSmall self.now.state }
@@ -114,9 +116,9 @@ impl Book {
         ensures bytes { result ≡ bytes_of page self.old.state }
         ensures stored { IfSome result (λ bytes. last_stored page self.old.journal ≡ Some bytes) }
         ensures state { self.new.state ≡ self.old.state }
-        ensures frames { self.new.frames ≡ self.old.frames }
+        ensures frame { (unjournaled self.new).frame ≡ (unjournaled self.old).frame }
         ensures journal { self.new.journal ≡ self.old.journal }
-        ensures loads { LoadsIf (frame_of (listed_in self.old.state self.old.frames) page) result self.old.keeper self.new.keeper }
+        ensures loads { LoadsIf ((unjournaled self.old).frame page) result self.old.keeper self.new.keeper }
     {
         each_page_has_what_was_stored_last();
         self.state.read(table, page)
@@ -172,7 +174,7 @@ impl Book {
 /// Carries a command out on the state.
 fn carry_out(state: &mut State, table: &FrameTable, command: Command) -> Result<Reply, Fault>
     requires own { state.old.keeper.table ≡ table.now }
-    ensures { CarriedOut state.old state.new command result }
+    ensures { CarriedOut (view_of state.old) (view_of state.new) command result }
 {
     match command {
         Command::Register { page, node, bytes } => state.register(table, page, node, bytes),

@@ -2,11 +2,17 @@
 #![tactic(auto)]
 
 mod book;
+mod frame_keeper;
+mod frame_set;
+mod frames;
 mod knobs;
+mod mounting;
 mod moving;
 mod scan;
+mod settling;
 mod state;
 mod unmerging;
+mod visiting;
 mod worked;
 
 pub use book::Book;

@@ -1,28 +1,75 @@
 //! The command that moves a dup to another frame: its refusals, and the move.
 
-ghost use Rattle.std.specs.Prelude.{◌≡◌};
+ghost use Rattle.std.specs.Prelude.{◌≡◌, ◌<◌, ◌&&◌, ◌==◌, ℕ, Option, Some, find};
+ghost use Rattle.ksm_base.specs.declared.page.GuestPage.{GuestPage};
+ghost use Rattle.ksm_base.specs.Rows.{has_items};
+ghost use Rattle.ksm_base.specs.Sound.{IsSound};
 ghost use Rattle.ksm_book.specs.Carried.{CarriedOut};
+ghost use Rattle.ksm_book.specs.Laid.{IsLaid, MovesOr, state_of};
+ghost use Rattle.ksm_pages.specs.Paged.{seen};
+ghost use Rattle.ksm_book.specs.Mounted.{IsMoved};
+ghost use Rattle.ksm_book.specs.Whole.{view_of};
 
+use crate::frame_keeper::FrameKeeper;
+use crate::frames::find_frame;
+use crate::mounting::mount;
 use crate::state::State;
 use frame_table::FrameTable;
-use ksm_base::{Command, Fault, Reply};
+use ksm_base::{Command, DupRow, Fault, Reply};
+use ksm_pages::Pages;
+
+/// The frame of a dup with items is replaced by another of a node. Refused where none is free, and where a reader holds
+/// the old one; rows and dups stay.
+fn remount(
+    pages: &mut Pages,
+    keeper: &mut FrameKeeper,
+    table: &FrameTable,
+    dup: DupRow,
+    node: u32,
+) -> Result<(), Fault>
+    requires own { keeper.old.table ≡ table.now }
+    requires laid { IsLaid (seen pages.old) keeper.old }
+    requires sound { (cursor : Option GuestPage) × (passes : ℕ) × IsSound (state_of (seen pages.old) cursor passes) }
+    requires live { find (λ d. d.place == dup.place && has_items pages.old.rows d) pages.old.dups ≡ Some dup }
+    requires node { node < pages.old.shape.nodes }
+    requires home { pages.old.knobs.merge_across_nodes ≡ 0 → node ≡ dup.tree }
+    ensures own { keeper.new.table ≡ keeper.old.table }
+    ensures rest { seen pages.new ≡ record (seen pages.old) { frame = (seen pages.new).frame } }
+    ensures laid { IsLaid (seen pages.new) keeper.new }
+    ensures moved { IsMoved keeper.old keeper.new dup.place node result }
+    ensures moves { MovesOr (seen pages.old) (seen pages.new) keeper.old keeper.new dup node result }
+{
+    pages.lie_in_order();
+    let left = pages.dup_frame(dup.place);
+    let shape = pages.shape();
+    let Some(frame) = find_frame(keeper, table, shape, node) else {
+        return Err(Fault::NoFrame(node));
+    };
+    let items = keeper.base(left);
+    if !keeper.freeze(table, left) {
+        return Err(Fault::InUse);
+    }
+    mount(keeper, table, left, frame, dup.place, items);
+    pages.set_dup_frame(dup.place, frame);
+    Ok(())
+}
 
 impl State {
     /// Moves the dup with items at a place to another frame of a node.
     pub fn move_dup(&mut self, table: &FrameTable, place: u32, node: u32) -> Result<Reply, Fault>
         requires own { self.old.keeper.table ≡ table.now }
-        ensures { CarriedOut self.old self.new (Command.MoveDup place node) result }
+        ensures { CarriedOut (view_of self.old) (view_of self.new) (Command.MoveDup place node) result }
     {
-        if node >= self.layout.shape().nodes {
+        if node >= self.pages.shape().nodes {
             return Err(Fault::BadNode);
         }
-        let Some(dup) = self.layout.live_at(place) else {
+        let Some(dup) = self.pages.live_at(place) else {
             return Err(Fault::UnknownPlace);
         };
-        if self.layout.knobs().merge_across_nodes == 0 && dup.tree != node {
+        if self.pages.knobs().merge_across_nodes == 0 && dup.tree != node {
             return Err(Fault::CrossesNodes);
         }
-        match self.layout.move_dup(table, dup, node) {
+        match remount(&mut self.pages, &mut self.keeper, table, dup, node) {
             Ok(()) => Ok(Reply::Done),
             Err(fault) => Err(fault),
         }

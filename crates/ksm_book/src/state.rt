@@ -1,5 +1,5 @@
 //! The state of the book, and the commands on single pages, with `prune` and `mergeable`. Each tests its refusals in
-//! the order of the definitions, and then changes the layout.
+//! the order of the definitions, and then changes the pages and their frames.
 
 ghost use Rattle.std.specs.Prelude.{◌≡◌, ◌≤◌, [], IfOk, IfErr, IsSome, option_map};
 ghost use Rattle.ksm_base.specs.Values.{IsShape};
@@ -8,40 +8,43 @@ ghost use Rattle.ksm_base.specs.Counting.{counters_of};
 ghost use Rattle.ksm_base.specs.Reading.{bytes_of, mappers_of, ticket_of};
 ghost use Rattle.ksm_base.specs.declared.fault.Fault.TheVariants.{Memory};
 ghost use Rattle.ksm_base.specs.Refusals.{is_known};
-ghost use Rattle.frame_core.specs.Ledger.{first_ledger};
-ghost use Rattle.ksm_layout.specs.Commands.{frame_of};
-ghost use Rattle.ksm_layout.specs.Laid.{LoadsIf};
 ghost use Rattle.ksm_base.specs.Sound.{IsSound};
+ghost use Rattle.frame_core.specs.Ledger.{first_ledger};
 ghost use Rattle.ksm_book.specs.Carried.{CarriedOut};
-ghost use Rattle.ksm_layout.specs.Keeping.{spent};
+ghost use Rattle.ksm_book.specs.Whole.{view_of};
+ghost use Rattle.ksm_book.specs.Keeping.{spent};
+ghost use Rattle.ksm_book.specs.Laid.{LoadsIf};
+ghost use Rattle.ksm_pages.specs.Paged.{nowhere};
 ghost use Rattle.ksm_book.specs.Promised.{FindsPlace, LieOn, NumbersAreSmall};
-ghost use Rattle.ksm_book.specs.Whole.{rows_in};
 
+use crate::frame_keeper::FrameKeeper;
+use crate::frames::{known_frame, load, release_if, take_frame, write};
+use crate::settling::{drop_stale, resettle};
 use frame_table::{FrameTable, Keeper};
-use ksm_base::{Command, Counters, Fault, GuestPage, Knobs, PageBytes, PageState, Reply, Shape};
-use ksm_layout::Layout;
-use ksm_pages::row::{fresh_row, is_shared, moved, stored};
+use ksm_base::{Command, Counters, Fault, GuestPage, Knobs, PageBytes, Reply, Shape};
+use ksm_pages::Pages;
 use std::alloc::Global;
 use std::marker::Model;
 
 /// The rows and dups in their frames, the page visited last in this pass, and how many passes have ended.
 pub struct State {
-    pub(crate) alloc: Global,
-    pub(crate) layout: Layout,
+    pub(crate) pages: Pages,
+    pub(crate) keeper: FrameKeeper,
     pub(crate) cursor: Option<GuestPage>,
     pub(crate) passes: u64,
 }
 
 impl Model for State {
     ghost use Rattle.ksm_base.specs.Sound.{IsSound};
-    ghost use Rattle.ksm_book.specs.Whole.{BookView};
-    ghost use Rattle.ksm_layout.specs.Laid.{state_of};
+    ghost use Rattle.ksm_pages.specs.Paged.{seen};
+    ghost use Rattle.ksm_book.specs.Whole.{BookValue};
+    ghost use Rattle.ksm_book.specs.Laid.{IsLaid, state_of};
 
-    ghost Value = { BookView };
+    ghost Value = { BookValue };
 
-    ghost view = { λ s. record { state = state_of s.layout s.cursor s.passes; frames = s.layout.frames; keeper = s.layout.keeper } };
+    ghost view = { λ s. record { state = state_of (seen s.pages) s.cursor s.passes; lodgings = s.pages.lodgings; keeper = s.keeper; restless = s.pages.restless } };
 
-    ghost invariant = { λ s. IsSound (state_of s.layout s.cursor s.passes) };
+    ghost invariant = { λ s. IsSound (state_of (seen s.pages) s.cursor s.passes) × IsLaid (seen s.pages) s.keeper };
 }
 
 impl State {
@@ -51,15 +54,18 @@ impl State {
         requires shape { IsShape shape }
         requires same { keeper.table.shape ≡ shape }
         requires new { keeper.ledger ≡ first_ledger shape }
-        ensures opened { IfOk result (λ s. s ≡ record { state = opening shape; frames = []; keeper = keeper }) }
+        ensures opened { IfOk result (λ s. view_of s ≡ record { state = opening shape; frame = nowhere; keeper = keeper }) }
         ensures refused { IfErr result (λ e. (e.0 ≡ keeper) × (e.1 ≡ Memory)) }
     {
-        Ok(State {
-            alloc,
-            layout: Layout::open(alloc, keeper, shape)?,
-            cursor: None,
-            passes: 0,
-        })
+        match Pages::open(alloc, shape) {
+            Ok(pages) => Ok(State {
+                pages,
+                keeper: FrameKeeper::new(alloc, keeper, shape)?,
+                cursor: None,
+                passes: 0,
+            }),
+            Err(fault) => Err((keeper, fault)),
+        }
     }
 
     /// Gives the keeper back, as it is.
@@ -67,23 +73,23 @@ impl State {
         ensures { result ≡ self.keeper }
     {
         let State {
-            alloc: _,
-            layout,
+            pages: _pages,
+            keeper,
             cursor: _,
             passes: _,
         } = self;
-        layout.close()
+        keeper.close()
     }
 
     /// A law: the facts of the book state, and how its rows and dups lie in the frames.
     pub fn lies_lawfully(&self)
         ensures sound { IsSound self.now.state }
-        ensures placed { LieOn self.now.state self.now.frames self.now.keeper.ledger }
+        ensures placed { LieOn self.now.state (view_of self.now).frame self.now.keeper.ledger }
         ensures place { FindsPlace self.now.state }
         ensures lives { self.now.state.next ≤ spent self.now.keeper.ledger }
         ensures numbers { NumbersAreSmall self.now.state }
     {
-        self.layout.lies_lawfully();
+        self.pages.lie_in_order();
     }
 
     /// The bytes of a page, loaded from the words of its frame, if it has one.
@@ -92,10 +98,14 @@ impl State {
         ensures own { self.new.keeper.table ≡ self.old.keeper.table }
         ensures bytes { result ≡ bytes_of page self.old.state }
         ensures state { self.new.state ≡ self.old.state }
-        ensures frames { self.new.frames ≡ self.old.frames }
-        ensures loads { LoadsIf (frame_of (rows_in self.old) page) result self.old.keeper self.new.keeper }
+        ensures frame { (view_of self.new).frame ≡ (view_of self.old).frame }
+        ensures loads { LoadsIf ((view_of self.old).frame page) result self.old.keeper self.new.keeper }
     {
-        self.layout.read(table, page)
+        let held = self.pages.held(page)?;
+        match held.frame {
+            Some(frame) => Some(load(&mut self.keeper, table, frame)),
+            None => Some(self.pages.bytes(held.spot)),
+        }
     }
 
     /// Registers a page: its row is added, on a frame of the node.
@@ -107,17 +117,21 @@ impl State {
         bytes: PageBytes,
     ) -> Result<Reply, Fault>
         requires own { self.old.keeper.table ≡ table.now }
-        ensures { CarriedOut self.old self.new (Command.Register page node bytes) result }
+        ensures { CarriedOut (view_of self.old) (view_of self.new) (Command.Register page node bytes) result }
     {
-        if node >= self.layout.shape().nodes {
+        let shape = self.pages.shape();
+        if node >= shape.nodes {
             return Err(Fault::BadNode);
         }
-        if self.layout.rows().has(page) {
+        if self.pages.has(page) {
             return Err(Fault::AlreadyRegistered);
         }
-        if !self.layout.admit(table, fresh_row(page, node, bytes))? {
+        let spot = self.pages.insert(page, node, &bytes)?;
+        let Some(frame) = take_frame(&mut self.keeper, table, shape, node, bytes) else {
+            self.pages.remove(spot);
             return Err(Fault::NoFrame(node));
-        }
+        };
+        self.pages.resettle(spot, frame);
         Ok(Reply::Done)
     }
 
@@ -129,30 +143,41 @@ impl State {
         bytes: PageBytes,
     ) -> Result<Reply, Fault>
         requires own { self.old.keeper.table ≡ table.now }
-        ensures { CarriedOut self.old self.new (Command.Store page bytes) result }
+        ensures { CarriedOut (view_of self.old) (view_of self.new) (Command.Store page bytes) result }
     {
-        let Some(row) = self.layout.rows().row(page) else {
+        let Some(held) = self.pages.held(page) else {
             return Err(Fault::UnknownPage);
         };
-        if !is_shared(row.state) {
-            self.layout.rewrite(table, &row, &stored(row, bytes));
+        if held.shared {
+            if let Err(fault) = resettle(
+                &mut self.pages,
+                &mut self.keeper,
+                table,
+                held.spot,
+                held.home,
+                bytes,
+            ) {
+                return Err(fault);
+            }
+            self.pages.store(held.spot, &bytes);
             return Ok(Reply::Done);
         }
-        if !self.layout.resettle(table, &row, &stored(row, bytes)) {
-            return Err(Fault::NoFrame(row.home));
-        }
+        let frame = known_frame(held.frame);
+        write(&mut self.keeper, table, frame, bytes);
+        self.pages.store(held.spot, &bytes);
         Ok(Reply::Done)
     }
 
     /// Drops a page: its row goes, and so does its reference on a frame.
     pub fn drop_page(&mut self, table: &FrameTable, page: GuestPage) -> Result<Reply, Fault>
         requires own { self.old.keeper.table ≡ table.now }
-        ensures { CarriedOut self.old self.new (Command.Drop page) result }
+        ensures { CarriedOut (view_of self.old) (view_of self.new) (Command.Drop page) result }
     {
-        if !self.layout.rows().has(page) {
+        let Some(held) = self.pages.held(page) else {
             return Err(Fault::UnknownPage);
-        }
-        self.layout.dismiss(table, page);
+        };
+        let left = self.pages.remove(held.spot);
+        release_if(&mut self.keeper, table, left);
         Ok(Reply::Done)
     }
 
@@ -160,24 +185,21 @@ impl State {
     pub fn counters(&self) -> Counters
         ensures { result ≡ counters_of self.now.state }
     {
-        self.layout.counters(self.passes)
+        self.pages.counters(self.passes)
     }
 
     /// Whether there is a row of the page.
     pub fn registered(&self, page: GuestPage) -> bool
         ensures { result ≡ is_known self.now.state page }
     {
-        self.layout.rows().has(page)
+        self.pages.has(page)
     }
 
     /// The place of the dup into which a page is merged.
     pub fn ticket(&self, page: GuestPage) -> Option<u32>
         ensures { result ≡ ticket_of page self.now.state }
     {
-        match self.layout.rows().row(page)?.state {
-            PageState::Merged(number) => Some(self.layout.numbered(number)?.place),
-            _ => None,
-        }
+        self.pages.ticket(page)
     }
 
     /// The pages merged into the dup at a place.
@@ -186,32 +208,25 @@ impl State {
         ensures fault { IfErr result (λ fault. fault ≡ Memory) }
         ensures refused { IfErr result (λ _. IsSome (mappers_of place self.now.state)) }
     {
-        self.layout.mappers(alloc, place)
+        let Some(items) = self.pages.items_at(place) else {
+            return Ok(None);
+        };
+        Ok(Some(Vec::from_slice(alloc, items)?))
     }
 
     pub fn knobs(&self) -> Knobs
         ensures { result ≡ self.now.state.knobs }
     {
-        self.layout.knobs()
+        self.pages.knobs()
     }
 
     /// All stale dups go.
     pub fn prune(&mut self, table: &FrameTable) -> Result<Reply, Fault>
         requires own { self.old.keeper.table ≡ table.now }
-        ensures { CarriedOut self.old self.new Command.Prune result }
+        ensures { CarriedOut (view_of self.old) (view_of self.new) Command.Prune result }
     {
-        Ok(Reply::Pruned(self.layout.prune(table)))
-    }
-
-    /// All pages of a guest become mergeable.
-    pub fn mergeable(&mut self, guest: u16) -> Result<Reply, Fault>
-        ensures { CarriedOut self.old self.new (Command.Mergeable guest) result }
-    {
-        if !self.layout.rows().has_guest(guest) {
-            return Err(Fault::UnknownPage);
-        }
-        self.layout.make_mergeable(guest);
-        Ok(Reply::Done)
+        let count = drop_stale(&mut self.pages, &mut self.keeper, table);
+        Ok(Reply::Pruned(count))
     }
 
     /// Moves a page to a node.
@@ -222,23 +237,29 @@ impl State {
         node: u32,
     ) -> Result<Reply, Fault>
         requires own { self.old.keeper.table ≡ table.now }
-        ensures { CarriedOut self.old self.new (Command.MovePage page node) result }
+        ensures { CarriedOut (view_of self.old) (view_of self.new) (Command.MovePage page node) result }
     {
-        if node >= self.layout.shape().nodes {
+        if node >= self.pages.shape().nodes {
             return Err(Fault::BadNode);
         }
-        let Some(held) = self.layout.framed_row(page) else {
+        let Some(held) = self.pages.held(page) else {
             return Err(Fault::UnknownPage);
         };
-        if held.row.home == node {
+        if held.home == node {
             return Ok(Reply::Done);
         }
-        if !self
-            .layout
-            .resettle(table, &held.row, &moved(held.row, node))
-        {
-            return Err(Fault::NoFrame(node));
+        let bytes = self.pages.bytes(held.spot);
+        if let Err(fault) = resettle(
+            &mut self.pages,
+            &mut self.keeper,
+            table,
+            held.spot,
+            node,
+            bytes,
+        ) {
+            return Err(fault);
         }
+        self.pages.set_home(held.spot, node);
         Ok(Reply::Done)
     }
 }

@@ -1,58 +1,96 @@
-//! How merged pages, and those mapped from the zero page, get frames of their own again.
+//! The commands on all pages of a guest, or on all there are: merged pages, and those mapped from the zero page, get
+//! frames of their own again, and pages come back into the scan. Each goes along the pages in order.
 
-ghost use Rattle.std.specs.Prelude.{◌≡◌, ◌<◌, All, filter, map, take, option_map};
-ghost use Rattle.ksm_base.specs.declared.fault.Fault.TheVariants.{NoFrame};
-ghost use Rattle.ksm_base.specs.Apply.{unshared as as_unshared};
-ghost use Rattle.ksm_base.specs.Rows.{InPageOrder};
-ghost use Rattle.ksm_book.specs.Carried.{CarriedOut, UnmergesTo};
-ghost use Rattle.ksm_layout.specs.Laid.{mapped_lay};
-ghost use Rattle.ksm_book.specs.Unmerged.{first_changed, IsStop, Gave};
-ghost use Rattle.ksm_pages.specs.Wanted.{is_shared_of};
+ghost use Rattle.std.specs.Prelude.{◌≡◌, ◌<◌, All, IfErr, IfOk, true};
+ghost use Rattle.std.specs.List.{list_any};
+ghost use Rattle.ksm_base.specs.Refusals.{is_of};
+ghost use Rattle.ksm_base.specs.Rows.{change_rows};
+ghost use Rattle.ksm_book.specs.Carried.{CarriedOut};
+ghost use Rattle.ksm_book.specs.Whole.{view_of};
+ghost use Rattle.ksm_book.specs.Laid.{IsLaid};
+ghost use Rattle.ksm_pages.specs.Paged.{IsHeld, seen};
+ghost use Rattle.ksm_book.specs.Unmerged.{HasLeft, MayNotLeave, Unshares};
 
+use crate::frame_keeper::FrameKeeper;
+use crate::settling::resettle;
 use crate::state::State;
 use frame_table::FrameTable;
-use ksm_base::{Command, Fault, Knobs, Reply, Row};
-use ksm_layout::Layout;
-use ksm_pages::row::unshared;
+use ksm_base::{Command, Fault, Knobs, Reply};
+use ksm_pages::{Held, Pages};
 
-/// The merged and Zero pages of a guest, or all of them, get frames of their own in order, until one finds none on its
-/// home. Says how many did, and the row that did not.
-pub fn unshare_pages(
-    layout: &mut Layout,
+// A merged or Zero page gets a frame of its own on its home, and is not unchanged. A guest's page leaves the scan. Says
+// how many frames were given. Refused where no frame is free, it changes nothing.
+fn leave(
+    pages: &mut Pages,
+    keeper: &mut FrameKeeper,
     table: &FrameTable,
     guest: Option<u16>,
-) -> (u64, Option<Row>)
-    requires own { layout.old.keeper.table ≡ table.now }
-    requires rise { InPageOrder layout.old.rows }
-    requires homes { All (λ r. r.home < layout.old.shape.nodes) layout.old.rows }
-    ensures own { layout.new.keeper.table ≡ layout.old.keeper.table }
-    ensures state { layout.new ≡ record layout.old { rows = first_changed (is_shared_of guest) as_unshared result.0 layout.old.rows; frames = layout.new.frames; keeper = layout.new.keeper } }
-    ensures stop { IsStop (filter (is_shared_of guest) layout.old.rows) result.0 result.1 }
-    ensures gave { Gave layout.old.keeper layout.new.keeper (map (λ r. r.home) (take result.0 (filter (is_shared_of guest) layout.old.rows))) result.1 }
-    ensures resettled { UnmergesTo (take result.0 (filter (is_shared_of guest) layout.old.rows)) (option_map (λ r. NoFrame r.home) result.1) (mapped_lay layout.old) (mapped_lay layout.new) }
+    held: Held,
+) -> Result<u64, Fault>
+    requires own { keeper.old.table ≡ table.now }
+    requires laid { IsLaid (seen pages.old) keeper.old }
+    requires held { IsHeld (seen pages.old) held.spot.page held }
+    requires home { held.home < pages.old.shape.nodes }
+    ensures left { IfOk result (λ count. HasLeft (seen pages.old) (seen pages.new) keeper.old keeper.new guest held.spot.page count) }
+    ensures turned { IfErr result (λ fault. MayNotLeave (seen pages.old) (seen pages.new) keeper.old keeper.new held.spot.page fault) }
 {
-    let count = layout.rows().len() as u64;
-    let mut last = None;
-    for done in 0..count {
-        let Some(row) = layout.rows().next_shared(last, guest) else {
-            return (done, None);
-        };
-        if !layout.resettle(table, &row, &unshared(row)) {
-            return (done, Some(row));
+    pages.lie_in_order();
+    if !held.shared {
+        if guest.is_some() {
+            pages.let_go(held.spot);
         }
-        last = Some(row.page);
+        return Ok(0);
+    }
+    let bytes = pages.bytes(held.spot);
+    if let Err(fault) = resettle(pages, keeper, table, held.spot, held.home, bytes) {
+        return Err(fault);
+    }
+    if guest.is_some() {
+        pages.let_go(held.spot);
+        return Ok(1);
+    }
+    pages.forget_unchanged(held.spot);
+    Ok(1)
+}
+
+// The pages of a guest, or all, leave in order. Stops where a page finds no frame on its home. Says how many got one.
+fn unshare_each(
+    pages: &mut Pages,
+    keeper: &mut FrameKeeper,
+    table: &FrameTable,
+    guest: Option<u16>,
+) -> (u64, Option<Fault>)
+    requires own { keeper.old.table ≡ table.now }
+    requires laid { IsLaid (seen pages.old) keeper.old }
+    requires homes { All (λ r. r.home < pages.old.shape.nodes) pages.old.rows }
+    ensures own { keeper.new.table ≡ keeper.old.table }
+    ensures unshares { Unshares (seen pages.old) (seen pages.new) keeper.old keeper.new guest result.0 result.1 }
+{
+    pages.lie_in_order();
+    let mut count = 0;
+    let mut last = None;
+    'pages: while let Some(held) = pages.next(guest, last) {
+        match leave(pages, keeper, table, guest, held) {
+            Ok(given) => count += given,
+            Err(fault) => return (count, Some(fault)),
+        }
+        last = Some(held.spot.page);
     }
     (count, None)
 }
 
-// The fault of a stop.
-fn no_frame(stop: Option<Row>) -> Option<Fault>
-    ensures { result ≡ option_map (λ r. NoFrame r.home) stop }
+// All pages of a guest become mergeable. Says whether it has one.
+fn make_mergeable(pages: &mut Pages, guest: u16) -> bool
+    ensures any { result ≡ list_any (is_of guest) pages.old.rows }
+    ensures pages { seen pages.new ≡ record (seen pages.old) { rows = change_rows (is_of guest) (λ r. record r { mergeable = true }) pages.old.rows; restless = pages.new.restless } }
 {
-    match stop {
-        None => None,
-        Some(row) => Some(Fault::NoFrame(row.home)),
+    pages.lie_in_order();
+    let mut last = None;
+    'pages: while let Some(held) = pages.next(Some(guest), last) {
+        pages.make_mergeable(held.spot);
+        last = Some(held.spot.page);
     }
+    last.is_some()
 }
 
 impl State {
@@ -60,37 +98,40 @@ impl State {
     /// up to there leave the scan.
     pub fn unmerge(&mut self, table: &FrameTable, guest: u16) -> Result<Reply, Fault>
         requires own { self.old.keeper.table ≡ table.now }
-        ensures { CarriedOut self.old self.new (Command.Unmerge guest) result }
+        ensures { CarriedOut (view_of self.old) (view_of self.new) (Command.Unmerge guest) result }
     {
-        if !self.layout.rows().has_guest(guest) {
+        if self.pages.next(Some(guest), None).is_none() {
             return Err(Fault::UnknownPage);
         }
-        let (pages, stop) = unshare_pages(&mut self.layout, table, Some(guest));
-        self.layout.let_go(guest, stop);
-        Ok(Reply::Unmerged {
-            pages,
-            stop: no_frame(stop),
-        })
+        let (pages, stop) = unshare_each(&mut self.pages, &mut self.keeper, table, Some(guest));
+        Ok(Reply::Unmerged { pages, stop })
+    }
+
+    /// All pages of a guest become mergeable.
+    pub fn mergeable(&mut self, guest: u16) -> Result<Reply, Fault>
+        ensures { CarriedOut (view_of self.old) (view_of self.new) (Command.Mergeable guest) result }
+    {
+        if !make_mergeable(&mut self.pages, guest) {
+            return Err(Fault::UnknownPage);
+        }
+        Ok(Reply::Done)
     }
 
     /// All merged and Zero pages get frames of their own, in order, until one finds none. If none is left so, all pages
     /// are Private and not unchanged, and the next scan begins a pass; else the scan stands.
     pub fn unshare(&mut self, table: &FrameTable) -> Result<Reply, Fault>
         requires own { self.old.keeper.table ≡ table.now }
-        ensures { CarriedOut self.old self.new (Command.SetRun 2) result }
+        ensures { CarriedOut (view_of self.old) (view_of self.new) (Command.SetRun 2) result }
     {
-        let (pages, stop) = unshare_pages(&mut self.layout, table, None);
-        let knobs = self.layout.knobs();
-        if let Some(row) = stop {
-            self.layout.set_knobs(Knobs { run: 0, ..knobs });
-            return Ok(Reply::Unmerged {
-                pages,
-                stop: Some(Fault::NoFrame(row.home)),
-            });
+        let knobs = self.pages.knobs();
+        let (pages, stop) = unshare_each(&mut self.pages, &mut self.keeper, table, None);
+        if stop.is_some() {
+            self.pages.set_knobs(Knobs { run: 0, ..knobs });
+            return Ok(Reply::Unmerged { pages, stop });
         }
-        self.layout.unshare_all();
-        self.layout.set_knobs(Knobs { run: 2, ..knobs });
+        self.pages.unshare_all();
+        self.pages.set_knobs(Knobs { run: 2, ..knobs });
         self.cursor = None;
-        Ok(Reply::Unmerged { pages, stop: None })
+        Ok(Reply::Unmerged { pages, stop })
     }
 }

@@ -7,24 +7,25 @@ ghost use Rattle.ksm_base.specs.declared.command.Command.TheVariants.{Register, 
 ghost use Rattle.ksm_base.specs.declared.fault.Fault.TheVariants.{NoFrame};
 ghost use Rattle.ksm_base.specs.declared.reply.Reply.TheVariants.{Done, Scanned, Unmerged};
 ghost use Rattle.ksm_book.specs.Whole.{nodes_got};
-ghost use Rattle.ksm_book.specs.Worked.{all_merged, apart, full, merged, page, stale, three, together};
-ghost use Rattle.ksm_layout.specs.Commands.{dismissing, listed_in, pruning, scanning};
+ghost use Rattle.ksm_book.specs.Worked.{apart, full, merged, page, stale, three, together};
+ghost use Rattle.ksm_pages.specs.Paged.{lies_on, nowhere};
+ghost use Rattle.ksm_book.specs.Commands.{emptying, pruning, scanning};
 
 /// A visit that makes a dup has its place name the waiting page's frame, which the visited page gets, and its own loses
 /// a reference. One that joins adds a reference there before it leaves its own frame. No visit before them makes a
 /// step.
 pub fn steps_of_visits()
-    ensures waits { scanning 4 three apart ≡ record { steps = []; frames = apart } }
-    ensures makes { scanning 5 three apart ≡ record { steps = Publish 0 0 ∷ Add 0 ∷ Sub 1 ∷ []; frames = Some 0 ∷ Some 0 ∷ Some 4 ∷ [] } }
-    ensures joins { scanning 6 three apart ≡ record { steps = Publish 0 0 ∷ Add 0 ∷ Sub 1 ∷ Add 0 ∷ Sub 4 ∷ []; frames = together } }
-    ensures stays { scanning 3 merged together ≡ record { steps = []; frames = together } }
+    ensures waits { scanning 4 three apart ≡ record { steps = []; frame = apart } }
+    ensures makes { scanning 5 three apart ≡ record { steps = Publish 0 0 ∷ Add 0 ∷ Sub 1 ∷ []; frame = lies_on (page 1) (Some 0) apart } }
+    ensures joins { scanning 6 three apart ≡ record { steps = Publish 0 0 ∷ Add 0 ∷ Sub 1 ∷ Add 0 ∷ Sub 4 ∷ []; frame = together } }
+    ensures stays { scanning 3 merged together ≡ record { steps = []; frame = together } }
 {}
 
 /// A page that goes leaves its frame. A stale dup that is pruned is withdrawn from its place, one with items stays.
 pub fn steps_of_leaving()
-    ensures goes { dismissing all_merged (page 1) ≡ record { steps = Sub 0 ∷ []; frames = Some 0 ∷ Some 0 ∷ [] } }
-    ensures prunes { pruning stale.dups (listed_in stale (Some 1 ∷ Some 2 ∷ [])) ≡ record { steps = Withdraw 0 ∷ []; frames = Some 1 ∷ Some 2 ∷ [] } }
-    ensures keeps { pruning merged.dups all_merged ≡ record { steps = []; frames = together } }
+    ensures goes { emptying together (page 1) ≡ record { steps = Sub 0 ∷ []; frame = lies_on (page 0) (Some 0) (lies_on (page 2) (Some 0) nowhere) } }
+    ensures prunes { pruning stale.rows stale.dups (lies_on (page 0) (Some 1) (lies_on (page 1) (Some 2) nowhere)) ≡ record { steps = Withdraw 0 ∷ []; frame = lies_on (page 0) (Some 1) (lies_on (page 1) (Some 2) nowhere) } }
+    ensures keeps { pruning merged.rows merged.dups together ≡ record { steps = []; frame = together } }
 {}
 
 /// A frame is got on the node where it is needed: a new page's, the home of a page that leaves its dup, the node moved

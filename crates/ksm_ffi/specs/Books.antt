@@ -13,9 +13,9 @@ use Rattle.ksm_base.specs.Reading.{bytes_of}
 use Rattle.ksm_base.specs.State.{opening}
 use Rattle.ksm_base.specs.Values.{IsShape}
 use Rattle.frame_table.specs.Named.{KeeperView}
-use Rattle.ksm_layout.specs.Commands.{frame_of, listed_in}
-use Rattle.ksm_layout.specs.Laid.{LoadsIf}
 use Rattle.ksm_book.specs.Carried.{CarriedOut, JournaledBook, unjournaled}
+use Rattle.ksm_book.specs.Laid.{LoadsIf}
+use Rattle.ksm_pages.specs.Paged.{nowhere}
 use Rattle.ksm_ffi.specs.Homes.{HomeView, all_back}
 use Rattle.ksm_ffi.specs.Opening.{IsNewOf, OpensNot}
 use Rattle.ksm_ffi.specs.Requests.{TellsMade, answered, counted_of}
@@ -26,7 +26,7 @@ use Rattle.ksm_ffi.specs.declared.request.Made.{Made}
 
 -- the opening book, in the frames of a keeper that has made no step, with no journal
 abbrev pub IsOpening : Shape → JournaledBook → Type 0
-IsOpening sh b = (v : KeeperView) × IsNewOf sh v × (b ≡ record { state = opening sh; frames = []; keeper = v; journal = [] })
+IsOpening sh b = (v : KeeperView) × IsNewOf sh v × (unjournaled b ≡ record { state = opening sh; frame = nowhere; keeper = v }) × (b.journal ≡ [])
 
 -- a book on a table of this shape and number, of which no pass is out
 abbrev pub OpensBook : Shape → ℕ → Result (JournaledBook × HomeView) Answer → Type 0
@@ -44,11 +44,11 @@ abbrev pub TellsBytes : Option (List ℕ) → Answer → List ℕ → Type 0
 TellsBytes (Some read) a bytes = (a ≡ answer.Done) × (bytes ≡ read)
 TellsBytes None a bytes = a ≡ answer.Nothing
 
--- the bytes of a page are loaded from its frame; state, frames and journal are as they were
+-- the bytes of a page are loaded from its frame; the state, where each page lies, and the journal are as they were
 abbrev pub ReadsBook : JournaledBook → GuestPage → Answer → List ℕ → JournaledBook → Type 0
 ReadsBook b page a bytes w = TellsBytes (bytes_of page b.state) a bytes
-    × (w.state ≡ b.state) × (w.frames ≡ b.frames) × (w.journal ≡ b.journal)
-    × LoadsIf (frame_of (listed_in b.state b.frames) page) (bytes_of page b.state) b.keeper w.keeper
+    × (w.state ≡ b.state) × ((unjournaled w).frame ≡ (unjournaled b).frame) × (w.journal ≡ b.journal)
+    × LoadsIf ((unjournaled b).frame page) (bytes_of page b.state) b.keeper w.keeper
 
 -- the place of a dup, if there is one
 abbrev pub TellsTicket : Option ℕ → Answer → ℕ → Type 0

@@ -1,260 +1,192 @@
--- Entries at their indices beside the pages in order: what is found, and what a change of the entries makes of them as they are seen.
-use Rattle.std.proofs.Common.{◌≡◌, ℕ, ◌<◌, Bool, true, false, cond, List, [], ◌∷◌, length, slice_get}
-use Rattle.std.proofs.Common.{position, Option, None, Some, refl, sym, ap, ◌∙◌, subst, true≢false, is_some, arith}
-use Rattle.std.specs.Prelude.{option_map}
-use Rattle.std.proofs.lemmas.Bool.Decides.{nat_tests}
-use Rattle.std.proofs.lemmas.List.Elements.{All-head, All-tail}
-use Rattle.std.proofs.lemmas.Map.{lookup-none, lookup-set_value, keys-set_value}
-use Rattle.std.proofs.lemmas.Map.Entries.{length-values_of, lookup_head, lookup_tail, none_below_head, none_past_head}
-use Rattle.std.proofs.lemmas.Map.Keys.{sorted_tail, IsDistinct-from_sorted}
-use Rattle.std.proofs.lemmas.Map.Made.{lookup-map_values}
-use Rattle.std.proofs.lemmas.Option.{same_Some, get_or_from_slice_get, slice_get-get_or}
-use Rattle.std.specs.Cmp.{IsEquivalence, IsTotalOrder, eq_by_cmp_equiv}
-use Rattle.std.specs.BTreeMap.Range.{entries_between, range_contains}
-use Rattle.std.specs.declared.ops.Bound.{Bound}
-use Rattle.std.specs.declared.ops.Bound.TheVariants.{Unbounded}
-use Rattle.std.specs.List.{IsDistinct}
-use Rattle.std.specs.List.Sorted.{IsStrictlySortedBy}
-use Rattle.std.specs.Map.{keys_of, values_of, lookup, set_value}
-use Rattle.std.specs.Ordering.{is_eq, ordering_reverse}
-use Rattle.std.specs.declared.cmp.Ordering.{Ordering}
-use Rattle.std.specs.declared.cmp.Ordering.TheVariants.{Less, Equal, Greater}
-use Rattle.indexmap.proofs.MapLemmas.{Found-position, Missing-position}
-use Rattle.ksm_base.specs.declared.page.GuestPage.{GuestPage}
-use Rattle.ksm_base.specs.contracts.page.GuestPagePartialEq.TheImpl as page_eq
-use Rattle.ksm_base.specs.contracts.page.GuestPageOrd.TheImpl.Laws.{total-law}
-use Rattle.ksm_base.specs.declared.row.Row.{Row}
-use Rattle.ksm_base.proofs.Pages.{same_page_eq}
-use Rattle.ksm_pages.specs.Kept.{Entry}
-use Rattle.ksm_pages.specs.Listed.{no_row}
-use Rattle.ksm_pages.specs.Paged.{Entries, Indices, Sorted, asks, changed, changed_all, entry_at, paged, AreWithin, IsPaged}
-use Rattle.ksm_pages.specs.RowEntries.{entry_of, page_order}
-use Rattle.ksm_pages.proofs.RowLists.{asks_is}
+-- What is read of the pages: rows and dups found by their pages, places and numbers.
+use Rattle.ksm_pages.proofs.Names.{[], Ahead, All, ap, AreAllListed, AreDups, AreTied, AreWaiting, arith, At, Bool, cases_Bool, comes_before, cond, Contains, Contains-from_any, Dup, dup_at, dup_numbered, dup_of, DupRow, DupsState, each_has_number, End, eqb-true, false, filter, find, find_all, found_passing, frame_seen, get_or, GuestPage, has_items, has_number, Held, held_at, inl, InPageOrder, InPlaceOrder, inr, is_live, is_some, is_stale, items_in, items_of, Kind, Knobs, last_or, last_page, length, length-map, List, list_any, live_placed, lodging, lodgings_of, map, Merged, merged_into, None, not, not-not, Option, option_and_then, option_map, option_or, pages_ahead, PageState, passing, Private, Reaches, refl, Row, row_at, rows_ahead, rows_between, rows_of, same_page, same_page_eq, same_Some, shared_state, slice_get, slice_get-get_or, slice_get-map, Some, stale_alike, stands_at, stands_numbered, state_of, subst, suc, sym, tied_counted, true, true≢false, unwrap_or-slice_get, Waiting, waiting_state, WaitingPage, waits_there, Zero, ℕ, ◌&&◌, ◌-◌, ◌<◌, ◌==◌, ◌∙◌, ◌∷◌, ◌≡◌}
+use Rattle.std.proofs.Common.{unwrap_or}
+use Rattle.ksm_base.specs.Rows.{is_stale as is_stale_row}
+use Rattle.ksm_tree.specs.Dups.{rows_of as dup_rows}
+use Rattle.ksm_tree.proofs.Changes.{row_found as dup_row_found}
+use Rattle.ksm_pages.specs.declared.row.Kind.TheVariants as kinds
+use Rattle.ksm_pages.specs.Held.{frame_of}
+use Rattle.ksm_pages.specs.Paged.{ComesTo, frame_of as lies_at, is_restless}
+use Rattle.ksm_pages.proofs.Alike.{filter_mapped}
+use Rattle.ksm_pages.proofs.Changing.{row_found}
+use Rattle.ksm_pages.proofs.Found.{each_found}
+use Rattle.ksm_pages.proofs.Gathering.{framed, own_either}
+use Rattle.ksm_pages.proofs.Reading.{some_mapped}
+use Rattle.ksm_pages.proofs.Lodgings.{frame_by, seat}
 
--- the pages ascend
-abbrev pub Rising : Indices → Type 0
-Rising order = IsStrictlySortedBy page_order (keys_of order)
+-- ---------------------------------------------------------------- options
 
--- no page is there twice
-abbrev pub AreApart : Entries → Type 0
-AreApart es = IsDistinct asks (keys_of es)
+-- an option that is mapped twice
+pub mapped_twice : {X Y Z : Type 0} (f : Y → Z) (g : X → Y) (o : Option X) → option_map f (option_map g o) ≡ option_map (λ x. f (g x)) o
+mapped_twice f g None = refl
+mapped_twice f g (Some x) = refl
 
--- one page is looked up as w, and each other one as before
-abbrev pub Updates : {X : Type 0} → GuestPage → Option X → List (GuestPage × X) → List (GuestPage × X) → Type 0
-Updates page w old new = (q : GuestPage) → lookup (asks q) new ≡ cond (asks page q) w (lookup (asks q) old)
+-- ---------------------------------------------------------------- rows
 
--- the page of an entry
-abbrev pub page_of : GuestPage × Entry → GuestPage
-page_of e = e.0
+-- a page has a row where what is kept of one is found
+pub row_known : (page : GuestPage) (held : List Held) → is_some (held_at page held) ≡ is_some (row_at page (rows_of held))
+row_known page held = sym (some_mapped (λ (h : Held). h.row) (held_at page held)) ∙ ap is_some (sym (row_found page held))
 
--- what an entry keeps of its page
-abbrev pub value_of : GuestPage × Entry → Entry
-value_of e = e.1
+-- a row is merged or Zero where it has no frame of its own
+pub shared_by : (b : Bool) (kind : Kind) (number pass at : ℕ) → not b ≡ is_some (frame_of kind at)
+    → b ≡ shared_state (state_of kind number pass)
+shared_by b kind number pass at is =
+    sym (not-not b) ∙ ap not (is ∙ framed kind number pass at) ∙ not-not (shared_state (state_of kind number pass))
 
--- an entry for where none is asked
-abbrev pub of_none : Entry
-of_none = entry_of no_row None
+-- a row with a frame of its own lies on it
+pub lies_own : (of_dup : ℕ → Option ℕ) (number pass at : ℕ) → Some at ≡ frame_seen of_dup (state_of kinds.Own number pass) (Some at)
+lies_own of_dup number pass at = own_either (λ state. Some at ≡ frame_seen of_dup state (Some at)) refl refl (number == pass)
 
-abbrev from_here : {X : Type 0} → Bound GuestPage → List (GuestPage × X) → List (GuestPage × X)
-from_here start es = entries_between page_order start Unbounded es
-
--- ---------------------------------------------------------------- pages
-
--- the order of pages is total
-pub total : IsTotalOrder page_order
-total = total-law
-
--- the test for the page asked for is an equivalence
-pub laws : IsEquivalence asks
-laws = eq_by_cmp_equiv total
-
-eq_is : (p q : GuestPage) → page_eq.ghosts.eq p q ≡ asks p q
-eq_is p q = grind (arith, nat_tests)
-
--- pages are equal where the order does not tell them apart
-pub equal_is : page_eq.ghosts.eq ≡ asks
-equal_is = λ t p q. eq_is p q t
-
--- a page that tests as the one asked for is that page
-pub page_is : (p q : GuestPage) → asks p q ≡ true → q ≡ p
-page_is p q is = same_page_eq q p (sym (asks_is p q) ∙ is)
-
--- a page tests as itself
-pub own : (p : GuestPage) → asks p p ≡ true
-own p = laws.refl p
-
--- ---------------------------------------------------------------- entries in order that find the same
-
--- None is never Some
-pub never_some : {X : Type 0} {x : X} → None ≡ Some x → ⊥
-never_some none = true≢false (sym (ap is_some none))
-
--- sorted entries in which each page finds the same are the same
-pub same_entries : (es fs : Entries) → Sorted es → Sorted fs → ((q : GuestPage) → lookup (asks q) es ≡ lookup (asks q) fs) → es ≡ fs
-same_entries [] [] rise rise' same = refl
-same_entries [] (f ∷ fs) rise rise' same = absurd (never_some (same f.0 ∙ lookup_head (asks f.0) f fs (own f.0)))
-same_entries (e ∷ es) [] rise rise' same = absurd (never_some (sym (same e.0) ∙ lookup_head (asks e.0) e es (own e.0)))
-same_entries (e ∷ es) (f ∷ fs) rise rise' same =
-    by (page_order e.0 f.0) refl (same_entries es fs (sorted_tail page_order e.0 (keys_of es) rise) (sorted_tail page_order f.0 (keys_of fs) rise'))
+-- where no row waits, the knobs do not matter
+pub knobs_free : (knobs tuned : Knobs) (rows : List Row) (w : List WaitingPage) → AreWaiting knobs rows w → All (λ r. waiting_state r.state ≡ false) rows → AreWaiting tuned rows w
+knobs_free knobs tuned rows w are still t b q = are t b q ∙ go (row_at q rows) refl
   where
-    -- a page before all others is in one list alone
-    alone : (e f : GuestPage × Entry) (es fs : Entries) → Sorted (f ∷ fs) → page_order e.0 f.0 ≡ Less
-        → lookup (asks e.0) (e ∷ es) ≡ lookup (asks e.0) (f ∷ fs) → ⊥
-    alone e f es fs rises less is =
-        never_some
-        (sym (lookup-none (asks e.0) (f ∷ fs) (none_below_head total e.0 f fs rises less)) ∙ sym is ∙ lookup_head (asks e.0) e es (own e.0))
+    go : (o : Option Row) → row_at q rows ≡ o → waits_there knobs t b o ≡ waits_there tuned t b o
+    go None found = refl
+    go (Some r) found =
+        let alone = find_all (λ s. same_page s.page q) (λ s. waiting_state s.state ≡ false) rows r found still in
+        grind (arith, alone)
 
-    here : e.0 ≡ f.0 → (q : GuestPage) (b : Bool) → asks q e.0 ≡ b → lookup (asks q) es ≡ lookup (asks q) fs
-    here key q true hit =
-        let apart = IsDistinct-from_sorted page_order (keys_of (e ∷ es)) rise in
-        let apart' = IsDistinct-from_sorted page_order (keys_of (f ∷ fs)) rise' in
-        lookup-none (asks q) es (none_past_head laws q e es apart hit)
-        ∙ sym (lookup-none (asks q) fs (none_past_head laws q f fs apart' (ap (asks q) (sym key) ∙ hit)))
-    here key q false miss =
-        sym (lookup_tail (asks q) e es miss) ∙ same q ∙ lookup_tail (asks q) f fs (ap (asks q) (sym key) ∙ miss)
+-- ---------------------------------------------------------------- dups
 
-    by : (o : Ordering) → page_order e.0 f.0 ≡ o → (((q : GuestPage) → lookup (asks q) es ≡ lookup (asks q) fs) → es ≡ fs) → e ∷ es ≡ f ∷ fs
-    by Less less rest = absurd (alone e f es fs rise' less (same e.0))
-    by Greater more rest = absurd (alone f e fs es rise (total.antisymm f.0 e.0 ∙ ap ordering_reverse more) (sym (same f.0)))
-    by Equal equal rest =
-        let key : e.0 ≡ f.0 = sym (page_is e.0 f.0 (ap is_eq equal)) in
-        let value : e.1 ≡ f.1 =
-        same_Some e.1 f.1 (sym (lookup_head (asks e.0) e es (own e.0)) ∙ same e.0 ∙ lookup_head (asks e.0) f fs (ap is_eq equal)) in
-        let later = rest (λ q. here key q (asks q e.0) refl) in
-        λ t. (key t, value t) ∷ later t
+-- the place of the dup with a number
+pub place_numbered : (number : ℕ) (dups : List Dup) → option_map (λ d. d.row.place) (dup_of number dups) ≡ option_map (λ d. d.place) (dup_numbered number (dup_rows dups))
+place_numbered number dups =
+    sym (mapped_twice (λ (d : DupRow). d.place) (λ (d : Dup). d.row) (dup_of number dups))
+    ∙ ap (option_map (λ (d : DupRow). d.place)) (dup_row_found (has_number number) (λ r. r.number == number) (λ d. refl) dups)
 
--- ---------------------------------------------------------------- what is found
-
--- the pages seen are those of the order
-pub keys_paged : (found : Entries) (order : Indices) → keys_of (paged found order) ≡ keys_of order
-keys_paged found [] = refl
-keys_paged found (e ∷ order) = ap (λ l. e.0 ∷ l) (keys_paged found order)
-
--- what is seen stands in the order of the pages
-pub in_order : (found : Entries) (order : Indices) → IsPaged found order → Sorted (paged found order)
-in_order found order is = subst (IsStrictlySortedBy page_order) (sym (keys_paged found order)) is.sorted
-
--- the entries are in order as they are seen
-pub seen_in_order : (found : Entries) (order : Indices) (es : Entries) → paged found order ≡ es → IsPaged found order → Sorted es
-seen_in_order found order es seen is = subst Sorted seen (in_order found order is)
-
--- the entry at the index of a page is the one that is found
-value_at : (test : GuestPage → Bool) (found : Entries) → option_map (entry_at found) (position test (keys_of found)) ≡ lookup test found
-value_at test found = by (position test (keys_of found)) refl
+-- a dup that stands at a place with a number is the one with that number
+pub place_guessed : (guess number : ℕ) (dups : List Dup) → InPlaceOrder (dup_rows dups) → option_map (λ d. d.row.number) (dup_at guess dups) ≡ Some number → Some guess ≡ option_map (λ d. d.place) (dup_numbered number (dup_rows dups))
+place_guessed guess number dups rise is = go (dup_at guess dups) refl is ∙ place_numbered number dups
   where
-    by : (o : Option ℕ) → position test (keys_of found) ≡ o → option_map (entry_at found) o ≡ lookup test found
-    by None none = sym (Missing-position test found none).value
-    by (Some i) at =
-        let f = Found-position test found i at in
-        sym (slice_get-get_or (values_of found) i of_none (omega (arith, f.within, length-values_of found))) ∙ sym f.value
+    go : (o : Option Dup) → dup_at guess dups ≡ o → option_map (λ d. d.row.number) o ≡ Some number → Some guess ≡ option_map (λ d. d.row.place) (dup_of number dups)
+    go None there none = absurd (grind (arith, none))
+    go (Some d) there has = stands_numbered guess number dups d rise there (same_Some d.row.number number has)
 
--- a page is found in what is seen as in the map
-pub found_by : (found : Entries) (order : Indices) → IsPaged found order → (q : GuestPage) → lookup (asks q) (paged found order) ≡ lookup (asks q) found
-found_by found order is q =
-    lookup-map_values (entry_at found) (asks q) order ∙ ap (option_map (entry_at found)) (is.indexed q) ∙ value_at (asks q) found
+-- a dup is found at a place exactly where a row stands there
+pub any_at : (place : ℕ) (dups : List Dup) → is_some (option_map (λ d. d.row.number) (dup_at place dups)) ≡ list_any (λ d. d.place == place) (dup_rows dups)
+any_at place [] = refl
+any_at place (d ∷ dups) =
+    let rest = any_at place dups in
+    elim (cases_Bool (d.row.place == place)) [
+      | inl here ↦ grind (arith, here, rest)
+      | inr away ↦ grind (arith, away, rest)
+    ]
 
--- an entry that a list of values has at an index is the one read there
-pub entry_is : (found : Entries) (i : ℕ) (v : Entry) → slice_get (values_of found) i ≡ Some v → entry_at found i ≡ v
-entry_is found i v read = get_or_from_slice_get (values_of found) i v of_none read
+-- the first stale dup by its items is the first by the rows
+pub stale_at : (rows : List Row) (dups : List Dup) → AreTied rows dups → option_map (λ d. d.row.place) (find is_stale dups) ≡ option_map (λ (r : DupRow). r.place) (find (is_stale_row rows) (dup_rows dups))
+stale_at rows dups tied =
+    sym (mapped_twice (λ (d : DupRow). d.place) (λ (d : Dup). d.row) (find is_stale dups))
+    ∙ ap (option_map (λ (r : DupRow). r.place)) (stale_alike rows dups (tied_counted rows dups tied))
 
--- the first index of the order is that of an entry
-pub first_within : (found : Entries) (order rest : Indices) (e : GuestPage × ℕ) → AreWithin found order → order ≡ e ∷ rest → e.1 < length found
-first_within found order rest e are steps = All-head (λ (x : GuestPage × ℕ). x.1 < length found) e rest (subst (AreWithin found) steps are)
+-- ---------------------------------------------------------------- frames
 
--- what is left of a walk stands within the map
-pub rest_within : (found : Entries) (order rest : Indices) (e : GuestPage × ℕ) → AreWithin found order → order ≡ e ∷ rest → AreWithin found rest
-rest_within found order rest e are steps =
-    All-tail (λ (x : GuestPage × ℕ). x.1 < length found) e rest (subst (AreWithin found) steps are)
+-- what is kept at the place of a dup
+pub kept_at_place : (frames : List ℕ) (o : Option DupRow) → option_and_then (slice_get frames) (option_map (λ d. d.place) o) ≡ option_and_then (λ d. slice_get frames d.place) o
+kept_at_place frames None = refl
+kept_at_place frames (Some d) = refl
 
--- what a search by the hash gives is what is seen
-pub got : (found : Entries) (order : Indices) (es : Entries) (page : GuestPage) (o : Option Entry) → paged found order ≡ es → IsPaged found order
-    → o ≡ lookup (page_eq.ghosts.eq page) found → o ≡ lookup (asks page) es
-got found order es page o seen is value =
-    value ∙ ap (λ eq. lookup (eq page) found) equal_is ∙ sym (found_by found order is page) ∙ ap (lookup (asks page)) seen
+-- ---------------------------------------------------------------- the row of a page
 
--- ---------------------------------------------------------------- an entry is put in the stead of another
+-- what is kept of a page tells its row
+pub row_told : (page : GuestPage) (held : List Held) (h : Held) → held_at page held ≡ Some h → row_at page (rows_of held) ≡ Some h.row
+row_told page held h is = row_found page held ∙ ap (option_map (λ (g : Held). g.row)) is
 
--- to set the value of a page that is not there changes nothing
-pub set_absent : {X : Type 0} (test : GuestPage → Bool) (es : List (GuestPage × X)) (w : X) → lookup test es ≡ None → set_value test es w ≡ es
-set_absent test [] w none = refl
-set_absent {X} test (e ∷ es) w none = by (test e.0) none (set_absent test es w)
+-- and where nothing is kept of it, it has none
+pub row_gone : (page : GuestPage) (held : List Held) → held_at page held ≡ None → row_at page (rows_of held) ≡ None
+row_gone page held is = row_found page held ∙ ap (option_map (λ (g : Held). g.row)) is
+
+pub none_known : {X : Type 0} (o : Option X) → false ≡ is_some o → o ≡ None
+none_known None is = refl
+none_known (Some x) is = absurd (true≢false (sym is))
+
+-- a page without a row lies on no frame
+pub lies_nowhere : (of_dup : ℕ → Option ℕ) (held : List Held) (page : GuestPage) → row_at page (rows_of held) ≡ None → lies_at (lodgings_of of_dup held) page ≡ None
+lies_nowhere of_dup held page gone = frame_by of_dup held page ∙ go (held_at page held) (sym (row_found page held) ∙ gone)
   where
-    by : (b : Bool) → cond b (Some e.1) (lookup test es) ≡ None → (lookup test es ≡ None → set_value test es w ≡ es)
-        → cond b ((e.0, w) ∷ es) (e ∷ set_value test es w) ≡ e ∷ es
-    by true none' rest = absurd (never_some (sym none'))
-    by false none' rest = ap (λ l. e ∷ l) (rest none')
+    go : (o : Option Held) → option_map (λ (g : Held). g.row) o ≡ None → seat of_dup o ≡ None
+    go None is = refl
+    go (Some h) is = absurd (grind (arith, is))
 
--- the entries as they are seen, and what is known of them, after a change
-pub record Becomes (found : Entries) (order : Indices) (es : Entries) : Type 0 where
-  pub seen : paged found order ≡ es
-  pub kept : IsPaged found order
+-- pages that are listed, as the callers say it
+pub listed_pages : (rows : List Row) (pages : List GuestPage) → AreAllListed rows pages → All (λ r. is_restless r ≡ true → Contains pages r.page) rows
+listed_pages rows pages all k d lt may = Contains-from_any {eq = λ q p. same_page p q} (λ p q same. sym (same_page_eq q p same)) (get_or rows k d).page pages (all k d lt may)
 
-pub sets : (found made : Entries) (order : Indices) (page : GuestPage) (w : Entry) → IsPaged found order → is_some (lookup (asks page) found) ≡ true
-    → made ≡ set_value (asks page) found w → Becomes made order (set_value (asks page) (paged found order) w)
-sets found made order page w is some becomes = record {
-  seen = same_entries (paged made order) (set_value (asks page) (paged found order) w) (in_order made order kept)
-      (subst (IsStrictlySortedBy page_order) (sym (keys-set_value (asks page) (paged found order) w)) (in_order found order is))
-      (λ q. found_by made order kept q ∙ ap (lookup (asks q)) becomes ∙ lookup-set_value laws (asks page) (laws.congr page) q w found some
-      ∙ ap (cond (asks page q) (Some w)) (sym (found_by found order is q))
-      ∙ sym (lookup-set_value laws (asks page) (laws.congr page) q w (paged found order) (ap is_some (found_by found order is page) ∙ some)));
-  kept = kept;
-}
+-- ---------------------------------------------------------------- the dups at their places
+
+merged_is : (number : ℕ) (state : PageState) → merged_into number state ≡ true → state ≡ Merged number
+merged_is number Private no_it = absurd (true≢false (sym no_it))
+merged_is number Waiting no_it = absurd (true≢false (sym no_it))
+merged_is number (Merged n) is = ap Merged (eqb-true n number is)
+merged_is number Zero no_it = absurd (true≢false (sym no_it))
+
+-- the items of a dup lie on the frame that is kept at its place
+pub items_lodge : (held : List Held) (s : DupsState) (frames : List ℕ) → InPageOrder (rows_of held) → AreDups s → s.places ≡ length frames → (place : ℕ) (frame : ℕ) → frame ≡ unwrap_or (slice_get frames place) 0
+    → All (λ d. d.place ≡ place → All (λ r. merged_into d.number r.state ≡ true → lies_at (lodgings_of (lodging (dup_rows s.dups) frames) held) r.page ≡ Some frame) (rows_of held)) (dup_rows s.dups)
+items_lodge held s frames rise lawful as_many place frame is k e lt at i f lt_row merged =
+    let of_dup = lodging (dup_rows s.dups) frames in
+    let d = get_or (dup_rows s.dups) k e in
+    let r = get_or (rows_of held) i f in
+    let there : row_at r.page (rows_of held) ≡ Some r = each_found (λ (x : Row). x.page) (rows_of held) rise i f lt_row in
+    let lodges : of_dup d.number ≡ Some frame =
+    ap (option_and_then (λ (x : DupRow). slice_get frames x.place)) (each_has_number (dup_rows s.dups) lawful.in_place_order k e lt)
+    ∙ ap (slice_get frames) at
+    ∙ within place (let below = lawful.places_below k e lt in omega (arith, below, at, as_many))
+    ∙ ap Some (sym is) in
+    frame_by of_dup held r.page ∙ go of_dup d.number r merged (held_at r.page held) (sym (row_found r.page held) ∙ there) ∙ lodges
   where
-    kept : IsPaged made order
-    kept = record {
-      sorted = is.sorted;
-      indexed = λ q. is.indexed q ∙ ap (position (asks q)) (sym (ap keys_of becomes ∙ keys-set_value (asks page) found w));
-    }
+    within : (p : ℕ) → p < length frames → slice_get frames p ≡ Some (unwrap_or (slice_get frames p) 0)
+    within p lt = slice_get-get_or frames p 0 lt ∙ ap Some (sym (unwrap_or-slice_get frames p 0))
 
--- an entry is written through a search by the hash
-pub set_through : (found made : Entries) (order : Indices) (es : Entries) (page : GuestPage) (w : Entry) (o : Option Entry) (v : Entry)
-    → paged found order ≡ es → IsPaged found order → o ≡ lookup (page_eq.ghosts.eq page) found → o ≡ Some v
-    → made ≡ set_value (page_eq.ghosts.eq page) found w → paged made order ≡ set_value (asks page) es w
-set_through found made order es page w o v seen is value some becomes =
-    let there = ap is_some (sym (value ∙ ap (λ eq. lookup (eq page) found) equal_is) ∙ some) in
-    (sets found made order page w is there (becomes ∙ ap (λ eq. set_value (eq page) found w) equal_is)).seen
-    ∙ ap (λ l. set_value (asks page) l w) seen
+    go : (of_dup : ℕ → Option ℕ) (number : ℕ) (r : Row) → merged_into number r.state ≡ true → (o : Option Held) → option_map (λ (g : Held). g.row) o ≡ Some r → seat of_dup o ≡ of_dup number
+    go of_dup number r merged None no_it = absurd (grind (arith, no_it))
+    go of_dup number r merged (Some h) is = ap (λ state. frame_seen of_dup state h.frame) (ap (λ (x : Row). x.state) (same_Some h.row r is) ∙ merged_is number r.state merged)
 
--- ---------------------------------------------------------------- a part of the pages
+module _ (rows : List Row) (dups : List Dup) (place : ℕ) (tied : AreTied rows dups) where
+  -- no dup with items stands at a place where none is found
+  pub items_none : None ≡ option_map (λ (d : Dup). d.row) (find (λ d. stands_at place d && is_live d) dups) → find (λ d. d.place == place && has_items rows d) (dup_rows dups) ≡ None
+  items_none is = sym (live_placed rows place dups (tied_counted rows dups tied)) ∙ sym is
 
--- the pages in a range of the order, with their entries, are that range of all pages with theirs
-pub range_paged : (found : Entries) (start : Bound GuestPage) (order : Indices) → paged found (from_here start order) ≡ from_here start (paged found order)
-range_paged found start [] = refl
-range_paged found start (e ∷ order) = by (range_contains page_order start Unbounded e.0) (range_paged found start order)
-  where
-    by : (b : Bool) → paged found (from_here start order) ≡ from_here start (paged found order)
-        → paged found (cond b (e ∷ from_here start order) (from_here start order))
-        ≡ cond b ((e.0, entry_at found e.1) ∷ from_here start (paged found order)) (from_here start (paged found order))
-    by true rest = ap (λ l. (e.0, entry_at found e.1) ∷ l) rest
-    by false rest = rest
+  -- the items of the dup at a place are the pages of the rows merged into it
+  pub items_there : (row : DupRow) → InPlaceOrder (dup_rows dups) → Some row ≡ option_map (λ (d : Dup). d.row) (find (λ d. stands_at place d && is_live d) dups)
+      → option_map (items_of rows) (find (λ d. d.place == place && has_items rows d) (dup_rows dups)) ≡ Some (items_in (dup_at place dups))
+  items_there row rise is =
+      ap (option_map (items_of rows)) (sym (live_placed rows place dups (tied_counted rows dups tied)))
+      ∙ go (dup_at place dups) refl (is ∙ ap (option_map (λ (d : Dup). d.row)) (found_passing place is_live dups rise))
+    where
+      go : (o : Option Dup) → dup_at place dups ≡ o → Some row ≡ option_map (λ (d : Dup). d.row) (passing is_live o)
+          → option_map (items_of rows) (option_map (λ (d : Dup). d.row) (find (λ d. stands_at place d && is_live d) dups)) ≡ Some (items_in (dup_at place dups))
+      go None there no_it = absurd (grind (arith, no_it))
+      go (Some d) there one = elim (cases_Bool (is_live d)) [
+        | inl live ↦
+            ap (λ o. option_map (items_of rows) (option_map (λ (d : Dup). d.row) o)) (found_passing place is_live dups rise ∙ ap (passing is_live) there ∙ ap (λ b. cond b (Some d) None) live)
+            ∙ ap Some (sym (find_all (stands_at place) (λ e. e.items ≡ items_of rows e.row) dups d there tied))
+            ∙ ap (λ o. Some (items_in o)) (sym there)
+        | inr stale ↦ absurd (grind (arith, one, stale))
+      ]
 
--- ---------------------------------------------------------------- every entry is written
+-- ---------------------------------------------------------------- the scan's way
 
-lookup_changed : (change : Row → Row) (es : Entries) (q : GuestPage)
-    → lookup (asks q) (changed_all change es) ≡ option_map (changed change q) (lookup (asks q) es)
-lookup_changed change [] q = refl
-lookup_changed change (e ∷ es) q = by (asks q e.0) refl (lookup_changed change es q)
-  where
-    by : (b : Bool) → asks q e.0 ≡ b → lookup (asks q) (changed_all change es) ≡ option_map (changed change q) (lookup (asks q) es)
-        → cond b (Some (changed change e.0 e.1)) (lookup (asks q) (changed_all change es))
-        ≡ option_map (changed change q) (cond b (Some e.1) (lookup (asks q) es))
-    by true same rest = ap (λ k. Some (changed change k e.1)) (page_is q e.0 same)
-    by false other rest = rest
+abbrev page_of : Row → GuestPage
+page_of r = r.page
 
-keys_changed : (change : Row → Row) (es : Entries) → keys_of (changed_all change es) ≡ keys_of es
-keys_changed change [] = refl
-keys_changed change (e ∷ es) = ap (λ l. e.0 ∷ l) (keys_changed change es)
+-- visits that come to a page are visits of rows that come to it
+pub comes : (rows : List Row) (visits : ℕ) (to : Ahead) → Reaches (map page_of rows) visits to → ComesTo rows visits to
+comes rows visits (At page) is = (subst (λ n. visits < n) (length-map rows page_of) is.0, sym (slice_get-map page_of rows (visits - 1)) ∙ is.1)
+comes rows visits (End made) is = (is.0 ∙ length-map rows page_of, is.1)
 
--- a change of all entries in the map is the same change of what is seen
-pub changes : (change : Row → Row) (found made : Entries) (order : Indices) → IsPaged found order → made ≡ changed_all change found
-    → Becomes made order (changed_all change (paged found order))
-changes change found made order is becomes = record {
-  seen = same_entries (paged made order) (changed_all change (paged found order)) (in_order made order kept')
-      (subst (IsStrictlySortedBy page_order) (sym (keys_changed change (paged found order))) (in_order found order is))
-      (λ q. found_by made order kept' q ∙ ap (lookup (asks q)) becomes ∙ lookup_changed change found q
-      ∙ ap (option_map (changed change q)) (sym (found_by found order is q)) ∙ sym (lookup_changed change (paged found order) q));
-  kept = kept';
-}
-  where
-    kept' : IsPaged made order
-    kept' = record { sorted = is.sorted; indexed = λ q. is.indexed q ∙ ap (position (asks q)) (sym (ap keys_of becomes ∙ keys_changed change found)) }
+-- the pages behind a cursor and before a page are those of the rows there
+pub passed : (cursor : Option GuestPage) (page : GuestPage) (rows : List Row) → filter (λ p. comes_before p page) (pages_ahead cursor rows) ≡ map page_of (rows_between cursor page rows)
+passed cursor page rows = filter_mapped page_of (λ p. comes_before p page) (λ r. comes_before r.page page) (rows_ahead cursor rows) (λ k d lt. refl)
+
+one_less : (n : ℕ) → suc n - 1 ≡ n
+one_less n = omega arith
+
+-- the last of the pages is that of the last row
+pub last_is : (cursor : Option GuestPage) (rows : List Row) → last_or cursor (map page_of rows) ≡ last_page cursor rows
+last_is cursor [] = refl
+last_is cursor (r ∷ []) = refl
+last_is cursor (r ∷ s ∷ rows) =
+    let pages = s.page ∷ map page_of rows in
+    let many = length (map page_of rows) in
+    ap (λ n. option_or (slice_get (r.page ∷ pages) n) cursor) (one_less (suc many)) ∙ ap (λ n. option_or (slice_get pages n) cursor) (sym (one_less many)) ∙ last_is cursor (s ∷ rows)

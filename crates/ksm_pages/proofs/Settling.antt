@@ -1,168 +1,192 @@
--- Rows that wait no more, page after page.
-use Rattle.std.proofs.Common.{◌≡◌, inl, inr, Bool, true, false, cond, List, [], ◌∷◌, ◌++◌, get_or, map, Option, Some, None, refl, sym, ap, ◌∙◌, subst, arith}
-use Rattle.std.specs.Prelude.{MatchOption, ◌||◌, find, option_map, is_some, bytes_eq, if◌then◌else◌}
-use Rattle.std.specs.List.{list_any}
-use Rattle.std.specs.Map.{keys_of, lookup, set_value}
-use Rattle.std.proofs.lemmas.Bool.{cases_Bool}
-use Rattle.std.proofs.lemmas.List.Elements.{All-head, All-tail}
-use Rattle.std.proofs.lemmas.List.Folds.{list_any-append}
-use Rattle.std.proofs.lemmas.Map.Keys.{sorted_tail}
-use Rattle.std.proofs.lemmas.Slice.Eq.{bytes_eq-Decides}
-use Rattle.ksm_base.specs.declared.page.GuestPage.{GuestPage}
-use Rattle.ksm_base.specs.declared.row.PageState.{PageState}
-use Rattle.ksm_base.specs.declared.row.PageState.TheVariants.{Private, Waiting, Merged, Zero}
-use Rattle.ksm_base.specs.declared.row.Row.{Row}
-use Rattle.ksm_base.specs.Rows.{InPageOrder, row_at, same_page, change_row, settled, settled_state, waiting_state}
-use Rattle.ksm_base.proofs.RowCounts.{each_at_page}
-use Rattle.ksm_tree.specs.Waits.{AreWaiting, WaitingPage, names, waits_for, waits_there}
-use Rattle.ksm_base.specs.declared.knobs.Knobs.{Knobs}
-use Rattle.ksm_base.specs.State.{tree_of}
-use Rattle.ksm_pages.specs.Kept.{Entry}
-use Rattle.ksm_pages.specs.Listed.{AreNamed}
-use Rattle.ksm_pages.specs.Paged.{Entries, Sorted, asks}
-use Rattle.ksm_pages.specs.RowEntries.{row_of, frame_of, page_order}
-use Rattle.ksm_pages.proofs.RowLists.{beside, known_by, none_by, none_there, rows_of}
+-- The rows once each entry was changed, or the next pass began.
+use Rattle.ksm_pages.proofs.Names.{[], ap, ap₂, AreFiled, AreListed, arith, Bool, CalledAt, cond, count_by, count_none, Entry, false, forgotten, get, get_or, has_item, Held, held_in, held_of, held_under, is_restless, IsRows, IsTally, Kind, List, Listing, map, Merged, merged_state, MutBor, Named, named_of, None, on_row, Option, option_map, PageState, Private, refl, RetainsFrom, rows_of, same_Some, settled, settled_state, Slab, Some, state_of, subst, suc, sym, Tally, true, Waiting, waiting_state, Zero, zero, zero_state, ℕ, ◌+◌, ◌==◌, ◌∙◌, ◌∷◌, ◌≡◌, ◌≢◌, ◌≤◌}
+use Rattle.ksm_pages.specs.declared.row.Kind.TheVariants as kinds
+use Rattle.ksm_pages.proofs.Alike.{count_mapped, map_mapped}
+use Rattle.ksm_pages.proofs.Filing.{all_stand, under_named}
+use Rattle.ksm_pages.proofs.Gathering.{own_either}
+use Rattle.ksm_pages.proofs.Writing.{left_fits, rest_of, rests_apart}
 
--- ---------------------------------------------------------------- one page
+-- where each call of a closure keeps and changes a value, the slots are changed so
+pub retained_all : {T F : Type 0} (step : F → ℕ → MutBor T → Bool → MutBor T → F → Type 0) (g : T → T) → ((f : F) (k : ℕ) (old : T) (keep : Bool) (new : T) (next : F) → CalledAt step f k old keep new next → (keep ≡ true) × (new ≡ g old))
+    → (f : F) (key : ℕ) (slots kept : List (Option T)) → RetainsFrom step f key slots kept → kept ≡ map (option_map g) slots
+retained_all step g says f key [] kept r = r
+retained_all step g says f key (None ∷ rest) kept (later, is, r) = is ∙ ap (λ xs. None ∷ xs) (retained_all step g says f (key + 1) rest later r)
+retained_all step g says f key (Some old ∷ rest) kept (keep, new, next, called, later, is, r) =
+    let told = says f key old keep new next called in
+    is
+    ∙ ap (λ b. cond b (Some new) None ∷ later) told.0
+    ∙ ap₂ (λ x xs. Some x ∷ xs) told.1 (retained_all step g says next (key + 1) rest later r)
 
--- a page without a row
-settled_none : (k : GuestPage) (es : Entries) → row_at k (rows_of es) ≡ None → change_row k settled (rows_of es) ≡ rows_of es
-settled_none k [] none = refl
-settled_none k (e ∷ es) none = elim (cases_Bool (same_page e.0 k)) [
-  | inl here ↦ absurd (grind (arith, none, here))
-  | inr other ↦
-      ap (λ (b : Bool). cond b (settled (row_of e)) (row_of e) ∷ change_row k settled (rows_of es)) other
-      ∙ ap (λ l. row_of e ∷ l) (settled_none k es (sym (ap (λ (b : Bool). cond b (Some (row_of e)) (row_at k (rows_of es))) other) ∙ none))
-]
+-- what stands at a place of slots that are all changed
+pub slot_mapped : {T : Type 0} (g : T → T) (slots : List (Option T)) (k : ℕ) → get_or (map (option_map g) slots) k None ≡ option_map g (get_or slots k None)
+slot_mapped g [] k = refl
+slot_mapped g (s ∷ rest) zero = refl
+slot_mapped g (s ∷ rest) (suc k) = slot_mapped g rest k
 
--- the page's row is settled, and each lies where it did
-pub record Settles (k : GuestPage) (es fs : Entries) : Type 0 where
-  pub rows : rows_of fs ≡ change_row k settled (rows_of es)
-  pub frames : map frame_of fs ≡ map frame_of es
+-- once an entry's pass is another, its row waits no more
+pub state_settled : (kind : Kind) (number left pass after : ℕ) → (kind ≡ kinds.Own → left ≢ after) → (kind ≢ kinds.Own → left ≡ number) → state_of kind left after ≡ settled_state (state_of kind number pass)
+state_settled kinds.Own number left pass after own other = rests_apart left after (own refl) ∙ sym (own_either (λ state. settled_state state ≡ Private) refl refl (number == pass))
+state_settled kinds.Merged number left pass after own other = ap Merged (other (λ is. cc))
+state_settled kinds.Zero number left pass after own other = refl
 
-settles : (k : GuestPage) (v : Entry) (es : Entries) → Sorted es → lookup (asks k) es ≡ Some v → Settles k es (set_value (asks k) es (record v { state = settled_state v.state }))
-settles k v [] sorted found = absurd (grind (arith, found))
-settles k v (e ∷ es) sorted found =
-    let w : Entry = record v { state = settled_state v.state } in
-    beside (Settles k (e ∷ es) (set_value (asks k) (e ∷ es) w)) k e es sorted
-    (λ is after. absurd (grind (arith, found, ap is_some (sym (none_there k (e ∷ es) after)), known_by k (e ∷ es))))
-    (λ is h.
-    let value : e.1 ≡ v = grind (arith, h.asked, found) in
-    record {
-      rows = ap (λ (b : Bool). rows_of (cond b ((e.0, w) ∷ es) (e ∷ set_value (asks k) es w))) h.asked
-          ∙ ap (λ (x : Entry). settled (row_of (e.0, x)) ∷ rows_of es) (sym value)
-          ∙ ap (λ l. settled (row_of e) ∷ l) (sym (settled_none k es (none_there k es h.rest)))
-          ∙ sym (ap (λ (b : Bool). cond b (settled (row_of e)) (row_of e) ∷ change_row k settled (rows_of es)) h.same);
-      frames = ap (λ (b : Bool). map frame_of (cond b ((e.0, w) ∷ es) (e ∷ set_value (asks k) es w))) h.asked ∙ ap (λ (x : Entry). x.frame ∷ map frame_of es) (sym value);
-    })
-    (λ is p.
-    let rest = settles k v es (sorted_tail page_order e.0 (keys_of es) sorted) (grind (arith, p.asked, found)) in
-    record {
-      rows = ap (λ (b : Bool). rows_of (cond b ((e.0, w) ∷ es) (e ∷ set_value (asks k) es w))) p.asked ∙ ap (λ l. row_of e ∷ l) rest.rows
-          ∙ sym (ap (λ (b : Bool). cond b (settled (row_of e)) (row_of e) ∷ change_row k settled (rows_of es)) p.other);
-      frames = ap (λ (b : Bool). map frame_of (cond b ((e.0, w) ∷ es) (e ∷ set_value (asks k) es w))) p.asked ∙ ap (λ l. frame_of e ∷ l) rest.frames;
-    })
+-- two readings of a state, the first of it settled, agree where they do at each kind of state
+settled_by : {X : Type 0} (p q : PageState → X) → p Private ≡ q Private → p Private ≡ q Waiting → ((n : ℕ) → p (Merged n) ≡ q (Merged n))
+    → p Zero ≡ q Zero
+    → (s : PageState) → p (settled_state s) ≡ q s
+settled_by p q own waits merged zero_too Private = own
+settled_by p q own waits merged zero_too Waiting = waits
+settled_by p q own waits merged zero_too (Merged n) = merged n
+settled_by p q own waits merged zero_too Zero = zero_too
 
--- an entry that settles changes its own row alone
-pub settles_one : (k : GuestPage) (es fs : Entries) → Sorted es → MatchOption (lookup (asks k) es) (fs ≡ es) (λ e. fs ≡ set_value (asks k) es (record e { state = settled_state e.state })) → Settles k es fs
-settles_one k es fs sorted set = by (lookup (asks k) es) refl set
+-- rows whose states are read alike before and after a change are counted alike
+counts_alike : (f : Held → Held) (p q : PageState → Bool) → ((h : Held) → p (f h).row.state ≡ q h.row.state) → (held : List Held)
+    → count_by (λ r. p r.state) (rows_of (map f held)) ≡ count_by (λ r. q r.state) (rows_of held)
+counts_alike f p q same held =
+    ap (count_by (λ r. p r.state)) (map_mapped (λ (h : Held). h.row) f (λ (h : Held). (f h).row) held (λ k d lt. refl))
+    ∙ count_mapped (λ (h : Held). (f h).row) (λ r. p r.state) (λ h. q h.row.state) held (λ k d lt. same (get_or held k d))
+    ∙ sym (count_mapped (λ (h : Held). h.row) (λ r. q r.state) (λ h. q h.row.state) held (λ k d lt. refl))
+
+-- the tally of rows of which none waits any more
+tally_settled : (held : List Held) (tally : Tally) → IsTally (rows_of held) tally
+    → IsTally (rows_of (map (on_row settled) held)) (record tally { waiting = 0 })
+tally_settled held tally are = record {
+  merged = are.merged ∙ sym (counts merged_state merged_state refl refl (λ n. refl) refl);
+  waiting = sym (counts waiting_state (λ s. false) refl refl (λ n. refl) refl ∙ count_none (λ r. false) (rows_of held) (λ k d lt. refl));
+  zero = are.zero ∙ sym (counts zero_state zero_state refl refl (λ n. refl) refl);
+}
   where
-    by : (o : Option Entry) → lookup (asks k) es ≡ o → MatchOption o (fs ≡ es) (λ e. fs ≡ set_value (asks k) es (record e { state = settled_state e.state })) → Settles k es fs
-    by None none same = record { rows = ap rows_of same ∙ sym (settled_none k es (none_by k es none)); frames = ap (map frame_of) same }
-    by (Some v) found made = subst (Settles k es) (sym made) (settles k v es sorted found)
+    counts : (p q : PageState → Bool) → p Private ≡ q Private → p Private ≡ q Waiting → ((n : ℕ) → p (Merged n) ≡ q (Merged n))
+        → p Zero ≡ q Zero
+        → count_by (λ r. p r.state) (rows_of (map (on_row settled) held)) ≡ count_by (λ r. q r.state) (rows_of held)
+    counts p q own waits merged zero_too =
+        counts_alike (on_row settled) p q (λ h. settled_by p q own waits merged zero_too h.row.state) held
 
--- ---------------------------------------------------------------- page after page
-
--- whether a page is one of these
-abbrev pub is_one_of : List GuestPage → Row → Bool
-is_one_of pages r = list_any (λ p. same_page r.page p) pages
-
--- the row, settled if its page is one of these
-abbrev pub calmed : List GuestPage → Row → Row
-calmed pages r = if is_one_of pages r then settled r else r
-
--- before the first page settles, the rows are as they were
-pub none_calmed : (rows : List Row) → rows ≡ map (calmed []) rows
-none_calmed [] = refl
-none_calmed (r ∷ rows) = ap (λ l. r ∷ l) (none_calmed rows)
-
-settled_twice : (s : PageState) → settled_state (settled_state s) ≡ settled_state s
-settled_twice Private = refl
-settled_twice Waiting = refl
-settled_twice (Merged d) = refl
-settled_twice Zero = refl
-
--- the pages settled so far, and one more, are settled
-pub one_more_calmed : (done : List GuestPage) (page : GuestPage) (rows : List Row) → change_row page settled (map (calmed done) rows) ≡ map (calmed (done ++ page ∷ [])) rows
-one_more_calmed done page [] = refl
-one_more_calmed done page (r ∷ rows) = λ t. here t ∷ one_more_calmed done page rows t
+-- the tally of rows whose states stay
+tally_kept : (f : Held → Held) → ((h : Held) → (f h).row.state ≡ h.row.state) → (held : List Held) (tally : Tally)
+    → IsTally (rows_of held) tally → IsTally (rows_of (map f held)) tally
+tally_kept f same held tally are = record { merged = are.merged ∙ counts merged_state; waiting = are.waiting ∙ counts waiting_state; zero = are.zero ∙ counts zero_state }
   where
-    either : (a b : Bool) → same_page r.page page ≡ b → (if same_page (if a then settled r else r).page page then settled (if a then settled r else r) else (if a then settled r else r)) ≡ (if a || b then settled r else r)
-    either true true is = ap (λ (b : Bool). if b then settled (settled r) else settled r) is ∙ ap (λ s. record r { state = s }) (settled_twice r.state)
-    either true false is = ap (λ (b : Bool). if b then settled (settled r) else settled r) is
-    either false true is = ap (λ (b : Bool). if b then settled r else r) is
-    either false false is = ap (λ (b : Bool). if b then settled r else r) is
+    counts : (p : PageState → Bool) → count_by (λ r. p r.state) (rows_of held) ≡ count_by (λ r. p r.state) (rows_of (map f held))
+    counts p = sym (counts_alike f p p (λ h. ap p (same h)) held)
 
-    alone : (b : Bool) → (b || false) ≡ b
-    alone true = refl
-    alone false = refl
+module _ (slab : Slab Entry) (order : List Named) (restless : Listing) (tally : Tally) (pass : ℕ) (are : IsRows slab order restless tally pass)
+    (later : Slab Entry) (after : ℕ) (g : Entry → Entry) (all : (k : ℕ) → get later k ≡ option_map g (get slab k))
+    (same : (e : Entry) → (g e).page ≡ e.page) (flag : (e : Entry) → (g e).mergeable ≡ e.mergeable) (kind : (e : Entry) → (g e).kind ≡ e.kind) where
+  named_all : (k : ℕ) → option_map (named_of k) (get later k) ≡ option_map (named_of k) (get slab k)
+  named_all k = ap (option_map (named_of k)) (all k) ∙ go (get slab k)
+    where
+      go : (o : Option Entry) → option_map (named_of k) (option_map g o) ≡ option_map (named_of k) o
+      go None = refl
+      go (Some e) = ap₂ (λ p b. Some (record { page = p; key = k; mergeable = b })) (same e) (flag e)
 
-    here : (if same_page (calmed done r).page page then settled (calmed done r) else calmed done r) ≡ calmed (done ++ page ∷ []) r
-    here = either (is_one_of done r) (same_page r.page page) refl
-        ∙ ap (λ (b : Bool). if b then settled r else r) (ap (λ b. is_one_of done r || b) (sym (alone (same_page r.page page))) ∙ sym (list_any-append (λ p. same_page r.page p) done (page ∷ [])))
+  -- pages are named as their entries say
+  pub all_filed : AreFiled later order
+  all_filed n = (λ h. named_all n.key ∙ (are.filed n).0 h, λ h. (are.filed n).1 (sym (named_all n.key) ∙ h))
 
--- once each row that waits was met, none waits
-pub all_calmed : (waiting : List WaitingPage) (rows : List Row) → AreNamed waiting rows → map (calmed (map (λ w. w.page) waiting)) rows ≡ map settled rows
-all_calmed waiting [] named = refl
-all_calmed waiting (r ∷ rows) named = λ t. here t ∷ all_calmed waiting rows (All-tail P r rows named) t
-  where
-    P : Row → Type 0
-    P x = waiting_state x.state ≡ true → list_any (λ w. same_page x.page w.page) waiting ≡ true
+  -- an entry is one that was changed
+  pub all_from : (P : Entry → Type 0) → ((k : ℕ) (e : Entry) → get slab k ≡ Some e → P (g e)) → (k : ℕ) (e : Entry) → get later k ≡ Some e → P e
+  all_from P holds k e stands = go (get slab k) refl (sym (all k) ∙ stands)
+    where
+      go : (o : Option Entry) → get slab k ≡ o → option_map g o ≡ Some e → P e
+      go None is none = cc
+      go (Some d) is some = subst P (same_Some (g d) e some) (holds k d is)
 
-    seen : (ws : List WaitingPage) → is_one_of (map (λ w. w.page) ws) r ≡ list_any (λ w. same_page r.page w.page) ws
-    seen [] = refl
-    seen (w ∷ ws) = ap (λ b. same_page r.page w.page || b) (seen ws)
+  -- the pages that a visit may change are listed still
+  pub all_listed : restless.known ≡ true → AreListed later restless.pages
+  all_listed known =
+      all_from (λ e. is_restless e ≡ true → has_item e.page restless.pages ≡ true)
+      (λ k e stands may. ap (λ p. has_item p restless.pages) (same e) ∙ are.listed known k e stands (sym (restless_same e) ∙ may))
+    where
+      restless_same : (e : Entry) → is_restless (g e) ≡ is_restless e
+      restless_same e = ap₂ (λ m k. is_restless (record e { mergeable = m; kind = k })) (flag e) (kind e)
 
-    calm : (s : PageState) → waiting_state s ≡ false → settled_state s ≡ s
-    calm Private e = refl
-    calm Waiting e = absurd (grind (arith, e))
-    calm (Merged d) e = refl
-    calm Zero e = refl
+  -- what is seen of the rows
+  pub all_seen : (f : Held → Held) → ((k : ℕ) (e : Entry) → get slab k ≡ Some e → held_of after (g e) ≡ f (held_of pass e)) → held_in after later order ≡ map f (held_in pass slab order)
+  all_seen f is =
+      sym (map_mapped f (λ n. held_under pass (get slab n.key)) (λ n. held_under after (get later n.key)) order (λ k d lt. at (get_or order k d) (all_stand slab order are.ascending are.filed k d lt)))
+    where
+      at : (n : Named) → option_map (named_of n.key) (get slab n.key) ≡ Some n → f (held_under pass (get slab n.key)) ≡ held_under after (get later n.key)
+      at n stands =
+          let u = under_named slab n stands in
+          ap (λ o. f (held_under pass o)) u.stands
+          ∙ sym (is n.key u.entry u.stands)
+          ∙ sym (ap (λ o. held_under after (option_map g o)) u.stands)
+          ∙ ap (held_under after) (sym (all n.key))
 
-    by : (b : Bool) → (waiting_state r.state ≡ true → b ≡ true) → (if b then settled r else r) ≡ settled r
-    by true is = refl
-    by false is = elim (cases_Bool (waiting_state r.state)) [
-      | inl waits ↦ absurd (grind (arith, is waits))
-      | inr calm_is ↦ ap (λ s. record r { state = s }) (sym (calm r.state calm_is))
-    ]
+  -- they are rows still, of which none waits any more
+  pub all_settled : ((k : ℕ) (e : Entry) → get slab k ≡ Some e → held_of after (g e) ≡ on_row settled (held_of pass e)) → ((k : ℕ) (e : Entry) → get slab k ≡ Some e → (g e).kind ≡ kinds.Own → (g e).number ≤ after) → 1 ≤ after
+      → IsRows later order restless (record tally { waiting = 0 }) after
+  all_settled is fits counting = record {
+    ascending = are.ascending;
+    filed = all_filed;
+    listed = all_listed;
+    counted = subst (λ held. IsTally (rows_of held) (record tally { waiting = 0 })) (sym (all_seen (on_row settled) is)) (tally_settled (held_in pass slab order) tally are.counted);
+    begun = all_from (λ e. e.kind ≡ kinds.Own → e.number ≤ after) fits;
+    counting = counting;
+  }
 
-    here : calmed (map (λ w. w.page) waiting) r ≡ settled r
-    here = by (is_one_of (map (λ w. w.page) waiting) r) (λ waits. seen waiting ∙ All-head P r rows named waits)
+-- an entry whose state is another
+abbrev in_state : PageState → Held → Held
+in_state state h = on_row (λ r. record r { state = state }) h
 
--- ---------------------------------------------------------------- the waiting pages
+module _ (slab : Slab Entry) (order : List Named) (restless : Listing) (tally : Tally) (pass : ℕ) (are : IsRows slab order restless tally pass) where
+  -- ---------------------------------------------------------------- the next pass
 
--- the pages that wait are those of the rows that do
-pub all_named : (knobs : Knobs) (rows : List Row) (waiting : List WaitingPage) → InPageOrder rows → AreWaiting knobs rows waiting → AreNamed waiting rows
-all_named knobs rows waiting rise are = λ k d lt waits. named (get_or rows k d) (each_at_page rows rise k d lt) waits
-  where
-    among : (page : GuestPage) (test : WaitingPage → Bool) (ws : List WaitingPage) → names page (option_map (λ w. w.page) (find test ws)) ≡ true → list_any (λ w. same_page page w.page) ws ≡ true
-    among page test [] is = absurd (grind (arith, is))
-    among page test (w ∷ ws) is = step (test w) (among page test ws) is
-      where
-        turned : (p q : GuestPage) → same_page p q ≡ true → same_page q p ≡ true
-        turned p q same = grind (arith, same)
+  itself : (k : ℕ) → get slab k ≡ option_map (λ (e : Entry). e) (get slab k)
+  itself k = go (get slab k)
+    where
+      go : (o : Option Entry) → o ≡ option_map (λ (e : Entry). e) o
+      go None = refl
+      go (Some e) = refl
 
-        right : (b : Bool) → (b || true) ≡ true
-        right true = refl
-        right false = refl
+  settled_next : (k : ℕ) (e : Entry) → get slab k ≡ Some e → held_of (pass + 1) e ≡ on_row settled (held_of pass e)
+  settled_next k e stands =
+      ap (λ st. in_state st (held_of pass e))
+      (state_settled e.kind e.number e.number pass (pass + 1) (λ own same. let fits = are.begun k e stands own in absurd (omega (arith, fits, same))) (λ other. refl))
 
-        step : (b : Bool) → (names page (option_map (λ w. w.page) (find test ws)) ≡ true → list_any (λ w. same_page page w.page) ws ≡ true)
-            → names page (option_map (λ w. w.page) (cond b (Some w) (find test ws))) ≡ true → (same_page page w.page || list_any (λ w. same_page page w.page) ws) ≡ true
-        step true rest is = ap (λ b. b || list_any (λ w. same_page page w.page) ws) (turned w.page page is)
-        step false rest is = ap (λ b. same_page page w.page || b) (rest is) ∙ right (same_page page w.page)
+  pub next_seen : held_in (pass + 1) slab order ≡ map (on_row settled) (held_in pass slab order)
+  next_seen = all_seen slab order restless tally pass are slab (pass + 1) (λ e. e) itself (λ e. refl) (λ e. refl) (λ e. refl) (on_row settled) settled_next
 
-    named : (r : Row) → row_at r.page rows ≡ Some r → waiting_state r.state ≡ true → list_any (λ w. same_page r.page w.page) waiting ≡ true
-    named r at waits =
-        let bytes : bytes_eq r.bytes r.bytes ≡ true = (bytes_eq-Decides r.bytes r.bytes).1 refl in
-        let there : waits_there knobs (tree_of knobs r) r.bytes (Some r) ≡ true = grind (arith, waits, bytes) in
-        among r.page (waits_for (tree_of knobs r) r.bytes) waiting (are (tree_of knobs r) r.bytes r.page ∙ ap (waits_there knobs (tree_of knobs r) r.bytes) at ∙ there)
+  pub next_rows : IsRows slab order restless (record tally { waiting = 0 }) (pass + 1)
+  next_rows =
+      all_settled slab order restless tally pass are slab (pass + 1) (λ e. e) itself (λ e. refl) (λ e. refl) (λ e. refl) settled_next
+      (λ k e stands own. let fits = are.begun k e stands own in omega (arith, fits)) (omega arith)
+
+  -- ---------------------------------------------------------------- passes are counted anew
+
+  module _ (later : Slab Entry) (slots : later.slots ≡ map (option_map forgotten) slab.slots) where
+    forgot : (k : ℕ) → get later k ≡ option_map forgotten (get slab k)
+    forgot k = ap (λ xs. get_or xs k None) slots ∙ slot_mapped forgotten slab.slots k
+
+    settled_anew : (k : ℕ) (e : Entry) → get slab k ≡ Some e → held_of 1 (forgotten e) ≡ on_row settled (held_of pass e)
+    settled_anew k e stands = ap (λ st. in_state st (held_of pass e)) (rest_of e.kind e.number pass 1 (omega arith))
+
+    pub anew_seen : held_in 1 later order ≡ map (on_row settled) (held_in pass slab order)
+    anew_seen = all_seen slab order restless tally pass are later 1 forgotten forgot (λ e. refl) (λ e. refl) (λ e. refl) (on_row settled) settled_anew
+
+    pub anew_rows : IsRows later order restless (record tally { waiting = 0 }) 1
+    anew_rows =
+        all_settled slab order restless tally pass are later 1 forgotten forgot (λ e. refl) (λ e. refl) (λ e. refl) settled_anew
+        (λ k e stands own. left_fits e.kind e.number 1 own) (omega arith)
+
+  -- ---------------------------------------------------------------- none is unchanged
+
+  abbrev plain : Entry → Entry
+  plain e = record e { unchanged = false }
+
+  module _ (later : Slab Entry) (slots : later.slots ≡ map (option_map plain) slab.slots) where
+    made_plain : (k : ℕ) → get later k ≡ option_map plain (get slab k)
+    made_plain k = ap (λ xs. get_or xs k None) slots ∙ slot_mapped plain slab.slots k
+
+    pub plain_seen : held_in pass later order ≡ map (on_row (λ r. record r { unchanged = false })) (held_in pass slab order)
+    plain_seen = all_seen slab order restless tally pass are later pass plain made_plain (λ e. refl) (λ e. refl) (λ e. refl) (on_row (λ r. record r { unchanged = false })) (λ k e stands. refl)
+
+    pub plain_rows : IsRows later order restless tally pass
+    plain_rows = record {
+      ascending = are.ascending;
+      filed = all_filed slab order restless tally pass are later pass plain made_plain (λ e. refl) (λ e. refl) (λ e. refl);
+      listed = all_listed slab order restless tally pass are later pass plain made_plain (λ e. refl) (λ e. refl) (λ e. refl);
+      counted = subst (λ held. IsTally (rows_of held) tally) (sym plain_seen) (tally_kept (on_row (λ r. record r { unchanged = false })) (λ h. refl) (held_in pass slab order) tally are.counted);
+      begun = all_from slab order restless tally pass are later pass plain made_plain (λ e. refl) (λ e. refl) (λ e. refl) (λ e. e.kind ≡ kinds.Own → e.number ≤ pass) (λ k e stands. are.begun k e stands);
+      counting = are.counting;
+    }

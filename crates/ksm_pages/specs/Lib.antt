@@ -1,10 +1,5 @@
-pub mod Kept
-pub mod Blocked
-pub mod Listed
-pub mod Linked
-pub mod Lodged
-pub mod RowEntries
+pub mod Ordered
+pub mod Held
+pub mod Filed
 pub mod Paged
-pub mod Scanned
-pub mod Tallied
-pub mod Wanted
+pub mod Left

@@ -1,51 +1,226 @@
--- Entries under their pages in the order of these, where each page has the index of its entry in another list (own).
-use Rattle.std.specs.Prelude.{◌≡◌, ℕ, ◌<◌, Bool, List, map, length, position, slice_index_or, All, None}
-use Rattle.std.specs.BTreeMap.{is_at}
-use Rattle.std.specs.List.Sorted.{IsStrictlySortedBy}
-use Rattle.std.specs.Map.{keys_of, values_of, lookup}
+-- The pages: the rows with the dups into which they are merged, the frame of each page, and the pages that wait; and what is seen of them (own).
+use Rattle.std.specs.Prelude.{◌≡◌, ℕ, ◌+◌, ◌<◌, ◌≤◌, ◌^◌, Bool, true, false, not, ◌&&◌, ◌||◌, ◌==◌, ◌-◌, List, [], ◌∷◌, slice_get, option_map, map, All, Contains, find, Option, Some, None, is_some, option_and_then, MatchOption, length, filter, if◌then◌else◌}
 use Rattle.ksm_base.specs.declared.page.GuestPage.{GuestPage}
+use Rattle.ksm_base.specs.declared.row.PageState.TheVariants.{Private, Waiting, Merged, Zero}
 use Rattle.ksm_base.specs.declared.row.Row.{Row}
-use Rattle.ksm_pages.specs.Kept.{Entry}
-use Rattle.ksm_pages.specs.Listed.{no_row}
-use Rattle.ksm_pages.specs.RowEntries.{row_of, entry_of, page_order}
+use Rattle.ksm_base.specs.declared.row.DupRow.{DupRow}
+use Rattle.ksm_base.specs.declared.knobs.Knobs.{Knobs}
+use Rattle.ksm_base.specs.declared.shape.Shape.{Shape}
+use Rattle.ksm_base.specs.Values.{frames_of}
+use Rattle.ksm_base.specs.Rows.{comes_before, same_page, row_at, change_row, change_rows, shared_state, merged_into, item_count, with_dup}
+use Rattle.ksm_base.specs.State.{tree_of}
+use Rattle.ksm_base.specs.Visit.{after_cursor, best_dup, is_for_zero, partner}
+use Rattle.ksm_base.specs.Answers.{every_row}
+use Rattle.ksm_base.specs.Refusals.{is_of}
+use Rattle.ksm_pages.specs.declared.ahead.Ahead.{Ahead}
+use Rattle.ksm_pages.specs.declared.ahead.Ahead.TheVariants.{At, End}
+use Rattle.ksm_pages.specs.declared.pages.Find.{Find}
+use Rattle.ksm_pages.specs.declared.pages.Find.TheVariants as finds
+use Rattle.ksm_pages.specs.declared.pages.Held.{Held}
+use Rattle.ksm_pages.specs.Held.{Held as HeldRow, Listing}
+use Rattle.ksm_base.specs.declared.row.PageState.{PageState}
+use Rattle.ksm_base.specs.Rows.{InPageOrder, dup_numbered}
+use Rattle.ksm_base.specs.Values.{IsShape}
+use Rattle.ksm_tree.specs.Bridge.{AreTied}
+use Rattle.ksm_tree.specs.Dups.{DupsState}
+use Rattle.ksm_tree.specs.Waits.{AreWaiting}
 
--- entries, each with its page
-abbrev pub Entries : Type 0
-Entries = List (GuestPage × Entry)
+-- the frame of each page, if it has one
+abbrev pub Frames : Type 0
+Frames = GuestPage → Option ℕ
 
--- pages, each with an index
-abbrev pub Indices : Type 0
-Indices = List (GuestPage × ℕ)
+-- no page lies on a frame
+abbrev pub nowhere : Frames
+nowhere = λ _. None
 
--- the pages ascend
-abbrev pub Sorted : Entries → Type 0
-Sorted es = IsStrictlySortedBy page_order (keys_of es)
+-- one page comes to lie on a frame, or on none
+abbrev pub lies_on : GuestPage → Option ℕ → Frames → Frames
+lies_on page frame frames = λ p. if same_page p page then frame else frames p
 
--- whether another page is this one
-abbrev pub asks : GuestPage → GuestPage → Bool
-asks page = is_at (page_order page)
+-- whether a page's row, if it has one, is an item of the dup with a number
+abbrev pub is_item : ℕ → Option Row → Bool
+is_item number None = false
+is_item number (Some row) = merged_into number row.state
 
--- the entry at an index
-abbrev pub entry_at : Entries → ℕ → Entry
-entry_at found i = slice_index_or (values_of found) i (entry_of no_row None)
+-- the items of a dup come to lie on another frame
+abbrev pub items_on : ℕ → ℕ → List Row → Frames → Frames
+items_on number frame rows frames = λ p. if is_item number (row_at p rows) then Some frame else frames p
 
--- the entries, in the order of the pages, which have their indices
-abbrev pub paged : Entries → Indices → Entries
-paged found order = map (λ e. (e.0, entry_at found e.1)) order
+-- a page with the frame on which it lies, if it has one
+pub record Lodging : Type 0 where
+  pub page : GuestPage
+  pub frame : Option ℕ
 
--- the pages ascend, and each has the index at which it stands
-pub record IsPaged (found : Entries) (order : Indices) : Type 0 where
-  pub sorted : IsStrictlySortedBy page_order (keys_of order)
-  pub indexed : (page : GuestPage) → lookup (asks page) order ≡ position (asks page) (keys_of found)
+-- where these pages lie; no other page lies on a frame
+abbrev pub frame_of : List Lodging → Frames
+frame_of lodgings = λ page. option_and_then (λ l. l.frame) (find (λ l. same_page l.page page) lodgings)
 
--- there is an entry at each index
-abbrev pub AreWithin : Entries → Indices → Type 0
-AreWithin found order = All (λ e. e.1 < length found) order
+-- the value by which proofs tell pages apart: a list in the place of the function that `PagesView` has
+pub record PagesValue : Type 0 where
+  pub shape : Shape
+  pub rows : List Row
+  pub lodgings : List Lodging
+  pub dups : List DupRow
+  pub knobs : Knobs
+  pub next : ℕ
+  pub restless : Listing
 
--- the entry of a page whose row has changed
-abbrev pub changed : (Row → Row) → GuestPage → Entry → Entry
-changed change page e = entry_of (change (row_of (page, e))) e.frame
+-- what is seen of the pages: the rows, where each page lies, the dups, the knobs, the number of the next dup, and the list of the
+-- rows that a visit may change
+pub record PagesView : Type 0 where
+  pub shape : Shape
+  pub rows : List Row
+  pub frame : Frames
+  pub dups : List DupRow
+  pub knobs : Knobs
+  pub next : ℕ
+  pub restless : Listing
 
--- the entries of the rows, each with its change
-abbrev pub changed_all : (Row → Row) → Entries → Entries
-changed_all change es = map (λ e. (e.0, changed change e.0 e.1)) es
+abbrev pub seen : PagesValue → PagesView
+seen p = record { shape = p.shape; rows = p.rows; frame = frame_of p.lodgings; dups = p.dups; knobs = p.knobs; next = p.next; restless = p.restless }
+
+-- a page has a row
+abbrev pub IsKnown : GuestPage → List Row → Type 0
+IsKnown page rows = is_some (row_at page rows) ≡ true
+
+-- a page has a row, with a frame of its own
+abbrev pub IsAlone : GuestPage → List Row → Type 0
+IsAlone page rows = MatchOption (row_at page rows) (true ≡ false) (λ r. shared_state r.state ≡ false)
+
+-- what is told of the row of a page: its home, whether it is merged or Zero, and where it lies
+pub record IsHeld (p : PagesView) (page : GuestPage) (held : Held) : Type 0 where
+  pub row : Row
+  pub found : row_at page p.rows ≡ Some row
+  pub spot : held.spot.page ≡ page
+  pub home : held.home ≡ row.home
+  pub shared : held.shared ≡ shared_state row.state
+  pub frame : held.frame ≡ p.frame page
+
+-- a row of the guest, or any row where no guest is given
+abbrev pub of_guest : Option ℕ → Row → Bool
+of_guest None = every_row
+of_guest (Some guest) = is_of guest
+
+-- a row of the guest, or any row, after the cursor
+abbrev pub is_next : Option ℕ → Option GuestPage → Row → Bool
+is_next guest cursor r = of_guest guest r && after_cursor cursor r.page
+
+-- the row with a frame of its own, in no tree
+abbrev pub on_its_own : Row → Row
+on_its_own r = record r { state = Private }
+
+-- no dup with items stands at the place
+abbrev pub IsVacant : ℕ → List Row → List DupRow → Type 0
+IsVacant place rows dups = All (λ d. d.place ≡ place → item_count rows d ≡ 0) dups
+
+-- the dup stands at another place
+abbrev pub elsewhere : ℕ → DupRow → Bool
+elsewhere place d = not (d.place == place)
+
+-- a dup of this number has room for one item more
+abbrev pub HasRoom : List Row → List DupRow → ℕ → Type 0
+HasRoom rows dups number = (d : DupRow) × Contains dups d × (d.number ≡ number) × (item_count rows d ≤ 1023)
+
+-- the dup that is made of a row, with a number and at a place
+abbrev pub dup_of_row : Knobs → ℕ → ℕ → Row → DupRow
+dup_of_row knobs number place row = record { number = number; place = place; tree = tree_of knobs row; bytes = row.bytes }
+
+-- two pages with frames of their own may become the items of a new dup at the place
+pub record MayPair (p : PagesView) (place : ℕ) (first second : Row) : Type 0 where
+  pub first_is : row_at first.page p.rows ≡ Some first
+  pub second_is : row_at second.page p.rows ≡ Some second
+  pub first_alone : shared_state first.state ≡ false
+  pub second_alone : shared_state second.state ≡ false
+  pub apart : same_page first.page second.page ≡ false
+  pub inside : place < frames_of p.shape
+  pub vacant : IsVacant place p.rows p.dups
+  pub number : p.next + 1 < 2 ^ 64
+  pub fresh : All (λ r. merged_into p.next r.state ≡ false) p.rows
+
+-- the pages once two of them are the items of a new dup at the place, on the frame of the first
+abbrev pub paired : ℕ → Row → Row → PagesView → PagesView
+paired place first second p =
+    record p {
+      rows = change_rows (λ r. same_page r.page first.page || same_page r.page second.page) (λ r. record r { state = Merged p.next }) p.rows;
+      frame = lies_on second.page (p.frame first.page) p.frame;
+      dups = with_dup (dup_of_row p.knobs p.next place second) p.dups;
+      next = p.next + 1;
+    }
+
+-- a visit may change the row
+abbrev pub is_restless : Row → Bool
+is_restless r = r.mergeable && not (shared_state r.state)
+
+-- where all of them are listed, each row that a visit may change is
+abbrev pub AreListed : List Row → Listing → Type 0
+AreListed rows restless = restless.known ≡ true → All (λ r. is_restless r ≡ true → Contains restless.pages r.page) rows
+
+-- the pages once a visit changed the row of a page
+abbrev pub visited : GuestPage → (Row → Row) → PagesView → PagesView
+visited page change p = record p { rows = change_row page change p.rows }
+
+-- what a visit of this row finds, and what it changed by that
+abbrev pub FindsAt : PagesView → PagesView → Row → Find → Type 0
+FindsAt old new r finds.Gone = (is_restless r ≡ false) × (new ≡ old)
+FindsAt old new r (finds.Dup best) =
+    (is_restless r ≡ true) × MatchOption (best_dup old.knobs old.rows old.dups r) (true ≡ false) (λ d. (best.number ≡ d.number) × (best.place ≡ d.place)) × (new ≡ old)
+FindsAt old new r finds.Changed =
+    (is_restless r ≡ true) × (best_dup old.knobs old.rows old.dups r ≡ None) × (r.unchanged ≡ false)
+    × (new ≡ visited r.page (λ r. record r { unchanged = true; state = Private }) old)
+FindsAt old new r finds.Zero =
+    (is_restless r ≡ true) × (best_dup old.knobs old.rows old.dups r ≡ None) × (r.unchanged ≡ true) × (is_for_zero old.knobs r ≡ true) × (new ≡ old)
+FindsAt old new r (finds.Partner page) =
+    (is_restless r ≡ true) × (best_dup old.knobs old.rows old.dups r ≡ None) × (r.unchanged ≡ true) × (is_for_zero old.knobs r ≡ false)
+    × MatchOption (partner old.knobs old.rows r) (true ≡ false) (λ w. page ≡ w.page) × (new ≡ old)
+FindsAt old new r finds.Waits =
+    (is_restless r ≡ true) × (best_dup old.knobs old.rows old.dups r ≡ None) × (r.unchanged ≡ true) × (is_for_zero old.knobs r ≡ false)
+    × (partner old.knobs old.rows r ≡ None) × (new ≡ visited r.page (λ r. record r { state = Waiting }) old)
+
+-- what a visit of a page finds; a page without a row is found gone
+abbrev pub Finds : PagesView → PagesView → GuestPage → Find → Type 0
+Finds old new page found = MatchOption (row_at page old.rows) ((found ≡ finds.Gone) × (new ≡ old)) (λ r. FindsAt old new r found)
+
+-- the rows that a scan visits after the cursor
+abbrev pub rows_ahead : Option GuestPage → List Row → List Row
+rows_ahead cursor rows = filter (λ r. r.mergeable && after_cursor cursor r.page) rows
+
+-- what so many visits of these rows come to: the page of the last, or the end of the pass with so many
+abbrev pub ComesTo : List Row → ℕ → Ahead → Type 0
+ComesTo rows visits (At page) = (visits < length rows) × (option_map (λ r. r.page) (slice_get rows (visits - 1)) ≡ Some page)
+ComesTo rows visits (End made) = (made ≡ length rows) × (made ≤ visits)
+
+-- the rows that a scan visits after the cursor and before a page
+abbrev pub rows_between : Option GuestPage → GuestPage → List Row → List Row
+rows_between cursor page rows = filter (λ r. comes_before r.page page) (rows_ahead cursor rows)
+
+-- the page of the last of these rows, or the cursor where there is none
+abbrev pub last_page : Option GuestPage → List Row → Option GuestPage
+last_page cursor [] = cursor
+last_page cursor (r ∷ rows) = last_page (Some r.page) rows
+
+-- ---------------------------------------------------------------- how the pages are kept
+
+-- the frame that is kept for the dup with a number, at its place
+abbrev pub lodging : List DupRow → List ℕ → ℕ → Option ℕ
+lodging dups frames number = option_and_then (λ d. slice_get frames d.place) (dup_numbered number dups)
+
+-- where a row in a state lies: a merged one where its dup does, any other on the frame of its own, if it has one
+abbrev pub frame_seen : (ℕ → Option ℕ) → PageState → Option ℕ → Option ℕ
+frame_seen of_dup Private own = own
+frame_seen of_dup Waiting own = own
+frame_seen of_dup (Merged number) own = of_dup number
+frame_seen of_dup Zero own = None
+
+-- where the pages of the rows lie
+abbrev pub lodgings_of : (ℕ → Option ℕ) → List HeldRow → List Lodging
+lodgings_of of_dup held = map (λ h. record { page = h.row.page; frame = frame_seen of_dup h.row.state h.frame }) held
+
+-- the rows are in order, the items of each dup are the rows merged into it, the waiting pages are the rows that wait,
+-- and there is room for a frame at each place
+pub record AreKept (shape : Shape) (knobs : Knobs) (rows : List Row) (dups : DupsState) (frames : List ℕ) : Type 0 where
+  pub small : IsShape shape
+  pub order : InPageOrder rows
+  pub tied : AreTied rows dups.dups
+  pub places : dups.places ≡ frames_of shape
+  pub waits : AreWaiting knobs rows dups.waiting
+  pub room : length frames ≡ frames_of shape

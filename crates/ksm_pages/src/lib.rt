@@ -1,14 +1,24 @@
-//! The pages of the book: which rows there are, on which frame each lies, which dups have them as items, and which of
-//! them wait.
+//! The pages of the book: their order, in runs that know how many of their pages a scan visits, and the rows.
 #![tactic(auto)]
 
-mod blocks;
-mod entry;
-mod page_map;
+mod ahead;
+mod named;
+mod order;
 mod pages;
+mod restless;
 pub mod row;
 mod rows;
+mod run;
+mod runs;
 mod tally;
+mod visits;
 
-pub use pages::Pages;
-pub use rows::{FramedRow, Rows};
+pub use ahead::Ahead;
+pub use named::Named;
+pub use order::Order;
+pub use pages::{Find, Held, Pages};
+pub use restless::Restless;
+pub use row::Spot;
+pub use rows::Rows;
+pub use run::Run;
+pub use tally::Tally;

@@ -1,119 +1,210 @@
-//! The pages: the rows with their frames, the dups into which rows are merged, and the pages that wait. Each is kept in
-//! a form that is found fast, and each call here tells a change to all three.
+//! The pages: the rows, the dups into which rows are merged, each with its frame, the pages that wait, and the knobs. Each
+//! call tells a change to all of them.
+//!
+//! A page is named by a `Spot`, whose key is a guess that no contract reads; a change is told by the page.
 
-ghost use Rattle.std.specs.Prelude.{◌≡◌, ◌<◌, ◌⊎◌, ◌+◌, ◌≤◌, [], true, false, None, Some, Err, All, count_by, filter, find, length, map, insert, remove, slice_set, is_some, ◌==◌, ◌&&◌, option_map, IfOk, IfErr, IfNone, IfSome, OnOk, OnErr, OnSome, MatchOption, Option};
+ghost use Rattle.std.specs.Prelude.{◌≡◌, ◌<◌, ◌≤◌, ◌⊎◌, ⊤, not, [], true, false, None, Some, Err, All, count_by, filter, find, length, map, is_some, ◌==◌, ◌&&◌, option_map, option_and_then, MatchOption, IfOk, IfErr, IfSome, IsTrue, OnOk, OnErr, slice_get};
 ghost use Rattle.std.specs.List.{list_any};
 ghost use Rattle.ksm_base.specs.declared.fault.Fault.TheVariants.{Memory};
-ghost use Rattle.ksm_base.specs.declared.row.PageState.TheVariants.{Private, Merged, Zero};
-ghost use Rattle.ksm_base.specs.Apply.{is_before, let_go as as_let_go, unshared as as_unshared};
-ghost use Rattle.ksm_base.specs.Counting.{in_chain, leads_group, shared_count};
-ghost use Rattle.ksm_base.specs.Refusals.{is_of};
-ghost use Rattle.ksm_base.specs.Rows.{row_at, with_row, with_dup, without_page, change_row, change_rows, shared_state, merged_into, waiting_state, settled as as_settled, has_items, is_stale, dup_numbered};
+ghost use Rattle.ksm_base.specs.declared.row.PageState.TheVariants.{Merged, Private, Zero};
+ghost use Rattle.ksm_base.specs.Apply.{fresh_row, let_go as as_let_go, stored, unshared as as_unshared};
+ghost use Rattle.ksm_base.specs.Counting.{counters_from, mergeable_count, shared_count};
+ghost use Rattle.ksm_base.specs.Reading.{items_of, place_of};
+ghost use Rattle.ksm_base.specs.Rows.{InPageOrder, all_zero as has_only_zeroes, row_at, with_row, without_page, change_row, shared_state, private_state, merged_into, waiting_state, settled as as_settled, has_items, is_stale};
 ghost use Rattle.ksm_base.specs.State.{default_knobs, place_count};
 ghost use Rattle.ksm_base.specs.Values.{IsShape};
-ghost use Rattle.ksm_base.specs.Visit.{best_dup, partner as row_waiting, new_place as a_new_place};
+ghost use Rattle.ksm_base.specs.Visit.{after_cursor, new_place as a_new_place};
+ghost use Rattle.ksm_base.specs.declared.row.Row.{Row};
+ghost use Rattle.ksm_base.specs.Rows.{dup_numbered};
+ghost use Rattle.ksm_base.specs.State.{tree_of};
+ghost use Rattle.ksm_rmap.specs.Items.{AreAscending};
 ghost use Rattle.ksm_tree.specs.Bridge.{let_out};
+ghost use Rattle.ksm_tree.specs.Dups.{rows_of as dup_rows};
 ghost use Rattle.ksm_tree.specs.Waits.{IsStopped};
-ghost use Rattle.ksm_pages.specs.Linked.{HasRoom, IsVacant, MayPair, ReplacedBoth, item_of_next, next_dup, elsewhere};
-ghost use Rattle.ksm_pages.specs.Listed.{frame_in, rank, StandsAt, lodged};
-ghost use Rattle.ksm_base.specs.declared.row.DupRow.{DupRow as DupSeen};
-ghost use Rattle.ksm_pages.specs.Lodged.{frame_seen, frames_seen, lodging, lodging_of as lodging_kept, listed_seen, ItemsLieOn, LiesWith};
-ghost use Rattle.ksm_tree.specs.Dups.{rows_of};
+ghost use Rattle.ksm_pages.specs.Held.{held_at, held_of};
+ghost use Rattle.ksm_pages.specs.Left.{IsLeft};
+ghost use Rattle.ksm_pages.specs.declared.pages.Find.TheVariants.{Waits};
+ghost use Rattle.ksm_pages.specs.Paged.{frame_seen, lodging, AreListed, ComesTo, Finds, HasRoom, IsAlone, IsHeld, IsKnown, IsVacant, MayPair, elsewhere, is_restless, items_on, lies_on, nowhere, is_next, of_guest, last_page, on_its_own, paired as are_paired, rows_ahead, rows_between, seen, visited};
 
-use crate::row::{Wanted, is_waiting, let_go, same_page, tree_of};
-use crate::rows::{FramedRow, Rows};
-use ksm_base::{DupRow, Fault, GuestPage, Knobs, PageState, Row, Shape};
-use ksm_tree::{Choice, Dups, Waiting};
+use crate::ahead::Ahead;
+use crate::row::{Entry, Kind, Spot};
+use crate::rows::Rows;
+use ksm_base::{Counters, DupRow, Fault, GuestPage, Knobs, PageBytes, PageState, Shape};
+use ksm_tree::{Best, Choice, Dups};
 use std::alloc::Global;
 use std::marker::Model;
 
-/// The rows with their frames, the dups with their items, the pages that wait, and the knobs, which say what tree a row
-/// is in.
+/// Where a page lies, and where it is at home.
+#[derive(Clone, Copy, Debug)]
+pub struct Held {
+    pub spot: Spot,
+    pub home: u32,
+    /// Whether the page is merged or Zero.
+    pub shared: bool,
+    pub frame: Option<u32>,
+}
+
+/// What a visit finds.
+#[derive(Clone, Copy, Debug)]
+pub enum Find {
+    /// No row that a visit may change.
+    Gone,
+    /// A dup that the page is to join.
+    Dup(Best),
+    /// The page was not unchanged. It is from now on.
+    Changed,
+    /// The page is to become Zero.
+    Zero,
+    /// The page waits, from now on if it did not yet.
+    Waits,
+    /// The page is to make a dup with this one, which waits.
+    Partner(GuestPage),
+}
+
+/// The rows, the dups with their frames, the pages that wait, and the knobs, which say what tree a row is in.
 ///
-/// The frame of a dup is kept once, at the dup's place, and no entry of a row merged into it is asked for a frame: to
-/// move a dup writes one number, however many pages are merged into it, and to say where a merged page lies costs a
-/// hash more.
+/// The frame of a dup is kept once, at the dup's place: to move a dup writes one number, however many pages are merged
+/// into it.
 #[derive(Drop)]
 pub struct Pages {
     shape: Shape,
     rows: Rows,
     dups: Dups,
-    lodgings: Vec<Option<u32>>,
-    waiting: Waiting,
+    frames: Vec<u32>,
     knobs: Knobs,
 }
 
 impl Model for Pages {
-    ghost use Rattle.ksm_pages.specs.Linked.{PagesView};
-    ghost use Rattle.ksm_pages.specs.Lodged.{AreLodged, listed_seen};
-    ghost use Rattle.ksm_tree.specs.Dups.{rows_of};
+    ghost use Rattle.ksm_pages.specs.Held.{rows_of};
+    ghost use Rattle.ksm_pages.specs.Paged.{AreKept, PagesValue, lodging, lodgings_of};
+    ghost use Rattle.ksm_tree.specs.Dups.{rows_of as dup_rows};
 
-    ghost Value = { PagesView };
+    ghost Value = { PagesValue };
 
     ghost view = { λ p. record {
       shape = p.shape;
-      listed = listed_seen (rows_of p.dups.dups) p.lodgings.items p.rows;
-      dups = rows_of p.dups.dups;
+      rows = rows_of p.rows.held;
+      lodgings = lodgings_of (lodging (dup_rows p.dups.dups) p.frames.items) p.rows.held;
+      dups = dup_rows p.dups.dups;
       knobs = p.knobs;
       next = p.dups.next;
+      restless = p.rows.restless;
     } };
 
-    ghost invariant = { λ p. AreLodged p.shape p.knobs p.rows p.dups p.waiting p.lodgings.items };
+    ghost invariant = { λ p. AreKept p.shape p.knobs (rows_of p.rows.held) p.dups p.frames.items };
 }
 
-// Takes the page of a row that waits out of the waiting pages. Inlined for speed: most rows do not wait, and then
-// nothing is called.
+/// The tree of a row with a home.
 #[inline(always)]
-fn stop_waiting(waiting: &mut Waiting, knobs: &Knobs, row: &Row)
-    ensures { IsStopped knobs.now row.now waiting.old waiting.new }
+fn tree_in(knobs: &Knobs, home: u32) -> u32
+    ensures { (row : Row) → row.home ≡ home → result ≡ tree_of knobs.now row }
 {
-    if is_waiting(row.state) {
-        waiting.remove(tree_of(knobs, row), &row.bytes);
+    if knobs.merge_across_nodes == 1 {
+        0
+    } else {
+        home
     }
 }
 
-// The frame kept at the place of a dup, if there is one.
-fn lodging_at(lodgings: &[Option<u32>], place: Option<u32>) -> Option<u32>
-    ensures { (d : Option DupSeen) → option_map (λ d. d.place) d ≡ place → result ≡ lodging_kept lodgings.now d }
+/// The place of a dup. The guess is looked at first.
+#[inline(always)]
+fn place_of(dups: &Dups, guess: u32, number: u64) -> Option<u32>
+    ensures { result ≡ option_map (λ d. d.place) (dup_numbered number (dup_rows dups.now.dups)) }
 {
-    let place = place?;
-    match lodgings.get(place as usize) {
-        Some(frame) => *frame,
-        None => None,
+    match dups.at(guess) {
+        Some(found) if found == number => Some(guess),
+        _ => dups.place(number),
     }
 }
 
-// The frame kept for a dup.
-fn lodging_of(dups: &Dups, lodgings: &[Option<u32>], number: u64) -> Option<u32>
-    ensures { result ≡ lodging (rows_of dups.now.dups) lodgings.now number }
+/// The frame that is kept at a place, if there is one.
+fn frame_at(frames: &[u32], place: Option<u32>) -> Option<u32>
+    ensures { result ≡ option_and_then (slice_get frames.now) place }
 {
-    lodging_at(lodgings, dups.place(number))
+    frames.get(place? as usize).copied()
 }
 
-// Takes the page of a row out of its dup, if it is merged. Gives the frame where the row lay: that of the dup, else the
-// one that its entry had.
-fn left_by(dups: &mut Dups, lodgings: &[Option<u32>], row: &Row, frame: Option<u32>) -> Option<u32>
-    ensures dups { dups.new ≡ record dups.old { dups = let_out row.now.state row.now.page dups.old.dups } }
-    ensures frame { result ≡ frame_seen (lodging (rows_of dups.old.dups) lodgings.now) row.now.state frame }
+/// The frame on which the page of a row lies, if it does on one.
+#[inline(always)]
+fn frame_of(dups: &Dups, frames: &[u32], entry: &Entry, pass: u64) -> Option<u32>
+    ensures { result ≡ frame_seen (lodging (dup_rows dups.now.dups) frames.now) (held_of pass entry.now).row.state (held_of pass entry.now).frame }
 {
-    let PageState::Merged(number) = row.state else {
-        return frame;
-    };
-    let place = dups.leave(number, row.page);
-    lodging_at(lodgings, place)
+    match entry.kind {
+        Kind::Own => Some(entry.at),
+        Kind::Merged => frame_at(frames, place_of(dups, entry.at, entry.number)),
+        Kind::Zero => None,
+    }
 }
 
-// The row of an entry with the frame where it lies: that of its dup if it is merged, else the entry's own.
-fn seen(dups: &Dups, lodgings: &[Option<u32>], held: FramedRow) -> FramedRow
-    ensures row { result.row ≡ held.row }
-    ensures frame { result.frame ≡ frame_seen (lodging (rows_of dups.now.dups) lodgings.now) held.row.state held.frame }
+/// Takes the page of a row out of its dup, if it is merged, and out of the waiting pages, if it waits. Gives the frame
+/// on which it lay, if it did on one.
+fn left_by(dups: &mut Dups, frames: &[u32], knobs: &Knobs, entry: &Entry, pass: u64) -> Option<u32>
+    ensures { IsLeft knobs.now frames.now dups.old dups.new result (held_of pass entry.now) }
 {
-    let PageState::Merged(number) = held.row.state else {
-        return held;
+    match entry.state(pass) {
+        PageState::Merged(number) => {
+            let place = dups.leave_at(entry.at, number, entry.page);
+            frame_at(frames, place)
+        }
+        PageState::Waiting => {
+            dups.stop_waiting(entry.group, tree_in(knobs, entry.home), &entry.bytes);
+            Some(entry.at)
+        }
+        PageState::Private => Some(entry.at),
+        PageState::Zero => None,
+    }
+}
+
+/// The same for the page of a spot, if it has a row.
+#[inline(always)]
+fn leave(dups: &mut Dups, frames: &[u32], knobs: &Knobs, rows: &Rows, spot: Spot) -> Option<u32>
+    ensures { MatchOption (held_at spot.page rows.now.held) ⊤ (IsLeft knobs.now frames.now dups.old dups.new result) }
+{
+    let entry = rows.find(spot)?;
+    left_by(dups, frames, knobs, entry, rows.pass())
+}
+
+/// Whether each word is zero.
+#[inline(always)]
+fn all_zero(bytes: &PageBytes) -> bool
+    ensures { result ≡ has_only_zeroes bytes.now }
+{
+    bytes.iter().all(|word| *word == 0)
+}
+
+/// Whether a page with these bytes is to become Zero.
+#[inline(always)]
+fn is_for_zero(knobs: &Knobs, bytes: &PageBytes) -> bool
+    ensures { result ≡ (knobs.now.use_zero_pages == 1 && has_only_zeroes bytes.now) }
+{
+    knobs.use_zero_pages == 1 && all_zero(bytes)
+}
+
+/// Remembers the group of a row, where the guess was another.
+#[inline(always)]
+fn remember(rows: &mut Rows, spot: Spot, guess: u32, group: u32)
+    ensures { rows.new ≡ rows.old }
+{
+    if group != guess {
+        rows.remember(spot, group);
+    }
+}
+
+/// The cursor behind which the rows of a guest begin, or go on.
+fn start_of(guest: Option<u16>, cursor: Option<GuestPage>) -> Option<GuestPage>
+    ensures same { (row : Row) → of_guest guest row ≡ true → after_cursor result row.page ≡ after_cursor cursor row.page }
+    ensures begun { (page : GuestPage) → page.page ≤ 4294967295 → after_cursor result page ≡ true → IfSome guest (λ g. g ≤ page.guest) }
+{
+    let before = match guest {
+        Some(guest) if guest > 0 => GuestPage {
+            guest: guest - 1,
+            page: u32::MAX,
+        },
+        _ => return cursor,
     };
-    FramedRow {
-        frame: lodging_of(dups, lodgings, number),
-        ..held
+    match cursor {
+        Some(page) if before < page => cursor,
+        _ => Some(before),
     }
 }
 
@@ -121,7 +212,7 @@ impl Pages {
     /// No rows and no dups, with room for a dup at each place. Refused for memory alone.
     pub fn open(alloc: Global, shape: Shape) -> Result<Pages, Fault>
         requires { IsShape shape }
-        ensures opened { IfOk result (λ p. p ≡ record { shape = shape; listed = record { rows = []; frames = [] }; dups = []; knobs = default_knobs; next = 0 }) }
+        ensures opened { IfOk result (λ p. seen p ≡ record { shape = shape; rows = []; frame = nowhere; dups = []; knobs = default_knobs; next = 0; restless = record { pages = []; known = true } }) }
         ensures fault { IfErr result (λ fault. fault ≡ Memory) }
     {
         let places = shape.frames();
@@ -129,10 +220,21 @@ impl Pages {
             shape,
             rows: Rows::new(alloc),
             dups: Dups::open(alloc, places)?,
-            lodgings: vec![in alloc; None; places as usize]?,
-            waiting: Waiting::new(alloc),
+            frames: vec![in alloc; 0; places as usize]?,
             knobs: Knobs::DEFAULT,
         })
+    }
+
+    /// A law: the rows are in the order of their pages, and a page without a row lies on no frame.
+    pub fn lie_in_order(&self)
+        ensures rise { InPageOrder self.now.rows }
+        ensures absent { (page : GuestPage) → row_at page self.now.rows ≡ None → (seen self.now).frame page ≡ None }
+        ensures listed { AreListed self.now.rows self.now.restless }
+        ensures ascending { AreAscending self.now.restless.pages }
+    {
+        // Called for their contracts alone.
+        self.rows.are_lawful();
+        let _ = self.rows.restless_len();
     }
 
     pub fn shape(&self) -> Shape
@@ -149,55 +251,119 @@ impl Pages {
 
     /// Sets the knobs; `merge_across_nodes` changes only where no row waits.
     pub fn set_knobs(&mut self, knobs: Knobs)
-        requires { (knobs.merge_across_nodes ≡ self.old.knobs.merge_across_nodes) ⊎ All (λ r. waiting_state r.state ≡ false) self.old.listed.rows }
-        ensures { self.new ≡ record self.old { knobs = knobs } }
+        requires { (knobs.merge_across_nodes ≡ self.old.knobs.merge_across_nodes) ⊎ All (λ r. waiting_state r.state ≡ false) self.old.rows }
+        ensures { seen self.new ≡ record (seen self.old) { knobs = knobs } }
     {
         self.dups.set_limit(knobs.max_page_sharing);
         self.knobs = knobs;
     }
 
-    /// The rows.
-    pub fn rows(&self) -> &Rows
-        ensures { result.now.rows ≡ self.now.listed.rows }
+    /// Whether a page has a row.
+    pub fn has(&self, page: GuestPage) -> bool
+        ensures { result ≡ is_some (row_at page self.now.rows) }
     {
-        &self.rows
+        self.rows.spot(page).is_some()
     }
 
-    /// The row of a page, with its frame.
-    pub fn framed_row(&self, page: GuestPage) -> Option<FramedRow>
-        ensures known { is_some (row_at page self.now.listed.rows) ≡ is_some result }
-        ensures at { MatchOption result (row_at page self.now.listed.rows ≡ None) (λ held. StandsAt self.now.listed page held.row held.frame) }
+    /// Where a page lies, and where it is at home; none where it has no row.
+    pub fn held(&self, page: GuestPage) -> Option<Held>
+        ensures { MatchOption result (row_at page self.now.rows ≡ None) (IsHeld (seen self.now) page) }
     {
-        let held = self.rows.framed_row(page)?;
-        Some(seen(&self.dups, &self.lodgings, held))
+        let spot = self.rows.spot(page)?;
+        self.told(spot)
     }
 
-    /// The number of the dup that a row joins.
-    pub fn best(&self, row: &Row) -> Option<u64>
-        ensures { result ≡ option_map (λ d. d.number) (best_dup self.now.knobs self.now.listed.rows self.now.dups row.now) }
+    /// The bytes of a page that has a row.
+    pub fn bytes(&self, spot: Spot) -> PageBytes
+        requires { IsKnown spot.page self.now.rows }
+        ensures { option_map (λ r. r.bytes) (row_at spot.page self.now.rows) ≡ Some result }
     {
-        let tree = tree_of(&self.knobs, row);
-        let limit = self.knobs.max_page_sharing;
-        self.dups.best(tree, &row.bytes, limit)
-    }
-
-    /// Where a new dup goes.
-    pub fn new_place(&self) -> u32
-        requires room { a_new_place (place_count self.now.shape) self.now.listed.rows self.now.dups < place_count self.now.shape }
-        ensures { result ≡ a_new_place (place_count self.now.shape) self.now.listed.rows self.now.dups }
-    {
-        match self.dups.choose_place() {
-            Choice::Empty(place) => place,
-            Choice::Stale(place) => place,
+        match self.rows.find(spot) {
+            Some(entry) => entry.bytes,
+            None => unreachable!(),
         }
     }
 
-    /// The least place of a stale dup.
-    pub fn stale_place(&self) -> Option<u32>
-        ensures place { result ≡ option_map (λ d. d.place) (find (is_stale self.now.listed.rows) self.now.dups) }
-        ensures vacant { IfSome result (λ place. IsVacant place self.now.listed.rows self.now.dups) }
+    /// The place of the dup into which a page is merged; none where it is not merged.
+    pub fn ticket(&self, page: GuestPage) -> Option<u32>
+        ensures { result ≡ option_and_then (λ r. place_of r.state self.now.dups) (row_at page self.now.rows) }
     {
-        self.dups.stale()
+        let spot = self.rows.spot(page)?;
+        let entry = self.rows.find(spot)?;
+        match entry.kind {
+            Kind::Merged => place_of(&self.dups, entry.at, entry.number),
+            Kind::Own => None,
+            Kind::Zero => None,
+        }
+    }
+
+    /// The pages merged into the dup at a place, ascending; none where no dup with items stands there.
+    pub fn items_at(&self, place: u32) -> Option<&[GuestPage]>
+        ensures { MatchOption result (find (λ d. d.place == place && has_items self.now.rows d) self.now.dups ≡ None) (λ items. option_map (items_of self.now.rows) (find (λ d. d.place == place && has_items self.now.rows d) self.now.dups) ≡ Some items.now) }
+    {
+        // Called for its contract alone: one dup stands at a place.
+        let _ = self.dups.at(place);
+        match self.dups.live_at(place) {
+            Some(_) => Some(self.dups.items_at(place)),
+            None => None,
+        }
+    }
+
+    /// The first page after the cursor, of the guest where one is given: where it lies, and where it is at home.
+    pub fn next(&self, guest: Option<u16>, cursor: Option<GuestPage>) -> Option<Held>
+        ensures { MatchOption result (find (is_next guest cursor) self.now.rows ≡ None) (λ held. (IsHeld (seen self.now) held.spot.page held) × (option_map (λ r. r.page) (find (is_next guest cursor) self.now.rows) ≡ Some held.spot.page)) }
+    {
+        let spot = self.rows.after(start_of(guest, cursor))?;
+        match guest {
+            Some(guest) if spot.page.guest != guest => None,
+            _ => self.told(spot),
+        }
+    }
+
+    /// What is counted, where so many passes have ended, and each row that waits, is merged or is Zero is mergeable.
+    pub fn counters(&self, passes: u64) -> Counters
+        requires { All (λ r. private_state r.state ≡ false → r.mergeable ≡ true) self.now.rows }
+        ensures { result ≡ counters_from self.now.rows self.now.dups passes }
+    {
+        let tally = self.rows.tally();
+        let shared = self.dups.count_shared();
+        let volatile = self
+            .rows
+            .mergeable()
+            .saturating_sub(tally.merged)
+            .saturating_sub(tally.waiting)
+            .saturating_sub(tally.zero);
+        Counters {
+            shared: shared as u64,
+            sharing: tally.merged.saturating_sub(shared) as u64,
+            unshared: tally.waiting as u64,
+            volatile: volatile as u64,
+            zero: tally.zero as u64,
+            chains: self.dups.count_chains() as u64,
+            dups: self.dups.count_grouped() as u64,
+            full_scans: passes,
+        }
+    }
+
+    /// How many dups have an item.
+    pub fn count_shared(&self) -> usize
+        ensures { result ≡ shared_count self.now.rows self.now.dups }
+    {
+        self.dups.count_shared()
+    }
+
+    /// How many pages a scan visits.
+    pub fn mergeable(&self) -> usize
+        ensures { result ≡ mergeable_count self.now.rows }
+    {
+        self.rows.mergeable()
+    }
+
+    /// The dup with items at a place.
+    pub fn live_at(&self, place: u32) -> Option<DupRow>
+        ensures { result ≡ find (λ d. d.place == place && has_items self.now.rows d) self.now.dups }
+    {
+        self.dups.live_at(place)
     }
 
     /// Whether a dup stands at the place.
@@ -207,299 +373,389 @@ impl Pages {
         self.dups.at(place).is_some()
     }
 
-    /// The dup with items at a place.
-    pub fn live_at(&self, place: u32) -> Option<DupRow>
-        ensures { result ≡ find (λ d. d.place == place && has_items self.now.listed.rows d) self.now.dups }
+    /// The least place of a stale dup.
+    pub fn stale_place(&self) -> Option<u32>
+        ensures { result ≡ option_map (λ d. d.place) (find (is_stale self.now.rows) self.now.dups) }
     {
-        self.dups.live_at(place)
+        self.dups.stale()
     }
 
-    /// The dup with a number.
-    pub fn numbered(&self, number: u64) -> Option<DupRow>
-        ensures { result ≡ dup_numbered number self.now.dups }
+    /// Where a new dup goes.
+    pub fn new_place(&self) -> u32
+        requires room { a_new_place (place_count self.now.shape) self.now.rows self.now.dups < place_count self.now.shape }
+        ensures { result ≡ a_new_place (place_count self.now.shape) self.now.rows self.now.dups }
     {
-        self.dups.row(number)
-    }
-
-    /// The frame on which the pages merged into the dup with a number lie.
-    pub fn dup_frame(&self, number: u64) -> Option<u32>
-        ensures { ItemsLieOn self.now.listed number result }
-    {
-        lodging_of(&self.dups, &self.lodgings, number)
-    }
-
-    /// The pages merged into a dup, ascending. Refused for memory alone.
-    pub fn items(&self, alloc: Global, number: u64) -> Result<Vec<GuestPage>, Fault>
-        requires { is_some (dup_numbered number self.now.dups) ≡ true }
-        ensures items { IfOk result (λ pages. pages.items ≡ map (λ r. r.page) (filter (λ r. merged_into number r.state) self.now.listed.rows)) }
-        ensures fault { IfErr result (λ fault. fault ≡ Memory) }
-    {
-        let mut pages = Vec::new(alloc);
-        for i in 0..self.dups.items(number) {
-            pages.push(self.dups.item(number, i))?;
+        match self.dups.choose_place() {
+            Choice::Empty(place) => place,
+            Choice::Stale(place) => place,
         }
-        Ok(pages)
     }
 
-    /// How many dups have an item.
-    pub fn count_shared(&self) -> usize
-        ensures { result ≡ shared_count self.now.listed.rows self.now.dups }
+    /// The frame on which the items of the dup at a place lie.
+    pub fn dup_frame(&self, place: u32) -> u32
+        ensures { All (λ d. d.place ≡ place → All (λ r. merged_into d.number r.state ≡ true → (seen self.now).frame r.page ≡ Some result) self.now.rows) self.now.dups }
     {
-        self.dups.count_shared()
+        // Called for its contract alone: a dup is told by its number, and by its place.
+        let _ = self.dups.at(place);
+        frame_at(&self.frames, Some(place)).unwrap_or(0)
     }
 
-    /// How many dups are stale.
-    pub fn count_stale(&self) -> usize
-        ensures { result ≡ count_by (is_stale self.now.listed.rows) self.now.dups }
+    /// The items of the dup at a place go to another frame.
+    pub fn set_dup_frame(&mut self, place: u32, frame: u32)
+        requires { list_any (λ d. d.place == place) self.old.dups ≡ true }
+        ensures { All (λ d. d.place ≡ place → seen self.new ≡ record (seen self.old) { frame = items_on d.number frame self.old.rows (seen self.old).frame }) self.old.dups }
     {
-        self.dups.count_stale()
+        // Called for its contract alone: one dup stands at a place, and has a frame there.
+        let _ = self.dups.at(place);
+        self.frames[place as usize] = frame;
     }
 
-    /// How many dups are in a group of two or more.
-    pub fn count_dups(&self) -> usize
-        ensures { result ≡ count_by (in_chain self.now.dups) self.now.dups }
-    {
-        self.dups.count_grouped()
-    }
-
-    /// How many groups have two dups or more.
-    pub fn count_chains(&self) -> usize
-        ensures { result ≡ count_by (λ d. in_chain self.now.dups d && leads_group self.now.dups d) self.now.dups }
-    {
-        self.dups.count_chains()
-    }
-
-    /// Adds the row of a page that has none, with its frame. Refused for memory alone, it changes nothing.
-    pub fn insert(&mut self, row: Row, frame: Option<u32>) -> Result<(), Fault>
-        requires absent { row_at row.page self.old.listed.rows ≡ None }
-        requires alone { row.state ≡ Private }
-        ensures rows { OnOk result (self.new.listed.rows ≡ insert self.old.listed.rows (rank row.page self.old.listed.rows) row) }
-        ensures frames { OnOk result (self.new.listed.frames ≡ insert self.old.listed.frames (rank row.page self.old.listed.rows) frame) }
-        ensures added { OnOk result (self.new.listed.rows ≡ with_row row self.old.listed.rows) }
-        ensures place { OnOk result (rank row.page self.new.listed.rows ≡ rank row.page self.old.listed.rows) }
-        ensures within { rank row.page self.old.listed.rows ≤ length self.old.listed.rows }
-        ensures known { OnOk result (is_some (row_at row.page self.new.listed.rows) ≡ true) }
-        ensures paired { length self.old.listed.frames ≡ length self.old.listed.rows }
-        ensures rest { self.new ≡ record self.old { listed = self.new.listed } }
+    /// Adds a page that has no row, at home on a node; which frame is its own is told next, by `resettle`. Refused for
+    /// memory alone, it changes nothing.
+    pub fn insert(&mut self, page: GuestPage, node: u32, bytes: &PageBytes) -> Result<Spot, Fault>
+        requires { row_at page self.old.rows ≡ None }
+        ensures spot { IfOk result (λ spot. spot.page ≡ page) }
+        ensures added { OnOk result (seen self.new ≡ record (seen self.old) { rows = with_row (fresh_row page node bytes.now) self.old.rows; frame = (seen self.new).frame; restless = self.new.restless }) }
+        ensures others { OnOk result ((seen self.new).frame ≡ lies_on page ((seen self.new).frame page) (seen self.old).frame) }
+        ensures nowhere { (seen self.old).frame page ≡ None }
         ensures refused { OnErr result (self.new ≡ self.old) }
         ensures fault { OnErr result (result ≡ Err Memory) }
     {
-        self.rows.insert(row, frame)
+        self.rows.insert(page, node, *bytes, 0)
     }
 
-    /// Puts a Private row and its frame in the stead of the row that its page has. A page that was merged leaves its
-    /// dup. Gives the frame where the old row lay.
-    pub fn replace(&mut self, old: &Row, row: &Row, frame: Option<u32>) -> Option<u32>
-        requires known { row_at row.now.page self.old.listed.rows ≡ Some old.now }
-        requires alone { row.now.state ≡ Private }
-        ensures stood { StandsAt self.old.listed row.now.page old.now result }
-        ensures rows { self.new.listed.rows ≡ slice_set self.old.listed.rows (rank row.now.page self.old.listed.rows) row.now }
-        ensures frames { self.new.listed.frames ≡ slice_set self.old.listed.frames (rank row.now.page self.old.listed.rows) frame }
-        ensures changed { self.new.listed.rows ≡ change_row row.now.page (λ _. row.now) self.old.listed.rows }
-        ensures rest { self.new ≡ record self.old { listed = self.new.listed } }
+    /// The page gets a frame of its own in the stead of what it had: a merged one leaves its dup, one that waits does so
+    /// no more. Gives the frame where it lay, if it had one.
+    pub fn resettle(&mut self, spot: Spot, frame: u32) -> Option<u32>
+        requires { IsKnown spot.page self.old.rows }
+        ensures left { result ≡ (seen self.old).frame spot.page }
+        ensures settled { seen self.new ≡ record (seen self.old) { rows = change_row spot.page on_its_own self.old.rows; frame = lies_on spot.page (Some frame) (seen self.old).frame; restless = self.new.restless } }
     {
-        let kept = self.rows.replace(old, row, frame);
-        stop_waiting(&mut self.waiting, &self.knobs, old);
-        left_by(&mut self.dups, &self.lodgings, old, kept)
+        let left = leave(&mut self.dups, &self.frames, &self.knobs, &self.rows, spot);
+        self.rows.settle_on(spot, frame);
+        left
     }
 
-    /// Puts a Private row in the stead of the row that its page has, on the frame where this lies. A page that was
-    /// merged leaves its dup. Gives that frame.
-    pub fn set_row(&mut self, old: &Row, row: &Row) -> Option<u32>
-        requires known { row_at row.now.page self.old.listed.rows ≡ Some old.now }
-        requires alone { row.now.state ≡ Private }
-        ensures stood { StandsAt self.old.listed row.now.page old.now result }
-        ensures rows { self.new.listed.rows ≡ slice_set self.old.listed.rows (rank row.now.page self.old.listed.rows) row.now }
-        ensures frames { self.new.listed.frames ≡ self.old.listed.frames }
-        ensures changed { self.new.listed.rows ≡ change_row row.now.page (λ _. row.now) self.old.listed.rows }
-        ensures rest { self.new ≡ record self.old { listed = self.new.listed } }
+    /// The page goes, and leaves its dup if it was merged. Gives the frame where it lay, if it had one.
+    pub fn remove(&mut self, spot: Spot) -> Option<u32>
+        requires { IsKnown spot.page self.old.rows }
+        ensures left { result ≡ (seen self.old).frame spot.page }
+        ensures gone { seen self.new ≡ record (seen self.old) { rows = without_page spot.page self.old.rows; frame = lies_on spot.page None (seen self.old).frame; restless = self.new.restless } }
     {
-        if let PageState::Merged(number) = old.state {
-            let frame = lodging_of(&self.dups, &self.lodgings, number);
-            return self.replace(old, row, frame);
-        }
-        let frame = self.rows.set_row(old, row);
-        stop_waiting(&mut self.waiting, &self.knobs, old);
-        frame
+        let left = leave(&mut self.dups, &self.frames, &self.knobs, &self.rows, spot);
+        self.rows.remove(spot);
+        left
     }
 
-    /// Takes away the row of a page that has one. A page that was merged leaves its dup. Gives the row and the frame
-    /// where it lay.
-    pub fn remove(&mut self, page: GuestPage) -> Option<FramedRow>
-        requires { is_some (row_at page self.old.listed.rows) ≡ true }
-        ensures stood { MatchOption result ⊥ (λ held. StandsAt self.old.listed page held.row held.frame) }
-        ensures rows { self.new.listed.rows ≡ remove self.old.listed.rows (rank page self.old.listed.rows) }
-        ensures frames { self.new.listed.frames ≡ remove self.old.listed.frames (rank page self.old.listed.rows) }
-        ensures gone { self.new.listed.rows ≡ without_page page self.old.listed.rows }
-        ensures rest { self.new ≡ record self.old { listed = self.new.listed } }
+    /// A page with a frame of its own gets these bytes.
+    pub fn store(&mut self, spot: Spot, bytes: &PageBytes)
+        requires { IsAlone spot.page self.old.rows }
+        ensures { seen self.new ≡ record (seen self.old) { rows = change_row spot.page (stored bytes.now) self.old.rows; restless = self.new.restless } }
     {
-        let Some(held) = self.rows.remove(page) else {
-            return None;
+        let Some(entry) = self.rows.find(spot) else {
+            return;
         };
-        stop_waiting(&mut self.waiting, &self.knobs, &held.row);
-        let frame = left_by(&mut self.dups, &self.lodgings, &held.row, held.frame);
-        Some(FramedRow { frame, ..held })
-    }
-
-    /// Gives the page that waits with the row's tree and bytes; where there is none, the row waits from now on, on its
-    /// frame. Only that may be refused for memory, and then nothing changes.
-    pub fn meet(&mut self, row: &Row) -> Result<Option<GuestPage>, Fault>
-        requires row_is { row_at row.now.page self.old.listed.rows ≡ Some row.now }
-        requires alone { shared_state row.now.state ≡ false }
-        ensures partner { IfOk result (λ other. other ≡ option_map (λ r. r.page) (row_waiting self.old.knobs self.old.listed.rows row.now)) }
-        ensures kept { IfOk result (λ other. OnSome other (self.new ≡ self.old)) }
-        ensures stood { IfOk result (λ other. IfNone other (StandsAt self.old.listed row.now.page row.now (frame_in self.old.listed.frames (rank row.now.page self.old.listed.rows)))) }
-        ensures rows { IfOk result (λ other. IfNone other (self.new.listed.rows ≡ slice_set self.old.listed.rows (rank row.now.page self.old.listed.rows) (record row.now { state = PageState.Waiting }))) }
-        ensures frames { self.new.listed.frames ≡ self.old.listed.frames }
-        ensures changed { IfOk result (λ other. IfNone other (self.new.listed.rows ≡ change_row row.now.page (λ _. record row.now { state = PageState.Waiting }) self.old.listed.rows)) }
-        ensures rest { self.new ≡ record self.old { listed = self.new.listed } }
-        ensures lone { OnErr result (row_waiting self.old.knobs self.old.listed.rows row.now ≡ None) }
-        ensures refused { OnErr result (self.new ≡ self.old) }
-        ensures fault { OnErr result (result ≡ Err Memory) }
-    {
-        let tree = tree_of(&self.knobs, row);
-        let page = self.waiting.find_or_add(tree, &row.bytes, row.page)?;
-        if same_page(page, row.page) {
-            self.rows.set_state(row, PageState::Waiting);
-            return Ok(None);
+        let is_same = entry.bytes == *bytes;
+        left_by(
+            &mut self.dups,
+            &self.frames,
+            &self.knobs,
+            entry,
+            self.rows.pass(),
+        );
+        self.rows.stop_waiting(spot);
+        if !is_same {
+            self.rows.write(spot, bytes);
         }
-        Ok(Some(page))
     }
 
-    /// A row becomes Zero, and has no frame any more. Gives the frame where it lay.
-    pub fn become_zero(&mut self, row: &Row) -> Option<u32>
-        requires row_is { row_at row.now.page self.old.listed.rows ≡ Some row.now }
-        requires alone { shared_state row.now.state ≡ false }
-        ensures stood { StandsAt self.old.listed row.now.page row.now result }
-        ensures rows { self.new.listed.rows ≡ slice_set self.old.listed.rows (rank row.now.page self.old.listed.rows) (record row.now { state = Zero }) }
-        ensures frames { self.new.listed.frames ≡ slice_set self.old.listed.frames (rank row.now.page self.old.listed.rows) None }
-        ensures changed { self.new.listed.rows ≡ change_row row.now.page (λ _. record row.now { state = Zero }) self.old.listed.rows }
-        ensures rest { self.new ≡ record self.old { listed = self.new.listed } }
+    /// A Private page is at home on another node from now on.
+    pub fn set_home(&mut self, spot: Spot, node: u32)
+        requires { MatchOption (row_at spot.page self.old.rows) (true ≡ false) (λ r. private_state r.state ≡ true) }
+        ensures { seen self.new ≡ record (seen self.old) { rows = change_row spot.page (λ r. record r { home = node }) self.old.rows; restless = self.new.restless } }
     {
-        stop_waiting(&mut self.waiting, &self.knobs, row);
-        let zero = Row {
-            state: PageState::Zero,
-            ..*row
-        };
-        self.rows.replace(row, &zero, None)
+        self.rows.set_home(spot, node);
     }
 
-    /// A row with a frame of its own becomes an item of a dup, on the dup's frame. Gives that frame, and the one that
-    /// the row leaves. Refused for memory alone, it changes nothing.
-    pub fn join(&mut self, row: &Row, number: u64) -> Result<(Option<u32>, Option<u32>), Fault>
-        requires row_is { row_at row.now.page self.old.listed.rows ≡ Some row.now }
-        requires alone { shared_state row.now.state ≡ false }
-        requires room { HasRoom self.old.listed.rows self.old.dups number }
-        ensures shared { IfOk result (λ frames. ItemsLieOn self.old.listed number frames.0) }
-        ensures stood { IfOk result (λ frames. StandsAt self.old.listed row.now.page row.now frames.1) }
-        ensures rows { OnOk result (self.new.listed.rows ≡ slice_set self.old.listed.rows (rank row.now.page self.old.listed.rows) (record row.now { state = Merged number })) }
-        ensures frames { OnOk result (LiesWith self.old.listed number row.now.page self.new.listed.frames) }
-        ensures changed { OnOk result (self.new.listed.rows ≡ change_row row.now.page (λ _. record row.now { state = Merged number }) self.old.listed.rows) }
-        ensures rest { self.new ≡ record self.old { listed = self.new.listed } }
-        ensures refused { OnErr result (self.new ≡ self.old) }
-        ensures fault { OnErr result (result ≡ Err Memory) }
+    /// The page is not unchanged from now on.
+    pub fn forget_unchanged(&mut self, spot: Spot)
+        requires { IsKnown spot.page self.old.rows }
+        ensures { seen self.new ≡ record (seen self.old) { rows = change_row spot.page (λ r. record r { unchanged = false }) self.old.rows; restless = self.new.restless } }
     {
-        let place = self.dups.join(number, row.page)?;
-        stop_waiting(&mut self.waiting, &self.knobs, row);
-        let lone = self.rows.set_state(row, PageState::Merged(number));
-        Ok((lodging_at(&self.lodgings, Some(place)), lone))
+        self.rows.set_unchanged(spot, false);
     }
 
-    /// Two rows with frames of their own become the items of a new dup at a place, on the frame of the first. A stale
-    /// dup at the place goes. Gives the frames on which they were. Refused for memory alone, it changes nothing.
-    pub fn pair(
-        &mut self,
-        place: u32,
-        first: &Row,
-        second: &Row,
-    ) -> Result<(Option<u32>, Option<u32>), Fault>
-        requires { MayPair self.old place first.now second.now }
-        ensures first { IfOk result (λ frames. StandsAt self.old.listed first.now.page first.now frames.0) }
-        ensures second { IfOk result (λ frames. StandsAt self.old.listed second.now.page second.now frames.1) }
-        ensures rows { IfOk result (λ frames. ReplacedBoth self.old.listed self.new.listed (item_of_next self.old first.now) (item_of_next self.old second.now) frames.0) }
-        ensures changed { OnOk result (self.new.listed.rows ≡ change_row second.now.page (λ _. item_of_next self.old second.now) (change_row first.now.page (λ _. item_of_next self.old first.now) self.old.listed.rows)) }
-        ensures made { OnOk result (self.new ≡ record self.old { listed = self.new.listed; dups = with_dup (next_dup self.old place first.now) self.old.dups; next = self.old.next + 1 }) }
-        ensures refused { OnErr result (self.new ≡ self.old) }
-        ensures fault { OnErr result (result ≡ Err Memory) }
+    /// The scan visits the page from now on.
+    pub fn make_mergeable(&mut self, spot: Spot)
+        requires { IsKnown spot.page self.old.rows }
+        ensures { seen self.new ≡ record (seen self.old) { rows = change_row spot.page (λ r. record r { mergeable = true }) self.old.rows; restless = self.new.restless } }
     {
-        let tree = tree_of(&self.knobs, first);
-        let number = self
-            .dups
-            .new_dup(place, tree, &first.bytes, first.page, second.page)?;
-        stop_waiting(&mut self.waiting, &self.knobs, first);
-        stop_waiting(&mut self.waiting, &self.knobs, second);
-        let state = PageState::Merged(number);
-        let frame = self.rows.set_state(first, state);
-        let lone = self.rows.set_state(second, state);
-        self.lodgings[place as usize] = frame;
-        Ok((frame, lone))
+        self.rows.set_mergeable(spot, true);
+    }
+
+    /// A page with a frame of its own is Private and not unchanged, and the scan visits it no more.
+    pub fn let_go(&mut self, spot: Spot)
+        requires { IsAlone spot.page self.old.rows }
+        ensures { seen self.new ≡ record (seen self.old) { rows = change_row spot.page as_let_go self.old.rows; restless = self.new.restless } }
+    {
+        leave(&mut self.dups, &self.frames, &self.knobs, &self.rows, spot);
+        self.rows.stop_waiting(spot);
+        self.rows.set_unchanged(spot, false);
+        self.rows.set_mergeable(spot, false);
+    }
+
+    /// No page waits any more: those that did are Private.
+    pub fn settle_all(&mut self)
+        ensures { seen self.new ≡ record (seen self.old) { rows = map as_settled self.old.rows } }
+    {
+        self.rows.settle_all();
+        self.dups.clear_waiting();
+    }
+
+    /// Every page becomes Private and not unchanged, where none is merged or Zero.
+    pub fn unshare_all(&mut self)
+        requires { All (λ r. shared_state r.state ≡ false) self.old.rows }
+        ensures { seen self.new ≡ record (seen self.old) { rows = map as_unshared self.old.rows; restless = self.new.restless } }
+    {
+        self.rows.unshare_all();
+        self.dups.clear_waiting();
     }
 
     /// The stale dup at a place goes, if there is one.
     pub fn drop_stale(&mut self, place: u32)
-        requires { IsVacant place self.old.listed.rows self.old.dups }
-        ensures { self.new ≡ record self.old { dups = filter (elsewhere place) self.old.dups } }
+        requires { IsVacant place self.old.rows self.old.dups }
+        ensures { seen self.new ≡ record (seen self.old) { dups = filter (elsewhere place) self.old.dups } }
     {
         if self.dups.at(place).is_some() {
             self.dups.drop_stale(place);
         }
     }
 
-    /// No row waits any more: those that did are Private.
-    pub fn settle_all(&mut self)
-        ensures rows { self.new.listed.rows ≡ map as_settled self.old.listed.rows }
-        ensures frames { self.new.listed.frames ≡ self.old.listed.frames }
-        ensures rest { self.new ≡ record self.old { listed = self.new.listed } }
+    /// What a visit of a page finds, and what it changes by that alone. Refused for memory alone, it changes nothing.
+    #[inline(always)]
+    pub fn visit(&mut self, spot: Spot) -> Result<Find, Fault>
+        ensures found { IfOk result (Finds (seen self.old) (seen self.new) spot.page) }
+        ensures refused { OnErr result (self.new ≡ self.old) }
+        ensures restless { OnErr result (MatchOption (row_at spot.page self.old.rows) (true ≡ false) (λ r. is_restless r ≡ true)) }
+        ensures fault { OnErr result (result ≡ Err Memory) }
     {
-        self.rows.settle_all(&self.waiting);
-        self.waiting.clear();
-    }
-
-    /// All rows of a guest become mergeable.
-    pub fn make_mergeable(&mut self, guest: u16)
-        ensures rows { self.new.listed.rows ≡ change_rows (is_of guest) (λ r. record r { mergeable = true }) self.old.listed.rows }
-        ensures frames { self.new.listed.frames ≡ self.old.listed.frames }
-        ensures rest { self.new ≡ record self.old { listed = self.new.listed } }
-    {
-        self.rows.make_mergeable(guest);
-    }
-
-    /// Every row becomes Private and not unchanged, where none is merged or Zero.
-    pub fn unshare_all(&mut self)
-        requires { All (λ r. shared_state r.state ≡ false) self.old.listed.rows }
-        ensures rows { self.new.listed.rows ≡ map as_unshared self.old.listed.rows }
-        ensures frames { self.new.listed.frames ≡ self.old.listed.frames }
-        ensures rest { self.new ≡ record self.old { listed = self.new.listed } }
-    {
-        self.rows.unshare_all();
-        self.waiting.clear();
-    }
-
-    /// Makes the rows of a guest that come before a row, or all of them, Private and takes them out of the scan, where
-    /// none of them is merged or Zero.
-    pub fn let_go(&mut self, guest: u16, stop: Option<Row>)
-        requires { All (λ r. (is_of guest r && is_before stop r) ≡ true → shared_state r.state ≡ false) self.old.listed.rows }
-        ensures rows { self.new.listed.rows ≡ change_rows (λ r. is_of guest r && is_before stop r) as_let_go self.old.listed.rows }
-        ensures frames { self.new.listed.frames ≡ self.old.listed.frames }
-        ensures rest { self.new ≡ record self.old { listed = self.new.listed } }
-    {
-        let mut last = None;
-        while let Some(row) = self.rows.first_of(last, guest, Wanted::Before(stop)) {
-            self.set_row(&row, &let_go(row));
-            last = Some(row.page);
+        if self.waits_again(spot) {
+            return Ok(Find::Waits);
         }
+        self.visit_any(spot)
     }
 
-    /// All pages merged into a dup go to another frame.
-    pub fn move_items(&mut self, number: u64, frame: u32)
-        requires { is_some (dup_numbered number self.old.dups) ≡ true }
-        ensures rows { self.new.listed.rows ≡ self.old.listed.rows }
-        ensures frames { self.new.listed.frames ≡ lodged (λ r. merged_into number r.state) frame self.old.listed.rows self.old.listed.frames }
-        ensures rest { self.new ≡ record self.old { listed = self.new.listed } }
+    // A page waits, where its row and its group lie where that was guessed and nothing stands in the group, as it is with
+    // nearly all visits of pages that waited in the last pass. Else nothing changes.
+    #[inline(always)]
+    fn waits_again(&mut self, spot: Spot) -> bool
+        ensures waits { IsTrue result → Finds (seen self.old) (seen self.new) spot.page Waits }
+        ensures denied { result ≡ false → self.new ≡ self.old }
     {
-        let Some(place) = self.dups.place(number) else {
+        let Some(entry) = self.rows.at(spot) else {
+            return false;
+        };
+        if !entry.is_restless() || !entry.unchanged || is_for_zero(&self.knobs, &entry.bytes) {
+            return false;
+        }
+        let tree = tree_in(&self.knobs, entry.home);
+        let group = entry.group;
+        if !self.dups.is_empty_group(group, tree, &entry.bytes) {
+            return false;
+        }
+        self.dups.meet(group, spot.page);
+        self.rows.wait(spot);
+        true
+    }
+
+    // The same for any page.
+    #[inline(never)]
+    fn visit_any(&mut self, spot: Spot) -> Result<Find, Fault>
+        ensures found { IfOk result (Finds (seen self.old) (seen self.new) spot.page) }
+        ensures refused { OnErr result (self.new ≡ self.old) }
+        ensures restless { OnErr result (MatchOption (row_at spot.page self.old.rows) (true ≡ false) (λ r. is_restless r ≡ true)) }
+        ensures fault { OnErr result (result ≡ Err Memory) }
+    {
+        let Some(entry) = self.rows.find(spot) else {
+            return Ok(Find::Gone);
+        };
+        if !entry.is_restless() {
+            return Ok(Find::Gone);
+        }
+        let guess = entry.group;
+        let group = self
+            .dups
+            .group(guess, tree_in(&self.knobs, entry.home), &entry.bytes)?;
+        if let Some(best) = self.dups.best_of(group, self.knobs.max_page_sharing) {
+            return Ok(Find::Dup(best));
+        }
+        if !entry.unchanged {
+            self.become_unchanged(spot);
+            self.rows.remember(spot, group);
+            return Ok(Find::Changed);
+        }
+        if is_for_zero(&self.knobs, &entry.bytes) {
+            return Ok(Find::Zero);
+        }
+        let other = self.dups.meet(group, spot.page);
+        if other == spot.page {
+            self.rows.wait(spot);
+            remember(&mut self.rows, spot, guess, group);
+            return Ok(Find::Waits);
+        }
+        Ok(Find::Partner(other))
+    }
+
+    /// A page with a frame of its own joins a dup that has an item, and lies where its items do. Gives the frame that it
+    /// leaves. Refused for memory alone, it changes nothing.
+    pub fn join(&mut self, spot: Spot, best: Best) -> Result<u32, Fault>
+        requires alone { IsAlone spot.page self.old.rows }
+        requires room { HasRoom self.old.rows self.old.dups best.number }
+        ensures left { IfOk result (λ lone. (seen self.old).frame spot.page ≡ Some lone) }
+        ensures joined { OnOk result (seen self.new ≡ record (seen self.old) { rows = change_row spot.page (λ r. record r { state = Merged best.number }) self.old.rows; frame = (seen self.new).frame }) }
+        ensures frame { OnOk result (All (λ r. merged_into best.number r.state ≡ true → (seen self.new).frame ≡ lies_on spot.page ((seen self.old).frame r.page) (seen self.old).frame) self.old.rows) }
+        ensures refused { OnErr result (self.new ≡ self.old) }
+        ensures fault { OnErr result (result ≡ Err Memory) }
+    {
+        let Some(entry) = self.rows.find(spot) else {
+            unreachable!()
+        };
+        let place = self.dups.join_at(best.place, best.number, spot.page)?;
+        let lone = entry.at;
+        left_by(
+            &mut self.dups,
+            &self.frames,
+            &self.knobs,
+            entry,
+            self.rows.pass(),
+        );
+        self.rows.merge(spot, best.number, place);
+        Ok(lone)
+    }
+
+    /// Two pages with frames of their own become the items of a new dup at a place, on the frame of the first. A stale
+    /// dup at the place goes. Gives the frames where they lay. Refused for memory alone, it changes nothing.
+    pub fn pair(&mut self, place: u32, first: Spot, second: Spot) -> Result<(u32, u32), Fault>
+        requires first { MatchOption (row_at first.page self.old.rows) (true ≡ false) (λ r. MatchOption (row_at second.page self.old.rows) (true ≡ false) (MayPair (seen self.old) place r)) }
+        ensures first { IfOk result (λ frames. (seen self.old).frame first.page ≡ Some frames.0) }
+        ensures second { IfOk result (λ frames. (seen self.old).frame second.page ≡ Some frames.1) }
+        ensures paired { OnOk result (MatchOption (row_at first.page self.old.rows) (true ≡ false) (λ r. MatchOption (row_at second.page self.old.rows) (true ≡ false) (λ s. seen self.new ≡ are_paired place r s (seen self.old)))) }
+        ensures refused { OnErr result (self.new ≡ self.old) }
+        ensures fault { OnErr result (result ≡ Err Memory) }
+    {
+        let (Some(one), Some(other)) = (self.rows.find(first), self.rows.find(second)) else {
+            unreachable!()
+        };
+        let tree = tree_in(&self.knobs, other.home);
+        let group = self.dups.group(other.group, tree, &other.bytes)?;
+        let number = self
+            .dups
+            .found(group, place, tree, &other.bytes, first.page, second.page)?;
+        let (frame, lone) = (one.at, other.at);
+        let pass = self.rows.pass();
+        left_by(&mut self.dups, &self.frames, &self.knobs, one, pass);
+        left_by(&mut self.dups, &self.frames, &self.knobs, other, pass);
+        self.rows.merge(first, number, place);
+        self.rows.merge(second, number, place);
+        self.frames[place as usize] = frame;
+        Ok((frame, lone))
+    }
+
+    /// A page with a frame of its own becomes Zero. Gives the frame that it leaves.
+    pub fn become_zero(&mut self, spot: Spot) -> Option<u32>
+        requires { IsAlone spot.page self.old.rows }
+        ensures left { result ≡ (seen self.old).frame spot.page }
+        ensures zero { seen self.new ≡ record (seen self.old) { rows = change_row spot.page (λ r. record r { state = Zero }) self.old.rows; frame = lies_on spot.page None (seen self.old).frame } }
+    {
+        let left = leave(&mut self.dups, &self.frames, &self.knobs, &self.rows, spot);
+        self.rows.become_zero(spot);
+        left
+    }
+
+    /// Where so many visits behind the cursor end.
+    pub fn ahead(&self, cursor: Option<GuestPage>, visits: u64) -> Ahead
+        requires { 1 ≤ visits }
+        ensures { ComesTo (rows_ahead cursor self.now.rows) visits result }
+    {
+        self.rows.ahead(cursor, visits)
+    }
+
+    /// How many visits behind the cursor come before a page, and the page of the last of them; the cursor where there is
+    /// none.
+    pub fn between(&self, cursor: Option<GuestPage>, page: GuestPage) -> (u64, Option<GuestPage>)
+        ensures many { result.0 ≡ length (rows_between cursor page self.now.rows) }
+        ensures last { result.1 ≡ last_page cursor (rows_between cursor page self.now.rows) }
+    {
+        self.rows.between(cursor, page)
+    }
+
+    /// All rows that a visit may change are listed then. Refused for memory alone.
+    pub fn list_restless(&mut self) -> Result<(), Fault>
+        ensures rest { seen self.new ≡ record (seen self.old) { restless = self.new.restless } }
+        ensures known { OnOk result (self.new.restless.known ≡ true) }
+        ensures fault { OnErr result (result ≡ Err Memory) }
+    {
+        self.rows.list_restless()
+    }
+
+    /// How many listed pages come up to the cursor.
+    pub fn restless_up_to(&self, cursor: Option<GuestPage>) -> usize
+        ensures { result ≡ length (filter (λ p. not (after_cursor cursor p)) self.now.restless.pages) }
+    {
+        self.rows.restless_up_to(cursor)
+    }
+
+    /// How many pages are listed.
+    pub fn restless_len(&self) -> usize
+        ensures { result ≡ length self.now.restless.pages }
+    {
+        self.rows.restless_len()
+    }
+
+    /// The listed page at an index.
+    pub fn restless_at(&self, at: usize) -> Option<Spot>
+        ensures { option_map (λ s. s.page) result ≡ slice_get self.now.restless.pages at }
+    {
+        self.rows.restless_at(at)
+    }
+
+    /// Of the listed pages those that no visit may change are listed no more.
+    pub fn sweep_restless(&mut self)
+        ensures rest { seen self.new ≡ record (seen self.old) { restless = self.new.restless } }
+        ensures known { self.new.restless.known ≡ self.old.restless.known }
+    {
+        self.rows.sweep_restless();
+    }
+
+    // A page with a frame of its own is Private and unchanged from now on.
+    fn become_unchanged(&mut self, spot: Spot)
+        requires { IsAlone spot.page self.old.rows }
+        ensures { seen self.new ≡ visited spot.page (λ r. record r { unchanged = true; state = Private }) (seen self.old) }
+    {
+        let Some(entry) = self.rows.find(spot) else {
             return;
         };
-        self.lodgings[place as usize] = Some(frame);
+        left_by(
+            &mut self.dups,
+            &self.frames,
+            &self.knobs,
+            entry,
+            self.rows.pass(),
+        );
+        self.rows.stop_waiting(spot);
+        self.rows.set_unchanged(spot, true);
+    }
+
+    // Where the page of a spot lies, and where it is at home.
+    fn told(&self, spot: Spot) -> Option<Held>
+        ensures { MatchOption result (row_at spot.page self.now.rows ≡ None) (IsHeld (seen self.now) spot.page) }
+    {
+        let entry = self.rows.find(spot)?;
+        Some(Held {
+            spot,
+            home: entry.home,
+            shared: entry.own_frame().is_none(),
+            frame: frame_of(&self.dups, &self.frames, entry, self.rows.pass()),
+        })
     }
 }

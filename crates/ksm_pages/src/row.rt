@@ -1,161 +1,103 @@
-//! What is asked of one row, and what becomes of it.
+//! A row as it is kept, and how it is found.
+//!
+//! The state of a row is kept as a kind and a number. A row with a frame of its own waits exactly where its number is
+//! that of the pass that goes on: so when a pass begins and none waits any more, one number grows, and no row is written.
 
-ghost use Rattle.std.specs.Prelude.{◌≡◌, ◌&&◌, bytes_eq, true, None, if◌then◌else◌};
-ghost use Rattle.ksm_base.specs.Answers.{every_row};
-ghost use Rattle.ksm_base.specs.Apply.{fresh_row as a_fresh_row, stored as with_bytes, moved as at_node, let_go as as_let_go, unshared as as_unshared};
-ghost use Rattle.ksm_base.specs.Rows.{same_page as is_same_page, waiting_state, merged_state, shared_state, all_zero as has_only_zeroes};
-ghost use Rattle.ksm_base.specs.State.{tree_of as row_tree};
-ghost use Rattle.ksm_base.specs.Visit.{is_for_zero as goes_to_zero};
-ghost use Rattle.ksm_pages.specs.Blocked.{restless};
+ghost use Rattle.std.specs.Prelude.{◌≡◌};
+ghost use Rattle.ksm_pages.specs.Held.{forgotten, frame_of, held_of, is_restless as is_a_restless, state_of};
 
-use ksm_base::{GuestPage, Knobs, PageBytes, PageState, Row};
+use ksm_base::{GuestPage, PageBytes, PageState, Row};
 
-/// The rows that a search is for.
-#[derive(Clone, Copy)]
-pub enum Wanted {
-    /// Merged and Zero ones.
-    Shared,
-    /// Those before the one at which an unmerging stopped, or all where it did not.
-    Before(Option<Row>),
+/// A page with a guess of the key under which its row is kept. A call compares the guess before it believes it, so a
+/// wrong one costs a search and changes nothing else.
+#[derive(Clone, Copy, Debug)]
+pub struct Spot {
+    pub page: GuestPage,
+    pub key: u32,
 }
 
-/// Visits of rows that stay as they are: how many there are, the page of the last, and the page that is visited then.
-#[derive(Clone, Copy)]
-pub struct Run {
-    pub visits: u64,
-    pub last: Option<GuestPage>,
-    pub next: Option<GuestPage>,
+/// How a page is mapped.
+#[derive(Clone, Copy, Debug, PartialEq, Eq)]
+pub enum Kind {
+    /// From a frame of its own.
+    Own,
+    /// From the frame of a dup.
+    Merged,
+    /// From the zero page.
+    Zero,
 }
 
-impl Run {
-    /// A run that begins behind the cursor, with no visit yet.
-    pub(crate) fn from(cursor: Option<GuestPage>) -> Run
-        ensures { result ≡ record { visits = 0; last = cursor; next = None } }
+/// A row as it is kept. The fields stand in an order that leaves no gaps.
+#[derive(Clone, Copy, Debug)]
+pub struct Entry {
+    pub page: GuestPage,
+    pub bytes: PageBytes,
+    /// Of a row with a frame of its own the pass since which it waits, or an earlier one; of a merged one the number of
+    /// its dup.
+    pub number: u64,
+    /// Of a row with a frame of its own that frame; of a merged one a guess of the place of its dup.
+    pub at: u32,
+    pub home: u32,
+    /// A guess of the number that the row's tree and bytes have among the groups.
+    pub group: u32,
+    pub kind: Kind,
+    pub mergeable: bool,
+    pub unchanged: bool,
+}
+
+impl Entry {
+    /// Whether a visit may change the row: it is mergeable, and has a frame of its own.
+    #[inline(always)]
+    pub fn is_restless(&self) -> bool
+        ensures { result ≡ is_a_restless self.now }
     {
-        Run {
-            visits: 0,
-            last: cursor,
-            next: None,
+        self.mergeable && matches!(self.kind, Kind::Own)
+    }
+
+    /// The state of the row in a pass.
+    #[inline(always)]
+    pub fn state(&self, pass: u64) -> PageState
+        ensures { result ≡ state_of self.now.kind self.now.number pass }
+    {
+        match self.kind {
+            Kind::Own if self.number == pass => PageState::Waiting,
+            Kind::Own => PageState::Private,
+            Kind::Merged => PageState::Merged(self.number),
+            Kind::Zero => PageState::Zero,
         }
     }
-}
 
-pub(crate) fn same_page(p: GuestPage, q: GuestPage) -> bool
-    ensures { result ≡ is_same_page p q }
-{
-    p == q
-}
-
-pub(crate) fn same_bytes(a: PageBytes, b: PageBytes) -> bool
-    ensures { result ≡ bytes_eq a b }
-{
-    a == b
-}
-
-pub(crate) fn is_waiting(state: PageState) -> bool
-    ensures { result ≡ waiting_state state }
-{
-    matches!(state, PageState::Waiting)
-}
-
-/// Whether a page in this state is mapped from a page that others may read too.
-pub fn is_shared(state: PageState) -> bool
-    ensures { result ≡ shared_state state }
-{
-    matches!(state, PageState::Merged(_) | PageState::Zero)
-}
-
-/// Whether a visit may change the row.
-pub(crate) fn is_restless(row: &Row) -> bool
-    ensures { result ≡ restless row.now }
-{
-    row.mergeable && !is_shared(row.state)
-}
-
-/// Whether each word is zero.
-pub(crate) fn all_zero(bytes: &PageBytes) -> bool
-    ensures { result ≡ has_only_zeroes bytes.now }
-{
-    bytes.iter().all(|word| *word == 0)
-}
-
-/// Whether a visit would map the row from the zero page: all its bytes are zero, and `use_zero_pages` is 1.
-pub fn is_for_zero(knobs: &Knobs, row: &Row) -> bool
-    ensures { result ≡ goes_to_zero knobs.now row.now }
-{
-    knobs.use_zero_pages == 1 && all_zero(&row.bytes)
-}
-
-/// The tree in which a row is looked for.
-pub(crate) fn tree_of(knobs: &Knobs, row: &Row) -> u32
-    ensures { result ≡ row_tree knobs.now row.now }
-{
-    if knobs.merge_across_nodes == 1 {
-        0
-    } else {
-        row.home
+    /// The frame of its own, if it has one.
+    #[inline(always)]
+    pub fn own_frame(&self) -> Option<u32>
+        ensures { result ≡ frame_of self.now.kind self.now.at }
+    {
+        match self.kind {
+            Kind::Own => Some(self.at),
+            Kind::Merged | Kind::Zero => None,
+        }
     }
-}
 
-/// A new row.
-pub fn fresh_row(page: GuestPage, node: u32, bytes: PageBytes) -> Row
-    ensures { result ≡ a_fresh_row page node bytes }
-{
-    Row {
-        page,
-        home: node,
-        bytes,
-        mergeable: true,
-        unchanged: false,
-        state: PageState::Private,
+    /// An entry with a frame of its own says no longer in which pass it came to wait.
+    pub fn forget_pass(&mut self)
+        ensures { self.new ≡ forgotten self.old }
+    {
+        if let Kind::Own = self.kind {
+            self.number = 0;
+        }
     }
-}
 
-/// The row after a store.
-pub fn stored(row: Row, bytes: PageBytes) -> Row
-    ensures { result ≡ with_bytes bytes row }
-{
-    Row {
-        bytes,
-        unchanged: row.unchanged && same_bytes(row.bytes, bytes),
-        state: PageState::Private,
-        ..row
-    }
-}
-
-/// The row after a move.
-pub fn moved(row: Row, node: u32) -> Row
-    ensures { result ≡ at_node node row }
-{
-    if row.home == node {
-        return row;
-    }
-    Row {
-        home: node,
-        state: PageState::Private,
-        ..row
-    }
-}
-
-/// The row as Private, neither mergeable nor unchanged: the scan visits it no more.
-pub(crate) fn let_go(row: Row) -> Row
-    ensures { result ≡ as_let_go row }
-{
-    Row {
-        mergeable: false,
-        unchanged: false,
-        state: PageState::Private,
-        ..row
-    }
-}
-
-/// The row as Private and not unchanged.
-pub fn unshared(row: Row) -> Row
-    ensures { result ≡ as_unshared row }
-{
-    Row {
-        unchanged: false,
-        state: PageState::Private,
-        ..row
+    /// The row that the entry stands for in a pass.
+    pub fn row(&self, pass: u64) -> Row
+        ensures { result ≡ (held_of pass self.now).row }
+    {
+        Row {
+            page: self.page,
+            home: self.home,
+            bytes: self.bytes,
+            mergeable: self.mergeable,
+            unchanged: self.unchanged,
+            state: self.state(pass),
+        }
     }
 }

@@ -83,6 +83,13 @@ impl Items {
         self.pages.len()
     }
 
+    /// The pages, ascending.
+    pub fn as_slice(&self) -> &[GuestPage]
+        ensures { result.now ≡ self.now }
+    {
+        self.pages.as_slice()
+    }
+
     /// The page at `i`, in ascending order from 0 on.
     pub fn at(&self, i: usize) -> GuestPage
         requires { i < length self.now }

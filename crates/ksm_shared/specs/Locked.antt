@@ -7,7 +7,7 @@ use Rattle.ksm_base.specs.Journal.{Entry, AreAnswers, IsLegal, is_memory, replay
 use Rattle.ksm_base.specs.State.{BookState, opening}
 use Rattle.frame_table.specs.Named.{ClosedView}
 use Rattle.frame_table.specs.Seats.{Ends}
-use Rattle.ksm_book.specs.Carried.{JournaledBook}
+use Rattle.ksm_book.specs.Carried.{JournaledBook, unjournaled}
 use Rattle.ksm_book.specs.Promised.{LieOn}
 use Rattle.ksm_shared.specs.declared.seen.Owned.{Owned}
 use Rattle.ksm_shared.specs.declared.seen.Caller.{Caller}
@@ -86,5 +86,5 @@ pub record EndsLawfully (parts : PartsId) (closed : ClosedView) : Type 0 where
   pub book : JournaledBook
   pub own : book.keeper.table ≡ parts.frames
   pub legal : IsLegal parts.frames.shape book.journal book.state
-  pub placed : LieOn book.state book.frames book.keeper.ledger
+  pub placed : LieOn book.state (unjournaled book).frame book.keeper.ledger
   pub ends : Ends book.keeper.ledger closed

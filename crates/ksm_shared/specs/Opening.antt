@@ -3,7 +3,9 @@ use Rattle.std.specs.Prelude.{◌≡◌, ◌≤◌, []}
 use Rattle.ksm_base.specs.State.{opening}
 use Rattle.ksm_base.specs.Values.{IsShape}
 use Rattle.frame_table.specs.Seats.{new_keeper}
-use Rattle.ksm_book.specs.Carried.{JournaledBook}
+use Rattle.ksm_book.specs.Carried.{unjournaled}
+use Rattle.ksm_pages.specs.Paged.{nowhere}
+use Rattle.ksm_book.specs.Whole.{BookView}
 use Rattle.ksm_shared.specs.declared.opening.Inner.{Inner}
 use Rattle.ksm_shared.specs.Named.{PartsId}
 use Rattle.ksm_shared.specs.Locked.{Locked}
@@ -28,10 +30,13 @@ pub record IsNew (parts : PartsId) (p : Inner) : Type 0 where
   pub logbook : p.journal.book ≡ parts.logbook
   pub journal : p.journal.log ≡ []
 
--- the opening book of these parts: no page, no dup and no entry, and the keeper has made no step
-abbrev pub opening_book : PartsId → JournaledBook
-opening_book parts = record { state = opening parts.frames.shape; frames = []; keeper = new_keeper parts.frames; journal = [] }
+-- the opening book of these parts: no page and no dup, and the keeper has made no step
+abbrev pub opening_book : PartsId → BookView
+opening_book parts = record { state = opening parts.frames.shape; frame = nowhere; keeper = new_keeper parts.frames }
 
--- the locked book as it opens: nobody owns an entry, and readers are shown the counters of the opening book
-abbrev pub opening_lock : PartsId → Locked
-opening_lock parts = record { book = opening_book parts; log = []; shown = [] }
+-- the locked book is as it opens: it has no entry, nobody owns one, and readers are shown the counters of the opening book
+pub record IsOpeningLock (parts : PartsId) (locked : Locked) : Type 0 where
+  pub book : unjournaled locked.book ≡ opening_book parts
+  pub journal : locked.book.journal ≡ []
+  pub log : locked.log ≡ []
+  pub shown : locked.shown ≡ []

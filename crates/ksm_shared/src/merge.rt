@@ -4,8 +4,7 @@ ghost use Rattle.ksm_base.specs.Journal.{IsLegal, ReadsLastStored, journal_after
 ghost use Rattle.ksm_base.specs.Reading.{bytes_of};
 ghost use Rattle.ksm_base.specs.Sound.{IsSound};
 ghost use Rattle.ksm_book.specs.Carried.{CarriedOut, unjournaled};
-ghost use Rattle.ksm_layout.specs.Commands.{frame_of, listed_in};
-ghost use Rattle.ksm_layout.specs.Laid.{LoadsIf};
+ghost use Rattle.ksm_book.specs.Laid.{LoadsIf};
 ghost use Rattle.ksm_book.specs.Promised.{LieOn};
 ghost use Rattle.ksm_shared.specs.Handed.{missing_of};
 ghost use Rattle.ksm_shared.specs.Locked.{Gathered, LacksOne, SeesOn, made, made_by, part_of, said_of, state_seen};
@@ -112,7 +111,7 @@ impl<N: Naming> Merge<N> {
         ensures stored { IfSome result (λ bytes. last_stored page (entries self.old.log) ≡ Some bytes) }
         ensures state { self.new.book.state ≡ self.old.book.state }
         ensures log { self.new.log ≡ self.old.log }
-        ensures loads { LoadsIf (frame_of (listed_in self.old.book.state self.old.book.frames) page) result self.old.book.keeper self.new.book.keeper }
+        ensures loads { LoadsIf ((unjournaled self.old.book).frame page) result self.old.book.keeper self.new.book.keeper }
     {
         self.book.read(frames, page)
     }
@@ -121,7 +120,7 @@ impl<N: Naming> Merge<N> {
     pub fn lies_lawfully(&self)
         ensures own { self.now.book.keeper.table ≡ N.parts.frames }
         ensures sound { IsSound self.now.book.state }
-        ensures placed { LieOn self.now.book.state self.now.book.frames self.now.book.keeper.ledger }
+        ensures placed { LieOn self.now.book.state (unjournaled self.now.book).frame self.now.book.keeper.ledger }
         ensures legal { IsLegal N.parts.frames.shape (entries self.now.log) self.now.book.state }
         ensures stored { ReadsLastStored (entries self.now.log) self.now.book.state.rows }
         ensures journal { self.now.book.journal ≡ entries self.now.log }

@@ -2,7 +2,7 @@
 ghost use Rattle.std.specs.Prelude.{◌≡◌, ◌<◌, ◌≤◌, [], IfOk, IfErr, replicate, vec_len, vec_capacity};
 ghost use Rattle.frame_table.specs.Seats.{new_keeper};
 ghost use Rattle.ksm_shared.specs.Locked.{fresh};
-ghost use Rattle.ksm_shared.specs.Opening.{IsNew, opening_lock};
+ghost use Rattle.ksm_shared.specs.Opening.{IsNew, IsOpeningLock};
 ghost use Rattle.ksm_shared.specs.Seen.{book_view};
 
 use crate::beginning::{LengthWord, SeenJournal};
@@ -58,7 +58,7 @@ pub(crate) fn open_lock<N: Naming>(
     inner: Inner,
 ) -> Result<(Merge<N>, Vec<Share<N>>, Vec<CounterReader<N>>), (Keeper, Fault)>
     requires { IsNew N.parts inner }
-    ensures book { IfOk result (λ opened. opened.0 ≡ opening_lock N.parts) }
+    ensures book { IfOk result (λ opened. IsOpeningLock N.parts opened.0) }
     ensures shares { IfOk result (λ opened. opened.1.items ≡ fresh N.parts.callers) }
     ensures readers { IfOk result (λ opened. opened.2.items ≡ replicate N.parts.readers []) }
     ensures refused { IfErr result (λ e. (e.0 ≡ new_keeper N.parts.frames) × (e.1 ≡ Fault.Memory)) }
@@ -97,7 +97,7 @@ fn open_merge<N: Naming>(
 ) -> Result<Merge<N>, (Keeper, Fault)>
     requires inner { IsNew N.parts inner }
     requires room { (shares.old.items ≡ []) × (vec_len shares.old ≡ 0) × (N.parts.callers ≤ vec_capacity shares.old) }
-    ensures opened { IfOk result (λ merge. merge ≡ opening_lock N.parts) }
+    ensures opened { IfOk result (IsOpeningLock N.parts) }
     ensures shares { IfOk result (λ _. shares.new.items ≡ fresh N.parts.callers) }
     ensures refused { IfErr result (λ e. (e.0 ≡ new_keeper N.parts.frames) × (e.1 ≡ Fault.Memory)) }
 {

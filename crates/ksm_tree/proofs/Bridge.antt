@@ -1,24 +1,7 @@
 -- Tests over dups with items are the book's tests over rows, where the items are counted.
-use Rattle.std.proofs.Common.{◌≡◌, ◌∙◌, ℕ, ◌<◌, Bool, true, false, List, [], ◌∷◌, length, Option, None, Some, refl, sym, ap, subst, inl, inr, arith}
-use Rattle.std.specs.Prelude.{◌&&◌, ◌||◌, ◌==◌, not, nat_lt, nat_le, All, count_by, filter, find, is_some, option_map, bytes_eq, if◌then◌else◌}
-use Rattle.std.specs.List.{list_all}
-use Rattle.std.proofs.lemmas.Bool.{cases_Bool}
-use Rattle.std.proofs.lemmas.Bool.Decides.{nat_tests}
-use Rattle.std.proofs.lemmas.Option.{same_Some}
-use Rattle.std.proofs.lemmas.List.Elements.{All-head, All-tail, All-weaker}
-use Rattle.ksm_base.specs.declared.knobs.Knobs.{Knobs}
-use Rattle.ksm_base.specs.declared.row.DupRow.{DupRow}
-use Rattle.ksm_base.specs.declared.row.Row.{Row}
-use Rattle.ksm_base.specs.Rows.{item_count, has_items, is_stale as is_stale_row}
-use Rattle.ksm_base.specs.State.{tree_of}
-use Rattle.ksm_base.specs.Visit.{best_dup, empty_from, place_or, new_place, may_join as row_may_join, is_no_rival as is_no_rival_row, is_no_worse as is_no_worse_row, is_best as is_best_row}
-use Rattle.ksm_base.proofs.Edits.{count_more}
-use Rattle.ksm_tree.specs.declared.choice.Choice.{Choice}
-use Rattle.ksm_tree.specs.declared.choice.Choice.TheVariants.{Empty, Stale}
-use Rattle.ksm_tree.specs.declared.dup.Dup.{Dup}
-use Rattle.ksm_tree.specs.Bridge.{AreCounted, place_in}
-use Rattle.ksm_tree.specs.Choosing.{best_of, choice_of, chosen, is_best, is_no_rival, is_no_worse, may_join}
-use Rattle.ksm_tree.specs.Dups.{DupsState, is_live, is_stale, rows_of, stands_at}
+use Rattle.ksm_tree.proofs.Names.{[], All, All-head, All-tail, All-weaker, ap, AreCounted, arith, best_dup, best_of, Bool, bytes_eq, cases_Bool, Choice, choice_of, chosen, count_by, count_more, Dup, DupRow, DupsState, Empty, empty_from, false, filter, find, has_items, if◌then◌else◌, inl, inr, is_best, is_live, is_no_rival, is_no_worse, is_some, is_stale, item_count, Knobs, length, List, list_all, may_join, nat_le, nat_lt, nat_tests, new_place, None, not, Option, option_map, place_in, place_or, refl, Row, rows_of, same_Some, Some, Stale, stands_at, subst, sym, tree_of, true, ℕ, ◌&&◌, ◌<◌, ◌==◌, ◌||◌, ◌∙◌, ◌∷◌, ◌≡◌}
+use Rattle.ksm_base.specs.Rows.{is_stale as is_stale_row}
+use Rattle.ksm_base.specs.Visit.{may_join as row_may_join, is_no_rival as is_no_rival_row, is_no_worse as is_no_worse_row, is_best as is_best_row}
 
 -- two tests that agree on each dup find one row, and leave the same rows
 found_alike : (test : Dup → Bool) (by : DupRow → Bool) (dups : List Dup) → All (λ d. test d ≡ by d.row) dups → option_map (λ d. d.row) (find test dups) ≡ find by (rows_of dups)

@@ -1,20 +1,5 @@
 -- Dups and their rows: what a dup that comes or goes and a change of items changes of the rows, and where a dup is found.
-use Rattle.std.proofs.Common.{◌≡◌, ◌∙◌, ℕ, Bool, List, [], ◌∷◌, ◌++◌, get_or, map, Option, None, Some, refl, sym, ap, inl, inr, arith}
-use Rattle.std.specs.Prelude.{◌==◌, not, nat_lt, All, filter, find, option_map, if◌then◌else◌}
-use Rattle.std.proofs.lemmas.Bool.{cases_Bool}
-use Rattle.std.proofs.lemmas.Option.{none-some, same_Some}
-use Rattle.std.proofs.lemmas.List.Elements.{All-head, All-tail, All-cons}
-use Rattle.ksm_base.specs.declared.page.GuestPage.{GuestPage}
-use Rattle.ksm_base.specs.declared.row.DupRow.{DupRow}
-use Rattle.ksm_base.specs.declared.row.PageState.{PageState}
-use Rattle.ksm_base.specs.declared.row.PageState.TheVariants.{Private, Waiting, Merged, Zero}
-use Rattle.ksm_base.specs.Rows.{InPlaceOrder, with_dup}
-use Rattle.ksm_rmap.specs.Items.{without_item}
-use Rattle.ksm_tree.specs.declared.dup.Dup.{Dup}
-use Rattle.ksm_tree.specs.Bridge.{let_out}
-use Rattle.ksm_tree.specs.Dups.{rows_of, has_number, stands_at, dup_of, dup_at, with_new, without_place, change_items}
-use Rattle.ksm_tree.specs.Index.{row_place}
-use Rattle.ksm_tree.specs.Slots.{change_at}
+use Rattle.ksm_tree.proofs.Names.{[], All, All-cons, All-head, All-tail, ap, arith, Bool, cases_Bool, change_at, change_items, Dup, dup_at, dup_of, DupRow, filter, find, get_or, GuestPage, has_number, if◌then◌else◌, inl, InPlaceOrder, inr, let_out, List, map, Merged, nat_lt, None, none-some, not, Option, option_map, PageState, Private, refl, row_place, rows_of, same_Some, Some, stands_at, sym, Waiting, with_dup, with_new, without_item, without_place, Zero, ℕ, ◌++◌, ◌==◌, ◌∙◌, ◌∷◌, ◌≡◌}
 use Rattle.ksm_tree.proofs.Rows.{only_number}
 
 -- the rows of a filtered list
@@ -87,7 +72,7 @@ row_there p None is = absurd (none-some p is)
 row_there p (Some e) is = (e, refl, same_Some e.place p is)
 
 -- two tests that agree on each dup find one dup and change one
-agree_found : (test by : Dup → Bool) (dups : List Dup) → All (λ d. test d ≡ by d) dups → find test dups ≡ find by dups
+pub agree_found : (test by : Dup → Bool) (dups : List Dup) → All (λ d. test d ≡ by d) dups → find test dups ≡ find by dups
 agree_found test by [] same = refl
 agree_found test by (d ∷ dups) same =
     let here = All-head (λ d. test d ≡ by d) d dups same in
@@ -121,29 +106,13 @@ number_place_found q p dups rise is = agree_found (has_number q) (stands_at p) d
 pub number_place_changed : (q p : ℕ) (f : List GuestPage → List GuestPage) (dups : List Dup) → InPlaceOrder (rows_of dups) → row_place q (rows_of dups) ≡ Some p → change_items q f dups ≡ change_at p f dups
 number_place_changed q p f dups rise is = agree_changed (has_number q) (stands_at p) f dups (one_dup q p dups rise is)
 
--- without a row of the number there is no such dup, and nothing is changed
-no_row : (r : Option DupRow) → option_map (λ s. s.place) r ≡ None → r ≡ None
-no_row None is = refl
-no_row (Some e) is = absurd (none-some e.place (sym is))
-
-no_dup : (d : Option Dup) → option_map (λ e. e.row) d ≡ None → d ≡ None
-no_dup None is = refl
-no_dup (Some e) is = absurd (none-some e.row (sym is))
-
--- a number without a place has no dup
-pub unknown_found : (q : ℕ) (dups : List Dup) → row_place q (rows_of dups) ≡ None → dup_of q dups ≡ None
-unknown_found q dups is = no_dup (dup_of q dups) (row_found (has_number q) (λ r. r.number == q) (λ d. refl) dups ∙ no_row (find (λ r. r.number == q) (rows_of dups)) is)
-
-unknown_changed_from : (q : ℕ) (f : List GuestPage → List GuestPage) (dups : List Dup) → dup_of q dups ≡ None → dups ≡ change_items q f dups
-unknown_changed_from q f [] is = refl
-unknown_changed_from q f (d ∷ dups) is =
+-- to change the items of a number that no dup has changes nothing
+pub unchanged_items : (q : ℕ) (f : List GuestPage → List GuestPage) (dups : List Dup) → dup_of q dups ≡ None → dups ≡ change_items q f dups
+unchanged_items q f [] is = refl
+unchanged_items q f (d ∷ dups) is =
     elim (cases_Bool (has_number q d)) [
       | inl here ↦ absurd (none-some d (sym is ∙ grind (arith, here)))
       | inr away ↦
-          let rest = unknown_changed_from q f dups (grind (arith, away, is)) in
+          let rest = unchanged_items q f dups (grind (arith, away, is)) in
           grind (arith, away, rest)
     ]
-
--- to change the items of a number without a place changes nothing
-pub unknown_changed : (q : ℕ) (f : List GuestPage → List GuestPage) (dups : List Dup) → row_place q (rows_of dups) ≡ None → dups ≡ change_items q f dups
-unknown_changed q f dups is = unknown_changed_from q f dups (unknown_found q dups is)

@@ -1,16 +1,5 @@
 -- Counts over the slots: empty ones, stale dups and dups with items.
-use Rattle.std.proofs.Common.{◌≡◌, ◌∙◌, ℕ, suc, ◌+◌, Bool, cond, List, [], ◌∷◌, reverse, length, Option, None, Some, refl, ap, inl, inr, arith}
-use Rattle.std.specs.Prelude.{All, count_by}
-use Rattle.std.proofs.lemmas.Bool.{cases_Bool}
-use Rattle.std.proofs.lemmas.Bool.Decides.{nat_tests}
-use Rattle.std.proofs.lemmas.List.Elements.{All-head, All-tail}
-use Rattle.std.proofs.lemmas.List.Sorted.{IsPermutation-reverse, sum_by-IsPermutation}
-use Rattle.ksm_base.proofs.Edits.{count_more}
-use Rattle.smallvec.specs.SmallVec.{SmallVec}
-use Rattle.ksm_tree.specs.declared.dup.Dup.{Dup}
-use Rattle.ksm_tree.specs.Dups.{is_live, is_stale}
-use Rattle.ksm_tree.specs.Counts.{places_where}
-use Rattle.ksm_tree.specs.Slots.{AreSlots, is_empty_slot, is_stale_slot, present}
+use Rattle.ksm_tree.proofs.Names.{[], All, All-head, All-tail, ap, AreSlots, arith, Bool, cases_Bool, cond, count_by, count_more, Dup, inl, inr, is_empty_slot, is_live, is_stale, is_stale_slot, IsPermutation-reverse, length, List, nat_tests, None, Option, places_where, present, refl, reverse, SmallVec, Some, suc, sum_by-IsPermutation, ℕ, ◌+◌, ◌∙◌, ◌∷◌, ◌≡◌}
 
 -- tests that agree on each element count alike
 pub count_alike : {X : Type 0} (p q : X → Bool) (xs : List X) → All (λ x. p x ≡ q x) xs → count_by p xs ≡ count_by q xs

@@ -1,23 +1,5 @@
 -- The dups of one group, and all others: what each makes of the totals, and what a dup that comes or goes changes of them.
-use Rattle.std.proofs.Common.{◌≡◌, ◌∙◌, ℕ, suc, ◌+◌, ◌<◌, ◌≤◌, Bool, true, false, List, [], ◌∷◌, ◌++◌, length, get_or, Some, refl, sym, ap, inl, inr, arith}
-use Rattle.std.specs.Prelude.{◌==◌, ◌&&◌, ◌||◌, not, nat_lt, nat_le, All, count_by, filter, find, bytes_eq, if◌then◌else◌}
-use Rattle.std.specs.List.{list_all}
-use Rattle.std.proofs.lemmas.Bool.{and_parts, cases_Bool}
-use Rattle.std.proofs.lemmas.Bool.Decides.{nat_tests}
-use Rattle.std.proofs.lemmas.Option.{none-some, same_Some}
-use Rattle.std.proofs.lemmas.Slice.Eq.{bytes_eq-Decides}
-use Rattle.std.proofs.lemmas.List.{length-map}
-use Rattle.std.proofs.lemmas.List.Elements.{All-head, All-tail, All-weaker}
-use Rattle.std.proofs.lemmas.List.Sums.{length-filter, list_all-from_AllPass, count_by-le-length}
-use Rattle.ksm_base.specs.declared.row.DupRow.{DupRow}
-use Rattle.ksm_base.specs.Counting.{group_size, in_chain, leads_group}
-use Rattle.ksm_base.specs.Rows.{InPlaceOrder, same_group, with_dup}
-use Rattle.ksm_base.proofs.Edits.{count_more, count-append}
-use Rattle.ksm_base.proofs.Orders.{pairs_head, pairs_tail}
-use Rattle.ksm_base.proofs.RowCounts.{filter_all}
-use Rattle.ksm_tree.specs.Index.{in_group, group_places}
-use Rattle.ksm_tree.specs.Totals.{AreTotals, IsRegrouped, Tells, chained_of, chains_of}
-use Rattle.ksm_tree.specs.declared.totals.Totals.{Totals}
+use Rattle.ksm_tree.proofs.Names.{[], All, All-head, All-tail, All-weaker, and_parts, ap, AreTotals, arith, Bool, bytes_eq, bytes_eq-Decides, cases_Bool, chained_of, chains_of, count-append, count_by, count_by-le-length, count_more, count_none, DupRow, false, filter, filter_all, find, get_or, group_places, group_size, if◌then◌else◌, in_chain, in_group, inl, InPlaceOrder, inr, IsRegrouped, leads_group, length, length-filter, length-map, List, list_all, list_all-append, list_all-from_AllPass, nat_le, nat_lt, nat_tests, none-some, not, pairs_head, pairs_tail, refl, same_group, same_Some, Some, suc, sym, Tells, Totals, true, with_dup, ℕ, ◌&&◌, ◌++◌, ◌+◌, ◌<◌, ◌==◌, ◌||◌, ◌∙◌, ◌∷◌, ◌≡◌, ◌≤◌}
 use Rattle.ksm_tree.proofs.Counts.{count_alike}
 use Rattle.ksm_tree.proofs.Keys.{own_group, self_group}
 use Rattle.ksm_tree.proofs.Rows.{Comes, rows_parted}
@@ -29,18 +11,14 @@ pub record IsMore (r : DupRow) (less more : List DupRow) : Type 0 where
   pub counts : (p : DupRow → Bool) → count_by p more ≡ (if p r then 1 else 0) + count_by p less
   pub all : (p : DupRow → Bool) → list_all p more ≡ (p r && list_all p less)
 
-all_append : (p : DupRow → Bool) (xs ys : List DupRow) → list_all p (xs ++ ys) ≡ (list_all p xs && list_all p ys)
-all_append p [] ys = refl
-all_append p (x ∷ xs) ys = let rest = all_append p xs ys in grind (arith, rest)
-
 more_between : (r : DupRow) (xs ys : List DupRow) → IsMore r (xs ++ ys) (xs ++ r ∷ ys)
 more_between r xs ys = record {
   counts = λ p. (let first = count-append p xs (r ∷ ys) in
       let second = count-append p xs ys in
       let more = count_more p r ys in
       omega (arith, first, second, more));
-  all = λ p. (let first = all_append p xs (r ∷ ys) in
-      let second = all_append p xs ys in
+  all = λ p. (let first = list_all-append p xs (r ∷ ys) in
+      let second = list_all-append p xs ys in
       grind (arith, first, second));
 }
 
@@ -91,14 +69,6 @@ count_where s b (r ∷ rows) =
     let all = count_more s r rows in
     let both = count_more (λ d. s d && b) r rows in
     grind (arith, rest, all, both)
-
-count_none : (p : DupRow → Bool) (rows : List DupRow) → All (λ d. p d ≡ false) rows → count_by p rows ≡ 0
-count_none p [] none = refl
-count_none p (r ∷ rows) none =
-    let here = All-head (λ d. p d ≡ false) r rows none in
-    let rest = count_none p rows (All-tail (λ d. p d ≡ false) r rows none) in
-    let more = count_more p r rows in
-    grind (arith, here, rest, more)
 
 -- ---------------------------------------------------------------- one group
 

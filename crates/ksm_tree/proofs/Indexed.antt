@@ -1,70 +1,57 @@
 -- The index over dups: what it finds, and how it stays with a change of items and with a dup that goes.
-use Rattle.std.proofs.Common.{◌≡◌, ◌∙◌, ℕ, ◌<◌, Bool, true, false, List, [], ◌∷◌, Option, None, Some, refl, sym, ap, inl, inr, arith}
-use Rattle.std.specs.Prelude.{◌==◌, ◌&&◌, not, All, filter, find, length, option_map, is_some, bytes_eq, if◌then◌else◌}
-use Rattle.std.proofs.lemmas.Bool.{cases_Bool, eqb-true, false≢true}
-use Rattle.std.proofs.lemmas.Bool.Decides.{nat_tests}
-use Rattle.std.proofs.lemmas.Option.{none-some}
-use Rattle.std.proofs.lemmas.List.Elements.{All-filter, All-weaker}
-use Rattle.std.proofs.lemmas.List.Kept.{AllPairs-filter}
-use Rattle.ksm_base.specs.declared.page.GuestPage.{GuestPage}
-use Rattle.ksm_base.specs.declared.row.DupRow.{DupRow}
-use Rattle.ksm_base.specs.Rows.{InPlaceOrder}
-use Rattle.ksm_base.proofs.Edits.{find_nothing}
-use Rattle.ksm_base.proofs.Orders.{pairs_head, pairs_tail}
-use Rattle.ksm_tree.specs.declared.dup.Dup.{Dup}
-use Rattle.ksm_tree.specs.declared.index.Index.{Index}
-use Rattle.ksm_tree.specs.Dups.{rows_of, has_number, stands_at, dup_of, dup_at, without_place, change_items}
-use Rattle.ksm_tree.specs.Index.{AreIndexed, in_group, place_of, places_of, row_place, group_places}
-use Rattle.ksm_tree.specs.Places.{without}
-use Rattle.ksm_tree.specs.Slots.{SlotsState, change_at}
-use Rattle.ksm_tree.specs.Totals.{IsRegrouped, Tells}
+use Rattle.ksm_tree.proofs.Names.{[], All, All-filter, All-weaker, AllPairs-filter, ap, AreIndexed, arith, Bool, bytes_eq, cases_Bool, change_at, change_items, content_in, content_of, Dup, dup_at, dup_of, dups_seen, DupsState, eqb-true, false, false≢true, filter, find, find_nothing, find_passes, get, get_or, Group, group_places, GuestPage, has_number, if◌then◌else◌, in_group, Index, inl, InPlaceOrder, inr, is_some, IsRegrouped, length, List, nat_tests, None, none-some, not, number_of, Option, option_map, pairs_head, pairs_tail, place_of, places_in, places_of, refl, row_place, rows_of, same_Some, SlotsState, Some, stands_at, sym, Tells, true, under, without, without_place, ℕ, ◌&&◌, ◌<◌, ◌==◌, ◌∙◌, ◌∷◌, ◌≡◌}
 use Rattle.ksm_tree.proofs.Grouped.{chains_kept, dups_kept, more_there, totals_moved, totals_tell}
 use Rattle.ksm_tree.proofs.Keys.{own_group, self_group}
-use Rattle.ksm_tree.proofs.Rows.{Comes, only_one, place_gone, group_elsewhere, group_unlike, found_passes, IsOne}
-use Rattle.ksm_tree.proofs.Changes.{all_rows, rows_changed, rows_without, row_found, number_place_found, number_place_changed, unknown_found, unknown_changed}
+use Rattle.ksm_tree.proofs.Rows.{Comes, only_one, place_gone, group_at, group_unlike, IsOne}
+use Rattle.ksm_tree.proofs.Changes.{agree_found, all_rows, rows_changed, rows_without, row_found, number_place_found, number_place_changed, unchanged_items}
 
-row_some : {p : ℕ} (r : Option DupRow) → option_map (λ e. e.place) r ≡ Some p → is_some r ≡ true
-row_some {p} None is = absurd (none-some p is)
-row_some {p} (Some e) is = refl
+dup_some : {p : ℕ} (d : Option Dup) → option_map (λ e. e.row.place) d ≡ Some p → is_some d ≡ true
+dup_some {p} None is = absurd (none-some p is)
+dup_some {p} (Some e) is = refl
 
-dup_some : (d : Option Dup) → is_some (option_map (λ e. e.row) d) ≡ true → is_some d ≡ true
-dup_some None is = is
-dup_some (Some e) is = refl
+no_place : (d : Option Dup) → None ≡ option_map (λ e. e.row.place) d → d ≡ None
+no_place None none = refl
+no_place (Some e) none = absurd (none-some e.row.place none)
 
 place_of_row : (d : Option Dup) → option_map (λ r. r.place) (option_map (λ e. e.row) d) ≡ option_map (λ e. e.row.place) d
 place_of_row None = refl
 place_of_row (Some e) = refl
 
+-- a dup has the place that its row has
+row_placed : (q : ℕ) (dups : List Dup) → row_place q (rows_of dups) ≡ option_map (λ d. d.row.place) (dup_of q dups)
+row_placed q dups = ap (option_map (λ r. r.place)) (sym (row_found (has_number q) (λ r. r.number == q) (λ d. refl) dups)) ∙ place_of_row (dup_of q dups)
+
+-- where the dup with a number stands at a place
+module _ (q p : ℕ) (dups : List Dup) (rise : InPlaceOrder (rows_of dups)) (is : Some p ≡ option_map (λ d. d.row.place) (dup_of q dups)) where
+  -- it is the one that is found there
+  pub placed_found : dup_of q dups ≡ dup_at p dups
+  placed_found = number_place_found q p dups rise (row_placed q dups ∙ sym is)
+
+  -- to change the items of the number is to change those of the dup there
+  pub placed_changed : (f : List GuestPage → List GuestPage) → change_items q f dups ≡ change_at p f dups
+  placed_changed f = number_place_changed q p f dups rise (row_placed q dups ∙ sym is)
+
+  -- a dup is found there
+  pub placed_there : is_some (dup_at p dups) ≡ true
+  placed_there = ap is_some (sym placed_found) ∙ dup_some (dup_of q dups) (sym is)
+
+-- the place that callers see of a number is that of the dup inside
+pub placed_inside : (q p : ℕ) (s : SlotsState) (next : ℕ) (index : Index) (seen : DupsState) → dups_seen s next index ≡ seen → Some p ≡ option_map (λ d. d.row.place) (dup_of q seen.dups) → Some p ≡ option_map (λ d. d.row.place) (dup_of q s.dups)
+placed_inside q p s next index seen view is = is ∙ sym (ap (λ v. option_map (λ d. d.row.place) (dup_of q v.dups)) view)
+
+-- where no dup has a number
+module _ (q : ℕ) (dups : List Dup) (none : None ≡ option_map (λ d. d.row.place) (dup_of q dups)) where
+  pub unplaced_found : dup_of q dups ≡ None
+  unplaced_found = no_place (dup_of q dups) none
+
+  -- a change of its items changes no dup
+  pub unplaced_changed : (f : List GuestPage → List GuestPage) → dups ≡ change_items q f dups
+  unplaced_changed f = unchanged_items q f dups unplaced_found
+
 module _ (s : SlotsState) (next : ℕ) (index : Index) (h : AreIndexed s next index) where
-  -- a number that the index has is that of the dup at its place
-  pub indexed_found : (q p : ℕ) → Some p ≡ place_of q index → dup_of q s.dups ≡ dup_at p s.dups
-  indexed_found q p is = number_place_found q p s.dups h.lawful.in_place_order (sym (h.numbered q) ∙ sym is)
-
-  -- to change the items of a number is to change those of the dup at the place that the index gives for it
-  pub indexed_changed : (q p : ℕ) (f : List GuestPage → List GuestPage) → Some p ≡ place_of q index → change_items q f s.dups ≡ change_at p f s.dups
-  indexed_changed q p f is = number_place_changed q p f s.dups h.lawful.in_place_order (sym (h.numbered q) ∙ sym is)
-
-  -- no dup has a number that the index lacks
-  pub unindexed_found : (q : ℕ) → None ≡ place_of q index → dup_of q s.dups ≡ None
-  unindexed_found q is = unknown_found q s.dups (sym (h.numbered q) ∙ sym is)
-
-  -- a change of the items of a number that the index lacks changes no dup
-  pub unindexed_changed : (q : ℕ) (f : List GuestPage → List GuestPage) → None ≡ place_of q index → s.dups ≡ change_items q f s.dups
-  unindexed_changed q f is = unknown_changed q f s.dups (sym (h.numbered q) ∙ sym is)
-
   -- the index gives for each number the place of its dup
   pub indexed_place : (q : ℕ) → place_of q index ≡ option_map (λ d. d.row.place) (dup_of q s.dups)
-  indexed_place q =
-      h.numbered q
-      ∙ ap (option_map (λ r. r.place)) (sym (row_found (has_number q) (λ r. r.number == q) (λ d. refl) s.dups))
-      ∙ place_of_row (dup_of q s.dups)
-
-  -- a dup stands at each place that the index gives
-  pub indexed_there : (q p : ℕ) → Some p ≡ place_of q index → is_some (dup_at p s.dups) ≡ true
-  indexed_there q p is =
-      let there = row_some (find (λ r. r.number == q) (rows_of s.dups)) (sym (h.numbered q) ∙ sym is) in
-      let dup = dup_some (dup_of q s.dups) (ap is_some (row_found (has_number q) (λ r. r.number == q) (λ d. refl) s.dups) ∙ there) in
-      ap is_some (sym (indexed_found q p is)) ∙ dup
+  indexed_place q = h.numbered q ∙ row_placed q s.dups
 
   -- a change of items changes no row, and so nothing of the index
   pub stays_indexed : (p : ℕ) (f : List GuestPage → List GuestPage) → AreIndexed (record { places = s.places; dups = change_at p f s.dups }) next index
@@ -82,12 +69,25 @@ module _ (s : SlotsState) (next : ℕ) (index : Index) (h : AreIndexed s next in
         grouped = λ t b. h.grouped t b ∙ ap (group_places t b) (sym same);
       }
 
+-- the group under the number of a tree and bytes is of these, and has the places of their dups
+module _ (s : SlotsState) (next : ℕ) (index : Index) (h : AreIndexed s next index) (tree : ℕ) (bytes : List ℕ) where
+  module _ (number : ℕ) (g : Group) (is : number_of tree bytes index.groups.numbers.entries ≡ Some number) (at : Some g ≡ get index.groups.groups number) where
+    pub group_here : g.places.list.items ≡ group_places tree bytes (rows_of s.dups)
+    group_here = sym (ap (under [] (λ n. places_in (get index.groups.groups n))) is ∙ ap places_in (sym at)) ∙ h.grouped tree bytes
+
+    pub content_here : g.content ≡ content_of tree bytes
+    content_here = same_Some g.content (content_of tree bytes) (ap content_in at ∙ (index.groups.lawful.numbered (content_of tree bytes) number).0 is)
+
+  -- a content without a number has no dup
+  pub group_absent : number_of tree bytes index.groups.numbers.entries ≡ None → [] ≡ group_places tree bytes (rows_of s.dups)
+  group_absent none = sym (ap (under [] (λ n. places_in (get index.groups.groups n))) none) ∙ h.grouped tree bytes
+
 -- the totals tell of each group
 pub told : (s : SlotsState) (next : ℕ) (index : Index) → AreIndexed s next index → (t : ℕ) (b : List ℕ) → Tells (length (places_of t b index)) index.groups.totals
 told s next index h t b =
     rw (h.grouped t b) (totals_tell t b s.places (rows_of s.dups) index.groups.totals h.few h.lawful.places_below h.lawful.in_place_order h.counted)
 
--- the row found at a place is that of the dup there
+-- the row of the dup at a place
 pub row_at_place : (p : ℕ) (dups : List Dup) (d : Option Dup) → dup_at p dups ≡ d → find (λ r. r.place == p) (rows_of dups) ≡ option_map (λ e. e.row) d
 row_at_place p dups d is = sym (row_found (stands_at p) (λ r. r.place == p) (λ e. refl) dups) ∙ ap (option_map (λ e. e.row)) is
 
@@ -121,7 +121,7 @@ gone_indexed s next index new p d h found at numbers groups regrouped =
     ∙ (λ i. if sym (own_group t b d.row) i then without (at i) (h.grouped t b i) else h.grouped t b i)
     ∙ sym (cond_if (in_group t b d.row) (without p (group_places t b rows)) (group_places t b rows) (without p (group_places t b rows)) (λ _. refl)
     (λ outside. group_unlike p t b rows (not_in_group p t b s.dups d h.lawful.in_place_order found outside)))
-    ∙ sym (group_elsewhere p t b rows) in
+    ∙ sym (group_at (λ q. not (q == p)) t b rows) in
     let more = more_there p rows d.row h.lawful.in_place_order (row_at_place p s.dups (Some d) found) in
     let own = self_group d.row in
     record {
@@ -143,9 +143,16 @@ gone_indexed s next index new p d h found at numbers groups regrouped =
 
 -- the dup found at a place stands there
 pub found_stands : (p : ℕ) (dups : List Dup) (d : Dup) → dup_at p dups ≡ Some d → d.row.place ≡ p
-found_stands p dups d found = eqb-true d.row.place p (found_passes (stands_at p) dups d found)
+found_stands p dups d found = eqb-true d.row.place p (find_passes (stands_at p) dups d found)
 
--- no dup that passes a test is found at a place where no dup stands
+-- the dup found at a place is the one that has its number
+pub stands_numbered : (p q : ℕ) (dups : List Dup) (d : Dup) → InPlaceOrder (rows_of dups) → dup_at p dups ≡ Some d → d.row.number ≡ q → Some p ≡ option_map (λ d. d.row.place) (dup_of q dups)
+stands_numbered p q dups d rise found is =
+    let only = only_one p (rows_of dups) d.row rise (row_at_place p dups (Some d) found) in
+    let one = all_rows (λ r. (r.place == p) ≡ (r.number == q)) dups (λ k e lt. (only k e lt).0 ∙ ap (λ n. (get_or (rows_of dups) k e).number == n) is) in
+    ap Some (sym (found_stands p dups d found)) ∙ ap (option_map (λ d. d.row.place)) (sym found ∙ agree_found (stands_at p) (has_number q) dups one)
+
+-- where nothing stands, nothing that passes a test stands
 pub none_there : (p : ℕ) (test : Dup → Bool) (dups : List Dup) → None ≡ dup_at p dups → is_some (find (λ d. stands_at p d && test d) dups) ≡ true → ⊥
 none_there p test [] none there = false≢true there
 none_there p test (d ∷ dups) none there =

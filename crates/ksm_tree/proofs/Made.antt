@@ -1,26 +1,10 @@
 -- The index once a new dup has taken its place.
-use Rattle.std.proofs.Common.{◌≡◌, ◌∙◌, ℕ, ◌+◌, ◌<◌, Bool, true, false, List, Option, None, Some, refl, sym, ap, subst, inl, inr, arith}
-use Rattle.std.specs.Prelude.{◌==◌, ◌&&◌, not, All, filter, length, option_map, bytes_eq, if◌then◌else◌}
-use Rattle.std.proofs.lemmas.Bool.{cases_Bool, ne_eqb, eqb-true}
-use Rattle.std.proofs.lemmas.Bool.Decides.{nat_tests}
-use Rattle.std.proofs.lemmas.List.Elements.{All-weaker}
-use Rattle.std.proofs.lemmas.List.Kept.{AllPairs-filter}
-use Rattle.ksm_base.specs.declared.row.DupRow.{DupRow}
-use Rattle.ksm_base.specs.Rows.{InPlaceOrder, with_dup}
-use Rattle.ksm_base.proofs.RowCounts.{filter_all}
-use Rattle.ksm_base.proofs.Edits.{find_nothing, find_none}
-use Rattle.ksm_tree.specs.declared.dup.Dup.{Dup}
-use Rattle.ksm_tree.specs.declared.index.Index.{Index}
-use Rattle.ksm_tree.specs.Dups.{AreDups, rows_of, dup_at, with_new}
-use Rattle.ksm_tree.specs.Index.{AreIndexed, dups_seen, in_group, place_of, places_of, row_place, group_places}
-use Rattle.ksm_tree.specs.Places.{with_place, without}
-use Rattle.ksm_tree.specs.Slots.{SlotsState}
+use Rattle.ksm_tree.proofs.Names.{All, All-weaker, AllPairs-filter, ap, AreDups, AreIndexed, AreTotals, arith, Bool, bytes_eq, cases_Bool, Dup, dup_at, DupRow, dups_seen, DupsState, eqb-true, false, filter, filter_all, find_all, find_none, find_nothing, group_places, if◌then◌else◌, in_group, Index, inl, InPlaceOrder, inr, IsRegrouped, length, List, nat_tests, ne_eqb, None, not, Option, option_map, place_of, places_of, refl, row_place, rows_of, SameWaits, SlotsState, Some, subst, sym, Tells, true, with_dup, with_new, with_place, without, ℕ, ◌&&◌, ◌+◌, ◌<◌, ◌==◌, ◌∙◌, ◌≡◌}
 use Rattle.ksm_tree.proofs.Changes.{rows_new}
-use Rattle.ksm_tree.specs.Totals.{AreTotals, IsRegrouped, Tells}
 use Rattle.ksm_tree.proofs.Grouped.{IsMore, chains_kept, dups_kept, more_with, more_there, places_size, totals_apart, totals_between, totals_few, totals_moved, totals_same}
 use Rattle.ksm_tree.proofs.Keys.{own_bytes, own_group, own_tree, self_group}
 use Rattle.ksm_tree.proofs.Indexed.{row_at_place, not_in_group, cond_if, found_stands, told}
-use Rattle.ksm_tree.proofs.Rows.{rows_with, all_with, place_new, place_kept, place_gone, group_joined, group_passed, group_unlike, found_in}
+use Rattle.ksm_tree.proofs.Rows.{rows_with, all_with, place_new, place_kept, place_gone, group_joined, group_passed, group_unlike}
 
 -- the place of a number, and the places of a group, with a new row
 place_with : (q : ℕ) (row : DupRow) (rows : List DupRow) → InPlaceOrder rows → All (λ r. r.number < row.number) rows → row_place q (with_dup row rows) ≡ (if q == row.number then Some row.place else row_place q (filter (λ r. not (r.place == row.place)) rows))
@@ -38,7 +22,7 @@ module _ (s : SlotsState) (next : ℕ) (index new : Index) (dup : Dup) (h : AreI
   fresh : All (λ r. r.number < dup.row.number) (rows_of s.dups)
   fresh = rw number h.lawful.numbers_below
 
-  lawful_new : AreDups (dups_seen (record { places = s.places; dups = with_new dup s.dups }) (next + 1))
+  lawful_new : AreDups (dups_seen (record { places = s.places; dups = with_new dup s.dups }) (next + 1) new)
   lawful_new =
       let rows = rows_of s.dups in
       let is = rows_new dup s.dups in
@@ -163,7 +147,7 @@ module _ (s : SlotsState) (next : ℕ) (index new : Index) (dup : Dup) (h : AreI
       let p = dup.row.place in
       let at = found_stands p s.dups old (sym found) in
       let row_found = row_at_place p s.dups (Some old) (sym found) in
-      let older : old.row.number < dup.row.number = found_in (λ r. r.number < dup.row.number) (λ r. r.place == p) rows old.row fresh row_found in
+      let older : old.row.number < dup.row.number = find_all (λ r. r.place == p) (λ r. r.number < dup.row.number) rows old.row row_found fresh in
       let apart : (old.row.number == dup.row.number) ≡ false = ne_eqb old.row.number dup.row.number (λ e. omega (arith, older, e)) in
       let grouped : (t : ℕ) (b : List ℕ) → places_of t b new ≡ group_places t b (with_dup dup.row rows) = λ t b.
       let g = group_places t b rows in
@@ -207,6 +191,13 @@ module _ (s : SlotsState) (next : ℕ) (index new : Index) (dup : Dup) (h : AreI
             ∙ ap (row_place q) (sym (rows_new dup s.dups));
         grouped = λ t b. grouped t b ∙ ap (group_places t b) (sym (rows_new dup s.dups));
       }
+
+-- what callers see once a dup is made
+pub seen_made : (s : SlotsState) (next : ℕ) (index new : Index) (dup : ℕ → Dup) (old : DupsState) → dups_seen s next index ≡ old → SameWaits index.groups new.groups
+    → dups_seen (record { places = s.places; dups = with_new (dup next) s.dups }) (next + 1) new ≡ record old { dups = with_new (dup old.next) old.dups; next = old.next + 1 }
+seen_made s next index new dup old view same =
+    (λ i. record { places = s.places; dups = with_new (dup next) s.dups; next = next + 1; waiting = same.waiting i; numbers = same.numbers i })
+    ∙ ap {A = DupsState} {B = DupsState} (λ o. record o { dups = with_new (dup o.next) o.dups; next = o.next + 1 }) view
 
 -- the next number is that of no dup
 pub next_unused : (s : SlotsState) (next : ℕ) (index : Index) → AreIndexed s next index → place_of next index ≡ None

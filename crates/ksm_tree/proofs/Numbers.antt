@@ -1,12 +1,5 @@
 -- Places in order: what an insert or a removal where a search ends leaves.
-use Rattle.std.proofs.Common.{◌≡◌, ◌∙◌, ℕ, ◌-◌, ◌<◌, List, true, false, length, get_or, sym, ap, inl, inr, arith}
-use Rattle.std.specs.Prelude.{◌==◌, nat_lt, filter, insert, remove, slice_get, AllPairs, Some, Result, Ok, Err, IsOk, OnOk, OnErr}
-use Rattle.std.specs.List.{list_any}
-use Rattle.std.proofs.lemmas.Bool.{cases_lt, false≢true}
-use Rattle.std.proofs.lemmas.Bool.Decides.{nat_tests}
-use Rattle.std.proofs.lemmas.Option.{get_or_from_slice_get, slice_get_within}
-use Rattle.ksm_rmap.proofs.Ordered.{IsOrder, insert_at, with_found, remove_at, absent_kept, point_is_count}
-use Rattle.ksm_tree.specs.Places.{with_place, without}
+use Rattle.ksm_tree.proofs.Names.{absent_kept, AllPairs, ap, arith, cases_lt, Err, false, false≢true, filter, get_or, get_or_from_slice_get, inl, inr, insert, insert_at, IsOk, IsOrder, length, List, list_any, nat_lt, nat_tests, Ok, OnErr, OnOk, point_is_count, remove, remove_at, Result, slice_get, slice_get_within, Some, sym, true, with_found, with_place, without, ℕ, ◌-◌, ◌<◌, ◌==◌, ◌∙◌, ◌≡◌}
 
 -- what holds wherever a result is `Ok` holds of a result that is
 pub at_ok : {T E : Type 0} {P : Type 0} (r : Result T E) → IsOk r → OnOk r P → P

@@ -1,31 +1,7 @@
 -- What a change of one slot does to the dups and to the places whose slots pass a test.
-use Rattle.std.proofs.Common.{◌≡◌, ◌∙◌, ℕ, zero, suc, ◌+◌, ◌-◌, ◌<◌, ◌≤◌, Bool, true, false, List, [], ◌∷◌, ◌++◌, reverse, length, length-set, length-append, get_or, map, set, Option, None, Some, refl, sym, ap, inl, inr, arith}
-use Rattle.std.specs.Prelude.{◌==◌, not, nat_lt, All, filter, find, option_map, is_some, slice_get, if◌then◌else◌}
-use Rattle.std.proofs.lemmas.Bool.Decides.{nat_tests}
-use Rattle.std.proofs.lemmas.Bool.{cases_Bool, false≢true}
-use Rattle.std.proofs.lemmas.List.{append-nil, get_or-reverse, get_or_default, get_or_push, set-get_or, length-map, length-reverse, map-set, set-append_left, set-append_right}
-use Rattle.std.proofs.lemmas.Option.{none-some, same_Some, slice_get-get_or}
-use Rattle.std.proofs.Math.ListN.{get_or-map}
-use Rattle.std.proofs.Math.Seq.{map-set_same}
+use Rattle.ksm_tree.proofs.Names.{[], absent_kept, All, All-cons, All-weaker, ap, append-nil, ArePlaced, AreSlots, arith, Bool, cases_Bool, change_at, comes_before, count_in, Dup, dup_at, empty_from, empty_place, false, false≢true, filter, filter_all, filter_none, find, find_nothing, get_or, get_or-map, get_or-reverse, get_or_default, get_or_push, GuestPage, has_item, if◌then◌else◌, inl, inr, is_empty_slot, is_live, is_some, is_stale, is_stale_slot, items_in, length, length-append, length-map, length-reverse, length-set, List, map, map-set, map-set_same, nat_lt, nat_tests, None, none-some, not, Option, option_map, pages_ordered, places_where, present, refl, reverse, rows_of, same_page, same_Some, set, set-append_left, set-append_right, set-get_or, slice_get, slice_get-get_or, slots_seen, SlotsState, SmallVec, Some, stands_at, suc, sym, true, with_item, with_new, with_place, without, without_item, without_place, zero, ℕ, ◌++◌, ◌+◌, ◌-◌, ◌<◌, ◌==◌, ◌∙◌, ◌∷◌, ◌≡◌, ◌≤◌}
 use mathlib.Core.List.{reverse-cons}
-use Rattle.std.proofs.lemmas.List.Elements.{All-cons, All-weaker}
-use Rattle.ksm_base.specs.declared.page.GuestPage.{GuestPage}
-use Rattle.ksm_base.specs.Rows.{comes_before, same_page}
-use Rattle.ksm_base.specs.Visit.{empty_from}
-use Rattle.ksm_base.proofs.Orders.{filter_none}
-use Rattle.ksm_base.proofs.RowCounts.{filter_all}
-use Rattle.ksm_base.proofs.Edits.{find_nothing}
-use Rattle.ksm_tree.specs.Choosing.{empty_place}
-use Rattle.ksm_rmap.specs.Items.{has_item, with_item, without_item}
-use Rattle.smallvec.specs.SmallVec.{SmallVec}
-use Rattle.ksm_rmap.proofs.Ordered.{absent_kept}
-use Rattle.ksm_rmap.proofs.Pages.{pages_ordered}
-use Rattle.ksm_tree.specs.declared.dup.Dup.{Dup}
 use Rattle.ksm_tree.proofs.Where.{where_with, where_without, where_same, where_room}
-use Rattle.ksm_tree.specs.Dups.{stands_at, dup_at, items_in, is_stale, is_live, rows_of, with_new, without_place}
-use Rattle.ksm_tree.specs.Places.{with_place, without}
-use Rattle.ksm_tree.specs.Counts.{places_where}
-use Rattle.ksm_tree.specs.Slots.{SlotsState, slots_seen, present, count_in, is_empty_slot, is_stale_slot, ArePlaced, AreSlots, change_at}
 
 -- the dups of slots from k on stand at k or behind it
 pub placed_above : (k : ℕ) (slots : List (Option Dup)) → ArePlaced k slots → All (λ d. k ≤ d.row.place) (present slots)

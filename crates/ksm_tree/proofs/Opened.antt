@@ -1,14 +1,6 @@
 -- Slots that are all empty.
-use Rattle.std.proofs.Common.{◌≡◌, ◌∙◌, ℕ, zero, suc, ◌+◌, ◌<◌, ◌≤◌, List, [], ◌∷◌, ◌++◌, reverse, length, map, replicate, None, Option, refl, sym, ap, add-one, arith}
-use Rattle.std.specs.List.{range_with_len}
+use Rattle.ksm_tree.proofs.Names.{[], add-one, ap, ArePlaced, AreSlots, arith, count_in, Dup, is_empty_slot, is_stale_slot, length, List, map, nat_tests, None, Option, places_where, present, range_with_len, refl, replicate, replicate-append-replicate, reverse, slots_seen, SmallVec, suc, sym, with_place, zero, ℕ, ◌++◌, ◌+◌, ◌<◌, ◌∙◌, ◌∷◌, ◌≡◌, ◌≤◌}
 use mathlib.Core.List.{reverse-cons}
-use Rattle.std.proofs.lemmas.List.{replicate-append-replicate}
-use Rattle.std.proofs.lemmas.Bool.Decides.{nat_tests}
-use Rattle.smallvec.specs.SmallVec.{SmallVec}
-use Rattle.ksm_tree.specs.declared.dup.Dup.{Dup}
-use Rattle.ksm_tree.specs.Places.{with_place}
-use Rattle.ksm_tree.specs.Counts.{places_where}
-use Rattle.ksm_tree.specs.Slots.{slots_seen, present, count_in, is_empty_slot, is_stale_slot, ArePlaced, AreSlots}
 
 -- n empty slots
 abbrev pub none_of : ℕ → List (Option Dup)

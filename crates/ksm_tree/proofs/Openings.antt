@@ -1,16 +1,6 @@
 -- The open places, as the counts change.
-use Rattle.std.proofs.Common.{◌≡◌, ◌∙◌, ℕ, zero, suc, ◌+◌, ◌<◌, ◌≤◌, Bool, true, false, List, [], ◌∷◌, length, length-set, get_or, set, map, replicate, Option, None, Some, refl, sym, ap, inl, inr, arith}
-use Rattle.std.specs.Prelude.{◌==◌}
+use Rattle.ksm_tree.proofs.Names.{[], ap, AreCounts, ArePlaced, arith, Bool, cases_Bool, count_in, Dup, false, false≢true, get_or, inl, inr, is_open, length, length-set, List, list_all, map, nat_tests, None, Option, places_open, places_where, present, refl, replicate, set, SmallVec, Some, suc, sym, true, with_place, without, zero, ℕ, ◌+◌, ◌<◌, ◌==◌, ◌∙◌, ◌∷◌, ◌≡◌, ◌≤◌}
 use mathlib.Core.Bool.{beq}
-use Rattle.std.specs.List.{list_all}
-use Rattle.std.proofs.lemmas.Bool.{cases_Bool, false≢true}
-use Rattle.std.proofs.lemmas.Bool.Decides.{nat_tests}
-use Rattle.smallvec.specs.SmallVec.{SmallVec}
-use Rattle.ksm_tree.specs.declared.dup.Dup.{Dup}
-use Rattle.ksm_tree.specs.Counts.{AreCounts, is_open, places_where}
-use Rattle.ksm_tree.specs.Dups.{places_open}
-use Rattle.ksm_tree.specs.Places.{with_place, without}
-use Rattle.ksm_tree.specs.Slots.{present, count_in, ArePlaced}
 use Rattle.ksm_tree.proofs.Where.{where_with, where_without, where_same, where_room}
 
 -- two answers that test as alike are the same

@@ -1,16 +1,5 @@
 -- Dup rows in the order of their places: what a new row and a row that goes change of what is found.
-use Rattle.std.proofs.Common.{◌≡◌, ◌∙◌, ℕ, suc, ◌<◌, Bool, true, false, List, [], ◌∷◌, ◌++◌, get_or, None, Some, refl, sym, ap, inl, inr, arith}
-use Rattle.std.specs.Prelude.{◌==◌, ◌&&◌, not, nat_lt, All, filter, find, option_map, if◌then◌else◌}
-use Rattle.std.proofs.lemmas.Bool.{cases_Bool, cases_lt, ltb-true, ne_eqb, false≢true}
-use Rattle.std.proofs.lemmas.Option.{none-some, same_Some}
-use Rattle.std.proofs.lemmas.Bool.Decides.{nat_tests}
-use Rattle.std.proofs.lemmas.List.Elements.{All-head, All-tail, All-append, All-weaker, All-cons, All-filter, filter_passes}
-use Rattle.std.proofs.lemmas.List.Kept.{AllPairs-cons, AllPairs-filter}
-use Rattle.ksm_base.specs.declared.row.DupRow.{DupRow}
-use Rattle.ksm_base.specs.Rows.{InPlaceOrder, with_dup}
-use Rattle.ksm_base.proofs.Orders.{pairs_head, pairs_tail, pairs_append, filter_none, pairs_cross}
-use Rattle.ksm_tree.specs.Index.{in_group, row_place, group_places}
-use Rattle.ksm_tree.specs.Places.{with_place, without}
+use Rattle.ksm_tree.proofs.Names.{[], All, All-append, All-cons, All-filter, All-head, All-tail, All-weaker, AllPairs-cons, AllPairs-filter, ap, arith, Bool, cases_Bool, cases_lt, cond, DupRow, false, false≢true, filter, filter-append, filter_none, filter_passes, find, find-append, find_all, find_nothing, find_over, get_or, group_places, if◌then◌else◌, in_group, inl, InPlaceOrder, inr, List, ltb-true, map, map-append, nat_lt, nat_tests, ne_eqb, None, none-some, not, option_map, option_or, pairs_append, pairs_cross, pairs_head, pairs_tail, refl, row_place, same_Some, Some, suc, sym, true, with_dup, with_place, without, ℕ, ◌&&◌, ◌++◌, ◌<◌, ◌==◌, ◌∙◌, ◌∷◌, ◌≡◌}
 
 -- one dup's place is before the other's
 abbrev pub Comes : DupRow → DupRow → Type 0
@@ -43,52 +32,6 @@ module _ (p : ℕ) where
         | inr no_greater ↦ grind (arith, nat_tests, no_greater, rest)
       ]
 
-  -- the places of a group among the dups elsewhere are its places without this one
-  pub group_elsewhere : (t : ℕ) (b : List ℕ) (rows : List DupRow) → group_places t b (filter elsewhere rows) ≡ without p (group_places t b rows)
-  group_elsewhere t b [] = refl
-  group_elsewhere t b (r ∷ rows) =
-      let rest = group_elsewhere t b rows in
-      elim (cases_Bool (in_group t b r)) [
-        | inl inside ↦ elim (cases_Bool (r.place == p)) [
-          | inl here ↦ grind (arith, inside, here, rest)
-          | inr away ↦ grind (arith, inside, away, rest)
-        ]
-        | inr outside ↦ elim (cases_Bool (r.place == p)) [
-          | inl here ↦ grind (arith, outside, here, rest)
-          | inr away ↦ grind (arith, outside, away, rest)
-        ]
-      ]
-
-  pub group_below : (t : ℕ) (b : List ℕ) (rows : List DupRow) → group_places t b (filter below rows) ≡ filter (λ q. nat_lt q p) (group_places t b rows)
-  group_below t b [] = refl
-  group_below t b (r ∷ rows) =
-      let rest = group_below t b rows in
-      elim (cases_Bool (in_group t b r)) [
-        | inl inside ↦ elim (cases_Bool (below r)) [
-          | inl here ↦ grind (arith, inside, here, rest)
-          | inr away ↦ grind (arith, inside, away, rest)
-        ]
-        | inr outside ↦ elim (cases_Bool (below r)) [
-          | inl here ↦ grind (arith, outside, here, rest)
-          | inr away ↦ grind (arith, outside, away, rest)
-        ]
-      ]
-
-  pub group_above : (t : ℕ) (b : List ℕ) (rows : List DupRow) → group_places t b (filter above rows) ≡ filter (λ q. nat_lt p q) (group_places t b rows)
-  group_above t b [] = refl
-  group_above t b (r ∷ rows) =
-      let rest = group_above t b rows in
-      elim (cases_Bool (in_group t b r)) [
-        | inl inside ↦ elim (cases_Bool (above r)) [
-          | inl here ↦ grind (arith, inside, here, rest)
-          | inr away ↦ grind (arith, inside, away, rest)
-        ]
-        | inr outside ↦ elim (cases_Bool (above r)) [
-          | inl here ↦ grind (arith, outside, here, rest)
-          | inr away ↦ grind (arith, outside, away, rest)
-        ]
-      ]
-
   -- where no row of a group stands at the place, its places stay without it
   pub group_unlike : (t : ℕ) (b : List ℕ) (rows : List DupRow) → All (λ r. (r.place == p && in_group t b r) ≡ false) rows → without p (group_places t b rows) ≡ group_places t b rows
   group_unlike t b [] none = refl
@@ -100,15 +43,25 @@ module _ (p : ℕ) where
         | inr outside ↦ grind (arith, outside, rest)
       ]
 
+-- the places of a group's rows at some places are those of its places
+pub group_at : (test : ℕ → Bool) (t : ℕ) (b : List ℕ) (rows : List DupRow) → group_places t b (filter (λ r. test r.place) rows) ≡ filter test (group_places t b rows)
+group_at test t b [] = refl
+group_at test t b (r ∷ rows) =
+    let rest = group_at test t b rows in
+    elim (cases_Bool (in_group t b r)) [
+      | inl inside ↦ elim (cases_Bool (test r.place)) [
+        | inl here ↦ grind (arith, inside, here, rest)
+        | inr away ↦ grind (arith, inside, away, rest)
+      ]
+      | inr outside ↦ elim (cases_Bool (test r.place)) [
+        | inl here ↦ grind (arith, outside, here, rest)
+        | inr away ↦ grind (arith, outside, away, rest)
+      ]
+    ]
+
 -- a list of rows with one put in
 group_append : (t : ℕ) (b : List ℕ) (xs ys : List DupRow) → group_places t b (xs ++ ys) ≡ group_places t b xs ++ group_places t b ys
-group_append t b [] ys = refl
-group_append t b (x ∷ xs) ys =
-    let rest = group_append t b xs ys in
-    elim (cases_Bool (in_group t b x)) [
-      | inl inside ↦ grind (arith, inside, rest)
-      | inr outside ↦ grind (arith, outside, rest)
-    ]
+group_append t b xs ys = ap (map (λ r. r.place)) (filter-append (in_group t b) xs ys) ∙ map-append (λ r. r.place) (filter (in_group t b) xs) (filter (in_group t b) ys)
 
 -- a new row of a group adds its place to the places of the group
 pub group_joined : (t : ℕ) (b : List ℕ) (row : DupRow) (rows : List DupRow) → in_group t b row ≡ true → group_places t b (with_dup row rows) ≡ with_place row.place (group_places t b rows)
@@ -116,8 +69,8 @@ group_joined t b row rows inside =
     let lower = filter (below row.place) rows in
     let higher = filter (above row.place) rows in
     let front = group_append t b lower (row ∷ higher) in
-    let low = group_below row.place t b rows in
-    let high = group_above row.place t b rows in
+    let low = group_at (λ q. nat_lt q row.place) t b rows in
+    let high = group_at (nat_lt row.place) t b rows in
     let first : group_places t b (row ∷ higher) ≡ row.place ∷ group_places t b higher = grind (arith, inside) in
     front ∙ (λ i. low i ++ (first ∙ ap (λ ps. row.place ∷ ps) high) i)
 
@@ -131,19 +84,7 @@ group_passed t b row rows rise outside =
     ∙ (λ i. group_places t b lower ++ first i)
     ∙ sym (group_append t b lower higher)
     ∙ ap (group_places t b) (sym (rows_parted row.place rows rise))
-    ∙ group_elsewhere row.place t b rows
-
--- a search past one that fails, and up to one that passes
-find_past : {X : Type 0} (test : X → Bool) (x : X) (xs ys : List X) → test x ≡ false → find test (xs ++ x ∷ ys) ≡ find test (xs ++ ys)
-find_past test x [] ys fails = grind (arith, fails)
-find_past test x (z ∷ xs) ys fails = let rest = find_past test x xs ys fails in grind (arith, rest)
-
-find_to : {X : Type 0} (test : X → Bool) (x : X) (xs ys : List X) → All (λ z. test z ≡ false) xs → test x ≡ true → find test (xs ++ x ∷ ys) ≡ Some x
-find_to test x [] ys none passes = grind (arith, passes)
-find_to test x (z ∷ xs) ys none passes =
-    let here = All-head (λ w. test w ≡ false) z xs none in
-    let rest = find_to test x xs ys (All-tail (λ w. test w ≡ false) z xs none) passes in
-    grind (arith, here, rest)
+    ∙ group_at (λ q. not (q == row.place)) t b rows
 
 -- the number of a new row has the place of the row
 pub place_new : (row : DupRow) (rows : List DupRow) → All (λ r. r.number < row.number) rows → row_place row.number (with_dup row rows) ≡ Some row.place
@@ -151,7 +92,12 @@ place_new row rows fresh =
     let F : DupRow → Type 0 = λ r. r.number < row.number in
     let lower = filter (below row.place) rows in
     let none = All-weaker F (λ r. numbered row.number r ≡ false) (λ r h. ne_eqb r.number row.number (λ e. omega (arith, h, e))) lower (All-filter (below row.place) F rows fresh) in
-    ap (option_map (λ r. r.place)) (find_to (numbered row.number) row lower (filter (above row.place) rows) none (grind (arith, nat_tests)))
+    let higher = filter (above row.place) rows in
+    let here : numbered row.number row ≡ true = grind (arith, nat_tests) in
+    ap (option_map (λ r. r.place))
+    (find-append (numbered row.number) lower (row ∷ higher)
+    ∙ ap (λ o. option_or o (find (numbered row.number) (row ∷ higher))) (find_nothing (numbered row.number) lower none)
+    ∙ ap (λ b. cond b (Some row) (find (numbered row.number) higher)) here)
 
 -- a new dup changes the place of no other number that stays
 pub place_kept : (q : ℕ) (row : DupRow) (rows : List DupRow) → InPlaceOrder rows → (q == row.number) ≡ false → row_place q (with_dup row rows) ≡ row_place q (filter (elsewhere row.place) rows)
@@ -159,25 +105,7 @@ place_kept q row rows rise other =
     let lower = filter (below row.place) rows in
     let higher = filter (above row.place) rows in
     let fails : numbered q row ≡ false = grind (arith, nat_tests, other) in
-    ap (option_map (λ r. r.place)) (find_past (numbered q) row lower higher fails ∙ ap (find (numbered q)) (sym (rows_parted row.place rows rise)))
-
--- what is found is one of the list, and passes
-pub found_in : {X : Type 0} (P : X → Type 0) (test : X → Bool) (xs : List X) (e : X) → All P xs → find test xs ≡ Some e → P e
-found_in P test [] e each found = absurd (none-some e found)
-found_in P test (x ∷ xs) e each found =
-    elim (cases_Bool (test x)) [
-      | inl passes ↦ let same : x ≡ e = same_Some x e (grind (arith, passes, found)) in rw (← same) (All-head P x xs each)
-      | inr fails ↦ found_in P test xs e (All-tail P x xs each) (grind (arith, fails, found))
-    ]
-
--- what is found passes the test
-pub found_passes : {X : Type 0} (test : X → Bool) (xs : List X) (e : X) → find test xs ≡ Some e → test e ≡ true
-found_passes test [] e found = absurd (none-some e found)
-found_passes test (x ∷ xs) e found =
-    elim (cases_Bool (test x)) [
-      | inl passes ↦ let same : x ≡ e = same_Some x e (grind (arith, passes, found)) in rw (← same) passes
-      | inr fails ↦ found_passes test xs e (grind (arith, fails, found))
-    ]
+    ap (option_map (λ r. r.place)) (find_over (numbered q) lower higher row fails ∙ ap (find (numbered q)) (sym (rows_parted row.place rows rise)))
 
 -- the row that stands at a place is the only one there, and the only one of its number
 abbrev pub IsOne : ℕ → DupRow → DupRow → Type 0
@@ -198,7 +126,7 @@ only_one p (r ∷ rows) e rise found =
           (away ∙ sym other, λ at. absurd (false≢true (sym away ∙ at)))) rows first)
       | inr away ↦
           let found_rest : find (λ s. s.place == p) rows ≡ Some e = grind (arith, away, found) in
-          let apart = found_in (Comes r) (λ s. s.place == p) rows e first found_rest in
+          let apart = find_all (λ s. s.place == p) (Comes r) rows e found_rest first in
           let rest = only_one p rows e (pairs_tail Comes r rows rise) found_rest in
           All-cons (IsOne p e) r rows (away ∙ sym apart.1, λ at. absurd (false≢true (sym away ∙ at))) rest
     ]
@@ -222,7 +150,7 @@ only_number q (r ∷ rows) e rise found =
           other ∙ sym away) rows first)
       | inr other ↦
           let found_rest : find (numbered q) rows ≡ Some e = grind (arith, other, found) in
-          let apart = found_in (Comes r) (numbered q) rows e first found_rest in
+          let apart = find_all (numbered q) (Comes r) rows e found_rest first in
           let away : (r.place == e.place) ≡ false = (let h_place = apart.0 in grind (arith, nat_tests, h_place)) in
           All-cons (IsThat q e) r rows (other ∙ sym away) (only_number q rows e (pairs_tail Comes r rows rise) found_rest)
     ]

@@ -1,23 +1,5 @@
 -- The pages of the rows merged into a dup, after a change of one row.
-use Rattle.std.proofs.Common.{◌≡◌, ◌∙◌, suc, Bool, true, false, List, [], ◌∷◌, ◌++◌, length, get_or, map, refl, sym, ap, inl, inr, arith}
-use Rattle.std.specs.Prelude.{not, All, filter, is_some}
-use Rattle.std.proofs.lemmas.Bool.{cases_Bool, false≢true}
-use Rattle.std.proofs.lemmas.Bool.Decides.{nat_tests}
-use Rattle.std.proofs.lemmas.List.{length-map}
-use Rattle.std.proofs.lemmas.List.Elements.{All-weaker}
-use Rattle.std.proofs.lemmas.List.Sums.{length-filter}
-use Rattle.ksm_base.specs.declared.page.GuestPage.{GuestPage}
-use Rattle.ksm_base.specs.declared.row.DupRow.{DupRow}
-use Rattle.ksm_base.specs.declared.row.Row.{Row}
-use Rattle.ksm_base.specs.Reading.{items_of}
-use Rattle.ksm_base.specs.Rows.{comes_before, same_page, InPageOrder, row_at, without_page, change_row, merged_into, item_count}
-use Rattle.ksm_base.proofs.Orders.{pairs_tail, filter_none}
-use Rattle.ksm_base.proofs.RowCounts.{filter_all}
-use Rattle.ksm_base.proofs.Edits.{find_nothing}
-use Rattle.ksm_rmap.specs.Items.{with_item, without_item}
-use Rattle.ksm_rmap.proofs.Pages.{pages_ordered}
-use Rattle.ksm_tree.specs.declared.dup.Dup.{Dup}
-use Rattle.ksm_tree.specs.Bridge.{AreCounted, AreTied}
+use Rattle.ksm_tree.proofs.Names.{[], All, All-weaker, ap, AreCounted, AreTied, arith, Bool, cases_Bool, change_row, comes_before, Dup, DupRow, false, false≢true, filter, filter_all, filter_none, find_nothing, get_or, GuestPage, inl, InPageOrder, inr, is_some, item_count, items_of, length, length-filter, length-map, List, map, merged_into, nat_tests, not, pages_ordered, pairs_tail, refl, Row, row_at, same_page, suc, sym, true, with_item, without_item, without_page, ◌++◌, ◌∙◌, ◌∷◌, ◌≡◌}
 
 irreflexive : (p : GuestPage) → comes_before p p ≡ false
 irreflexive p = grind (arith, nat_tests)

@@ -1,29 +1,7 @@
 -- The items of each dup stay the pages of the rows merged into it: the dups after a change of one row, and after a change of all.
-use Rattle.std.proofs.Common.{◌≡◌, ◌∙◌, ℕ, ◌<◌, true, false, List, [], ◌∷◌, length, get_or, map, ◌++◌, Option, Some, None, refl, sym, ap, inl, inr, arith}
-use Rattle.std.specs.Prelude.{◌==◌, nat_lt, not, All, filter, is_some, if◌then◌else◌}
-use Rattle.std.proofs.lemmas.Bool.{cases_Bool, cond_both, eqb-true, ne_eqb, false≢true}
-use Rattle.std.proofs.lemmas.Bool.Decides.{nat_tests}
-use Rattle.std.proofs.lemmas.Option.{same_Some}
-use Rattle.std.proofs.lemmas.List.Elements.{All-head, All-tail, All-append, All-cons, All-filter, All-map, All-weaker}
-use Rattle.ksm_base.specs.declared.page.GuestPage.{GuestPage}
-use Rattle.ksm_base.specs.declared.row.DupRow.{DupRow}
-use Rattle.ksm_base.specs.declared.row.PageState.{PageState}
-use Rattle.ksm_base.specs.declared.row.PageState.TheVariants.{Private, Waiting, Merged, Zero}
-use Rattle.ksm_base.specs.declared.row.Row.{Row}
-use Rattle.ksm_base.specs.Reading.{items_of}
-use Rattle.ksm_base.specs.Rows.{comes_before, same_page, InPageOrder, row_at, with_row, without_page, change_row, merged_state, merged_into, item_count}
-use Rattle.ksm_base.proofs.Edits.{find_none}
-use Rattle.ksm_base.proofs.Orders.{ordered_map, filter_none}
-use Rattle.ksm_base.proofs.RowCounts.{each_at_page, filter_all}
-use Rattle.ksm_base.proofs.SoundCounts.{not_an_item}
-use Rattle.ksm_rmap.specs.Items.{has_item, with_item, without_item}
-use Rattle.ksm_rmap.proofs.Ordered.{absent_kept}
-use Rattle.ksm_rmap.proofs.Pages.{pages_ordered}
-use Rattle.ksm_tree.specs.declared.dup.Dup.{Dup}
-use Rattle.ksm_tree.specs.Bridge.{AreTied, let_out}
-use Rattle.ksm_tree.specs.Dups.{rows_of, has_number, dup_of, items_in, items_of as items_numbered, stands_at, with_new, without_place, change_items}
+use Rattle.ksm_tree.proofs.Names.{[], absent_kept, All, All-append, All-cons, All-filter, All-head, All-map, All-tail, All-weaker, ap, AreTied, arith, cases_Bool, change_items, change_row, comes_before, cond_both, Dup, dup_of, DupRow, each_at_page, eqb-true, false, false≢true, filter, filter_all, filter_none, find_all, find_none, find_passes, get_or, GuestPage, has_item, has_number, if◌then◌else◌, inl, InPageOrder, inr, is_some, item_count, items_in, items_of, length, let_out, List, map, Merged, merged_into, merged_state, nat_lt, nat_tests, ne_eqb, None, not, not_an_item, Option, ordered_map, pages_ordered, PageState, Private, refl, Row, row_at, rows_of, same_page, same_Some, Some, stands_at, sym, true, Waiting, with_item, with_new, with_row, without_item, without_page, without_place, Zero, ℕ, ◌++◌, ◌<◌, ◌==◌, ◌∙◌, ◌∷◌, ◌≡◌}
+use Rattle.ksm_tree.specs.Dups.{items_of as items_numbered}
 use Rattle.ksm_tree.proofs.Changes.{all_rows}
-use Rattle.ksm_tree.proofs.Rows.{found_in, found_passes}
 use Rattle.ksm_tree.proofs.Tied.{ahead, behind, pages_that, pages_append, without_splits, items_dropped, items_joined, items_left, items_kept, tied_counted}
 
 abbrev IsTied : List Row → Dup → Type 0
@@ -103,7 +81,7 @@ module _ (rows : List Row) (page : GuestPage) (old : Row) (rise : InPageOrder ro
   absent_in : (number : ℕ) (dups : List Dup) (o : Option Dup) → merged_state old.state ≡ false → AreTied rows dups → dup_of number dups ≡ o → has_item page (items_in o) ≡ false
   absent_in number dups None alone tied is = refl
   absent_in number dups (Some d) alone tied is =
-      ap (has_item page) (found_in (IsTied rows) (has_number number) dups d tied is) ∙ not_item d.row (not_an_item d.row.number old.state alone)
+      ap (has_item page) (find_all (has_number number) (IsTied rows) dups d is tied) ∙ not_item d.row (not_an_item d.row.number old.state alone)
 
   -- a page whose row is not merged is an item of no dup
   pub tied_absent : (number : ℕ) (dups : List Dup) → merged_state old.state ≡ false → AreTied rows dups → has_item page (items_numbered number dups) ≡ false
@@ -113,11 +91,11 @@ module _ (rows : List Row) (page : GuestPage) (old : Row) (rise : InPageOrder ro
 pub tied_count : (rows : List Row) (dups : List Dup) (number : ℕ) (d : Dup) → AreTied rows dups → dup_of number dups ≡ Some d → length (items_numbered number dups) ≡ item_count rows d.row
 tied_count rows dups number d tied found =
     ap (λ o. length (items_in o)) found
-    ∙ found_in (λ e. length e.items ≡ item_count rows e.row) (has_number number) dups d (tied_counted rows dups tied) found
+    ∙ find_all (has_number number) (λ e. length e.items ≡ item_count rows e.row) dups d found (tied_counted rows dups tied)
 
 -- a dup found by its number has it
 pub number_found : (number : ℕ) (dups : List Dup) (d : Dup) → dup_of number dups ≡ Some d → d.row.number ≡ number
-number_found number dups d found = eqb-true d.row.number number (found_passes (has_number number) dups d found)
+number_found number dups d found = eqb-true d.row.number number (find_passes (has_number number) dups d found)
 
 -- a change that keeps each page finds the same pages
 pub row_stays : (page : GuestPage) (f : Row → Row) (rows : List Row) → ((r : Row) → (f r).page ≡ r.page) → is_some (row_at page (map f rows)) ≡ is_some (row_at page rows)

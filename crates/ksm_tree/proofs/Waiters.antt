@@ -1,23 +1,6 @@
 -- The waiting pages beside the rows that wait: what a look-up tells, and what a change of rows does.
-use Rattle.std.proofs.Common.{◌≡◌, ◌∙◌, ℕ, Bool, true, false, cond, List, [], ◌∷◌, get_or, map, Option, None, Some, refl, sym, ap, subst, inl, inr, arith}
-use Rattle.std.specs.Prelude.{not, ◌&&◌, ◌==◌, All, filter, find, option_map, bytes_eq, if◌then◌else◌}
-use Rattle.std.specs.Option.{option_and_then, option_or}
-use Rattle.std.proofs.lemmas.Bool.{eq-eqb, cases_Bool, cond_both, false≢true}
-use Rattle.std.proofs.lemmas.Bool.Decides.{nat_tests}
-use Rattle.std.proofs.lemmas.List.Elements.{All-head, All-tail}
-use Rattle.std.proofs.lemmas.List.Folds.{find-append}
-use Rattle.std.proofs.lemmas.Slice.Eq.{bytes_eq-Decides}
-use Rattle.ksm_base.specs.declared.knobs.Knobs.{Knobs}
-use Rattle.ksm_base.specs.declared.page.GuestPage.{GuestPage}
-use Rattle.ksm_base.specs.declared.row.PageState.TheVariants.{Waiting}
-use Rattle.ksm_base.specs.declared.row.Row.{Row}
-use Rattle.ksm_base.specs.Rows.{change_row, change_rows, comes_before, InPageOrder, row_at, same_page, waiting_state, with_row, without_page}
-use Rattle.ksm_base.specs.State.{tree_of}
-use Rattle.ksm_base.specs.Visit.{partner, waits_for}
-use Rattle.ksm_base.proofs.Edits.{find_all, find_nothing}
-use Rattle.ksm_base.proofs.Pages.{before_irrefl, not_both, one_before, same_page_eq, same_page_refl, same_page_sym}
-use Rattle.ksm_base.proofs.RowCounts.{each_at_page}
-use Rattle.ksm_tree.specs.Waits.{AreWaiting, IsAdded, IsAlike, IsStopped, names, waiting_page, waits_there, WaitingPage}
+use Rattle.ksm_tree.proofs.Names.{[], All, All-head, All-tail, ap, AreWaiting, arith, before_irrefl, Bool, bytes_eq, bytes_eq-Decides, cases_Bool, change_row, change_rows, comes_before, cond, cond_both, each_at_page, eq-eqb, false, false≢true, filter, find, find-append, find_all, find_nothing, get_or, GuestPage, if◌then◌else◌, inl, InPageOrder, inr, IsAdded, IsAlike, IsStopped, Knobs, List, map, names, nat_tests, None, not, not_both, one_before, Option, option_and_then, option_map, option_or, partner, refl, Row, row_at, same_page, same_page_eq, same_page_refl, same_page_sym, Some, subst, sym, tree_of, true, Waiting, waiting_page, waiting_state, WaitingPage, waits_there, with_row, without_page, ℕ, ◌&&◌, ◌==◌, ◌∙◌, ◌∷◌, ◌≡◌}
+use Rattle.ksm_base.specs.Visit.{waits_for}
 use Rattle.ksm_tree.proofs.Keys.{eq_bytes}
 
 -- ---------------------------------------------------------------- the row of a page after a change

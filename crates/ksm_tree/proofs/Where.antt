@@ -1,12 +1,5 @@
 -- The places at which a test is passed: what a change at one place does to them.
-use Rattle.std.proofs.Common.{◌≡◌, ℕ, zero, suc, ◌+◌, ◌<◌, ◌≤◌, Bool, true, false, List, [], ◌∷◌, length, get_or, set, take, add-one, refl, arith}
-use Rattle.std.specs.Prelude.{◌==◌, not, nat_lt, All, if◌then◌else◌}
-use Rattle.std.proofs.lemmas.Bool.Decides.{nat_tests}
-use Rattle.std.proofs.lemmas.List.Elements.{All-cons, All-weaker}
-use Rattle.ksm_tree.specs.Places.{with_place, without}
-use Rattle.ksm_tree.specs.Counts.{places_where}
-use Rattle.ksm_base.proofs.Orders.{filter_none}
-use Rattle.ksm_base.proofs.RowCounts.{filter_all}
+use Rattle.ksm_tree.proofs.Names.{[], add-one, All, All-cons, All-weaker, arith, Bool, false, filter_all, filter_none, get_or, if◌then◌else◌, length, List, nat_lt, nat_tests, not, places_where, refl, set, suc, take, true, with_place, without, zero, ℕ, ◌+◌, ◌<◌, ◌==◌, ◌∷◌, ◌≡◌, ◌≤◌}
 
 module _ {X : Type 0} (test : X → Bool) where
   where_above : (k : ℕ) (xs : List X) → All (λ p. k ≤ p) (places_where test k xs)

@@ -6,8 +6,9 @@ use Rattle.ksm_base.specs.Visit.{empty_from}
 use Rattle.ksm_tree.specs.declared.choice.Choice.{Choice}
 use Rattle.ksm_tree.specs.declared.choice.Choice.TheVariants.{Empty, Stale}
 use Rattle.ksm_tree.specs.declared.dup.Dup.{Dup}
+use Rattle.ksm_tree.specs.declared.dup.Best.{Best}
 use Rattle.ksm_tree.specs.Dups.{DupsState, rows_of, places_open, is_stale}
-use Rattle.ksm_tree.specs.Index.{in_group, group_places}
+use Rattle.ksm_tree.specs.Index.{in_group}
 
 -- a dup of the tree and the bytes, with an item, and below the limit
 abbrev pub may_join : ℕ → List ℕ → ℕ → Dup → Bool
@@ -31,6 +32,10 @@ is_best tree bytes limit dups d = may_join tree bytes limit d && list_all (is_no
 -- the dup that a page of the tree and the bytes joins
 abbrev pub best_of : ℕ → List ℕ → ℕ → List Dup → Option Dup
 best_of tree bytes limit dups = find (is_best tree bytes limit dups) dups
+
+-- where a dup is found
+abbrev pub found_at : Dup → Best
+found_at d = record { number = d.row.number; place = d.row.place }
 
 -- the least of so many places that no dup has
 abbrev pub empty_place : ℕ → List DupRow → Option ℕ
@@ -57,6 +62,6 @@ of_group tree bytes None = None
 of_group tree bytes (Some d) = if in_group tree bytes d.row then Some d else None
 
 -- the places of a group, or those of all dups with an item and fewer than the limit: the best is at one of them, if there is one
-abbrev pub ArePlacesToJoin : ℕ → List ℕ → ℕ → List Dup → List ℕ → Bool → Type 0
-ArePlacesToJoin tree bytes limit dups places true = places ≡ group_places tree bytes (rows_of dups)
-ArePlacesToJoin tree bytes limit dups places false = places ≡ places_open limit dups
+abbrev pub ArePlacesToJoin : List ℕ → ℕ → List Dup → List ℕ → Bool → Type 0
+ArePlacesToJoin chain limit dups places true = places ≡ chain
+ArePlacesToJoin chain limit dups places false = places ≡ places_open limit dups

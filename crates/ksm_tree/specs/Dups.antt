@@ -5,12 +5,16 @@ use Rattle.ksm_base.specs.declared.row.DupRow.{DupRow}
 use Rattle.ksm_base.specs.Rows.{InPlaceOrder}
 use Rattle.ksm_tree.specs.declared.dup.Dup.{Dup}
 use Rattle.ksm_tree.specs.Counts.{is_open}
+use Rattle.ksm_tree.specs.Numbered.{Numbers}
+use Rattle.ksm_tree.specs.Waits.{WaitingPage}
 
--- how many places there are, the dups in the order of their places, and the number of the dup that is made next
+-- how many places there are, the dups in the order of their places, the number of the dup that is made next, the pages that wait, and the contents that have a number
 pub record DupsState : Type 0 where
   pub places : ℕ
   pub dups : List Dup
   pub next : ℕ
+  pub waiting : List WaitingPage
+  pub numbers : Numbers
 
 -- the dup rows alone
 abbrev pub rows_of : List Dup → List DupRow

@@ -1,22 +1,34 @@
--- The groups: the dups of one tree and one content (mm/ksm: a chain links the copies of one content).
-use Rattle.std.specs.Prelude.{ℕ, ◌<◌, Bool, ◌&&◌, ◌==◌, List, [], bytes_eq, find, length, Option, Some, None}
-use Rattle.std.specs.Option.{ForSome}
-use Rattle.std.specs.HashMap.{HashMap, get}
-use Rattle.ksm_tree.specs.contracts.content.ContentPartialEq.TheImpl as content_eq
-use Rattle.ksm_tree.specs.declared.content.Content.{Content}
-use Rattle.ksm_tree.specs.declared.places.Places.{Places}
+-- The groups: the dups of one tree and one content (mm/ksm: a chain links the copies of one content), and the page that waits there.
+use Rattle.std.specs.Prelude.{◌≡◌, ℕ, ◌&&◌, ◌==◌, List, [], Option, Some, None, bytes_eq, filter_map, if◌then◌else◌}
+use Rattle.slab.specs.Slab.{get}
+use Rattle.ksm_tree.specs.declared.groups.Groups.{Groups}
+use Rattle.ksm_tree.specs.Grouping.{places_in, waits_in}
+use Rattle.ksm_tree.specs.Numbered.{number_of}
+use Rattle.ksm_tree.specs.Waits.{WaitingPage}
 
-abbrev pub is_content : ℕ → List ℕ → Content × Places → Bool
-is_content tree bytes entry = entry.0.tree == tree && bytes_eq entry.0.bytes bytes
-
-abbrev pub places_in : Option (Content × Places) → List ℕ
-places_in None = []
-places_in (Some entry) = entry.1.list.items
+-- what stands under a number, where there is one
+abbrev pub under : {X : Type 0} → X → (ℕ → X) → Option ℕ → X
+under none at None = none
+under none at (Some number) = at number
 
 -- the places of the group of a tree and bytes
-abbrev pub chain_in : ℕ → List ℕ → List (Content × Places) → List ℕ
-chain_in tree bytes entries = places_in (find (is_content tree bytes) entries)
+abbrev pub chain_in : ℕ → List ℕ → Groups → List ℕ
+chain_in tree bytes groups = under [] (λ number. places_in (get groups.groups number)) (number_of tree bytes groups.numbers.entries)
 
--- each group that is there has a place
-abbrev pub AllPeopled : {S : Type 0} → HashMap Content Places S → Type 0
-AllPeopled groups = (content : Content) → ForSome (get content_eq.ghosts.eq groups content) (λ chain. 0 < length chain.list.items)
+-- the pages that wait
+abbrev pub waiting_in : Groups → List WaitingPage
+waiting_in groups = filter_map (waits_in groups.pass) groups.groups.slots
+
+-- the chains are as they were
+pub record SameChains (old new : Groups) : Type 0 where
+  pub chains : (tree : ℕ) (bytes : List ℕ) → chain_in tree bytes new ≡ chain_in tree bytes old
+  pub totals : new.totals ≡ old.totals
+
+-- what waits is as it was, and each content has the number that it had
+pub record SameWaits (old new : Groups) : Type 0 where
+  pub waiting : waiting_in new ≡ waiting_in old
+  pub numbers : new.numbers.entries ≡ old.numbers.entries
+
+-- the chains are as they were, but for a change of that of a tree and bytes
+abbrev pub IsMoved : ℕ → List ℕ → (List ℕ → List ℕ) → Groups → Groups → Type 0
+IsMoved tree bytes change old new = (t : ℕ) (b : List ℕ) → chain_in t b new ≡ (if t == tree && bytes_eq b bytes then change (chain_in t b old) else chain_in t b old)

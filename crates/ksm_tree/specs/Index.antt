@@ -4,7 +4,7 @@ use Rattle.std.specs.HashMap.{get}
 use Rattle.ksm_base.specs.declared.row.DupRow.{DupRow}
 use Rattle.ksm_tree.specs.declared.index.Index.{Index}
 use Rattle.ksm_tree.specs.Dups.{DupsState, AreDups, rows_of}
-use Rattle.ksm_tree.specs.Groups.{chain_in}
+use Rattle.ksm_tree.specs.Groups.{chain_in, waiting_in}
 use Rattle.ksm_tree.specs.Slots.{SlotsState}
 use Rattle.ksm_tree.specs.Totals.{AreTotals}
 
@@ -13,7 +13,7 @@ abbrev pub place_of : ℕ → Index → Option ℕ
 place_of number index = get nat_eq index.numbers number
 
 abbrev pub places_of : ℕ → List ℕ → Index → List ℕ
-places_of tree bytes index = chain_in tree bytes index.groups.chains.entries
+places_of tree bytes index = chain_in tree bytes index.groups
 
 abbrev pub in_group : ℕ → List ℕ → DupRow → Bool
 in_group tree bytes r = r.tree == tree && bytes_eq r.bytes bytes
@@ -26,13 +26,13 @@ row_place number rows = option_map (λ r. r.place) (find (λ r. r.number == numb
 abbrev pub group_places : ℕ → List ℕ → List DupRow → List ℕ
 group_places tree bytes rows = map (λ r. r.place) (filter (in_group tree bytes) rows)
 
-abbrev pub dups_seen : SlotsState → ℕ → DupsState
-dups_seen s next = record { places = s.places; dups = s.dups; next = next }
+abbrev pub dups_seen : SlotsState → ℕ → Index → DupsState
+dups_seen s next index = record { places = s.places; dups = s.dups; next = next; waiting = waiting_in index.groups; numbers = index.groups.numbers.entries }
 
 -- the dups are lawful, and the index finds and counts just them
 pub record AreIndexed (s : SlotsState) (next : ℕ) (index : Index) : Type 0 where
   pub few : s.places ≤ 1024
-  pub lawful : AreDups (dups_seen s next)
+  pub lawful : AreDups (dups_seen s next index)
   pub numbered : (number : ℕ) → place_of number index ≡ row_place number (rows_of s.dups)
   pub counted : AreTotals (rows_of s.dups) index.groups.totals
   pub grouped : (tree : ℕ) (bytes : List ℕ) → places_of tree bytes index ≡ group_places tree bytes (rows_of s.dups)

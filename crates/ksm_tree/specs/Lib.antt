@@ -1,10 +1,11 @@
 pub mod Bridge
 pub mod Choosing
 pub mod Counts
-pub mod Digest
 pub mod Dups
+pub mod Grouping
 pub mod Groups
 pub mod Index
+pub mod Numbered
 pub mod Places
 pub mod Slots
 pub mod Totals

@@ -5,7 +5,6 @@ use Rattle.ksm_base.specs.declared.page.GuestPage.{GuestPage}
 use Rattle.ksm_base.specs.declared.row.Row.{Row}
 use Rattle.ksm_base.specs.Rows.{row_at, same_page, waiting_state}
 use Rattle.ksm_base.specs.State.{tree_of}
-use Rattle.ksm_tree.specs.declared.content.Content.{Content}
 
 -- a page that waits for an equal one
 pub record WaitingPage : Type 0 where
@@ -20,10 +19,6 @@ waits_for tree bytes w = w.tree == tree && bytes_eq w.bytes bytes
 -- the page that waits in a tree with these bytes
 abbrev pub waiting_page : ℕ → List ℕ → List WaitingPage → Option GuestPage
 waiting_page tree bytes waiting = option_map (λ w. w.page) (find (waits_for tree bytes) waiting)
-
--- an entry of the map
-abbrev pub waiting_at : Content × GuestPage → WaitingPage
-waiting_at (content, page) = record { tree = content.tree; bytes = content.bytes; page = page }
 
 -- the new waiting pages are the old ones, but that a page waits in a tree with these bytes
 abbrev pub IsAdded : ℕ → List ℕ → GuestPage → List WaitingPage → List WaitingPage → Type 0

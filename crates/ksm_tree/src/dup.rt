@@ -8,3 +8,10 @@ pub struct Dup {
     pub row: DupRow,
     pub items: Items,
 }
+
+/// Where a dup to join is found: its number, and the place at which it stands.
+#[derive(Clone, Copy, Debug, PartialEq, Eq)]
+pub struct Best {
+    pub number: u64,
+    pub place: u32,
+}

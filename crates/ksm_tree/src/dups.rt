@@ -3,19 +3,26 @@
 //! `Slots` has the dups by place, `Index` leads to the places. Each call changes both, and the invariant says that they
 //! agree: callers see one list, of the dups in the order of their places.
 //!
+//! A caller may remember the number of the group of a page, and the place of a dup. Both are guesses, compared before they
+//! are believed, so no call promises less where they are wrong.
+//!
 //! A page that looks for a dup to join walks along its chain, which mostly has one dup. Of a long chain most dups are
 //! full. So while there is a long one, the open places of all contents are kept, and such a page walks along these if
 //! they are fewer.
-ghost use Rattle.std.specs.Prelude.{◌≡◌, ℕ, ◌+◌, ◌^◌, ◌<◌, ◌≤◌, [], ◌∷◌, ◌&&◌, not, true, false, None, Some, count_by, filter, find, length, is_some, option_copied, option_map, slice_get, if◌then◌else◌, IfErr, IfOk, OnErr, OnOk};
+ghost use Rattle.std.specs.Prelude.{◌≡◌, ℕ, List, ◌+◌, ◌^◌, ◌<◌, ◌≤◌, [], ◌∷◌, ◌&&◌, not, true, false, None, Some, count_by, filter, find, length, is_some, option_copied, option_map, slice_get, if◌then◌else◌, IfErr, IfOk, IsTrue, OnErr, OnOk};
+ghost use Rattle.std.specs.Option.{unwrap_or};
 ghost use Rattle.ksm_base.specs.Counting.{in_chain, leads_group};
 ghost use Rattle.ksm_base.specs.Rows.{same_page};
 ghost use Rattle.ksm_rmap.specs.Items.{has_item, with_item, without_item};
-ghost use Rattle.ksm_tree.specs.Choosing.{ArePlacesToJoin, best_of, of_group, better as better_dup, choice_of, is_no_worse as no_worse_than};
-ghost use Rattle.ksm_tree.specs.Dups.{AreDups, change_items, dup_at, dup_of, is_live, is_stale, items_of, rows_of, stands_at, with_new, without_place};
+ghost use Rattle.ksm_tree.specs.Choosing.{ArePlacesToJoin, best_of, found_at, of_group, better as better_dup, choice_of, is_no_worse as no_worse_than};
+ghost use Rattle.ksm_tree.specs.Dups.{AreDups, change_items, dup_at, dup_of, is_live, is_stale, items_in, items_of, rows_of, stands_at, with_new, without_place};
+ghost use Rattle.ksm_tree.specs.Index.{group_places};
+ghost use Rattle.ksm_tree.specs.Numbered.{number_of};
+ghost use Rattle.ksm_tree.specs.Waits.{IsAdded, IsRemoved, waiting_page};
 
 use crate::choice::Choice;
-use crate::content::Content;
-use crate::dup::Dup;
+use crate::dup::{Best, Dup};
+use crate::groups::NO_NUMBER;
 use crate::index::Index;
 use crate::slots::Slots;
 use ksm_base::{DupRow, Fault, GuestPage, Knobs, PageBytes};
@@ -23,21 +30,27 @@ use ksm_rmap::Items;
 use std::alloc::Global;
 use std::marker::Model;
 
+/// Where the caller remembers no place.
+pub const NO_PLACE: u32 = u32::MAX;
+
 // A chain of no more dups than this is walked along as a whole.
 const SHORT_CHAIN: usize = 16;
 
 /// The dups with their items, by place, by number, and by tree and bytes (mm/ksm, stable nodes and their chains).
 ///
-/// A look-up by number or by content costs a hash and a comparison in the mean. `best` also walks along the chain, or,
-/// where a chain is long, along the dups of all contents that are not full, if these are fewer. The counts are kept, so
-/// nothing is counted when they are read. The hash has a fixed seed: where contents were picked that collide, a look-up
-/// costs a comparison for each. Room for every place is taken at the start, so only a new dup and a new item may want
-/// memory.
+/// A look-up by number costs a hash and a comparison in the mean: the book gives the numbers, so nobody picks them. A
+/// look-up by content costs a comparison where the number of its group was remembered, else a search among the contents
+/// that are known, in a number of steps in the order of the logarithm of how many there are. `best` and `best_of` also
+/// walk along the chain, or, where a chain is long, along the dups of all contents that are not full, if these are fewer.
+/// The counts are kept, so nothing is counted when they are read. Room for every place is taken at the start, so only a
+/// group, a new dup and a new item may want memory.
 #[derive(Drop)]
 pub struct Dups {
     alloc: Global,
     slots: Slots,
     index: Index,
+    // The number of the group of the dup at each place, as it was when the dup came: a guess.
+    group_at: Vec<u32>,
     next: u64,
     limit: u32,
 }
@@ -48,7 +61,7 @@ impl Model for Dups {
 
     ghost Value = { DupsState };
 
-    ghost view = { λ d. dups_seen d.slots d.next };
+    ghost view = { λ d. dups_seen d.slots d.next d.index };
 
     ghost invariant = { λ d. AreIndexed d.slots d.next d.index };
 }
@@ -58,13 +71,14 @@ impl Dups {
     pub fn open(alloc: Global, places: u32) -> Result<Dups, Fault>
         requires least { 1 ≤ places }
         requires most { places ≤ 1024 }
-        ensures opened { IfOk result (λ dups. dups ≡ record { places = places; dups = []; next = 0 }) }
+        ensures opened { IfOk result (λ dups. dups ≡ record { places = places; dups = []; next = 0; waiting = []; numbers = [] }) }
         ensures memory { IfErr result (λ fault. fault ≡ Fault.Memory) }
     {
         Ok(Dups {
             alloc,
             slots: Slots::open(alloc, places)?,
             index: Index::new(alloc),
+            group_at: vec![in alloc; NO_NUMBER; places as usize]?,
             next: 0,
             limit: Knobs::DEFAULT.max_page_sharing,
         })
@@ -76,12 +90,48 @@ impl Dups {
         ensures best { result ≡ option_map (λ d. d.row.number) (best_of tree bytes.now limit self.now.dups) }
         ensures lawful { AreDups self.now }
     {
+        let group = self.index.groups.number(NO_NUMBER, tree, bytes)?;
+        let best = self.best_of(group, limit)?;
+        Some(best.number)
+    }
+
+    /// The number of the group of a tree and bytes, which it gets if it has none: then groups in which nothing stands may
+    /// lose theirs. The guess is tried first. The one fault is `Memory`, and then it gets none.
+    #[inline(always)]
+    pub fn group(&mut self, guess: u32, tree: u32, bytes: &PageBytes) -> Result<u32, Fault>
+        ensures numbered { IfOk result (λ number. number_of tree bytes.now self.new.numbers ≡ Some number) }
+        ensures kept { self.new ≡ record self.old { numbers = self.new.numbers } }
+        ensures memory { IfErr result (λ fault. fault ≡ Fault.Memory) }
+        ensures lawful { AreDups self.old }
+    {
+        self.index.groups.numbered(self.alloc, guess, tree, bytes)
+    }
+
+    /// The dup that a page of the group with a number joins: that which `best` tells for its tree and bytes.
+    #[inline(always)]
+    pub fn best_of(&self, group: u32, limit: u32) -> Option<Best>
+        ensures { (tree : ℕ) (bytes : List ℕ) → number_of tree bytes self.now.numbers ≡ Some group
+            → result ≡ option_map found_at (best_of tree bytes limit self.now.dups) }
+    {
+        let found = self.index.groups.at(group)?;
+        let chain = found.places.list.as_slice();
+        if chain.is_empty() {
+            return None;
+        }
+        self.best_in(found.content.tree, &found.content.bytes, chain, limit)
+    }
+
+    // The dup that a page of a tree and these bytes joins, where the places of their dups are known.
+    fn best_in(&self, tree: u32, bytes: &PageBytes, chain: &[u32], limit: u32) -> Option<Best>
+        requires { chain.now ≡ group_places tree bytes.now (rows_of self.now.dups) }
+        ensures { result ≡ option_map found_at (best_of tree bytes.now limit self.now.dups) }
+    {
         let mut best: Option<&Dup> = None;
         // A better dup has at least `least` items, and fewer than `room` more.
         let mut least = 1;
         let mut room = limit.saturating_sub(least);
         let counts = self.slots.counts();
-        let (places, is_chain) = self.places_to_join(tree, bytes, limit);
+        let (places, is_chain) = self.places_to_join(chain, limit);
         for place in places {
             let items = counts[*place as usize];
             // Fewer items than `least` wrap round to more than `room`, so one comparison tells both.
@@ -94,9 +144,53 @@ impl Dups {
             }
         }
         match best {
-            Some(dup) => Some(dup.row.number),
+            Some(dup) => Some(Best {
+                number: dup.row.number,
+                place: dup.row.place,
+            }),
             None => None,
         }
+    }
+
+    /// Whether the group with a number is that of a tree and bytes, and nothing stands in it.
+    #[inline(always)]
+    pub fn is_empty_group(&self, group: u32, tree: u32, bytes: &PageBytes) -> bool
+        ensures numbered { IsTrue result → number_of tree bytes.now self.now.numbers ≡ Some group }
+        ensures best { IsTrue result → (t limit : ℕ) (b : List ℕ) → number_of t b self.now.numbers ≡ Some group → best_of t b limit self.now.dups ≡ None }
+        ensures waiting { IsTrue result → (t : ℕ) (b : List ℕ) → number_of t b self.now.numbers ≡ Some group → waiting_page t b self.now.waiting ≡ None }
+    {
+        self.index.groups.is_of(group, tree, bytes) && self.index.groups.is_idle(group as usize)
+    }
+
+    /// The page that waits in the group with a number from now on: the one that did, or else this one.
+    #[inline(always)]
+    pub fn meet(&mut self, group: u32, page: GuestPage) -> GuestPage
+        ensures met { (tree : ℕ) (bytes : List ℕ) → number_of tree bytes self.old.numbers ≡ Some group
+            → result ≡ unwrap_or (waiting_page tree bytes self.old.waiting) page }
+        ensures added { (tree : ℕ) (bytes : List ℕ) → number_of tree bytes self.old.numbers ≡ Some group
+            → IsAdded tree bytes result self.old.waiting self.new.waiting }
+        ensures again { (tree : ℕ) (bytes : List ℕ) → number_of tree bytes self.old.numbers ≡ Some group
+            → is_some (waiting_page tree bytes self.old.waiting) ≡ true → self.new ≡ self.old }
+        ensures kept { self.new ≡ record self.old { waiting = self.new.waiting } }
+    {
+        self.index.groups.meet(group, page)
+    }
+
+    /// The page that waits in a tree with these bytes waits no more, if there is one. The guess of the group's number is
+    /// tried first.
+    #[inline(always)]
+    pub fn stop_waiting(&mut self, guess: u32, tree: u32, bytes: &PageBytes)
+        ensures removed { IsRemoved tree bytes.now self.old.waiting self.new.waiting }
+        ensures kept { self.new ≡ record self.old { waiting = self.new.waiting } }
+    {
+        self.index.groups.stop_waiting(guess, tree, bytes);
+    }
+
+    /// No page waits any more.
+    pub fn clear_waiting(&mut self)
+        ensures { self.new ≡ record self.old { waiting = [] } }
+    {
+        self.index.groups.clear_waiting();
     }
 
     /// Where a new dup goes: the least empty place, or where there is none that of the first stale dup.
@@ -128,8 +222,36 @@ impl Dups {
         requires apart { same_page first second ≡ false }
         requires number { self.old.next + 1 < 2 ^ 64 }
         ensures number { IfOk result (λ number. number ≡ self.old.next) }
-        ensures made { OnOk result (self.new ≡ record {
-          places = self.old.places;
+        ensures made { OnOk result (self.new ≡ record self.old {
+          dups = with_new (record { row = record { number = self.old.next; place = place; tree = tree; bytes = bytes.now }; items = with_item second (first ∷ []) }) self.old.dups;
+          next = self.old.next + 1;
+          numbers = self.new.numbers;
+        }) }
+        ensures kept { OnErr result (self.new ≡ record self.old { numbers = self.new.numbers }) }
+        ensures memory { IfErr result (λ fault. fault ≡ Fault.Memory) }
+        ensures lawful { AreDups self.old }
+    {
+        let group = self.group(NO_NUMBER, tree, bytes)?;
+        self.found(group, place, tree, bytes, first, second)
+    }
+
+    /// The same, where the group of the tree and bytes has a number. The guess of that is tried first.
+    pub fn found(
+        &mut self,
+        group: u32,
+        place: u32,
+        tree: u32,
+        bytes: &PageBytes,
+        first: GuestPage,
+        second: GuestPage,
+    ) -> Result<u64, Fault>
+        requires known { is_some (number_of tree bytes.now self.old.numbers) ≡ true }
+        requires place { place < self.old.places }
+        requires free { find (λ d. stands_at place d && is_live d) self.old.dups ≡ None }
+        requires apart { same_page first second ≡ false }
+        requires number { self.old.next + 1 < 2 ^ 64 }
+        ensures number { IfOk result (λ number. number ≡ self.old.next) }
+        ensures made { OnOk result (self.new ≡ record self.old {
           dups = with_new (record { row = record { number = self.old.next; place = place; tree = tree; bytes = bytes.now }; items = with_item second (first ∷ []) }) self.old.dups;
           next = self.old.next + 1;
         }) }
@@ -145,14 +267,16 @@ impl Dups {
             bytes: *bytes,
         };
         let items = pair(self.alloc, first, second)?;
+        let left = self.group_at(place);
         let old = self.slots.at(place);
-        self.index.add(self.alloc, &row)?;
+        self.index.add(group, &row)?;
         match old {
-            Some(old) => self.index.replace(&old.row, &row),
+            Some(old) => self.index.replace(left, &old.row, &row),
             None => {}
         }
         self.slots.put(Dup { row, items });
         self.next += 1;
+        self.remember_group(place, group);
         self.keep_open();
         Ok(number)
     }
@@ -164,11 +288,25 @@ impl Dups {
         requires fewer { length (items_of dup self.old.dups) < 1024 }
         requires absent { has_item page (items_of dup self.old.dups) ≡ false }
         ensures place { IfOk result (λ place. Some place ≡ option_map (λ d. d.row.place) (dup_of dup self.old.dups)) }
-        ensures joined { OnOk result (self.new ≡ record { places = self.old.places; dups = change_items dup (with_item page) self.old.dups; next = self.old.next }) }
+        ensures joined { OnOk result (self.new ≡ record self.old { dups = change_items dup (with_item page) self.old.dups }) }
         ensures kept { OnErr result (self.new ≡ self.old) }
         ensures memory { IfErr result (λ fault. fault ≡ Fault.Memory) }
     {
-        match self.index.place(dup) {
+        self.join_at(NO_PLACE, dup, page)
+    }
+
+    /// The same, where the place of the dup is guessed.
+    #[inline(always)]
+    pub fn join_at(&mut self, guess: u32, dup: u64, page: GuestPage) -> Result<u32, Fault>
+        requires known { is_some (dup_of dup self.old.dups) ≡ true }
+        requires fewer { length (items_of dup self.old.dups) < 1024 }
+        requires absent { has_item page (items_of dup self.old.dups) ≡ false }
+        ensures place { IfOk result (λ place. Some place ≡ option_map (λ d. d.row.place) (dup_of dup self.old.dups)) }
+        ensures joined { OnOk result (self.new ≡ record self.old { dups = change_items dup (with_item page) self.old.dups }) }
+        ensures kept { OnErr result (self.new ≡ self.old) }
+        ensures memory { IfErr result (λ fault. fault ≡ Fault.Memory) }
+    {
+        match self.place_by(guess, dup) {
             Some(place) => {
                 self.slots.add_item(place, page)?;
                 Ok(place)
@@ -181,9 +319,18 @@ impl Dups {
     /// dup.
     pub fn leave(&mut self, dup: u64, page: GuestPage) -> Option<u32>
         ensures place { result ≡ option_map (λ d. d.row.place) (dup_of dup self.old.dups) }
-        ensures left { self.new ≡ record { places = self.old.places; dups = change_items dup (without_item page) self.old.dups; next = self.old.next } }
+        ensures left { self.new ≡ record self.old { dups = change_items dup (without_item page) self.old.dups } }
     {
-        let place = self.index.place(dup)?;
+        self.leave_at(NO_PLACE, dup, page)
+    }
+
+    /// The same, where the place of the dup is guessed.
+    #[inline(always)]
+    pub fn leave_at(&mut self, guess: u32, dup: u64, page: GuestPage) -> Option<u32>
+        ensures place { result ≡ option_map (λ d. d.row.place) (dup_of dup self.old.dups) }
+        ensures left { self.new ≡ record self.old { dups = change_items dup (without_item page) self.old.dups } }
+    {
+        let place = self.place_by(guess, dup)?;
         self.slots.remove_item(place, page);
         Some(place)
     }
@@ -221,6 +368,27 @@ impl Dups {
         self.index.place(dup)
     }
 
+    // The same, where the place is guessed: the dup that stands there is looked at first.
+    #[inline(always)]
+    fn place_by(&self, guess: u32, dup: u64) -> Option<u32>
+        ensures { result ≡ option_map (λ d. d.row.place) (dup_of dup self.now.dups) }
+    {
+        match self.slots.at(guess) {
+            Some(found) if found.row.number == dup => Some(guess),
+            _ => self.place(dup),
+        }
+    }
+
+    /// The items of the dup at a place, in ascending order.
+    pub fn items_at(&self, place: u32) -> &[GuestPage]
+        ensures { result.now ≡ items_in (dup_at place self.now.dups) }
+    {
+        match self.slots.at(place) {
+            Some(dup) => dup.items.as_slice(),
+            None => &[],
+        }
+    }
+
     /// How many items a dup has: 0 where there is no such dup.
     pub fn items(&self, dup: u64) -> u32
         ensures { result ≡ length (items_of dup self.now.dups) }
@@ -250,10 +418,11 @@ impl Dups {
     /// The stale dup at a place goes.
     pub fn drop_stale(&mut self, place: u32)
         requires { is_some (find (λ d. stands_at place d && is_stale d) self.old.dups) ≡ true }
-        ensures { self.new ≡ record { places = self.old.places; dups = without_place place self.old.dups; next = self.old.next } }
+        ensures { self.new ≡ record self.old { dups = without_place place self.old.dups } }
     {
+        let group = self.group_at(place);
         match self.slots.at(place) {
-            Some(dup) => self.index.remove(&dup.row),
+            Some(dup) => self.index.remove(group, &dup.row),
             None => unreachable!(),
         }
         self.slots.clear(place);
@@ -296,6 +465,23 @@ impl Dups {
         self.keep_open();
     }
 
+    // A guess of the number of the group of the dup at a place. Nothing is promised of it.
+    fn group_at(&self, place: u32) -> u32 {
+        match self.group_at.get(place as usize) {
+            Some(group) => *group,
+            None => NO_NUMBER,
+        }
+    }
+
+    fn remember_group(&mut self, place: u32, group: u32)
+        ensures { self.new ≡ self.old }
+    {
+        let place = place as usize;
+        if place < self.group_at.len() {
+            self.group_at[place] = group;
+        }
+    }
+
     // Keeps the open places while a chain is long, and drops them once none is: nobody asks for them then.
     fn keep_open(&mut self)
         ensures { self.new ≡ self.old }
@@ -306,10 +492,9 @@ impl Dups {
 
     // The places among which a dup to join is looked for, and whether they are those of the chain. Of a long chain the
     // open ones are enough, so all open ones are taken where these are fewer.
-    fn places_to_join(&self, tree: u32, bytes: &PageBytes, limit: u32) -> (&[u32], bool)
-        ensures { ArePlacesToJoin tree bytes.now limit self.now.dups result.0.now result.1 }
+    fn places_to_join<'a>(&'a self, chain: &'a [u32], limit: u32) -> (&'a [u32], bool)
+        ensures { ArePlacesToJoin chain.now limit self.now.dups result.0.now result.1 }
     {
-        let chain = self.index.places(tree, bytes);
         if chain.len() <= SHORT_CHAIN {
             return (chain, true);
         }
@@ -334,7 +519,7 @@ impl Dups {
     fn find(&self, number: u64) -> Option<&Dup>
         ensures { option_copied result ≡ dup_of number self.now.dups }
     {
-        match self.index.place(number) {
+        match self.place(number) {
             Some(place) => self.slots.at(place),
             None => None,
         }

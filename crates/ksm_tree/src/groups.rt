@@ -1,102 +1,349 @@
-//! The groups, found by a hash of their content. How many are chains is kept beside them, so the counters of chains
-//! are read.
-ghost use Rattle.std.specs.Prelude.{◌≡◌, ℕ, List, [], ◌&&◌, ◌==◌, IfErr, OnOk, OnErr, bytes_eq, length, if◌then◌else◌};
-ghost use Rattle.ksm_tree.specs.Groups.{AllPeopled, chain_in};
+//! The groups by number: each tree and bytes once, with the places of its dups and the page that waits there.
+//!
+//! A group is found by its number in one step, where the caller remembers it, else by a search in the order of the
+//! contents, so nobody can pick contents that are dear to find. What the caller remembers is a guess: it is compared
+//! before it is believed.
+//!
+//! A group keeps its number when nothing stands in it any more, until there are 4,096 groups more than there were after
+//! the last sweep: then all such groups go. A page waits as long as the pass goes on whose number stands beside it, so
+//! when a pass begins none waits. How many groups are chains is kept beside them, so the counters of chains are read.
+ghost use Rattle.std.specs.Prelude.{◌≡◌, ◌≢◌, ℕ, ◌<◌, List, [], Some, None, IfErr, IfOk, IsTrue, OnOk, OnErr, is_some, length, true, option_copied};
+ghost use Rattle.std.specs.Option.{ForSome, unwrap_or};
+ghost use Rattle.slab.specs.Slab.{get};
+ghost use Rattle.ksm_tree.specs.Grouping.{AreGroups, IsIdle};
+ghost use Rattle.ksm_tree.specs.Numbered.{number_of};
 ghost use Rattle.ksm_tree.specs.Places.{with_place, without};
 ghost use Rattle.ksm_tree.specs.Totals.{IsRegrouped, Tells};
+ghost use Rattle.ksm_tree.specs.Waits.{IsAdded, IsRemoved, waiting_page};
 
 use crate::content::Content;
 use crate::places::Places;
 use crate::totals::Totals;
-use ksm_base::Fault;
+use ksm_base::{Fault, GuestPage, PageBytes};
+use slab::Slab;
 use std::alloc::Global;
-use std::collections::HashMap;
+use std::collections::BTreeMap;
 
-/// The groups: for each tree and bytes the places of its dups, in ascending order; and how many of them are chains.
+/// Where the caller remembers no number.
+pub const NO_NUMBER: u32 = u32::MAX;
+
+// So many groups may come until those in which nothing stands are dropped.
+const SPARE: usize = 4_096;
+
+/// A group: the places of its dups, in ascending order, and the page that waited there last, with the number of the pass
+/// in which it did. Where the page waits no more that number is 0.
+#[derive(Drop)]
+pub struct Group {
+    pub content: Content,
+    pub page: GuestPage,
+    pub pass: u64,
+    pub places: Places,
+}
+
+/// The groups, how many of them are chains, and the number of the pass that goes on.
 #[derive(Drop)]
 pub struct Groups {
-    pub chains: HashMap<Content, Places>,
+    numbers: BTreeMap<Content, u32>,
+    groups: Slab<Group>,
     pub totals: Totals,
-    ghost peopled: { AllPeopled chains },
+    pass: u64,
+    // With how many groups those go in which nothing stands.
+    most: usize,
+    ghost lawful: { AreGroups numbers.entries groups pass },
 }
 
 impl Groups {
+    ghost use Rattle.ksm_tree.specs.Groups.{SameChains, SameWaits, IsMoved, chain_in, waiting_in};
+
     /// No groups.
     pub fn new(alloc: Global) -> Groups
-        ensures none { (t : ℕ) (b : List ℕ) → chain_in t b result.chains.entries ≡ [] }
+        ensures chains { (t : ℕ) (b : List ℕ) → chain_in t b result ≡ [] }
         ensures totals { result.totals ≡ record { chains = 0; dups = 0; longest = 0 } }
+        ensures waiting { waiting_in result ≡ [] }
+        ensures numbers { result.numbers.entries ≡ [] }
     {
         Groups {
-            chains: HashMap::new(alloc),
+            numbers: BTreeMap::new(alloc),
+            groups: Slab::new(alloc),
             totals: Totals {
                 chains: 0,
                 dups: 0,
                 longest: 0,
             },
+            pass: 1,
+            most: SPARE,
         }
     }
 
-    /// A place joins a group. The one fault is `Memory`, and then nothing changes.
-    pub fn add(&mut self, alloc: Global, content: Content, place: u32) -> Result<(), Fault>
-        requires told { Tells (length (chain_in content.tree content.bytes self.old.chains.entries)) self.old.totals }
-        ensures added { OnOk result ((t : ℕ) (b : List ℕ) → chain_in t b self.new.chains.entries
-            ≡ (if t == content.tree && bytes_eq b content.bytes then with_place place (chain_in t b self.old.chains.entries) else chain_in t b self.old.chains.entries)) }
-        ensures totals { OnOk result (IsRegrouped (length (chain_in content.tree content.bytes self.old.chains.entries))
-            (length (chain_in content.tree content.bytes self.new.chains.entries)) self.old.totals self.new.totals) }
-        ensures kept { OnErr result ((t : ℕ) (b : List ℕ) → chain_in t b self.new.chains.entries ≡ chain_in t b self.old.chains.entries) }
-        ensures kept_totals { OnErr result (self.new.totals ≡ self.old.totals) }
+    /// The number of a group, if it has one. The guess is tried first.
+    #[inline(always)]
+    pub fn number(&self, guess: u32, tree: u32, bytes: &PageBytes) -> Option<u32>
+        ensures { result ≡ number_of tree bytes.now self.now.numbers.entries }
+    {
+        if self.is_of(guess, tree, bytes) {
+            return Some(guess);
+        }
+        self.search(tree, bytes)
+    }
+
+    /// Whether the group with a number is that of a tree and bytes.
+    #[inline(always)]
+    pub fn is_of(&self, number: u32, tree: u32, bytes: &PageBytes) -> bool
+        ensures { IsTrue result → number_of tree bytes.now self.now.numbers.entries ≡ Some number }
+    {
+        match self.groups.get(number as usize) {
+            Some(group) => group.content.tree == tree && group.content.bytes == *bytes,
+            None => false,
+        }
+    }
+
+    // The same, without a guess.
+    #[inline(never)]
+    fn search(&self, tree: u32, bytes: &PageBytes) -> Option<u32>
+        ensures { result ≡ number_of tree bytes.now self.now.numbers.entries }
+    {
+        let content = Content {
+            tree,
+            bytes: *bytes,
+        };
+        self.numbers.get(&content).copied()
+    }
+
+    /// The group with a number.
+    #[inline(always)]
+    pub fn at(&self, number: u32) -> Option<&Group>
+        ensures { option_copied result ≡ get self.now.groups number }
+    {
+        self.groups.get(number as usize)
+    }
+
+    /// The number of a group, which it gets if it has none: then groups in which nothing stands may lose theirs. The
+    /// guess is tried first. The one fault is `Memory`, and then none gets one.
+    #[inline(always)]
+    pub fn numbered(
+        &mut self,
+        alloc: Global,
+        guess: u32,
+        tree: u32,
+        bytes: &PageBytes,
+    ) -> Result<u32, Fault>
+        ensures numbered { IfOk result (λ number. number_of tree bytes.now self.new.numbers.entries ≡ Some number) }
+        ensures chains { SameChains self.old self.new }
+        ensures waiting { waiting_in self.new ≡ waiting_in self.old }
+        ensures absent { OnErr result (waiting_page tree bytes.now (waiting_in self.old) ≡ None) }
         ensures memory { IfErr result (λ fault. fault ≡ Fault.Memory) }
     {
-        match self.chains.get_mut(&content) {
-            Some(chain) => {
-                chain.reserve()?;
-                let before = chain.len();
-                chain.insert(place);
-                self.totals = self.totals.regrouped(before, chain.len());
-                Ok(())
-            }
-            None => {
-                let mut chain = Places::new(alloc);
-                chain.insert(place);
-                self.chains.insert(content, chain)?;
-                Ok(())
-            }
+        if self.is_of(guess, tree, bytes) {
+            return Ok(guess);
+        }
+        self.search_or_enter(alloc, tree, bytes)
+    }
+
+    // The same, without a guess.
+    #[inline(never)]
+    fn search_or_enter(&mut self, alloc: Global, tree: u32, bytes: &PageBytes) -> Result<u32, Fault>
+        ensures numbered { IfOk result (λ number. number_of tree bytes.now self.new.numbers.entries ≡ Some number) }
+        ensures chains { SameChains self.old self.new }
+        ensures waiting { waiting_in self.new ≡ waiting_in self.old }
+        ensures absent { OnErr result (waiting_page tree bytes.now (waiting_in self.old) ≡ None) }
+        ensures memory { IfErr result (λ fault. fault ≡ Fault.Memory) }
+    {
+        if self.groups.len() >= self.most {
+            self.sweep();
+        }
+        match self.search(tree, bytes) {
+            Some(number) => Ok(number),
+            None => self.enter(alloc, tree, bytes),
         }
     }
 
-    /// A place leaves a group, and with its last place the group goes.
-    pub fn remove(&mut self, content: &Content, place: u32)
-        requires told { Tells (length (chain_in content.now.tree content.now.bytes self.old.chains.entries)) self.old.totals }
-        ensures removed { (t : ℕ) (b : List ℕ) → chain_in t b self.new.chains.entries
-            ≡ (if t == content.now.tree && bytes_eq b content.now.bytes then without place (chain_in t b self.old.chains.entries) else chain_in t b self.old.chains.entries) }
-        ensures totals { IsRegrouped (length (chain_in content.now.tree content.now.bytes self.old.chains.entries))
-            (length (chain_in content.now.tree content.now.bytes self.new.chains.entries)) self.old.totals self.new.totals }
+    // A group that has no number gets one. The one fault is `Memory`, and then nothing changes.
+    fn enter(&mut self, alloc: Global, tree: u32, bytes: &PageBytes) -> Result<u32, Fault>
+        requires { number_of tree bytes.now self.old.numbers.entries ≡ None }
+        ensures numbered { IfOk result (λ number. number_of tree bytes.now self.new.numbers.entries ≡ Some number) }
+        ensures chains { SameChains self.old self.new }
+        ensures waiting { waiting_in self.new ≡ waiting_in self.old }
+        ensures absent { OnErr result (waiting_page tree bytes.now (waiting_in self.old) ≡ None) }
+        ensures memory { IfErr result (λ fault. fault ≡ Fault.Memory) }
     {
-        match self.chains.get_mut(content) {
-            Some(chain) => {
-                let before = chain.len();
-                chain.remove(place);
-                self.totals = self.totals.regrouped(before, chain.len());
-                let emptied = chain.is_empty();
-                if emptied {
-                    self.chains.remove(content);
+        let content = Content {
+            tree,
+            bytes: *bytes,
+        };
+        self.groups.reserve(1)?;
+        let Ok(number) = u32::try_from(self.groups.vacant_key()) else {
+            return Err(Fault::Memory);
+        };
+        self.numbers.insert(content, number)?;
+        let _ = self.groups.insert_reserved(Group {
+            content,
+            page: GuestPage { guest: 0, page: 0 },
+            pass: 0,
+            places: Places::new(alloc),
+        });
+        Ok(number)
+    }
+
+    // The groups in which nothing stands go.
+    fn sweep(&mut self)
+        ensures chains { SameChains self.old self.new }
+        ensures waiting { waiting_in self.new ≡ waiting_in self.old }
+    {
+        for number in 0..self.groups.capacity() {
+            self.drop_idle(number);
+        }
+        self.most = self.groups.len().saturating_add(SPARE);
+    }
+
+    // The group with a number goes, if there is one and nothing stands in it.
+    fn drop_idle(&mut self, number: usize)
+        ensures chains { SameChains self.old self.new }
+        ensures waiting { waiting_in self.new ≡ waiting_in self.old }
+    {
+        if !self.is_idle(number) {
+            return;
+        }
+        if let Some(group) = self.groups.try_remove(number) {
+            self.numbers.remove(&group.content);
+        }
+    }
+
+    /// Whether there is a group with a number, and nothing stands in it.
+    #[inline(always)]
+    pub fn is_idle(&self, number: usize) -> bool
+        ensures { IsTrue result → IsIdle self.now.pass (get self.now.groups number) }
+    {
+        match self.groups.get(number) {
+            Some(group) => group.places.is_empty() && group.pass != self.pass,
+            None => false,
+        }
+    }
+
+    /// A place joins the group of a tree and bytes, which has a number. The guess is tried first. The one fault is
+    /// `Memory`, and then nothing changes.
+    pub fn add(&mut self, guess: u32, tree: u32, bytes: &PageBytes, place: u32) -> Result<(), Fault>
+        requires known { is_some (number_of tree bytes.now self.old.numbers.entries) ≡ true }
+        requires told { Tells (length (chain_in tree bytes.now self.old)) self.old.totals }
+        ensures added { OnOk result (IsMoved tree bytes.now (with_place place) self.old self.new) }
+        ensures totals { OnOk result (IsRegrouped (length (chain_in tree bytes.now self.old)) (length (chain_in tree bytes.now self.new)) self.old.totals self.new.totals) }
+        ensures waits { SameWaits self.old self.new }
+        ensures kept { OnErr result (SameChains self.old self.new) }
+        ensures memory { IfErr result (λ fault. fault ≡ Fault.Memory) }
+    {
+        let Some(number) = self.number(guess, tree, bytes) else {
+            unreachable!()
+        };
+        let Some(group) = self.groups.get_mut(number as usize) else {
+            unreachable!()
+        };
+        group.places.reserve()?;
+        let before = group.places.len();
+        group.places.insert(place);
+        self.totals = self.totals.regrouped(before, group.places.len());
+        Ok(())
+    }
+
+    /// A place leaves the group of a tree and bytes. The guess is tried first.
+    pub fn remove(&mut self, guess: u32, tree: u32, bytes: &PageBytes, place: u32)
+        requires { Tells (length (chain_in tree bytes.now self.old)) self.old.totals }
+        ensures removed { IsMoved tree bytes.now (without place) self.old self.new }
+        ensures totals { IsRegrouped (length (chain_in tree bytes.now self.old)) (length (chain_in tree bytes.now self.new)) self.old.totals self.new.totals }
+        ensures waits { SameWaits self.old self.new }
+    {
+        let Some(number) = self.number(guess, tree, bytes) else {
+            return;
+        };
+        if let Some(group) = self.groups.get_mut(number as usize) {
+            let before = group.places.len();
+            group.places.remove(place);
+            self.totals = self.totals.regrouped(before, group.places.len());
+        }
+    }
+
+    /// The page that waits in the group with a number.
+    pub fn waiting(&self, number: u32) -> Option<GuestPage>
+        ensures { (t : ℕ) (b : List ℕ) → number_of t b self.now.numbers.entries ≡ Some number
+            → result ≡ waiting_page t b (waiting_in self.now) }
+    {
+        let group = self.groups.get(number as usize)?;
+        (group.pass == self.pass).then_some(group.page)
+    }
+
+    /// The page that waits in the group with a number from now on: the one that did, or else this one. Where no group
+    /// has the number, nothing changes.
+    #[inline(always)]
+    pub fn meet(&mut self, number: u32, page: GuestPage) -> GuestPage
+        ensures met { (t : ℕ) (b : List ℕ) → number_of t b self.old.numbers.entries ≡ Some number
+            → result ≡ unwrap_or (waiting_page t b (waiting_in self.old)) page }
+        ensures added { (t : ℕ) (b : List ℕ) → number_of t b self.old.numbers.entries ≡ Some number
+            → IsAdded t b result (waiting_in self.old) (waiting_in self.new) }
+        ensures kept { (t : ℕ) (b : List ℕ) → number_of t b self.old.numbers.entries ≡ Some number
+            → is_some (waiting_page t b (waiting_in self.old)) ≡ true → waiting_in self.new ≡ waiting_in self.old }
+        ensures chains { SameChains self.old self.new }
+        ensures numbers { self.new.numbers.entries ≡ self.old.numbers.entries }
+    {
+        match self.groups.get_mut(number as usize) {
+            Some(group) => {
+                if group.pass == self.pass {
+                    return group.page;
                 }
+                group.pass = self.pass;
+                group.page = page;
+                page
             }
-            None => {}
+            None => page,
         }
     }
 
-    /// The places of a group.
-    pub fn chain(&self, content: &Content) -> &[u32]
-        ensures { result.now ≡ chain_in content.now.tree content.now.bytes self.now.chains.entries }
+    /// The page that waits in a tree with these bytes waits no more, if there is one. The guess is tried first.
+    #[inline(always)]
+    pub fn stop_waiting(&mut self, guess: u32, tree: u32, bytes: &PageBytes)
+        ensures removed { IsRemoved tree bytes.now (waiting_in self.old) (waiting_in self.new) }
+        ensures chains { SameChains self.old self.new }
+        ensures numbers { self.new.numbers.entries ≡ self.old.numbers.entries }
     {
-        // While there is no dup at all, the content need not be hashed.
-        if self.chains.is_empty() {
-            return &[];
+        if let Some(number) = self.number(guess, tree, bytes) {
+            if let Some(group) = self.groups.get_mut(number as usize) {
+                group.pass = 0;
+            }
         }
-        match self.chains.get(content) {
-            Some(chain) => chain.list.as_slice(),
-            None => &[],
+    }
+
+    /// No page waits any more: another pass goes on.
+    pub fn clear_waiting(&mut self)
+        ensures none { waiting_in self.new ≡ [] }
+        ensures chains { SameChains self.old self.new }
+        ensures numbers { self.new.numbers.entries ≡ self.old.numbers.entries }
+    {
+        if self.pass < u64::MAX {
+            self.pass += 1;
+        } else {
+            self.forget_passes();
+            self.pass = 1;
+        }
+    }
+
+    // The pass of each group is 0 again.
+    fn forget_passes(&mut self)
+        ensures none { (number : ℕ) → ForSome (get self.new.groups number) (λ g. g.pass ≡ 0) }
+        ensures chains { SameChains self.old self.new }
+        ensures numbers { self.new.numbers.entries ≡ self.old.numbers.entries }
+    {
+        for number in 0..self.groups.capacity() {
+            self.forget_pass(number);
+        }
+    }
+
+    // The pass of the group with a number is 0 again.
+    fn forget_pass(&mut self, number: usize)
+        ensures none { ForSome (get self.new.groups number) (λ g. g.pass ≡ 0) }
+        ensures others { (other : ℕ) → other ≢ number → get self.new.groups other ≡ get self.old.groups other }
+        ensures slots { length self.new.groups.slots ≡ length self.old.groups.slots }
+        ensures chains { SameChains self.old self.new }
+        ensures numbers { self.new.numbers.entries ≡ self.old.numbers.entries }
+    {
+        if let Some(group) = self.groups.get_mut(number) {
+            group.pass = 0;
         }
     }
 }

@@ -1,11 +1,12 @@
 //! The index that finds dups by number and by content. It keeps places and no dups, so each dup lies in one slot only.
-ghost use Rattle.std.specs.Prelude.{◌≡◌, ℕ, List, [], ◌&&◌, ◌==◌, not, None, Some, IfErr, OnErr, OnOk, bytes_eq, length, if◌then◌else◌};
+ghost use Rattle.std.specs.Prelude.{◌≡◌, ℕ, List, [], ◌&&◌, ◌==◌, not, None, Some, IfErr, OnErr, OnOk, bytes_eq, is_some, length, true, if◌then◌else◌};
+ghost use Rattle.ksm_tree.specs.Groups.{SameWaits, waiting_in};
+ghost use Rattle.ksm_tree.specs.Numbered.{number_of};
 ghost use Rattle.ksm_tree.specs.Places.{with_place, without};
 ghost use Rattle.ksm_tree.specs.Totals.{IsRegrouped, Tells};
 
-use crate::content::Content;
 use crate::groups::Groups;
-use ksm_base::{DupRow, Fault, PageBytes};
+use ksm_base::{DupRow, Fault};
 use std::alloc::Global;
 use std::collections::HashMap;
 
@@ -24,6 +25,8 @@ impl Index {
         ensures numbers { (q : ℕ) → place_of q result ≡ None }
         ensures groups { (t : ℕ) (b : List ℕ) → places_of t b result ≡ [] }
         ensures totals { result.groups.totals ≡ record { chains = 0; dups = 0; longest = 0 } }
+        ensures waiting { waiting_in result.groups ≡ [] }
+        ensures contents { result.groups.numbers.entries ≡ [] }
     {
         Index {
             numbers: HashMap::new(alloc),
@@ -38,53 +41,47 @@ impl Index {
         self.numbers.get(&number).copied()
     }
 
-    /// The places of the dups of a tree and bytes.
-    pub fn places(&self, tree: u32, bytes: &PageBytes) -> &[u32]
-        ensures { result.now ≡ places_of tree bytes.now self.now }
-    {
-        self.groups.chain(&Content::of(tree, bytes))
-    }
-
-    /// Enters a row whose number is new. The one fault is `Memory`, and then nothing changes.
-    pub fn add(&mut self, alloc: Global, row: &DupRow) -> Result<(), Fault>
+    /// Enters a row whose number is new, and whose group has a number. The guess of that is tried first. The one fault is
+    /// `Memory`, and then nothing changes.
+    pub fn add(&mut self, group: u32, row: &DupRow) -> Result<(), Fault>
         requires fresh { place_of row.now.number self.old ≡ None }
+        requires known { is_some (number_of row.now.tree row.now.bytes self.old.groups.numbers.entries) ≡ true }
         requires told { Tells (length (places_of row.now.tree row.now.bytes self.old)) self.old.groups.totals }
         ensures numbers { OnOk result ((q : ℕ) → place_of q self.new ≡ (if q == row.now.number then Some row.now.place else place_of q self.old)) }
         ensures groups { OnOk result ((t : ℕ) (b : List ℕ) → places_of t b self.new
             ≡ (if t == row.now.tree && bytes_eq b row.now.bytes then with_place row.now.place (places_of t b self.old) else places_of t b self.old)) }
         ensures totals { OnOk result (IsRegrouped (length (places_of row.now.tree row.now.bytes self.old)) (length (places_of row.now.tree row.now.bytes self.new))
             self.old.groups.totals self.new.groups.totals) }
+        ensures waits { SameWaits self.old.groups self.new.groups }
         ensures kept_numbers { OnErr result ((q : ℕ) → place_of q self.new ≡ place_of q self.old) }
         ensures kept_groups { OnErr result ((t : ℕ) (b : List ℕ) → places_of t b self.new ≡ places_of t b self.old) }
         ensures kept_totals { OnErr result (self.new.groups.totals ≡ self.old.groups.totals) }
         ensures memory { IfErr result (λ fault. fault ≡ Fault.Memory) }
     {
         self.numbers.insert(row.number, row.place)?;
-        let added = self
-            .groups
-            .add(alloc, Content::of(row.tree, &row.bytes), row.place);
+        let added = self.groups.add(group, row.tree, &row.bytes, row.place);
         if added.is_err() {
             self.numbers.remove(&row.number);
         }
         added
     }
 
-    /// Takes a row out of its group and its number out.
-    pub fn remove(&mut self, row: &DupRow)
+    /// Takes a row out of its group and its number out. The guess of the group's number is tried first.
+    pub fn remove(&mut self, group: u32, row: &DupRow)
         requires { Tells (length (places_of row.now.tree row.now.bytes self.old)) self.old.groups.totals }
         ensures numbers { (q : ℕ) → place_of q self.new ≡ (if q == row.now.number then None else place_of q self.old) }
         ensures groups { (t : ℕ) (b : List ℕ) → places_of t b self.new
             ≡ (if t == row.now.tree && bytes_eq b row.now.bytes then without row.now.place (places_of t b self.old) else places_of t b self.old) }
         ensures totals { IsRegrouped (length (places_of row.now.tree row.now.bytes self.old)) (length (places_of row.now.tree row.now.bytes self.new))
             self.old.groups.totals self.new.groups.totals }
+        ensures waits { SameWaits self.old.groups self.new.groups }
     {
         self.numbers.remove(&row.number);
-        self.groups
-            .remove(&Content::of(row.tree, &row.bytes), row.place);
+        self.groups.remove(group, row.tree, &row.bytes, row.place);
     }
 
-    /// Takes the row of a dup out whose place another one has taken.
-    pub fn replace(&mut self, old: &DupRow, new: &DupRow)
+    /// Takes the row of a dup out whose place another one has taken. The guess of its group's number is tried first.
+    pub fn replace(&mut self, group: u32, old: &DupRow, new: &DupRow)
         requires { Tells (length (places_of old.now.tree old.now.bytes self.old)) self.old.groups.totals }
         ensures numbers { (q : ℕ) → place_of q self.new ≡ (if q == old.now.number then None else place_of q self.old) }
         ensures groups { (t : ℕ) (b : List ℕ) → places_of t b self.new
@@ -92,11 +89,12 @@ impl Index {
             then without old.now.place (places_of t b self.old) else places_of t b self.old) }
         ensures totals { IsRegrouped (length (places_of old.now.tree old.now.bytes self.old)) (length (places_of old.now.tree old.now.bytes self.new))
             self.old.groups.totals self.new.groups.totals }
+        ensures waits { SameWaits self.old.groups self.new.groups }
     {
         if old.tree == new.tree && old.bytes == new.bytes {
             self.numbers.remove(&old.number);
         } else {
-            self.remove(old);
+            self.remove(group, old);
         }
     }
 }

@@ -16,5 +16,7 @@ mod waiting;
 pub mod waiting_laws;
 
 pub use choice::Choice;
-pub use dups::Dups;
+pub use dup::Best;
+pub use dups::{Dups, NO_PLACE};
+pub use groups::NO_NUMBER;
 pub use waiting::Waiting;

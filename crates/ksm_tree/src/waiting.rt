@@ -1,32 +1,31 @@
-//! The unstable tree. Nothing asks for an order of the waiting pages, so it is a map of hashes and no tree.
-ghost use Rattle.std.specs.Prelude.{◌≡◌, [], None, IfOk, IfErr, OnErr, is_some, map, true};
+//! The unstable tree. A page waits in the group of its tree and bytes.
+ghost use Rattle.std.specs.Prelude.{◌≡◌, [], None, IfOk, IfErr, OnErr, is_some, true};
 ghost use Rattle.std.specs.Option.{unwrap_or};
 ghost use Rattle.ksm_tree.specs.Waits.{IsAdded, IsRemoved, waiting_page};
 
-use crate::content::Content;
+use crate::groups::{Groups, NO_NUMBER};
 use ksm_base::{Fault, GuestPage, PageBytes};
 use std::alloc::Global;
-use std::collections::HashMap;
-use std::collections::hash_map::Values;
 use std::marker::Model;
 
 /// The pages that wait for an equal one: at most one of each tree and bytes (mm/ksm, the unstable tree).
 ///
-/// `find_or_add` and `remove` cost a hash and a comparison, in the mean; where a page is added and no room is left, all
-/// of them are moved. `clear` costs the number of the most that waited at once. The hash has a fixed seed: where
-/// contents were picked that collide, a look-up costs a comparison for each.
+/// `find`, `find_or_add` and `remove` cost a search among the contents that are known, in a number of steps in the order
+/// of the logarithm of how many there are; nobody can pick contents that cost more. `clear` takes one step.
 #[derive(Drop)]
 pub struct Waiting {
-    pages: HashMap<Content, GuestPage>,
+    alloc: Global,
+    groups: Groups,
 }
 
 impl Model for Waiting {
-    ghost use Rattle.std.specs.Prelude.{List, map};
-    ghost use Rattle.ksm_tree.specs.Waits.{WaitingPage, waiting_at};
+    ghost use Rattle.std.specs.Prelude.{List};
+    ghost use Rattle.ksm_tree.specs.Groups.{waiting_in};
+    ghost use Rattle.ksm_tree.specs.Waits.{WaitingPage};
 
     ghost Value = { List WaitingPage };
 
-    ghost view = { λ w. map waiting_at w.pages.entries };
+    ghost view = { λ w. waiting_in w.groups };
 }
 
 impl Waiting {
@@ -35,8 +34,17 @@ impl Waiting {
         ensures { result ≡ [] }
     {
         Waiting {
-            pages: HashMap::new(alloc),
+            alloc,
+            groups: Groups::new(alloc),
         }
+    }
+
+    /// The page that waits in a tree with these bytes.
+    pub fn find(&self, tree: u32, bytes: &PageBytes) -> Option<GuestPage>
+        ensures { result ≡ waiting_page tree bytes.now self.now }
+    {
+        let number = self.groups.number(NO_NUMBER, tree, bytes)?;
+        self.groups.waiting(number)
     }
 
     /// The page that waits in a tree with these bytes from now on: the one that did, or else this one. The one fault is
@@ -54,29 +62,21 @@ impl Waiting {
         ensures refused { OnErr result (self.new ≡ self.old) }
         ensures memory { IfErr result (λ fault. fault ≡ Fault.Memory) }
     {
-        let entry = self.pages.entry(Content::of(tree, bytes))?;
-        Ok(*entry.or_insert(page))
+        let number = self.groups.numbered(self.alloc, NO_NUMBER, tree, bytes)?;
+        Ok(self.groups.meet(number, page))
     }
 
     /// The page that waits in a tree with these bytes waits no more, if there is one.
     pub fn remove(&mut self, tree: u32, bytes: &PageBytes)
         ensures { IsRemoved tree bytes.now self.old self.new }
     {
-        self.pages.remove(&Content::of(tree, bytes));
-    }
-
-    /// The pages that wait, in no order.
-    #[tactic(auto, using(crate::proofs::Keys::pages_are))]
-    pub fn pages(&self) -> Values<'_, Content, GuestPage>
-        ensures { result ≡ map (λ w. w.page) self.now }
-    {
-        self.pages.values()
+        self.groups.stop_waiting(NO_NUMBER, tree, bytes);
     }
 
     /// No page waits any more.
     pub fn clear(&mut self)
         ensures { self.new ≡ [] }
     {
-        self.pages.clear();
+        self.groups.clear_waiting();
     }
 }

@@ -1,12 +1,30 @@
-use Rattle.std.proofs.Common.{◌∙◌, ap, sym}
-use Rattle.ksm_base.specs.Rows.{dup_numbered}
-use Rattle.ksm_tree.specs.Dups.{rows_of}
-use Rattle.ksm_pages.specs.Lodged.{frame_seen, lodging}
-use Rattle.ksm_pages.proofs.Linking.{place_numbered}
+use Rattle.ksm_pages.proofs.Names.{ap, bytes_eq, dup_numbered, frame_seen, held_of, if◌then◌else◌, lodging, None, option_and_then, refl, rules, slice_get, sym, waiting_page, waiting_state, ◌&&◌, ◌==◌, ◌∙◌}
+use Rattle.ksm_tree.specs.Dups.{rows_of as dup_rows}
+use Rattle.ksm_pages.proofs.Paging.{kept_at_place, place_numbered}
 use Rattle.ksm_pages.proofs.pages.left_by.Goals as goal
 
-pub returns-clause-frame : goal.returns-clause-frame
-returns-clause-frame c =
-    let dups = c.args.dups.now.dups in
-    c.lodging_at.ensures (dup_numbered c.in-Merged.number (rows_of dups)) (sym (place_numbered c.in-Merged.number dups) ∙ sym c.leave-place.ensures.place)
-    ∙ ap (λ s. frame_seen (lodging (rows_of dups) c.args.lodgings.now) s c.args.frame) (sym c.in-Merged.is)
+pub returns-in-Merged : goal.returns-in-Merged
+returns-in-Merged c = record {
+  dups = search rules;
+  waiting = search rules;
+  frame =
+      let dups = c.args.dups.now.dups in
+      let frames = c.args.frames.now in
+      c.frame_at.ensures
+      ∙ ap (option_and_then (slice_get frames)) (c.leave_at-place.ensures.place ∙ place_numbered c.in-Merged.number dups)
+      ∙ kept_at_place frames (dup_numbered c.in-Merged.number (dup_rows dups))
+      ∙ ap (λ s. frame_seen (lodging (dup_rows dups) frames) s (held_of c.args.pass c.args.entry.now).frame)
+      (sym (sym c.state.ensures ∙ c.in-Merged.is));
+}
+
+pub returns-in-Waiting : goal.returns-in-Waiting
+returns-in-Waiting c = record {
+  dups = search rules;
+  waiting = λ t b.
+      let row = (held_of c.args.pass c.args.entry.now).row in
+      let waits = sym (sym c.state.ensures ∙ c.in-Waiting.is) in
+      let tree = c.tree_in.ensures row refl in
+      c.stop_waiting.ensures.removed t b
+      ∙ (λ i. if waiting_state (waits i) && (t == tree i && bytes_eq b row.bytes) then None else waiting_page t b c.args.dups.now.waiting);
+  frame = search rules;
+}

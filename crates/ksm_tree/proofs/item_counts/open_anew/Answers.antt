@@ -1,6 +1,4 @@
-use Rattle.std.proofs.Common.{◌∙◌, ◌<◌, length, sym, ap, arith}
-use Rattle.ksm_tree.specs.Counts.{is_open}
-use Rattle.ksm_tree.specs.Places.{with_place}
+use Rattle.ksm_tree.proofs.Names.{ap, arith, is_open, length, sym, with_place, ◌<◌, ◌∙◌}
 use Rattle.ksm_tree.proofs.Where.{where_next, where_not_next, where_first_room}
 use Rattle.ksm_tree.proofs.item_counts.open_anew.Goals as goal
 use Rattle.ksm_tree.proofs.item_counts.open_anew.Goals.{then-is_open, else-is_open}

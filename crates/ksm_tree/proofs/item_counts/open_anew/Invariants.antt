@@ -1,5 +1,4 @@
-use Rattle.std.proofs.Common.{◌≡◌, take}
-use Rattle.ksm_tree.specs.Counts.{is_open, places_where}
+use Rattle.ksm_tree.proofs.Names.{is_open, places_where, take, ◌≡◌}
 use Rattle.ksm_tree.proofs.item_counts.open_anew.Given as goal
 
 -- the open ones of the first places

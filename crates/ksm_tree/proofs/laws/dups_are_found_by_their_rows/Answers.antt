@@ -1,6 +1,4 @@
-use Rattle.std.proofs.Common.{refl}
-use Rattle.std.specs.Prelude.{◌==◌}
-use Rattle.ksm_tree.specs.Dups.{has_number}
+use Rattle.ksm_tree.proofs.Names.{has_number, refl, ◌==◌}
 use Rattle.ksm_tree.proofs.Bridge.{live_placed, stale_placed}
 use Rattle.ksm_tree.proofs.Changes.{row_found}
 use Rattle.ksm_tree.proofs.laws.dups_are_found_by_their_rows.Goals as goal

@@ -1,4 +1,4 @@
-use Rattle.std.proofs.Common.{refl}
+use Rattle.ksm_tree.proofs.Names.{refl}
 use Rattle.ksm_tree.proofs.Tied.{items_dropped, items_joined, items_left, items_kept}
 use Rattle.ksm_tree.proofs.laws.items_follow_the_rows.Goals as goal
 

@@ -1,4 +1,4 @@
-use Rattle.std.proofs.Common.{refl}
+use Rattle.ksm_tree.proofs.Names.{refl}
 use Rattle.ksm_tree.proofs.Ties.{tied_dropped, tied_left, tied_joined, tied_made, tied_inserted, tied_mapped, tied_pruned}
 use Rattle.ksm_tree.proofs.laws.ties_follow_the_rows.Goals as goal
 

@@ -1,8 +1,4 @@
-use Rattle.std.proofs.Common.{rules}
-use Rattle.std.proofs.Common.{◌∙◌, sym, ap}
-use Rattle.std.specs.Prelude.{◌==◌, nat_lt, option_copied, Some}
-use Rattle.std.proofs.lemmas.List.Sorted.{IsPartitionPoint-from_clause}
-use Rattle.ksm_rmap.proofs.Ordered.{parted, point_is_count}
+use Rattle.ksm_tree.proofs.Names.{ap, IsPartitionPoint-from_clause, nat_lt, option_copied, parted, point_is_count, rules, Some, sym, ◌==◌, ◌∙◌}
 use Rattle.ksm_tree.proofs.Numbers.{all_counted, last_counted, places_ordered}
 use Rattle.ksm_tree.proofs.places.place_in.Goals as goal
 

@@ -1,7 +1,5 @@
-use Rattle.std.proofs.Common.{◌≡◌, ◌<◌, false, length, get_or, ◌∙◌, sym, ap, arith}
-use Rattle.std.specs.Prelude.{◌==◌, filter, nat_lt}
-use Rattle.std.proofs.lemmas.Bool.{le-ltb}
-use Rattle.ksm_rmap.proofs.Ordered.{found_at, absent_past}
+use Rattle.ksm_tree.proofs.Names.{absent_past, ap, arith, false, filter, get_or, le-ltb, length, nat_lt, sym, ◌<◌, ◌==◌, ◌∙◌, ◌≡◌}
+use Rattle.ksm_rmap.proofs.Ordered.{found_at}
 use Rattle.ksm_tree.proofs.Numbers.{places_ordered}
 use Rattle.ksm_tree.proofs.places.stands_at.Goals as goal
 

@@ -1,4 +1,4 @@
-use Rattle.std.proofs.Common.{refl}
+use Rattle.ksm_tree.proofs.Names.{refl}
 use Rattle.ksm_tree.proofs.waiting_laws.a_row_stops_waiting.Goals as goal
 
 pub returns-clause-removed : goal.returns-clause-removed

@@ -1,5 +1,4 @@
-use Rattle.std.proofs.Common.{◌∙◌}
-use Rattle.ksm_base.specs.Rows.{change_row}
+use Rattle.ksm_tree.proofs.Names.{change_row, ◌∙◌}
 use Rattle.ksm_tree.proofs.Waiters.{at_others, row_stopped}
 use Rattle.ksm_tree.proofs.waiting_laws.two_rows_change.Goals as goal
 

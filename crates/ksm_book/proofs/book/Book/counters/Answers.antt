@@ -1,6 +1,4 @@
-use Rattle.std.proofs.Common.{◌∙◌, ap}
-use Rattle.ksm_base.specs.Counting.{counters_of}
-use Rattle.ksm_book.specs.Carried.{JournaledBook}
+use Rattle.ksm_book.proofs.Names.{ap, counters_of, JournaledBook, ◌∙◌}
 use Rattle.ksm_book.proofs.book.Book.counters.Goals as goal
 
 pub returns : goal.returns

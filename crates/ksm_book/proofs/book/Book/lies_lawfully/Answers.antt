@@ -1,6 +1,4 @@
-use Rattle.ksm_base.specs.Journal.{ReadsLastStored}
-use Rattle.std.proofs.Common.{subst}
-use Rattle.ksm_book.specs.Carried.{JournaledBook}
+use Rattle.ksm_book.proofs.Names.{JournaledBook, ReadsLastStored, subst}
 use Rattle.ksm_book.proofs.Journaled.{rows_stored}
 use Rattle.ksm_book.proofs.book.Book.lies_lawfully.Goals as goal
 

@@ -1,6 +1,4 @@
-use Rattle.std.proofs.Common.{Some, IfSome, subst, ◌≡◌}
-use Rattle.ksm_base.specs.Journal.{last_stored}
-use Rattle.ksm_book.specs.Carried.{JournaledBook}
+use Rattle.ksm_book.proofs.Names.{IfSome, JournaledBook, last_stored, Some, subst, ◌≡◌}
 use Rattle.ksm_book.proofs.Journaled.{page_stored}
 use Rattle.ksm_book.proofs.book.Book.read.Goals as goal
 

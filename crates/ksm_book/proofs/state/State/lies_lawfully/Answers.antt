@@ -1,24 +1,21 @@
-use Rattle.std.proofs.Common.{subst}
-use Rattle.ksm_layout.specs.Laid.{state_of}
-use Rattle.ksm_book.specs.Promised.{FindsPlace, LieOn, NumbersAreSmall}
-use Rattle.ksm_book.specs.Whole.{BookView}
-use Rattle.ksm_book.proofs.Promised.{lies_on}
+use Rattle.ksm_book.proofs.Names.{BookValue, FindsPlace, IsSound, LieOn, NumbersAreSmall, seen, spent, state_of, subst, view_of, ◌≤◌}
+use Rattle.ksm_book.proofs.Promised.{lie_on}
+use Rattle.ksm_book.proofs.Sharing.{spent_most}
 use Rattle.ksm_book.proofs.Standing.{finds_places, numbers_small}
 use Rattle.ksm_book.proofs.state.State.lies_lawfully.Goals as goal
 
-pub returns-clause-placed : goal.returns-clause-placed
-returns-clause-placed c =
+pub returns : goal.returns
+returns c =
     let s = c.self.inside in
-    subst (λ (x : BookView). LieOn x.state x.frames x.keeper.ledger) c.self.view_is
-    (lies_on (state_of s.layout s.cursor s.passes) s.layout.frames s.layout.keeper c.self.invariant c.lies_lawfully.ensures.placed)
-
-pub returns-clause-place : goal.returns-clause-place
-returns-clause-place c =
-    let s = c.self.inside in
-    subst (λ (x : BookView). FindsPlace x.state) c.self.view_is
-    (finds_places (state_of s.layout s.cursor s.passes) s.layout.frames s.layout.keeper c.self.invariant c.lies_lawfully.ensures.placed)
-
-pub returns-clause-numbers : goal.returns-clause-numbers
-returns-clause-numbers c =
-    let s = c.self.inside in
-    subst (λ (x : BookView). NumbersAreSmall x.state) c.self.view_is (numbers_small (state_of s.layout s.cursor s.passes) c.self.invariant c.lies_lawfully.ensures.few)
+    let p = seen s.pages in
+    let b = state_of p s.cursor s.passes in
+    let sound = c.self.invariant.0 in
+    let laid = c.self.invariant.1 in
+    record {
+      sound = subst (λ (x : BookValue). IsSound x.state) c.self.view_is sound;
+      placed = subst (λ (x : BookValue). LieOn x.state (view_of x).frame x.keeper.ledger) c.self.view_is
+          (lie_on b s.keeper.ledger sound p.frame laid.placed c.lie_in_order.ensures.absent);
+      place = subst (λ (x : BookValue). FindsPlace x.state) c.self.view_is (finds_places p s.keeper s.cursor s.passes sound laid);
+      lives = subst (λ (x : BookValue). x.state.next ≤ spent x.keeper.ledger) c.self.view_is laid.spent;
+      numbers = subst (λ (x : BookValue). NumbersAreSmall x.state) c.self.view_is (numbers_small b sound (spent_most p s.keeper laid));
+    }

@@ -1,54 +1,33 @@
-use Rattle.std.proofs.Common.{◌≡◌, ◌∙◌, Ok, sym, ap, subst, rules}
-use Rattle.ksm_base.specs.declared.row.Row.{Row}
-use Rattle.ksm_base.specs.declared.command.Command.TheVariants.{MovePage}
-use Rattle.ksm_base.specs.declared.reply.Reply.TheVariants.{Done}
-use Rattle.ksm_base.specs.Apply.{moved}
-use Rattle.ksm_base.specs.Rows.{change_row}
-use Rattle.ksm_base.specs.Sound.{IsSound}
-use Rattle.ksm_base.specs.State.{BookState}
-use Rattle.ksm_base.proofs.SoundSteps.{sound_after}
-use Rattle.ksm_layout.specs.Laid.{Lay, state_of}
-use Rattle.ksm_book.specs.Whole.{BookView}
-use Rattle.ksm_layout.proofs.Found.{change_nothing, change_own, found_by, moved_page, moved_home}
+use Rattle.ksm_book.proofs.Names.{ap, CarriedOut, Done, IsLaid, MovePage, ne_eqb, Ok, option_map, PagesView, refl, Resettled, same_Some, seen, Shape, subst, sym, view_of, ◌<◌, ◌∙◌, ◌≡◌}
+use Rattle.ksm_book.proofs.Singles.{book, carried_so, found_spot, move_home, move_moved, private_resettled, sound_carried}
 use Rattle.ksm_book.proofs.state.State.move_page.Goals as goal
 
 pub returns-then-held-node : goal.returns-then-held-node
-returns-then-held-node c = record {
-  own = search rules;
-  answer = search rules;
-  state =
-      let s = c.self.inside in
-      let same = change_nothing c.args.page (moved c.args.node) s.layout.rows c.in-Some.held.row c.self.invariant.rows_rise c.in-Some.ensures.found
-      (moved_home c.args.node c.in-Some.held.row c.if-held-node.true) in
-      sym (ap (λ (x : BookView). x.state) c.self.view_is) ∙ ap (λ rows. record (state_of s.layout s.cursor s.passes) { rows = rows }) (sym same)
-      ∙ ap (λ (x : BookView). record x.state { rows = change_row c.args.page (moved c.args.node) x.state.rows }) c.self.view_is;
-  steps = search rules;
-  frames = search rules;
-  shown = search rules;
-}
+returns-then-held-node c =
+    carried_so _ c.args.self.now _ (MovePage c.args.page c.args.node) (MovePage c.args.page c.args.node) (Ok Done) c.self.view_is refl
+    (subst (λ x. CarriedOut (book (seen c.self.inside.pages) c.self.inside.keeper c.self.inside.cursor c.self.inside.passes) x (MovePage c.args.page c.args.node) (Ok Done)) (ap view_of c.self.view_is)
+    (move_home (seen c.self.inside.pages) c.self.inside.keeper c.self.inside.cursor c.self.inside.passes c.args.page c.args.node c.in-Some.ensures.row c.self.invariant.0.rows_rise c.in-Some.ensures.found
+    (subst (λ (s : Shape). c.args.node < s.nodes) c.shape.ensures c.if-node-shape.false) (sym c.in-Some.ensures.home ∙ c.if-held-node.true)))
 
-pub resettle-requires-clause-known : goal.resettle-requires-clause-known
-resettle-requires-clause-known c = found_by c.args.page c.self.inside.layout.rows c.in-Some.held.row c.moved.result c.in-Some.ensures.found (ap (λ (x : Row). x.page) c.moved.ensures ∙ moved_page c.args.node c.in-Some.held.row)
+pub set_home-requires : goal.set_home-requires
+set_home-requires c = private_resettled c.self.inside.pages.rows c.in-Some.held.spot.page c.in-Some.ensures.row
+    (found_spot c.self.inside.pages.rows c.args.page c.in-Some.held.spot.page c.in-Some.ensures.row c.in-Some.ensures.spot c.in-Some.ensures.found)
+    c.resettle.new.pages.rows (ap (λ (p : PagesView). p.rows) c.in_default-resettle.ensures.resettled.pages)
 
-there : (c : goal.Else-not-resettle) → state_of c.resettle.new.self c.self.inside.cursor c.self.inside.passes ≡ record (state_of c.self.inside.layout c.self.inside.cursor c.self.inside.passes) { rows = change_row c.args.page (moved c.args.node) c.self.inside.layout.rows }
-there c =
-    let s = c.self.inside in
-    let b : BookState = state_of s.layout s.cursor s.passes in
-    ap (λ (x : Lay). state_of x s.cursor s.passes) c.if-not-resettle.ensures.housed.state
-    ∙ ap (λ (x : Row). record b { rows = change_row x.page (λ _. x) s.layout.rows }) c.moved.ensures
-    ∙ ap (λ rows. record b { rows = rows }) (change_own c.args.page (moved c.args.node) s.layout.rows c.in-Some.held.row c.self.invariant.rows_rise c.in-Some.ensures.found (moved_page c.args.node c.in-Some.held.row))
+moved_there : (c : goal.After-set_home) → CarriedOut (book (seen c.self.inside.pages) c.self.inside.keeper c.self.inside.cursor c.self.inside.passes) (book (seen c.set_home.new.self) c.resettle.new.keeper c.self.inside.cursor c.self.inside.passes) (MovePage c.in-Some.held.spot.page c.args.node) (Ok Done)
+    × IsLaid (seen c.set_home.new.self) c.resettle.new.keeper
+moved_there c =
+    let found = found_spot c.self.inside.pages.rows c.args.page c.in-Some.held.spot.page c.in-Some.ensures.row c.in-Some.ensures.spot c.in-Some.ensures.found in
+    let bytes : c.bytes-bytes.result ≡ c.in-Some.ensures.row.bytes = same_Some _ _ (sym c.bytes-bytes.ensures ∙ ap (option_map (λ r. r.bytes)) found) in
+    move_moved (seen c.self.inside.pages) c.self.inside.keeper c.self.inside.cursor c.self.inside.passes c.in-Some.held.spot.page c.args.node c.in-Some.ensures.row c.self.invariant.0.rows_rise found
+    (subst (λ (s : Shape). c.args.node < s.nodes) c.shape.ensures c.if-node-shape.false) c.resettle.new.keeper c.in_default-resettle.ensures.resettled.does.1.table
+    (ne_eqb c.in-Some.ensures.row.home c.args.node (λ e. c.if-held-node.false (c.in-Some.ensures.home ∙ e)))
+    (seen c.resettle.new.pages) (seen c.set_home.new.self) c.self.invariant.1
+    (subst (λ bs. Resettled (seen c.self.inside.pages) (seen c.resettle.new.pages) c.self.inside.keeper c.resettle.new.keeper c.in-Some.held.spot.page c.args.node bs) bytes c.in_default-resettle.ensures.resettled)
+    c.set_home.ensures
 
 pub returns : goal.returns
-returns c = record {
-  own = search rules;
-  answer = search rules;
-  state = there c ∙ ap (λ (x : BookView). record x.state { rows = change_row c.args.page (moved c.args.node) x.state.rows }) c.self.view_is;
-  steps = search rules;
-  frames = search rules;
-  shown = search rules;
-}
+returns c = carried_so _ c.args.self.now _ (MovePage c.in-Some.held.spot.page c.args.node) (MovePage c.args.page c.args.node) (Ok Done) c.self.view_is (ap (λ q. MovePage q c.args.node) c.in-Some.ensures.spot) (moved_there c).0
 
 pub invariant_of-self-2 : goal.invariant_of-self-2
-invariant_of-self-2 c =
-    let s = c.self.inside in
-    subst IsSound (sym (there c)) (sound_after (state_of s.layout s.cursor s.passes) (MovePage c.args.page c.args.node) (Ok Done) c.self.invariant (search rules))
+invariant_of-self-2 c = (sound_carried _ _ (MovePage c.in-Some.held.spot.page c.args.node) (Ok Done) c.self.invariant.0 (moved_there c).0, (moved_there c).1)

@@ -1,12 +1,19 @@
-use Rattle.std.proofs.Common.{Ok, subst, rules}
-use Rattle.ksm_base.specs.declared.command.Command.TheVariants.{Prune}
-use Rattle.ksm_base.specs.declared.reply.Reply.TheVariants.{Pruned}
-use Rattle.ksm_base.specs.Sound.{IsSound}
-use Rattle.ksm_base.proofs.SoundSteps.{sound_after}
-use Rattle.ksm_layout.specs.Laid.{state_of}
+use Rattle.ksm_book.proofs.Names.{ap, CarriedOut, Ok, PagesView, Prune, Pruned, refl, seen, state_of}
+use Rattle.ksm_book.proofs.Singles.{book, carried_so, sound_carried}
 use Rattle.ksm_book.proofs.state.State.prune.Goals as goal
 
+pruned : (c : goal.After-drop_stale-count) → CarriedOut (book (seen c.self.inside.pages) c.self.inside.keeper c.self.inside.cursor c.self.inside.passes) (book (seen c.drop_stale-count.new.pages) c.drop_stale-count.new.keeper c.self.inside.cursor c.self.inside.passes) Prune (Ok (Pruned c.drop_stale-count.result))
+pruned c = record {
+  own = c.drop_stale-count.ensures.does.1.table;
+  answer = ap (λ n. Ok (Pruned n)) c.drop_stale-count.ensures.count;
+  state = ap (λ (p : PagesView). state_of p c.self.inside.cursor c.self.inside.passes) c.drop_stale-count.ensures.pages;
+  steps = c.drop_stale-count.ensures.performs;
+  frames = c.drop_stale-count.ensures.does;
+  shown = tt;
+}
+
+pub returns : goal.returns
+returns c = carried_so _ c.args.self.now _ Prune Prune (Ok (Pruned c.drop_stale-count.result)) c.self.view_is refl (pruned c)
+
 pub invariant_of-self : goal.invariant_of-self
-invariant_of-self c =
-    let s = c.self.inside in
-    subst IsSound (search rules) (sound_after (state_of s.layout s.cursor s.passes) Prune (Ok (Pruned c.prune.result)) c.self.invariant (search rules))
+invariant_of-self c = (sound_carried _ _ Prune (Ok (Pruned c.drop_stale-count.result)) c.self.invariant.0 (pruned c), c.drop_stale-count.ensures.laid)

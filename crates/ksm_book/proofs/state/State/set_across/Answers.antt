@@ -1,40 +1,26 @@
-use Rattle.std.proofs.Common.{◌≡◌, ◌∙◌, Ok, sym, ap, subst, rules}
-use Rattle.ksm_base.specs.declared.command.Command.TheVariants.{SetAcross}
-use Rattle.ksm_base.specs.declared.reply.Reply.TheVariants.{Done}
-use Rattle.ksm_base.specs.Sound.{IsSound}
-use Rattle.ksm_base.proofs.SoundSteps.{sound_after}
-use Rattle.std.proofs.Common.{inr, false}
-use Rattle.std.proofs.Common.{refl, zero, suc, List, ◌∷◌, arith}
-use Rattle.std.specs.Prelude.{[], All, filter, map, ◌==◌}
-use Rattle.ksm_base.specs.declared.row.PageState.{PageState}
-use Rattle.ksm_base.specs.declared.row.PageState.TheVariants.{Private, Waiting, Merged, Zero}
-use Rattle.ksm_base.specs.declared.row.Row.{Row}
-use Rattle.ksm_base.specs.Rows.{has_items, settled, settled_state, waiting_state}
-use Rattle.std.proofs.lemmas.Bool.{ne_eqb}
-use Rattle.ksm_base.specs.declared.knobs.Knobs.{Knobs}
-use Rattle.ksm_base.specs.Refusals.{changes_while_shared}
-use Rattle.ksm_base.proofs.SoundKnobs.{none_shared}
-use Rattle.ksm_base.proofs.SoundEdits.{no_dup_lives}
-use Rattle.ksm_layout.specs.Laid.{Lay, state_of}
+use Rattle.ksm_book.proofs.Names.{[], All, ap, arith, BookValue, changes_while_shared, Done, effect, false, get_or, inr, IsLaid, IsSound, Knobs, List, map, nat_tests, ne_eqb, no_dup_lives, None, none_shared, PageState, PagesView, refl, refusal, Row, rules, seen, SetAcross, settled, settled_state, sound_set_across, state_of, subst, suc, sym, waiting_state, zero, ◌==◌, ◌∙◌, ◌∷◌, ◌≡◌, ◌≤◌}
+use Rattle.ksm_base.specs.declared.row.PageState.TheVariants.{Private}
+use Rattle.ksm_book.proofs.Laying.{laid_mapped, retuned}
+use Rattle.ksm_book.proofs.Sharing.{settled_lodges}
 use Rattle.ksm_book.proofs.state.State.set_across.Goals as goal
 
-pub invariant_of-self : goal.invariant_of-self
-invariant_of-self c =
-    let s = c.self.inside in
-    subst IsSound (search rules) (sound_after (state_of s.layout s.cursor s.passes) (SetAcross c.args.across) (Ok Done) c.self.invariant (search rules))
+calm : (c : goal.After-set_knobs) → changes_while_shared (state_of (seen c.self.inside.pages) c.self.inside.cursor c.self.inside.passes) c.self.inside.pages.knobs.merge_across_nodes c.args.across ≡ false
+calm c =
+    let b = state_of (seen c.self.inside.pages) c.self.inside.cursor c.self.inside.passes in
+    ap (λ (k : Knobs). changes_while_shared b k.merge_across_nodes c.args.across) (sym c.knobs-knobs.ensures)
+    ∙ ap (λ (x : BookValue). changes_while_shared x.state c.knobs-knobs.result.merge_across_nodes c.args.across) c.self.view_is ∙ sym c.if-would_change_shared.ensures
 
 -- no dup had items, so none is left
-pub set_knobs-requires-clause-dups : goal.set_knobs-requires-clause-dups
-set_knobs-requires-clause-dups c =
+none_left : (c : goal.After-set_knobs) → c.settle_all.new.self.dups ≡ []
+none_left c =
     let s = c.self.inside in
-    let b = state_of s.layout s.cursor s.passes in
-    let calm : changes_while_shared b b.knobs.merge_across_nodes c.args.across ≡ false = search rules in
+    let b = state_of (seen s.pages) s.cursor s.passes in
     let other : (c.args.across == b.knobs.merge_across_nodes) ≡ false = ne_eqb c.args.across b.knobs.merge_across_nodes (λ e. c.if-across-knobs.false (e ∙ sym (ap (λ (k : Knobs). k.merge_across_nodes) c.knobs-knobs.ensures))) in
-    let gone : filter (has_items b.rows) b.dups ≡ [] = no_dup_lives b (none_shared b (c.args.across == b.knobs.merge_across_nodes) calm other) in
-    inr (search rules)
+    ap (λ (p : PagesView). p.dups) c.settle_all.ensures ∙ ap (λ (p : PagesView). p.dups) c.drop_stale.ensures.pages
+    ∙ no_dup_lives b (none_shared b (c.args.across == b.knobs.merge_across_nodes) (calm c) other)
 
-pub set_knobs-requires-clause-rows : goal.set_knobs-requires-clause-rows
-set_knobs-requires-clause-rows c = inr (subst (λ (l : Lay). All (λ r. waiting_state r.state ≡ false) l.rows) (sym c.settle_all.ensures) (none_waits c.prune.new.self.rows))
+pub set_knobs-requires : goal.set_knobs-requires
+set_knobs-requires c = inr (subst (λ (p : PagesView). All (λ r. waiting_state r.state ≡ false) p.rows) (sym c.settle_all.ensures) (none_waits c.drop_stale.new.pages.rows))
   where
     none_waits : (rows : List Row) → All (λ r. waiting_state r.state ≡ false) (map settled rows)
     none_waits [] i d lt = absurd (omega (arith, lt))
@@ -42,7 +28,23 @@ set_knobs-requires-clause-rows c = inr (subst (λ (l : Lay). All (λ r. waiting_
       where
         still : (s : PageState) → waiting_state (settled_state s) ≡ false
         still Private = refl
-        still Waiting = refl
-        still (Merged n) = refl
-        still Zero = refl
+        still _ = refl
     none_waits (r ∷ rows) (suc i) d lt = none_waits rows i d (omega (arith, lt))
+
+laid : (c : goal.After-set_knobs) → IsLaid (seen c.set_knobs.new.self) c.drop_stale.new.keeper
+laid c =
+    let k = c.drop_stale.new.keeper in
+    let there = subst (λ (p : PagesView). IsLaid p k) (sym c.settle_all.ensures)
+    (laid_mapped (seen c.drop_stale.new.pages) k c.drop_stale.ensures.laid settled c.drop_stale.new.pages.restless (λ r. refl) (λ i d lt. settled_lodges (get_or c.drop_stale.new.pages.rows i d))) in
+    subst (λ (p : PagesView). IsLaid p k) (sym c.set_knobs.ensures) (retuned (seen c.settle_all.new.self) _ k (inr (none_left c)) there)
+
+sound : (c : goal.After-set_knobs) → IsSound (effect (state_of (seen c.self.inside.pages) c.self.inside.cursor c.self.inside.passes) (SetAcross c.args.across) Done)
+sound c =
+    let b = state_of (seen c.self.inside.pages) c.self.inside.cursor c.self.inside.passes in
+    let low : c.args.across ≤ 1 = search rules in
+    let quiet = calm c in
+    let accepted : refusal b (SetAcross c.args.across) ≡ None = grind (arith, nat_tests, low, quiet) in
+    sound_set_across b c.args.across Done accepted c.self.invariant.0
+
+pub invariant_of-self : goal.invariant_of-self
+invariant_of-self c = (subst IsSound (search rules) (sound c), laid c)

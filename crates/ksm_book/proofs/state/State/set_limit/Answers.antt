@@ -1,23 +1,19 @@
-use Rattle.std.proofs.Common.{◌≡◌, ◌∙◌, ◌≤◌, None, false, sym, ap, subst, arith, rules}
-use Rattle.std.proofs.lemmas.Bool.Decides.{nat_tests}
-use Rattle.ksm_base.specs.declared.command.Command.TheVariants.{SetLimit}
-use Rattle.ksm_base.specs.declared.reply.Reply.TheVariants.{Done}
-use Rattle.ksm_base.specs.declared.knobs.Knobs.{Knobs}
-use Rattle.ksm_base.specs.Refusals.{changes_while_shared, refusal}
-use Rattle.ksm_base.specs.Sound.{IsSound}
-use Rattle.ksm_base.proofs.SoundKnobs.{sound_set_limit}
-use Rattle.ksm_layout.specs.Laid.{state_of}
-use Rattle.ksm_book.specs.Whole.{BookView}
+use Rattle.ksm_book.proofs.Names.{ap, arith, BookValue, changes_while_shared, Done, false, inl, IsLaid, IsSound, Knobs, nat_tests, None, PagesView, refusal, rules, seen, SetLimit, sound_set_limit, state_of, subst, sym, ◌∙◌, ◌≡◌, ◌≤◌}
+use Rattle.ksm_book.proofs.Laying.{retuned}
 use Rattle.ksm_book.proofs.state.State.set_limit.Goals as goal
 
 pub invariant_of-self : goal.invariant_of-self
 invariant_of-self c =
     let s = c.self.inside in
-    let b = state_of s.layout s.cursor s.passes in
+    let b = state_of (seen s.pages) s.cursor s.passes in
     let inside = c.if-not-contains.ensures in
     let within : (2 ≤ c.args.limit) × (c.args.limit ≤ 1024) = search rules in
     let calm : changes_while_shared b b.knobs.max_page_sharing c.args.limit ≡ false =
     ap (λ (k : Knobs). changes_while_shared b k.max_page_sharing c.args.limit) (sym c.knobs-knobs.ensures)
-    ∙ ap (λ (x : BookView). changes_while_shared x.state c.knobs-knobs.result.max_page_sharing c.args.limit) c.self.view_is ∙ sym c.if-would_change_shared.ensures in
+    ∙ ap (λ (x : BookValue). changes_while_shared x.state c.knobs-knobs.result.max_page_sharing c.args.limit) c.self.view_is ∙ sym c.if-would_change_shared.ensures in
     let accepted : refusal b (SetLimit c.args.limit) ≡ None = grind (arith, nat_tests, within.0, within.1, calm) in
-    subst IsSound (search rules) (sound_set_limit b c.args.limit Done accepted c.self.invariant)
+    let there = c.drop_stale.ensures.pages in (
+      subst IsSound (search rules) (sound_set_limit b c.args.limit Done accepted c.self.invariant.0),
+      subst (λ (p : PagesView). IsLaid p c.drop_stale.new.keeper) (sym c.set_knobs.ensures)
+          (retuned (seen c.drop_stale.new.pages) _ c.drop_stale.new.keeper (inl (ap (λ (k : Knobs). k.merge_across_nodes) c.knobs-knobs.ensures ∙ sym (ap (λ (p : PagesView). p.knobs.merge_across_nodes) there))) c.drop_stale.ensures.laid),
+    )

@@ -1,12 +1,10 @@
-use Rattle.std.proofs.Common.{Ok, subst, rules}
-use Rattle.ksm_base.specs.declared.command.Command.TheVariants.{SetZeroPages}
-use Rattle.ksm_base.specs.declared.reply.Reply.TheVariants.{Done}
-use Rattle.ksm_base.specs.Sound.{IsSound}
-use Rattle.ksm_base.proofs.SoundSteps.{sound_after}
-use Rattle.ksm_layout.specs.Laid.{state_of}
+use Rattle.ksm_book.proofs.Names.{ap, Done, inl, IsLaid, IsSound, Knobs, Ok, PagesView, rules, seen, SetZeroPages, sound_after, state_of, subst, sym}
+use Rattle.ksm_book.proofs.Laying.{retuned}
 use Rattle.ksm_book.proofs.state.State.set_zero_pages.Goals as goal
 
 pub invariant_of-self : goal.invariant_of-self
 invariant_of-self c =
-    let s = c.self.inside in
-    subst IsSound (search rules) (sound_after (state_of s.layout s.cursor s.passes) (SetZeroPages c.args.zero_pages) (Ok Done) c.self.invariant (search rules))
+    let s = c.self.inside in (
+      subst IsSound (search rules) (sound_after (state_of (seen s.pages) s.cursor s.passes) (SetZeroPages c.args.zero_pages) (Ok Done) c.self.invariant.0 (search rules)),
+      subst (λ (p : PagesView). IsLaid p s.keeper) (sym c.set_knobs.ensures) (retuned (seen s.pages) _ s.keeper (inl (ap (λ (k : Knobs). k.merge_across_nodes) c.knobs-knobs.ensures)) c.self.invariant.1),
+    )

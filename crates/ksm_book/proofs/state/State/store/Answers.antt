@@ -1,65 +1,69 @@
-use Rattle.std.proofs.Common.{◌≡◌, ◌∙◌, ◌<◌, ℕ, List, Some, refl, sym, ap, subst, rules}
-use Rattle.ksm_base.specs.declared.page.GuestPage.{GuestPage}
-use Rattle.ksm_base.specs.declared.row.Row.{Row}
-use Rattle.ksm_base.specs.Apply.{stored}
-use Rattle.ksm_base.specs.Rows.{change_row, row_at, same_page, InPageOrder}
-use Rattle.ksm_base.specs.Sound.{IsSound}
-use Rattle.ksm_base.proofs.SoundEdits.{sound_changed, becomes_private}
-use Rattle.ksm_book.specs.Whole.{BookView}
-use Rattle.ksm_layout.specs.Laid.{Lay, state_of}
-use Rattle.ksm_layout.proofs.Found.{change_own, found_by, found_all}
+use Rattle.ksm_book.proofs.Names.{ap, CarriedOut, Done, find_all, is_some, IsLaid, KeeperView, length, Ok, PAGE_WORDS, PagesView, refl, Resettled, rules, same_page, seen, Store, stored, subst, sym, ◌<◌, ◌∙◌, ◌≡◌}
+use Rattle.ksm_book.proofs.Laying.{has_frame, laid_written, own_framed}
+use Rattle.ksm_book.proofs.Singles.{alone_now, alone_resettled, book, carried_so, found_spot, own_ready, sound_carried, store_copied, store_written}
 use Rattle.ksm_book.proofs.state.State.store.Goals as goal
 
-changed : (rows : List Row) (page : GuestPage) (bytes : List ℕ) (row new : Row) → InPageOrder rows → row_at page rows ≡ Some row → new ≡ stored bytes row → change_row new.page (λ _. new) rows ≡ change_row page (stored bytes) rows
-changed rows page bytes row new rise found is = ap (λ (x : Row). change_row x.page (λ _. x) rows) is ∙ change_own page (stored bytes) rows row rise found refl
+pub known_frame-frame-requires : goal.known_frame-frame-requires
+known_frame-frame-requires c =
+    let f = has_frame (seen c.self.inside.pages) c.self.inside.keeper c.self.invariant.1 c.args.page c.in-Some.ensures.row c.in-Some.ensures.found
+    (own_framed c.in-Some.ensures.row.state (sym c.in-Some.ensures.shared ∙ c.if-held.false)) in
+    ap is_some (c.in-Some.ensures.frame ∙ f.1)
 
-pub rewrite-requires-clause-known : goal.rewrite-requires-clause-known
-rewrite-requires-clause-known c =
-    found_by c.args.page c.self.inside.layout.rows c.in-Some.row c.stored.result (ap (row_at c.args.page) (sym c.rows.ensures) ∙ sym c.row.ensures.row ∙ c.in-Some.is)
-    (ap (λ (x : Row). x.page) c.stored.ensures)
+pub write-requires : goal.write-requires
+write-requires c =
+    let ready = own_ready (seen c.self.inside.pages) c.self.inside.keeper c.self.invariant.1 c.args.page c.in-Some.ensures.row c.in-Some.ensures.found (sym c.in-Some.ensures.shared ∙ c.if-held.false)
+    c.known_frame-frame.result (sym c.in-Some.ensures.frame ∙ c.known_frame-frame.ensures) in
+    record { own = search rules; inside = ready.0; within = ready.1; writable = ready.2; wide = ready.3 }
 
-pub rewrite-requires-clause-lone : goal.rewrite-requires-clause-lone
-rewrite-requires-clause-lone c = (sym c.if-not-is_shared.ensures, ap (λ (x : Row). x.home) c.stored.ensures)
+pub store-requires-2 : goal.store-requires-2
+store-requires-2 c = alone_now c.self.inside.pages.rows c.in-Some.held.spot.page c.in-Some.ensures.row (found_spot c.self.inside.pages.rows c.args.page c.in-Some.held.spot.page c.in-Some.ensures.row c.in-Some.ensures.spot c.in-Some.ensures.found)
+    (sym c.in-Some.ensures.shared ∙ c.if-held.false)
 
--- the page's row is stored to
-written : (c : goal.After-rewrite) → state_of c.rewrite.new.self c.self.inside.cursor c.self.inside.passes ≡ record (state_of c.self.inside.layout c.self.inside.cursor c.self.inside.passes) { rows = change_row c.args.page (stored c.args.bytes) c.self.inside.layout.rows }
-written c = ap (λ (x : Lay). state_of x c.self.inside.cursor c.self.inside.passes) c.rewrite.ensures.state
-    ∙ ap (λ rows. state_of (record c.self.inside.layout { rows = rows }) c.self.inside.cursor c.self.inside.passes) (changed c.self.inside.layout.rows c.args.page c.args.bytes c.in-Some.row c.stored.result c.self.invariant.rows_rise (ap (row_at c.args.page) (sym c.rows.ensures) ∙ sym c.row.ensures.row ∙ c.in-Some.is) c.stored.ensures)
-
-pub returns-then-not-is_shared : goal.returns-then-not-is_shared
-returns-then-not-is_shared c = record {
-  own = search rules;
-  answer = search rules;
-  state = rw (← ap (λ (x : BookView). x.state) c.self.view_is) (written c);
-  steps = search rules;
-  frames = search rules;
-  shown = search rules;
-}
-
-pub invariant_of-self : goal.invariant_of-self
-invariant_of-self c = subst IsSound (sym (written c))
-    (sound_changed (state_of c.self.inside.layout c.self.inside.cursor c.self.inside.passes) (λ r. same_page r.page c.args.page) (stored c.args.bytes) (λ r. becomes_private r (stored c.args.bytes r) refl refl) (λ r h. h) c.self.invariant)
-
-pub resettle-requires-clause-known : goal.resettle-requires-clause-known
-resettle-requires-clause-known c = found_by c.args.page c.self.inside.layout.rows c.in-Some.row c.stored-2.result (ap (row_at c.args.page) (sym c.rows.ensures) ∙ sym c.row.ensures.row ∙ c.in-Some.is) (ap (λ (x : Row). x.page) c.stored-2.ensures)
-
-pub resettle-requires-clause-home : goal.resettle-requires-clause-home
-resettle-requires-clause-home c = subst (λ (x : Row). x.home < c.self.inside.layout.shape.nodes) (sym c.stored-2.ensures) (found_all (λ r. r.home < c.self.inside.layout.shape.nodes) c.args.page c.self.inside.layout.rows c.in-Some.row c.self.invariant.homes (ap (row_at c.args.page) (sym c.rows.ensures) ∙ sym c.row.ensures.row ∙ c.in-Some.is))
-
-there : (c : goal.Else-not-resettle) → state_of c.resettle.new.self c.self.inside.cursor c.self.inside.passes ≡ record (state_of c.self.inside.layout c.self.inside.cursor c.self.inside.passes) { rows = change_row c.args.page (stored c.args.bytes) c.self.inside.layout.rows }
-there c = ap (λ (x : Lay). state_of x c.self.inside.cursor c.self.inside.passes) c.if-not-resettle.ensures.housed.state
-    ∙ ap (λ rows. state_of (record c.self.inside.layout { rows = rows }) c.self.inside.cursor c.self.inside.passes) (changed c.self.inside.layout.rows c.args.page c.args.bytes c.in-Some.row c.stored-2.result c.self.invariant.rows_rise (ap (row_at c.args.page) (sym c.rows.ensures) ∙ sym c.row.ensures.row ∙ c.in-Some.is) c.stored-2.ensures)
+module _ (c : goal.After-store-2) where
+  written : CarriedOut (book (seen c.self.inside.pages) c.self.inside.keeper c.self.inside.cursor c.self.inside.passes) (book (seen c.store-2.new.self) c.write.new.keeper c.self.inside.cursor c.self.inside.passes) (Store c.in-Some.held.spot.page c.args.bytes) (Ok Done)
+  written =
+      store_written (seen c.self.inside.pages) c.self.inside.keeper c.write.new.keeper c.self.inside.cursor c.self.inside.passes c.in-Some.held.spot.page c.args.bytes c.in-Some.ensures.row
+      (found_spot c.self.inside.pages.rows c.args.page c.in-Some.held.spot.page c.in-Some.ensures.row c.in-Some.ensures.spot c.in-Some.ensures.found) (ap (λ (z : KeeperView). z.table) c.write.ensures.wrote)
+      (seen c.store-2.new.self) c.known_frame-frame.result c.store-2.ensures (sym c.in-Some.ensures.shared ∙ c.if-held.false)
+      (ap (seen c.self.inside.pages).frame c.in-Some.ensures.spot ∙ sym c.in-Some.ensures.frame ∙ c.known_frame-frame.ensures) c.write.ensures.wrote
 
 pub returns : goal.returns
-returns c = record {
-  own = search rules;
-  answer = search rules;
-  state = rw (← ap (λ (x : BookView). x.state) c.self.view_is) (there c);
-  steps = search rules;
-  frames = search rules;
-  shown = search rules;
-}
+returns c = carried_so _ c.args.self.now _ (Store c.in-Some.held.spot.page c.args.bytes) (Store c.args.page c.args.bytes) (Ok Done) c.self.view_is (ap (λ q. Store q c.args.bytes) c.in-Some.ensures.spot) (written c)
 
 pub invariant_of-self-2 : goal.invariant_of-self-2
-invariant_of-self-2 c = subst IsSound (sym (there c))
-    (sound_changed (state_of c.self.inside.layout c.self.inside.cursor c.self.inside.passes) (λ r. same_page r.page c.args.page) (stored c.args.bytes) (λ r. becomes_private r (stored c.args.bytes r) refl refl) (λ r h. h) c.self.invariant)
+invariant_of-self-2 c =
+    let p = seen c.self.inside.pages in
+    let wide : length c.args.bytes ≡ PAGE_WORDS = search rules in (
+      sound_carried _ _ (Store c.in-Some.held.spot.page c.args.bytes) (Ok Done) c.self.invariant.0 (written c),
+      subst (λ (x : PagesView). IsLaid x c.write.new.keeper) (sym c.store-2.ensures)
+          (laid_written p c.self.inside.keeper c.self.invariant.1 c.in-Some.held.spot.page c.in-Some.ensures.row (stored c.args.bytes) c.store-2.new.self.restless c.write.new.keeper c.known_frame-frame.result c.self.invariant.0.rows_rise
+          (found_spot c.self.inside.pages.rows c.args.page c.in-Some.held.spot.page c.in-Some.ensures.row c.in-Some.ensures.spot c.in-Some.ensures.found) (λ r. refl)
+          (ap p.frame c.in-Some.ensures.spot ∙ sym c.in-Some.ensures.frame ∙ c.known_frame-frame.ensures) (ap (λ (z : KeeperView). z.table) c.write.ensures.wrote) c.write.ensures.ledger wide (sym c.in-Some.ensures.shared ∙ c.if-held.false) refl refl),
+    )
+
+pub resettle-requires-clause-known : goal.resettle-requires-clause-known
+resettle-requires-clause-known c = ap is_some (found_spot c.self.inside.pages.rows c.args.page c.in-Some.held.spot.page c.in-Some.ensures.row c.in-Some.ensures.spot c.in-Some.ensures.found)
+
+pub resettle-requires-clause-node : goal.resettle-requires-clause-node
+resettle-requires-clause-node c = subst (λ n. n < c.self.inside.pages.shape.nodes) (sym c.in-Some.ensures.home)
+    (find_all (λ r. same_page r.page c.args.page) (λ r. r.home < c.self.inside.pages.shape.nodes) c.self.inside.pages.rows c.in-Some.ensures.row c.in-Some.ensures.found c.self.invariant.0.homes)
+
+pub store-requires : goal.store-requires
+store-requires c = alone_resettled c.self.inside.pages.rows c.in-Some.held.spot.page c.in-Some.ensures.row
+    (found_spot c.self.inside.pages.rows c.args.page c.in-Some.held.spot.page c.in-Some.ensures.row c.in-Some.ensures.spot c.in-Some.ensures.found)
+    c.resettle.new.pages.rows (ap (λ (p : PagesView). p.rows) c.in_default-resettle.ensures.resettled.pages)
+
+copied : (c : goal.After-store) → CarriedOut (book (seen c.self.inside.pages) c.self.inside.keeper c.self.inside.cursor c.self.inside.passes) (book (seen c.store.new.self) c.resettle.new.keeper c.self.inside.cursor c.self.inside.passes) (Store c.in-Some.held.spot.page c.args.bytes) (Ok Done)
+    × IsLaid (seen c.store.new.self) c.resettle.new.keeper
+copied c =
+    store_copied (seen c.self.inside.pages) c.self.inside.keeper c.resettle.new.keeper c.self.inside.cursor c.self.inside.passes c.in-Some.held.spot.page c.args.bytes c.in-Some.ensures.row
+    (found_spot c.self.inside.pages.rows c.args.page c.in-Some.held.spot.page c.in-Some.ensures.row c.in-Some.ensures.spot c.in-Some.ensures.found) c.in_default-resettle.ensures.resettled.does.1.table
+    (seen c.resettle.new.pages) (seen c.store.new.self) c.self.invariant.1
+    (subst (λ n. Resettled (seen c.self.inside.pages) (seen c.resettle.new.pages) c.self.inside.keeper c.resettle.new.keeper c.in-Some.held.spot.page n c.args.bytes) c.in-Some.ensures.home c.in_default-resettle.ensures.resettled)
+    c.store.ensures (sym c.in-Some.ensures.shared ∙ c.if-held.true)
+
+pub returns-then-held : goal.returns-then-held
+returns-then-held c = carried_so _ c.args.self.now _ (Store c.in-Some.held.spot.page c.args.bytes) (Store c.args.page c.args.bytes) (Ok Done) c.self.view_is (ap (λ q. Store q c.args.bytes) c.in-Some.ensures.spot) (copied c).0
+
+pub invariant_of-self-then-held : goal.invariant_of-self-then-held
+invariant_of-self-then-held c = (sound_carried _ _ (Store c.in-Some.held.spot.page c.args.bytes) (Ok Done) c.self.invariant.0 (copied c).0, (copied c).1)

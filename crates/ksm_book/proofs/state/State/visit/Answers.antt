@@ -1,58 +1,72 @@
-use mathlib.Core.Bool.{beq}
-use Rattle.std.proofs.Common.{◌≡◌, ◌∙◌, Bool, true, false, Some, refl, sym, ap, subst, arith}
-use Rattle.std.specs.Prelude.{is_some}
-use Rattle.ksm_book.specs.Whole.{BookView}
-use Rattle.ksm_book.specs.Gathered.{behind}
-use Rattle.ksm_base.specs.State.{BookState}
-use Rattle.ksm_base.specs.Visit.{next_row, row_visited}
-use Rattle.ksm_layout.specs.Laid.{state_of}
-use Rattle.ksm_book.proofs.Gathered.{GoOn, behind_ahead, kept_known, kept_runs, known_begun, none_ahead, none_found, visit_goes_on}
+use Rattle.ksm_book.proofs.Names.{ap, BookState, doing, Dup, IsLaid, IsSound, IsStill, page_visited, PagesValue, PagesView, Partner, restless_at, seen, state_of, subst, sym, view_of, ◌∙◌}
+use Rattle.ksm_pages.specs.declared.pages.Find.TheVariants as finds
+use Rattle.ksm_pages.specs.Paged.{Finds}
+use Rattle.ksm_book.proofs.PageVisits.{changed_leads, finds_it, none_met, restless_there, shared_comes, waits_leads, waits_quiet}
+use Rattle.ksm_book.proofs.Singles.{if_err}
 use Rattle.ksm_book.proofs.state.State.visit.Goals as goal
-use Rattle.ksm_book.proofs.state.State.visit.Goals.{in-Joined, in_default-matches}
-use Rattle.ksm_book.proofs.Quiet.{begins_as, one_quiet}
 
-pub end_visit-requires : goal.end_visit-requires
-end_visit-requires c =
-    let b = c.args.self.now.state in
-    let begun = c.begin_visit.new.self.state in
-    let ahead = c.args.ahead.now in
-    let row = c.row-row.result in
-    let runs = behind_ahead b begun ahead row c.requires.ahead c.requires.at_row c.begin_visit.ensures.state c.row-row.ensures.next in
-    let known = known_begun b begun ahead c.requires.ahead.1 c.begin_visit.ensures.state in
-    let visited = c.visit_row.new.self.state in
-    let on : GoOn begun.rows visited.rows = subst (λ (x : BookState). GoOn begun.rows x.rows) (sym c.in_ok-visited.ensures.ok)
-    (subst (λ (x : BookView). next_row x.state.cursor x.state.rows ≡ Some row → GoOn x.state.rows (row_visited x.state row).rows) c.self-2.view_is
-    (visit_goes_on (state_of c.self-2.inside.layout c.self-2.inside.cursor c.self-2.inside.passes) row c.self-2.invariant) c.row-row.ensures.next) in
-    record {
-      behind = kept_runs begun.rows visited.rows on (Some row.page) (behind ahead) runs;
-      again = kept_known begun.rows visited.rows on ahead known;
-      joined = λ is. elim c.match-matches.branch [ in-Joined w ↦ c.in_ok-visited.ensures.joined w.in-Joined.is | in_default-matches w ↦ absurd (grind (arith, sym is ∙ w.matches-is)) ];
-    }
+pub returns-in_err-found-clause-refused_row : goal.returns-in_err-found-clause-refused_row
+returns-in_err-found-clause-refused_row c =
+    let page = c.args.spot.page in
+    if_err _ _ (ap (λ (p : PagesValue). restless_at page p.rows) c.in_err-found.ensures.refused
+    ∙ restless_there page c.self.inside.pages.rows c.in_err-found.ensures.restless)
 
-pub returns-in_default-clause-ahead : goal.returns-in_default-clause-ahead
-returns-in_default-clause-ahead c =
-    let b = c.args.self.now.state in
-    let begun = c.begin_visit.new.self.state in (
-      none_ahead b begun c.args.ahead.now c.requires.ahead c.begin_visit.ensures.state (none_found (next_row begun.cursor begun.rows) (sym c.begin_visit.ensures.next ∙ c.in_default.is)),
-      known_begun b begun c.args.ahead.now c.requires.ahead.1 c.begin_visit.ensures.state,
-    )
+pub invariant_of-self-in-Gone : goal.invariant_of-self-in-Gone
+invariant_of-self-in-Gone c =
+    let s = c.self.inside in
+    let told = subst (Finds (seen s.pages) (seen c.visit.new.self) c.args.spot.page) c.in-Gone.is c.in_ok-found.ensures.found in
+    subst (λ (x : PagesView). IsSound (state_of x s.cursor s.passes) × IsLaid x s.keeper)
+    (sym (none_met (seen s.pages) (seen c.visit.new.self) c.args.spot.page told).1) c.self.invariant
 
-same_bool : (a b : Bool) → beq a b ≡ true → a ≡ b
-same_bool true true same = refl
-same_bool true false same = sym same
-same_bool false true same = same
-same_bool false false same = refl
+pub invariant_of-self-in-Waits : goal.invariant_of-self-in-Waits
+invariant_of-self-in-Waits c = (waits_leads (finds_it finds.Waits (λ e. cc) c.self.invariant
+    (ap view_of c.self.view_is) (seen c.visit.new.self) c.args.spot.page c.in-Waits.is c.in_ok-found.ensures.found)).lawful
 
-pub returns-in-Same-clause-quiet : goal.returns-in-Same-clause-quiet
-returns-in-Same-clause-quiet c told =
-    let old = c.args.self.now in
-    let begun = c.begin_visit.new.self.state in
-    let row = c.row-row.result in
-    let stood : is_some begun.cursor ≡ is_some old.state.cursor = sym (c.is_some.ensures ∙ ap (λ (x : BookView). is_some x.state.cursor) c.self-2.view_is)
-    ∙ same_bool c.is_some.result c.is_some-stood.result c.if-is_one_pass.true ∙ c.is_some-stood.ensures
-    ∙ ap (λ (x : BookView). is_some x.state.cursor) c.self.view_is in
-    one_quiet old.state begun c.visit_row.new.self.state c.end_visit.new.self.state row old.frames
-    (begins_as old.state begun c.begin_visit.ensures.state stood)
-    c.row-row.ensures.next (c.in_ok-visited.ensures.same c.in-Same.is) c.in_ok-visited.ensures.ok
-    (c.in_ok-visited.ensures.settled c.in-Same.is)
-    c.end_visit.ensures.state
+pub invariant_of-self-in-Changed : goal.invariant_of-self-in-Changed
+invariant_of-self-in-Changed c = (changed_leads (finds_it finds.Changed (λ e. cc) c.self.invariant
+    (ap view_of c.self.view_is) (seen c.visit.new.self) c.args.spot.page c.in-Changed.is c.in_ok-found.ensures.found)).lawful
+
+pub invariant_of-self-in-Dup : goal.invariant_of-self-in-Dup
+invariant_of-self-in-Dup c =
+    let s = c.self.inside in
+    let met = finds_it (Dup c.in-Dup.best) (λ e. cc) c.self.invariant
+    (ap view_of c.self.view_is) (seen c.visit.new.self) c.args.spot.page c.in-Dup.is c.in_ok-found.ensures.found in
+    subst (λ (x : PagesView). IsSound (state_of x s.cursor s.passes) × IsLaid x s.keeper) (sym met.so.2) c.self.invariant
+
+pub invariant_of-self-in-Zero : goal.invariant_of-self-in-Zero
+invariant_of-self-in-Zero c =
+    let s = c.self.inside in
+    let met = finds_it finds.Zero (λ e. cc) c.self.invariant
+    (ap view_of c.self.view_is) (seen c.visit.new.self) c.args.spot.page c.in-Zero.is c.in_ok-found.ensures.found in
+    subst (λ (x : PagesView). IsSound (state_of x s.cursor s.passes) × IsLaid x s.keeper) (sym met.so.4) c.self.invariant
+
+pub invariant_of-self-in-Partner : goal.invariant_of-self-in-Partner
+invariant_of-self-in-Partner c =
+    let s = c.self.inside in
+    let met = finds_it (Partner c.in-Partner.other) (λ e. cc) c.self.invariant
+    (ap view_of c.self.view_is) (seen c.visit.new.self) c.args.spot.page c.in-Partner.is c.in_ok-found.ensures.found in
+    subst (λ (x : PagesView). IsSound (state_of x s.cursor s.passes) × IsLaid x s.keeper) (sym met.so.5) c.self.invariant
+
+pub returns-in-Waits-clause-quiet : goal.returns-in-Waits-clause-quiet
+returns-in-Waits-clause-quiet c = λ _ from s before.
+    let met = finds_it finds.Waits (λ e. cc) c.self.invariant
+    (ap view_of c.self.view_is) (seen c.visit.new.self) c.args.spot.page c.in-Waits.is c.in_ok-found.ensures.found in
+    subst (λ (b : BookState). IsStill (b, s.1) (page_visited doing (b, s.1) c.args.spot.page)) before.0 (waits_quiet met s.1)
+
+pub returns-in_ok-join-in-Dup-clause-comes : goal.returns-in_ok-join-in-Dup-clause-comes
+returns-in_ok-join-in-Dup-clause-comes c =
+    let met = finds_it (Dup c.in-Dup.best) (λ e. cc) c.self.invariant
+    (ap view_of c.self.view_is) (seen c.visit.new.self) c.args.spot.page c.in-Dup.is c.in_ok-found.ensures.found in
+    shared_comes c.args.self.now c.join.new.self met met.so.0 (seen c.visit.new.self) met.so.2 c.in_ok-join-in-Dup.ensures.visited
+
+pub returns-in-Zero-clause-comes : goal.returns-in-Zero-clause-comes
+returns-in-Zero-clause-comes c =
+    let met = finds_it finds.Zero (λ e. cc) c.self.invariant
+    (ap view_of c.self.view_is) (seen c.visit.new.self) c.args.spot.page c.in-Zero.is c.in_ok-found.ensures.found in
+    shared_comes c.args.self.now c.become_zero.new.self met met.so.0 (seen c.visit.new.self) met.so.4 c.become_zero.ensures.visited
+
+pub returns-in_ok-pair-in-Partner-clause-comes : goal.returns-in_ok-pair-in-Partner-clause-comes
+returns-in_ok-pair-in-Partner-clause-comes c =
+    let met = finds_it (Partner c.in-Partner.other) (λ e. cc) c.self.invariant
+    (ap view_of c.self.view_is) (seen c.visit.new.self) c.args.spot.page c.in-Partner.is c.in_ok-found.ensures.found in
+    shared_comes c.args.self.now c.pair.new.self met met.so.0 (seen c.visit.new.self) met.so.5 c.in_ok-pair-in-Partner.ensures.visited

@@ -1,49 +1,18 @@
-use Rattle.std.proofs.Common.{◌∙◌, refl, ap, sym, subst, None}
-use Rattle.ksm_base.specs.declared.row.PageState.TheVariants.{Zero}
-use Rattle.ksm_base.specs.Rows.{row_at}
-use Rattle.ksm_tree.proofs.Waiters.{row_stopped}
-use Rattle.ksm_pages.specs.Linked.{AreKept}
-use Rattle.ksm_pages.proofs.Linking.{linked_alone, own_not_merged}
-use Rattle.ksm_pages.proofs.Seen.{own_lies, paired_put, seen_put}
-use Rattle.std.specs.Prelude.{slice_set}
-use Rattle.ksm_pages.specs.Listed.{rank, StandsAt}
-use Rattle.ksm_tree.specs.Dups.{rows_of}
+use Rattle.ksm_pages.proofs.Names.{ap, None, PagesValue, refl, RowsView, Zero, ◌∙◌}
+use Rattle.ksm_pages.proofs.Turning.{HasLeft, alone_left, held_as, lay, moved}
 use Rattle.ksm_pages.proofs.pages.Pages.become_zero.Goals as goal
 
+gone : (c : goal.After-become_zero)
+    → HasLeft c.self.inside c.args.self.now c.args.spot.page c.leave-left.new.dups c.deref.result.now c.leave-left.result
+gone c = alone_left c.self.invariant c.self.view_is c.requires c.leave-left.ensures
+
 pub invariant_of-self : goal.invariant_of-self
-invariant_of-self c =
-    let old = c.self.inside in
-    let row = c.args.row.now in
-    let zero = record row { state = Zero } in
-    let found = ap (λ v. row_at row.page v.listed.rows) c.self.view_is ∙ c.requires.row_is in
-    record {
-      kept = subst (λ rows. AreKept old.shape old.knobs rows old.dups c.stop_waiting.new.waiting) (sym c.replace.ensures.changed)
-          (record {
-            linked = linked_alone old.shape old.rows.rows old.dups c.self.invariant.kept.linked row zero found
-                (own_not_merged row.state c.requires.alone) refl;
-            waits = row_stopped old.knobs old.rows.rows old.waiting c.self.invariant.kept.waits c.stop_waiting.new.waiting zero row found refl
-                c.stop_waiting.ensures;
-          });
-      paired = paired_put old.rows c.replace.new.self (rank row.page old.rows.rows) zero None c.self.invariant.paired c.replace.ensures.rows
-          c.replace.ensures.frames;
-      room = c.self.invariant.room;
-    }
+invariant_of-self c = (moved (gone c) c.become_zero.new.self refl Zero None refl refl (held_as c.become_zero.ensures)).lawful
 
-pub replace-requires : goal.replace-requires
-replace-requires c = ap (λ v. row_at c.args.row.now.page v.listed.rows) c.self.view_is ∙ c.requires.row_is
+pub returns-clause-left : goal.returns-clause-left
+returns-clause-left c = lay (gone c) c.deref.ensures.value
 
-pub returns-clause-stood : goal.returns-clause-stood
-returns-clause-stood c =
-    let old = c.self.inside in
-    let row = c.args.row.now in
-    subst (λ v. StandsAt v.listed row.page row c.replace.result) c.self.view_is
-    (own_lies (rows_of old.dups.dups) old.lodgings.items old.rows row c.replace.result c.self.invariant.paired c.replace.ensures.stood
-    (own_not_merged row.state c.requires.alone))
-
-pub returns-clause-frames : goal.returns-clause-frames
-returns-clause-frames c =
-    let old = c.self.inside in
-    let zero = record c.args.row.now { state = Zero } in
-    seen_put (rows_of old.dups.dups) (rows_of old.dups.dups) old.lodgings.items old.rows c.replace.new.self zero None None refl c.replace.ensures.rows
-    c.replace.ensures.frames refl
-    ∙ ap (λ v. slice_set v.listed.frames (rank zero.page v.listed.rows) None) c.self.view_is
+pub returns-clause-zero : goal.returns-clause-zero
+returns-clause-zero c =
+    let listed = ap (λ (r : RowsView). r.restless) c.become_zero.ensures ∙ ap (λ (v : PagesValue). v.restless) c.self.view_is in
+    (moved (gone c) c.become_zero.new.self listed Zero None refl refl (held_as c.become_zero.ensures)).told_as

@@ -1,49 +1,49 @@
-use Rattle.std.proofs.Common.{◌∙◌, ℕ, List, Option, ap, sym, subst}
-use Rattle.std.specs.Prelude.{filter, is_some}
-use Rattle.ksm_base.specs.declared.row.DupRow.{DupRow}
-use Rattle.ksm_tree.proofs.Changes.{rows_without}
-use Rattle.ksm_tree.specs.Dups.{DupsState, rows_of}
-use Rattle.ksm_pages.specs.Linked.{AreLinked, IsVacant, PagesView, elsewhere}
-use Rattle.ksm_pages.proofs.Linking.{linked_pruned, stale_there, any_at, all_elsewhere}
-use Rattle.ksm_pages.specs.Lodged.{listed_seen}
-use Rattle.ksm_pages.proofs.Seen.{seen_dropped}
+use Rattle.ksm_pages.proofs.Names.{ap, AreTied, DupRow, DupsState, elsewhere, filter, frame_of, is_some, IsVacant, List, lodging, lodgings_of, PagesValue, rows_of, rows_without, seen, subst, sym, tied_pruned, ◌∙◌, ◌≡◌}
+use Rattle.ksm_tree.specs.Dups.{rows_of as dup_rows}
+use Rattle.ksm_pages.proofs.Dropping.{all_elsewhere, lodged_dropped, stale_there}
+use Rattle.ksm_pages.proofs.Paging.{any_at}
+use Rattle.ksm_pages.proofs.Leaving.{view_of}
 use Rattle.ksm_pages.proofs.pages.Pages.drop_stale.Goals as goal
 
 pub drop_stale-requires : goal.drop_stale-requires
 drop_stale-requires c =
-    stale_there c.args.place c.self.inside.rows.rows c.self.inside.dups.dups c.self.invariant.kept.linked.tied
-    (subst (λ v. IsVacant c.args.place v.listed.rows v.dups) (sym c.self.view_is) c.requires)
+    stale_there c.args.place (rows_of c.self.inside.rows.held) c.self.inside.dups.dups c.self.invariant.tied
+    (subst (λ (v : PagesValue). IsVacant c.args.place v.rows v.dups) (sym c.self.view_is) c.requires)
     (sym (c.is_some.ensures ∙ ap is_some c.at.ensures.number) ∙ c.if-is_some.true)
 
 pub invariant_of-self : goal.invariant_of-self
 invariant_of-self c =
-    let old = c.self.inside in
+    let s = c.self.inside in
     record {
-      kept = record {
-        linked = subst (AreLinked old.shape old.rows.rows) (sym c.drop_stale.ensures)
-            (linked_pruned old.shape old.rows.rows old.dups c.self.invariant.kept.linked c.args.place);
-        waits = c.self.invariant.kept.waits;
-      };
-      paired = c.self.invariant.paired;
+      small = c.self.invariant.small;
+      order = c.self.invariant.order;
+      tied = subst (AreTied (rows_of s.rows.held)) (ap (λ (d : DupsState). d.dups) (sym c.drop_stale.ensures))
+          (tied_pruned (rows_of s.rows.held) s.dups.dups c.args.place c.self.invariant.tied);
+      places = ap (λ (d : DupsState). d.places) c.drop_stale.ensures ∙ c.self.invariant.places;
+      waits = rw c.drop_stale.ensures c.self.invariant.waits;
       room = c.self.invariant.room;
     }
 
 pub returns-then-is_some : goal.returns-then-is_some
 returns-then-is_some c =
-    let old = c.self.inside in
+    let s = c.self.inside in
     let place = c.args.place in
-    let listed = λ (ds : List DupRow). listed_seen ds old.lodgings.items old.rows in
-    let with_rows : List DupRow → PagesView = λ ds. record { shape = old.shape; listed = listed ds; dups = ds; knobs = old.knobs; next = old.dups.next } in
-    let seen : DupsState → PagesView = λ d. record (with_rows (rows_of d.dups)) { next = d.next } in
-    let vacant = subst (λ v. IsVacant place v.listed.rows v.dups) (sym c.self.view_is) c.requires in
-    ap seen c.drop_stale.ensures ∙ ap with_rows (rows_without place old.dups.dups)
-    ∙ ap (λ (frames : List (Option ℕ)). record (with_rows (filter (elsewhere place) (rows_of old.dups.dups))) { listed = record { rows = old.rows.rows; frames = frames } })
-    (seen_dropped (rows_of old.dups.dups) old.lodgings.items old.rows place vacant)
-    ∙ ap (λ (v : PagesView). record v { dups = filter (elsewhere place) v.dups }) c.self.view_is
+    let vacant = subst (λ (v : PagesValue). IsVacant place v.rows v.dups) (sym c.self.view_is) c.requires in
+    let left = dup_rows s.dups.dups in
+    let dropped : dup_rows c.drop_stale.new.self.dups ≡ filter (elsewhere place) left = ap
+    (λ (d : DupsState). dup_rows d.dups) c.drop_stale.ensures ∙ rows_without place s.dups.dups in
+    let lain : frame_of (lodgings_of (lodging (dup_rows c.drop_stale.new.self.dups) s.frames.items) s.rows.held) ≡ frame_of
+    (lodgings_of (lodging left s.frames.items) s.rows.held) =
+    ap (λ (ds : List DupRow). frame_of (lodgings_of (lodging ds s.frames.items) s.rows.held)) dropped
+    ∙ lodged_dropped place s.frames.items left s.rows.held vacant in
+    (λ i. record (seen (view_of s)) { dups = dropped i; frame = lain i; next = ap (λ (d : DupsState). d.next) c.drop_stale.ensures i })
+    ∙ ap (λ (v : PagesValue). record (seen v) { dups = filter (elsewhere place) v.dups }) c.self.view_is
 
 pub returns-else-is_some : goal.returns-else-is_some
 returns-else-is_some c =
-    let none = sym (c.is_some.ensures ∙ ap is_some c.at.ensures.number ∙ any_at c.args.place c.self.inside.dups.dups) ∙ c.if-is_some.false in
-    let same = ap (λ v. filter (elsewhere c.args.place) v.dups) (sym c.self.view_is) ∙ all_elsewhere c.args.place (rows_of c.self.inside.dups.dups) none
-    ∙ ap (λ v. v.dups) c.self.view_is in
-    ap (λ (ds : List DupRow). record c.args.self.now { dups = ds }) (sym same)
+    let s = c.self.inside in
+    let place = c.args.place in
+    let none = sym (any_at place s.dups.dups) ∙ sym (c.is_some.ensures ∙ ap is_some c.at.ensures.number) ∙ c.if-is_some.false in
+    ap seen (sym c.self.view_is)
+    ∙ ap (λ (ds : List DupRow). record (seen (view_of s)) { dups = ds }) (sym (all_elsewhere place (dup_rows s.dups.dups) none))
+    ∙ ap (λ (v : PagesValue). record (seen v) { dups = filter (elsewhere place) v.dups }) c.self.view_is

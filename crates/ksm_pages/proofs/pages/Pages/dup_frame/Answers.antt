@@ -1,13 +1,15 @@
-use Rattle.std.proofs.Common.{sym, subst, ℕ, List, Option, ap, ◌∙◌}
-use Rattle.ksm_tree.specs.Dups.{rows_of}
-use Rattle.ksm_pages.specs.Lodged.{ItemsLieOn, listed_seen, lodging}
-use Rattle.ksm_pages.proofs.Seen.{items_lie}
+use Rattle.ksm_pages.proofs.Names.{All, ap, List, merged_into, PagesValue, seen, slice_get, Some, subst, sym, true, ℕ, ◌∙◌, ◌≡◌}
+use Rattle.std.proofs.Common.{unwrap_or}
+use Rattle.ksm_pages.proofs.Paging.{items_lodge}
 use Rattle.ksm_pages.proofs.pages.Pages.dup_frame.Goals as goal
 
 pub returns : goal.returns
 returns c =
-    let old = c.self.inside in
-    subst (λ v. ItemsLieOn v.listed c.args.number c.lodging_of.result) c.self.view_is
-    (subst (ItemsLieOn (listed_seen (rows_of old.dups.dups) old.lodgings.items old.rows) c.args.number)
-    (sym (c.lodging_of.ensures ∙ ap (λ (lodgings : List (Option ℕ)). lodging (rows_of old.dups.dups) lodgings c.args.number) c.deref.ensures.value))
-    (items_lie (rows_of old.dups.dups) old.lodgings.items old.rows c.args.number c.self.invariant.kept.linked.order c.self.invariant.paired))
+    let s = c.self.inside in
+    subst (λ (v : PagesValue). All
+    (λ d. d.place ≡ c.args.place
+    → All (λ r. merged_into d.number r.state ≡ true → (seen v).frame r.page ≡ Some c.unwrap_or.result) v.rows) v.dups) c.self.view_is
+    (items_lodge s.rows.held s.dups s.frames.items c.self.invariant.order c.at.ensures.lawful
+    (c.self.invariant.places ∙ sym c.self.invariant.room) c.args.place c.unwrap_or.result
+    (c.unwrap_or.ensures ∙ ap (λ o. unwrap_or o 0) c.frame_at.ensures
+    ∙ ap (λ (frames : List ℕ). unwrap_or (slice_get frames c.args.place) 0) c.deref.ensures.value))

@@ -1,10 +1,8 @@
-use Rattle.std.proofs.Common.{◌∙◌, ap}
-use Rattle.std.specs.Prelude.{is_some, ◌==◌}
-use Rattle.std.specs.List.{list_any}
-use Rattle.ksm_pages.proofs.Linking.{any_at}
+use Rattle.ksm_pages.proofs.Names.{ap, is_some, list_any, PagesValue, ◌==◌, ◌∙◌}
+use Rattle.ksm_pages.proofs.Paging.{any_at}
 use Rattle.ksm_pages.proofs.pages.Pages.has_dup.Goals as goal
 
 pub returns : goal.returns
 returns c =
     c.is_some.ensures ∙ ap is_some c.at.ensures.number ∙ any_at c.args.place c.self.inside.dups.dups
-    ∙ ap (λ v. list_any (λ d. d.place == c.args.place) v.dups) c.self.view_is
+    ∙ ap (λ (v : PagesValue). list_any (λ d. d.place == c.args.place) v.dups) c.self.view_is

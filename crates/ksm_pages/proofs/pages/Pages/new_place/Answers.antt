@@ -1,22 +1,28 @@
-use Rattle.std.proofs.Common.{◌<◌, ◌∙◌, ap, sym, subst}
-use Rattle.ksm_base.specs.State.{place_count}
+use Rattle.ksm_pages.proofs.Names.{ap, choice_alike, choice_exists, Empty, PagesValue, place_count, rows_of, Stale, subst, sym, tied_counted, ◌<◌, ◌∙◌}
 use Rattle.ksm_base.specs.Visit.{new_place as place_of_new}
-use Rattle.ksm_tree.specs.declared.choice.Choice.TheVariants.{Empty, Stale}
-use Rattle.ksm_pages.specs.Linked.{PagesView}
-use Rattle.ksm_pages.proofs.Linking.{choice_seen, choice_is_there}
+use Rattle.ksm_tree.specs.Dups.{rows_of as dup_rows}
 use Rattle.ksm_pages.proofs.pages.Pages.new_place.Goals as goal
 
 pub choose_place-requires : goal.choose_place-requires
 choose_place-requires c =
-    choice_is_there c.self.inside.shape c.self.inside.rows.rows c.self.inside.dups c.self.invariant.kept.linked
-    (subst (λ (v : PagesView). place_of_new (place_count v.shape) v.listed.rows v.dups < place_count v.shape) (sym c.self.view_is) c.requires.room)
+    let rows = rows_of c.self.inside.rows.held in
+    let s = c.self.inside.dups in
+    let room = subst (λ (v : PagesValue). place_of_new (place_count v.shape) v.rows v.dups < place_count v.shape) (sym c.self.view_is) c.requires.room in
+    choice_exists rows s (tied_counted rows s.dups c.self.invariant.tied)
+    (subst (λ n. place_of_new n rows (dup_rows s.dups) < n) (sym c.self.invariant.places) room)
 
 pub returns-in-Empty : goal.returns-in-Empty
 returns-in-Empty c =
-    choice_seen c.self.inside.shape c.self.inside.rows.rows c.self.inside.dups (Empty c.in-Empty.place) c.self.invariant.kept.linked c.in-Empty.ensures
-    ∙ ap (λ (v : PagesView). place_of_new (place_count v.shape) v.listed.rows v.dups) c.self.view_is
+    let rows = rows_of c.self.inside.rows.held in
+    let s = c.self.inside.dups in
+    choice_alike rows s (Empty c.in-Empty.place) (tied_counted rows s.dups c.self.invariant.tied) c.in-Empty.ensures
+    ∙ ap (λ n. place_of_new n rows (dup_rows s.dups)) c.self.invariant.places
+    ∙ ap (λ (v : PagesValue). place_of_new (place_count v.shape) v.rows v.dups) c.self.view_is
 
 pub returns-in-Stale : goal.returns-in-Stale
 returns-in-Stale c =
-    choice_seen c.self.inside.shape c.self.inside.rows.rows c.self.inside.dups (Stale c.in-Stale.place) c.self.invariant.kept.linked c.in-Stale.ensures
-    ∙ ap (λ (v : PagesView). place_of_new (place_count v.shape) v.listed.rows v.dups) c.self.view_is
+    let rows = rows_of c.self.inside.rows.held in
+    let s = c.self.inside.dups in
+    choice_alike rows s (Stale c.in-Stale.place) (tied_counted rows s.dups c.self.invariant.tied) c.in-Stale.ensures
+    ∙ ap (λ n. place_of_new n rows (dup_rows s.dups)) c.self.invariant.places
+    ∙ ap (λ (v : PagesValue). place_of_new (place_count v.shape) v.rows v.dups) c.self.view_is

@@ -1,21 +1,28 @@
-use Rattle.std.proofs.Common.{◌≡◌, ◌∙◌, ap, sym, subst, false, inl, inr}
-use Rattle.std.specs.Prelude.{All}
-use Rattle.ksm_base.specs.Rows.{waiting_state}
-use Rattle.ksm_tree.proofs.Waiters.{knobs_tuned}
-use Rattle.ksm_pages.proofs.Partners.{knobs_free}
+use Rattle.ksm_pages.proofs.Names.{All, ap, AreKept, DupsState, false, inl, inr, knobs_tuned, PagesValue, rows_of, seen, subst, sym, waiting_state, ◌∙◌, ◌≡◌}
+use Rattle.ksm_pages.proofs.Leaving.{view_of}
+use Rattle.ksm_pages.proofs.Paging.{knobs_free}
 use Rattle.ksm_pages.proofs.pages.Pages.set_knobs.Goals as goal
 
 pub invariant_of-self : goal.invariant_of-self
 invariant_of-self c =
-    let old = c.self.inside in
-    record {
-      kept = record {
-        linked = rw c.set_limit.ensures c.self.invariant.kept.linked;
-        waits = elim c.requires [
-          | inl same ↦ knobs_tuned old.knobs old.rows.rows old.waiting c.self.invariant.kept.waits c.args.knobs (same ∙ sym (ap (λ v. v.knobs.merge_across_nodes) c.self.view_is))
-          | inr still ↦ knobs_free old.knobs c.args.knobs old.rows.rows old.waiting c.self.invariant.kept.waits (subst (λ v. All (λ r. waiting_state r.state ≡ false) v.listed.rows) (sym c.self.view_is) still)
-        ];
-      };
-      paired = c.self.invariant.paired;
+    let s = c.self.inside in
+    let rows = rows_of s.rows.held in
+    subst (λ d. AreKept s.shape c.args.knobs rows d s.frames.items) (sym c.set_limit.ensures)
+    (record {
+      small = c.self.invariant.small;
+      order = c.self.invariant.order;
+      tied = c.self.invariant.tied;
+      places = c.self.invariant.places;
+      waits = elim c.requires [
+        | inl same ↦ knobs_tuned s.knobs rows s.dups.waiting c.self.invariant.waits c.args.knobs
+            (same ∙ sym (ap (λ (v : PagesValue). v.knobs.merge_across_nodes) c.self.view_is))
+        | inr still ↦ knobs_free s.knobs c.args.knobs rows s.dups.waiting c.self.invariant.waits
+            (subst (λ (v : PagesValue). All (λ r. waiting_state r.state ≡ false) v.rows) (sym c.self.view_is) still)
+      ];
       room = c.self.invariant.room;
-    }
+    })
+
+pub returns : goal.returns
+returns c =
+    ap (λ (d : DupsState). record (seen (view_of (record c.self.inside { dups = d }))) { knobs = c.args.knobs }) c.set_limit.ensures
+    ∙ ap (λ (v : PagesValue). record (seen v) { knobs = c.args.knobs }) c.self.view_is

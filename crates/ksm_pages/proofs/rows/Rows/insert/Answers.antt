@@ -1,76 +1,37 @@
-use Rattle.std.proofs.Common.{◌≡◌, ◌≤◌, ℕ, Option, None, refl, ◌∙◌, sym, ap, length, map, subst, arith}
-use Rattle.std.proofs.lemmas.List.{length-map}
-use Rattle.std.specs.BTreeMap.{insert_entry}
-use Rattle.ksm_base.specs.declared.row.Row.{Row}
-use Rattle.ksm_base.specs.Rows.{row_at}
-use Rattle.ksm_pages.specs.Blocked.{AreCounted}
-use Rattle.ksm_pages.specs.Listed.{Listed, rank}
-use Rattle.ksm_pages.specs.Tallied.{IsTally}
-use Rattle.ksm_pages.specs.RowEntries.{entry_of, listed, row_of}
-use Rattle.ksm_pages.proofs.RowLists.{Entries, Sorted, order, Came, came, no_entry_by}
-use Rattle.ksm_pages.proofs.BlockCounts.{blocks_back, blocks_put, blocks_room, shifted_has}
-use Rattle.ksm_pages.proofs.Tallies.{tally_put}
+use Rattle.ksm_pages.proofs.Names.{ap, arith, Entry, false, get, held_in, held_of, IsRows, mapped, PageState, rules, Some, subst, sym, true, with_held, ◌∙◌, ◌≡◌}
+use Rattle.slab.specs.Slab.{Updates as Fills}
+use Rattle.ksm_pages.specs.declared.row.Kind.TheVariants as kinds
+use Rattle.ksm_pages.proofs.Writing.{no_name, rests_now, seen_with_room, still_put, viewed_put, with_room}
 use Rattle.ksm_pages.proofs.rows.Rows.insert.Goals as goal
 
--- the row would stand in the list
-within : (es : Entries) (l : Listed) (row : Row) (frame : Option ℕ) → listed es ≡ l → Sorted es → row_at row.page l.rows ≡ None → rank row.page l.rows ≤ length l.rows
-within es l row frame is sorted none = (came es (insert_entry order es row.page (entry_of row frame)) l row frame is sorted none refl).within
-
-pub returns-in_err-add-clause-within : goal.returns-in_err-add-clause-within
-returns-in_err-add-clause-within c = within c.self.inside.entries c.args.self.now c.args.row c.args.frame c.self.view_is c.len.ensures.ordered c.requires
-
-pub returns-in-Err-clause-within : goal.returns-in-Err-clause-within
-returns-in-Err-clause-within c = within c.self.inside.entries c.args.self.now c.args.row c.args.frame c.self.view_is c.len.ensures.ordered c.requires
-
-came_in : (c : goal.After-self-1) → Came c.args.self.now (listed c.insert.new.self) c.args.row c.args.frame
-came_in c = came c.self.inside.entries c.insert.new.self c.args.self.now c.args.row c.args.frame c.self.view_is c.len.ensures.ordered c.requires (c.in-Ok.ensures.entries ∙ ap (insert_entry order c.self.inside.entries c.args.row.page) c.new.ensures)
-
-pub returns-in-Ok-clause-rows : goal.returns-in-Ok-clause-rows
-returns-in-Ok-clause-rows c = (came_in c).rows
-
-pub returns-in-Ok-clause-frames : goal.returns-in-Ok-clause-frames
-returns-in-Ok-clause-frames c = (came_in c).frames
-
-pub returns-in-Ok-clause-added : goal.returns-in-Ok-clause-added
-returns-in-Ok-clause-added c = (came_in c).added
-
-pub returns-in-Ok-clause-place : goal.returns-in-Ok-clause-place
-returns-in-Ok-clause-place c = (came_in c).place
-
-pub returns-in-Ok-clause-within : goal.returns-in-Ok-clause-within
-returns-in-Ok-clause-within c = (came_in c).within
-
-pub returns-in-Ok-clause-known : goal.returns-in-Ok-clause-known
-returns-in-Ok-clause-known c = (came_in c).known
-
-pub add-requires : goal.add-requires
-add-requires c =
-    blocks_room (map row_of c.self.inside.entries) c.self.inside.blocks
-    (let n = length-map c.self.inside.entries row_of in omega (arith, n, c.len.ensures.small, c.len.ensures.len)) c.self.invariant.blocks
-
-pub take-requires : goal.take-requires
-take-requires c = shifted_has c.args.row c.self.inside.blocks c.add.new.self c.in_ok-add.ensures.shifted
-
-pub invariant_of-self-in-Ok : goal.invariant_of-self-in-Ok
-invariant_of-self-in-Ok c =
-    let came = came_in c in
-    record {
-      tally = subst (λ l. IsTally l c.with-self-inside.result) (sym came.rows) (tally_put c.args.self.now.rows _ c.args.row c.self.inside.tally c.with-self-inside.result came.within
-          (subst (λ (l : Listed). IsTally l.rows c.self.inside.tally) c.self.view_is c.self.invariant.tally) c.with-self-inside.ensures);
-      blocks = subst (λ l. AreCounted l c.add.new.self) (sym came.rows) (blocks_put c.args.self.now.rows _ c.args.row c.self.inside.blocks c.add.new.self came.within
-          (subst (λ (l : Listed). AreCounted l.rows c.self.inside.blocks) c.self.view_is c.self.invariant.blocks) c.in_ok-add.ensures.shifted);
-    }
-
--- what a row that was refused had counted is taken back
-pub invariant_of-self-in-Err : goal.invariant_of-self-in-Err
-invariant_of-self-in-Err c =
-    let same = ap (map row_of) c.in-Err.ensures.refused in
-    record {
-      tally = subst (λ l. IsTally l c.self.inside.tally) (sym same) c.self.invariant.tally;
-      blocks = subst (λ l. AreCounted l c.take.new.self) (sym same) (blocks_back (map row_of c.self.inside.entries) c.args.row c.self.inside.blocks c.add.new.self c.take.new.self
-          c.self.invariant.blocks c.in_ok-add.ensures.shifted c.take.ensures);
-    }
-
--- a page without a row has no entry
 pub insert-requires : goal.insert-requires
-insert-requires c = no_entry_by c.args.row.page c.self.inside.entries (ap (λ (l : Listed). row_at c.args.row.page l.rows) c.self.view_is ∙ c.requires)
+insert-requires c = record { absent = no_name c.self.inside c.self.invariant c.args.page c.args.self.now c.self.view_is c.requires.absent }
+
+pub invariant_of-self-in_err-insert : goal.invariant_of-self-in_err-insert
+invariant_of-self-in_err-insert c =
+    let s = c.self.inside in
+    subst (λ order. IsRows c.reserve.new.self order s.restless s.tally s.pass) (sym c.in_err-insert.ensures.kept) (with_room s c.self.invariant c.reserve.new.self c.reserve.ensures.rest_kept)
+
+pub invariant_of-self-2 : goal.invariant_of-self-2
+invariant_of-self-2 c =
+    let s = c.self.inside in
+    let e : Entry = record { page = c.args.page; bytes = c.args.bytes; number = 0; at = c.args.frame; home = c.args.home; group = 4294967295; kind = kinds.Own; mergeable = true; unchanged = false } in
+    let key : c.insert_reserved.result ≡ c.in-Ok.key = search rules in
+    let fills = subst (λ n. Fills c.reserve.new.self c.insert_reserved.new.self n (Some e)) key c.insert_reserved.ensures.updates in
+    let vacant = ap (λ n. get c.reserve.new.self n) (sym key) ∙ c.insert_reserved.ensures.was_vacant in
+    subst (λ order. IsRows c.insert_reserved.new.self order c.add.new.self s.tally s.pass) (sym c.in_ok-insert.ensures.added)
+    (still_put (record s { entries = c.reserve.new.self }) (with_room s c.self.invariant c.reserve.new.self c.reserve.ensures.rest_kept)
+    c.args.self.now (seen_with_room s c.args.self.now c.self.view_is c.reserve.new.self c.reserve.ensures.rest_kept) c.in-Ok.key e c.insert_reserved.new.self vacant c.requires.absent fills
+    (rests_now s.pass c.self.invariant.counting) (omega arith) c.add.new.self c.add.ensures)
+
+pub returns-clause-added : goal.returns-clause-added
+returns-clause-added c =
+    let s = c.self.inside in
+    let e : Entry = record { page = c.args.page; bytes = c.args.bytes; number = 0; at = c.args.frame; home = c.args.home; group = 4294967295; kind = kinds.Own; mergeable = true; unchanged = false } in
+    let key : c.insert_reserved.result ≡ c.in-Ok.key = search rules in
+    let fills = subst (λ n. Fills c.reserve.new.self c.insert_reserved.new.self n (Some e)) key c.insert_reserved.ensures.updates in
+    let vacant = ap (λ n. get c.reserve.new.self n) (sym key) ∙ c.insert_reserved.ensures.was_vacant in
+    ap (λ order. record { held = held_in s.pass c.insert_reserved.new.self order; restless = c.add.new.self; pass = s.pass }) c.in_ok-insert.ensures.added
+    ∙ viewed_put (record s { entries = c.reserve.new.self }) (with_room s c.self.invariant c.reserve.new.self c.reserve.ensures.rest_kept)
+    c.args.self.now (seen_with_room s c.args.self.now c.self.view_is c.reserve.new.self c.reserve.ensures.rest_kept) c.in-Ok.key e c.insert_reserved.new.self vacant c.requires.absent fills c.add.new.self
+    ∙ ap (λ (st : PageState). record c.args.self.now { held = with_held (mapped st (Some c.args.frame) (held_of s.pass e)) c.args.self.now.held; restless = c.add.new.self }) (rests_now s.pass c.self.invariant.counting)

@@ -1,27 +1,21 @@
-use Rattle.std.proofs.Common.{◌≡◌, ◌∙◌, refl, sym, ap, map, subst}
-use Rattle.ksm_base.specs.Apply.{unshared}
-use Rattle.ksm_pages.specs.Listed.{Listed}
-use Rattle.ksm_pages.specs.RowEntries.{listed, row_of}
-use Rattle.ksm_pages.specs.Blocked.{AreBooked}
-use Rattle.ksm_pages.proofs.RowWalks.{all_changed}
-use Rattle.ksm_pages.proofs.BlockCounts.{blocks_unshared}
-use Rattle.ksm_pages.proofs.Tallies.{tally_unshared}
+use Rattle.ksm_pages.proofs.Names.{ap, Entry, false, held_in, map, on_row, refl, RowsView, rules, settled, ◌∙◌}
+use Rattle.ksm_pages.proofs.Alike.{map_mapped}
+use Rattle.ksm_pages.proofs.Settling.{plain_rows, plain_seen, retained_all}
 use Rattle.ksm_pages.proofs.rows.Rows.unshare_all.Goals as goal
-
-written : (c : goal.After-self-1) → listed c.unshare_all.new.self ≡ record { rows = map unshared c.args.self.now.rows; frames = c.args.self.now.frames }
-written c = all_changed unshared (λ r. refl) c.self.inside.entries c.unshare_all.new.self c.args.self.now c.self.view_is c.unshare_all.ensures
-
-pub returns-clause-rows : goal.returns-clause-rows
-returns-clause-rows c = ap (λ (l : Listed). l.rows) (written c)
-
-pub returns-clause-frames : goal.returns-clause-frames
-returns-clause-frames c = ap (λ (l : Listed). l.frames) (written c)
 
 pub invariant_of-self : goal.invariant_of-self
 invariant_of-self c =
-    let rows = map row_of c.self.inside.entries in
-    subst (λ l. AreBooked l c.unshared-self-inside.result c.unshare_all-2.new.self) (sym (ap (λ (l : Listed). l.rows) (written c) ∙ ap (λ (l : Listed). map unshared l.rows) (sym c.self.view_is)))
-    (record {
-      tally = rw c.unshared-self-inside.ensures (tally_unshared rows c.self.inside.tally c.self.invariant.tally);
-      blocks = rw c.unshare_all-2.ensures (blocks_unshared rows c.self.inside.blocks c.self.invariant.blocks);
-    })
+    let s = c.self.inside in
+    plain_rows s.entries s.order s.restless s.tally s.pass c.self.invariant c.retain.new.self
+    (retained_all _ (λ (e : Entry). record e { unchanged = false }) (λ f k old keep new next t. search rules) _ 0 s.entries.slots c.retain.new.self.slots c.retain.ensures.retained)
+
+pub returns : goal.returns
+returns c =
+    let s = c.self.inside in
+    let held = held_in s.pass s.entries s.order in
+    let slots = retained_all _ (λ (e : Entry). record e { unchanged = false }) (λ f k old keep new next t. search rules) _ 0 s.entries.slots c.retain.new.self.slots c.retain.ensures.retained in
+    c.settle_all.ensures
+    ∙ ap (λ hs. record { held = hs; restless = s.restless; pass = c.settle_all.new.self.pass })
+    (ap (map (on_row settled)) (plain_seen s.entries s.order s.restless s.tally s.pass c.self.invariant c.retain.new.self slots)
+    ∙ map_mapped (on_row settled) (on_row (λ r. record r { unchanged = false })) (on_row (λ r. record (settled r) { unchanged = false })) held (λ k d lt. refl))
+    ∙ ap (λ (v : RowsView). record v { held = map (on_row (λ r. record (settled r) { unchanged = false })) v.held; pass = c.settle_all.new.self.pass }) c.self.view_is

@@ -1,88 +1,12 @@
-use Rattle.std.proofs.Common.{◌≡◌, ◌∙◌, ◌+◌, ◌-◌, ◌^◌, ◌%◌, ◌<◌, length, get_or, Some, refl, sym, ap, arith}
-use Rattle.std.specs.Prelude.{All, option_copied, option_map}
-use Rattle.std.proofs.Math.ListN.{drop_of_length-le}
-use Rattle.ksm_base.specs.Rows.{InPlaceOrder}
-use Rattle.ksm_tree.specs.Choosing.{of_group}
-use Rattle.ksm_tree.specs.Dups.{dup_at, items_in, rows_of}
-use Rattle.ksm_tree.proofs.Best.{candidate_is, joined, folded, folded_best, above_least, out_of_room, stands_so, stepped_over, stepped_to, passed_over_so, least_better, stepped, candidates_within}
+use Rattle.ksm_tree.proofs.Names.{ap, best_of, option_map, sym, ◌∙◌}
+use Rattle.ksm_tree.proofs.Indexed.{group_absent}
+use Rattle.ksm_tree.proofs.Joining.{none_best}
 use Rattle.ksm_tree.proofs.dups.Dups.best.Goals as goal
-use Rattle.ksm_tree.proofs.dups.Dups.best.Goals.{then-items-least+in-Some, then-items-least+in_default, else-items-least}
 
-pub bounds-counts-place : goal.bounds-counts-place
-bounds-counts-place c =
-    let seen = c.self.view_is in
-    let below : All (λ r. r.place < c.args.self.now.places) (rows_of c.args.self.now.dups) = rw (← seen) c.self.invariant.lawful.places_below in
-    let within = candidates_within c.args.tree c.args.bytes.now c.args.limit c.args.self.now.places c.args.self.now.dups c.places_to_join-is_chain.result.0.now c.places_to_join-is_chain.result.1 below c.places_to_join-is_chain.ensures in
-    let here = within c.loop-place.place-index 0 (omega (arith, c.loop-place-test.true)) in
-    omega (arith, here, c.counts-counts.ensures.places, ap (λ s. s.places) seen)
-
-pub loop-place-preserved : goal.loop-place-preserved
-loop-place-preserved c =
-    let tree = c.args.tree in
-    let bytes = c.args.bytes.now in
-    let limit = c.args.limit in
-    let dups = c.args.self.now.dups in
-    let places = c.places_to_join-is_chain.result.0.now in
-    let at = c.loop-place.place-index in
-    let place = get_or places at 0 in
-    let slot = dup_at place dups in
-    let best = option_copied c.loop-place.best in
-    let least = c.loop-place.least in
-    let items = get_or c.counts-counts.result.now place 0 in
-    let above = (items + (2 ^ 32 - least)) % 2 ^ 32 in
-    let fits : items < 2 ^ 32 = omega (arith, c.type_inv.counts place) in
-    let least_fits : least < 2 ^ 32 = omega (arith, c.loop-place.auto.least-fits) in
-    let limit_fits : limit < 2 ^ 32 = omega (arith, c.ranges.limit.fits) in
-    let count = c.counts-counts.ensures.each place ∙ ap (λ s. length (items_in (dup_at place s.dups))) c.self.view_is in
-    let was = c.loop-place.invariant in
-    let within = c.loop-place-test.true in
-    let rise : InPlaceOrder (rows_of dups) = rw (← c.self.view_is) c.self.invariant.lawful.in_place_order in
-    let is = candidate_is tree bytes limit dups places c.places_to_join-is_chain.result.1 at rise c.places_to_join-is_chain.ensures within in
-    elim c.if-items-least.branch [
-      | then-items-least+in-Some w ↦
-          let dup = w.in-Some.dup.now in
-          let here : Some dup ≡ of_group tree bytes slot = w.in-Some.ensures ∙ is in
-          let more = above_least items least limit above fits least_fits limit_fits refl (rw (← was.2) w.if-items-least.true) in
-          let has : length dup.items ≡ items = ap (λ slot. length (items_in slot)) (stands_so tree bytes slot dup here) ∙ sym count in
-          let to = stepped_to limit best dup (omega (arith, more, has, was.0)) (omega (arith, more, has, was.2, w.if-items-least.true)) in
-          let most = least_better best dup (omega (arith, more, has, was.1)) in
-          let next = ap (joined limit best) (sym here) ∙ to ∙ ap Some (sym w.better.ensures) in
-          rw (w.least-is, w.room-is, w.best-is) (omega (arith, more, was.0), sym has ∙ sym most ∙ ap (λ d. length d.items) (sym w.better.ensures), refl, stepped tree bytes limit dups best (Some w.better.result.now) places at within next ∙ was.3)
-      | then-items-least+in_default w ↦
-          let next = ap (joined limit best) (sym (w.in_default.ensures ∙ is)) in
-          rw (w.least-is, w.room-is, w.best-is) (was.0, was.1, was.2, stepped tree bytes limit dups best best places at within next ∙ was.3)
-      | else-items-least w ↦
-          let outside = out_of_room items least limit above fits least_fits limit_fits refl (rw (← was.2) w.if-items-least.false) in
-          let next = passed_over_so tree bytes limit best slot (stepped_over limit best slot (rw (← count, ← was.1) outside)) in
-          rw (w.least-is, w.room-is, w.best-is) (was.0, was.1, was.2, stepped tree bytes limit dups best best places at within next ∙ was.3)
-    ]
-
-pub returns-in-Some-best-clause-best : goal.returns-in-Some-best-clause-best
-returns-in-Some-best-clause-best c =
-    let tree = c.args.tree in
-    let bytes = c.args.bytes.now in
-    let limit = c.args.limit in
-    let dups = c.args.self.now.dups in
-    let over = drop_of_length-le c.places_to_join-is_chain.result.0.now {i = c.loop-place.place-index} (omega arith) in
-    let rise : InPlaceOrder (rows_of dups) = rw (← c.self.view_is) c.self.invariant.lawful.in_place_order in
-    let ended =
-    ap (folded tree bytes limit dups (option_copied c.loop-place.best)) (sym over)
-    ∙ c.loop-place.invariant.3
-    ∙ folded_best tree bytes limit dups c.places_to_join-is_chain.result.0.now c.places_to_join-is_chain.result.1 rise c.places_to_join-is_chain.ensures in
-    ap (λ b. option_map (λ d. d.row.number) (option_copied b)) (sym c.in-Some-best.is)
-    ∙ ap (option_map (λ d. d.row.number)) ended
-
-pub returns-in-None-clause-best : goal.returns-in-None-clause-best
-returns-in-None-clause-best c =
-    let tree = c.args.tree in
-    let bytes = c.args.bytes.now in
-    let limit = c.args.limit in
-    let dups = c.args.self.now.dups in
-    let over = drop_of_length-le c.places_to_join-is_chain.result.0.now {i = c.loop-place.place-index} (omega arith) in
-    let rise : InPlaceOrder (rows_of dups) = rw (← c.self.view_is) c.self.invariant.lawful.in_place_order in
-    let ended =
-    ap (folded tree bytes limit dups (option_copied c.loop-place.best)) (sym over)
-    ∙ c.loop-place.invariant.3
-    ∙ folded_best tree bytes limit dups c.places_to_join-is_chain.result.0.now c.places_to_join-is_chain.result.1 rise c.places_to_join-is_chain.ensures in
-    ap (λ b. option_map (λ d. d.row.number) (option_copied b)) (sym c.in-None.is)
-    ∙ ap (option_map (λ d. d.row.number)) ended
+pub returns-in_err-group-clause-best : goal.returns-in_err-group-clause-best
+returns-in_err-group-clause-best c =
+    let s = c.self.inside in
+    let none = group_absent s.slots s.next s.index c.self.invariant c.args.tree c.args.bytes.now (sym c.in_err-group.ensures) in
+    c.from_residual.ensures
+    ∙ ap (option_map (λ d. d.row.number)) (none_best c.args.tree c.args.bytes.now c.args.limit s.slots.dups c.self.invariant.lawful.in_place_order none)
+    ∙ ap (λ s. option_map (λ d. d.row.number) (best_of c.args.tree c.args.bytes.now c.args.limit s.dups)) c.self.view_is

@@ -1,7 +1,4 @@
-use Rattle.std.proofs.Common.{◌∙◌, count_by, ap}
-use Rattle.std.specs.Prelude.{◌&&◌}
-use Rattle.ksm_base.specs.Counting.{in_chain, leads_group}
-use Rattle.ksm_tree.specs.Dups.{rows_of}
+use Rattle.ksm_tree.proofs.Names.{ap, count_by, in_chain, leads_group, rows_of, ◌&&◌, ◌∙◌}
 use Rattle.ksm_tree.proofs.dups.Dups.count_chains.Goals as goal
 
 pub returns : goal.returns

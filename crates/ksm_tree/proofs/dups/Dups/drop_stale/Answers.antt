@@ -1,5 +1,4 @@
-use Rattle.std.proofs.Common.{◌∙◌, sym, ap}
-use Rattle.ksm_tree.specs.Dups.{dup_at, is_stale}
+use Rattle.ksm_tree.proofs.Names.{ap, dup_at, is_stale, sym, ◌∙◌}
 use Rattle.ksm_tree.proofs.Indexed.{gone_indexed, found_stands, none_there, told}
 use Rattle.ksm_tree.proofs.dups.Dups.drop_stale.Goals as goal
 

@@ -1,15 +1,13 @@
-use Rattle.std.proofs.Common.{◌∙◌, sym, ap}
-use Rattle.ksm_tree.specs.Dups.{dup_of}
-use Rattle.ksm_tree.proofs.Indexed.{indexed_found, unindexed_found}
+use Rattle.ksm_tree.proofs.Names.{ap, dup_at, InPlaceOrder, rows_of, sym, ◌∙◌}
+use Rattle.ksm_tree.proofs.Indexed.{placed_found, unplaced_found}
 use Rattle.ksm_tree.proofs.dups.Dups.find.Goals as goal
 
 pub returns-in-Some : goal.returns-in-Some
 returns-in-Some c =
+    let rise : InPlaceOrder (rows_of c.args.self.now.dups) = c.place.ensures.lawful.in_place_order in
     c.at.ensures
-    ∙ sym (indexed_found c.self.inside.slots c.self.inside.next c.self.inside.index c.self.invariant c.args.number c.in-Some.place c.in-Some.ensures)
-    ∙ ap (λ s. dup_of c.args.number s.dups) c.self.view_is
+    ∙ ap (λ s. dup_at c.in-Some.place s.dups) c.self.view_is
+    ∙ sym (placed_found c.args.number c.in-Some.place c.args.self.now.dups rise c.in-Some.ensures.place)
 
 pub returns-in-None : goal.returns-in-None
-returns-in-None c =
-    sym (unindexed_found c.self.inside.slots c.self.inside.next c.self.inside.index c.self.invariant c.args.number c.in-None.ensures)
-    ∙ ap (λ s. dup_of c.args.number s.dups) c.self.view_is
+returns-in-None c = sym (unplaced_found c.args.number c.args.self.now.dups c.in-None.ensures.place)

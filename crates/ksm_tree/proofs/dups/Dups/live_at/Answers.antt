@@ -1,7 +1,4 @@
-use Rattle.std.proofs.Common.{◌≡◌, ◌∙◌, arith, Some, sym, ap}
-use Rattle.std.specs.Prelude.{◌&&◌, find, option_map}
-use Rattle.std.proofs.lemmas.Bool.Decides.{nat_tests}
-use Rattle.ksm_tree.specs.Dups.{is_live, stands_at}
+use Rattle.ksm_tree.proofs.Names.{ap, arith, find, is_live, nat_tests, option_map, Some, stands_at, sym, ◌&&◌, ◌∙◌, ◌≡◌}
 use Rattle.ksm_tree.proofs.Indexed.{found_passing, passing}
 use Rattle.ksm_tree.proofs.dups.Dups.live_at.Goals as goal
 

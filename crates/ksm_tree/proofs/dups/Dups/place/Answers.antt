@@ -1,6 +1,4 @@
-use Rattle.std.proofs.Common.{◌∙◌, ap}
-use Rattle.std.specs.Prelude.{option_map}
-use Rattle.ksm_tree.specs.Dups.{dup_of}
+use Rattle.ksm_tree.proofs.Names.{ap, dup_of, option_map, ◌∙◌}
 use Rattle.ksm_tree.proofs.Indexed.{indexed_place}
 use Rattle.ksm_tree.proofs.dups.Dups.place.Goals as goal
 

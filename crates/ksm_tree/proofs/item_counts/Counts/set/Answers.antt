@@ -1,6 +1,4 @@
-use Rattle.std.proofs.Common.{◌∙◌, ◌<◌, length, sym, ap, arith}
-use Rattle.std.proofs.lemmas.List.{get_or_default}
-use Rattle.ksm_tree.specs.Counts.{is_open}
+use Rattle.ksm_tree.proofs.Names.{ap, arith, get_or_default, is_open, length, sym, ◌<◌, ◌∙◌}
 use Rattle.ksm_tree.proofs.Openings.{agree, differ, counts_same, counts_opened, counts_closed, opens_with_room}
 use Rattle.ksm_tree.proofs.item_counts.Counts.set.Goals as goal
 

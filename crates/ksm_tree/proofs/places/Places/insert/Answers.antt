@@ -1,7 +1,4 @@
-use Rattle.std.proofs.Common.{◌∙◌, length, ap}
-use Rattle.std.specs.Prelude.{◌==◌, nat_lt, filter}
-use Rattle.std.specs.List.{list_any}
-use Rattle.ksm_rmap.proofs.Ordered.{with_rises}
+use Rattle.ksm_tree.proofs.Names.{ap, filter, length, list_any, nat_lt, with_rises, ◌==◌, ◌∙◌}
 use Rattle.ksm_tree.proofs.Numbers.{places_ordered, at_ok, put_in, was_in}
 use Rattle.ksm_tree.proofs.places.Places.insert.Goals as goal
 

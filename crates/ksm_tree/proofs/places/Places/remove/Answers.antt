@@ -1,8 +1,4 @@
-use Rattle.std.proofs.Common.{◌≡◌, ◌∙◌, ◌<◌, true, refl, get_or, length, ap}
-use Rattle.std.specs.Prelude.{◌==◌, nat_lt, filter}
-use Rattle.std.specs.List.{list_any}
-use Rattle.ksm_rmap.proofs.Ordered.{without_rises}
-use Rattle.ksm_tree.specs.Places.{without}
+use Rattle.ksm_tree.proofs.Names.{ap, filter, get_or, length, list_any, nat_lt, refl, true, without, without_rises, ◌<◌, ◌==◌, ◌∙◌, ◌≡◌}
 use Rattle.ksm_tree.proofs.Numbers.{places_ordered, taken_out, was_out}
 use Rattle.ksm_tree.proofs.places.Places.remove.Goals as goal
 

@@ -1,8 +1,4 @@
-use Rattle.std.proofs.Common.{◌≡◌, ◌∙◌, true, length, ap, arith}
-use Rattle.std.specs.Prelude.{is_some}
-use Rattle.ksm_rmap.specs.Items.{with_item}
-use Rattle.ksm_tree.specs.Dups.{dup_at}
-use Rattle.ksm_tree.specs.Slots.{present}
+use Rattle.ksm_tree.proofs.Names.{ap, arith, dup_at, is_some, length, present, true, with_item, ◌∙◌, ◌≡◌}
 use Rattle.ksm_tree.proofs.OneSlot.{known_within, slot_not_none, holds_dup, count_within, was_live, slots_grown, slots_joined, view_changed}
 use Rattle.ksm_tree.proofs.slots.Slots.add_item.Goals as goal
 

@@ -1,5 +1,4 @@
-use Rattle.std.proofs.Common.{◌∙◌, None, get_or, ap, sym, arith}
-use Rattle.ksm_tree.specs.Dups.{dup_at}
+use Rattle.ksm_tree.proofs.Names.{ap, arith, dup_at, get_or, None, sym, ◌∙◌}
 use Rattle.ksm_tree.proofs.OneSlot.{slot_found}
 use Rattle.ksm_tree.proofs.slots.Slots.at.Goals as goal
 

@@ -1,7 +1,4 @@
-use Rattle.std.proofs.Common.{◌≡◌, ◌∙◌, ◌+◌, None, true, length, length-set, ap, arith}
-use Rattle.std.specs.Prelude.{is_some}
-use Rattle.ksm_tree.specs.Dups.{dup_at, without_place}
-use Rattle.ksm_tree.specs.Slots.{present, is_empty_slot}
+use Rattle.ksm_tree.proofs.Names.{ap, arith, dup_at, is_empty_slot, is_some, length, length-set, None, present, true, without_place, ◌+◌, ◌∙◌, ◌≡◌}
 use Rattle.ksm_tree.proofs.OneSlot.{known_within, count_within, slots_cleared, slot_emptied, mirrored_room, full_slot}
 use Rattle.ksm_tree.proofs.slots.Slots.clear.Goals as goal
 

@@ -1,6 +1,4 @@
-use Rattle.std.proofs.Common.{◌≡◌, count_by, ap, arith}
-use Rattle.ksm_tree.specs.Dups.{is_live}
-use Rattle.ksm_tree.specs.Slots.{present}
+use Rattle.ksm_tree.proofs.Names.{ap, arith, count_by, is_live, present, ◌≡◌}
 use Rattle.ksm_tree.proofs.Counts.{live_counted}
 use Rattle.ksm_tree.proofs.slots.Slots.count_live.Goals as goal
 

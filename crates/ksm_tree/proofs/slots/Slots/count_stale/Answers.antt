@@ -1,5 +1,4 @@
-use Rattle.std.proofs.Common.{◌∙◌, count_by, ap}
-use Rattle.ksm_tree.specs.Dups.{is_stale}
+use Rattle.ksm_tree.proofs.Names.{ap, count_by, is_stale, ◌∙◌}
 use Rattle.ksm_tree.proofs.Counts.{stale_counted}
 use Rattle.ksm_tree.proofs.slots.Slots.count_stale.Goals as goal
 

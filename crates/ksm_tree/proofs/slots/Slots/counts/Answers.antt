@@ -1,7 +1,4 @@
-use Rattle.std.proofs.Common.{◌∙◌, length, get_or, ap}
-use Rattle.std.proofs.lemmas.List.{length-map}
-use Rattle.ksm_tree.specs.Dups.{dup_at, items_in}
-use Rattle.ksm_tree.specs.Slots.{count_in}
+use Rattle.ksm_tree.proofs.Names.{ap, count_in, dup_at, get_or, items_in, length, length-map, ◌∙◌}
 use Rattle.ksm_tree.proofs.OneSlot.{count_read}
 use Rattle.ksm_tree.proofs.slots.Slots.counts.Goals as goal
 

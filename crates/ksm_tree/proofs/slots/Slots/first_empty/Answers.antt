@@ -1,6 +1,4 @@
-use Rattle.std.proofs.Common.{◌≡◌, ◌∙◌, ◌+◌, length, sym, ap, arith}
-use Rattle.ksm_tree.specs.Choosing.{empty_place}
-use Rattle.ksm_tree.specs.Dups.{rows_of}
+use Rattle.ksm_tree.proofs.Names.{ap, arith, empty_place, length, rows_of, sym, ◌+◌, ◌∙◌, ◌≡◌}
 use Rattle.ksm_tree.proofs.OneSlot.{empty_within, empty_found, empty_none}
 use Rattle.ksm_tree.proofs.slots.Slots.first_empty.Goals as goal
 

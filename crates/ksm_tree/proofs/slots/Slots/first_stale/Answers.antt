@@ -1,6 +1,4 @@
-use Rattle.std.proofs.Common.{◌∙◌, ap}
-use Rattle.std.specs.Prelude.{find, slice_get, option_map}
-use Rattle.ksm_tree.specs.Dups.{is_stale}
+use Rattle.ksm_tree.proofs.Names.{ap, find, is_stale, option_map, slice_get, ◌∙◌}
 use Rattle.ksm_tree.proofs.OneSlot.{stale_first}
 use Rattle.ksm_tree.proofs.slots.Slots.first_stale.Goals as goal
 

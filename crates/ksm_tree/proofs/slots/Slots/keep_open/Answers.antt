@@ -1,6 +1,4 @@
-use Rattle.std.proofs.Common.{length, ap, arith}
-use Rattle.std.proofs.lemmas.List.{length-map}
-use Rattle.ksm_tree.specs.Slots.{count_in}
+use Rattle.ksm_tree.proofs.Names.{ap, arith, count_in, length, length-map}
 use Rattle.ksm_tree.proofs.slots.Slots.keep_open.Goals as goal
 
 pub keep_open-requires : goal.keep_open-requires

@@ -1,7 +1,4 @@
-use Rattle.std.proofs.Common.{◌≡◌, ◌∙◌, ◌++◌, ◌∷◌, [], length, replicate, None, sym, ap, arith}
-use Rattle.std.proofs.lemmas.List.{replicate-append-replicate}
-use Rattle.ksm_tree.specs.Places.{with_place}
-use Rattle.ksm_tree.specs.Slots.{slots_seen}
+use Rattle.ksm_tree.proofs.Names.{[], ap, arith, length, None, replicate, replicate-append-replicate, slots_seen, sym, with_place, ◌++◌, ◌∙◌, ◌∷◌, ◌≡◌}
 use Rattle.ksm_tree.proofs.Opened.{none_of, none_slots, none_seen, range_more, length_range}
 use Rattle.ksm_tree.proofs.slots.Slots.open.Goals as goal
 

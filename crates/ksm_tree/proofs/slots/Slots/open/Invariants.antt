@@ -1,6 +1,4 @@
-use Rattle.std.proofs.Common.{◌≡◌, ◌≤◌, None}
-use Rattle.std.specs.Prelude.{replicate}
-use Rattle.std.specs.List.{range_with_len}
+use Rattle.ksm_tree.proofs.Names.{None, range_with_len, replicate, ◌≡◌, ◌≤◌}
 use Rattle.ksm_tree.proofs.slots.Slots.open.Given as goal
 
 -- so many slots are empty

@@ -1,6 +1,4 @@
-use Rattle.std.proofs.Common.{◌∙◌, ap}
-use Rattle.ksm_tree.specs.Counts.{is_open, places_where}
-use Rattle.ksm_tree.specs.Dups.{places_open}
+use Rattle.ksm_tree.proofs.Names.{ap, is_open, places_open, places_where, ◌∙◌}
 use Rattle.ksm_tree.proofs.Openings.{open_seen}
 use Rattle.ksm_tree.proofs.slots.Slots.open_places.Goals as goal
 

@@ -1,4 +1,4 @@
-use Rattle.std.proofs.Common.{◌≡◌, ◌+◌, ◌-◌, ◌<◌, length, refl, ap, arith}
+use Rattle.ksm_tree.proofs.Names.{ap, arith, length, refl, ◌+◌, ◌-◌, ◌<◌, ◌≡◌}
 use Rattle.ksm_tree.proofs.OneSlot.{empty_absent, seen_put, slots_put, stale_absent}
 use Rattle.ksm_tree.proofs.slots.Slots.put.Goals as goal
 

@@ -1,9 +1,4 @@
-use Rattle.std.proofs.Common.{◌≡◌, ◌∙◌, true, false, length, sym, ap, arith}
-use Rattle.std.specs.Prelude.{is_some, ◌==◌}
-use Rattle.std.proofs.lemmas.Bool.{eq-eqb, ne_eqb}
-use Rattle.ksm_rmap.specs.Items.{without_item}
-use Rattle.ksm_tree.specs.Dups.{dup_at}
-use Rattle.ksm_tree.specs.Slots.{present}
+use Rattle.ksm_tree.proofs.Names.{ap, arith, dup_at, eq-eqb, false, is_some, length, ne_eqb, present, sym, true, without_item, ◌==◌, ◌∙◌, ◌≡◌}
 use Rattle.ksm_tree.proofs.OneSlot.{known_within, slot_not_none, holds_dup, count_within, view_changed, slots_unlike, slots_staled, slots_shrunk, stale_has_room}
 use Rattle.ksm_tree.proofs.slots.Slots.remove_item.Goals as goal
 

@@ -1,0 +1,223 @@
+-- Rows that are changed one after another, in the order of their pages: those of a guest, or all, up to a cursor.
+use Rattle.ksm_book.proofs.Names.{[], after_cursor, after_differs, All, All-append, All-cons, All-head, All-map, All-tail, AllPairs, and-true, and_parts, and_right, ap, append-nil, arith, before_differs, before_irrefl, Bool, cases_Bool, cases_order, change_none, change_row, change_rows, comes_before, cond_both, false, filter, filter-append, filter_none, find, find_none, find_passes, get_or, GuestPage, if◌then◌else◌, inl, InPageOrder, inr, is_before, is_next, List, list_any, list_any-append, list_any_none, map, map-append, nat_tests, None, not_both, of_guest, Option, option_map, or-false, pairs_cross, pairs_head, pairs_tail, refl, Row, row_at, same_page, same_page_refl, same_Some, Some, subst, sym, true, ℕ, ⊤, ◌&&◌, ◌*◌, ◌++◌, ◌+◌, ◌<◌, ◌||◌, ◌∙◌, ◌∷◌, ◌≡◌, ◌≤◌}
+use Rattle.std.proofs.lemmas.List.{append_assoc}
+
+-- what no element of the first list passes is searched in the second alone
+find_apart : {X : Type 0} (t : X → Bool) (xs ys : List X) → All (λ x. t x ≡ false) xs → find t (xs ++ ys) ≡ find t ys
+find_apart t [] ys none = refl
+find_apart t (x ∷ xs) ys none =
+    let here = All-head (λ y. t y ≡ false) x xs none in
+    let rest = find_apart t xs ys (All-tail (λ y. t y ≡ false) x xs none) in
+    grind (arith, here, rest)
+
+-- a list in which an element is found is cut there, by any test that agrees
+find_cut : {X : Type 0} (s t : X → Bool) (xs : List X) (r : X) → All (λ x. s x ≡ t x) xs → find s xs ≡ Some r
+    → (passed : List X) × (rest : List X) × (xs ≡ passed ++ r ∷ rest) × (t r ≡ true) × All (λ x. t x ≡ false) passed
+find_cut s t [] r agree found = absurd (grind (arith, found))
+find_cut s t (x ∷ xs) r agree found =
+    let same = All-head (λ y. s y ≡ t y) x xs agree in
+    elim (cases_Bool (s x)) [
+      | inl here ↦
+          let is : x ≡ r = grind (arith, here, found) in
+          ([], xs, ap (λ y. y ∷ xs) is, subst (λ y. t y ≡ true) is (sym same ∙ here), λ k d lt. absurd (omega (arith, lt)))
+      | inr other ↦
+          let more = find_cut s t xs r (All-tail (λ y. s y ≡ t y) x xs agree) (grind (arith, other, found)) in
+          (x ∷ more.0, more.1, ap (λ l. x ∷ l) more.2, more.3, All-cons (λ y. t y ≡ false) x more.0 (sym same ∙ other) more.4)
+    ]
+
+-- changes by tests that agree at each row are the same
+change_agree : (s t : Row → Bool) (f : Row → Row) (rows : List Row) → All (λ r. s r ≡ t r) rows
+    → change_rows s f rows ≡ change_rows t f rows
+change_agree s t f [] agree = refl
+change_agree s t f (r ∷ rows) agree =
+    let here = All-head (λ x. s x ≡ t x) r rows agree in
+    let rest = change_agree s t f rows (All-tail (λ x. s x ≡ t x) r rows agree) in
+    λ i. (if here i then f r else r) ∷ rest i
+
+-- where all pairs of two lists in a row are related, so are those of the second
+pairs_right : {X : Type 0} (R : X → X → Type 0) (xs ys : List X) → AllPairs R (xs ++ ys) → AllPairs R ys
+pairs_right R [] ys pairs = pairs
+pairs_right R (x ∷ xs) ys pairs = pairs_right R xs ys (pairs_tail R x (xs ++ ys) pairs)
+
+-- the rows that are asked for are changed up to the cursor: those done
+pub record IsAlong (asked : Row → Bool) (f : Row → Row) (rows now : List Row) (last : Option GuestPage) (done left : List Row) :
+    Type 0 where
+  pub whole : rows ≡ done ++ left
+  pub are : now ≡ change_rows asked f done ++ left
+  pub behind : All (λ r. after_cursor last r.page ≡ false) done
+  pub ahead : All (λ r. after_cursor last r.page ≡ true) left
+
+-- a page is the next behind the cursor: the rows before its own and those after it, and what becomes of them
+pub record IsCut (asked : Row → Bool) (f : Row → Row) (rows now done : List Row) (page : GuestPage) : Type 0 where
+  pub row : Row
+  pub before : List Row
+  pub rest : List Row
+  pub whole : rows ≡ before ++ row ∷ rest
+  pub met : (t : Row → Bool) → filter (λ x. asked x && t x) before ≡ filter (λ x. asked x && t x) done
+  pub of : asked row ≡ true
+  pub there : row_at page now ≡ Some row
+  pub next : IsAlong asked f rows (change_row page f now) (Some page) (before ++ row ∷ []) rest
+  -- where its row is not changed, those before it are
+  pub stop : now ≡ change_rows (λ x. asked x && is_before (Some row) x) f rows
+
+-- no row is changed yet
+pub along_first : (asked : Row → Bool) (f : Row → Row) (rows : List Row) → IsAlong asked f rows rows None [] rows
+along_first asked f rows = record { whole = refl; are = refl; behind = λ k d lt. absurd (omega (arith, lt)); ahead = λ k d lt. refl }
+
+module _ {asked : Row → Bool} (f : Row → Row) (keeps : (r : Row) → (f r).page ≡ r.page) {rows now : List Row} {last : Option GuestPage}
+    {done left : List Row} (a : IsAlong asked f rows now last done left) where
+  abbrev next_of : Option GuestPage → Row → Bool
+  next_of cursor r = asked r && after_cursor cursor r.page
+
+  abbrev changed : Row → Row
+  changed r = if asked r then f r else r
+
+  page_kept : (r : Row) → (changed r).page ≡ r.page
+  page_kept r = cond_both (asked r) (f r) r (λ x. x.page ≡ r.page) (λ _. keeps r) (λ _. refl)
+
+  -- the next is searched among those left
+  among : find (next_of last) now ≡ find (next_of last) left
+  among = ap (find (next_of last)) a.are ∙ find_apart (next_of last) (map changed done) left
+      (All-map (λ r. next_of last r ≡ false) changed done (λ k d lt. let r = get_or done k d in
+      and_right (asked (changed r)) (after_cursor last (changed r).page) (ap (after_cursor last) (page_kept r) ∙ a.behind k d lt)))
+
+  agree : All (λ r. next_of last r ≡ asked r) left
+  agree = λ k d lt. let r = get_or left k d in ap (λ b. asked r && b) (a.ahead k d lt) ∙ and-true (asked r)
+
+  -- where there is no next, all are changed, and none of those left is asked for
+  pub along_end : find (next_of last) now ≡ None → (now ≡ change_rows asked f rows)
+      × (list_any asked rows ≡ list_any asked done) × All (λ r. asked r ≡ false) left
+  along_end ended =
+      let all = find_none (next_of last) left (sym among ∙ ended) in
+      let none : All (λ r. asked r ≡ false) left = λ k d lt. sym (agree k d lt) ∙ all k d lt in (
+        a.are ∙ ap (λ l. map changed done ++ l) (sym (change_none asked f left none)) ∙ sym (map-append changed done left)
+            ∙ ap (map changed) (sym a.whole),
+        ap (list_any asked) a.whole ∙ list_any-append asked done left
+            ∙ ap (λ b. list_any asked done || b) (list_any_none asked left none) ∙ or-false (list_any asked done),
+        none,
+      )
+
+  module _ (rise : InPageOrder rows) (r : Row) (found : find (next_of last) now ≡ Some r) where
+    cut : (passed : List Row) × (rest : List Row) × (left ≡ passed ++ r ∷ rest) × (asked r ≡ true) × All (λ x. asked x ≡ false) passed
+    cut = find_cut (next_of last) asked left r agree (sym among ∙ found)
+
+    abbrev before : List Row
+    before = done ++ cut.0
+
+    abbrev rest : List Row
+    rest = cut.1
+
+    whole : rows ≡ before ++ r ∷ rest
+    whole = a.whole ∙ ap (λ l. done ++ l) cut.2 ∙ sym (append_assoc done cut.0 (r ∷ rest))
+
+    now_is : now ≡ map changed before ++ r ∷ rest
+    now_is =
+        a.are ∙ ap (λ l. map changed done ++ l) (cut.2 ∙ ap (λ l. l ++ r ∷ rest) (sym (change_none asked f cut.0 cut.4)))
+        ∙ sym (append_assoc (map changed done) (map changed cut.0) (r ∷ rest))
+        ∙ ap (λ l. l ++ r ∷ rest) (sym (map-append changed done cut.0))
+
+    pairs : AllPairs (λ (x y : Row). comes_before x.page y.page ≡ true) (before ++ r ∷ rest)
+    pairs = subst InPageOrder whole rise
+
+    first : All (λ x. comes_before x.page r.page ≡ true) before
+    first =
+        let all = pairs_cross (λ (x y : Row). comes_before x.page y.page ≡ true) before (r ∷ rest) pairs in
+        λ k d lt. all k d lt 0 r (omega arith)
+
+    behind : All (λ y. comes_before r.page y.page ≡ true) rest
+    behind = pairs_head (λ (x y : Row). comes_before x.page y.page ≡ true) r rest
+        (pairs_right (λ (x y : Row). comes_before x.page y.page ≡ true) before (r ∷ rest) pairs)
+
+    apart : All (λ x. same_page x.page r.page ≡ false) (map changed before)
+    apart = All-map (λ x. same_page x.page r.page ≡ false) changed before (λ k d lt.
+        let x = get_or before k d in ap (λ q. same_page q r.page) (page_kept x) ∙ after_differs x.page r.page (first k d lt))
+
+    one_more : (xs : List Row) → map changed (xs ++ r ∷ []) ++ rest ≡ map changed xs ++ f r ∷ rest
+    one_more [] = ap (λ (b : Bool). (if b then f r else r) ∷ rest) cut.3
+    one_more (x ∷ xs) = ap (λ l. changed x ∷ l) (one_more xs)
+
+    cut_there : IsCut asked f rows now done r.page
+    cut_there = record {
+      row = r;
+      before = before;
+      rest = rest;
+      whole = whole;
+      met = λ t. let u = λ (x : Row). asked x && t x in
+          filter-append u done cut.0
+          ∙ ap (λ l. filter u done ++ l) (filter_none u cut.0 (λ k d lt. ap (λ b. b && t (get_or cut.0 k d)) (cut.4 k d lt)))
+          ∙ append-nil (filter u done);
+      of = cut.3;
+      there = ap (row_at r.page) now_is ∙ find_apart (λ x. same_page x.page r.page) (map changed before) (r ∷ rest) apart
+          ∙ ap (λ (b : Bool). if b then Some r else row_at r.page rest) (same_page_refl r.page);
+      next = record {
+        whole = whole ∙ sym (append_assoc before (r ∷ []) rest);
+        are =
+            let still = change_none (λ x. same_page x.page r.page) f (map changed before) apart in
+            let here : (if same_page r.page r.page then f r else r) ≡ f r =
+            ap (λ (b : Bool). if b then f r else r) (same_page_refl r.page) in
+            let later = change_none (λ x. same_page x.page r.page) f rest
+            (λ k d lt. before_differs r.page (get_or rest k d).page (behind k d lt)) in
+            ap (change_row r.page f) now_is ∙ map-append (λ x. if same_page x.page r.page then f x else x) (map changed before) (r ∷ rest)
+            ∙ (λ t. still t ++ here t ∷ later t) ∙ sym (one_more before);
+        behind = All-append (λ x. comes_before r.page x.page ≡ false) before (r ∷ [])
+            (λ k d lt. not_both (get_or before k d).page r.page (first k d lt))
+            (All-cons (λ x. comes_before r.page x.page ≡ false) r [] (before_irrefl r.page) (λ k d lt. absurd (omega (arith, lt))));
+        ahead = behind;
+      };
+      stop =
+          let test = λ (x : Row). asked x && comes_before x.page r.page in
+          let few = change_agree asked test f before (λ k d lt. let x = get_or before k d in
+          sym (ap (λ b. asked x && b) (first k d lt) ∙ and-true (asked x))) in
+          let none = change_none test f (r ∷ rest) (All-cons (λ x. test x ≡ false) r rest
+          (and_right (asked r) (comes_before r.page r.page) (before_irrefl r.page)) (λ k d lt. let x = get_or rest k d in
+          and_right (asked x) (comes_before x.page r.page) (not_both r.page x.page (behind k d lt)))) in
+          now_is ∙ (λ t. few t ++ sym none t) ∙ sym (map-append (λ x. if test x then f x else x) before (r ∷ rest))
+          ∙ ap (change_rows test f) (sym whole);
+    }
+
+  -- the next page that is told cuts the rows
+  pub along_cut : InPageOrder rows → (page : GuestPage) → option_map (λ r. r.page) (find (next_of last) now) ≡ Some page
+      → IsCut asked f rows now done page
+  along_cut rise page told = by (find (next_of last) now) refl told
+    where
+      by : (o : Option Row) → find (next_of last) now ≡ o → option_map (λ r. r.page) o ≡ Some page → IsCut asked f rows now done page
+      by None none is = absurd (grind (arith, is))
+      by (Some r) found is = subst (IsCut asked f rows now done) (same_Some r.page page is) (cut_there rise r found)
+
+-- ---------------------------------------------------------------- how far the cursor is
+
+-- how many pages there may be up to the cursor
+abbrev pub position : Option GuestPage → ℕ
+position None = 0
+position (Some p) = p.guest * 4294967296 + p.page + 1
+
+-- the numbers of the cursor's page fit
+abbrev pub FitsPage : Option GuestPage → Type 0
+FitsPage None = ⊤
+FitsPage (Some p) = (p.guest < 65536) × (p.page < 4294967296)
+
+-- the next page is further than the cursor
+pub further : (guest : Option ℕ) (last : Option GuestPage) (rows : List Row) (page : GuestPage) → FitsPage last
+    → option_map (λ r. r.page) (find (is_next guest last) rows) ≡ Some page → position last < position (Some page)
+further guest last rows page fits told = by (find (is_next guest last) rows) refl told
+  where
+    far : (o : Option GuestPage) → FitsPage o → after_cursor o page ≡ true → position o < position (Some page)
+    far None fits after = omega arith
+    far (Some p) fits after = elim (cases_order p.guest page.guest) [
+      | inl same ↦ (let later : p.page < page.page = grind (arith, nat_tests, same, after) in omega (arith, same, later))
+      | inr rest ↦ elim rest [
+        | inl less ↦ (let fit = fits.1 in omega (arith, less, fit))
+        | inr more ↦ absurd (grind (arith, nat_tests, more, after))
+      ]
+    ]
+
+    by : (o : Option Row) → find (is_next guest last) rows ≡ o → option_map (λ r. r.page) o ≡ Some page
+        → position last < position (Some page)
+    by None none is = absurd (grind (arith, is))
+    by (Some r) found is = far last fits (ap (after_cursor last) (sym (same_Some r.page page is))
+        ∙ (and_parts (of_guest guest r) (after_cursor last r.page) (find_passes (is_next guest last) rows r found)).1)
+
+-- no page is further than so many
+pub not_far : (last : Option GuestPage) → FitsPage last → position last ≤ 281474976710656
+not_far None fits = omega arith
+not_far (Some p) fits = (let guest = fits.0 in let page = fits.1 in omega (arith, guest, page))

@@ -1,0 +1,172 @@
+-- Rows that change at one page: what becomes of what holds of each row, and of how many lie on a frame.
+use Rattle.ksm_book.proofs.Names.{[], All, All-cons, All-head, All-map, All-tail, ap, arith, Bool, both_ways, cases_Bool, change_row, cond, cond_both, count_by, count_more, count_with_row, count_without_page, counts_one, eq-eqb, eqb-true, false, filter, filter_passes, find_all, find_none, find_passes, Frames, get_or, GuestPage, if◌then◌else◌, inl, InPageOrder, inr, is_frame, lies_on, List, map, ne_eqb, None, none_counted, not, not-true, one_of_each_page, Option, refl, Row, row_at, same_page, same_page_eq, same_page_refl, Some, subst, sym, true, uses, with_row, without_page, ℕ, ◌+◌, ◌∙◌, ◌∷◌, ◌≡◌, ◌≢◌, ◌≤◌, ◌⊎◌}
+
+-- frames that are equal at each page are equal
+pub same_frames : (f g : Frames) → ((page : GuestPage) → f page ≡ g page) → f ≡ g
+same_frames f g each = λ i page. each page i
+
+-- ---------------------------------------------------------------- a frame
+
+-- 1 for this frame, 0 for another or none
+abbrev pub one_at : ℕ → Option ℕ → ℕ
+one_at f o = cond (is_frame f o) 1 0
+
+-- a page on the frame counts once for it
+pub one_same : (f : ℕ) (o : Option ℕ) → o ≡ Some f → one_at f o ≡ 1
+one_same f o e = ap (one_at f) e ∙ ap (λ (b : Bool). cond b 1 0) (eq-eqb f f refl)
+
+-- a page that is not on the frame counts for nothing
+pub one_other : (f : ℕ) (o : Option ℕ) → o ≢ Some f → one_at f o ≡ 0
+one_other f None ne = refl
+one_other f (Some g) ne = ap (λ (b : Bool). cond b 1 0) (ne_eqb g f (λ e. ne (ap Some e)))
+
+-- what is tested is so
+pub is_that : (f : ℕ) (o : Option ℕ) → is_frame f o ≡ true → o ≡ Some f
+is_that f None here = absurd (grind (arith, here))
+is_that f (Some g) here = ap Some (eqb-true g f here)
+
+is_it : (f : ℕ) (o : Option ℕ) → o ≡ Some f → is_frame f o ≡ true
+is_it f o e = ap (is_frame f) e ∙ eq-eqb f f refl
+
+-- another frame, or none, fails the test
+pub not_on : (f : ℕ) (o : Option ℕ) → o ≢ Some f → is_frame f o ≡ false
+not_on f None ne = refl
+not_on f (Some g) ne = ne_eqb g f (λ e. ne (ap Some e))
+
+-- a page is on the frame, or it is not
+pub frame_cases : (f : ℕ) (o : Option ℕ) → (o ≡ Some f) ⊎ (o ≢ Some f)
+frame_cases f o = elim (cases_Bool (is_frame f o)) [
+  | inl here ↦ inl (is_that f o here)
+  | inr there ↦ inr (λ e. both_ways (is_frame f o) there (is_it f o e))
+]
+
+-- ---------------------------------------------------------------- a page
+
+-- the page itself lies on the frame told
+pub on_page : (page : GuestPage) (o : Option ℕ) (frame : Frames) (p : GuestPage) → same_page p page ≡ true → lies_on page o frame p ≡ o
+on_page page o frame p same = ap (λ (b : Bool). if b then o else frame p) same
+
+-- any other page lies where it lay
+pub off_page : (page : GuestPage) (o : Option ℕ) (frame : Frames) (p : GuestPage) → same_page p page ≡ false → lies_on page o frame p ≡ frame p
+off_page page o frame p other = ap (λ (b : Bool). if b then o else frame p) other
+
+-- the row found is of the page
+pub found_page : (page : GuestPage) (rows : List Row) (row : Row) → row_at page rows ≡ Some row → row.page ≡ page
+found_page page rows row found = same_page_eq row.page page (find_passes (λ r. same_page r.page page) rows row found)
+
+-- a page that comes to lie on a frame twice lies on the second
+pub lies_again : (page : GuestPage) (o n : Option ℕ) (frame : Frames) → lies_on page n (lies_on page o frame) ≡ lies_on page n frame
+lies_again page o n frame = same_frames _ _ (λ p. elim (cases_Bool (same_page p page)) [
+  | inl same ↦ on_page page n (lies_on page o frame) p same ∙ sym (on_page page n frame p same)
+  | inr other ↦ off_page page n (lies_on page o frame) p other ∙ off_page page o frame p other ∙ sym (off_page page n frame p other)
+])
+
+-- a page that lies where it lay changes nothing
+pub lies_still : (page : GuestPage) (o : Option ℕ) (frame : Frames) → frame page ≡ o → lies_on page o frame ≡ frame
+lies_still page o frame there = same_frames _ _ (λ p. elim (cases_Bool (same_page p page)) [
+  | inl same ↦ on_page page o frame p same ∙ sym there ∙ ap frame (sym (same_page_eq p page same))
+  | inr other ↦ off_page page o frame p other
+])
+
+-- ---------------------------------------------------------------- the rows
+
+-- a row of the page is the one found
+pub row_of_page : (page : GuestPage) (rows : List Row) (row : Row) → InPageOrder rows → row_at page rows ≡ Some row → All (λ r. same_page r.page page ≡ true → r ≡ row) rows
+row_of_page page rows row rise found =
+    let each = find_all (λ r. same_page r.page page) (λ r. All (λ s. same_page s.page r.page ≡ true → s ≡ r) rows) rows row found (one_of_each_page rows rise) in
+    λ i d lt same. each i d lt (ap (same_page (get_or rows i d).page) (found_page page rows row found) ∙ same)
+
+-- what holds of each row, where the row of a page changes
+pub all_changed_row : (P Q : Row → Type 0) (page : GuestPage) (c : Row → Row) (rows : List Row) (row : Row) → InPageOrder rows → row_at page rows ≡ Some row → All P rows
+    → ((r : Row) → same_page r.page page ≡ false → P r → Q r) → (P row → Q (c row)) → All Q (change_row page c rows)
+all_changed_row P Q page c rows row rise found all others here =
+    let one = row_of_page page rows row rise found in
+    All-map Q (λ r. if same_page r.page page then c r else r) rows (λ i d lt.
+    let r = get_or rows i d in
+    cond_both (same_page r.page page) (c r) r Q
+    (λ same. let is = one i d lt same in subst (λ s. P s → Q (c s)) (sym is) here (all i d lt))
+    (λ other. others r other (all i d lt)))
+
+-- what holds of each row that passes a filter holds of each row that passes it
+pub filter_back : {X : Type 0} (t : X → Bool) (P : X → Type 0) (xs : List X) → All P (filter t xs) → All (λ x. t x ≡ true → P x) xs
+filter_back t P [] h = λ k x lt. absurd (omega arith)
+filter_back t P (x ∷ xs) h = elim (cases_Bool (t x)) [
+  | inl yes' ↦
+      let e : filter t (x ∷ xs) ≡ x ∷ filter t xs = grind (arith, yes') in
+      let h' : All P (x ∷ filter t xs) = subst (All P) e h in
+      All-cons (λ y. t y ≡ true → P y) x xs (λ _. All-head P x (filter t xs) h') (filter_back t P xs (All-tail P x (filter t xs) h'))
+  | inr no' ↦
+      let e : filter t (x ∷ xs) ≡ filter t xs = grind (arith, no') in
+      All-cons (λ y. t y ≡ true → P y) x xs (λ m. absurd (grind (arith, m, no'))) (filter_back t P xs (subst (All P) e h))
+]
+
+-- ---------------------------------------------------------------- how many lie on a frame
+
+-- tests that agree at each row count the same
+pub counts_agree : (p q : Row → Bool) (rows : List Row) → All (λ r. p r ≡ q r) rows → count_by p rows ≡ count_by q rows
+counts_agree p q [] agree = refl
+counts_agree p q (r ∷ rows) agree =
+    let here = All-head (λ s. p s ≡ q s) r rows agree in
+    let rest = counts_agree p q rows (All-tail (λ s. p s ≡ q s) r rows agree) in
+    count_more p r rows ∙ (λ i. (if here i then 1 else 0) + rest i) ∙ sym (count_more q r rows)
+
+count_map : (p : Row → Bool) (c : Row → Row) (rows : List Row) → count_by p (map c rows) ≡ count_by (λ r. p (c r)) rows
+count_map p c [] = refl
+count_map p c (r ∷ rows) = count_more p (c r) (map c rows) ∙ ap (λ n. (if p (c r) then 1 else 0) + n) (count_map p c rows) ∙ sym (count_more (λ s. p (c s)) r rows)
+
+-- as many rows lie on a frame once they are changed, each on its page
+pub uses_mapped : (f : ℕ) (frame : Frames) (c : Row → Row) (rows : List Row) → ((r : Row) → (c r).page ≡ r.page) → uses f frame (map c rows) ≡ uses f frame rows
+uses_mapped f frame c rows keeps = count_map (λ r. is_frame f (frame r.page)) c rows
+    ∙ counts_agree _ _ rows (λ i d lt. ap (λ p. is_frame f (frame p)) (keeps (get_or rows i d)))
+
+module _ (f : ℕ) (page : GuestPage) (o : Option ℕ) (frame : Frames) where
+  abbrev old_test : Row → Bool
+  old_test r = is_frame f (frame r.page)
+
+  abbrev new_test : Row → Bool
+  new_test r = is_frame f (lies_on page o frame r.page)
+
+  -- where no row is of the page, as many lie on the frame as did
+  apart_uses : (rows : List Row) → All (λ r. same_page r.page page ≡ false) rows → uses f (lies_on page o frame) rows ≡ uses f frame rows
+  apart_uses rows apart = counts_agree new_test old_test rows (λ i d lt. ap (is_frame f) (off_page page o frame (get_or rows i d).page (apart i d lt)))
+
+  -- the row of a page goes
+  pub uses_gone : (rows : List Row) (row : Row) → InPageOrder rows → row_at page rows ≡ Some row → uses f (lies_on page o frame) (without_page page rows) + one_at f (frame page) ≡ uses f frame rows
+  uses_gone rows row rise found =
+      let rest = apart_uses (without_page page rows) (λ i d lt. not-true _ (filter_passes (λ r. not (same_page r.page page)) rows i d lt)) in
+      let own = ap (λ p. one_at f (frame p)) (found_page page rows row found) in
+      let gone = count_without_page old_test page rows row rise found in
+      omega (arith, rest, own, gone)
+
+  -- the row of a page comes to lie on another frame
+  pub uses_changed : (c : Row → Row) (rows : List Row) (row : Row) → InPageOrder rows → row_at page rows ≡ Some row → ((r : Row) → (c r).page ≡ r.page)
+      → uses f (lies_on page o frame) (change_row page c rows) + one_at f (frame page) ≡ uses f frame rows + one_at f o
+  uses_changed c rows row rise found keeps =
+      let same = uses_mapped f (lies_on page o frame) (λ r. if same_page r.page page then c r else r) rows (λ r. cond_both (same_page r.page page) (c r) r (λ s. s.page ≡ r.page) (λ _. keeps r) (λ _. refl)) in
+      let new = count_without_page new_test page rows row rise found in
+      let at = ap (λ p. one_at f (lies_on page o frame p)) (found_page page rows row found) ∙ ap (one_at f) (on_page page o frame page (same_page_refl page)) in
+      let gone = uses_gone rows row rise found in
+      omega (arith, same, new, at, gone)
+
+  -- none lies on the frame of a page on which one row alone lies
+  pub uses_once : (rows : List Row) (row : Row) → InPageOrder rows → row_at page rows ≡ Some row → frame page ≡ Some f → uses f frame rows ≡ 1
+      → All (λ r. same_page r.page page ≡ false → frame r.page ≢ Some f) rows
+  uses_once rows row rise found lies once =
+      let own = ap (λ p. one_at f (frame p)) (found_page page rows row found) ∙ one_same f (frame page) lies in
+      let gone = count_without_page old_test page rows row rise found in
+      let none : count_by old_test (without_page page rows) ≡ 0 = omega (arith, own, gone, once) in
+      let each = filter_back (λ r. not (same_page r.page page)) (λ r. old_test r ≡ false) rows (none_counted old_test (without_page page rows) none) in
+      λ i d lt other e. both_ways _ (each i d lt (ap not other)) (is_it f _ e)
+
+-- a row comes on a page that had none
+pub uses_come : (f : ℕ) (o : Option ℕ) (frame : Frames) (row : Row) (rows : List Row) → row_at row.page rows ≡ None
+    → uses f (lies_on row.page o frame) (with_row row rows) ≡ uses f frame rows + one_at f o
+uses_come f o frame row rows absent =
+    let rest = apart_uses f row.page o frame rows (find_none (λ r. same_page r.page row.page) rows absent) in
+    let come = count_with_row (new_test f row.page o frame) row rows absent in
+    let at = ap (one_at f) (on_page row.page o frame row.page (same_page_refl row.page)) in
+    omega (arith, rest, come, at)
+
+-- a frame on which a row lies is used
+pub uses_some : (f : ℕ) (frame : Frames) (rows : List Row) → All (λ r. frame r.page ≡ Some f → 1 ≤ uses f frame rows) rows
+uses_some f frame rows = λ i d lt e. counts_one (λ r. is_frame f (frame r.page)) rows i d lt (is_it f _ e)

@@ -1,0 +1,397 @@
+-- The visits of a pass are a fold over its pages, only restless pages count, and a quiet pass is repeated by those behind it.
+use Rattle.ksm_book.proofs.Names.{[], after_cursor, All, All-head, All-map, All-tail, AllPairs-cons, AllPairs-filter, and_parts, ap, append-nil, AreAscending, arith, begun, best_dup, BookState, Bool, cases_Bool, comes_before, cond_both, each_at_page, false, filter, filter_all, find_all, find_passes, get_or, GuestPage, handled, has_item, if◌then◌else◌, inl, InPageOrder, inr, is_none, is_restless, is_some, IsBeside, IsStill, last_of, length, List, map, mergeable_pages, Merged, min, next_row, next_visited, None, not, not-true, Option, option_map, page_visited, pages_ahead, pages_visited, PageState, pairs_head, pairs_tail, pass_at, pass_begun, pass_ended, pass_ended_at_last, refl, restless_at, restless_row, Row, row_at, row_visited, rowwise_visits, same_page, same_page_eq, same_Some, settled, settled_state, shared_state, slice_get, Some, subst, suc, suc-mul, sym, true, visit, visit_begun, visit_of, visited, visits, visits_beside, Waiting, with_none_waiting, Zero, zero, zero-mul, ℕ, ◌&&◌, ◌*◌, ◌++◌, ◌+◌, ◌-◌, ◌^◌, ◌∙◌, ◌∷◌, ◌≡◌, ◌≤◌}
+use Rattle.ksm_base.specs.declared.row.PageState.TheVariants.{Private}
+use Rattle.ksm_book.proofs.Going.{Goes, begun_goes, elsewhere, goes_on, mergeable_kept, goes_same, row_visited_alike, settled_goes, visited_goes}
+use Rattle.ksm_book.proofs.PagesAhead.{Before, behind_first, filter_in, filter_out, has_filter, same_pages}
+
+-- ---------------------------------------------------------------- the page that is visited next
+
+-- the next row is that of the first page ahead
+pub next_first : (cursor : Option GuestPage) (rows : List Row)
+    → option_map (λ r. r.page) (next_row cursor rows) ≡ slice_get (filter (after_cursor cursor) (mergeable_pages rows)) 0
+next_first cursor [] = refl
+next_first cursor (r ∷ rows) =
+    let rest = next_first cursor rows in
+    elim (cases_Bool r.mergeable) [
+      | inl mergeable ↦ elim (cases_Bool (after_cursor cursor r.page)) [
+        | inl ahead ↦ grind (arith, mergeable, ahead, rest)
+        | inr behind ↦ grind (arith, mergeable, behind, rest)
+      ]
+      | inr not_so ↦ grind (arith, not_so, rest)
+    ]
+
+-- the next row, where a page is ahead
+some_next : (c : BookState) (page : GuestPage) (more : List GuestPage) → pages_ahead c ≡ page ∷ more
+    → (row : Row) × (next_row c.cursor c.rows ≡ Some row) × (row.page ≡ page)
+some_next c page more is = by (next_row c.cursor c.rows) refl (next_first c.cursor c.rows ∙ ap (λ l. slice_get l 0) is)
+  where
+    by : (o : Option Row) → next_row c.cursor c.rows ≡ o → option_map (λ r. r.page) o ≡ Some page
+        → (row : Row) × (next_row c.cursor c.rows ≡ Some row) × (row.page ≡ page)
+    by None found at = cc
+    by (Some row) found at = (row, found, same_Some row.page page at)
+
+-- there is none where no page is ahead
+pub none_next : (c : BookState) → pages_ahead c ≡ [] → next_row c.cursor c.rows ≡ None
+none_next c is = by (next_row c.cursor c.rows) (next_first c.cursor c.rows ∙ ap (λ l. slice_get l 0) is)
+  where
+    by : (o : Option Row) → option_map (λ r. r.page) o ≡ None → o ≡ None
+    by None none = refl
+    by (Some row) none = cc
+
+-- a pass with a page ahead does not end, and where it is under way nothing is done before its next visit
+pub pass_goes_on : (c : BookState) (page : GuestPage) (more : List GuestPage) → pages_ahead c ≡ page ∷ more → pass_ended_at_last c ≡ c
+pass_goes_on c page more is =
+    ap (λ o. if is_some c.cursor && is_none o then pass_ended c else c) (some_next c page more is).1 ∙ either (is_some c.cursor)
+  where
+    either : (x : Bool) → (if x && false then pass_ended c else c) ≡ c
+    either true = refl
+    either false = refl
+
+begun_goes_on : (c : BookState) (last page : GuestPage) (more : List GuestPage) → c.cursor ≡ Some last → pages_ahead c ≡ page ∷ more
+    → visit_begun c ≡ c
+begun_goes_on c last page more at is =
+    ap pass_begun (pass_goes_on c page more is) ∙ ap (λ (o : Option GuestPage). if is_none o then with_none_waiting c else c) at
+
+-- the pages of rows in order ascend
+ascending_pages : (rows : List Row) → InPageOrder rows → AreAscending (map (λ r. r.page) rows)
+ascending_pages [] rise = λ i j d lt in_range. absurd (omega arith)
+ascending_pages (r ∷ rows) rise =
+    AllPairs-cons Before r.page (map (λ s. s.page) rows)
+    (All-map (Before r.page) (λ s. s.page) rows (pairs_head (λ a b. comes_before a.page b.page ≡ true) r rows rise))
+    (ascending_pages rows (pairs_tail (λ a b. comes_before a.page b.page ≡ true) r rows rise))
+
+ascending_mergeable : (rows : List Row) → InPageOrder rows → AreAscending (mergeable_pages rows)
+ascending_mergeable rows rise =
+    ascending_pages (filter (λ r. r.mergeable) rows)
+    (AllPairs-filter (λ a b. comes_before a.page b.page ≡ true) (λ r. r.mergeable) rows rise)
+
+pub ascending_ahead : (b : BookState) → InPageOrder b.rows → AreAscending (pages_ahead b)
+ascending_ahead b rise = AllPairs-filter Before (after_cursor b.cursor) (mergeable_pages b.rows) (ascending_mergeable b.rows rise)
+
+-- behind some pages that were ahead are the others
+behind_done : (done left : List GuestPage) (cursor : Option GuestPage) (pages : List GuestPage) → AreAscending pages
+    → filter (after_cursor cursor) pages ≡ done ++ left
+    → filter (after_cursor (last_of cursor done)) pages ≡ left
+behind_done [] left cursor pages rise is = is
+behind_done (page ∷ done) left cursor pages rise is =
+    behind_done done left (Some page) pages rise (behind_first cursor pages page (done ++ left) rise is)
+
+last_stands : (page : GuestPage) (pages : List GuestPage) → (last : GuestPage) × (last_of (Some page) pages ≡ Some last)
+last_stands page [] = (page, refl)
+last_stands page (next ∷ pages) = last_stands next pages
+
+-- rows that settled are settled
+settled_twice : (rows : List Row) → map settled (map settled rows) ≡ map settled rows
+settled_twice [] = refl
+settled_twice (r ∷ rows) = λ t. record r { state = same r.state t } ∷ settled_twice rows t
+  where
+    same : (s : PageState) → settled_state (settled_state s) ≡ settled_state s
+    same Private = refl
+    same _ = refl
+
+-- every page is behind an empty cursor
+pub every_page : (rows : List Row) → filter (after_cursor None) (mergeable_pages rows) ≡ mergeable_pages rows
+every_page rows = filter_all (after_cursor None) (mergeable_pages rows) (λ k d lt. refl)
+
+-- ---------------------------------------------------------------- visits with what they do beside
+
+-- what is still twice is still
+pub still_on : {X : Type 0} (first second third : BookState × X) → IsStill first second → IsStill second third → IsStill first third
+still_on first second third f g = record {
+  rest = g.rest ∙ ap (λ (b : BookState). record b { rows = third.0.rows }) f.rest;
+  rows = g.rows ∙ f.rows;
+  beside = g.beside ∙ f.beside;
+}
+
+module _ {X : Type 0} (step : BookState → X → Row → X) where
+  abbrev one_visit : BookState × X → BookState × X
+  one_visit s = let t = begun s in next_visited step t (next_row t.0.cursor t.0.rows)
+
+  -- n visits and then k are as many as both
+  pub beside_on : (n k m : ℕ) (s : BookState × X) → m ≡ n + k → visits_beside step m s ≡ visits_beside step k (visits_beside step n s)
+  beside_on n zero m s sum = let same : m ≡ n = omega (arith, sum) in ap (λ j. visits_beside step j s) same
+  beside_on n (suc k) m s sum =
+      (let more : m ≡ suc (n + k) = omega (arith, sum) in ap (λ j. visits_beside step j s) more)
+      ∙ ap one_visit (beside_on n k (n + k) s refl)
+
+  -- the book after them is that after as many visits
+  pub beside_state : (n : ℕ) (s : BookState × X) → (visits_beside step n s).0 ≡ visits n s.0
+  beside_state zero s = refl
+  beside_state (suc n) s =
+      let t = begun (visits_beside step n s) in by t (next_row t.0.cursor t.0.rows) ∙ ap visit (beside_state n s)
+    where
+      by : (t : BookState × X) (o : Option Row) → (next_visited step t o).0 ≡ visit_of t.0 o
+      by t None = refl
+      by t (Some row) = refl
+
+  -- visits keep which pages scans visit
+  pub visits_mergeable : (n : ℕ) (s : BookState × X) → mergeable_pages (visits_beside step n s).0.rows ≡ mergeable_pages s.0.rows
+  visits_mergeable n s =
+      let h = rowwise_visits n s.0 in
+      ap (λ (b : BookState). mergeable_pages b.rows) (beside_state n s) ∙ ap mergeable_pages h.rows
+      ∙ mergeable_kept h.change (λ r. ((h.keeps r).page, (h.keeps r).mergeable)) s.0.rows
+
+  -- n visits, of which the first has begun
+  abbrev goes : ℕ → BookState × X → BookState × X
+  goes zero s = s
+  goes (suc n) s = visits_beside step n (next_visited step s (next_row s.0.cursor s.0.rows))
+
+  visits_go : (n : ℕ) (s : BookState × X) → visits_beside step (suc n) s ≡ goes (suc n) (begun s)
+  visits_go n s = beside_on 1 n (suc n) s (omega arith)
+
+  visits_go_on : (n : ℕ) (s : BookState × X) → visit_begun s.0 ≡ s.0 → visits_beside step n s ≡ goes n s
+  visits_go_on zero s is = refl
+  visits_go_on (suc n) s is = visits_go n s ∙ ap (λ c. goes (suc n) (c, s.1)) is
+
+  pass_moved : (page : GuestPage) (done left : List GuestPage) (s : BookState × X)
+      → pass_at done left (record s.0 { cursor = Some page }, s.1) ≡ pass_at (page ∷ done) left s
+  pass_moved page done [] s = refl
+  pass_moved page done (next ∷ left) s = refl
+
+  -- the visit of a page that is not restless changes nothing
+  calm_stays : (s : BookState × X) (page : GuestPage) → restless_at page s.0.rows ≡ false → page_visited step s page ≡ s
+  calm_stays s page calm = by (row_at page s.0.rows) calm
+    where
+      by : (o : Option Row) → restless_row o ≡ false → visited step s o ≡ s
+      by None calm = refl
+      by (Some r) calm = ap (λ z. if z then (row_visited s.0 r, step s.0 s.1 r) else s) calm
+
+  -- what the visit of a page keeps of the rows
+  page_goes : (s : BookState × X) (page : GuestPage) → InPageOrder s.0.rows → Goes s.0.rows (page_visited step s page).0.rows
+  page_goes s page rise = by (row_at page s.0.rows) refl
+    where
+      by : (o : Option Row) → row_at page s.0.rows ≡ o → Goes s.0.rows (visited step s o).0.rows
+      by None found = goes_same s.0.rows
+      by (Some r) found =
+          let of_page : r.page ≡ page = same_page_eq r.page page (find_passes (λ q. same_page q.page page) s.0.rows r found) in
+          cond_both (is_restless r) (row_visited s.0 r, step s.0 s.1 r) s (λ z. Goes s.0.rows z.0.rows)
+          (λ is. visited_goes s.0 r rise (ap (λ p. row_at p s.0.rows) of_page ∙ found)
+          (not-true (shared_state r.state) (and_parts r.mergeable (not (shared_state r.state)) is).1))
+          (λ calm. goes_same s.0.rows)
+
+  -- so do the visits of some pages
+  pub pages_go : (pages : List GuestPage) (s : BookState × X) → InPageOrder s.0.rows → Goes s.0.rows (pages_visited step s pages).0.rows
+  pages_go [] s rise = goes_same s.0.rows
+  pages_go (page ∷ pages) s rise =
+      let next = page_visited step s page in
+      let first = page_goes s page rise in
+      goes_on s.0.rows next.0.rows (pages_visited step next pages).0.rows first (pages_go pages next (first.order rise))
+
+  pub visited_more : (pages : List GuestPage) (s : BookState × X) (page : GuestPage)
+      → pages_visited step s (pages ++ page ∷ []) ≡ page_visited step (pages_visited step s pages) page
+  visited_more [] s page = refl
+  visited_more (p ∷ pages) s page = visited_more pages (page_visited step s p) page
+
+  -- pages that are not restless may be left out
+  pub settled_out : (t : GuestPage → Bool) (pages : List GuestPage) (s : BookState × X) → InPageOrder s.0.rows
+      → All (λ p. t p ≡ false → restless_at p s.0.rows ≡ false) pages
+      → pages_visited step s (filter t pages) ≡ pages_visited step s pages
+  settled_out t [] s rise calm = refl
+  settled_out t (page ∷ pages) s rise calm =
+      let P : GuestPage → Type 0 = λ p. t p ≡ false → restless_at p s.0.rows ≡ false in
+      let rest = All-tail P page pages calm in
+      let first = page_goes s page rise in
+      elim (cases_Bool (t page)) [
+        | inl stays ↦
+            ap (pages_visited step s) (filter_in t page pages stays)
+            ∙ settled_out t pages (page_visited step s page) (first.order rise)
+            (λ k d lt off. first.calm (get_or pages k d) (rest k d lt off))
+        | inr goes_out ↦
+            ap (pages_visited step s) (filter_out t page pages goes_out) ∙ settled_out t pages s rise rest
+            ∙ ap (λ z. pages_visited step z pages) (sym (calm_stays s page (All-head P page pages calm goes_out)))
+      ]
+
+  -- ascending lists with the same restless pages come to the same
+  pub same_restless : (ps qs : List GuestPage) (s : BookState × X) → InPageOrder s.0.rows → AreAscending ps → AreAscending qs
+      → ((page : GuestPage) → restless_at page s.0.rows ≡ true → has_item page ps ≡ has_item page qs)
+      → pages_visited step s ps ≡ pages_visited step s qs
+  same_restless ps qs s rise first second same =
+      sym (settled_out t ps s rise (λ k d lt off. off))
+      ∙ ap (pages_visited step s)
+      (same_pages (filter t ps) (filter t qs) (AllPairs-filter Before t ps first) (AllPairs-filter Before t qs second) alike)
+      ∙ settled_out t qs s rise (λ k d lt off. off)
+    where
+      t : GuestPage → Bool
+      t page = restless_at page s.0.rows
+
+      alike : (x : GuestPage) → has_item x (filter t ps) ≡ has_item x (filter t qs)
+      alike x = has_filter t x ps ∙ by (t x) (same x) ∙ sym (has_filter t x qs)
+        where
+          by : (z : Bool) → (z ≡ true → has_item x ps ≡ has_item x qs) → (z && has_item x ps) ≡ (z && has_item x qs)
+          by true is = is refl
+          by false is = refl
+
+  module _ (beside : IsBeside step) where
+    -- the visit of the next row is that of its page
+    next_is_page : (s : BookState × X) (row : Row) → InPageOrder s.0.rows → next_row s.0.cursor s.0.rows ≡ Some row
+        → page_visited step s row.page ≡ (row_visited s.0 row, step s.0 s.1 row)
+    next_is_page s row rise next = ap (visited step s) there ∙ by (shared_state row.state) refl
+      where
+        c : BookState
+        c = s.0
+
+        there : row_at row.page c.rows ≡ Some row
+        there =
+            find_all (λ r. r.mergeable && after_cursor c.cursor r.page) (λ r. row_at r.page c.rows ≡ Some r) c.rows row next
+            (each_at_page c.rows rise)
+
+        mergeable : row.mergeable ≡ true
+        mergeable =
+            (and_parts row.mergeable (after_cursor c.cursor row.page)
+            (find_passes (λ r. r.mergeable && after_cursor c.cursor r.page) c.rows row next)).0
+
+        by : (z : Bool) → shared_state row.state ≡ z → visited step s (Some row) ≡ (row_visited c row, step c s.1 row)
+        by true is =
+            (λ t. if mergeable t && not (is t) then (row_visited c row, step c s.1 row) else s)
+            ∙ (λ t. (
+              sym (ap (λ (z : Bool). if z then c else handled (best_dup c.knobs c.rows c.dups row) c row) is) t,
+              sym
+                  (beside.shared c s.1 row is) t,
+            ))
+        by false is = λ t. if mergeable t && not (is t) then (row_visited c row, step c s.1 row) else s
+
+    -- visits of pages do the same wherever the cursor stands and however many passes have ended
+    module _ (cursor : Option GuestPage) (passes : ℕ) where
+      abbrev moved : BookState × X → BookState × X
+      moved s = (elsewhere cursor passes s.0, s.1)
+
+      page_alike : (s : BookState × X) (page : GuestPage) → page_visited step (moved s) page ≡ moved (page_visited step s page)
+      page_alike s page = by (row_at page s.0.rows)
+        where
+          either : (r : Row) (z : Bool)
+              → (if z then (row_visited (elsewhere cursor passes s.0) r, step (elsewhere cursor passes s.0) s.1 r) else moved s)
+              ≡ moved (if z then (row_visited s.0 r, step s.0 s.1 r) else s)
+          either r true = λ t. (row_visited_alike cursor passes s.0 r t, beside.alike s.0 s.1 r cursor passes t)
+          either r false = refl
+
+          by : (o : Option Row) → visited step (moved s) o ≡ moved (visited step s o)
+          by None = refl
+          by (Some r) = either r (is_restless r)
+
+      pub pages_alike : (pages : List GuestPage) (s : BookState × X)
+          → pages_visited step (moved s) pages ≡ moved (pages_visited step s pages)
+      pages_alike [] s = refl
+      pages_alike (page ∷ pages) s = ap (λ z. pages_visited step z pages) (page_alike s page) ∙ pages_alike pages (page_visited step s page)
+
+    -- the first page was visited, and the pass goes on to the others or ends
+    first_done : (page : GuestPage) (done left : List GuestPage) (v : BookState × X)
+        → pages_ahead (record v.0 { cursor = Some page }) ≡ done ++ left
+        → (1 ≤ length (done ++ left)
+        → goes (length done) (record v.0 { cursor = Some page }, v.1)
+        ≡ pass_at done left (pages_visited step (record v.0 { cursor = Some page }, v.1) done))
+        → visits_beside step (length done) (pass_ended_at_last (record v.0 { cursor = Some page }), v.1)
+        ≡ pass_at (page ∷ done) left (pages_visited step v done)
+    first_done page [] [] v is rest =
+        let here : BookState = record v.0 { cursor = Some page } in
+        λ t. (if is_none (none_next here is t) then pass_ended here else here, v.1)
+    first_done page [] (next ∷ left) v is rest =
+        let here : BookState = record v.0 { cursor = Some page } in
+        λ t. (pass_goes_on here next left is t, v.1)
+    first_done page (next ∷ done) left v is rest =
+        let here : BookState = record v.0 { cursor = Some page } in
+        let after = pages_visited step v (next ∷ done) in
+        let passes : after.0.passes ≡ v.0.passes =
+        ap (λ (s : BookState × X). s.0.passes) (pages_alike v.0.cursor v.0.passes (next ∷ done) v) in
+        ap (λ c. visits_beside step (suc (length done)) (c, v.1)) (pass_goes_on here next (done ++ left) is)
+        ∙ visits_go_on (suc (length done)) (here, v.1) (begun_goes_on here page next (done ++ left) refl is) ∙ rest (omega arith)
+        ∙ ap (pass_at (next ∷ done) left) (pages_alike (Some page) v.0.passes (next ∷ done) v)
+        ∙ (λ t. pass_at (next ∷ done) left (record after.0 { cursor = Some page; passes = sym passes t }, after.1))
+        ∙ pass_moved page (next ∷ done) left after
+
+    -- visits from a state in which a visit has begun
+    along : (done left : List GuestPage) (s : BookState × X) → InPageOrder s.0.rows → 1 ≤ length (done ++ left)
+        → pages_ahead s.0 ≡ done ++ left
+        → goes (length done) s ≡ pass_at done left (pages_visited step s done)
+    along [] [] s rise some is = absurd (omega (arith, some))
+    along [] (next ∷ left) s rise some is = refl
+    along (page ∷ done) left s rise some is =
+        let next = some_next s.0 page (done ++ left) is in
+        let row : Row = next.0 in
+        let v : BookState × X = (row_visited s.0 row, step s.0 s.1 row) in
+        let here : BookState × X = (record v.0 { cursor = Some page }, v.1) in
+        let visit : page_visited step s page ≡ v = subst (λ p. page_visited step s p ≡ v) next.2 (next_is_page s row rise next.1) in
+        let going : Goes s.0.rows v.0.rows = subst (λ (z : BookState × X). Goes s.0.rows z.0.rows) visit (page_goes s page rise) in
+        let ahead : pages_ahead here.0 ≡ done ++ left =
+        ap (filter (after_cursor (Some page))) going.mergeable
+        ∙ behind_first s.0.cursor (mergeable_pages s.0.rows) page (done ++ left) (ascending_mergeable s.0.rows rise) is in
+        (λ t. visits_beside step (length done) (next_visited step s (next.1 t)))
+        ∙ (λ t. visits_beside step (length done) (pass_ended_at_last (record v.0 { cursor = Some (next.2 t) }), v.1))
+        ∙ first_done page done left v ahead (λ more. along done left here (going.order rise) more ahead)
+        ∙ ap (λ z. pass_at (page ∷ done) left (pages_visited step z done)) (sym visit)
+
+    -- so many visits as there are pages, of those that were ahead, are the fold over these pages
+    pub visits_folded : (s : BookState × X) (done left : List GuestPage) → InPageOrder s.0.rows → 1 ≤ length done
+        → pages_ahead (visit_begun s.0) ≡ done ++ left
+        → visits_beside step (length done) s ≡ pass_at done left (pages_visited step (begun s) done)
+    visits_folded s [] left rise some is = absurd (omega (arith, some))
+    visits_folded s (page ∷ done) left rise some is =
+        visits_go (length done) s ∙ along (page ∷ done) left (begun s) ((begun_goes s.0).order rise) (omega arith) is
+
+    -- where pages are left, the next visit begins from there
+    pub begun_folded : (s : BookState × X) (done : List GuestPage) (next : GuestPage) (left : List GuestPage) → InPageOrder s.0.rows
+        → pages_ahead (visit_begun s.0) ≡ done ++ next ∷ left
+        → begun (visits_beside step (length done) s) ≡ pass_at done (next ∷ left) (pages_visited step (begun s) done)
+    begun_folded s [] next left rise is = refl
+    begun_folded s (page ∷ done) next left rise is =
+        let b : BookState = visit_begun s.0 in
+        let order = (begun_goes s.0).order rise in
+        let after = pages_visited step (begun s) (page ∷ done) in
+        let last = last_stands page done in
+        let here : BookState = record after.0 { cursor = last_of (Some page) done } in
+        let ahead : pages_ahead here ≡ next ∷ left =
+        ap (filter (after_cursor here.cursor)) (pages_go (page ∷ done) (begun s) order).mergeable
+        ∙ behind_done (page ∷ done) (next ∷ left) b.cursor (mergeable_pages b.rows) (ascending_mergeable b.rows order) is in
+        ap begun (visits_folded s (page ∷ done) (next ∷ left) rise (omega arith) is)
+        ∙ (λ t. (begun_goes_on here last.0 next left last.1 ahead t, after.1))
+
+    -- ---------------------------------------------------------------- pass after pass
+
+    -- a whole pass that changed nothing but which rows wait is repeated by as many as follow
+    module _ (s : BookState × X) (rise : InPageOrder s.0.rows) (some : 1 ≤ length (mergeable_pages s.0.rows)) where
+      abbrev all : List GuestPage
+      all = mergeable_pages s.0.rows
+
+      abbrev settled_book : BookState × X
+      settled_book = (with_none_waiting s.0, s.1)
+
+      abbrev after : BookState × X
+      after = pages_visited step settled_book all
+
+      -- as such a pass ends, with so many ended
+      abbrev ended : ℕ → BookState × X
+      ended passes = (record after.0 { cursor = None; passes = passes }, s.1)
+
+      module _ (still : IsStill settled_book after) where
+        begins_alike : (passes : ℕ) → begun (ended passes) ≡ (elsewhere None passes (with_none_waiting s.0), s.1)
+        begins_alike passes =
+            λ t. (record (still.rest t) { rows = (still.rows ∙ settled_twice s.0.rows) t; cursor = None; passes = passes }, s.1)
+
+        again : (passes : ℕ) → visits_beside step (length all) (ended passes) ≡ ended (min (passes + 1) (2 ^ 64 - 1))
+        again passes =
+            let order : InPageOrder after.0.rows =
+            (pages_go all settled_book ((settled_goes s.0.rows).order rise)).order ((settled_goes s.0.rows).order rise) in
+            let ahead : pages_ahead (visit_begun (ended passes).0) ≡ all ++ [] =
+            ap (λ (z : BookState × X). pages_ahead z.0) (begins_alike passes) ∙ every_page (map settled s.0.rows)
+            ∙ (settled_goes s.0.rows).mergeable ∙ sym (append-nil all) in
+            visits_folded (ended passes) all [] order some ahead ∙ ap (λ z. pass_at all [] (pages_visited step z all)) (begins_alike passes)
+            ∙ ap (pass_at all []) (pages_alike None passes all settled_book)
+            ∙ (λ t. (record after.0 { cursor = None; passes = min (passes + 1) (2 ^ 64 - 1) }, still.beside t))
+
+        again_times : (times passes : ℕ) → passes ≤ 2 ^ 64 - 1
+            → visits_beside step (times * length all) (ended passes) ≡ ended (min (passes + times) (2 ^ 64 - 1))
+        again_times zero passes small =
+            let same : passes ≡ min (passes + 0) (2 ^ 64 - 1) = omega (arith, small) in
+            ap (λ m. visits_beside step m (ended passes)) (zero-mul (length all)) ∙ ap ended same
+        again_times (suc times) passes small =
+            let so_far : ℕ = min (passes + times) (2 ^ 64 - 1) in
+            let more : min (so_far + 1) (2 ^ 64 - 1) ≡ min (passes + suc times) (2 ^ 64 - 1) = omega (arith, small) in
+            beside_on (times * length all) (length all) (suc times * length all) (ended passes) (omega (arith, suc-mul times (length all)))
+            ∙ ap (visits_beside step (length all)) (again_times times passes small)
+            ∙ again so_far ∙ ap ended more
+
+        pub repeats : (times : ℕ) → visits_beside step (times * length all) (pass_ended after.0, after.1)
+            ≡ (record (pass_ended after.0) { passes = min ((pass_ended after.0).passes + times) (2 ^ 64 - 1) }, after.1)
+        repeats times =
+            subst (λ x. visits_beside step (times * length all)
+            (pass_ended after.0, x) ≡ (record (pass_ended after.0) { passes = min ((pass_ended after.0).passes + times) (2 ^ 64 - 1) }, x))
+            (sym still.beside) (again_times times (pass_ended after.0).passes (omega arith))

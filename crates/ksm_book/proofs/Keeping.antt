@@ -1,0 +1,254 @@
+-- The keeper's steps as changes of a placement, and the lives that they spend.
+use Rattle.ksm_book.proofs.Names.{[], Add, added, All, All-filter, All-head, All-tail, ap, arith, blank, Bool, cases_lt, cond, count_in, did, DupRow, Dying, dying_kind, dying_on, false, Filling, filter_passes, FitsBase, frame_at, Frames, frames_of, Free, GenerationFits, get_or, get_or-range_with_len, get_or_past, IfSome, inl, inr, KeeperView, Kind, leaving, Ledger, ledger_after, length, length-range_with_len, List, lowered, Made, map, May, nat_tests, ne_eqb, None, Note, Option, past_lives, Placed, Private, range_with_len, Reap, reaped, refl, Retired, Row, same_Some, set, Shape, Some, spent, spent_on, Stable, Sub, subst, suc, sum_by, sum_by-cons, sum_by-set, sym, true, uses, with_frame, zero, ℕ, ◌*◌, ◌+◌, ◌-◌, ◌<◌, ◌==◌, ◌∷◌, ◌≡◌, ◌≢◌, ◌≤◌}
+use Rattle.ksm_book.proofs.ByPage.{one_same, one_other}
+use Rattle.ksm_book.proofs.Made.{first_made, none_made, step_made}
+use Rattle.ksm_book.proofs.Noted.{noted}
+use Rattle.ksm_book.proofs.Sweeps.{is_dying_kind}
+
+-- ---------------------------------------------------------------- kinds
+
+not_private : (c : Bool) → ¬ (cond c Retired Free ≡ Private)
+not_private true e = grind (arith, e)
+not_private false e = grind (arith, e)
+
+taken_private : (b : Bool) (kind : Kind) → cond b Dying kind ≡ Private → kind ≡ Private
+taken_private true kind e = grind (arith, e)
+taken_private false kind e = e
+
+fits_reaped : (c : Bool) → FitsBase (cond c Retired Free) 0
+fits_reaped true = refl
+fits_reaped false = refl
+
+fits_taken : (kind : Kind) (n : ℕ) → 1 ≤ n → FitsBase kind n → (b : Bool) → (b ≡ (n == 1)) → FitsBase (cond b Dying kind) (n - 1)
+fits_taken kind n some fits true e = let t : n ≡ 1 = grind (arith, e, nat_tests) in omega arith
+fits_taken Free n some fits false e = let z : n ≡ 0 = fits in omega arith
+fits_taken Filling n some fits false e = absurd fits
+fits_taken Private n some fits false e = let z : n ≡ 1 = fits in absurd (grind (arith, e, z, nat_tests))
+fits_taken Stable n some fits false e = let z : ¬ (n ≡ 1) = λ is. grind (arith, e, is, nat_tests) in omega arith
+fits_taken _ n some fits false e = let z : n ≡ 0 = fits in omega arith
+
+lived_taken : (last n base : ℕ) (kind : Kind) (b : Bool) → 1 ≤ base → FitsBase kind base → GenerationFits last kind n → GenerationFits last (cond b Dying kind) n
+lived_taken last n base kind false some fits h = h
+lived_taken last n base Free true some fits h = let z : base ≡ 0 = fits in absurd (omega arith)
+lived_taken last n base _ true some fits h = h
+
+-- ---------------------------------------------------------------- lives
+
+-- no frame was given more often than it may be
+pub lives_most : (last n : ℕ) (kind : Kind) → GenerationFits last kind n → n ≤ last
+lives_most last n Free h = omega (arith, h)
+lives_most last n _ h = h.1
+
+last_given : (last n : ℕ) (kind : Kind) → n ≡ last → GenerationFits last kind n → 1 ≤ n
+last_given last n Free e h = absurd (omega (arith, h, e))
+last_given last n _ e h = h.0
+
+lived_reaped : (last n : ℕ) (kind : Kind) (c : Bool) → c ≡ (n == last) → GenerationFits last kind n → GenerationFits last (cond c Retired Free) n
+lived_reaped last n kind true e h = let is : n ≡ last = grind (arith, nat_tests, e) in (last_given last n kind is h, lives_most last n kind h)
+lived_reaped last n kind false e h = let ne : n ≢ last = λ is. grind (arith, nat_tests, e, is) in let most = lives_most last n kind h in omega (arith, ne, most)
+
+-- the lives in which a frame does not hold one page alone are among those that it had
+pub past_le : (kind : Kind) (n : ℕ) → past_lives kind n ≤ n
+past_le Free n = omega arith
+past_le _ n = omega arith
+
+past_taken : (c : Bool) (kind : Kind) (n : ℕ) → past_lives kind n ≤ past_lives (cond c Dying kind) n
+past_taken true kind n = past_le kind n
+past_taken false kind n = omega arith
+
+past_reaped : (c : Bool) (kind : Kind) (n : ℕ) → past_lives kind n ≤ past_lives (cond c Retired Free) n
+past_reaped true kind n = past_le kind n
+past_reaped false kind n = past_le kind n
+
+-- the lives spent, where one frame's note is another, differ by those of this frame
+pub spent_set : (k : Ledger) (g : ℕ) (fr : Note) → g < length k.frames → spent (with_frame k g fr) + spent_on (frame_at k g) ≡ spent k + spent_on fr
+spent_set k g fr lt = sum_by-set spent_on k.frames g fr blank lt
+
+-- where a frame has spent no fewer lives, neither has the table
+pub spent_kept : (k : Ledger) (g : ℕ) (fr : Note) → spent_on (frame_at k g) ≤ spent_on fr → spent k ≤ spent (with_frame k g fr)
+spent_kept k g fr le = by k.frames g le
+  where
+    by : (xs : List Note) (i : ℕ) → spent_on (get_or xs i blank) ≤ spent_on fr → sum_by spent_on xs ≤ sum_by spent_on (set xs i fr)
+    by [] i le = omega arith
+    by (x ∷ xs) zero le = let a = sum_by-cons spent_on x xs in let b = sum_by-cons spent_on fr xs in omega (arith, a, b, le)
+    by (x ∷ xs) (suc i) le = let a = sum_by-cons spent_on x xs in let b = sum_by-cons spent_on x (set xs i fr) in let c = by xs i le in omega (arith, a, b, c)
+
+-- ---------------------------------------------------------------- a reference goes
+
+-- a frame in hand is one of the table, and has a reference
+pub held_inside : (sh : Shape) (across : ℕ) (k : Ledger) (rows : List Row) (frame : Frames) (dups : List DupRow) (g : ℕ) → Placed sh across k rows frame dups (Some g)
+    → (g < frames_of sh) × (1 ≤ (frame_at k g).base)
+held_inside sh across k rows frame dups g p =
+    let one = one_same g (Some g) refl in
+    let base = p.bases g in
+    let long = p.frames_long in
+    let some : 1 ≤ (frame_at k g).base = omega (arith, one, base) in (
+      elim (cases_lt g (length k.frames)) [
+        | inl less ↦ omega (arith, less, long)
+        | inr more ↦ absurd (let none : (frame_at k g).base ≡ 0 = ap (λ (x : Note). x.base) (get_or_past k.frames g blank more) in omega (arith, some, none))
+      ],
+      some,
+    )
+
+-- what is in hand may be given back
+pub may_leave : (v : KeeperView) (sh : Shape) → v.table.shape ≡ sh → (across : ℕ) (rows : List Row) (frame : Frames) (dups : List DupRow) (o : Option ℕ)
+    → Placed sh across v.ledger rows frame dups o → IfSome o (λ f. May v (Sub f))
+may_leave v sh same across rows frame dups None p = tt
+may_leave v sh same across rows frame dups (Some g) p =
+    let held = held_inside sh across v.ledger rows frame dups g p in
+    (subst (λ (s : Shape). g < frames_of s) (sym same) held.0, held.1)
+
+-- what was in hand was given back: rows and dups lie lawfully
+pub left_placed : (v w : KeeperView) (o : Option ℕ) → Made v w (leaving o) → (sh : Shape) (across : ℕ) (rows : List Row) (frame : Frames) (dups : List DupRow)
+    → Placed sh across v.ledger rows frame dups o → Placed sh across w.ledger rows frame dups None
+left_placed v w None m sh across rows frame dups p = subst (λ (z : KeeperView). Placed sh across z.ledger rows frame dups None) (sym (none_made v w m)) p
+left_placed v w (Some g) m sh across rows frame dups p =
+    let old : Note = frame_at v.ledger g in
+    let in_hand = held_inside sh across v.ledger rows frame dups g p in
+    let one = one_same g (Some g) refl in
+    let base = p.bases g in
+    subst (λ (z : KeeperView). Placed sh across z.ledger rows frame dups None) (sym (step_made v w (Sub g) m).1)
+    (noted sh across v.ledger rows frame dups (Some g) p g in_hand.0 (lowered old) None (record {
+      wide = p.widths g;
+      lived = lived_taken sh.last_generation old.generation old.base old.kind (old.base == 1) in_hand.1 (p.kinds g) (p.lives g);
+      base = omega (arith, one, base);
+      fits = fits_taken old.kind old.base in_hand.1 (p.kinds g) (old.base == 1) refl;
+      same = λ some. let more : (old.base == 1) ≡ false = ne_eqb old.base 1 (λ e. omega (arith, one, base, some, e)) in (ap (λ (b : Bool). cond b Dying old.kind) more, refl, refl);
+      life = inr (refl, inr (refl, taken_private (old.base == 1) old.kind));
+    }) (λ f ne. sym (one_other f (Some g) (λ e. ne (sym (same_Some g f e))))))
+
+-- a reference given back ends no life
+pub left_spends : (v w : KeeperView) (o : Option ℕ) → Made v w (leaving o) → spent v.ledger ≤ spent w.ledger
+left_spends v w None m = let same = ap (λ (z : KeeperView). spent z.ledger) (none_made v w m) in omega (arith, same)
+left_spends v w (Some g) m =
+    let old : Note = frame_at v.ledger g in
+    let same = ap (λ (z : KeeperView). spent z.ledger) (step_made v w (Sub g) m).1 in
+    let more = spent_kept v.ledger g (lowered old) (past_taken (old.base == 1) old.kind old.generation) in
+    omega (arith, same, more)
+
+-- ---------------------------------------------------------------- a reference comes
+
+-- a reference came on a stable frame, and is in hand: rows and dups lie lawfully
+pub added_placed : (v w : KeeperView) (g : ℕ) → Made v w (Add g ∷ []) → (frame_at v.ledger g).kind ≡ Stable → (sh : Shape) (across : ℕ) (rows : List Row) (frame : Frames) (dups : List DupRow)
+    → g < frames_of sh → Placed sh across v.ledger rows frame dups None → Placed sh across w.ledger rows frame dups (Some g)
+added_placed v w g m stable sh across rows frame dups inside p =
+    let old : Note = frame_at v.ledger g in
+    let one = one_same g (Some g) refl in
+    let base : old.base ≡ uses g frame rows + 0 = p.bases g in
+    let some : 1 ≤ old.base + 1 = omega arith in
+    subst (λ (z : KeeperView). Placed sh across z.ledger rows frame dups (Some g)) (sym (step_made v w (Add g) m).1)
+    (noted sh across v.ledger rows frame dups None p g inside (added old) (Some g) (record {
+      wide = p.widths g;
+      lived = p.lives g;
+      base = omega (arith, one, base);
+      fits = subst (λ (x : Kind). FitsBase x (old.base + 1)) (sym stable) some;
+      same = λ _. (refl, refl, refl);
+      life = inr (refl, inr (refl, λ own. own));
+    }) (λ f ne. one_other f (Some g) (λ e. ne (sym (same_Some g f e)))))
+
+-- a reference that came ends no life
+pub added_spends : (v w : KeeperView) (g : ℕ) → Made v w (Add g ∷ []) → spent v.ledger ≤ spent w.ledger
+added_spends v w g m =
+    let same = ap (λ (z : KeeperView). spent z.ledger) (step_made v w (Add g) m).1 in
+    let more = spent_kept v.ledger g (added (frame_at v.ledger g)) (omega arith) in
+    omega (arith, same, more)
+
+-- ---------------------------------------------------------------- frames are reaped
+
+-- a frame of the table on which nothing is
+abbrev IsLeft : Shape → Ledger → ℕ → Type 0
+IsLeft sh k f = (f < frames_of sh) × ((frame_at k f).base ≡ 0)
+
+-- what holds of each of two notes holds where one is put among others
+pub set_holds : (P : Note → Type 0) (xs : List Note) (i h : ℕ) (y : Note) → P y → P (get_or xs h blank) → P (get_or (set xs i y) h blank)
+set_holds P [] i h y new old = old
+set_holds P (x ∷ xs) zero zero y new old = new
+set_holds P (x ∷ xs) zero (suc h) y new old = old
+set_holds P (x ∷ xs) (suc i) zero y new old = old
+set_holds P (x ∷ xs) (suc i) (suc h) y new old = set_holds P xs i h y new old
+
+module _ (sh : Shape) (k : Ledger) (g found : ℕ) where
+  abbrev old : Note
+  old = frame_at k g
+
+  abbrev after : Bool → Ledger
+  after b = cond b (with_frame k g (reaped sh.last_generation old)) k
+
+  still_left : (h : ℕ) → IsLeft sh k h → IsLeft sh (ledger_after sh k (Reap g) found) h
+  still_left h left = elim (count_in found == 0) as (λ b. IsLeft sh (after b) h) [
+    | true ↦ (left.0, set_holds (λ x. x.base ≡ 0) k.frames g h (reaped sh.last_generation old) refl left.1)
+    | false ↦ left
+  ]
+
+  reap_spends : spent k ≤ spent (ledger_after sh k (Reap g) found)
+  reap_spends = elim (count_in found == 0) as (λ b. spent k ≤ spent (after b)) [
+    | true ↦ spent_kept k g (reaped sh.last_generation old) (past_reaped (old.generation == sh.last_generation) old.kind old.generation)
+    | false ↦ omega arith
+  ]
+
+  reap_placed : (across : ℕ) (rows : List Row) (frame : Frames) (dups : List DupRow) (hand : Option ℕ) → IsLeft sh k g → Placed sh across k rows frame dups hand
+      → Placed sh across (ledger_after sh k (Reap g) found) rows frame dups hand
+  reap_placed across rows frame dups hand left p = elim (count_in found == 0) as (λ b. Placed sh across (after b) rows frame dups hand) [
+    | true ↦
+        let base = p.bases g in
+        let none = left.1 in
+        noted sh across k rows frame dups hand p g left.0 (reaped sh.last_generation old) hand (record {
+          wide = p.widths g;
+          lived = lived_reaped sh.last_generation old.generation old.kind (old.generation == sh.last_generation) refl (p.lives g);
+          base = omega (arith, base, none);
+          fits = fits_reaped (old.generation == sh.last_generation);
+          same = λ some. absurd (omega (arith, base, none, some));
+          life = inr (refl, inr (refl, λ own. absurd (not_private (old.generation == sh.last_generation) own)));
+        }) (λ f ne. refl)
+    | false ↦ p
+  ]
+
+-- frames on which nothing is were reaped: rows and dups lie lawfully
+reaps_placed : (fs : List ℕ) (v w : KeeperView) → Made v w (map Reap fs) → (across : ℕ) (rows : List Row) (frame : Frames) (dups : List DupRow) (hand : Option ℕ)
+    → All (IsLeft v.table.shape v.ledger) fs → Placed v.table.shape across v.ledger rows frame dups hand → Placed v.table.shape across w.ledger rows frame dups hand
+reaps_placed [] v w m across rows frame dups hand left p = subst (λ (z : KeeperView). Placed v.table.shape across z.ledger rows frame dups hand) (sym (none_made v w m)) p
+reaps_placed (f ∷ fs) v w m across rows frame dups hand left p =
+    let sh : Shape = v.table.shape in
+    let first = first_made v w (Reap f) (map Reap fs) m in
+    let rest = All-tail (IsLeft sh v.ledger) f fs left in
+    reaps_placed fs (did v (Reap f) first.0) w first.1 across rows frame dups hand
+    (λ i d lt. still_left sh v.ledger f first.0 (get_or fs i d) (rest i d lt))
+    (reap_placed sh v.ledger f first.0 across rows frame dups hand (All-head (IsLeft sh v.ledger) f fs left) p)
+
+reaps_spend : (fs : List ℕ) (v w : KeeperView) → Made v w (map Reap fs) → spent v.ledger ≤ spent w.ledger
+reaps_spend [] v w m = let same = ap (λ (z : KeeperView). spent z.ledger) (none_made v w m) in omega (arith, same)
+reaps_spend (f ∷ fs) v w m =
+    let first = first_made v w (Reap f) (map Reap fs) m in
+    let here = reap_spends v.table.shape v.ledger f first.0 in
+    let rest = reaps_spend fs (did v (Reap f) first.0) w first.1 in
+    omega (arith, here, rest)
+
+-- the frames of a node end at the end of the table or before it
+pub node_end : (node nodes size : ℕ) → node < nodes → node * size + size ≤ nodes * size
+node_end node nodes size lt = grind arith
+
+-- the dying frames of a node were reaped: rows and dups lie lawfully
+pub searched_placed : (v w : KeeperView) (node : ℕ) → node < v.table.shape.nodes → Made v w (map Reap (dying_on v.table.shape v.ledger node))
+    → (across : ℕ) (rows : List Row) (frame : Frames) (dups : List DupRow) (hand : Option ℕ) → Placed v.table.shape across v.ledger rows frame dups hand
+    → Placed v.table.shape across w.ledger rows frame dups hand
+searched_placed v w node less m across rows frame dups hand p =
+    let sh : Shape = v.table.shape in
+    let size : ℕ = sh.frames_per_node in
+    let low : ℕ = node * size in
+    let dies = λ (f : ℕ). dying_kind (frame_at v.ledger f).kind in
+    let end = node_end node sh.nodes size less in
+    let inside : All (λ f. f < frames_of sh) (range_with_len low size) = λ i d lt.
+    let long = length-range_with_len low size in
+    let at = get_or-range_with_len low size i d (omega (arith, lt, long)) in
+    omega (arith, at, long, lt, end) in
+    reaps_placed (dying_on sh v.ledger node) v w m across rows frame dups hand
+    (λ i d lt.
+    let f : ℕ = get_or (dying_on sh v.ledger node) i d in (
+      All-filter dies (λ f. f < frames_of sh) (range_with_len low size) inside i d lt,
+      subst (λ (x : Kind). FitsBase x (frame_at v.ledger f).base) (is_dying_kind _ (filter_passes dies (range_with_len low size) i d lt)) (p.kinds f),
+    ))
+    p
+
+-- reaping spends no fewer lives
+pub searched_spends : (v w : KeeperView) (node : ℕ) → Made v w (map Reap (dying_on v.table.shape v.ledger node)) → spent v.ledger ≤ spent w.ledger
+searched_spends v w node m = reaps_spend (dying_on v.table.shape v.ledger node) v w m

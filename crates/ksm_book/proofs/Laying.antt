@@ -1,0 +1,224 @@
+-- What becomes of pages that lie lawfully, where the keeper makes its steps.
+use Rattle.ksm_book.proofs.Names.{[], All, ap, arith, blank, change_row, default_knobs, DupFits, DupRow, false, find_all, first_ledger, FitsBase, frame_at, Frames, frames_of, GenerationFits, get_or, GuestPage, holding, Houses, inl, InPageOrder, inr, IsLaid, IsLawful, IsReadable, IsServed, IsShape, KeeperView, Keeps, Kind, kind_for, Knobs, Ledger, length, length-replicate, lies_on, List, Listing, map, MatchOption, Merged, merged_into, None, Note, nowhere, Option, PAGE_WORDS, PageState, PagesView, Placed, Private, refl, replicate, Row, row_at, same_page, Shape, shared_state, slice_index_or, Some, spent, subst, suc, sym, Took, true, with_frame, with_row, Zero, zero, zero_state, ℕ, ◌/◌, ◌<◌, ◌∙◌, ◌≡◌, ◌≤◌, ◌⊎◌}
+use Rattle.ksm_base.specs.declared.row.PageState.TheVariants.{Private as OwnPage}
+use Rattle.ksm_book.proofs.ByPage.{found_page}
+use Rattle.ksm_book.proofs.Keeping.{spent_kept}
+use Rattle.ksm_book.proofs.Moves.{Serves, framed, inserted, own_agrees, remapped, swapped, written_in}
+
+module _ (sh : Shape) (across : ℕ) (v : KeeperView) (rows : List Row) (frame : Frames) (dups : List DupRow) (hand : Option ℕ) (same : v.table.shape ≡ sh) where
+  -- a placement by this shape is one by the shape of the keeper's table
+  at_table : Placed sh across v.ledger rows frame dups hand → Placed v.table.shape across v.ledger rows frame dups hand
+  at_table p = subst (λ (s : Shape). Placed s across v.ledger rows frame dups hand) (sym same) p
+
+  -- a placement by the shape of the table is lawful as the keeper sees it
+  pub lawful : Placed sh across v.ledger rows frame dups hand → IsLawful v hand
+  lawful p = (across, rows, frame, dups, at_table p)
+
+  -- a call keeps it
+  pub kept : (w : KeeperView) (hand' : Option ℕ) → Keeps v w hand hand' → Placed sh across v.ledger rows frame dups hand → Placed sh across w.ledger rows frame dups hand'
+  kept w hand' keeps p = subst (λ (s : Shape). Placed s across w.ledger rows frame dups hand') same (keeps across rows frame dups (at_table p))
+
+-- a keeper of the same table has its shape
+pub shape_same : (sh : Shape) (v w : KeeperView) → v.table.shape ≡ sh → w.table ≡ v.table → w.table.shape ≡ sh
+shape_same sh v w same e = ap (λ x. x.shape) e ∙ same
+
+-- the frame taken serves a row with its bytes on its home
+module _ (sh : Shape) (across : ℕ) (v w : KeeperView) (rows : List Row) (frame : Frames) (dups : List DupRow) (same : v.table.shape ≡ sh) (node : ℕ) (bytes : List ℕ) (g : ℕ) (took : Took v w node bytes g) (p : Placed sh across v.ledger rows frame dups None) where
+  in_new_hand : Placed sh across w.ledger rows frame dups (Some g)
+  in_new_hand = kept sh across v rows frame dups None same w (Some g) took.keeps p
+
+  serves : (r : Row) → r.state ≡ OwnPage → r.home ≡ node → r.bytes ≡ bytes → Serves sh w.ledger dups r g
+  serves r own home content = (
+    record {
+      mapped = ap zero_state own;
+      frame = subst (λ (s : Shape). g < frames_of s) same took.frame;
+      kind = took.kind ∙ ap kind_for (sym own);
+      content = took.content ∙ sym content;
+      given = took.given;
+      node = λ _. subst (λ (s : Shape). g / s.frames_per_node ≡ node) same took.node ∙ sym home;
+    },
+    own_agrees sh across w.ledger rows frame dups (Some g) in_new_hand r g (λ n. ap (merged_into n) own) took.kind,
+  )
+
+  -- a page moves to it, and its old frame comes into the hand
+  pub moved_there : (page : GuestPage) (c : Row → Row) → InPageOrder rows → Houses c page node bytes rows → Placed sh across w.ledger (change_row page c rows) (lies_on page (Some g) frame) dups (frame page)
+  moved_there page c rise houses = by (row_at page rows) refl houses.row
+    where
+      by : (o : Option Row) → row_at page rows ≡ o → MatchOption o ⊥ (λ r. ((c r).state ≡ OwnPage) × ((c r).home ≡ node) × ((c r).bytes ≡ bytes))
+          → Placed sh across w.ledger (change_row page c rows) (lies_on page (Some g) frame) dups (frame page)
+      by None found none = absurd none
+      by (Some row) found h = swapped sh across w.ledger rows frame dups (Some g) page c row rise found houses.pages in_new_hand (serves (c row) h.0 h.1 h.2)
+
+  -- a row comes on it
+  pub come_there : (r : Row) → row_at r.page rows ≡ None → r.state ≡ OwnPage → r.home ≡ node → r.bytes ≡ bytes → Placed sh across w.ledger (with_row r rows) (lies_on r.page (Some g) frame) dups None
+  come_there r absent own home content = inserted sh across w.ledger rows frame dups (Some g) r absent in_new_hand (serves r own home content)
+
+-- the frame of a page with one of its own
+pub own_kind : (s : PageState) → shared_state s ≡ false → kind_for s ≡ Private
+own_kind (Merged d) e = absurd (grind (arith, e))
+own_kind Zero e = absurd (grind (arith, e))
+own_kind _ e = refl
+
+-- a page that is not shared is no item of any dup
+pub own_item : (s : PageState) → shared_state s ≡ false → (n : ℕ) → merged_into n s ≡ false
+own_item (Merged d) e n = absurd (grind (arith, e))
+own_item _ e n = refl
+
+-- a page with a frame of its own has one
+pub own_framed : (s : PageState) → shared_state s ≡ false → zero_state s ≡ false
+own_framed Zero e = absurd (grind (arith, e))
+own_framed _ e = refl
+
+-- a row may stand in the stead of another on the same frame
+abbrev pub LodgesAs : Row → Row → Type 0
+LodgesAs row r = (row.home ≡ r.home) × (row.bytes ≡ r.bytes) × ((row.state ≡ r.state) ⊎ ((shared_state r.state ≡ false) × (shared_state row.state ≡ false)))
+
+module _ (sh : Shape) (across : ℕ) (k : Ledger) (rows : List Row) (frame : Frames) (dups : List DupRow) (hand : Option ℕ) (p : Placed sh across k rows frame dups hand) where
+  -- a row that may stand in the stead of another is served by its frame
+  module _ (old r : Row) (f : ℕ) (served : Serves sh k dups old f) where
+    same_state : r.state ≡ old.state → r.home ≡ old.home → r.bytes ≡ old.bytes → Serves sh k dups r f
+    same_state s home bytes = subst (λ (z : PageState × ℕ × List ℕ). Serves sh k dups (record { page = r.page; home = z.1; bytes = z.2; mergeable = r.mergeable; unchanged = r.unchanged; state = z.0 }) f) (λ t. (sym s t, sym home t, sym bytes t)) (
+      record { mapped = served.0.mapped; frame = served.0.frame; kind = served.0.kind; content = served.0.content; given = served.0.given; node = served.0.node },
+      λ j d lt. let a = served.1 j d lt in record { item = a.item; back = a.back },
+    )
+
+    both_own : shared_state old.state ≡ false → shared_state r.state ≡ false → r.home ≡ old.home → r.bytes ≡ old.bytes → Serves sh k dups r f
+    both_own was now home bytes =
+        let kind : (frame_at k f).kind ≡ Private = served.0.kind ∙ own_kind old.state was in (
+          record { mapped = own_framed r.state now; frame = served.0.frame; kind = kind ∙ sym (own_kind r.state now); content = served.0.content ∙ sym bytes; given = served.0.given; node = λ _. served.0.node was ∙ sym home },
+          own_agrees sh across k rows frame dups hand p r f (own_item r.state now) kind,
+        )
+
+    lodged : LodgesAs r old → Serves sh k dups r f
+    lodged (home, bytes, inl s) = same_state s home bytes
+    lodged (home, bytes, inr own) = both_own own.0 own.1 home bytes
+
+  lodged_as : (old r : Row) (o : Option ℕ) → LodgesAs r old → IsServed sh k dups old o → IsServed sh k dups r o
+  lodged_as old r (Some f) lodges served = lodged old r f served lodges
+  lodged_as old r None (home, bytes, inl s) served = ap zero_state s ∙ served
+  lodged_as old r None (home, bytes, inr own) served = absurd (let none = own_framed old.state own.0 in grind (arith, none, served))
+
+  -- rows may change each into one that stands in its stead on its frame
+  pub lodged_rows : (c : Row → Row) → ((r : Row) → (c r).page ≡ r.page) → All (λ r. LodgesAs (c r) r) rows → Placed sh across k (map c rows) frame dups hand
+  lodged_rows c keeps lodges = remapped sh across k rows frame dups hand c keeps p (λ i d lt. let r = get_or rows i d in lodged_as r (c r) (frame r.page) (lodges i d lt))
+
+  -- the row of a page is served by its frame
+  pub served_at : (page : GuestPage) (row : Row) → row_at page rows ≡ Some row → IsServed sh k dups row (frame page)
+  served_at page row found = subst (λ q. IsServed sh k dups row (frame q)) (found_page page rows row found) (find_all (λ r. same_page r.page page) (λ r. IsServed sh k dups r (frame r.page)) rows row found p.each_row)
+
+module _ (p : PagesView) (k : KeeperView) (h : IsLaid p k) where
+  abbrev across : ℕ
+  across = p.knobs.merge_across_nodes
+
+  abbrev sh : Shape
+  sh = p.shape
+
+  -- what the keeper knows by other names
+  pub laid_kept : (w : KeeperView) → w.table ≡ k.table → Keeps k w None None → spent k.ledger ≤ spent w.ledger → IsLaid p w
+  laid_kept w e keeps more = record {
+    small = h.small;
+    same = shape_same sh k w h.same e;
+    placed = kept sh across k p.rows p.frame p.dups None h.same w None keeps h.placed;
+    spent = (let s = h.spent in omega (arith, s, more));
+  }
+
+  pub laid_same : (w : KeeperView) → w.table ≡ k.table → w.ledger ≡ k.ledger → IsLaid p w
+  laid_same w t l = record {
+    small = h.small;
+    same = shape_same sh k w h.same t;
+    placed = subst (λ (z : Ledger). Placed sh across z p.rows p.frame p.dups None) (sym l) h.placed;
+    spent = subst (λ (z : Ledger). p.next ≤ spent z) (sym l) h.spent;
+  }
+
+  -- other rows that lie lawfully, where no dup was made
+  pub laid_rows : (rows : List Row) (frame : Frames) (restless : Listing) (w : KeeperView) → w.table ≡ k.table → spent k.ledger ≤ spent w.ledger → Placed sh across w.ledger rows frame p.dups None
+      → IsLaid (record p { rows = rows; frame = frame; restless = restless }) w
+  laid_rows rows frame restless w e more placed = record {
+    small = h.small;
+    same = shape_same sh k w h.same e;
+    placed = placed;
+    spent = (let s = h.spent in omega (arith, s, more));
+  }
+
+  -- each row changes on its frame
+  pub laid_mapped : (c : Row → Row) (restless : Listing) → ((r : Row) → (c r).page ≡ r.page) → All (λ r. LodgesAs (c r) r) p.rows → IsLaid (record p { rows = map c p.rows; restless = restless }) k
+  laid_mapped c restless keeps lodges = laid_rows (map c p.rows) p.frame restless k refl (omega arith) (lodged_rows sh across k.ledger p.rows p.frame p.dups None h.placed c keeps lodges)
+
+  -- a row that is not Zero has a frame
+  pub has_frame : (page : GuestPage) (row : Row) → row_at page p.rows ≡ Some row → zero_state row.state ≡ false → (f : ℕ) × (p.frame page ≡ Some f) × Serves sh k.ledger p.dups row f
+  has_frame page row found other = framed sh k.ledger p.dups row (p.frame page) other (served_at sh across k.ledger p.rows p.frame p.dups None h.placed page row found)
+
+  -- the row of a page with a frame of its own is written in place
+  pub laid_written : (page : GuestPage) (row : Row) (c : Row → Row) (restless : Listing) (w : KeeperView) (g : ℕ) → InPageOrder p.rows → row_at page p.rows ≡ Some row → ((r : Row) → (c r).page ≡ r.page) → p.frame page ≡ Some g
+      → w.table ≡ k.table → w.ledger ≡ with_frame k.ledger g (holding (frame_at k.ledger g) (c row).bytes) → length (c row).bytes ≡ PAGE_WORDS → shared_state row.state ≡ false → (c row).home ≡ row.home → (c row).state ≡ OwnPage
+      → IsLaid (record p { rows = change_row page c p.rows; restless = restless }) w
+  laid_written page row c restless w g rise found keeps lies e ledger wide alone home is =
+      let served : Serves sh k.ledger p.dups row g = subst (IsServed sh k.ledger p.dups row) lies (served_at sh across k.ledger p.rows p.frame p.dups None h.placed page row found) in
+      let kind : (frame_at k.ledger g).kind ≡ Private = served.0.kind ∙ own_kind row.state alone in
+      let fr : Note = holding (frame_at k.ledger g) (c row).bytes in
+      let more : spent k.ledger ≤ spent (with_frame k.ledger g fr) = spent_kept k.ledger g fr (omega arith) in
+      let end : spent w.ledger ≡ spent (with_frame k.ledger g fr) = ap spent ledger in
+      laid_rows (change_row page c p.rows) p.frame restless w e (omega (arith, more, end))
+      (subst (λ (z : Ledger). Placed sh across z (change_row page c p.rows) p.frame p.dups None) (sym ledger)
+      (written_in sh across k.ledger p.rows p.frame p.dups h.placed page row rise found g lies kind c keeps fr kind refl refl wide
+      (ap zero_state is) (ap kind_for is) (λ n. ap (merged_into n) is) home refl alone))
+
+-- the frame of a row may be read
+pub readable : (x : Kind) (s : PageState) → zero_state s ≡ false → x ≡ kind_for s → IsReadable x
+readable x Zero framed e = absurd (grind (arith, framed))
+readable x _ framed e = subst IsReadable (sym e) tt
+
+-- other knobs, of which merge_across_nodes speaks of dups alone
+pub retuned : (p : PagesView) (tuned : Knobs) (k : KeeperView) → (tuned.merge_across_nodes ≡ p.knobs.merge_across_nodes) ⊎ (p.dups ≡ []) → IsLaid p k → IsLaid (record p { knobs = tuned }) k
+retuned p tuned k (inl same) h = record {
+  small = h.small;
+  same = h.same;
+  placed = subst (λ a. Placed p.shape a k.ledger p.rows p.frame p.dups None) (sym same) h.placed;
+  spent = h.spent;
+}
+retuned p tuned k (inr none) h = record {
+  small = h.small;
+  same = h.same;
+  placed = (let q = h.placed in record {
+    frames_long = q.frames_long;
+    places_long = q.places_long;
+    widths = q.widths;
+    lives = q.lives;
+    each_row = q.each_row;
+    each_dup = subst (All (DupFits p.shape tuned.merge_across_nodes k.ledger)) (sym none) (λ i d lt. absurd (omega (arith, lt)));
+    bases = q.bases;
+    kinds = q.kinds;
+    empty = q.empty;
+  });
+  spent = h.spent;
+}
+
+-- ---------------------------------------------------------------- no rows
+
+same_in : {A : Type 0} (n i : ℕ) (a : A) → slice_index_or (replicate n a) i a ≡ a
+same_in zero i a = refl
+same_in (suc n) zero a = refl
+same_in (suc n) (suc i) a = same_in n i a
+
+first_note : (sh : Shape) (f : ℕ) → frame_at (first_ledger sh) f ≡ blank
+first_note sh f = same_in (frames_of sh) f blank
+
+-- the pages as they are opened
+pub first_laid : (sh : Shape) (k : KeeperView) → IsShape sh → k.table.shape ≡ sh → k.ledger ≡ first_ledger sh
+    → IsLaid (record { shape = sh; rows = []; frame = nowhere; dups = []; knobs = default_knobs; next = 0; restless = record { pages = []; known = true } }) k
+first_laid sh k is same first = record {
+  small = is;
+  same = same;
+  placed = subst (λ (z : Ledger). Placed sh default_knobs.merge_across_nodes z [] nowhere [] None) (sym first) (record {
+    frames_long = length-replicate (frames_of sh) blank;
+    places_long = length-replicate (frames_of sh) None;
+    widths = λ f. ap (λ (n : Note). length n.content) (first_note sh f) ∙ length-replicate {A = ℕ} PAGE_WORDS 0;
+    lives = λ f. subst (λ (n : Note). GenerationFits sh.last_generation n.kind n.generation) (sym (first_note sh f)) (let low = is.generation_low in omega (arith, low));
+    each_row = λ i d lt. absurd (omega (arith, lt));
+    each_dup = λ i d lt. absurd (omega (arith, lt));
+    bases = λ f. ap (λ (n : Note). n.base) (first_note sh f);
+    kinds = λ f. subst (λ (n : Note). FitsBase n.kind n.base) (sym (first_note sh f)) refl;
+    empty = λ p none. same_in (frames_of sh) p None;
+  });
+  spent = omega arith;
+}

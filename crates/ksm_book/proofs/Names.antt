@@ -1,0 +1,97 @@
+-- The definitions, and the laws of the libraries and crates below, by their names, for proofs.
+pub use Rattle.frame_core.specs.Ledger.{added, blank, filled, first_ledger, frame_at, frozen, IsLoose, IsReadable, IsWritable, ledger_after, lowered, named_at, opened, raised, reaped, shown, with_frame}
+pub use Rattle.frame_core.specs.Rule.{GenerationFits}
+pub use Rattle.frame_core.specs.State.{count_in}
+pub use Rattle.frame_core.specs.declared.event.KeeperStep.{KeeperStep}
+pub use Rattle.frame_core.specs.declared.event.KeeperStep.TheVariants.{Add, Freeze, Open, Publish, Put, Raise, Reap, Sub, Withdraw, Word}
+pub use Rattle.frame_core.specs.declared.frame.Kind.{Kind}
+pub use Rattle.frame_core.specs.declared.frame.Kind.TheVariants.{Dying, Filling, Free, Private, Retired, Stable}
+pub use Rattle.frame_core.specs.declared.ledger.Ledger.{Ledger}
+pub use Rattle.frame_core.specs.declared.ledger.Note.{Note}
+pub use Rattle.frame_core.specs.declared.seat.Life.{Life}
+pub use Rattle.frame_table.specs.Kept.{did, May}
+pub use Rattle.frame_table.specs.Named.{KeeperView}
+pub use Rattle.ksm_base.proofs.Edits.{count_more, count_none, counts_one, find_all, find_none, find_nothing, find_passes, none_counted}
+pub use Rattle.ksm_base.proofs.Orders.{all_with_row, each_has_number, filter_none, one_of_each_page, one_of_each_place, ordered_change, ordered_filter, ordered_map, ordered_with, pairs_append, pairs_cross, pairs_head, pairs_tail}
+pub use Rattle.ksm_base.proofs.Pages.{after_differs, before_differs, before_irrefl, before_trans, not_both, one_before, same_page_eq, same_page_refl}
+pub use Rattle.ksm_base.proofs.RowCounts.{change_none, count_with_row, count_without_page, each_at_page, filter_all}
+pub use Rattle.ksm_base.proofs.SoundCounts.{joined_count}
+pub use Rattle.ksm_base.proofs.SoundEdits.{no_dup_lives, sound_settings}
+pub use Rattle.ksm_base.proofs.SoundItems.{dup_of_item, home_of_item}
+pub use Rattle.ksm_base.proofs.SoundKnobs.{none_shared, sound_set_across, sound_set_limit}
+pub use Rattle.ksm_base.proofs.SoundPair.{IsFree, new_place_free, next_is_new, waits_tells, WaitsFor}
+pub use Rattle.ksm_base.proofs.SoundScan.{sound_cursor, sound_none_waiting, sound_row_visited}
+pub use Rattle.ksm_base.proofs.SoundSteps.{sound_after, sound_opening}
+pub use Rattle.ksm_base.proofs.SoundVisit.{best_dup_has_room, IsJoined}
+pub use Rattle.ksm_base.proofs.Visits.{rowwise_visits}
+pub use Rattle.ksm_base.specs.Answers.{Answer, every_row, frame_needed, IsAnswerOrMemory, IsAnswerUnless, IsDoneOr, IsScanned, IsUnmerged, shared_rows}
+pub use Rattle.ksm_base.specs.Apply.{after, effect, fresh_row, is_before, let_go, moved, scan_stopped, stored, unshare_stopped, unshared}
+pub use Rattle.ksm_base.specs.Counting.{counters_of, mergeable_count}
+pub use Rattle.ksm_base.specs.Journal.{Entry, IsLegal, last_stored, ReadsLastStored, replay}
+pub use Rattle.ksm_base.specs.Reading.{bytes_of, items_of, mappers_of, ticket_of}
+pub use Rattle.ksm_base.specs.Refusals.{changes_while_shared, crosses, has_guest, is_no_node, is_of, live_dup_at, refusal, refused_if}
+pub use Rattle.ksm_base.specs.Rows.{change_row, change_rows, comes_before, dup_numbered, has_items, InPageOrder, InPlaceOrder, is_stale, item_count, merged_into, merged_state, private_state, row_at, same_page, settled, settled_state, shared_state, waiting_state, with_dup, with_row, without_page, zero_state}
+pub use Rattle.ksm_base.specs.Sound.{IsDupOf, IsSound}
+pub use Rattle.ksm_base.specs.State.{BookState, default_knobs, opening, pass_ended, place_count, tree_of, with_none_waiting}
+pub use Rattle.ksm_base.specs.Values.{frames_of, IsShape}
+pub use Rattle.ksm_base.specs.Visit.{after_cursor, best_dup, empty_from, handled, is_best, is_for_zero, may_join, new_place, next_row, paired, partner, pass_begun, pass_ended_at_last, place_or, row_visited, stayed, visit, visit_begun, visit_of, visits, waits_for}
+pub use Rattle.ksm_base.specs.declared.command.Command.{Command}
+pub use Rattle.ksm_base.specs.declared.command.Command.TheVariants.{Drop, Mergeable, MoveDup, MovePage, Prune, Register, Scan, SetAcross, SetLimit, SetPagesToScan, SetRun, SetZeroPages, Store, Unmerge}
+pub use Rattle.ksm_base.specs.declared.fault.Fault.{Fault}
+pub use Rattle.ksm_base.specs.declared.fault.Fault.TheVariants.{AlreadyRegistered, BadNode, BadValue, CrossesNodes, InUse, Memory, NoFrame, NotRunning, SharedPages, UnknownPage, UnknownPlace}
+pub use Rattle.ksm_base.specs.declared.knobs.Knobs.{Knobs}
+pub use Rattle.ksm_base.specs.declared.page.GuestPage.{GuestPage}
+pub use Rattle.ksm_base.specs.declared.page.TheConstants.{PAGE_WORDS}
+pub use Rattle.ksm_base.specs.declared.reply.Reply.{Reply}
+pub use Rattle.ksm_base.specs.declared.reply.Reply.TheVariants.{Done, Pruned, Scanned, Unmerged}
+pub use Rattle.ksm_base.specs.declared.row.DupRow.{DupRow}
+pub use Rattle.ksm_base.specs.declared.row.PageState.{PageState}
+pub use Rattle.ksm_base.specs.declared.row.PageState.TheVariants.{Merged, Waiting, Zero}
+pub use Rattle.ksm_base.specs.declared.row.Row.{Row}
+pub use Rattle.ksm_base.specs.declared.shape.Shape.{Shape}
+pub use Rattle.ksm_book.specs.Carried.{CarriedOut, JournaledBook, MovesTo, StoresTo, TakesSteps, unjournaled, UnmergesTo}
+pub use Rattle.ksm_book.specs.Commands.{Deed, dup_frame, emptying, Finds, FindsHeld, FindsNone, frame_found, frame_number, frame_on, handling, idle, instead, IsIdle, joining, leaving, Mapped, mounting, Moves, pairing, Performs, Provides, pruning, Resettles, ResettlesEach, rewriting, row_visiting, scanning, staying, then_doing, TurnsAway, visiting, visiting_of, withdrawing}
+pub use Rattle.ksm_book.specs.Folded.{begun, IsBeside, IsStill, last_of, mergeable_pages, next_visited, page_visited, pages_ahead, pages_visited, pass_at, restless_at, restless_row, visited, visits_beside}
+pub use Rattle.ksm_book.specs.FrameSets.{AreSets, has, HasNone, IsFirstOf, IsLeast, IsSetOf, Marks, NoneOf}
+pub use Rattle.ksm_book.specs.Keeping.{holding, IsLawful, Keeps, NoneLeft, past_lives, spent, spent_on, Took}
+pub use Rattle.ksm_book.specs.Laid.{Houses, IsLaid, LoadsIf, lying, MovesOr, Resettled, state_of, TurnedAway}
+pub use Rattle.ksm_book.specs.Mounted.{HasLost, HasMoved, IsMoved}
+pub use Rattle.ksm_book.specs.Placement.{Agrees, DupFits, FitsBase, in_hand, is_frame, IsInLife, IsServed, kind_for, life_or, node_of, place_frame, place_life, Placed, RowFits, uses}
+pub use Rattle.ksm_book.specs.Promised.{dup_frames, FindsPlace, HasItsOwn, is_in_use, IsOutlived, LieOn, NumbersAreSmall, own_frames, StandsOn}
+pub use Rattle.ksm_book.specs.Scanned.{AreListed, Comes, doing, EndsAt, from_to, HasScanned, HasStayed, is_nowhere, IsForZero, last_visited, ListsAll, MayJoin, MeetsPage, Reached, up_to, VisitsPage}
+pub use Rattle.ksm_book.specs.Steps.{along, Did, Does, dying_from, dying_kind, dying_on, free_kind, given_by, Gives, IsLowestFree, IsNeeded, loads, Log, Made, needed_after, puts, replayed, stepped, steps_of}
+pub use Rattle.ksm_book.specs.Unmerged.{Gave, HasLeft, is_shared_of, IsStop, left_by, MayNotLeave, shared_of, Unshares}
+pub use Rattle.ksm_book.specs.Whole.{BookValue, BookView, HasShown, listed, mapped, nodes_got, view_of}
+pub use Rattle.ksm_book.specs.Worked.{apart, page, together}
+pub use Rattle.ksm_pages.specs.Held.{Listing}
+pub use Rattle.ksm_pages.specs.Paged.{ComesTo, dup_of_row, elsewhere, FindsAt, Frames, HasRoom, is_item, is_next, is_restless, IsAlone, IsHeld, IsKnown, IsVacant, items_on, last_page, lies_on, MayPair, nowhere, of_guest, on_its_own, PagesValue, PagesView, rows_ahead, rows_between, seen}
+pub use Rattle.ksm_pages.specs.declared.ahead.Ahead.{Ahead}
+pub use Rattle.ksm_pages.specs.declared.ahead.Ahead.TheVariants.{At, End}
+pub use Rattle.ksm_pages.specs.declared.pages.Find.{Find}
+pub use Rattle.ksm_pages.specs.declared.pages.Find.TheVariants.{Dup, Partner}
+pub use Rattle.ksm_pages.specs.declared.pages.Held.{Held}
+pub use Rattle.ksm_rmap.specs.Items.{AreAscending, has_item}
+pub use Rattle.ksm_tree.specs.declared.dup.Best.{Best}
+pub use Rattle.std.proofs.Common.{[], ap, append-nil, append_assoc, arith, Bool, cond, drop, eq-eqb, Err, false, get_or, get_or-set_other, get_or-set_same, inl, inr, IsSome, length, length-set, List, map, None, Ok, Option, refl, replicate, rules, set, shr-shr, slice_index_or, Some, subst, suc, suc-mul, sym, take, take_all, true, true≢false, w64, zero, zero-mul, ℕ, ◌%◌, ◌*◌, ◌++◌, ◌+◌, ◌-◌, ◌/◌, ◌<◌, ◌^◌, ◌∙◌, ◌∷◌, ◌≡◌, ◌≢◌, ◌≤◌, ◌⊎◌}
+pub use Rattle.std.proofs.Math.Bool.{and-true, or-false}
+pub use Rattle.std.proofs.Math.Dec.{eqb}
+pub use Rattle.std.proofs.Math.ListN.{drop_of_length-le}
+pub use Rattle.std.proofs.Math.Nat.{div-le_self, mul_comm}
+pub use Rattle.std.proofs.Math.Seq.{take-append_seam}
+pub use Rattle.std.proofs.lemmas.Bool.{and_parts, and_right, both_ways, cases_Bool, cases_eq, cases_lt, cases_order, cond-false, cond-true, cond_both, eqb-true, false≢true, leb-true, lt-ltb, ltb-true, ne_eqb, not-false, not-true, or_right}
+pub use Rattle.std.proofs.lemmas.Bool.Decides.{nat_tests}
+pub use Rattle.std.proofs.lemmas.List.{append_cancel_left, drop-append-le, drop_more, get_or-drop, get_or-map, get_or-take, get_or_default, get_or_past, length-append, length-drop, length-map, length-replicate, length-take, length-take-le, map-append, replicate-append-replicate, set-get_or, take-append-drop, take_more}
+pub use Rattle.std.proofs.lemmas.List.Elements.{All-append, All-cons, All-contains_itself, All-filter, All-head, All-map, All-tail, All-weaker, Contains-append_left, Contains-append_right, Contains-push, filter-append, filter_passes}
+pub use Rattle.std.proofs.lemmas.List.Folds.{list_any-append, list_any_at, list_any_none}
+pub use Rattle.std.proofs.lemmas.List.FromFn.{get_or-range_with_len, length-range_with_len}
+pub use Rattle.std.proofs.lemmas.List.Kept.{AllPairs-cons, AllPairs-filter}
+pub use Rattle.std.proofs.lemmas.List.Sums.{count_by-le-length, length-filter, sum_by-cons, sum_by-le, sum_by-set}
+pub use Rattle.std.proofs.lemmas.Map.Keys.{IsDistinct-from_apart}
+pub use Rattle.std.proofs.lemmas.Map.Steps.{length-le_from_distinct_below}
+pub use Rattle.std.proofs.lemmas.Map.Views.{any-filter_same, Contains-from_any}
+pub use Rattle.std.proofs.lemmas.Nat.{div-mul-add}
+pub use Rattle.std.proofs.lemmas.Nat.Bits.{bit_at-trailing_zeros, bit_at-zero, bit_at_above, bit_at_clear_other, bit_at_clear_same, bit_at_ones, bit_at_set_other, bit_at_set_same}
+pub use Rattle.std.proofs.lemmas.Option.{get_or_from_slice_get, same_Some, slice_get-get_or, slice_get-map, slice_get_past, slice_get_within}
+pub use Rattle.std.specs.Int.{bit_at, trailing_zeros}
+pub use Rattle.std.specs.List.{list_any, range_with_len, sum_by}
+pub use Rattle.std.specs.Prelude.{All, AllPairs, Contains, count_by, filter, find, IfErr, IfSome, if◌then◌else◌, is_none, is_some, MatchBool, MatchOption, max, min, nat_le, nat_lt, not, option_and_then, option_map, Result, slice_get, slice_index, slice_set, ⊤, ◌&&◌, ◌==◌, ◌||◌}

@@ -1,0 +1,158 @@
+-- The visit of a page: what was found of its row, and what becomes of the book where the row alone changes.
+use Rattle.ksm_book.proofs.Names.{[], All, ap, arith, BookState, BookValue, BookView, change_row, Comes, cond_both, Deed, doing, false, Find, FindsAt, Frames, get_or, GuestPage, HasStayed, idle, if◌then◌else◌, inl, InPageOrder, inr, is_restless, IsLaid, IsSound, IsStill, KeeperView, List, lying, map, mapped, MatchOption, Merged, None, Option, page_visited, PageState, PagesView, paired, pairing, partner, Performs, refl, restless_at, restless_row, Row, row_at, row_visited, row_visiting, same_page, settled, settled_state, shared_state, Some, state_of, subst, suc, sym, then_doing, true, true≢false, view_of, visited, VisitsPage, Waiting, Zero, ℕ, ◌∙◌, ◌∷◌, ◌≡◌}
+use Rattle.ksm_base.specs.declared.row.PageState.TheVariants.{Private}
+use Rattle.ksm_pages.specs.declared.pages.Find.TheVariants as finds
+use Rattle.ksm_pages.specs.Paged.{Finds, visited as row_changed}
+use Rattle.ksm_book.proofs.ByPage.{found_page, row_of_page}
+use Rattle.ksm_book.proofs.Doing.{then_idle}
+use Rattle.ksm_book.proofs.Laying.{LodgesAs, laid_mapped}
+use Rattle.ksm_book.proofs.Made.{made_none}
+use Rattle.ksm_book.proofs.RowVisits.{Leads, Meets, leads, marked_is, marking_is, restless_own, stayed_is, staying_is, there_is, visit_comes}
+use Rattle.ksm_book.proofs.Singles.{book}
+
+-- ---------------------------------------------------------------- what was found
+
+-- where a visit finds something of a page, that is so of the page's row
+pub finds_it : (f : Find) → (f ≡ finds.Gone → ⊥) → {p : PagesView} {k : KeeperView} {cursor : Option GuestPage} {passes : ℕ} {v : BookView}
+    → IsSound (state_of p cursor passes) × IsLaid p k → book p k cursor passes ≡ v → (q : PagesView) (page : GuestPage) {found : Find} →
+    found ≡ f
+    → Finds p q page found → Meets (λ _ r. FindsAt p q r f) p k cursor passes v page
+finds_it f some {p} {k} {cursor} {passes} {v} lawful same q page is told = by (row_at page p.rows) refl (subst (Finds p q page) is told)
+  where
+    by : (o : Option Row) → row_at page p.rows ≡ o → MatchOption o ((f ≡ finds.Gone) × (q ≡ p)) (λ r. FindsAt p q r f)
+        → Meets (λ _ r. FindsAt p q r f) p k cursor passes v page
+    by None none is = absurd (some is.0)
+    by (Some row) found is = record { is = same; sound = lawful.0; laid = lawful.1; row = row; found = found; so = is }
+
+-- where it finds nothing, no visit may change the page's row, and nothing changed
+pub none_met : (old new : PagesView) (page : GuestPage) → Finds old new page finds.Gone → (restless_row (row_at page old.rows) ≡ false) ×
+    (new ≡ old)
+none_met old new page told = by (row_at page old.rows) told
+  where
+    by : (o : Option Row) → MatchOption o ((finds.Gone ≡ finds.Gone) × (new ≡ old)) (λ r. FindsAt old new r finds.Gone) →
+        (restless_row o ≡ false) × (new ≡ old)
+    by None is = (refl, is.1)
+    by (Some row) is = is
+
+-- a page whose row a visit may change is restless
+pub restless_there : (page : GuestPage) (rows : List Row) → MatchOption (row_at page rows) (true ≡ false) (λ r. is_restless r ≡ true) →
+    restless_at page rows ≡ true
+restless_there page rows told = by (row_at page rows) told
+  where
+    by : (o : Option Row) → MatchOption o (true ≡ false) (λ r. is_restless r ≡ true) → restless_row o ≡ true
+    by None is = absurd (true≢false is)
+    by (Some row) is = is
+
+-- ---------------------------------------------------------------- what the visit comes to
+
+-- where a page's row, which a visit may change, was visited, the book has come to that
+visits_come : (v w : BookValue) (page : GuestPage) → restless_at page v.state.rows ≡ true → VisitsPage (view_of v) (view_of w) page → Comes
+    v w (λ s. page_visited doing s page)
+visits_come v w page restless did = by (row_at page v.state.rows) refl restless did
+  where
+    by : (o : Option Row) → row_at page v.state.rows ≡ o → restless_row o ≡ true
+        → MatchOption o (true ≡ false) (λ r. (w.state ≡ row_visited v.state r) × Performs (mapped (view_of v)) (mapped (view_of w))
+        (row_visiting v.state (view_of v).frame r))
+        → Comes v w (λ s. page_visited doing s page)
+    by None found is told = absurd (true≢false told)
+    by (Some row) found is told = visit_comes v w page row found is told.0 told.1
+
+-- so it is where first the pages were asked, and nothing changed by that
+pub shared_comes : {P : BookState → Row → Type 0} {p : PagesView} {k : KeeperView} {cursor : Option GuestPage} {passes : ℕ}
+    (v w : BookValue)
+    {page : GuestPage} (at : Meets P p k cursor passes (view_of v) page) → is_restless at.row ≡ true → (q : PagesView) → q ≡ p
+    → VisitsPage (book q k cursor passes) (view_of w) page → Comes v w (λ s. page_visited doing s page)
+shared_comes {k = k} {cursor} {passes} v w {page} at restless q same did =
+    visits_come v w page (subst (λ (x : BookView). restless_at page x.state.rows ≡ true) at.is (ap restless_row at.found ∙ restless))
+    (subst (λ (x : BookView). VisitsPage x (view_of w) page) (ap (λ x. book x k cursor passes) same ∙ at.is) did)
+
+waiting_settles : (page : GuestPage) (rows : List Row) → All (λ r. same_page r.page page ≡ true → shared_state r.state ≡ false) rows
+    → map settled (change_row page (λ r. record r { state = Waiting }) rows) ≡ map settled rows
+waiting_settles page [] alone = refl
+waiting_settles page (r ∷ rows) alone =
+    let rest = waiting_settles page rows (λ i d lt. alone (suc i) d (omega (arith, lt))) in
+    let here : settled (if same_page r.page page then record r { state = Waiting } else r) ≡ settled r =
+    cond_both (same_page r.page page) (record r { state = Waiting }) r (λ (x : Row). settled x ≡ settled r)
+    (λ is t. record r { state = by r.state (alone 0 r (omega arith) is) t }) (λ _. refl) in
+    λ t. here t ∷ rest t
+  where
+    by : (s : PageState) → shared_state s ≡ false → Private ≡ settled_state s
+    by (Merged d) e = absurd (grind (arith, e))
+    by Zero e = absurd (grind (arith, e))
+    by _ e = refl
+
+-- a row whose bytes have stayed, and with which none waits, waits, and no step is made
+module _ (b : BookState) (row : Row) (stays : HasStayed b false row) (alone : partner b.knobs b.rows row ≡ None) where
+  pub waits_is : row_visited b row ≡ record b { rows = change_row row.page (λ r. record r { state = Waiting }) b.rows }
+  waits_is = stayed_is b (λ _. None) row false stays ∙ ap (λ o. paired o b row) alone
+
+  pub waiting_is : (frame : Frames) → row_visiting b frame row ≡ idle frame
+  waiting_is frame = staying_is b frame row false stays ∙ ap (λ o. pairing o b frame row) alone
+
+  -- nothing changes but that
+  pub waits_still : (deed : Deed) (page : GuestPage) → InPageOrder b.rows → row_at page b.rows ≡ Some row → IsStill (b, deed)
+      (page_visited doing (b, deed) page)
+  waits_still deed page rise found =
+      let is : page_visited doing (b, deed) page ≡ (
+        record b { rows = change_row row.page (λ r. record r { state = Waiting }) b.rows },
+        deed,
+      ) =
+      ap (visited doing (b, deed)) found ∙ ap (λ t. if t then (row_visited b row, doing b deed row) else (b, deed)) stays.restless
+      ∙ (λ t. (waits_is t, (ap (then_doing deed) (waiting_is deed.frame) ∙ then_idle deed) t)) in
+      let at = ap (λ q. row_at q b.rows) (found_page page b.rows row found) ∙ found in
+      subst (IsStill (b, deed)) (sym is) (record {
+        rest = refl;
+        rows = waiting_settles row.page b.rows (λ i d lt same. ap (λ (r : Row). shared_state r.state)
+            (row_of_page row.page b.rows row rise at i d lt same) ∙ restless_own row stays.restless);
+        beside = refl;
+      })
+
+-- ---------------------------------------------------------------- the row alone changes
+
+-- the visit changes the row of a page on its frame, and makes no step
+row_leads : {P : BookState → Row → Type 0} {p : PagesView} {k : KeeperView} {cursor : Option GuestPage} {passes : ℕ} {v : BookView}
+    {page : GuestPage} (at : Meets P p k cursor passes v page) → is_restless at.row ≡ true → (c : Row → Row) →
+    ((r : Row) → (c r).page ≡ r.page)
+    → LodgesAs (c at.row) at.row → row_visited (state_of p cursor passes) at.row ≡ record (state_of p cursor passes)
+    { rows = change_row at.row.page c p.rows }
+    → row_visiting (state_of p cursor passes) p.frame at.row ≡ idle p.frame → {q : PagesView} → q ≡ row_changed at.row.page c p
+    → Leads v q k cursor passes page
+row_leads {p = p} {k} {cursor} {passes} at restless c keeps lodges becomes rests {q} goes =
+    leads at q k restless
+    (subst (λ (x : PagesView). IsLaid x k) (sym goes)
+    (laid_mapped p k at.laid (λ r. if same_page r.page at.row.page then c r else r) p.restless
+    (λ r. cond_both (same_page r.page at.row.page) (c r) r (λ (x : Row). x.page ≡ r.page) (λ _. keeps r) (λ _. refl))
+    (λ i d lt. let r = get_or p.rows i d in cond_both (same_page r.page at.row.page) (c r) r (λ x. LodgesAs x r)
+    (λ is. subst (λ x. LodgesAs (c x) x) (sym (row_of_page at.row.page p.rows at.row at.sound.rows_rise (there_is at) i d lt is)) lodges)
+    (λ _. (refl, refl, inl refl)))))
+    (ap (λ (x : PagesView). state_of x cursor passes) goes ∙ sym becomes)
+    (subst (Performs (lying p k) (lying q k)) (sym rests) (record {
+      made = made_none k k refl;
+      frame = ap (λ (x : PagesView). x.frame)
+          goes;
+    }))
+
+module _ {p q : PagesView} {k : KeeperView} {cursor : Option GuestPage} {passes : ℕ} {v : BookView} {page : GuestPage}
+    (at : Meets (λ _ r. FindsAt p q r finds.Waits) p k cursor passes v page) where
+  stays : HasStayed (state_of p cursor passes) false at.row
+  stays = (let is = at.so in record { restless = is.0; none = is.1; unchanged = is.2; zeroes = is.3 })
+
+  -- the page waits
+  pub waits_leads : Leads v q k cursor passes page
+  waits_leads = row_leads at at.so.0 (λ r. record r { state = Waiting }) (λ r. refl) (refl, refl, inr (restless_own at.row at.so.0, refl))
+      (waits_is (state_of p cursor passes) at.row stays at.so.4) (waiting_is (state_of p cursor passes) at.row stays at.so.4 p.frame)
+      at.so.5
+
+  -- by that nothing changes but which rows wait
+  pub waits_quiet : (deed : Deed) → IsStill (v.state, deed) (page_visited doing (v.state, deed) page)
+  waits_quiet deed = subst (λ (x : BookView). IsStill (x.state, deed) (page_visited doing (x.state, deed) page)) at.is
+      (waits_still (state_of p cursor passes) at.row stays at.so.4 deed page at.sound.rows_rise at.found)
+
+-- the page's bytes have changed
+pub changed_leads : {p q : PagesView} {k : KeeperView} {cursor : Option GuestPage} {passes : ℕ} {v : BookView} {page : GuestPage}
+    → Meets (λ _ r. FindsAt p q r finds.Changed) p k cursor passes v page → Leads v q k cursor passes page
+changed_leads {p} {q} {k} {cursor} {passes} at =
+    let b = state_of p cursor passes in
+    row_leads at at.so.0 (λ r. record r { unchanged = true; state = Private }) (λ r. refl)
+    (refl, refl, inr (restless_own at.row at.so.0, refl))
+    (marked_is b at.row at.so.0 at.so.1 at.so.2) (marking_is b p.frame at.row at.so.0 at.so.1 at.so.2) at.so.3

@@ -1,0 +1,260 @@
+-- A visited page makes a dup with the page that waits for it: what the keeper may do, and what becomes of the book.
+use Rattle.ksm_book.proofs.Names.{[], Add, All, All-contains_itself, ap, arith, BookState, BookView, Bool, cases_Bool, change_row, change_rows, Contains, Contains-append_right, count_none, did, dup_of_row, DupRow, each_at_page, eq-eqb, false, filter, find_all, find_passes, frame_number, frames_of, get_or, GuestPage, HasStayed, IfSome, if◌then◌else◌, inl, InPageOrder, inr, IsFree, IsLaid, IsSound, IsVacant, item_count, joined_count, KeeperView, leaving, lies_on, List, list_any, lying, Made, MatchOption, May, MayPair, MeetsPage, Merged, merged_into, merged_state, nat_lt, nat_tests, new_place, new_place_free, next_is_new, None, Option, ordered_change, PageState, PagesView, paired, pairing, partner, Performs, place_count, Publish, refl, Row, row_at, row_visiting, same_page, same_page_eq, shared_state, Some, state_of, Sub, subst, sym, true, true≢false, waiting_state, waits_for, waits_tells, WaitsFor, with_dup, Withdraw, withdrawing, Zero, ℕ, ◌++◌, ◌+◌, ◌<◌, ◌==◌, ◌||◌, ◌∙◌, ◌∷◌, ◌≡◌, ◌≤◌}
+use Rattle.ksm_pages.specs.Paged.{paired as are_paired}
+use Rattle.ksm_book.proofs.Made.{made_one, made_then}
+use Rattle.ksm_book.proofs.Sharing.{laid_found, laid_joined, may_clear, may_found, may_join, may_part, spent_most, tree_is_home}
+use Rattle.ksm_book.proofs.Singles.{at_changed}
+use Rattle.ksm_book.proofs.Standing.{finds_places}
+use Rattle.ksm_book.proofs.RowVisits.{Leads, Meets, at_row, leads, page_is, restless_own, there_is, staying_is, stayed_is}
+
+-- a row that waits is not shared
+waiting_is_alone : (s : PageState) → waiting_state s ≡ true → (shared_state s ≡ false) × (merged_state s ≡ false)
+waiting_is_alone (Merged d) e = absurd (grind (arith, e))
+waiting_is_alone Zero e = absurd (grind (arith, e))
+waiting_is_alone _ e = (refl, refl)
+
+-- rows of two pages get a state
+abbrev in_state : PageState → Row → Row
+in_state s r = record r { state = s }
+
+two_changes : (p q : GuestPage) (s : PageState) (rows : List Row) → change_row q (in_state s) (change_row p (in_state s) rows) ≡ change_rows
+    (λ r. same_page r.page p || same_page r.page q) (in_state s) rows
+two_changes p q s [] = refl
+two_changes p q s (r ∷ rs) =
+    let rest = two_changes p q s rs in
+    elim (cases_Bool (same_page r.page p)) [
+      | inl first ↦ elim (cases_Bool (same_page r.page q)) [
+        | inl second ↦ grind (arith, first, second, rest)
+        | inr second ↦ grind (arith, first, second, rest)
+      ]
+      | inr first ↦ elim (cases_Bool (same_page r.page q)) [
+        | inl second ↦ grind (arith, first, second, rest)
+        | inr second ↦ grind (arith, first, second, rest)
+      ]
+    ]
+
+-- the row of another page stays
+row_elsewhere : (p q : GuestPage) (s : PageState) (rows : List Row) → same_page p q ≡ false → row_at q (change_row p (in_state s) rows) ≡
+    row_at q rows
+row_elsewhere p q s [] other = refl
+row_elsewhere p q s (r ∷ rs) other =
+    let rest = row_elsewhere p q s rs other in
+    elim (cases_Bool (same_page r.page p)) [
+      | inl here ↦
+          let not_q : same_page r.page q ≡ false = ap (λ x. same_page x q) (same_page_eq r.page p here) ∙ other in
+          grind (arith, here, not_q, rest)
+      | inr there ↦ grind (arith, there, rest)
+    ]
+
+contains_dup : (d : DupRow) (dups : List DupRow) → Contains (with_dup d dups) d
+contains_dup d dups =
+    let above = filter (λ e. nat_lt d.place e.place) dups in Contains-append_right (filter (λ e. nat_lt e.place d.place) dups) (d ∷ above) d
+    (0, omega arith, refl)
+
+-- a visited page is to make a dup at a place, with another page, which waits for it
+pub record Pairs (p : PagesView) (k : KeeperView) (cursor : Option GuestPage) (passes : ℕ) (v : BookView) (one page : GuestPage)
+    (place : ℕ) : Type 0 where
+  pub met : Meets (λ b. HasStayed b false) p k cursor passes v page
+  pub waiting : Row
+  pub waits : partner p.knobs p.rows met.row ≡ Some waiting
+  pub named : one ≡ waiting.page
+  pub chosen : place ≡ new_place (place_count p.shape) p.rows p.dups
+
+-- so it is where the page meets the other
+pub pairs : (other : GuestPage) {p : PagesView} {k : KeeperView} {cursor : Option GuestPage} {passes : ℕ} {v : BookView}
+    {one page : GuestPage}
+    {place : ℕ} → Meets (λ b. MeetsPage b other) p k cursor passes v page → one ≡ other
+    → place ≡ new_place (place_count p.shape) p.rows p.dups → Pairs p k cursor passes v one page place
+pairs other {p} at is chosen =
+    let w = by (partner p.knobs p.rows at.row) at.so.1 in record {
+      met = record { is = at.is; sound = at.sound; laid = at.laid; row = at.row; found = at.found; so = at.so.0 };
+      waiting = w.0;
+      waits = w.1;
+      named = is ∙ w.2;
+      chosen = chosen;
+    }
+  where
+    by : (o : Option Row) → MatchOption o (true ≡ false) (λ w. other ≡ w.page) → (w : Row) × (o ≡ Some w) × (other ≡ w.page)
+    by None none = absurd (true≢false none)
+    by (Some w) named = (w, refl, named)
+
+module _ {p : PagesView} {k : KeeperView} {cursor : Option GuestPage} {passes : ℕ} {v : BookView} {one page : GuestPage} {place : ℕ}
+    (at : Pairs p k cursor passes v one page place) where
+  abbrev s : IsSound (state_of p cursor passes)
+  s = at.met.sound
+
+  abbrev h : IsLaid p k
+  h = at.met.laid
+
+  abbrev row : Row
+  row = at.met.row
+
+  abbrev w : Row
+  w = at.waiting
+
+  abbrev b : BookState
+  b = state_of p cursor passes
+
+  abbrev dup : DupRow
+  dup = dup_of_row p.knobs p.next place row
+
+  at_page : row.page ≡ page
+  at_page = page_is at.met
+
+  tells : WaitsFor p.knobs row w
+  tells = waits_tells p.knobs row w (find_passes (waits_for p.knobs row) p.rows w at.waits)
+
+  pub waits_at : row_at w.page p.rows ≡ Some w
+  waits_at = find_all (waits_for p.knobs row) (λ r. row_at r.page p.rows ≡ Some r) p.rows w at.waits (each_at_page p.rows s.rows_rise)
+
+  alone : shared_state w.state ≡ false
+  alone = (waiting_is_alone w.state tells.state).0
+
+  apart : same_page w.page page ≡ false
+  apart = ap (same_page w.page) (sym at_page) ∙ tells.other
+
+  pub room : new_place (place_count p.shape) p.rows p.dups < place_count p.shape
+  room = finds_places p k cursor passes s h row (find_all (λ r. same_page r.page page) (Contains p.rows) p.rows row at.met.found
+      (All-contains_itself p.rows)) (restless_own row at.met.so.restless)
+
+  inside : place < frames_of p.shape
+  inside = subst (λ x. x < place_count p.shape) (sym at.chosen) room
+
+  vacant : IsVacant place p.rows p.dups
+  vacant = λ n d lt same.
+      let free : IsFree b place = subst (IsFree b) (sym at.chosen) (new_place_free b s) in
+      vacant_at (item_count p.rows (get_or p.dups n d)) (λ lives. let other = free.apart n d lt lives in absurd
+      (grind (arith, nat_tests, other, same)))
+    where
+      vacant_at : (n : ℕ) → (nat_lt 0 n ≡ true → ⊥) → n ≡ 0
+      vacant_at n none = elim (cases_Bool (nat_lt 0 n)) [
+        | inl some ↦ absurd (none some)
+        | inr zero_is ↦ grind (arith, nat_tests, zero_is)
+      ]
+
+  fresh : All (λ r. merged_into p.next r.state ≡ false) p.rows
+  fresh = next_is_new b s
+
+  may_pair : MayPair p place w row
+  may_pair = record {
+    first_is = waits_at;
+    second_is = there_is at.met;
+    first_alone = alone;
+    second_alone = restless_own row at.met.so.restless;
+    apart = tells.other;
+    inside = inside;
+    vacant = vacant;
+    number = (let most = spent_most p k h in omega (arith, most));
+    fresh = fresh;
+  }
+
+  -- what the place names may be withdrawn
+  pub may_withdraw : May k (Withdraw place)
+  may_withdraw = may_clear p k k h place inside vacant
+
+  waits_one : row_at one p.rows ≡ Some w
+  waits_one = ap (λ q. row_at q p.rows) at.named ∙ waits_at
+
+  -- the two pages may become the items of a new dup
+  pub pair_may : MatchOption (row_at one p.rows) (true ≡ false) (λ r. MatchOption (row_at page p.rows) (true ≡ false) (MayPair p place r))
+  pair_may = subst (λ o. MatchOption o (true ≡ false) (λ r. MatchOption (row_at page p.rows) (true ≡ false) (MayPair p place r)))
+      (sym waits_one)
+      (subst (λ o. MatchOption o (true ≡ false) (MayPair p place w)) (sym at.met.found) may_pair)
+
+  module _ {f : ℕ} (stands : p.frame one ≡ Some f) {k1 : KeeperView} {taken : Bool}
+      (taken_is : taken ≡ list_any (λ d. d.place == place) p.dups)
+      (cleared : Made k k1 (if taken then Withdraw place ∷ [] else [])) where
+    lies : p.frame w.page ≡ Some f
+    lies = ap p.frame (sym at.named) ∙ stands
+
+    clears : Made k k1 (withdrawing p.dups place)
+    clears = subst (λ t. Made k k1 (if t then Withdraw place ∷ [] else [])) taken_is cleared
+
+    -- then it may name the frame of the page that waits
+    pub may_publish : May k1 (Publish place f)
+    may_publish = may_found p k h s.rows_rise w.page w f waits_at lies alone dup refl inside vacant k1 clears
+
+    abbrev change : Row → Row
+    change = in_state (Merged p.next)
+
+    abbrev first : PagesView
+    first = record p { rows = change_row w.page change p.rows; dups = with_dup dup p.dups; next = p.next + 1 }
+
+    module _ {k2 : KeeperView} (shown : k2 ≡ did k1 (Publish place f) 0) where
+      first_laid : IsLaid first k2
+      first_laid =
+          laid_found p k h s.rows_rise w.page w f waits_at lies alone dup refl inside vacant change k1 k2 p.restless (λ r. refl) refl refl
+          clears shown (sym tells.bytes)
+          (λ none. tree_is_home p.knobs w none ∙ tells.tree) s.numbers fresh
+
+      first_rise : InPageOrder first.rows
+      first_rise = ordered_change (λ r. same_page r.page w.page) change p.rows (λ r. refl) s.rows_rise
+
+      row_still : row_at page first.rows ≡ Some row
+      row_still = row_elsewhere w.page page (Merged p.next) p.rows apart ∙ at.met.found
+
+      item_at : row_at w.page first.rows ≡ Some (change w)
+      item_at = at_changed w.page change p.rows w (λ r. refl) waits_at
+
+      one_item : item_count first.rows dup ≤ 1023
+      one_item =
+          let none : item_count p.rows dup ≡ 0 = count_none (λ r. merged_into p.next r.state) p.rows fresh in
+          let one : item_count first.rows dup ≡ item_count p.rows dup + 1 = joined_count p.rows w dup s.rows_rise waits_at
+          (waiting_is_alone w.state tells.state).1 in
+          omega (arith, none, one)
+
+      -- then a reference may come there
+      pub may_add_to : May k2 (Add f)
+      may_add_to = may_join first k2 first_laid first_rise page row (change w) row_still item_at f lies refl dup (contains_dup dup p.dups)
+          (eq-eqb p.next p.next refl) one_item
+
+      module _ {lone : ℕ} (left : p.frame page ≡ Some lone) where
+        -- and then the page's own may be left
+        pub may_sub_from : {k3 : KeeperView} → Made k2 k3 (Add f ∷ []) → May k3 (Sub lone)
+        may_sub_from {k3} comes = subst (λ o. IfSome o (λ g. May k3 (Sub g))) left
+            (may_part first k2 first_laid first_rise page row (change w) row_still item_at f lies refl change (λ r. refl) refl
+            (sym tells.bytes) k3 comes)
+
+        module _ {k3 l : KeeperView} (comes : Made k2 k3 (Add f ∷ [])) (leaves : Made k3 l (Sub lone ∷ [])) (q : PagesView)
+            (told : MatchOption (row_at one p.rows) (true ≡ false) (λ r. MatchOption (row_at page p.rows) (true ≡ false)
+            (λ x. q ≡ are_paired place r x p))) where
+          goes : q ≡ are_paired place w row p
+          goes = at_row (λ x. q ≡ are_paired place w x p) page p.rows row at.met.found
+              (at_row (λ r. MatchOption (row_at page p.rows) (true ≡ false) (λ x. q ≡ are_paired place r x p)) one p.rows w waits_one told)
+
+          steps : Made k2 l (Add f ∷ leaving (p.frame page))
+          steps = subst (λ o. Made k2 l (Add f ∷ leaving o)) (sym left) (made_then k2 k3 l (Add f ∷ []) (Sub lone ∷ []) comes leaves)
+
+          both : change_row page change first.rows ≡ change_rows (λ r. same_page r.page w.page || same_page r.page row.page) change p.rows
+          both = ap (λ x. change_row x change first.rows) (sym at_page) ∙ two_changes w.page row.page (Merged p.next) p.rows
+
+          q_is : q ≡ record first { rows = change_row page change first.rows; frame = lies_on page (Some f) p.frame }
+          q_is = goes ∙ (λ t. record first { rows = sym both t; frame = lies_on (at_page t) (lies t) p.frame })
+
+          all_steps : Made k l (withdrawing p.dups place ++ (Publish place f ∷ Add f ∷ leaving (p.frame page)))
+          all_steps = made_then k k1 l (withdrawing p.dups place) (Publish place f ∷ Add f ∷ leaving (p.frame page)) clears
+              (made_then k1 k2 l (Publish place f ∷ []) (Add f ∷ leaving (p.frame page)) (made_one k1 k2 (Publish place f) 0 shown) steps)
+
+          deed_is : row_visiting b p.frame row ≡ record {
+            steps = withdrawing p.dups place ++
+                (Publish place f ∷ Add f ∷ leaving (p.frame page));
+            frame = lies_on page (Some f) p.frame;
+          }
+          deed_is = staying_is b p.frame row false at.met.so ∙ ap (λ o. pairing o b p.frame row) at.waits
+              ∙ (λ t. record {
+                steps = withdrawing p.dups (sym at.chosen t) ++ (Publish (sym at.chosen t) (frame_number (lies t)) ∷ Add
+                    (frame_number (lies t)) ∷ leaving (p.frame (at_page t)));
+                frame = lies_on (at_page t) (lies t) p.frame;
+              })
+
+          -- the two pages are the items of a new dup
+          pub pair_leads : Leads v q l cursor passes page
+          pair_leads = leads at.met q l at.met.so.restless
+              (subst (λ (x : PagesView). IsLaid x l) (sym q_is)
+              (laid_joined first k2 first_laid first_rise page row (change w) row_still item_at f lies refl change (λ r. refl) refl
+              (sym tells.bytes)
+              l p.restless steps))
+              (ap (λ (x : PagesView). state_of x cursor passes) goes ∙ (λ t. state_of (are_paired (at.chosen t) w row p) cursor passes)
+              ∙ sym (stayed_is b p.frame row false at.met.so ∙ ap (λ o. paired o b row) at.waits))
+              (subst (Performs (lying p k) (lying q l)) (sym deed_is) (record
+              { made = all_steps; frame = ap (λ (x : PagesView). x.frame) q_is }))

@@ -1,0 +1,204 @@
+-- Stale dups go one by one.
+use Rattle.ksm_book.proofs.Names.{[], All, All-head, All-tail, ap, append-nil, append_assoc, arith, cases_Bool, count_by, count_by-le-length, count_none, did, DupRow, elsewhere, eqb-true, false, filter, filter_all, filter_none, find, find_all, find_none, find_passes, frames_of, get_or, has_items, inl, InPlaceOrder, inr, is_stale, IsLaid, IsLoose, IsVacant, item_count, KeeperStep, KeeperView, length, length-filter, List, lying, Made, map, named_at, nat_lt, nat_tests, None, not, one_of_each_place, Option, option_map, ordered_filter, PagesView, pairs_tail, Performs, pruning, refl, Row, same_Some, Shape, Some, subst, suc, sym, true, Withdraw, ℕ, ◌++◌, ◌+◌, ◌<◌, ◌==◌, ◌^◌, ◌∙◌, ◌∷◌, ◌≡◌, ◌≤◌}
+use Rattle.std.proofs.lemmas.Bool.{eq-eqb}
+use Rattle.ksm_book.proofs.Sharing.{frames_few, laid_cleared, vacant_loose}
+use Rattle.ksm_book.proofs.Made.{made_none, made_one, made_then}
+use Rattle.ksm_book.proofs.Withdrawn.{elsewhere_so}
+
+-- the place of the first stale dup has no other dup
+pub stale_vacant : (rows : List Row) (dups : List DupRow) (d : DupRow) → InPlaceOrder dups → find (is_stale rows) dups ≡ Some d → IsVacant d.place rows dups
+stale_vacant rows dups d rise found k x lt same =
+    let once = find_all (is_stale rows) (λ e. All (λ y. (y.place == e.place) ≡ true → y ≡ e) dups) dups d found (one_of_each_place dups rise) in
+    let is : get_or dups k x ≡ d = once k x lt (eq-eqb (get_or dups k x).place d.place same) in
+    ap (item_count rows) is ∙ eqb-true (item_count rows d) 0 (find_passes (is_stale rows) dups d found)
+
+-- where no stale dup is found, all dups have items
+pub none_stale : (rows : List Row) (dups : List DupRow) → find (is_stale rows) dups ≡ None → filter (has_items rows) dups ≡ dups
+none_stale rows dups none = filter_all (has_items rows) dups (λ k x lt. live (item_count rows (get_or dups k x)) (find_none (is_stale rows) dups none k x lt))
+  where
+    live : (n : ℕ) → (n == 0) ≡ false → nat_lt 0 n ≡ true
+    live n e = grind (arith, nat_tests, e)
+
+-- a stale dup less is no dup with items less
+pub live_elsewhere : (rows : List Row) (place : ℕ) (dups : List DupRow) → IsVacant place rows dups → filter (has_items rows) (filter (elsewhere place) dups) ≡ filter (has_items rows) dups
+live_elsewhere rows place [] vacant = refl
+live_elsewhere rows place (d ∷ ds) vacant =
+    let rest = live_elsewhere rows place ds (All-tail (λ x. x.place ≡ place → item_count rows x ≡ 0) d ds vacant) in
+    elim (cases_Bool (d.place == place)) [
+      | inl here ↦
+          let none : item_count rows d ≡ 0 = All-head (λ x. x.place ≡ place → item_count rows x ≡ 0) d ds vacant (eqb-true d.place place here) in
+          let stale : has_items rows d ≡ false = grind (arith, nat_tests, none) in
+          grind (arith, here, stale, rest)
+      | inr there ↦ elim (cases_Bool (has_items rows d)) [
+        | inl lives ↦ grind (arith, there, lives, rest)
+        | inr dies ↦ grind (arith, there, dies, rest)
+      ]
+    ]
+
+-- the dup whose place was found
+pub dup_at : (o : Option DupRow) (place : ℕ) → Some place ≡ option_map (λ d. d.place) o → (d : DupRow) × (o ≡ Some d) × (d.place ≡ place)
+dup_at None place e = absurd (grind (arith, e))
+dup_at (Some d) place e = (d, refl, sym (same_Some place d.place e))
+
+-- where the place of no dup is told, there is none
+pub no_dup_at : (o : Option DupRow) → None ≡ option_map (λ d. d.place) o → o ≡ None
+no_dup_at None e = refl
+no_dup_at (Some d) e = absurd (grind (arith, e))
+
+-- the first stale dup is the first to go
+pub first_stale : (rows : List Row) (dups : List DupRow) (d : DupRow) → InPlaceOrder dups → find (is_stale rows) dups ≡ Some d
+    → filter (is_stale rows) dups ≡ d ∷ filter (is_stale rows) (filter (elsewhere d.place) dups)
+first_stale rows [] d rise found = absurd (grind (arith, found))
+first_stale rows (x ∷ xs) d rise found = elim (cases_Bool (is_stale rows x)) [
+  | inl stale ↦
+      let is : x ≡ d = grind (arith, found, stale) in
+      let gone : elsewhere d.place x ≡ false = ap (λ (y : DupRow). not (y.place == d.place)) is ∙ ap not (eq-eqb d.place d.place refl) in
+      let off : All (λ e. elsewhere d.place e ≡ true) xs = λ i e lt. elsewhere_so d.place (get_or xs i e)
+      (λ same. (let later = (rise 0 (suc i) e (omega arith) (omega (arith, lt))).0 in let here = ap (λ (y : DupRow). y.place) is in
+      omega (arith, later, here, same))) in
+      let all : filter (elsewhere d.place) xs ≡ xs = filter_all (elsewhere d.place) xs off in
+      grind (arith, stale, gone, all, is)
+  | inr lives ↦
+      let rest = first_stale rows xs d (pairs_tail (λ (a b : DupRow). (a.place < b.place) × ((a.number == b.number) ≡ false)) x xs rise)
+      (grind (arith, found, lives)) in
+      elim (cases_Bool (elsewhere d.place x)) [ inl kept ↦ grind (arith, kept, lives, rest) | inr gone ↦ grind (arith, gone, lives, rest) ]
+]
+
+-- so far the places of the stale dups that went were withdrawn, in their order
+pub record Withdraws (v w : KeeperView) (rows : List Row) (before now : List DupRow) : Type 0 where
+  pub steps : List KeeperStep
+  pub made : Made v w steps
+  pub whole : steps ++ map (λ d. Withdraw d.place) (filter (is_stale rows) now) ≡ map (λ d. Withdraw d.place) (filter (is_stale rows) before)
+
+-- the first stale dup, withdrawn from its place, is the next of those to withdraw
+pub withdraws_more : (v w w' : KeeperView) (rows : List Row) (before now : List DupRow) (d : DupRow) → InPlaceOrder now → find (is_stale rows) now ≡ Some d
+    → Withdraws v w rows before now → Made w w' (Withdraw d.place ∷ [])
+    → Withdraws v w' rows before (filter (elsewhere d.place) now)
+withdraws_more v w w' rows before now d rise found so_far one =
+    record {
+      steps = so_far.steps ++ Withdraw d.place ∷ [];
+      made = made_then v w w' so_far.steps (Withdraw d.place ∷ []) so_far.made one;
+      whole = append_assoc so_far.steps (Withdraw d.place ∷ []) _
+          ∙ ap (λ ds. so_far.steps ++ map (λ (e : DupRow). Withdraw e.place) ds) (sym (first_stale rows now d rise found)) ∙ so_far.whole;
+    }
+
+-- where no stale dup is left, all were withdrawn, in the order of their places
+pub withdraws_all : (v w : KeeperView) (rows : List Row) (before now : List DupRow) → All (λ d. is_stale rows d ≡ false) now → Withdraws v w rows before now
+    → Made v w (map (λ d. Withdraw d.place) (filter (is_stale rows) before))
+withdraws_all v w rows before now none so_far =
+    subst (Made v w) (sym (append-nil so_far.steps)
+    ∙ ap (λ ds. so_far.steps ++ map (λ (e : DupRow). Withdraw e.place) ds) (sym (filter_none (is_stale rows) now none)) ∙ so_far.whole) so_far.made
+
+-- dups in the order of their places, each place below a bound, are no more than the bound
+few_from : (m n : ℕ) (dups : List DupRow) → m ≤ n → InPlaceOrder dups → All (λ d. (m ≤ d.place) × (d.place < n)) dups → m + length dups ≤ n
+few_from m n [] le rise all = omega (arith, le)
+few_from m n (d ∷ ds) le rise all =
+    let here = All-head (λ (e : DupRow). (m ≤ e.place) × (e.place < n)) d ds all in
+    let rest = All-tail (λ (e : DupRow). (m ≤ e.place) × (e.place < n)) d ds all in
+    let low = here.0 in
+    let high = here.1 in
+    let tail = few_from (d.place + 1) n ds (omega (arith, high)) (pairs_tail (λ (a b : DupRow). (a.place < b.place) × ((a.number == b.number) ≡ false)) d ds rise)
+    (λ i e lt. (let above = (rise 0 (suc i) e (omega arith) (omega (arith, lt))).0 in omega (arith, above), (rest i e lt).1)) in
+    omega (arith, tail, low)
+
+-- so far so many stale dups went, and rows and dups lie lawfully
+pub record Drops (p q : PagesView) (k l : KeeperView) (count : ℕ) : Type 0 where
+  pub pages : q ≡ record p { dups = q.dups }
+  pub live : filter (has_items p.rows) q.dups ≡ filter (has_items p.rows) p.dups
+  pub many : count + count_by (is_stale p.rows) q.dups ≡ count_by (is_stale p.rows) p.dups
+  pub first : InPlaceOrder p.dups
+  pub rise : InPlaceOrder q.dups
+  pub before : IsLaid p k
+  pub laid : IsLaid q l
+  pub table : l.table ≡ k.table
+  pub withdraws : Withdraws k l p.rows p.dups q.dups
+
+pub drops_none : (p : PagesView) (k : KeeperView) → IsLaid p k → InPlaceOrder p.dups → Drops p p k k 0
+drops_none p k h rise = record {
+  pages = refl;
+  live = refl;
+  many = omega arith;
+  first = rise;
+  rise = rise;
+  before = h;
+  laid = h;
+  table = refl;
+  withdraws = record { steps = []; made = made_none k k refl; whole = refl };
+}
+
+-- the first stale dup goes next
+module _ (p q : PagesView) (k l : KeeperView) (count : ℕ) (h : Drops p q k l count) (place : ℕ) (told : Some place ≡ option_map (λ d. d.place) (find (is_stale q.rows) q.dups)) where
+  rows_are : q.rows ≡ p.rows
+  rows_are = ap (λ (x : PagesView). x.rows) h.pages
+
+  stale : (d : DupRow) × (find (is_stale q.rows) q.dups ≡ Some d) × (d.place ≡ place)
+  stale = dup_at (find (is_stale q.rows) q.dups) place told
+
+  found : find (is_stale p.rows) q.dups ≡ Some stale.0
+  found = ap (λ rows. find (is_stale rows) q.dups) (sym rows_are) ∙ stale.1
+
+  pub drop_vacant : IsVacant place q.rows q.dups
+  drop_vacant = subst (λ x. IsVacant x q.rows q.dups) stale.2 (stale_vacant q.rows q.dups stale.0 h.rise stale.1)
+
+  inside : place < frames_of q.shape
+  inside = subst (λ x. x < frames_of q.shape) stale.2 (find_all (is_stale q.rows) (λ d. d.place < frames_of q.shape) q.dups stale.0 stale.1 (λ n d lt. (h.laid.placed.each_dup n d lt).place))
+
+  pub drop_inside : place < frames_of l.table.shape
+  drop_inside = subst (λ (s : Shape). place < frames_of s) (sym h.laid.same) inside
+
+  pub drop_loose : IsLoose l.ledger (named_at l.ledger place)
+  drop_loose = vacant_loose q.shape q.knobs.merge_across_nodes l.ledger q.rows q.frame q.dups place h.laid.placed drop_vacant
+
+  -- one less is stale
+  pub drop_fewer : count_by (is_stale p.rows) (filter (elsewhere place) q.dups) + 1 ≡ count_by (is_stale p.rows) q.dups
+  drop_fewer =
+      let first = ap length (first_stale p.rows q.dups stale.0 h.rise found) in
+      let here = length-filter (is_stale p.rows) q.dups in
+      let there = ap (λ x. length (filter (is_stale p.rows) (filter (elsewhere x) q.dups))) stale.2 ∙ length-filter (is_stale p.rows) (filter (elsewhere place) q.dups) in
+      omega (arith, first, here, there)
+
+  pub drop_few : count + 1 < 2 ^ 64
+  drop_few =
+      let fewer = drop_fewer in
+      let many = h.many in
+      let most = count_by-le-length (is_stale p.rows) p.dups in
+      let frames = few_from 0 (frames_of p.shape) p.dups (omega arith) h.first (λ n d lt. (omega arith, (h.before.placed.each_dup n d lt).place)) in
+      let few = frames_few p.shape h.before.small in
+      omega (arith, fewer, many, most, frames, few)
+
+  pub drops_more : (q' : PagesView) (l' : KeeperView) → l' ≡ did l (Withdraw place) 0 → q' ≡ record q { dups = filter (elsewhere place) q.dups } → Drops p q' k l' (count + 1)
+  drops_more q' l' is goes =
+      let table = ap (λ (z : KeeperView). z.table) is in
+      let dups : q'.dups ≡ filter (elsewhere place) q.dups = ap (λ (x : PagesView). x.dups) goes in
+      let vacant = subst (λ rows. IsVacant place rows q.dups) rows_are drop_vacant in
+      let fewer = drop_fewer in
+      let many = h.many in
+      record {
+        pages = goes ∙ (λ t. record (h.pages t) { dups = filter (elsewhere place) q.dups }) ∙ (λ t. record p { dups = sym dups t });
+        live = ap (filter (has_items p.rows)) dups ∙ live_elsewhere p.rows place q.dups vacant ∙ h.live;
+        many = subst (λ ds. count + 1 + count_by (is_stale p.rows) ds ≡ count_by (is_stale p.rows) p.dups) (sym dups) (omega (arith, fewer, many));
+        first = h.first;
+        rise = subst InPlaceOrder (sym dups) (ordered_filter (elsewhere place) q.dups h.rise);
+        before = h.before;
+        laid = subst (λ (x : PagesView). IsLaid x l') (sym goes) (laid_cleared q l l' place h.laid inside table (ap (λ (z : KeeperView). z.ledger) is));
+        table = table ∙ h.table;
+        withdraws = subst (Withdraws k l' p.rows p.dups) (ap (λ x. filter (elsewhere x) q.dups) stale.2 ∙ sym dups)
+            (withdraws_more k l l' p.rows p.dups q.dups stale.0 h.rise found h.withdraws (subst (λ x. Made l l' (Withdraw x ∷ [])) (sym stale.2) (made_one l l' (Withdraw place) 0 is)));
+      }
+
+-- where none is stale any more, all are gone
+module _ (p q : PagesView) (k l : KeeperView) (count : ℕ) (h : Drops p q k l count) (told : None ≡ option_map (λ d. d.place) (find (is_stale q.rows) q.dups)) where
+  none : find (is_stale p.rows) q.dups ≡ None
+  none = ap (λ (x : PagesView). find (is_stale x.rows) q.dups) (sym h.pages) ∙ no_dup_at (find (is_stale q.rows) q.dups) told
+
+  pub dropped_pages : q ≡ record p { dups = filter (has_items p.rows) p.dups }
+  dropped_pages = h.pages ∙ (λ t. record p { dups = (sym (none_stale p.rows q.dups none) ∙ h.live) t })
+
+  pub dropped_count : count ≡ count_by (is_stale p.rows) p.dups
+  dropped_count = let zero' = count_none (is_stale p.rows) q.dups (find_none (is_stale p.rows) q.dups none) in let many = h.many in omega (arith, zero', many)
+
+  pub dropped_performs : Performs (lying p k) (lying q l) (pruning p.rows p.dups p.frame)
+  dropped_performs = record {
+    made = withdraws_all k l p.rows p.dups q.dups (find_none (is_stale p.rows) q.dups none) h.withdraws;
+    frame = ap (λ (x : PagesView). x.frame) h.pages;
+  }

@@ -1,0 +1,255 @@
+-- A dup moves to another frame, with all of its items.
+use Rattle.ksm_book.proofs.Names.{eqb-true, Agrees, All, ap, arith, blank, Bool, cond, count_none, DupFits, DupRow, Dying, eq-eqb, false, FitsBase, frame_at, Frames, frames_of, Free, GenerationFits, get_or, get_or-set_other, get_or-set_same, GuestPage, inl, inr, instead, is_frame, is_some, IsInLife, IsServed, Kind, kind_for, Ledger, length, length-set, Life, life_or, List, Merged, merged_into, named_at, ne_eqb, node_of, None, none_counted, Note, Option, PAGE_WORDS, PageState, place_frame, place_life, Placed, Private, refl, Row, RowFits, same_Some, set, Shape, shared_state, Some, Stable, subst, sym, true, uses, ℕ, ◌+◌, ◌<◌, ◌∙◌, ◌≡◌, ◌≢◌, ◌≤◌}
+use mathlib.Core.Logic.{dite}
+use native.Mathlib.Decide.{ℕ_discrete}
+use Rattle.ksm_book.proofs.ByPage.{counts_agree, frame_cases, not_on, uses_some}
+use Rattle.ksm_book.proofs.Moves.{Serves}
+
+merged_of_kind : (s : PageState) → kind_for s ≡ Stable → shared_state s ≡ true
+merged_of_kind (Merged d) e = refl
+merged_of_kind _ e = cc
+
+one_number : (s : PageState) (m n : ℕ) → merged_into m s ≡ true → merged_into n s ≡ true → n ≡ m
+one_number (Merged d) m n a b = sym (eqb-true d n b) ∙ eqb-true d m a
+one_number _ m n a b = absurd (grind (arith, a))
+
+-- where a page lay on f it lies on g, and else where it lay
+instead_here : (f g : ℕ) (frame : Frames) (page : GuestPage) → frame page ≡ Some f → instead f g frame page ≡ Some g
+instead_here f g frame page e = ap (λ (o : Option ℕ). cond (is_frame f o) (Some g) o) e ∙ ap (λ (b : Bool). cond b (Some g) (Some f)) (eq-eqb f f refl)
+
+pub instead_there : (f g : ℕ) (frame : Frames) (page : GuestPage) → frame page ≢ Some f → instead f g frame page ≡ frame page
+instead_there f g frame page ne = by (frame page) ne
+  where
+    by : (o : Option ℕ) → o ≢ Some f → cond (is_frame f o) (Some g) o ≡ o
+    by None off = refl
+    by (Some x) off = ap (λ (b : Bool). cond b (Some g) (Some x)) (ne_eqb x f (λ e. off (ap Some e)))
+
+-- those that lay on f lie on g, and none lies on f any more
+module _ (f g : ℕ) (frame : Frames) (rows : List Row) where
+  unused_is : uses g frame rows ≡ 0 → All (λ r. is_frame g (frame r.page) ≡ false) rows
+  unused_is none = none_counted (λ r. is_frame g (frame r.page)) rows none
+
+  uses_new : uses g frame rows ≡ 0 → uses g (instead f g frame) rows ≡ uses f frame rows
+  uses_new none = counts_agree _ _ rows (λ i d lt.
+      let page = (get_or rows i d).page in
+      elim (frame_cases f (frame page)) [
+        | inl on ↦ ap (is_frame g) (instead_here f g frame page on) ∙ eq-eqb g g refl ∙ sym (ap (is_frame f) on ∙ eq-eqb f f refl)
+        | inr off ↦ ap (is_frame g) (instead_there f g frame page off) ∙ unused_is none i d lt ∙ sym (not_on f (frame page) off)
+      ])
+
+  uses_old : g ≢ f → uses f (instead f g frame) rows ≡ 0
+  uses_old ne = count_none (λ r. is_frame f (instead f g frame r.page)) rows (λ i d lt.
+      let page = (get_or rows i d).page in
+      elim (frame_cases f (frame page)) [
+        | inl on ↦ ap (is_frame f) (instead_here f g frame page on) ∙ not_on f (Some g) (λ e. ne (same_Some g f e))
+        | inr off ↦ ap (is_frame f) (instead_there f g frame page off) ∙ not_on f (frame page) off
+      ])
+
+  uses_still : (x : ℕ) → x ≢ f → x ≢ g → uses x (instead f g frame) rows ≡ uses x frame rows
+  uses_still x nf ng = counts_agree _ _ rows (λ i d lt.
+      let page = (get_or rows i d).page in
+      elim (frame_cases f (frame page)) [
+        | inl on ↦ ap (is_frame x) (instead_here f g frame page on) ∙ not_on x (Some g) (λ e. ng (sym (same_Some g x e))) ∙ sym (ap (is_frame x) on ∙ not_on x (Some f) (λ e. nf (sym (same_Some f x e))))
+        | inr off ↦ ap (is_frame x) (instead_there f g frame page off)
+      ])
+
+module _ (sh : Shape) (across : ℕ) (k : Ledger) (rows : List Row) (frame : Frames) (dups : List DupRow) (p : Placed sh across k rows frame dups None) (n : ℕ) (d : DupRow) (lt : n < length dups) (g : ℕ) where
+  abbrev pub moving : DupRow
+  moving = get_or dups n d
+
+  abbrev pub q : ℕ
+  q = moving.place
+
+  -- the frame that the dup leaves
+  abbrev pub left : ℕ
+  left = place_frame k q
+
+  abbrev pub dead : Note
+  dead = record { kind = Dying; base = 0; generation = (frame_at k left).generation; content = (frame_at k left).content }
+
+  -- the frame to which it goes, in its next life
+  abbrev pub mounted : Note
+  mounted = record { kind = Stable; base = (frame_at k left).base; generation = (frame_at k g).generation + 1; content = (frame_at k left).content }
+
+  abbrev pub life : Life
+  life = record { frame = g; generation = (frame_at k g).generation + 1 }
+
+  abbrev pub next : Ledger
+  next = record { frames = set (set k.frames left dead) g mounted; places = set k.places q (Some life) }
+
+  module _ (inside : g < frames_of sh) (free : (frame_at k g).kind ≡ Free) (in_life : IsInLife k q) (stable : (frame_at k left).kind ≡ Stable) (node : across ≡ 0 → node_of sh g ≡ node_of sh left) (numbers : All (λ e. e.place ≢ q → e.number ≢ moving.number) dups) where
+    fits : DupFits sh across k moving
+    fits = p.each_dup n d lt
+
+    apart : g ≢ left
+    apart e = let both : Free ≡ Stable = sym free ∙ ap (λ h. (frame_at k h).kind) e ∙ stable in cc
+
+    unused : uses g frame rows ≡ 0
+    unused = let none : (frame_at k g).base ≡ 0 = subst (λ (x : Kind). FitsBase x (frame_at k g).base) free (p.kinds g) in let is : (frame_at k g).base ≡ uses g frame rows + 0 = p.bases g in omega (arith, is, none)
+
+    some : 1 ≤ (frame_at k left).base
+    some = subst (λ (x : Kind). FitsBase x (frame_at k left).base) stable (p.kinds left)
+
+    at : (P : Note → Type 0) (h : ℕ) → (h ≡ g → P mounted) → (h ≡ left → P dead) → (h ≢ g → h ≢ left → P (frame_at k h)) → P (frame_at next h)
+    at P h here there else' =
+        let long : length k.frames ≡ frames_of sh = p.frames_long in
+        let long' : length (set k.frames left dead) ≡ length k.frames = length-set k.frames left dead in
+        let low : left < frames_of sh = fits.frame in
+        dite (ℕ_discrete h g)
+        (λ e. subst P (sym (ap (frame_at next) e ∙ get_or-set_same (set k.frames left dead) g mounted blank (omega (arith, long, long', inside)))) (here e))
+        (λ ne. subst P (sym (get_or-set_other (set k.frames left dead) g h mounted blank ne)) (dite (ℕ_discrete h left)
+        (λ e. subst P (sym (ap (λ x. get_or (set k.frames left dead) x blank) e ∙ get_or-set_same k.frames left dead blank (omega (arith, long, low)))) (there e))
+        (λ off. subst P (sym (get_or-set_other k.frames left h dead blank off)) (else' ne off))))
+
+    named : named_at next q ≡ Some life
+    named = let pl : length k.places ≡ frames_of sh = p.places_long in let low : q < frames_of sh = fits.place in get_or-set_same k.places q (Some life) None (omega (arith, pl, low))
+
+    named_off : (e : ℕ) → e ≢ q → named_at next e ≡ named_at k e
+    named_off e ne = get_or-set_other k.places q e (Some life) None ne
+
+    frame_is : (e : ℕ) → e ≡ q → place_frame next e ≡ g
+    frame_is e same = ap (place_frame next) same ∙ ap (λ x. (life_or x).frame) named
+
+    frame_off : (e : ℕ) → e ≢ q → place_frame next e ≡ place_frame k e
+    frame_off e ne = ap (λ x. (life_or x).frame) (named_off e ne)
+
+    life_off : (e : ℕ) → e ≢ q → place_life next e ≡ place_life k e
+    life_off e ne = ap (λ x. (life_or x).generation) (named_off e ne)
+
+    at_g : (P : Note → Type 0) → P mounted → P (frame_at next g)
+    at_g P m = at P g (λ _. m) (λ e. absurd (apart e)) (λ ne _. absurd (ne refl))
+
+    is_in_life : (e : ℕ) → e ≡ q → IsInLife next e
+    is_in_life e same = subst (λ x. IsInLife next x) (sym same) (subst (λ (x : Option Life). (frame_at next (life_or x).frame).generation ≡ (life_or x).generation) (sym named) (at_g (λ x. x.generation ≡ (frame_at k g).generation + 1) refl))
+
+    -- no other place names the frame in its new life
+    too_young : (e : DupRow) → DupFits sh across k e → e.place ≢ q → place_frame k e.place ≡ g → IsInLife next e.place → ⊥
+    too_young e m ne same l =
+        let now : (frame_at next g).generation ≡ place_life k e.place = ap (λ h. (frame_at next h).generation) (sym (frame_off e.place ne ∙ same)) ∙ l ∙ life_off e.place ne in
+        let new : (frame_at next g).generation ≡ (frame_at k g).generation + 1 = at_g (λ x. x.generation ≡ (frame_at k g).generation + 1) refl in
+        let old : place_life k e.place ≤ (frame_at k g).generation = subst (λ h. place_life k e.place ≤ (frame_at k h).generation) same m.life in
+        omega (arith, now, new, old)
+
+    -- a frame that is not g stays in its life
+    same_life : (h : ℕ) → h ≢ g → (frame_at next h).generation ≡ (frame_at k h).generation
+    same_life h ne = at (λ x. x.generation ≡ (frame_at k h).generation) h (λ e. absurd (ne e)) (λ e. ap (λ y. (frame_at k y).generation) (sym e)) (λ _ _. refl)
+
+    off : (e : DupRow) → DupFits sh across k e → e.place ≢ q → IsInLife next e.place → IsInLife k e.place × (place_frame k e.place ≢ g)
+    off e m ne l =
+        let far : place_frame k e.place ≢ g = λ same. too_young e m ne same l in
+        (sym (same_life (place_frame k e.place) far) ∙ ap (λ h. (frame_at next h).generation) (sym (frame_off e.place ne)) ∙ l ∙ life_off e.place ne, far)
+
+    unlisted : All (λ r. frame r.page ≢ Some g) rows
+    unlisted i r0 low e = let used : 1 ≤ uses g frame rows = uses_some g frame rows i r0 low e in omega (arith, used, unused)
+
+    -- a row on the frame that it has now
+    module _ (r : Row) (f : ℕ) (far : f ≢ g) (had : Serves sh k dups r f) where
+      was : RowFits sh k r f
+      was = had.0
+
+      item_of : f ≡ left → merged_into moving.number r.state ≡ true
+      item_of e = (had.1 n d lt).back in_life e
+
+      moved_row : f ≡ left → RowFits sh next r g
+      moved_row e = record {
+        mapped = was.mapped;
+        frame = inside;
+        kind = at_g (λ x. x.kind ≡ kind_for r.state) (sym stable ∙ ap (λ h. (frame_at k h).kind) (sym e) ∙ was.kind);
+        content = at_g (λ x. x.content ≡ r.bytes) (ap (λ h. (frame_at k h).content) (sym e) ∙ was.content);
+        given = at_g (λ x. 1 ≤ x.generation) (omega arith);
+        node = λ alone. absurd (grind (arith, alone, merged_of_kind r.state (sym was.kind ∙ ap (λ h. (frame_at k h).kind) e ∙ stable)));
+      }
+
+      moved_agrees : f ≡ left → (e : DupRow) → DupFits sh across k e → (e.place ≢ q → e.number ≢ moving.number) → Agrees k r f e → Agrees next r g e
+      moved_agrees is e m others a = dite (ℕ_discrete e.place q)
+          (λ same. record {
+            item = λ _. (sym (frame_is e.place same), is_in_life e.place same);
+            back = λ _ _. a.back (subst (λ x. IsInLife k x) (sym same) in_life) (is ∙ ap (place_frame k) (sym same));
+          })
+          (λ ne. record {
+            item = λ t. absurd (others ne (one_number r.state moving.number e.number (item_of is) t));
+            back = λ l t. absurd ((off e m ne l).1 (sym (frame_off e.place ne) ∙ sym t));
+          })
+
+      still_row : f ≢ left → RowFits sh next r f
+      still_row ne =
+          let same : frame_at next f ≡ frame_at k f = at (λ x. x ≡ frame_at k f) f (λ e. absurd (far e)) (λ e. absurd (ne e)) (λ _ _. refl) in
+          record {
+            mapped = was.mapped;
+            frame = was.frame;
+            kind = ap (λ (x : Note). x.kind) same ∙ was.kind;
+            content = ap (λ (x : Note). x.content) same ∙ was.content;
+            given = subst (λ (x : Note). 1 ≤ x.generation) (sym same) was.given;
+            node = was.node;
+          }
+
+      still_agrees : f ≢ left → (e : DupRow) → DupFits sh across k e → Agrees k r f e → Agrees next r f e
+      still_agrees not' e m a = dite (ℕ_discrete e.place q)
+          (λ same. record {
+            item = λ t. absurd (not' ((a.item t).0 ∙ ap (place_frame k) same));
+            back = λ _ t. absurd (far (t ∙ frame_is e.place same));
+          })
+          (λ ne. record {
+            item = λ t. let y = a.item t in (y.0 ∙ sym (frame_off e.place ne), ap (λ h. (frame_at next h).generation) (frame_off e.place ne ∙ sym y.0) ∙ same_life f far ∙ ap (λ h. (frame_at k h).generation) y.0 ∙ y.1 ∙ sym (life_off e.place ne));
+            back = λ l t. a.back (off e m ne l).0 (t ∙ frame_off e.place ne);
+          })
+
+    served : (r : Row) (o : Option ℕ) → o ≢ Some g → IsServed sh k dups r o → IsServed sh next dups r (cond (is_frame left o) (Some g) o)
+    served r None other h = h
+    served r (Some f) other h =
+        let far : f ≢ g = λ e. other (ap Some e) in
+        dite (ℕ_discrete f left)
+        (λ e. subst (IsServed sh next dups r) (sym (ap (λ (b : Bool). cond b (Some g) (Some f)) (eq-eqb f left e)))
+        (moved_row r f far h e, λ m x l. moved_agrees r f far h e (get_or dups m x) (p.each_dup m x l) (numbers m x l) (h.1 m x l)))
+        (λ ne. subst (IsServed sh next dups r) (sym (ap (λ (b : Bool). cond b (Some g) (Some f)) (ne_eqb f left ne)))
+        (still_row r f far h ne, λ m x l. still_agrees r f far h ne (get_or dups m x) (p.each_dup m x l) (h.1 m x l)))
+
+    dup_here : (e : DupRow) → e.place ≡ q → DupFits sh across k e → DupFits sh across next e
+    dup_here e same m =
+        let fr : place_frame next e.place ≡ g = frame_is e.place same in
+        record {
+          place = m.place;
+          named = ap (λ x. is_some (named_at next x)) same ∙ ap is_some named;
+          frame = subst (λ x. x < frames_of sh) (sym fr) inside;
+          life = (let l : (frame_at next (place_frame next e.place)).generation ≡ place_life next e.place = is_in_life e.place same in omega (arith, l));
+          content = λ _. ap (λ h. (frame_at next h).content) fr ∙ at_g (λ x. x.content ≡ e.bytes) (ap (λ x. (frame_at k (place_frame k x)).content) (sym same) ∙ m.content (subst (λ x. IsInLife k x) (sym same) in_life));
+          shown = λ _ own. at_g (λ x. x.kind ≡ Private → ⊥) (λ bad. cc) (ap (λ h. (frame_at next h).kind) (sym fr) ∙ own);
+          node = λ z. ap (node_of sh) fr ∙ node z ∙ ap (λ x. node_of sh (place_frame k x)) (sym same) ∙ m.node z;
+        }
+
+    dup_there : (e : DupRow) → e.place ≢ q → DupFits sh across k e → DupFits sh across next e
+    dup_there e ne m =
+        let fo : place_frame next e.place ≡ place_frame k e.place = frame_off e.place ne in
+        let h : ℕ = place_frame k e.place in
+        record {
+          place = m.place;
+          named = ap is_some (named_off e.place ne) ∙ m.named;
+          frame = subst (λ x. x < frames_of sh) (sym fo) m.frame;
+          life = subst (λ (x : ℕ × ℕ). x.0 ≤ x.1) (λ t. (sym (life_off e.place ne) t, ap (λ y. (frame_at next y).generation) (sym fo) t))
+              (at (λ x. place_life k e.place ≤ x.generation) h
+              (λ same. let old : place_life k e.place ≤ (frame_at k g).generation = subst (λ y. place_life k e.place ≤ (frame_at k y).generation) same m.life in omega (arith, old))
+              (λ same. subst (λ y. place_life k e.place ≤ (frame_at k y).generation) same m.life)
+              (λ _ _. m.life));
+          content = λ l. let o = off e m ne l in ap (λ y. (frame_at next y).content) fo ∙ at (λ x. x.content ≡ e.bytes) h (λ same. absurd (o.1 same)) (λ same. ap (λ y. (frame_at k y).content) (sym same) ∙ m.content o.0) (λ _ _. m.content o.0);
+          shown = λ l own. let o = off e m ne l in at (λ x. x.kind ≡ Private → ⊥) h (λ same. absurd (o.1 same)) (λ _ bad. cc) (λ _ _. m.shown o.0) (ap (λ y. (frame_at next y).kind) (sym fo) ∙ own);
+          node = λ z. ap (node_of sh) fo ∙ m.node z;
+        }
+
+    pub remounted : Placed sh across next rows (instead left g frame) dups None
+    remounted = record {
+      frames_long = length-set (set k.frames left dead) g mounted ∙ length-set k.frames left dead ∙ p.frames_long;
+      places_long = length-set k.places q (Some life) ∙ p.places_long;
+      widths = λ h. at (λ x. length x.content ≡ PAGE_WORDS) h (λ _. p.widths left) (λ _. p.widths left) (λ _ _. p.widths h);
+      lives = λ h. at (λ x. GenerationFits sh.last_generation x.kind x.generation) h
+          (λ _. let below : (frame_at k g).generation < sh.last_generation = subst (λ (x : Kind). GenerationFits sh.last_generation x (frame_at k g).generation) free (p.lives g) in (omega arith, omega (arith, below)))
+          (λ _. subst (λ (x : Kind). GenerationFits sh.last_generation x (frame_at k left).generation) stable (p.lives left))
+          (λ _ _. p.lives h);
+      each_row = λ i r0 low. let r = get_or rows i r0 in served r (frame r.page) (unlisted i r0 low) (p.each_row i r0 low);
+      each_dup = λ m x l. dite (ℕ_discrete (get_or dups m x).place q) (λ same. dup_here (get_or dups m x) same (p.each_dup m x l)) (λ ne. dup_there (get_or dups m x) ne (p.each_dup m x l));
+      bases = λ h. at (λ x. x.base ≡ uses h (instead left g frame) rows + 0) h
+          (λ e. let new : uses h (instead left g frame) rows ≡ uses left frame rows = ap (λ y. uses y (instead left g frame) rows) e ∙ uses_new left g frame rows unused in let old : (frame_at k left).base ≡ uses left frame rows + 0 = p.bases left in omega (arith, new, old))
+          (λ e. let none : uses h (instead left g frame) rows ≡ 0 = ap (λ y. uses y (instead left g frame) rows) e ∙ uses_old left g frame rows apart in omega (arith, none))
+          (λ ng nf. let still : uses h (instead left g frame) rows ≡ uses h frame rows = uses_still left g frame rows h nf ng in let old : (frame_at k h).base ≡ uses h frame rows + 0 = p.bases h in omega (arith, still, old));
+      kinds = λ h. at (λ x. FitsBase x.kind x.base) h (λ _. some) (λ _. refl) (λ _ _. p.kinds h);
+      empty = λ e none. dite (ℕ_discrete e q) (λ same. absurd (none n d lt (sym same))) (λ ne. named_off e ne ∙ p.empty e none);
+    }

@@ -1,0 +1,389 @@
+-- A dup with items, and where its pages lie before and after it moves.
+use Rattle.ksm_book.proofs.Names.{list_any_at, [], Agrees, All, and_parts, ap, arith, blank, Bool, cases_Bool, cond, count_in, did, dup_frame, dup_numbered, DupFits, DupRow, Dying, each_at_page, each_has_number, eq-eqb, eqb-true, find, find_all, find_passes, Finds, FindsHeld, frame_at, frame_found, frame_number, Frames, frames_of, Free, Freeze, get_or, get_or-set_other, GuestPage, has_items, HasLost, HasMoved, if◌then◌else◌, inl, inr, instead, is_frame, is_item, IsInLife, IsLaid, IsLoose, IsLowestFree, IsServed, IsSound, item_count, items_on, KeeperView, Kind, kind_for, Ledger, length, length-set, Life, life_or, List, list_any, ltb-true, lying, Made, merged_into, mounting, Moves, named_at, ne_eqb, node_of, None, Note, Option, PAGE_WORDS, PagesView, past_lives, place_frame, Placed, Publish, refl, Row, row_at, same_page, same_Some, set, Shape, Some, spent, spent_on, Stable, state_of, subst, sym, true, with_frame, ℕ, ◌&&◌, ◌*◌, ◌+◌, ◌<◌, ◌==◌, ◌∙◌, ◌∷◌, ◌≡◌, ◌≢◌, ◌≤◌}
+use mathlib.Core.Logic.{dite}
+use native.Mathlib.Decide.{ℕ_discrete}
+use Rattle.ksm_book.proofs.ByPage.{found_page, same_frames}
+use Rattle.ksm_book.proofs.Filling.{at_again, on_node, mounted}
+use Rattle.ksm_book.proofs.Keeping.{node_end, searched_placed, searched_spends, spent_set}
+use Rattle.ksm_book.proofs.Laying.{kept, served_at, shape_same}
+use Rattle.ksm_book.proofs.Made.{made_one}
+use Rattle.ksm_book.proofs.Moves.{Serves, base_is_items, lies_as_item}
+use Rattle.ksm_book.proofs.Remounted.{instead_there, remounted}
+use Rattle.ksm_book.proofs.Sharing.{first_found, index_found, state_of_item}
+use Rattle.ksm_book.proofs.Shown.{lost as so_lost, moved as so_moved}
+
+-- the dup with items at a place is to move, from the frame on which its items lie
+pub record Leaves (p : PagesView) (k : KeeperView) (place : ℕ) (dup : DupRow) (g : ℕ) : Type 0 where
+  pub laid : IsLaid p k
+  pub lives : (cursor : Option GuestPage) × (passes : ℕ) × IsSound (state_of p cursor passes)
+  pub live : find (λ d. d.place == place && has_items p.rows d) p.dups ≡ Some dup
+  pub lie : All (λ d. d.place ≡ place → All (λ r. merged_into d.number r.state ≡ true → p.frame r.page ≡ Some g) p.rows) p.dups
+  pub absent : (page : GuestPage) → row_at page p.rows ≡ None → p.frame page ≡ None
+
+pub leaves : {p : PagesView} {k : KeeperView} {place : ℕ} {dup : DupRow} {g : ℕ} → IsLaid p k → (cursor : Option GuestPage) × (passes : ℕ)
+    × IsSound (state_of p cursor passes)
+    → find (λ d. d.place == place && has_items p.rows d) p.dups ≡ Some dup
+    → All (λ d. d.place ≡ place → All (λ r. merged_into d.number r.state ≡ true → p.frame r.page ≡ Some g) p.rows) p.dups
+    → ((page : GuestPage) → row_at page p.rows ≡ None → p.frame page ≡ None) → Leaves p k place dup g
+leaves laid lives live lie absent = record { laid = laid; lives = lives; live = live; lie = lie; absent = absent }
+
+-- and goes to a free frame of a node, found once the dying frames were reaped
+pub record GoesTo (p : PagesView) (k w : KeeperView) (dup : DupRow) (node f : ℕ) : Type 0 where
+  pub less : node < p.shape.nodes
+  pub home : p.knobs.merge_across_nodes ≡ 0 → node ≡ dup.tree
+  pub finds : Finds k w node f
+
+pub goes_to : (p : PagesView) {k w : KeeperView} (dup : DupRow) {node f : ℕ} → node < p.shape.nodes
+    → (p.knobs.merge_across_nodes ≡ 0 → node ≡ dup.tree) → Finds k w node f → GoesTo p k w dup node f
+goes_to p dup less home finds = record { less = less; home = home; finds = finds }
+
+module _ {v : PagesView} {k : KeeperView} {place : ℕ} {dup : DupRow} {g : ℕ} (at : Leaves v k place dup g) where
+  abbrev sh : Shape
+  sh = v.shape
+
+  abbrev dups : List DupRow
+  dups = v.dups
+
+  abbrev across : ℕ
+  across = v.knobs.merge_across_nodes
+
+  abbrev test : DupRow → Bool
+  test d = d.place == place && has_items v.rows d
+
+  abbrev by_item : Row → Bool
+  by_item r = merged_into dup.number r.state
+
+  place_is : dup.place ≡ place
+  place_is = eqb-true dup.place place (and_parts (dup.place == place) (has_items v.rows dup) (find_passes test dups dup at.live)).0
+
+  item_some : 1 ≤ item_count v.rows dup
+  item_some = ltb-true 0 (item_count v.rows dup) (and_parts (dup.place == place) (has_items v.rows dup)
+      (find_passes test dups dup at.live)).1
+
+  item_few : item_count v.rows dup ≤ 1024
+  item_few = (let few = find_all test (λ d. item_count v.rows d ≤ v.knobs.max_page_sharing) dups dup at.live at.lives.2.limit in let most =
+      at.lives.2.knobs.max_page_sharing.1 in omega (arith, few, most))
+
+  stands : dup_numbered dup.number dups ≡ Some dup
+  stands = find_all test (λ d. dup_numbered d.number dups ≡ Some d) dups dup at.live (each_has_number dups at.lives.2.dups_rise)
+
+  abbrev index : (n : ℕ) × (n < length dups) × ((d : DupRow) → get_or dups n d ≡ dup)
+  index = index_found test dups dup at.live
+
+  abbrev m : DupRow
+  m = get_or dups index.0 dup
+
+  m_is : m ≡ dup
+  m_is = index.2 dup
+
+  numbers : All (λ e. e.place ≢ m.place → e.number ≢ m.number) dups
+  numbers n x lt apart same =
+      let e : DupRow = get_or dups n x in
+      let there : dup_numbered e.number dups ≡ Some e = each_has_number dups at.lives.2.dups_rise n x lt in
+      let e_is : e ≡ dup = same_Some _ _ (sym there ∙ ap (λ y. dup_numbered y dups) (same ∙ ap (λ (y : DupRow). y.number) m_is) ∙ stands) in
+      apart (ap (λ (y : DupRow). y.place) (e_is ∙ sym m_is))
+
+  -- the dup has a first item
+  first : (item : Row) × (find by_item v.rows ≡ Some item)
+  first = first_found by_item v.rows item_some
+
+  abbrev item : Row
+  item = first.0
+
+  into : merged_into dup.number item.state ≡ true
+  into = find_passes by_item v.rows item first.1
+
+  item_lies : v.frame item.page ≡ Some g
+  item_lies =
+      let all = find_all test (λ d. d.place ≡ place → All (λ r. merged_into d.number r.state ≡ true → v.frame r.page ≡ Some g) v.rows) dups
+      dup at.live at.lie place_is in
+      find_all by_item (λ r. merged_into dup.number r.state ≡ true → v.frame r.page ≡ Some g) v.rows item first.1 all into
+
+  -- the frame of the dup is its first item's
+  dup_frame_is : dup_frame v.frame v.rows dup.number ≡ g
+  dup_frame_is = ap (frame_found v.frame) first.1 ∙ ap frame_number item_lies
+
+  module _ {w : KeeperView} {node f : ℕ} (to : GoesTo v k w dup node f) where
+    abbrev p : Placed sh across w.ledger v.rows v.frame dups None
+    p = kept sh across k v.rows v.frame dups None at.laid.same w None
+        (λ a rows frame ds. searched_placed k w node (subst (λ (x : Shape). node < x.nodes) (sym at.laid.same) to.less) to.finds.reaped a
+        rows frame ds None) at.laid.placed
+
+    table_is : w.table ≡ k.table
+    table_is = ap (λ (z : KeeperView). z.table) to.finds.reaped.after
+
+    more_spent : spent k.ledger ≤ spent w.ledger
+    more_spent = searched_spends k w node to.finds.reaped
+
+    abbrev n : Note
+    n = frame_at w.ledger g
+
+    fits : Serves sh w.ledger dups item g
+    fits = subst (IsServed sh w.ledger dups item) item_lies (served_at sh across w.ledger v.rows v.frame dups None p item.page item
+        (find_all by_item (λ r. row_at r.page v.rows ≡ Some r) v.rows item first.1 (each_at_page v.rows at.lives.2.rows_rise)))
+
+    on_frame : (g ≡ place_frame w.ledger dup.place) × IsInLife w.ledger dup.place
+    on_frame = (find_all test (Agrees w.ledger item g) dups dup at.live fits.1).item into
+
+    stable : n.kind ≡ Stable
+    stable = fits.0.kind ∙ ap kind_for (state_of_item dup.number item.state into)
+
+    -- the dup's items are the rows on its frame
+    on_it : All (λ r. is_frame g (v.frame r.page) ≡ merged_into dup.number r.state) v.rows
+    on_it i r lt = ap (λ x. is_frame x (v.frame (get_or v.rows i r).page)) on_frame.0
+        ∙ find_all test (λ d. IsInLife w.ledger d.place → is_frame (place_frame w.ledger d.place)
+        (v.frame (get_or v.rows i r).page) ≡ merged_into d.number (get_or v.rows i r).state) dups dup at.live
+        (λ m d less. λ life. lies_as_item sh across w.ledger v.rows v.frame dups p m d less life i r lt) on_frame.1
+
+    -- so they go from there
+    items_go : (f' : ℕ) → items_on dup.number f' v.rows v.frame ≡ instead g f' v.frame
+    items_go f' = same_frames _ _ (λ page. by page (row_at page v.rows) refl)
+      where
+        by : (page : GuestPage) (o : Option Row) → row_at page v.rows ≡ o
+            → items_on dup.number f' v.rows v.frame page ≡ instead g f' v.frame page
+        by page None none = ap (λ (o : Option Row). if is_item dup.number o then Some f' else v.frame page) none
+            ∙ sym (instead_there g f' v.frame page (λ on. nowhere_is (sym (at.absent page none) ∙ on)))
+          where
+            nowhere_is : None ≡ Some g → ⊥
+            nowhere_is e = cc
+        by page (Some r) found =
+            let same = ap (λ q. is_frame g (v.frame q)) (sym (found_page page v.rows r found))
+            ∙ find_all (λ s. same_page s.page page) (λ s. is_frame g (v.frame s.page) ≡ merged_into dup.number s.state) v.rows r found
+            on_it in
+            ap (λ (b : Bool). if b then Some f' else v.frame page) (ap (is_item dup.number) found ∙ sym same)
+
+    base : n.base ≡ item_count v.rows dup
+    base = ap (λ x. (frame_at w.ledger x).base) on_frame.0
+        ∙ find_all test (λ d. IsInLife w.ledger d.place → (frame_at w.ledger (place_frame w.ledger d.place)).base ≡ item_count v.rows d)
+        dups dup at.live
+        (λ i d lt. base_is_items sh across w.ledger v.rows v.frame dups p i d lt) on_frame.1
+
+    bytes : n.content ≡ dup.bytes
+    bytes = ap (λ x. (frame_at w.ledger x).content) on_frame.0
+        ∙ (find_all test (DupFits sh across w.ledger) dups dup at.live p.each_dup).content on_frame.1
+
+    shape_is : w.table.shape ≡ sh
+    shape_is = shape_same sh k w at.laid.same table_is
+
+    pub may_freeze : (g < frames_of w.table.shape) × (n.kind ≡ Stable)
+    may_freeze = (subst (λ (x : Shape). g < frames_of x) (sym shape_is) fits.0.frame, stable)
+
+    lowest : IsLowestFree sh w.ledger node f
+    lowest = subst (λ (x : Shape). IsLowestFree x w.ledger node f) at.laid.same to.finds.lowest
+
+    inside : f < frames_of sh
+    inside = let end : node * sh.frames_per_node + sh.frames_per_node ≤ frames_of sh = node_end node sh.nodes sh.frames_per_node to.less in
+        let high = lowest.high in omega (arith, end, high)
+
+    within : f < length w.ledger.frames
+    within = let long : length w.ledger.frames ≡ frames_of sh = p.frames_long in let lt = inside in omega (arith, long, lt)
+
+    within_g : g < length w.ledger.frames
+    within_g = let long : length w.ledger.frames ≡ frames_of sh = p.frames_long in let lt = fits.0.frame in omega (arith, long, lt)
+
+    apart : f ≢ g
+    apart e = let both : Free ≡ Stable = sym lowest.free ∙ ap (λ x. (frame_at w.ledger x).kind) e ∙ stable in cc
+
+    -- the exchange of the old frame's count
+    module _ {u : KeeperView} (found : ℕ) (freezes : u ≡ did w (Freeze g) found) where
+      by_freeze : Made w u (Freeze g ∷ [])
+      by_freeze = made_one w u (Freeze g) found freezes
+
+      frozen_table : u.table ≡ w.table
+      frozen_table = ap (λ (z : KeeperView). z.table) freezes
+
+      -- it fails where a reader holds the frame
+      module _ (other : count_in found ≢ n.base) where
+        still : u.ledger ≡ w.ledger
+        still = ap (λ (z : KeeperView). z.ledger) freezes ∙ ap
+            (λ (b : Bool). cond b (with_frame w.ledger g (record
+            { kind = Dying; base = 0; generation = n.generation; content = n.content })) w.ledger) (ne_eqb (count_in found) n.base other)
+
+        pub found_held : FindsHeld (lying v k) (lying v u) v.rows dup node
+        found_held = record {
+          got = f;
+          searched = w;
+          finds = to.finds;
+          freezes = subst (λ x. Made w u (Freeze x ∷ [])) (sym dup_frame_is) by_freeze;
+          kept = ap (λ x. (frame_at u.ledger x).kind) dup_frame_is ∙ ap (λ (z : Ledger). (frame_at z g).kind) still ∙ stable;
+          frame = refl;
+        }
+
+        pub lost : HasLost k u
+        lost = so_lost (lying v k) (lying v u) v.rows dup node found_held
+
+        pub laid_lost : IsLaid v u
+        laid_lost = record {
+          small = at.laid.small;
+          same = shape_same sh w u shape_is frozen_table;
+          placed = subst (λ (z : Ledger). Placed sh across z v.rows v.frame dups None) (sym still) p;
+          spent = (let before = at.laid.spent in let more = more_spent in let e : spent u.ledger ≡ spent w.ledger = ap spent still in omega
+              (arith, before, more, e));
+        }
+
+      -- it is made where the keeper's references are all
+      module _ (all : count_in found ≡ n.base) where
+        abbrev dead : Note
+        dead = record { kind = Dying; base = 0; generation = n.generation; content = n.content }
+
+        frozen : u.ledger ≡ with_frame w.ledger g dead
+        frozen = ap (λ (z : KeeperView). z.ledger) freezes ∙ ap (λ (b : Bool). cond b (with_frame w.ledger g dead) w.ledger)
+            (eq-eqb (count_in found) n.base all)
+
+        at_g : frame_at u.ledger g ≡ dead
+        at_g = ap (λ (z : Ledger). frame_at z g) frozen ∙ at_again w.ledger g within_g dead
+
+        at_other : (x : ℕ) → x ≢ g → frame_at u.ledger x ≡ frame_at w.ledger x
+        at_other x ne = ap (λ (z : Ledger). frame_at z x) frozen ∙ get_or-set_other w.ledger.frames g x dead blank ne
+
+        pub mount_within : f < length u.ledger.frames
+        mount_within = (let e : length u.ledger.frames ≡ length w.ledger.frames = ap (λ (z : Ledger). length z.frames) frozen
+            ∙ length-set w.ledger.frames g dead in let lt = within in omega (arith, e, lt))
+
+        pub mount_place : place < frames_of u.table.shape
+        mount_place = subst (λ (x : Shape × ℕ). x.1 < frames_of x.0) (λ t. (sym (shape_same sh w u shape_is frozen_table) t, place_is t))
+            (find_all test (DupFits sh across w.ledger) dups dup at.live p.each_dup).place
+
+        pub mount_free : (frame_at u.ledger f).kind ≡ Free
+        mount_free = ap (λ (x : Note). x.kind) (at_other f apart) ∙ lowest.free
+
+        pub mount_dying : (frame_at u.ledger g).kind ≡ Dying
+        mount_dying = ap (λ (x : Note). x.kind) at_g
+
+        pub mount_wide : (x : ℕ) → length (frame_at u.ledger x).content ≡ PAGE_WORDS
+        mount_wide x = dite (ℕ_discrete x g)
+            (λ e. ap (λ y. length (frame_at u.ledger y).content) e ∙ ap (λ (y : Note). length y.content) at_g ∙ p.widths g)
+            (λ ne. ap (λ (y : Note). length y.content) (at_other x ne) ∙ p.widths x)
+
+        pub mount_some : {items : ℕ} → items ≡ n.base → 1 ≤ items
+        mount_some is = (let b = base in let one = item_some in omega (arith, is, b, one))
+
+        pub mount_few : {items : ℕ} → items ≡ n.base → items ≤ 1024
+        mount_few is = (let b = base in let most = item_few in omega (arith, is, b, most))
+
+        loose_of : (o : Option Life) → (life_or o).frame ≡ g → IsLoose u.ledger o
+        loose_of None e = tt
+        loose_of (Some life) e = λ _ kind. let both : Dying ≡ Stable = sym mount_dying ∙ ap (λ x. (frame_at u.ledger x).kind) (sym e) ∙ kind in cc
+
+        pub mount_loose : IsLoose u.ledger (named_at u.ledger place)
+        mount_loose = subst (λ x. IsLoose u.ledger (named_at u.ledger x)) place_is
+            (loose_of (named_at u.ledger dup.place) (ap (λ (z : Ledger). place_frame z dup.place) frozen ∙ sym on_frame.0))
+
+        -- and the dup stands on the new frame
+        module _ {x : KeeperView} {items : ℕ} (items_are : items ≡ n.base)
+            (does : Made u x (mounting g f place items (frame_at u.ledger g).content)) where
+          mounts : Made u x (mounting g f place n.base (frame_at u.ledger g).content)
+          mounts = subst (λ y. Made u x (mounting g f place y (frame_at u.ledger g).content)) items_are does
+
+          module _ (q : PagesView) (goes : q ≡ record v { frame = items_on dup.number f v.rows v.frame }) where
+            goes_there : q.frame ≡ instead g f v.frame
+            goes_there = ap (λ (y : PagesView). y.frame) goes ∙ items_go f
+
+            pub moves : Moves (lying v k) (lying q x) v.rows dup node
+            moves = record {
+              got = f;
+              searched = w;
+              finds = to.finds;
+              frozen = u;
+              freezes = subst (λ y. Made w u (Freeze y ∷ [])) (sym dup_frame_is) by_freeze;
+              exchanged = ap (λ y. (frame_at u.ledger y).kind) dup_frame_is ∙ mount_dying;
+              mounts = subst (λ (z : ℕ × ℕ × ℕ × List ℕ). Made u x (mounting z.0 f z.1 z.2 z.3))
+                  (λ t. (sym dup_frame_is t, sym place_is t, base t, (ap (λ (y : Note). y.content) at_g ∙ bytes) t)) mounts;
+              frame = goes_there ∙ ap (λ y. instead y f v.frame) (sym dup_frame_is);
+            }
+
+            pub has_moved : (before : KeeperView) × (x ≡ did before (Publish place f) 0) → HasMoved k x place node
+            unfolding moves
+            has_moved ends = subst (λ y. HasMoved k x y node) place_is
+                (so_moved (lying v k) (lying q x) v.rows dup node moves
+                (ends.0, ends.1 ∙ ap (λ y. did ends.0 (Publish y f) 0) (sym place_is))
+                (ap (λ y. (frame_at w.ledger y).kind) dup_frame_is ∙ stable))
+
+            abbrev full : Note
+            full = record { kind = Stable; base = n.base; generation = (frame_at w.ledger f).generation + 1; content = n.content }
+
+            abbrev life : Life
+            life = record { frame = f; generation = (frame_at w.ledger f).generation + 1 }
+
+            ledger_is : x.ledger ≡ record {
+              frames = set (set w.ledger.frames g dead) f full;
+              places = set w.ledger.places place
+                  (Some life);
+            }
+            ledger_is = mounted u x g f place n.base (frame_at u.ledger g).content mount_within (mount_wide f ∙ sym (mount_wide g))
+                (mount_some refl) refl mounts ∙ (λ t. record {
+                  frames = set (frozen t).frames f (record {
+                    kind = Stable;
+                    base = n.base;
+                    generation = (at_other f apart t).generation + 1;
+                    content = (at_g t).content;
+                  });
+                  places = set (frozen t).places place (Some (record { frame = f; generation = (at_other f apart t).generation + 1 }));
+                })
+
+            -- by the dup's index the same
+            left_is : g ≡ place_frame w.ledger m.place
+            left_is = on_frame.0 ∙ ap (λ (y : DupRow). place_frame w.ledger y.place) (sym m_is)
+
+            pub laid_moved_dup : IsLaid q x
+            laid_moved_dup =
+                let there = remounted sh across w.ledger v.rows v.frame dups p index.0 dup index.1 f inside lowest.free
+                (subst (λ (y : DupRow). IsInLife w.ledger y.place) (sym m_is) on_frame.1)
+                (ap (λ y. (frame_at w.ledger y).kind) (sym left_is) ∙ stable)
+                (λ z. on_node node sh.frames_per_node f lowest.low lowest.high ∙ to.home z
+                ∙ sym ((find_all test (DupFits sh across w.ledger) dups dup at.live p.each_dup).node z)
+                ∙ ap (node_of sh) (sym on_frame.0 ∙ left_is))
+                numbers in
+                subst (λ (y : PagesView). IsLaid y x) (sym (goes ∙ ap (λ fr. record v { frame = fr }) (items_go f))) (record {
+                  small = at.laid.small;
+                  same = shape_same sh u x (shape_same sh w u shape_is frozen_table) (ap (λ (z : KeeperView). z.table) mounts.after);
+                  placed = subst (λ (z : Ledger × Frames). Placed sh across z.0 v.rows z.1 dups None)
+                      (λ t. (
+                        ((λ i. record {
+                          frames = set (set w.ledger.frames (sym left_is i)
+                              (record {
+                                kind = Dying;
+                                base = 0;
+                                generation = (frame_at w.ledger (sym left_is i)).generation;
+                                content =
+                                    (frame_at w.ledger (sym left_is i)).content;
+                              })) f
+                              (record {
+                                kind = Stable;
+                                base = (frame_at w.ledger (sym left_is i)).base;
+                                generation =
+                                    (frame_at w.ledger f).generation + 1;
+                                content = (frame_at w.ledger (sym left_is i)).content;
+                              });
+                          places = set w.ledger.places ((ap (λ (y : DupRow). y.place) m_is ∙ place_is) i) (Some life);
+                        }) ∙ sym ledger_is) t,
+                        ap (λ y. instead y f v.frame) (sym left_is) t,
+                      )) there;
+                  spent = spent_still;
+                })
+              where
+                spent_still : v.next ≤ spent x.ledger
+                spent_still =
+                    let k1 : Ledger = with_frame w.ledger g dead in
+                    let in1 : f < length k1.frames = (let e : length k1.frames ≡ length w.ledger.frames = length-set w.ledger.frames g
+                    dead in let lt = within in omega (arith, e, lt)) in
+                    let one : spent k1 + spent_on n ≡ spent w.ledger + n.generation = spent_set w.ledger g dead within_g in
+                    let was : spent_on n ≡ n.generation = ap (λ (y : Kind). past_lives y n.generation) stable in
+                    let two : spent (with_frame k1 f full) + spent_on (frame_at k1 f) ≡ spent k1 +
+                    ((frame_at w.ledger f).generation + 1) = spent_set k1 f full in1 in
+                    let here : frame_at k1 f ≡ frame_at w.ledger f = get_or-set_other w.ledger.frames g f dead blank apart in
+                    let was_free : spent_on (frame_at k1 f) ≡ (frame_at w.ledger f).generation = ap spent_on here
+                    ∙ ap (λ (y : Kind). past_lives y (frame_at w.ledger f).generation) lowest.free in
+                    let end : spent x.ledger ≡ spent (with_frame k1 f full) = ap spent ledger_is in
+                    let before = at.laid.spent in
+                    let more = more_spent in
+                    omega (arith, one, was, two, was_free, end, before, more)
+
+-- a dup stands at the place
+pub taken_place : {v : PagesView} {k : KeeperView} {place : ℕ} {dup : DupRow} {g : ℕ} → Leaves v k place dup g
+    → list_any (λ d. d.place == place) v.dups ≡ true
+taken_place {v} {k} {place} {dup} {g} at =
+    let test : DupRow → Bool = λ d. d.place == place && has_items v.rows d in
+    let i = index_found test v.dups dup at.live in
+    list_any_at (λ d. d.place == place) v.dups i.0 dup i.1
+    (ap (λ (d : DupRow). d.place == place) (i.2 dup) ∙ (and_parts (dup.place == place) (has_items v.rows dup) (find_passes test v.dups dup at.live)).0)

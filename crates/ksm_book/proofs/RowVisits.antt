@@ -1,0 +1,309 @@
+-- The visit of a row, by what is found: what becomes of the book, and what is done to the frames.
+use Rattle.ksm_book.proofs.Names.{[], Add, All, All-contains_itself, and_parts, ap, arith, Best, best_dup, best_dup_has_room, BookState, BookValue, BookView, Bool, change_row, Comes, Contains, doing, DupRow, each_at_page, emptying, false, find, find_all, find_passes, frame_found, frame_number, Frames, GuestPage, handled, handling, HasRoom, HasStayed, idle, IfSome, if◌then◌else◌, is_best, is_restless, IsAlone, IsDupOf, IsForZero, IsJoined, IsLaid, IsSound, item_count, joining, KeeperStep, KeeperView, leaving, leb-true, lies_on, List, lying, Made, mapped, MatchOption, May, may_join, MayJoin, Merged, merged_into, merged_state, nat_le, nat_lt, None, not, Option, page_visited, PagesView, paired, pairing, partner, Performs, Placed, Reached, refl, Row, row_at, row_visited, row_visiting, same_Some, shared_state, Some, sound_row_visited, state_of, stayed, staying, Sub, subst, sym, true, true≢false, view_of, visited, VisitsPage, Zero, ℕ, ◌∙◌, ◌∷◌, ◌≡◌, ◌≤◌}
+use Rattle.ksm_base.specs.declared.row.PageState.TheVariants.{Private}
+use Rattle.frame_table.specs.Kept.{Did}
+use Rattle.ksm_book.proofs.ByPage.{found_page, row_of_page}
+use Rattle.ksm_book.proofs.Keeping.{left_placed, left_spends, may_leave}
+use Rattle.ksm_book.proofs.Laying.{laid_rows}
+use Rattle.ksm_book.proofs.Made.{made_one, made_then}
+use Rattle.ksm_book.proofs.Moves.{swapped}
+use Rattle.ksm_book.proofs.Sharing.{first_found, laid_joined, may_join as join_may, may_part, state_of_item}
+use Rattle.ksm_book.proofs.Singles.{alone_now, book}
+
+-- a row that a visit may change has a frame of its own
+pub restless_own : (row : Row) → is_restless row ≡ true → shared_state row.state ≡ false
+restless_own row is = let both = and_parts row.mergeable (not (shared_state row.state)) is in grind (arith, both.1)
+
+-- what a visit does with a row with a frame of its own, by the dup that it may join
+pub visited_by : (b : BookState) (row : Row) (o : Option DupRow) → is_restless row ≡ true → best_dup b.knobs b.rows b.dups row ≡ o →
+    row_visited b row ≡ handled o b row
+visited_by b row o is best = ap (λ m. if m then b else handled (best_dup b.knobs b.rows b.dups row) b row) (restless_own row is) ∙ ap
+    (λ x. handled x b row) best
+
+-- and with the frames
+pub visiting_by : (b : BookState) (frame : Frames) (row : Row) (o : Option DupRow) → is_restless row ≡ true → best_dup b.knobs b.rows b.dups
+    row ≡ o
+    → row_visiting b frame row ≡ handling o b frame row
+visiting_by b frame row o is best = ap (λ m. if m then idle frame else handling (best_dup b.knobs b.rows b.dups row) b frame row)
+    (restless_own row is) ∙ ap (λ x. handling x b frame row) best
+
+-- a row that was not unchanged is marked so, and becomes Private
+pub marked_is : (b : BookState) (row : Row) → is_restless row ≡ true → best_dup b.knobs b.rows b.dups row ≡ None → row.unchanged ≡ false
+    → row_visited b row ≡ record b { rows = change_row row.page (λ r. record r { unchanged = true; state = Private }) b.rows }
+marked_is b row is best changed =
+    visited_by b row None is best ∙ ap (λ u. if u then stayed b row else record b
+    { rows = change_row row.page (λ r. record r { unchanged = true; state = Private }) b.rows }) changed
+
+pub marking_is : (b : BookState) (frame : Frames) (row : Row) → is_restless row ≡ true → best_dup b.knobs b.rows b.dups row ≡ None →
+    row.unchanged ≡ false → row_visiting b frame row ≡ idle frame
+marking_is b frame row is best changed = visiting_by b frame row None is best ∙ ap (λ u. if u then staying b frame row else idle frame)
+    changed
+
+-- a row whose bytes have stayed becomes Zero, or is paired
+module _ (b : BookState) (frame : Frames) (row : Row) (zeroes : Bool) (stays : HasStayed b zeroes row) where
+  pub stayed_is : row_visited b row ≡ (if zeroes then record b { rows = change_row row.page (λ r. record r { state = Zero }) b.rows } else
+      paired (partner b.knobs b.rows row) b row)
+  stayed_is =
+      visited_by b row None stays.restless stays.none
+      ∙ ap (λ u. if u then stayed b row else record b {
+        rows = change_row row.page (λ r. record r { unchanged = true; state = Private })
+            b.rows;
+      }) stays.unchanged
+      ∙ ap (λ z. if z then record b { rows = change_row row.page (λ r. record r { state = Zero }) b.rows } else paired
+      (partner b.knobs b.rows row) b row) stays.zeroes
+
+  pub staying_is : row_visiting b frame row ≡ (if zeroes then emptying frame row.page else pairing (partner b.knobs b.rows row) b frame row)
+  staying_is =
+      visiting_by b frame row None stays.restless stays.none ∙ ap (λ u. if u then staying b frame row else idle frame) stays.unchanged
+      ∙ ap (λ z. if z then emptying frame row.page else pairing (partner b.knobs b.rows row) b frame row) stays.zeroes
+
+-- ---------------------------------------------------------------- what the visit of a page comes to
+
+-- what is so of the row of a page is so of the row that was found
+pub at_row : (P : Row → Type 0) (page : GuestPage) (rows : List Row) (row : Row) → row_at page rows ≡ Some row → MatchOption
+    (row_at page rows) (true ≡ false) P → P row
+at_row P page rows row found is = subst (λ o. MatchOption o (true ≡ false) P) found is
+
+-- a step of the keeper was made, as its call says
+pub made_by : {v w : KeeperView} {e : KeeperStep} → Did v e w → Made v w (e ∷ [])
+made_by {v} {w} {e} did = made_one v w e did.0 did.1
+
+-- a book, seen as v, lies lawfully, and something is so of the row of a page
+pub record Meets (P : BookState → Row → Type 0) (p : PagesView) (k : KeeperView) (cursor : Option GuestPage) (passes : ℕ) (v : BookView)
+    (page : GuestPage) : Type 0 where
+  pub is : book p k cursor passes ≡ v
+  pub sound : IsSound (state_of p cursor passes)
+  pub laid : IsLaid p k
+  pub row : Row
+  pub found : row_at page p.rows ≡ Some row
+  pub so : P (state_of p cursor passes) row
+
+-- where it is so in the book as callers see it, it is so in the book
+pub meets : (P : BookState → Row → Type 0) {p : PagesView} {k : KeeperView} {cursor : Option GuestPage} {passes : ℕ} {now : BookView}
+    {page : GuestPage} → IsSound (state_of p cursor passes) × IsLaid p k → book p k cursor passes ≡ now
+    → MatchOption (row_at page now.state.rows) (true ≡ false) (P now.state) → Meets P p k cursor passes now page
+meets P {p} {k} {cursor} {passes} {now = now} {page = page} lawful same told =
+    by (row_at page p.rows) refl (subst (λ (x : BookView). MatchOption (row_at page x.state.rows) (true ≡ false) (P x.state)) (sym same)
+    told)
+  where
+    by : (o : Option Row) → row_at page p.rows ≡ o → MatchOption o (true ≡ false) (P (state_of p cursor passes))
+        → Meets P p k cursor passes now page
+    by None none is = absurd (true≢false is)
+    by (Some row) found is = record { is = same; sound = lawful.0; laid = lawful.1; row = row; found = found; so = is }
+
+-- what is so of the book behind the visit of a page
+pub record Leads (v : BookView) (q : PagesView) (l : KeeperView) (cursor : Option GuestPage) (passes : ℕ) (page : GuestPage) : Type 0 where
+  pub lawful : IsSound (state_of q cursor passes) × IsLaid q l
+  pub visits : VisitsPage v (book q l cursor passes) page
+
+module _ {P : BookState → Row → Type 0} {p : PagesView} {k : KeeperView} {cursor : Option GuestPage} {passes : ℕ} {v : BookView}
+    {page : GuestPage} (at : Meets P p k cursor passes v page) where
+  pub page_is : at.row.page ≡ page
+  page_is = found_page page p.rows at.row at.found
+
+  -- its row is found by the row's own page
+  pub there_is : row_at at.row.page p.rows ≡ Some at.row
+  there_is = ap (λ q. row_at q p.rows) page_is ∙ at.found
+
+  -- the visit of a row leads to a sound book
+  pub leads : (q : PagesView) (l : KeeperView) → is_restless at.row ≡ true → IsLaid q l
+      → state_of q cursor passes ≡ row_visited (state_of p cursor passes) at.row
+      → Performs (lying p k) (lying q l) (row_visiting (state_of p cursor passes) p.frame at.row) → Leads v q l cursor passes page
+  leads q l restless laid state does = record {
+    lawful = (
+      subst IsSound (sym state) (sound_row_visited (state_of p cursor passes) at.row (record {
+        mergeable = (and_parts at.row.mergeable (not (shared_state at.row.state)) restless).0;
+        once = row_of_page at.row.page p.rows at.row at.sound.rows_rise there_is;
+      }) at.sound),
+      laid,
+    );
+    visits = subst (λ (x : BookView). VisitsPage x (book q l cursor passes) page) at.is
+        (subst (λ o. MatchOption o (true ≡ false) (λ r. (state_of q cursor passes ≡ row_visited (state_of p cursor passes) r)
+        × Performs (lying p k) (lying q l) (row_visiting (state_of p cursor passes) p.frame r))) (sym at.found) (state, does));
+  }
+
+-- where the row of a page was visited, it has come to that
+pub visit_comes : (v w : BookValue) (page : GuestPage) (row : Row) → row_at page v.state.rows ≡ Some row → is_restless row ≡ true → w.state
+    ≡ row_visited v.state row
+    → Performs (mapped (view_of v)) (mapped (view_of w)) (row_visiting v.state (view_of v).frame row) → Comes v w
+    (λ s. page_visited doing s page)
+visit_comes v w page row found restless state does = λ from s before.
+    let is : page_visited doing s page ≡ (row_visited s.0 row, doing s.0 s.1 row) =
+    ap (visited doing s) (ap (λ (b : BookState). row_at page b.rows) (sym before.0) ∙ found) ∙ ap
+    (λ t. if t then (row_visited s.0 row, doing s.0 s.1 row) else s) restless in
+    let there : Performs (mapped (view_of v)) (mapped (view_of w)) (row_visiting s.0 s.1.frame row) =
+    subst (λ (z : BookState × Frames). Performs (mapped (view_of v)) (mapped (view_of w)) (row_visiting z.0 z.1 row))
+    (λ t. (before.0 t, before.1.frame t)) does in
+    subst (Reached from w) (sym is) (
+      state ∙ ap (λ (b : BookState). row_visited b row) before.0,
+      record {
+        made = made_then from.keeper v.keeper w.keeper s.1.steps (row_visiting s.0 s.1.frame row).steps before.1.made there.made;
+        frame = there.frame;
+      },
+    )
+
+-- ---------------------------------------------------------------- a page joins a dup
+
+-- the dup that a row joins
+pub dup_there : (o : Option DupRow) (best : Best) → MatchOption o (true ≡ false) (λ d. (best.number ≡ d.number) × (best.place ≡ d.place))
+    → (d : DupRow) × (o ≡ Some d) × (best.number ≡ d.number) × (best.place ≡ d.place)
+dup_there None best told = absurd (true≢false told)
+dup_there (Some d) best told = (d, refl, told.0, told.1)
+
+-- it has an item
+best_has_item : (b : BookState) (row : Row) (dup : DupRow) → best_dup b.knobs b.rows b.dups row ≡ Some dup → 1 ≤ item_count b.rows dup
+best_has_item b row dup found =
+    let best = find_passes (is_best b.knobs b.rows b.dups row) b.dups dup found in
+    let may = (and_parts (may_join b.knobs b.rows row dup) _ best).0 in
+    let alive = (and_parts _ (nat_lt (item_count b.rows dup) b.knobs.max_page_sharing) may).0 in
+    leb-true 1 (item_count b.rows dup) (and_parts _ (nat_le 1 (item_count b.rows dup)) alive).1
+
+module _ (best : Best) {p : PagesView} {k : KeeperView} {cursor : Option GuestPage} {passes : ℕ} {v : BookView} {page : GuestPage}
+    (at : Meets (λ b. MayJoin b best) p k cursor passes v page) where
+  abbrev row : Row
+  row = at.row
+
+  -- the page has a frame of its own
+  pub joins_alone : IsAlone page p.rows
+  joins_alone = alone_now p.rows page row at.found (restless_own row at.so.0)
+
+  module _ (g : ℕ) (lies : All (λ d. d.place ≡ best.place → All (λ r. merged_into d.number r.state ≡ true → p.frame r.page ≡ Some g) p.rows)
+      p.dups) where
+    told : (d : DupRow) × (best_dup p.knobs p.rows p.dups row ≡ Some d) × (best.number ≡ d.number) × (best.place ≡ d.place)
+    told = dup_there (best_dup p.knobs p.rows p.dups row) best at.so.1
+
+    abbrev dup : DupRow
+    dup = told.0
+
+    first : (item : Row) × (find (λ r. merged_into dup.number r.state) p.rows ≡ Some item)
+    first = first_found (λ r. merged_into dup.number r.state) p.rows (best_has_item (state_of p cursor passes) row dup told.1)
+
+    abbrev item : Row
+    item = first.0
+
+    is_item : merged_into dup.number item.state ≡ true
+    is_item = find_passes (λ r. merged_into dup.number r.state) p.rows item first.1
+
+    item_merged : merged_state item.state ≡ true
+    item_merged = ap merged_state (state_of_item dup.number item.state is_item)
+
+    found_item : row_at item.page p.rows ≡ Some item
+    found_item = find_all (λ r. merged_into dup.number r.state) (λ r. row_at r.page p.rows ≡ Some r) p.rows item first.1
+        (each_at_page p.rows at.sound.rows_rise)
+
+    there : p.frame item.page ≡ Some g
+    there =
+        find_all (λ r. merged_into dup.number r.state) (λ r. merged_into dup.number r.state ≡ true → p.frame r.page ≡ Some g) p.rows item
+        first.1
+        (find_all (is_best p.knobs p.rows p.dups row) (λ d. d.place ≡ best.place → All
+        (λ r. merged_into d.number r.state ≡ true → p.frame r.page ≡ Some g) p.rows) p.dups dup told.1 lies (sym told.3)) is_item
+
+    joins : IsJoined (state_of p cursor passes) row dup
+    joins = best_dup_has_room (state_of p cursor passes) row dup at.sound told.1
+
+    same_bytes : row.bytes ≡ item.bytes
+    same_bytes =
+        let its = find_all (λ r. merged_into dup.number r.state) (λ r. (number : ℕ) → r.state ≡ Merged number → (d : DupRow) × IsDupOf
+        p.knobs p.dups r number d) p.rows item first.1 at.sound.items dup.number
+        (state_of_item dup.number item.state is_item) in
+        let same : its.0 ≡ dup = same_Some its.0 dup (sym its.1.stands ∙ joins.stands) in
+        sym joins.bytes ∙ ap (λ (d : DupRow). d.bytes) (sym same) ∙ its.1.bytes
+
+    few : item_count p.rows dup ≤ 1023
+    few = (let r = joins.room in let m = at.sound.knobs.max_page_sharing.1 in omega (arith, r, m))
+
+    stands : Contains p.dups dup
+    stands = find_all (is_best p.knobs p.rows p.dups row) (Contains p.dups) p.dups dup told.1 (All-contains_itself p.dups)
+
+    pub has_room : HasRoom p.rows p.dups best.number
+    has_room = (dup, stands, sym told.2, few)
+
+    -- a reference may come to the dup's frame
+    pub may_add : May k (Add g)
+    may_add = join_may p k at.laid at.sound.rows_rise page row item at.found found_item g there
+        item_merged dup stands is_item few
+
+    abbrev change : Row → Row
+    change r = record r { state = Merged best.number }
+
+    state_is : Merged best.number ≡ item.state
+    state_is = ap Merged told.2 ∙ sym (state_of_item dup.number item.state is_item)
+
+    module _ (lone : ℕ) (left : p.frame page ≡ Some lone) where
+      -- and then the page's own may be left
+      pub may_sub : {w : KeeperView} → Made k w (Add g ∷ []) → May w (Sub lone)
+      may_sub {w} comes = subst (λ o. IfSome o (λ f. May w (Sub f))) left
+          (may_part p k at.laid at.sound.rows_rise page row item at.found found_item g there item_merged
+          change (λ r. refl) state_is same_bytes w comes)
+
+      module _ {w l : KeeperView} (comes : Made k w (Add g ∷ [])) (leaves : Made w l (Sub lone ∷ [])) (q : PagesView)
+          (goes : q ≡ record p { rows = change_row page change p.rows; frame = q.frame })
+          (frame : All (λ r. merged_into best.number r.state ≡ true → q.frame ≡ lies_on page (p.frame r.page) p.frame) p.rows) where
+        frame_is : q.frame ≡ lies_on page (Some g) p.frame
+        frame_is =
+            find_all (λ r. merged_into dup.number r.state) (λ r. merged_into best.number r.state ≡ true → q.frame ≡ lies_on page
+            (p.frame r.page) p.frame) p.rows item first.1 frame
+            (ap (λ n. merged_into n item.state) told.2 ∙ is_item) ∙ ap (λ o. lies_on page o p.frame) there
+
+        q_is : q ≡ record p { rows = change_row page change p.rows; frame = lies_on page (Some g) p.frame }
+        q_is = goes ∙ (λ t. record p { rows = change_row page change p.rows; frame = frame_is t })
+
+        steps : Made k l (Add g ∷ leaving (p.frame page))
+        steps = subst (λ o. Made k l (Add g ∷ leaving o)) (sym left) (made_then k w l (Add g ∷ []) (Sub lone ∷ []) comes leaves)
+
+        deed_is : row_visiting (state_of p cursor passes) p.frame row ≡ joining p.frame page g
+        deed_is = visiting_by (state_of p cursor passes) p.frame row (Some dup) at.so.0 told.1
+            ∙ (λ t. joining p.frame (page_is at t) ((ap (frame_found p.frame) first.1 ∙ ap frame_number there) t))
+
+        -- the page has joined
+        pub joined_leads : Leads v q l cursor passes page
+        joined_leads = leads at q l at.so.0
+            (subst (λ (x : PagesView). IsLaid x l) (sym q_is)
+            (laid_joined p k at.laid at.sound.rows_rise page row item at.found found_item g there
+            item_merged change (λ r. refl) state_is same_bytes l p.restless steps))
+            (ap (λ (x : PagesView). state_of x cursor passes) q_is
+            ∙ (λ t. record (state_of p cursor passes) {
+              rows = change_row (sym (page_is at) t) (λ r. record r { state = Merged (told.2 t) })
+                  p.rows;
+            })
+            ∙ sym (visited_by (state_of p cursor passes) row (Some dup) at.so.0 told.1))
+            (subst (Performs (lying p k) (lying q l)) (sym deed_is) (record { made = steps; frame = frame_is }))
+
+-- ---------------------------------------------------------------- a page becomes Zero
+
+module _ {p : PagesView} {k : KeeperView} {cursor : Option GuestPage} {passes : ℕ} {v : BookView} {page : GuestPage}
+    (at : Meets IsForZero p k cursor passes v page) where
+  -- the page has a frame of its own
+  pub zero_alone : IsAlone page p.rows
+  zero_alone = alone_now p.rows page at.row at.found (restless_own at.row at.so.restless)
+
+  abbrev zeroed : Row → Row
+  zeroed r = record r { state = Zero }
+
+  zero_hand : Placed p.shape p.knobs.merge_across_nodes k.ledger (change_row page zeroed p.rows) (lies_on page None p.frame) p.dups
+      (p.frame page)
+  zero_hand = swapped p.shape p.knobs.merge_across_nodes k.ledger p.rows p.frame p.dups None page zeroed at.row at.sound.rows_rise at.found
+      (λ r. refl) at.laid.placed refl
+
+  -- its frame may be left
+  pub may_empty : {left : Option ℕ} → left ≡ p.frame page → IfSome left (λ f. May k (Sub f))
+  may_empty was = subst (λ o. IfSome o (λ f. May k (Sub f))) (sym was)
+      (may_leave k p.shape at.laid.same p.knobs.merge_across_nodes (change_row page zeroed p.rows) (lies_on page None p.frame) p.dups
+      (p.frame page) zero_hand)
+
+  -- the page has become Zero
+  pub zero_leads : (q : PagesView) {l : KeeperView} {left : Option ℕ} → left ≡ p.frame page → Made k l (leaving left)
+      → q ≡ record p { rows = change_row page zeroed p.rows; frame = lies_on page None p.frame } → Leads v q l cursor passes page
+  zero_leads q {l} was made goes =
+      let b = state_of p cursor passes in
+      let leaves = subst (λ o. Made k l (leaving o)) was made in
+      leads at q l at.so.restless
+      (subst (λ (x : PagesView). IsLaid x l) (sym goes)
+      (laid_rows p k at.laid (change_row page zeroed p.rows) (lies_on page None p.frame) p.restless l
+      (ap (λ (z : KeeperView). z.table) leaves.after) (left_spends k l (p.frame page) leaves)
+      (left_placed k l (p.frame page) leaves p.shape p.knobs.merge_across_nodes (change_row page zeroed p.rows) (lies_on page None p.frame)
+      p.dups zero_hand)))
+      (ap (λ (x : PagesView). state_of x cursor passes) goes ∙ (λ t. record b { rows = change_row (sym (page_is at) t) zeroed p.rows }) ∙
+      sym (stayed_is b p.frame at.row true at.so))
+      (subst (Performs (lying p k) (lying q l)) (sym (staying_is b p.frame at.row true at.so ∙ ap (emptying p.frame) (page_is at)))
+      (record { made = leaves; frame = ap (λ (x : PagesView). x.frame) goes }))

@@ -1,0 +1,279 @@
+-- What becomes of the layout where rows change together, join a dup, or make or lose one.
+use Rattle.ksm_book.proofs.Names.{count_by, [], Add, All, All-filter, ap, arith, blank, Bool, cases_Bool, change_row, Contains, count_none, did, DupRow, elsewhere, eqb-true, false, filter, find, find_none, FitsBase, frame_at, Frames, frames_of, get_or, get_or-set_same, get_or_default, GuestPage, IfSome, if◌then◌else◌, inl, InPageOrder, inr, IsInLife, IsLaid, IsLoose, IsServed, IsShape, IsVacant, item_count, KeeperView, Kind, kind_for, Knobs, leaving, Ledger, ledger_after, length, lies_on, Life, life_or, List, list_any, Listing, Made, May, Merged, merged_into, merged_state, named_at, nat_lt, nat_tests, None, Note, Option, PageState, PagesView, past_lives, place_frame, Placed, Private, Publish, refl, Row, row_at, RowFits, set, set-get_or, settled, settled_state, Shape, shared_state, Some, spent, spent_on, Stable, Sub, subst, suc, sum_by-le, sym, tree_of, true, Waiting, with_dup, with_frame, Withdraw, withdrawing, zero, ℕ, ◌*◌, ◌++◌, ◌+◌, ◌-◌, ◌<◌, ◌==◌, ◌^◌, ◌∙◌, ◌∷◌, ◌≡◌, ◌≢◌, ◌≤◌, ◌⊎◌}
+use Rattle.ksm_book.proofs.Moves.{Serves, joined, published, base_is_items, stale_is_loose}
+use Rattle.ksm_book.proofs.Laying.{LodgesAs, laid_rows, own_kind, served_at, shape_same}
+use Rattle.ksm_book.proofs.Keeping.{added_placed, added_spends, left_placed, left_spends, lives_most, may_leave, past_le, spent_set}
+use Rattle.ksm_book.proofs.Made.{none_made, parts_made, step_made}
+use Rattle.ksm_book.proofs.Withdrawn.{withdrawn}
+
+merged_as : (s : PageState) → merged_state s ≡ true → (n : ℕ) × (s ≡ Merged n)
+merged_as (Merged d) e = (d, refl)
+merged_as _ e = absurd (grind (arith, e))
+
+-- an item of a dup is merged into it
+pub state_of_item : (n : ℕ) (s : PageState) → merged_into n s ≡ true → s ≡ Merged n
+state_of_item n (Merged d) e = ap Merged (eqb-true d n e)
+state_of_item n _ e = absurd (grind (arith, e))
+
+-- of elements that are counted there is a first one
+pub first_found : {X : Type 0} (t : X → Bool) (xs : List X) → 1 ≤ count_by t xs → (x : X) × (find t xs ≡ Some x)
+first_found t xs some = by (find t xs) refl
+  where
+    by : (o : Option _) → find t xs ≡ o → (x : _) × (find t xs ≡ Some x)
+    by (Some x) found = (x, found)
+    by None none = absurd (let zero' = count_none t xs (find_none t xs none) in omega (arith, zero', some))
+
+-- where a search finds an element
+pub index_found : {X : Type 0} (t : X → Bool) (xs : List X) (x : X) → find t xs ≡ Some x → (n : ℕ) × (n < length xs)
+    × ((d : X) → get_or xs n d ≡ x)
+index_found t [] x found = absurd (grind (arith, found))
+index_found t (y ∷ ys) x found = elim (cases_Bool (t y)) [
+  | inl passes ↦ (0, (omega arith), λ d. (let is : y ≡ x = grind (arith, passes, found) in is))
+  | inr fails ↦ (let later = index_found t ys x (grind (arith, fails, found)) in
+      (suc later.0, (let lt = later.1 in omega (arith, lt)), later.2))
+]
+
+-- a page joins the dup of an item
+module _ (p : PagesView) (k : KeeperView) (h : IsLaid p k) (rise : InPageOrder p.rows) (page : GuestPage) (row item : Row)
+    (found : row_at page p.rows ≡ Some row) (found_item : row_at item.page p.rows ≡ Some item)
+    (g : ℕ) (there : p.frame item.page ≡ Some g) (merged : merged_state item.state ≡ true) where
+  abbrev across : ℕ
+  across = p.knobs.merge_across_nodes
+
+  item_fits : Serves p.shape k.ledger p.dups item g
+  item_fits = subst (IsServed p.shape k.ledger p.dups item) there
+      (served_at p.shape across k.ledger p.rows p.frame p.dups None h.placed item.page item found_item)
+
+  item_stable : (frame_at k.ledger g).kind ≡ Stable
+  item_stable = item_fits.0.kind ∙ ap kind_for (merged_as item.state merged).1
+
+  -- one reference more may come to its frame, where the dup has room for one item more
+  pub may_join : (d : DupRow) → Contains p.dups d → merged_into d.number item.state ≡ true → item_count p.rows d ≤ 1023 → May k (Add g)
+  may_join d stands into few =
+      let n : ℕ = stands.0 in
+      let is : get_or p.dups n d ≡ d = stands.2 in
+      let a = (item_fits.1 n d stands.1).item (ap (λ (x : DupRow). merged_into x.number item.state) is ∙ into) in
+      let base = ap (λ x. (frame_at k.ledger x).base) a.0 ∙ base_is_items p.shape across k.ledger p.rows p.frame p.dups h.placed n d
+      stands.1 a.1 ∙ ap (item_count p.rows) is in (
+        subst (λ (x : Shape). g < frames_of x) (sym h.same) item_fits.0.frame,
+        subst (λ (x : Kind). FitsBase x (frame_at k.ledger g).base) item_stable (h.placed.kinds g),
+        subst (λ x. x ≤ 1023) (sym base) few,
+      )
+
+  module _ (c : Row → Row) (keeps : (r : Row) → (c r).page ≡ r.page) (state : (c row).state ≡ item.state)
+      (bytes : (c row).bytes ≡ item.bytes) where
+    -- once the reference has come, the page lies there, and its own frame is in the hand
+    joined_hand : (w : KeeperView) → Made k w (Add g ∷ []) → Placed p.shape across w.ledger (change_row page c p.rows)
+        (lies_on page (Some g) p.frame) p.dups (p.frame page)
+    joined_hand w comes =
+        let q = added_placed k w g comes item_stable p.shape across p.rows p.frame p.dups item_fits.0.frame h.placed in
+        joined p.shape across w.ledger p.rows p.frame p.dups page row item g c rise found keeps
+        (subst (IsServed p.shape w.ledger p.dups item) there
+        (served_at p.shape across w.ledger p.rows p.frame p.dups (Some g) q item.page item found_item)) state bytes
+        (ap shared_state (merged_as item.state merged).1) q
+
+    -- and may be given back
+    pub may_part : (w : KeeperView) → Made k w (Add g ∷ []) → IfSome (p.frame page) (λ f. May w (Sub f))
+    may_part w comes = may_leave w p.shape (shape_same p.shape k w h.same (ap (λ (z : KeeperView). z.table) comes.after)) across
+        (change_row page c p.rows) (lies_on page (Some g) p.frame) p.dups (p.frame page) (joined_hand w comes)
+
+    -- the page has joined: its row is an item, and lies on the item's frame
+    pub laid_joined : (u : KeeperView) (restless : Listing) → Made k u (Add g ∷ leaving (p.frame page))
+        → IsLaid (record p { rows = change_row page c p.rows; frame = lies_on page (Some g) p.frame; restless = restless }) u
+    laid_joined u restless m =
+        let parts = parts_made k u (Add g ∷ []) (leaving (p.frame page)) m in
+        let more = added_spends k parts.0 g parts.1 in
+        let more' = left_spends parts.0 u (p.frame page) parts.2 in
+        laid_rows p k h (change_row page c p.rows) (lies_on page (Some g) p.frame) restless u (ap (λ (z : KeeperView). z.table) m.after)
+        (omega (arith, more, more'))
+        (left_placed parts.0 u (p.frame page) parts.2 p.shape across (change_row page c p.rows) (lies_on page (Some g) p.frame) p.dups
+        (joined_hand parts.0 parts.1))
+
+-- a place where no dup with items stands may be named anew, or not at all
+module _ (k : Ledger) where
+  loose_named : (o : Option Life) → ((frame_at k (life_or o).frame).generation ≡ (life_or o).generation
+      → ¬ ((frame_at k (life_or o).frame).kind ≡ Stable)) → IsLoose k o
+  loose_named None h = tt
+  loose_named (Some life) h = h
+
+has_some : (place : ℕ) (dups : List DupRow) → list_any (λ d. d.place == place) dups ≡ true → (n : ℕ) × (n < length dups)
+    × ((d : DupRow) → (get_or dups n d).place ≡ place)
+has_some place [] e = absurd (grind (arith, e))
+has_some place (d ∷ ds) e = elim (cases_Bool (d.place == place)) [
+  | inl here ↦ (0, omega arith, λ x. grind (arith, nat_tests, here))
+  | inr there ↦ let rest = has_some place ds (grind (arith, e, there)) in (suc rest.0, (let lt = rest.1 in omega (arith, lt)), rest.2)
+]
+
+has_none : (place : ℕ) (dups : List DupRow) → list_any (λ d. d.place == place) dups ≡ false → All (λ d. d.place ≢ place) dups
+has_none place [] e k x lt same = absurd (omega arith)
+has_none place (d ∷ ds) e zero x lt same = absurd (grind (arith, nat_tests, e, same))
+has_none place (d ∷ ds) e (suc k) x lt same = has_none place ds (grind (arith, e)) k x (omega arith) same
+
+-- a vacant place names no frame, or one without a reference of its dup's items
+pub vacant_loose : (sh : Shape) (across : ℕ) (k : Ledger) (rows : List Row) (frame : Frames) (dups : List DupRow) (place : ℕ)
+    → Placed sh across k rows frame dups None → IsVacant place rows dups → IsLoose k (named_at k place)
+vacant_loose sh a k rows frame dups place p vacant = elim (cases_Bool (list_any (λ d. d.place == place) dups)) [
+  | inl taken ↦
+      let some = has_some place dups taken in
+      let d : DupRow = record { number = 0; place = 0; tree = 0; bytes = [] } in
+      let at : (get_or dups some.0 d).place ≡ place = some.2 d in
+      loose_named k (named_at k place) (subst (λ q. IsInLife k q → ¬ ((frame_at k (place_frame k q)).kind ≡ Stable)) at
+      (stale_is_loose sh a k rows frame dups p some.0 d some.1 (vacant some.0 d some.1 at)))
+  | inr none ↦ subst (IsLoose k) (sym (p.empty place (has_none place dups none))) tt
+]
+
+-- what a vacant place names is withdrawn, and then it names nothing
+module _ (p : PagesView) (k w : KeeperView) (h : IsLaid p k) (place : ℕ) (inside : place < frames_of p.shape)
+    (vacant : IsVacant place p.rows p.dups) where
+  pub may_clear : May k (Withdraw place)
+  may_clear = (
+    subst (λ (s : Shape). place < frames_of s) (sym h.same) inside,
+    vacant_loose p.shape p.knobs.merge_across_nodes k.ledger p.rows p.frame p.dups place h.placed vacant,
+  )
+
+  pub cleared_ledger : Made k w (withdrawing p.dups place) → w.ledger ≡ record
+      { frames = k.ledger.frames; places = set k.ledger.places place None }
+  cleared_ledger m = elim (cases_Bool (list_any (λ d. d.place == place) p.dups)) [
+    | inl taken ↦ ap (λ (z : KeeperView). z.ledger) (step_made k w (Withdraw place)
+        (subst (λ (b : Bool). Made k w (if b then Withdraw place ∷ [] else [])) taken m)).1
+    | inr none ↦
+        let empty = h.placed.empty place (has_none place p.dups none) in
+        ap (λ (z : KeeperView). z.ledger) (none_made k w (subst (λ (b : Bool). Made k w (if b then Withdraw place ∷ [] else [])) none m))
+        ∙ (λ t. record {
+          frames = k.ledger.frames;
+          places = sym
+              (ap (set k.ledger.places place) (sym empty) ∙ set-get_or k.ledger.places place None) t;
+        })
+  ]
+
+-- a stale dup goes
+pub laid_cleared : (p : PagesView) (k w : KeeperView) (place : ℕ) → IsLaid p k → place < frames_of p.shape → w.table ≡ k.table
+    → w.ledger ≡ record { frames = k.ledger.frames; places = set k.ledger.places place None }
+    → IsLaid (record p { dups = filter (elsewhere place) p.dups }) w
+laid_cleared p k w place h inside e is = record {
+  small = h.small;
+  same = shape_same p.shape k w h.same e;
+  placed = subst (λ (z : Ledger). Placed p.shape p.knobs.merge_across_nodes z p.rows p.frame (filter (elsewhere place) p.dups) None)
+      (sym is) (withdrawn p.shape p.knobs.merge_across_nodes k.ledger p.rows p.frame p.dups None place inside h.placed);
+  spent = (let same : spent w.ledger ≡ spent k.ledger = ap spent is in let s = h.spent in omega (arith, same, s));
+}
+
+-- what is above or below a place is elsewhere
+below_elsewhere : (place : ℕ) (ds : List DupRow) → filter (λ d. nat_lt d.place place) (filter (elsewhere place) ds) ≡ filter
+    (λ d. nat_lt d.place place) ds
+below_elsewhere place [] = refl
+below_elsewhere place (d ∷ ds) = grind (arith, nat_tests, below_elsewhere place ds)
+
+above_elsewhere : (place : ℕ) (ds : List DupRow) → filter (λ d. nat_lt place d.place) (filter (elsewhere place) ds) ≡ filter
+    (λ d. nat_lt place d.place) ds
+above_elsewhere place [] = refl
+above_elsewhere place (d ∷ ds) = grind (arith, nat_tests, above_elsewhere place ds)
+
+pub with_elsewhere : (d : DupRow) (ds : List DupRow) → with_dup d (filter (elsewhere d.place) ds) ≡ with_dup d ds
+with_elsewhere d ds = λ t. below_elsewhere d.place ds t ++ d ∷ above_elsewhere d.place ds t
+
+product_most : (a b m n : ℕ) → a ≤ m → b ≤ n → a * b ≤ m * n
+product_most a b m n le le' = grind (arith, le, le')
+
+-- there are 1,024 frames at most
+pub frames_few : (sh : Shape) → IsShape sh → frames_of sh ≤ 1024
+frames_few sh small = (let a = small.nodes_high in let b = small.frames_high in product_most sh.nodes sh.frames_per_node 4 256 a b)
+
+-- fewer than 2^50 dups were ever made, since each spent a life of a frame
+pub spent_most : (v : PagesView) (k : KeeperView) → IsLaid v k → v.next ≤ 2 ^ 50
+spent_most v k h =
+    let sh : Shape = v.shape in
+    let p = h.placed in
+    let last : ℕ = sh.last_generation in
+    let most : spent k.ledger ≤ length k.ledger.frames * last = sum_by-le spent_on last k.ledger.frames (λ i d lt.
+    let past = past_le (frame_at k.ledger i).kind (frame_at k.ledger i).generation in
+    let lived = lives_most last (frame_at k.ledger i).generation (frame_at k.ledger i).kind (p.lives i) in
+    subst (λ (x : Note). spent_on x ≤ last) (sym (get_or_default k.ledger.frames i d blank lt)) (omega (arith, past, lived))) in
+    let long : length k.ledger.frames ≡ frames_of sh = p.frames_long in
+    let few : frames_of sh ≤ 1024 = frames_few sh h.small in
+    let short : length k.ledger.frames * last ≤ 1024 * 1099511627776 = product_most (length k.ledger.frames) last 1024 1099511627776
+    (omega (arith, long, few)) h.small.generation_high in
+    let s = h.spent in
+    omega (arith, s, most, short)
+
+-- a row that waits no more, or is mergeable again, lodges as before
+pub settled_lodges : (r : Row) → LodgesAs (settled r) r
+settled_lodges r = (refl, refl, by r.state)
+  where
+    by : (s : PageState) → (settled_state s ≡ s) ⊎ ((shared_state s ≡ false) × (shared_state (settled_state s) ≡ false))
+    by Waiting = inr (refl, refl)
+    by _ = inl refl
+
+-- a new dup stands on the frame of a row, which is its first item
+module _ (p : PagesView) (k : KeeperView) (h : IsLaid p k) (rise : InPageOrder p.rows) (page : GuestPage) (row : Row) (f : ℕ)
+    (found : row_at page p.rows ≡ Some row) (lies : p.frame page ≡ Some f) (alone : shared_state row.state ≡ false)
+    (d : DupRow) (number : d.number ≡ p.next) (inside : d.place < frames_of p.shape) (vacant : IsVacant d.place p.rows p.dups) where
+  abbrev sh : Shape
+  sh = p.shape
+
+  abbrev cleared : Ledger
+  cleared = record { frames = k.ledger.frames; places = set k.ledger.places d.place None }
+
+  abbrev o : Note
+  o = frame_at k.ledger f
+
+  abbrev stable : Note
+  stable = record { kind = Stable; base = o.base; generation = o.generation; content = o.content }
+
+  fits : RowFits sh k.ledger row f
+  fits = (subst (IsServed sh k.ledger p.dups row) lies (served_at sh p.knobs.merge_across_nodes k.ledger p.rows p.frame p.dups None h.placed
+      page row found)).0
+
+  own : o.kind ≡ Private
+  own = fits.kind ∙ own_kind row.state alone
+
+  -- the place may name the row's frame once it is cleared
+  pub may_found : (w : KeeperView) → Made k w (withdrawing p.dups d.place) → May w (Publish d.place f)
+  may_found w m =
+      let empty = cleared_ledger p k w h d.place inside vacant m in
+      let same = sym (ap (λ (z : KeeperView). z.table.shape) m.after ∙ h.same) in
+      let long = h.placed.places_long in (
+        subst (λ (s : Shape). d.place < frames_of s) same inside,
+        subst (λ (s : Shape). f < frames_of s) same fits.frame,
+        ap (λ (z : Ledger). (frame_at z f).kind) empty ∙ own,
+        subst (IsLoose w.ledger) (sym (ap (λ (z : Ledger). named_at z d.place) empty
+            ∙ get_or-set_same k.ledger.places d.place None None (omega (arith, long, inside)))) tt,
+      )
+
+  -- rows and dups lie lawfully once the row's frame is published at the place of the new dup
+  pub laid_found : (c : Row → Row) (w1 w : KeeperView) (restless : Listing) → ((r : Row) → (c r).page ≡ r.page)
+      → (c row).state ≡ Merged p.next → (c row).bytes ≡ row.bytes → Made k w1 (withdrawing p.dups d.place)
+      → w ≡ did w1 (Publish d.place f) 0
+      → d.bytes ≡ row.bytes → (p.knobs.merge_across_nodes ≡ 0 → row.home ≡ d.tree) → All (λ e. e.number < p.next) p.dups
+      → All (λ r. merged_into p.next r.state ≡ false) p.rows
+      → IsLaid (record p { rows = change_row page c p.rows; dups = with_dup d p.dups; next = p.next + 1; restless = restless }) w
+  laid_found c w1 w restless keeps state same clears is bytes tree numbers fresh =
+      let empty = cleared_ledger p k w1 h d.place inside vacant clears in
+      let table = ap (λ (z : KeeperView). z.table) clears.after in
+      let q : Placed sh p.knobs.merge_across_nodes cleared p.rows p.frame
+      (filter (elsewhere d.place) p.dups) None = withdrawn sh p.knobs.merge_across_nodes k.ledger p.rows p.frame p.dups None d.place
+      inside h.placed in
+      let shown = published sh p.knobs.merge_across_nodes cleared p.rows p.frame
+      (filter (elsewhere d.place) p.dups) q page row rise found f lies own d inside c keeps
+      (state ∙ ap Merged (sym number)) same bytes tree alone
+      (λ i r lt. ap (λ n. merged_into n (get_or p.rows i r).state) number ∙ fresh i r lt)
+      (All-filter (elsewhere d.place) (λ e. ¬ (e.number ≡ d.number)) p.dups
+      (λ n x lt same. (let below = numbers n x lt in omega (arith, below, same, number)))) in
+      let ledger : w.ledger ≡ ledger_after w1.table.shape cleared (Publish d.place f) 0 = ap (λ (z : KeeperView). z.ledger) is
+      ∙ (λ t. ledger_after w1.table.shape (empty t) (Publish d.place f) 0) in
+      let within : f < length k.ledger.frames = (let long : length k.ledger.frames ≡ frames_of sh = h.placed.frames_long in let lt =
+      fits.frame in omega (arith, long, lt)) in
+      let more : spent (with_frame k.ledger f stable) + spent_on o ≡ spent k.ledger + o.generation = spent_set k.ledger f stable within in
+      let was : spent_on o ≡ o.generation - 1 = ap (λ (x : Kind). past_lives x o.generation) own in
+      let now : spent w.ledger ≡ spent (with_frame k.ledger f stable) = ap spent ledger in
+      record {
+        small = h.small;
+        same = ap (λ (z : KeeperView). z.table.shape) is ∙ ap (λ x. x.shape) table ∙ h.same;
+        placed = subst (λ (z : Ledger × List DupRow). Placed sh p.knobs.merge_across_nodes z.0 (change_row page c p.rows) p.frame z.1 None)
+            (λ t. (sym ledger t, with_elsewhere d p.dups t)) shown;
+        spent = (let s = h.spent in let given = fits.given in omega (arith, s, more, was, now, given));
+      }
+
+-- where pages merge on their nodes alone, a row's tree is its home
+pub tree_is_home : (knobs : Knobs) (r : Row) → knobs.merge_across_nodes ≡ 0 → r.home ≡ tree_of knobs r
+tree_is_home knobs r none = let e : (knobs.merge_across_nodes == 1) ≡ false = grind (arith, nat_tests, none) in grind (arith, e)

@@ -1,0 +1,257 @@
+-- The frames that steps give, and what the log shows of a frame that was not found, of one in use, and of a dup that moved.
+use Rattle.ksm_book.proofs.Names.{[], Add, ap, append_cancel_left, arith, blank, Bool, cases_Bool, cond, Contains, Contains-append_right, Contains-push, count_in, Did, did, Does, dup_frame, DupRow, Dying, dying_kind, dying_on, false, filter, FindsHeld, FindsNone, frame_at, Free, free_kind, Freeze, frozen, get_or, get_or-range_with_len, get_or-set_other, given_by, Gives, HasLost, HasMoved, inl, inr, IsLowestFree, IsNeeded, item_count, KeeperStep, KeeperView, leaving, Ledger, ledger_after, length, length-append, length-range_with_len, List, loads, Log, Made, map, Mapped, Moves, nat_tests, needed_after, None, NoneLeft, Note, Open, Option, Provides, Publish, puts, Raise, range_with_len, Reap, reaped, refl, replicate, Retired, Row, set, Shape, Some, Stable, stepped, steps_of, subst, suc, sym, true, with_frame, Withdraw, zero, ℕ, ◌*◌, ◌++◌, ◌+◌, ◌-◌, ◌<◌, ◌==◌, ◌∙◌, ◌∷◌, ◌≡◌, ◌≢◌, ◌≤◌}
+use Rattle.ksm_book.proofs.Keeping.{set_holds}
+use Rattle.ksm_book.proofs.Made.{chained, stepped_then, first_made, made_then, none_made, step_made}
+
+-- none of these steps gives a frame
+abbrev pub GivesNone : List KeeperStep → Type 0
+GivesNone [] = Unit {0}
+GivesNone (e ∷ es) = (given_by e ≡ None) × GivesNone es
+
+pub quiet_both : (xs ys : List KeeperStep) → GivesNone xs → GivesNone ys → GivesNone (xs ++ ys)
+quiet_both [] ys q r = r
+quiet_both (x ∷ xs) ys q r = (q.0, quiet_both xs ys q.1 r)
+
+pub quiet_puts : (f i : ℕ) (ws : List ℕ) → GivesNone (steps_of (puts f i ws))
+quiet_puts f i [] = tt
+quiet_puts f i (w ∷ ws) = (refl, quiet_puts f (i + 1) ws)
+
+pub quiet_loads : (f i : ℕ) (ws : List ℕ) → GivesNone (steps_of (loads f i ws))
+quiet_loads f i [] = tt
+quiet_loads f i (w ∷ ws) = (refl, quiet_loads f (i + 1) ws)
+
+pub quiet_reaps : (fs : List ℕ) → GivesNone (map Reap fs)
+quiet_reaps [] = tt
+quiet_reaps (f ∷ fs) = (refl, quiet_reaps fs)
+
+pub quiet_adds : (n f : ℕ) → GivesNone (replicate n (Add f))
+quiet_adds zero f = tt
+quiet_adds (suc n) f = (refl, quiet_adds n f)
+
+pub quiet_withdraws : (ds : List DupRow) → GivesNone (map (λ d. Withdraw d.place) ds)
+quiet_withdraws [] = tt
+quiet_withdraws (d ∷ ds) = (refl, quiet_withdraws ds)
+
+pub quiet_leaving : (o : Option ℕ) → GivesNone (leaving o)
+quiet_leaving None = tt
+quiet_leaving (Some f) = (refl, tt)
+
+-- a part of the log gave no frame
+pub part_did : (v w : KeeperView) (part : Log) → w ≡ stepped v part → GivesNone (steps_of part) → Did v w [] part
+part_did v w part is quiet = record {
+  table = ap (λ (z : KeeperView). z.table) is;
+  log = ap (λ (z : KeeperView). z.log) is;
+  ledger = ap (λ (z : KeeperView). z.ledger) is;
+  gives = by v.ledger part quiet;
+}
+  where
+    by : (k : Ledger) (part : Log) → GivesNone (steps_of part) → Gives v.table.shape k [] part
+    by k [] q = refl
+    by k (s ∷ part) q =
+        let next : Ledger = ledger_after v.table.shape k s.0 s.1 in
+        subst (λ (o : Option ℕ). IsNeeded v.table.shape k [] o × Gives v.table.shape next (needed_after [] o) part) (sym q.0) (tt, by next part q.1)
+
+-- nor did steps
+pub quiet_did : (v w : KeeperView) (steps : List KeeperStep) (m : Made v w steps) → GivesNone steps → Did v w [] m.part
+quiet_did v w steps m quiet = part_did v w m.part m.after (subst GivesNone (sym m.are) quiet)
+
+-- whatever words they found
+pub quiet_does : (v w : KeeperView) (steps : List KeeperStep) → Made v w steps → GivesNone steps → Does v w []
+quiet_does v w steps m quiet = (m.part, quiet_did v w steps m quiet)
+
+-- what was given by one part and then by the other was given by both
+pub does_then : (u v w : KeeperView) (ms ns : List ℕ) → Does u v ms → Does v w ns → Does u w (ms ++ ns)
+does_then u v w ms ns a b = (a.0 ++ b.0, chained u v w ms ns a.0 b.0 a.1 b.1)
+
+-- the lowest free frame of a node was raised, and no other was given
+pub raised_does : (v w : KeeperView) (g node : ℕ) (steps : List KeeperStep) → IsLowestFree v.table.shape v.ledger node g → Made v w (Raise g ∷ steps) → GivesNone steps → Does v w (node ∷ [])
+raised_does v w g node steps lowest m quiet =
+    let first = first_made v w (Raise g) steps m in
+    let r : KeeperView = did v (Raise g) first.0 in
+    let one : Did v r (node ∷ []) ((Raise g, first.0) ∷ []) = record { table = refl; log = refl; ledger = refl; gives = (lowest, refl) } in
+    does_then v r w (node ∷ []) [] ((Raise g, first.0) ∷ [], one) (quiet_does r w steps first.1 quiet)
+
+-- a frame that is found lies in the same table
+pub searched_does : (v w : KeeperView) (node : ℕ) → Made v w (map Reap (dying_on v.table.shape v.ledger node)) → Does v w []
+searched_does v w node m = quiet_does v w (map Reap (dying_on v.table.shape v.ledger node)) m (quiet_reaps (dying_on v.table.shape v.ledger node))
+
+-- a frame of one's own is the lowest free one of the node
+pub provides_does : (v w : KeeperView) (node : ℕ) (bytes : List ℕ) (g : ℕ) → Provides v w node bytes g → Does v w (node ∷ [])
+provides_does v w node bytes g h =
+    let u : KeeperView = h.searched in
+    let searched = searched_does v u node h.finds.reaped in
+    let lowest : IsLowestFree u.table.shape u.ledger node g = subst (λ (t : _). IsLowestFree t.shape u.ledger node g) (sym searched.1.table) h.finds.lowest in
+    does_then v u w [] (node ∷ []) searched
+    (raised_does u w g node (steps_of (puts g 0 bytes) ++ Open g ∷ []) lowest h.fills (quiet_both (steps_of (puts g 0 bytes)) (Open g ∷ []) (quiet_puts g 0 bytes) (refl, tt)))
+
+-- ---------------------------------------------------------------- what the log shows
+
+not_dying : (c : Bool) → ¬ (cond c Retired Free ≡ Dying)
+not_dying true e = grind (arith, e)
+not_dying false e = grind (arith, e)
+
+-- a note that was put at a frame is there, if the keeper knows the frame
+set_here : (P : Note → Type 0) (xs : List Note) (i : ℕ) (y : Note) → P y → P blank → P (get_or (set xs i y) i blank)
+set_here P [] i y new none = none
+set_here P (x ∷ xs) zero y new none = new
+set_here P (x ∷ xs) (suc i) y new none = set_here P xs i y new none
+
+-- ---------------------------------------------------------------- no frame was found
+
+-- a frame that is not dying does not become so where frames are reaped
+lives_on : (fs : List ℕ) (v w : KeeperView) (f : ℕ) → Made v w (map Reap fs) → ¬ ((frame_at v.ledger f).kind ≡ Dying) → ¬ ((frame_at w.ledger f).kind ≡ Dying)
+lives_on [] v w f m alive = subst (λ (z : KeeperView). ¬ ((frame_at z.ledger f).kind ≡ Dying)) (sym (none_made v w m)) alive
+lives_on (g ∷ fs) v w f m alive =
+    let first = first_made v w (Reap g) (map Reap fs) m in
+    let old : Note = frame_at v.ledger g in
+    let note : Note = reaped v.table.shape.last_generation old in
+    lives_on fs (did v (Reap g) first.0) w f first.1
+    (elim (count_in first.0 == 0) as (λ b. ¬ ((frame_at (cond b (with_frame v.ledger g note) v.ledger) f).kind ≡ Dying)) [
+      | true ↦ set_holds (λ x. ¬ (x.kind ≡ Dying)) v.ledger.frames g f note (not_dying (old.generation == v.table.shape.last_generation)) alive
+      | false ↦ alive
+    ])
+
+-- a frame that was reaped and is dying still was found with a count above zero
+waits : (fs : List ℕ) (v w : KeeperView) (f : ℕ) (part : Log) → w ≡ stepped v part → steps_of part ≡ map Reap fs → Contains fs f → (frame_at w.ledger f).kind ≡ Dying
+    → (n : ℕ) × (1 ≤ count_in n) × Contains part (Reap f, n)
+waits [] v w f part after are has still = absurd (let lt = has.1 in omega (arith, lt))
+waits (g ∷ fs) v w f [] after are has still = absurd (grind (arith, are))
+waits (g ∷ fs) v w f (s ∷ part) after are (suc i, lt, is) still =
+    let rest : steps_of part ≡ map Reap fs = grind (arith, are) in
+    let later = waits fs (did v s.0 s.1) w f part (after ∙ sym (stepped_then v (s ∷ []) part)) rest (i, omega (arith, lt), is) still in
+    (later.0, later.1, (suc later.2.0, (let low = later.2.1 in omega (arith, low)), later.2.2))
+waits (g ∷ fs) v w f (s ∷ part) after are (zero, lt, is) still =
+    let first : s.0 ≡ Reap f = grind (arith, are, is) in
+    let rest : steps_of part ≡ map Reap fs = grind (arith, are) in
+    let u : KeeperView = did v (Reap f) s.1 in
+    let m : Made u w (map Reap fs) = record { part = part; after = after ∙ sym (stepped_then v (s ∷ []) part) ∙ ap (λ x. stepped (did v x s.1) part) first; are = rest } in
+    (s.1, found (count_in s.1) (λ gone. lives_on fs u w f m gone still), (0, omega arith, (λ t. (first t, s.1))))
+  where
+    note : Note
+    note = reaped v.table.shape.last_generation (frame_at v.ledger f)
+
+    found : (n : ℕ) → (¬ ((frame_at (cond (n == 0) (with_frame v.ledger f note) v.ledger) f).kind ≡ Dying) → ⊥) → 1 ≤ n
+    found zero dies = absurd (dies (set_here (λ x. ¬ (x.kind ≡ Dying)) v.ledger.frames f note (not_dying ((frame_at v.ledger f).generation == v.table.shape.last_generation)) (λ e. grind (arith, e))))
+    found (suc n) dies = omega arith
+
+contains_filter : (t : ℕ → Bool) (xs : List ℕ) (x : ℕ) → Contains xs x → t x ≡ true → Contains (filter t xs) x
+contains_filter t [] x has e = absurd (let lt = has.1 in omega (arith, lt))
+contains_filter t (y ∷ ys) x (zero, lt, is) e =
+    let here : filter t (y ∷ ys) ≡ y ∷ filter t ys = grind (arith, e, is) in
+    subst (λ zs. Contains zs x) (sym here) (0, omega arith, is)
+contains_filter t (y ∷ ys) x (suc i, lt, is) e =
+    let rest = contains_filter t ys x (i, omega (arith, lt), is) e in
+    elim (cases_Bool (t y)) [
+      | inl passes ↦ let here : filter t (y ∷ ys) ≡ y ∷ filter t ys = grind (arith, passes) in subst (λ zs. Contains zs x) (sym here) (suc rest.0, (let low = rest.1 in omega (arith, low)), rest.2)
+      | inr fails ↦ let here : filter t (y ∷ ys) ≡ filter t ys = grind (arith, fails) in subst (λ zs. Contains zs x) (sym here) rest
+    ]
+
+-- where no frame of a node was found, each that is dying still was found with a count above zero
+pub none_left : (v w : KeeperView) (node : ℕ) → FindsNone v w node → NoneLeft v w node
+none_left v w node h =
+    let sh : Shape = v.table.shape in
+    let size : ℕ = sh.frames_per_node in
+    let fs = dying_on sh v.ledger node in
+    let m = h.reaped in
+    record {
+      part = m.part;
+      did = quiet_did v w (map Reap fs) m (quiet_reaps fs);
+      waited = λ f low high still. elim (cases_Bool (dying_kind (frame_at v.ledger f).kind)) [
+        | inl dies ↦
+            let lt : f - node * size < size = omega (arith, low, high) in
+            let at = get_or-range_with_len (node * size) size (f - node * size) f lt in
+            let long = length-range_with_len (node * size) size in
+            waits fs v w f m.part m.after m.are (contains_filter (λ g. dying_kind (frame_at v.ledger g).kind) (range_with_len (node * size) size) f (f - node * size, omega (arith, lt, long), at ∙ omega (arith, low)) dies) still
+        | inr alive ↦ absurd (lives_on fs v w f m (λ is. (let e = ap dying_kind is in grind (arith, alive, e))) still)
+      ];
+      none = h.none;
+    }
+
+-- ---------------------------------------------------------------- a dup's frame is held, or moves
+
+-- a frame that is stable after an exchange was tried was found with another count
+pub lost : (v w : Mapped) (rows : List Row) (dup : DupRow) (node : ℕ) → FindsHeld v w rows dup node → HasLost v.keeper w.keeper
+lost v w rows dup node h =
+    let f : ℕ = dup_frame v.frame rows dup.number in
+    let s : KeeperView = h.searched in
+    let step = step_made s w.keeper (Freeze f) h.freezes in
+    let searched = searched_does v.keeper s node h.finds.reaped in
+    let freezes = quiet_did s w.keeper (Freeze f ∷ []) (record { part = (Freeze f, step.0) ∷ []; after = step.1; are = refl }) (refl, tt) in
+    record {
+      part = searched.0 ++ (Freeze f, step.0) ∷ [];
+      did = chained v.keeper s w.keeper [] [] searched.0 ((Freeze f, step.0) ∷ []) searched.1 freezes;
+      frame = f;
+      found = step.0;
+      tried = Contains-push searched.0 (Freeze f, step.0);
+      other = subst (λ (z : KeeperView). count_in step.0 ≢ (frame_at z.ledger f).base) (sym step.1)
+          (by s.ledger f (count_in step.0) (count_in step.0 == (frame_at s.ledger f).base) refl (ap (λ (z : KeeperView). (frame_at z.ledger f).kind) (sym step.1) ∙ h.kept));
+    }
+  where
+    by : (k : Ledger) (f n : ℕ) (b : Bool) → b ≡ (n == (frame_at k f).base) → (frame_at (cond b (with_frame k f (frozen (frame_at k f))) k) f).kind ≡ Stable
+        → n ≢ (frame_at (cond b (with_frame k f (frozen (frame_at k f))) k) f).base
+    by k f n true e stable = absurd (set_here (λ x. ¬ (x.kind ≡ Stable)) k.frames f (frozen (frame_at k f)) (λ is. grind (arith, is)) (λ is. grind (arith, is)) stable)
+    by k f n false e stable = λ same. grind (arith, nat_tests, e, same)
+
+-- the lowest free frame of a node is so still where a stable one begins to die
+lowest_still : (sh : Shape) (k : Ledger) (node f g : ℕ) (b : Bool) → IsLowestFree sh k node g → (frame_at k f).kind ≡ Stable → IsLowestFree sh (cond b (with_frame k f (frozen (frame_at k f))) k) node g
+lowest_still sh k node f g false h stable = h
+lowest_still sh k node f g true h stable = record {
+  low = h.low;
+  high = h.high;
+  free = ap (λ (x : Note). x.kind) (get_or-set_other k.frames f g (frozen (frame_at k f)) blank (λ same. (let e = sym h.free ∙ ap (λ x. (frame_at k x).kind) same ∙ stable in grind (arith, e)))) ∙ h.free;
+  least = λ i low lt. set_holds (λ x. free_kind x.kind ≡ false) k.frames f i (frozen (frame_at k f)) refl (h.least i low lt);
+}
+
+-- the log tells the steps that were made
+steps_told : (v w : KeeperView) (nodes : List ℕ) (part : Log) (steps : List KeeperStep) → Did v w nodes part → Made v w steps → steps_of part ≡ steps
+steps_told v w nodes part steps d m = ap steps_of (append_cancel_left v.log part m.part (sym d.log ∙ ap (λ (z : KeeperView). z.log) m.after)) ∙ m.are
+
+-- a step that is told is in the log, with what it found
+found_in : (part : Log) (step : KeeperStep) → Contains (steps_of part) step → (found : ℕ) × Contains part (step, found)
+found_in [] step (i, lt, is) = absurd (omega (arith, lt))
+found_in (e ∷ part) step (zero, lt, is) = (e.1, (0, omega arith, ap (λ s. (s, e.1)) is))
+found_in (e ∷ part) step (suc i, lt, is) = let more = found_in part step (i, omega (arith, lt), is) in (more.0, (suc more.1.0, (let inside = more.1.1 in omega (arith, inside)), more.1.2))
+
+-- a part of the log that is not empty ends as the log does
+ends_so : {X : Type 0} (xs part ys : List X) (e : X) → 1 ≤ length part → xs ++ part ≡ ys ++ e ∷ [] → Contains part e
+ends_so [] part ys e some same = subst (λ zs. Contains zs e) (sym same) (Contains-push ys e)
+ends_so (x ∷ xs) part [] e some same =
+    (let lengths = ap length same in let both = length-append xs part in absurd (omega (arith, some, lengths, both)))
+ends_so (x ∷ xs) part (y ∷ ys) e some same = ends_so xs part ys e some (ap tail same)
+  where
+    tail : {X : Type 0} → List X → List X
+    tail [] = []
+    tail (z ∷ zs) = zs
+
+-- a dup that moved: a frame of the node was raised, and published at the dup's place
+pub moved : (v w : Mapped) (rows : List Row) (dup : DupRow) (node : ℕ) (h : Moves v w rows dup node) → (before : KeeperView) × (w.keeper ≡ did before (Publish dup.place h.got) 0) → (frame_at h.searched.ledger (dup_frame v.frame rows dup.number)).kind ≡ Stable
+    → HasMoved v.keeper w.keeper dup.place node
+moved v w rows dup node h ends stable =
+    let f : ℕ = dup_frame v.frame rows dup.number in
+    let g : ℕ = h.got in
+    let count : ℕ = item_count rows dup in
+    let end = replicate (count - 1) (Add g) ++ Publish dup.place g ∷ [] in
+    let stores = steps_of (puts g 0 dup.bytes) ++ Open g ∷ end in
+    let rest = steps_of (loads f 0 dup.bytes) ++ stores in
+    let reaps = map Reap (dying_on v.keeper.table.shape v.keeper.ledger node) in
+    let searched = searched_does v.keeper h.searched node h.finds.reaped in
+    let freezes = quiet_does h.searched h.frozen (Freeze f ∷ []) h.freezes (refl, tt) in
+    let step = step_made h.searched h.frozen (Freeze f) h.freezes in
+    let lowest : IsLowestFree h.frozen.table.shape h.frozen.ledger node g = subst (λ (z : KeeperView). IsLowestFree z.table.shape z.ledger node g) (sym step.1)
+    (lowest_still h.searched.table.shape h.searched.ledger node f g (count_in step.0 == (frame_at h.searched.ledger f).base)
+    (subst (λ (t : _). IsLowestFree t.shape h.searched.ledger node g) (sym searched.1.table) h.finds.lowest) stable) in
+    let mounts = raised_does h.frozen w.keeper g node rest lowest h.mounts
+    (quiet_both (steps_of (loads f 0 dup.bytes)) stores (quiet_loads f 0 dup.bytes) (quiet_both (steps_of (puts g 0 dup.bytes)) (Open g ∷ end) (quiet_puts g 0 dup.bytes)
+    (refl, quiet_both (replicate (count - 1) (Add g)) (Publish dup.place g ∷ []) (quiet_adds (count - 1) g) (refl, tt)))) in
+    let does = does_then v.keeper h.frozen w.keeper [] (node ∷ []) (does_then v.keeper h.searched h.frozen [] [] searched freezes) mounts in
+    let made = made_then v.keeper h.searched w.keeper reaps (Freeze f ∷ Raise g ∷ rest) h.finds.reaped (made_then h.searched h.frozen w.keeper (Freeze f ∷ []) (Raise g ∷ rest) h.freezes h.mounts) in
+    let told = steps_told v.keeper w.keeper (node ∷ []) does.0 (reaps ++ (Freeze f ∷ Raise g ∷ rest)) does.1 made in
+    let raised = found_in does.0 (Raise g) (subst (λ steps. Contains steps (Raise g)) (sym told) (Contains-append_right reaps (Freeze f ∷ Raise g ∷ rest) (Raise g) (1, omega arith, refl))) in
+    record {
+      part = does.0;
+      did = does.1;
+      frame = g;
+      before = raised.0;
+      raised = raised.1;
+      published = ends_so v.keeper.log does.0 ends.0.log (Publish dup.place g, 0) (let inside = raised.1.1 in omega (arith, inside)) (sym does.1.log ∙ ap (λ (z : KeeperView). z.log) ends.1);
+    }

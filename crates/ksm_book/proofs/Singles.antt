@@ -1,0 +1,345 @@
+-- The commands on single pages, carried out.
+use Rattle.ksm_book.proofs.Names.{[], All, All-filter, AlreadyRegistered, Answer, ap, arith, BadNode, before_trans, BookState, BookValue, BookView, Bool, CarriedOut, cases_Bool, change_row, comes_before, Command, cond_both, Does, Done, Drop, Err, false, filter, filter_all, filter_none, find_none, find_nothing, FindsNone, frame_at, frame_needed, frame_number, frame_on, Frames, frames_of, fresh_row, get_or, GuestPage, Houses, IfErr, IfSome, if◌then◌else◌, inl, InPageOrder, inr, is_some, IsAlone, IsAnswerUnless, IsDoneOr, IsIdle, IsLaid, IsReadable, IsServed, IsSound, IsWritable, KeeperView, leaving, length, lies_on, List, listed, lying, Made, MatchBool, MatchOption, May, moved, MovePage, MovesTo, nat_le, nat_tests, NoFrame, None, not, not_both, Ok, on_its_own, one_before, Option, option_and_then, ordered_with, PAGE_WORDS, PagesView, pairs_tail, Performs, Placed, private_state, Provides, puts, refl, refusal, refused_if, Register, Resettled, Resettles, Result, rewriting, Row, row_at, same_page, same_page_refl, Shape, shared_state, Some, sound_after, state_of, stepped, steps_of, Store, stored, StoresTo, Sub, subst, suc, sym, true, UnknownPage, view_of, with_row, without_page, ℕ, ◌++◌, ◌<◌, ◌==◌, ◌∙◌, ◌∷◌, ◌≡◌}
+use Rattle.std.proofs.lemmas.Bool.{eq-eqb}
+use Rattle.ksm_base.specs.declared.row.PageState.TheVariants.{Private}
+use Rattle.ksm_book.proofs.ByPage.{found_page, lies_again, lies_still, row_of_page}
+use Rattle.ksm_book.proofs.Laying.{come_there, lawful, laid_rows, own_kind, readable, served_at, shape_same}
+use Rattle.ksm_book.proofs.Filling.{took}
+use Rattle.ksm_book.proofs.Keeping.{left_placed, left_spends, may_leave, searched_spends}
+use Rattle.ksm_book.proofs.Made.{made_none, made_part}
+use Rattle.ksm_book.proofs.Resettled.{turned}
+use Rattle.ksm_book.proofs.Shown.{quiet_does, quiet_leaving, quiet_puts}
+use Rattle.ksm_book.proofs.Moves.{removed}
+
+-- the pages, their keeper, the cursor and the passes as a book
+abbrev pub book : PagesView → KeeperView → Option GuestPage → ℕ → BookView
+book p k cursor passes = record { state = state_of p cursor passes; frame = p.frame; keeper = k }
+
+-- a command that was carried out leaves a sound state
+pub sound_carried : (v w : BookView) (command : Command) (answer : Answer) → IsSound v.state → CarriedOut v w command answer → IsSound w.state
+sound_carried v w command answer s h = subst IsSound (sym h.state) (sound_after v.state command answer s h.answer)
+
+-- the same, by what proofs tell the book by, and by the page that was asked for
+pub carried_so : (old now : BookValue) (w : BookView) (by given : Command) (answer : Answer) → old ≡ now → by ≡ given → CarriedOut (view_of old) w by answer → CarriedOut (view_of now) w given answer
+carried_so old now w by given answer same told h = subst (λ (z : BookValue × Command). CarriedOut (view_of z.0) w z.1 answer) (λ t. (same t, told t)) h
+
+-- a page's row is found where the page was found to be
+pub found_spot : (rows : List Row) (page at : GuestPage) (row : Row) → at ≡ page → row_at page rows ≡ Some row → row_at at rows ≡ Some row
+found_spot rows page at row same found = ap (λ q. row_at q rows) same ∙ found
+
+-- a change of a page's row, and then another, are one change where the second makes the same of both
+pub change_twice : (page : GuestPage) (c d e : Row → Row) (rows : List Row) → ((r : Row) → (c r).page ≡ r.page) → All (λ r. same_page r.page page ≡ true → d (c r) ≡ e r) rows
+    → change_row page d (change_row page c rows) ≡ change_row page e rows
+change_twice page c d e [] keeps same = refl
+change_twice page c d e (r ∷ rows) keeps same = elim (cases_Bool (same_page r.page page)) [
+  | inl is ↦ let k = keeps r in let s = same 0 r (omega arith) is in grind (arith, is, k, s, change_twice page c d e rows keeps (λ i x lt. same (suc i) x (omega (arith, lt))))
+  | inr other ↦ grind (arith, other, change_twice page c d e rows keeps (λ i x lt. same (suc i) x (omega (arith, lt))))
+]
+
+-- the row of a page that was changed is found so
+pub at_changed : (page : GuestPage) (c : Row → Row) (rows : List Row) (row : Row) → ((r : Row) → (c r).page ≡ r.page) → row_at page rows ≡ Some row → row_at page (change_row page c rows) ≡ Some (c row)
+at_changed page c [] row keeps found = absurd (grind (arith, found))
+at_changed page c (r ∷ rows) row keeps found = elim (cases_Bool (same_page r.page page)) [
+  | inl same ↦ let k = keeps r in grind (arith, same, k, found)
+  | inr other ↦ grind (arith, other, at_changed page c rows row keeps (grind (arith, other, found)))
+]
+
+-- ---------------------------------------------------------------- a page with another frame
+
+-- a page was resettled, and then its row tells of home and bytes
+module _ (p m q : PagesView) (k l : KeeperView) (page : GuestPage) (node : ℕ) (bytes : List ℕ) (h : IsLaid p k) (table : l.table ≡ k.table) (r : Resettled p m k l page node bytes)
+    (d change : Row → Row) (goes : q ≡ record m { rows = change_row page d m.rows; restless = q.restless }) (rows : change_row page d (change_row page on_its_own p.rows) ≡ change_row page change p.rows) where
+  settled_frame : q.frame ≡ m.frame
+  settled_frame = ap (λ (x : PagesView). x.frame) goes
+
+  pub settled_pages : q ≡ record p { rows = change_row page change p.rows; frame = q.frame; restless = q.restless }
+  settled_pages = goes ∙ (λ t. record (r.pages t) { rows = change_row page d (r.pages t).rows; restless = q.restless })
+      ∙ (λ t. record p { rows = rows t; frame = sym settled_frame t; restless = q.restless })
+
+  pub settled_steps : Resettles (lying p k) (lying q l) page node bytes
+  settled_steps = subst (λ (f : Frames). Resettles (lying p k) (record { frame = f; keeper = l }) page node bytes) (sym settled_frame) r.resettles
+
+  pub settled_laid : Houses change page node bytes p.rows → IsLaid q l
+  settled_laid by_this = subst (λ (x : PagesView). IsLaid x l) (sym settled_pages) (record {
+    small = h.small;
+    same = shape_same p.shape k l h.same table;
+    placed = subst (λ (f : Frames). Placed p.shape p.knobs.merge_across_nodes l.ledger (change_row page change p.rows) f p.dups None) (sym settled_frame) (r.placed change by_this);
+    spent = r.spent;
+  })
+
+-- a row that was found has a frame of its own
+pub alone_now : (rows : List Row) (page : GuestPage) (row : Row) → row_at page rows ≡ Some row → shared_state row.state ≡ false → IsAlone page rows
+alone_now rows page row found alone = subst (λ o. MatchOption o (true ≡ false) (λ r. shared_state r.state ≡ false)) (sym found) alone
+
+-- the frame of a page may be read, and has the page's bytes
+pub may_read : (p : PagesView) (k : KeeperView) → IsLaid p k → (page : GuestPage) (row : Row) → row_at page p.rows ≡ Some row → (g : ℕ) → p.frame page ≡ Some g
+    → (g < frames_of k.table.shape) × IsReadable (frame_at k.ledger g).kind × (length (frame_at k.ledger g).content ≡ PAGE_WORDS) × ((frame_at k.ledger g).content ≡ row.bytes)
+may_read p k h page row found g lies =
+    let served : IsServed p.shape k.ledger p.dups row (Some g) = subst (IsServed p.shape k.ledger p.dups row) lies (served_at p.shape p.knobs.merge_across_nodes k.ledger p.rows p.frame p.dups None h.placed page row found) in
+    (subst (λ (s : Shape). g < frames_of s) (sym h.same) served.0.frame, readable (frame_at k.ledger g).kind row.state served.0.mapped served.0.kind, h.placed.widths g, served.0.content)
+
+-- what is true is so of each error
+pub if_err : {T E : Type 0} (r : Result T E) (P : Type 0) → P → IfErr r (λ _. P)
+if_err (Ok x) P h = tt
+if_err (Err e) P h = h
+
+-- where no row is told, there is none
+pub absent_so : (o : Option Row) → is_some o ≡ false → o ≡ None
+absent_so None none = refl
+absent_so (Some row) none = absurd (grind (arith, none))
+
+-- a page that was resettled has a frame of its own
+pub alone_resettled : (rows : List Row) (page : GuestPage) (row : Row) → row_at page rows ≡ Some row → (now : List Row) → now ≡ change_row page on_its_own rows → IsAlone page now
+alone_resettled rows page row found now made =
+    alone_now now page (on_its_own row) (ap (row_at page) made ∙ at_changed page on_its_own rows row (λ r. refl) found) refl
+
+-- and is Private
+pub private_resettled : (rows : List Row) (page : GuestPage) (row : Row) → row_at page rows ≡ Some row → (now : List Row) → now ≡ change_row page on_its_own rows → MatchOption (row_at page now) (true ≡ false) (λ r. private_state r.state ≡ true)
+private_resettled rows page row found now made =
+    subst (λ o. MatchOption o (true ≡ false) (λ r. private_state r.state ≡ true)) (sym (ap (row_at page) made ∙ at_changed page on_its_own rows row (λ r. refl) found)) refl
+
+-- ---------------------------------------------------------------- a store
+
+-- the frame of a page with one of its own may be stored to
+pub own_ready : (p : PagesView) (k : KeeperView) → IsLaid p k → (page : GuestPage) (row : Row) → row_at page p.rows ≡ Some row → shared_state row.state ≡ false → (g : ℕ) → p.frame page ≡ Some g
+    → (g < frames_of k.table.shape) × (g < length k.ledger.frames) × IsWritable (frame_at k.ledger g).kind × (length (frame_at k.ledger g).content ≡ PAGE_WORDS)
+own_ready p k h page row found alone g lies =
+    let served : IsServed p.shape k.ledger p.dups row (Some g) = subst (IsServed p.shape k.ledger p.dups row) lies (served_at p.shape p.knobs.merge_across_nodes k.ledger p.rows p.frame p.dups None h.placed page row found) in
+    let inside = served.0.frame in
+    let long : length k.ledger.frames ≡ frames_of p.shape = h.placed.frames_long in
+    (subst (λ (s : Shape). g < frames_of s) (sym h.same) inside, omega (arith, inside, long), subst IsWritable (sym (served.0.kind ∙ own_kind row.state alone)) tt, h.placed.widths g)
+
+module _ (p : PagesView) (k l : KeeperView) (cursor : Option GuestPage) (passes : ℕ) (page : GuestPage) (bytes : List ℕ) (row : Row) (found : row_at page p.rows ≡ Some row) (table : l.table ≡ k.table) where
+  abbrev b : BookState
+  b = state_of p cursor passes
+
+  needs : (shared : Bool) → shared_state row.state ≡ shared → frame_needed b (Store page bytes) ≡ (if shared then Some row.home else None)
+  needs shared is = ap (option_and_then (λ r. if shared_state r.state then Some r.home else None)) found ∙ ap (λ (x : Bool). if x then Some row.home else None) is
+
+  not_refused : refusal b (Store page bytes) ≡ None
+  not_refused = ap (λ o. refused_if (not (is_some o)) UnknownPage None) found
+
+  module _ (q : PagesView) (state : state_of q cursor passes ≡ record b { rows = change_row page (stored bytes) p.rows }) where
+    stores : (shared : Bool) → shared_state row.state ≡ shared → MatchBool shared (Resettles (lying p k) (lying q l) row.page row.home bytes) (Performs (lying p k) (lying q l) (rewriting p.frame row.page bytes))
+        → Does k l (listed (if shared then Some row.home else None)) → CarriedOut (book p k cursor passes) (book q l cursor passes) (Store page bytes) (Ok Done)
+    stores shared is steps does = record {
+      own = table;
+      answer = subst (λ o. IsAnswerUnless o b (Store page bytes) (Ok Done)) (sym not_refused) (subst (λ o. IsDoneOr o (Ok Done)) (sym (needs shared is)) (done_or (if shared then Some row.home else None)));
+      state = state;
+      steps = subst (λ o. MatchOption o ⊥ (StoresTo (lying p k) (lying q l) bytes)) (sym found)
+          (subst (λ x. MatchBool x (Resettles (lying p k) (lying q l) row.page row.home bytes) (Performs (lying p k) (lying q l) (rewriting p.frame row.page bytes))) (sym is) steps);
+      frames = subst (λ o. Does k l (listed o)) (sym (needs shared is)) does;
+      shown = tt;
+    }
+      where
+        done_or : (o : Option ℕ) → IsDoneOr o (Ok Done)
+        done_or None = tt
+        done_or (Some n) = tt
+
+  -- to the page's own frame
+  pub store_written : (q : PagesView) (g : ℕ) → q ≡ record p { rows = change_row page (stored bytes) p.rows; restless = q.restless } → shared_state row.state ≡ false → p.frame page ≡ Some g → l ≡ stepped k (puts g 0 bytes)
+      → CarriedOut (book p k cursor passes) (book q l cursor passes) (Store page bytes) (Ok Done)
+  store_written q g goes alone lies wrote =
+      stores q (ap (λ x. state_of x cursor passes) goes) false alone (record {
+        made = subst (λ f. Made k l (steps_of (puts f 0 bytes))) (sym (ap (frame_on p.frame) (found_page page p.rows row found) ∙ ap frame_number lies)) (made_part k l (puts g 0 bytes) wrote);
+        frame = ap (λ (x : PagesView). x.frame) goes;
+      }) (quiet_does k l (steps_of (puts g 0 bytes)) (made_part k l (puts g 0 bytes) wrote) (quiet_puts g 0 bytes))
+
+  -- to another frame
+  pub store_copied : (m q : PagesView) → IsLaid p k → Resettled p m k l page row.home bytes → q ≡ record m { rows = change_row page (stored bytes) m.rows; restless = q.restless } → shared_state row.state ≡ true
+      → CarriedOut (book p k cursor passes) (book q l cursor passes) (Store page bytes) (Ok Done) × IsLaid q l
+  store_copied m q h r goes shared =
+      let rows = change_twice page on_its_own (stored bytes) (stored bytes) p.rows (λ x. refl) (λ i x lt is. refl) in (
+        stores q (ap (λ x. state_of x cursor passes) (settled_pages p m q k l page row.home bytes h table r (stored bytes) (stored bytes) goes rows)) true shared
+            (subst (λ x. Resettles (lying p k) (lying q l) x row.home bytes) (sym (found_page page p.rows row found)) (settled_steps p m q k l page row.home bytes h table r (stored bytes) (stored bytes) goes rows)) r.does,
+        settled_laid p m q k l page row.home bytes h table r (stored bytes) (stored bytes) goes rows (record {
+          pages = λ x. refl;
+          row = subst (λ o. MatchOption o ⊥ (λ x. ((stored bytes x).state ≡ Private) × ((stored bytes x).home ≡ row.home) × ((stored bytes x).bytes ≡ bytes))) (sym found) (refl, refl, refl);
+        }),
+      )
+
+-- ---------------------------------------------------------------- a move to another node
+
+-- a change that leaves the rows of a page as they are changes nothing
+pub change_still : (page : GuestPage) (f : Row → Row) (rows : List Row) → All (λ r. same_page r.page page ≡ true → f r ≡ r) rows → change_row page f rows ≡ rows
+change_still page f [] still = refl
+change_still page f (r ∷ rows) still = elim (cases_Bool (same_page r.page page)) [
+  | inl is ↦ let s = still 0 r (omega arith) is in grind (arith, is, s, change_still page f rows (λ i x lt. still (suc i) x (omega (arith, lt))))
+  | inr other ↦ grind (arith, other, change_still page f rows (λ i x lt. still (suc i) x (omega (arith, lt))))
+]
+
+-- a node that is there is not told as none
+there_is : (nodes node : ℕ) → node < nodes → nat_le nodes node ≡ false
+there_is nodes node less = grind (arith, nat_tests, less)
+
+module _ (p : PagesView) (k : KeeperView) (cursor : Option GuestPage) (passes : ℕ) (page : GuestPage) (node : ℕ) (row : Row) (rise : InPageOrder p.rows) (found : row_at page p.rows ≡ Some row) (less : node < p.shape.nodes) where
+  abbrev b' : BookState
+  b' = state_of p cursor passes
+
+  move_needs : (home : Bool) → (row.home == node) ≡ home → frame_needed b' (MovePage page node) ≡ (if home then None else Some node)
+  move_needs home is = ap (option_and_then (λ r. if r.home == node then None else Some node)) found ∙ ap (λ (x : Bool). if x then None else Some node) is
+
+  move_allowed : refusal b' (MovePage page node) ≡ None
+  move_allowed = ap (λ x. refused_if x BadNode (refused_if (not (is_some (row_at page p.rows))) UnknownPage None)) (there_is p.shape.nodes node less) ∙ ap (λ o. refused_if (not (is_some o)) UnknownPage None) found
+
+  -- a page that is at home there stays
+  pub move_home : row.home ≡ node → CarriedOut (book p k cursor passes) (book p k cursor passes) (MovePage page node) (Ok Done)
+  move_home same =
+      let is : (row.home == node) ≡ true = eq-eqb row.home node same in
+      let one = row_of_page page p.rows row rise found in
+      let still : change_row page (moved node) p.rows ≡ p.rows = change_still page (moved node) p.rows (λ i x lt of_page. subst (λ r. moved node r ≡ r) (sym (one i x lt of_page)) (ap (λ (x : Bool). if x then row else record row { home = node; state = Private }) is)) in
+      record {
+        own = refl;
+        answer = subst (λ o. IsAnswerUnless o b' (MovePage page node) (Ok Done)) (sym move_allowed) (subst (λ o. IsDoneOr o (Ok Done)) (sym (move_needs true is)) tt);
+        state = ap (λ rows. record b' { rows = rows }) (sym still);
+        steps = subst (λ o. MatchOption o ⊥ (MovesTo (lying p k) (lying p k) node)) (sym found)
+            (subst (λ x. MatchBool x (IsIdle (lying p k) (lying p k)) (Resettles (lying p k) (lying p k) row.page node row.bytes)) (sym is) (record { keeper = refl; frame = refl }));
+        frames = subst (λ o. Does k k (listed o)) (sym (move_needs true is)) (quiet_does k k [] (made_none k k refl) tt);
+        shown = tt;
+      }
+
+  module _ (l : KeeperView) (table : l.table ≡ k.table) (away : (row.home == node) ≡ false) where
+    -- a page that moves has a frame there
+    pub move_moved : (m q : PagesView) → IsLaid p k → Resettled p m k l page node row.bytes → q ≡ record m { rows = change_row page (λ r. record r { home = node }) m.rows; restless = q.restless }
+        → CarriedOut (book p k cursor passes) (book q l cursor passes) (MovePage page node) (Ok Done) × IsLaid q l
+    move_moved m q h r goes =
+        let one = row_of_page page p.rows row rise found in
+        let to : moved node row ≡ record row { home = node; state = Private } = ap (λ (x : Bool). if x then row else record row { home = node; state = Private }) away in
+        let rows = change_twice page on_its_own (λ r. record r { home = node }) (moved node) p.rows (λ x. refl) (λ i x lt of_page. subst (λ r. record r { home = node; state = Private } ≡ moved node r) (sym (one i x lt of_page)) (sym to)) in (
+          record {
+            own = table;
+            answer = subst (λ o. IsAnswerUnless o b' (MovePage page node) (Ok Done)) (sym move_allowed) (subst (λ o. IsDoneOr o (Ok Done)) (sym (move_needs false away)) tt);
+            state = ap (λ x. state_of x cursor passes) (settled_pages p m q k l page node row.bytes h table r (λ r. record r { home = node }) (moved node) goes rows);
+            steps = subst (λ o. MatchOption o ⊥ (MovesTo (lying p k) (lying q l) node)) (sym found)
+                (subst (λ x. MatchBool x (IsIdle (lying p k) (lying q l)) (Resettles (lying p k) (lying q l) row.page node row.bytes)) (sym away)
+                (subst (λ x. Resettles (lying p k) (lying q l) x node row.bytes) (sym (found_page page p.rows row found)) (settled_steps p m q k l page node row.bytes h table r (λ r. record r { home = node }) (moved node) goes rows)));
+            frames = subst (λ o. Does k l (listed o)) (sym (move_needs false away)) r.does;
+            shown = tt;
+          },
+          settled_laid p m q k l page node row.bytes h table r (λ r. record r { home = node }) (moved node) goes rows (record {
+            pages = λ x. cond_both (x.home == node) x (record x { home = node; state = Private }) (λ y. y.page ≡ x.page) (λ _. refl) (λ _. refl);
+            row = subst (λ o. MatchOption o ⊥ (λ x. ((moved node x).state ≡ Private) × ((moved node x).home ≡ node) × ((moved node x).bytes ≡ row.bytes))) (sym found)
+                (ap (λ (x : Row). x.state) to, ap (λ (x : Row). x.home) to, ap (λ (x : Row). x.bytes) to);
+          }),
+        )
+
+-- ---------------------------------------------------------------- a page that goes
+
+module _ (p : PagesView) (k : KeeperView) (cursor : Option GuestPage) (passes : ℕ) (page : GuestPage) (row : Row) (rise : InPageOrder p.rows) (found : row_at page p.rows ≡ Some row) (h : IsLaid p k) (left : Option ℕ) (was : left ≡ p.frame page) where
+  gone_hand : Placed p.shape p.knobs.merge_across_nodes k.ledger (without_page page p.rows) (lies_on page None p.frame) p.dups (p.frame page)
+  gone_hand = removed p.shape p.knobs.merge_across_nodes k.ledger p.rows p.frame p.dups page row rise found h.placed
+
+  pub drop_may : IfSome left (λ f. May k (Sub f))
+  drop_may = subst (λ o. IfSome o (λ f. May k (Sub f))) (sym was)
+      (may_leave k p.shape h.same p.knobs.merge_across_nodes (without_page page p.rows) (lies_on page None p.frame) p.dups (p.frame page) gone_hand)
+
+  pub drop_gone : (q : PagesView) (l : KeeperView) → q ≡ record p { rows = without_page page p.rows; frame = lies_on page None p.frame; restless = q.restless } → Made k l (leaving left)
+      → CarriedOut (book p k cursor passes) (book q l cursor passes) (Drop page) (Ok Done) × IsLaid q l
+  drop_gone q l goes made =
+      let table = ap (λ (z : KeeperView). z.table) made.after in
+      let leaves = subst (λ o. Made k l (leaving o)) was made in (
+        record {
+          own = table;
+          answer = subst (λ o. IsAnswerUnless (refused_if (not (is_some o)) UnknownPage None) (state_of p cursor passes) (Drop page) (Ok Done)) (sym found) tt;
+          state = ap (λ x. state_of x cursor passes) goes;
+          steps = record { made = leaves; frame = ap (λ (x : PagesView). x.frame) goes };
+          frames = quiet_does k l (leaving (p.frame page)) leaves (quiet_leaving (p.frame page));
+          shown = tt;
+        },
+        subst (λ (x : PagesView). IsLaid x l) (sym goes) (laid_rows p k h (without_page page p.rows) (lies_on page None p.frame) q.restless l table (left_spends k l (p.frame page) leaves)
+            (left_placed k l (p.frame page) leaves p.shape p.knobs.merge_across_nodes (without_page page p.rows) (lies_on page None p.frame) p.dups gone_hand)),
+      )
+
+-- ---------------------------------------------------------------- a page that comes
+
+-- a row that came and goes leaves the rows as they were
+without_come : (row : Row) (rows : List Row) → InPageOrder rows → row_at row.page rows ≡ None → without_page row.page (with_row row rows) ≡ rows
+without_come row [] rise absent = grind (arith, same_page_refl row.page)
+without_come row (r ∷ rs) rise absent =
+    let none = find_none (λ s. same_page s.page row.page) (r ∷ rs) absent in
+    let other : same_page r.page row.page ≡ false = none 0 r (omega arith) in
+    let apart : All (λ s. same_page s.page row.page ≡ false) rs = λ i x lt. none (suc i) x (omega (arith, lt)) in
+    elim (cases_Bool (comes_before r.page row.page)) [
+      | inl before ↦
+          let behind : comes_before row.page r.page ≡ false = not_both r.page row.page before in
+          let rest = without_come row rs (pairs_tail (λ (x y : Row). comes_before x.page y.page ≡ true) r rs rise) (find_nothing (λ s. same_page s.page row.page) rs apart) in
+          grind (arith, before, behind, other, rest)
+      | inr not_before ↦
+          let behind : comes_before row.page r.page ≡ true = one_before r.page row.page other not_before in
+          let later : All (λ s. comes_before row.page s.page ≡ true) rs = λ i x lt. before_trans row.page r.page (get_or rs i x).page behind (rise 0 (suc i) x (omega arith) (omega (arith, lt))) in
+          let first : filter (λ s. comes_before s.page row.page) rs ≡ [] = filter_none (λ s. comes_before s.page row.page) rs (λ i x lt. not_both row.page (get_or rs i x).page (later i x lt)) in
+          let last : filter (λ s. comes_before row.page s.page) rs ≡ rs = filter_all (λ s. comes_before row.page s.page) rs later in
+          let stay : without_page row.page rs ≡ rs = filter_all (λ s. not (same_page s.page row.page)) rs (λ i x lt. ap not (apart i x lt)) in
+          grind (arith, not_before, behind, other, first, last, stay, same_page_refl row.page)
+    ]
+
+-- the row that came is found
+come_found : (row : Row) (rows : List Row) → row_at row.page rows ≡ None → row_at row.page (with_row row rows) ≡ Some row
+come_found row rows absent =
+    let first : Row → Bool = λ r. comes_before r.page row.page in
+    let none = find_none (λ r. same_page r.page row.page) rows absent in
+    skip (filter first rows) (All-filter first (λ r. same_page r.page row.page ≡ false) rows none)
+  where
+    skip : (xs : List Row) → All (λ r. same_page r.page row.page ≡ false) xs → row_at row.page (xs ++ row ∷ filter (λ r. comes_before row.page r.page) rows) ≡ Some row
+    skip [] apart = grind (arith, same_page_refl row.page)
+    skip (x ∷ xs) apart =
+        let here = apart 0 x (omega arith) in
+        let rest = skip xs (λ i d lt. apart (suc i) d (omega (arith, lt))) in
+        grind (arith, here, rest)
+
+module _ (p m : PagesView) (k l : KeeperView) (cursor : Option GuestPage) (passes : ℕ) (page : GuestPage) (node : ℕ) (bytes : List ℕ) (rise : InPageOrder p.rows) (absent : row_at page p.rows ≡ None) (h : IsLaid p k)
+    (comes : m ≡ record p { rows = with_row (fresh_row page node bytes) p.rows; frame = m.frame; restless = m.restless }) (others : m.frame ≡ lies_on page (m.frame page) p.frame) (less : node < p.shape.nodes) where
+  abbrev fresh : Row
+  fresh = fresh_row page node bytes
+
+  come_allowed : refusal (state_of p cursor passes) (Register page node bytes) ≡ None
+  come_allowed = ap (λ x. refused_if x BadNode (refused_if (is_some (row_at page p.rows)) AlreadyRegistered None)) (there_is p.shape.nodes node less) ∙ ap (λ o. refused_if (is_some o) AlreadyRegistered None) absent
+
+  found_fresh : row_at page (with_row fresh p.rows) ≡ Some fresh
+  found_fresh = come_found fresh p.rows absent
+
+  pub come_known : is_some (row_at page m.rows) ≡ true
+  come_known = ap (λ (x : PagesView). is_some (row_at page x.rows)) comes ∙ ap is_some found_fresh
+
+  -- on the frame taken
+  pub register_come : (q : PagesView) (g : ℕ) → q ≡ record m { rows = change_row page on_its_own m.rows; frame = lies_on page (Some g) m.frame; restless = q.restless } → length bytes ≡ PAGE_WORDS → Provides k l node bytes g
+      → CarriedOut (book p k cursor passes) (book q l cursor passes) (Register page node bytes) (Ok Done) × IsLaid q l
+  register_come q g goes long provides =
+      let taken = took k l node bytes g (subst (λ (x : Shape). node < x.nodes) (sym h.same) less) (lawful p.shape p.knobs.merge_across_nodes k p.rows p.frame p.dups None h.same h.placed) long provides in
+      let table = taken.does.1.table in
+      let one = row_of_page page (with_row fresh p.rows) fresh (ordered_with fresh p.rows rise) found_fresh in
+      let rows : change_row page on_its_own (with_row fresh p.rows) ≡ with_row fresh p.rows = change_still page on_its_own (with_row fresh p.rows) (λ i x lt of_page. subst (λ r. on_its_own r ≡ r) (sym (one i x lt of_page)) refl) in
+      let frame : lies_on page (Some g) m.frame ≡ lies_on page (Some g) p.frame = ap (lies_on page (Some g)) others ∙ lies_again page (m.frame page) (Some g) p.frame in
+      let there : q ≡ record p { rows = with_row fresh p.rows; frame = lies_on page (Some g) p.frame; restless = q.restless } = goes ∙ (λ t. record (comes t) { rows = change_row page on_its_own (comes t).rows; frame = lies_on page (Some g) m.frame; restless = q.restless })
+      ∙ (λ t. record p { rows = rows t; frame = frame t; restless = q.restless }) in (
+        record {
+          own = table;
+          answer = subst (λ o. IsAnswerUnless o (state_of p cursor passes) (Register page node bytes) (Ok Done)) (sym come_allowed) tt;
+          state = ap (λ x. state_of x cursor passes) there;
+          steps = record { got = g; provides = provides; frame = ap (λ (x : PagesView). x.frame) there };
+          frames = taken.does;
+          shown = tt;
+        },
+        subst (λ (x : PagesView). IsLaid x l) (sym there) (laid_rows p k h (with_row fresh p.rows) (lies_on page (Some g) p.frame) q.restless l table taken.spent
+            (come_there p.shape p.knobs.merge_across_nodes k l p.rows p.frame p.dups h.same node bytes g taken h.placed fresh absent refl refl refl)),
+      )
+
+  -- no frame of the node was left, and the page went again
+  pub register_turned : (q : PagesView) → p.frame page ≡ None → q ≡ record m { rows = without_page page m.rows; frame = lies_on page None m.frame; restless = q.restless } → FindsNone k l node
+      → CarriedOut (book p k cursor passes) (book q l cursor passes) (Register page node bytes) (Err (NoFrame node)) × IsLaid q l
+  register_turned q nowhere_there goes searched =
+      let turns = turned p k l node h less searched in
+      let table = ap (λ (z : KeeperView). z.table) searched.reaped.after in
+      let rows = without_come fresh p.rows rise absent in
+      let frame : lies_on page None m.frame ≡ p.frame = ap (lies_on page None) others ∙ lies_again page (m.frame page) None p.frame ∙ lies_still page None p.frame nowhere_there in
+      let back : q ≡ record p { restless = q.restless } = goes ∙ (λ t. record (comes t) { rows = without_page page (comes t).rows; frame = lies_on page None m.frame; restless = q.restless }) ∙ (λ t. record p { rows = rows t; frame = frame t; restless = q.restless }) in (
+        record {
+          own = table;
+          answer = subst (λ o. IsAnswerUnless o (state_of p cursor passes) (Register page node bytes) (Err (NoFrame node))) (sym come_allowed) refl;
+          state = ap (λ x. state_of x cursor passes) back;
+          steps = record { searched = searched; frame = ap (λ (x : PagesView). x.frame) back };
+          frames = (turns.left.part, turns.left.did);
+          shown = turns.left;
+        },
+        subst (λ (x : PagesView). IsLaid x l) (sym back) (laid_rows p k h p.rows p.frame q.restless l table (searched_spends k l node searched.reaped) turns.laid.placed),
+      )

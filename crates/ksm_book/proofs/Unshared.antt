@@ -1,0 +1,229 @@
+-- The commands on all pages of a guest, or on all there are, carried out.
+use Rattle.ksm_book.proofs.Names.{[], All, All-map, and-true, ap, append-nil, arith, BookState, Bool, CarriedOut, change_none, change_rows, Command, cond_both, Does, Done, Err, every_row, false, Fault, find, find_none, Gave, get_or, GuestPage, has_guest, HasShown, Held, if◌then◌else◌, inl, inr, is_before, is_next, is_of, is_some, IsAnswerUnless, IsHeld, IsLaid, IsStop, IsUnmerged, KeeperView, Knobs, left_by, let_go, List, list_any, lying, map, MatchOption, Mergeable, nodes_got, NoFrame, None, not, of_guest, Ok, Option, option_map, PagesView, refl, refused_if, Row, SetRun, shared_rows, shared_state, slice_get, slice_get_past, Some, state_of, subst, sym, take, true, UnknownPage, Unmerge, Unmerged, UnmergesTo, unshare_stopped, unshared, Unshares, ℕ, ◌&&◌, ◌||◌, ◌∙◌, ◌∷◌, ◌≡◌}
+use Rattle.ksm_book.proofs.Laying.{LodgesAs, laid_mapped, retuned}
+use Rattle.ksm_book.proofs.Made.{chained}
+use Rattle.ksm_book.proofs.Singles.{absent_so, book}
+use Rattle.ksm_book.proofs.Unmerged.{does_nothing, in_scan}
+
+-- the row at which there was a stop is the next of the shared ones
+stop_is : (rows : List Row) (k : ℕ) (at : Option Row) → IsStop rows k at → slice_get rows k ≡ at
+stop_is rows k None h = slice_get_past rows k (omega (arith, h))
+stop_is rows k (Some row) h = h
+
+-- where there was a stop, the answer says so
+is_unmerged : (rows : List Row) (k : ℕ) (at : Option Row) → IsStop rows k at
+    → IsUnmerged rows (Ok (Unmerged k (option_map (λ r. NoFrame r.home) at)))
+is_unmerged rows k None at = at
+is_unmerged rows k (Some row) at = subst (λ o. MatchOption o ⊥ (λ r. row.home ≡ r.home)) (sym at) refl
+
+-- the frames that were given
+gave_does : (v w : KeeperView) (nodes : List ℕ) (at : Option Row) → Gave v w nodes at → Does v w nodes
+gave_does v w nodes None h = h
+gave_does v w nodes (Some row) h = let u = h.0 in let first = h.1 in let left = h.2 in
+    subst (λ ns. Does v w ns) (append-nil nodes) (_, chained v u w nodes [] first.0 left.part first.1 left.did)
+
+-- and what the log shows of them
+gave_shown : (b : BookState) (command : Command) (k l : KeeperView) (nodes : List ℕ) (count : ℕ) (at : Option Row)
+    → ((s : Option Fault) → nodes_got b (Ok (Unmerged count s)) command ≡ nodes) → Gave k l nodes at
+    → HasShown b k l (Ok (Unmerged count (option_map (λ r. NoFrame r.home) at))) command
+gave_shown b command k l nodes count None are h = tt
+gave_shown b command k l nodes count (Some row) are h = (h.0, subst (Does k h.0) (sym (are (Some (NoFrame row.home)))) h.1, h.2)
+
+some_mapped : {X : Type 0} (f : Row → X) (o : Option Row) → is_some o ≡ is_some (option_map f o)
+some_mapped f None = refl
+some_mapped f (Some r) = refl
+
+any_found : (t : Row → Bool) (rows : List Row) → list_any t rows ≡ is_some (find t rows)
+any_found t [] = refl
+any_found t (r ∷ rows) = one (t r) (any_found t rows)
+  where
+    one : (b : Bool) → list_any t rows ≡ is_some (find t rows)
+        → (b || list_any t rows) ≡ is_some (if b then Some r else find t rows)
+    one true rest = refl
+    one false rest = rest
+
+-- the first row of a guest is told, if it has one
+abbrev pub IsTold : PagesView → ℕ → Option Held → Type 0
+IsTold p guest told = MatchOption told (find (is_next (Some guest) None) p.rows ≡ None) (λ held. IsHeld p held.spot.page held
+    × (option_map (λ r. r.page) (find (is_next (Some guest) None) p.rows) ≡ Some held.spot.page))
+
+-- so it has one where one is told
+pub has_told : (p : PagesView) (guest : ℕ) (o : Option Held) → IsTold p guest o → list_any (is_of guest) p.rows ≡ is_some o
+has_told p guest o told = any_found (is_of guest) p.rows ∙ (λ i. is_some (find (λ r. sym (and-true (is_of guest r)) i) p.rows)) ∙ by o told
+  where
+    by : (o : Option Held) → IsTold p guest o → is_some (find (is_next (Some guest) None) p.rows) ≡ is_some o
+    by None none = ap is_some none
+    by (Some held) found = some_mapped (λ r. r.page) _ ∙ ap is_some found.1
+
+-- an unmerging of a guest that has none
+pub unmerge_refused : (p : PagesView) (k : KeeperView) (cursor : Option GuestPage) (passes guest : ℕ)
+    → has_guest (state_of p cursor passes) guest ≡ false
+    → CarriedOut (book p k cursor passes) (book p k cursor passes) (Unmerge guest) (Err UnknownPage)
+unmerge_refused p k cursor passes guest has = record {
+  own = refl;
+  answer = subst (λ x. IsAnswerUnless (refused_if (not x) UnknownPage None) (state_of p cursor passes) (Unmerge guest) (Err UnknownPage))
+      (sym has) refl;
+  state = refl;
+  steps = record { keeper = refl; frame = refl };
+  frames = does_nothing k;
+  shown = tt;
+}
+
+-- an unmerging of a guest that has a row
+pub unmerge_carried : {p q : PagesView} {k l : KeeperView} (cursor : Option GuestPage) (passes : ℕ) {guest count : ℕ} {stop : Option Fault}
+    → Unshares p q k l (Some guest) count stop → has_guest (state_of p cursor passes) guest ≡ true
+    → CarriedOut (book p k cursor passes) (book q l cursor passes) (Unmerge guest) (Ok (Unmerged count stop))
+unmerge_carried {p} {q} {k} {l} cursor passes {guest} {count} {stop} u has =
+    let b = state_of p cursor passes in
+    let rows = shared_rows (is_of guest) b in
+    let homes = map (λ (r : Row). r.home) (take count rows) in
+    let does = gave_does k l homes u.at u.gave in
+    record {
+      own = does.1.table;
+      answer = subst (λ x. IsAnswerUnless (refused_if (not x) UnknownPage None) b (Unmerge guest) (Ok (Unmerged count stop))) (sym has)
+          (subst (λ s. IsUnmerged rows (Ok (Unmerged count s))) (sym u.fault) (is_unmerged rows count u.at u.stands));
+      state = ap (λ x. state_of x cursor passes) u.pages
+          ∙ ap (λ o. record b { rows = change_rows (λ r. is_of guest r && is_before o r) let_go b.rows })
+          (sym (stop_is rows count u.at u.stands));
+      steps = u.unmerges;
+      frames = does;
+      shown = subst (λ s. HasShown b k l (Ok (Unmerged count s)) (Unmerge guest)) (sym u.fault)
+          (gave_shown b (Unmerge guest) k l homes count u.at (λ _. refl) u.gave);
+    }
+
+-- all pages of a guest become mergeable, if it has one
+module _ {p q : PagesView} {k : KeeperView} (cursor : Option GuestPage) (passes guest : ℕ) (h : IsLaid p k)
+    (goes : q ≡ record p { rows = change_rows (is_of guest) in_scan p.rows; restless = q.restless }) where
+  pub mergeable_carried : has_guest (state_of p cursor passes) guest ≡ true
+      → CarriedOut (book p k cursor passes) (book q k cursor passes) (Mergeable guest) (Ok Done)
+  mergeable_carried has = record {
+    own = refl;
+    answer = subst (λ x. IsAnswerUnless (refused_if (not x) UnknownPage None) (state_of p cursor passes) (Mergeable guest) (Ok Done))
+        (sym has) tt;
+    state = ap (λ x. state_of x cursor passes) goes;
+    steps = record { keeper = refl; frame = ap (λ (x : PagesView). x.frame) goes };
+    frames = does_nothing k;
+    shown = tt;
+  }
+
+  pub mergeable_refused : has_guest (state_of p cursor passes) guest ≡ false
+      → CarriedOut (book p k cursor passes) (book q k cursor passes) (Mergeable guest) (Err UnknownPage)
+  mergeable_refused has =
+      let none =
+      change_none (is_of guest) in_scan p.rows
+      (find_none (is_of guest) p.rows (absent_so _ (sym (any_found (is_of guest) p.rows) ∙ has))) in
+      record {
+        own = refl;
+        answer = subst (λ x. IsAnswerUnless (refused_if (not x) UnknownPage None) (state_of p cursor passes) (Mergeable guest)
+            (Err UnknownPage)) (sym has) refl;
+        state = ap (λ x. state_of x cursor passes) goes ∙ (λ t. record (state_of p cursor passes) { rows = none t });
+        steps = record { keeper = refl; frame = ap (λ (x : PagesView). x.frame) goes };
+        frames = does_nothing k;
+        shown = tt;
+      }
+
+  pub mergeable_laid : IsLaid q k
+  mergeable_laid = subst (λ (x : PagesView). IsLaid x k) (sym goes)
+      (laid_mapped p k h (λ r. if is_of guest r then in_scan r else r) q.restless
+      (λ r. cond_both (is_of guest r) (in_scan r) r (λ x. x.page ≡ r.page) (λ _. refl) (λ _. refl))
+      (λ i d lt. let r = get_or p.rows i d in
+      cond_both (is_of guest r) (in_scan r) r (λ x. LodgesAs x r) (λ _. (refl, refl, inl refl)) (λ _. (refl, refl, inl refl))))
+
+-- where all pages are asked for, those before the stop that were shared are unshared
+stopped_rows : (at : Option Row) (rows : List Row)
+    → change_rows (λ r. of_guest None r && is_before at r) (left_by None) rows
+    ≡ change_rows (λ r. shared_state r.state && is_before at r) unshared rows
+stopped_rows at [] = refl
+stopped_rows at (r ∷ rows) = λ t. one (shared_state r.state) (is_before at r) t ∷ stopped_rows at rows t
+  where
+    one : (s b : Bool) → (if b then (if s then unshared r else r) else r) ≡ (if s && b then unshared r else r)
+    one true b = refl
+    one false true = refl
+    one false false = refl
+
+unshared_again : (rows : List Row) → map unshared (map (left_by None) rows) ≡ map unshared rows
+unshared_again [] = refl
+unshared_again (r ∷ rows) = λ t.
+    cond_both (shared_state r.state) (unshared r) r (λ x. unshared x ≡ unshared r) (λ _. refl) (λ _. refl) t ∷ unshared_again rows t
+
+-- a run of 2
+module _ {p m : PagesView} {k l : KeeperView} (cursor : Option GuestPage) (passes : ℕ) {count : ℕ} {stop : Option Fault}
+    (u : Unshares p m k l None count stop) {knobs : Knobs} (same : knobs ≡ p.knobs) where
+  abbrev b : BookState
+  b = state_of p cursor passes
+
+  abbrev met : List Row
+  met = shared_rows every_row b
+
+  abbrev homes : List ℕ
+  homes = map (λ r. r.home) (take count met)
+
+  -- whatever it does to the rows and knobs once the pages have left
+  carried : (q : PagesView) (cursor' : Option GuestPage) → q.frame ≡ m.frame → state_of q cursor' passes ≡ unshare_stopped stop count b
+      → CarriedOut (book p k cursor passes) (book q l cursor' passes) (SetRun 2) (Ok (Unmerged count stop))
+  carried q cursor' frame state =
+      let does = gave_does k l homes u.at u.gave in
+      record {
+        own = does.1.table;
+        answer = subst (λ s. IsUnmerged met (Ok (Unmerged count s))) (sym u.fault) (is_unmerged met count u.at u.stands);
+        state = state;
+        steps = subst (λ f. UnmergesTo (take count met) stop (lying p k) (record { frame = f; keeper = l })) (sym frame) u.unmerges;
+        frames = does;
+        shown = subst (λ s. HasShown b k l (Ok (Unmerged count s)) (SetRun 2)) (sym u.fault)
+            (gave_shown b (SetRun 2) k l homes count u.at (λ _. refl) u.gave);
+      }
+
+  across : knobs.merge_across_nodes ≡ m.knobs.merge_across_nodes
+  across = ap (λ (x : Knobs). x.merge_across_nodes) same ∙ sym (ap (λ (x : PagesView). x.knobs.merge_across_nodes) u.pages)
+
+  -- it stopped
+  pub unshare_stops : is_some stop ≡ true → {q : PagesView} → q ≡ record m { knobs = record knobs { run = 0 } }
+      → CarriedOut (book p k cursor passes) (book q l cursor passes) (SetRun 2) (Ok (Unmerged count stop)) × IsLaid q l
+  unshare_stops some {q} goes =
+      let rows = stopped_rows u.at p.rows
+      ∙ ap (λ o. change_rows (λ r. shared_state r.state && is_before o r) unshared p.rows) (sym (stop_is met count u.at u.stands)) in (
+        carried q cursor (ap (λ (x : PagesView). x.frame) goes) (ap (λ x. state_of x cursor passes) goes
+            ∙ (λ t. record (state_of (u.pages t) cursor passes) { knobs = record (same t) { run = 0 } })
+            ∙ (λ t. record b { rows = rows t; knobs = record p.knobs { run = 0 } }) ∙ by stop some),
+        subst (λ (x : PagesView). IsLaid x l) (sym goes) (retuned m (record knobs { run = 0 }) l (inl across) u.laid),
+      )
+    where
+      by : (s : Option Fault) → is_some s ≡ true → record b {
+        rows = change_rows (λ r. shared_state r.state && is_before (slice_get met count) r) unshared b.rows;
+        knobs = record b.knobs { run = 0 };
+      } ≡ unshare_stopped s count b
+      by None none = absurd (grind (arith, none))
+      by (Some fault) _ = refl
+
+  -- it went through
+  module _ (none : is_some stop ≡ false) where
+    went : m.rows ≡ map (left_by None) p.rows
+    went = ap (λ (x : PagesView). x.rows) u.pages ∙ ap (λ o. change_rows (λ r. of_guest None r && is_before o r) (left_by None) p.rows)
+        (absent_so u.at (some_mapped (λ r. NoFrame r.home) u.at ∙ ap is_some (sym u.fault) ∙ none))
+
+    -- so no row is merged or Zero
+    pub unshare_none : All (λ r. shared_state r.state ≡ false) m.rows
+    unshare_none = subst (All (λ r. shared_state r.state ≡ false)) (sym went)
+        (All-map (λ r. shared_state r.state ≡ false) (left_by None) p.rows (λ i d lt. let r = get_or p.rows i d in
+        cond_both (shared_state r.state) (unshared r) r (λ x. shared_state x.state ≡ false) (λ _. refl) (λ alone. alone)))
+
+    -- and all are unshared then
+    pub unshare_ends : {w q : PagesView} → w ≡ record m { rows = map unshared m.rows; restless = w.restless }
+        → q ≡ record w { knobs = record knobs { run = 2 } }
+        → CarriedOut (book p k cursor passes) (book q l None passes) (SetRun 2) (Ok (Unmerged count stop)) × IsLaid q l
+    unshare_ends {w} {q} wide goes =
+        let rows = ap (map unshared) went ∙ unshared_again p.rows in (
+          carried q None (ap (λ (x : PagesView). x.frame) goes ∙ ap (λ (x : PagesView). x.frame) wide)
+              (ap (λ x. state_of x None passes) goes
+              ∙ (λ t. record (state_of (wide t) None passes) { knobs = record knobs { run = 2 } })
+              ∙ (λ t. record (state_of (u.pages t) None passes) { rows = rows t; knobs = record (same t) { run = 2 } }) ∙ by stop none),
+          subst (λ (x : PagesView). IsLaid x l) (sym goes) (retuned w (record knobs { run = 2 }) l
+              (inl (across ∙ sym (ap (λ (x : PagesView). x.knobs.merge_across_nodes) wide)))
+              (subst (λ (x : PagesView). IsLaid x l) (sym wide)
+              (laid_mapped m l u.laid unshared w.restless (λ r. refl) (λ i d lt. (refl, refl, inr (unshare_none i d lt, refl)))))),
+        )
+      where
+        by : (s : Option Fault) → is_some s ≡ false
+            → record b { rows = map unshared b.rows; cursor = None; knobs = record b.knobs { run = 2 } } ≡ unshare_stopped s count b
+        by None _ = refl
+        by (Some fault) some = absurd (grind (arith, some))

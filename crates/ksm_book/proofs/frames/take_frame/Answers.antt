@@ -1,0 +1,43 @@
+use Rattle.ksm_book.proofs.Names.{[], ap, frame_at, frames_of, holding, IsWritable, KeeperView, length, Note, Open, PAGE_WORDS, puts, Raise, raised, Shape, steps_of, subst, sym, ◌<◌, ◌∙◌, ◌∷◌, ◌≡◌}
+use Rattle.ksm_book.proofs.Filling.{at_again, found_inside, raised_ready}
+use Rattle.ksm_book.proofs.Made.{made_one, made_part, made_then}
+use Rattle.ksm_book.proofs.frames.take_frame.Goals as goal
+
+ready : (c : goal.After-write-arg-1) → (c.in_ok-frame.frame < length c.raise.new.self.ledger.frames)
+    × (frame_at c.raise.new.self.ledger c.in_ok-frame.frame ≡ raised (frame_at c.find_frame.new.keeper.ledger c.in_ok-frame.frame))
+    × (length (frame_at c.raise.new.self.ledger c.in_ok-frame.frame).content ≡ PAGE_WORDS)
+ready c = raised_ready c.args.keeper.now c.find_frame.new.keeper c.args.node c.in_ok-frame.frame (subst (λ (s : Shape). c.args.node < s.nodes) c.requires.shape c.requires.node)
+    c.requires.lawful c.in_ok-frame.ensures c.raise.new.self c.raise.ensures.0 c.raise.ensures.1
+
+pub write-requires-clause-within : goal.write-requires-clause-within
+write-requires-clause-within c = (ready c).0
+
+pub write-requires-clause-writable : goal.write-requires-clause-writable
+write-requires-clause-writable c = subst (λ (n : Note). IsWritable n.kind) (sym (ready c).1) tt
+
+pub write-requires-clause-wide : goal.write-requires-clause-wide
+write-requires-clause-wide c = (ready c).2
+
+pub open-requires-clause-may : goal.open-requires-clause-may
+open-requires-clause-may c =
+    let frame = c.in_ok-frame.frame in
+    let r = c.raise.new.self in
+    let now = raised_ready c.args.keeper.now c.find_frame.new.keeper c.args.node frame (subst (λ (s : Shape). c.args.node < s.nodes) c.requires.shape c.requires.node)
+    c.requires.lawful c.in_ok-frame.ensures r c.raise.ensures.0 c.raise.ensures.1 in (
+      subst (λ (s : Shape). frame < frames_of s)
+          (sym (ap (λ (z : KeeperView). z.table.shape) c.write.ensures.wrote ∙ ap (λ (z : KeeperView). z.table.shape) c.raise.ensures.1 ∙ ap (λ (z : KeeperView). z.table.shape) c.in_ok-frame.ensures.reaped.after))
+          (found_inside c.args.keeper.now c.find_frame.new.keeper c.args.node frame (subst (λ (s : Shape). c.args.node < s.nodes) c.requires.shape c.requires.node) c.requires.lawful c.in_ok-frame.ensures),
+      ap (λ k. (frame_at k frame).kind) c.write.ensures.ledger ∙ ap (λ (n : Note). n.kind) (at_again r.ledger frame now.0 (holding (frame_at r.ledger frame) c.args.bytes)) ∙ ap (λ (n : Note). n.kind) now.1,
+    )
+
+pub returns : goal.returns
+returns c =
+    let w = c.find_frame.new.keeper in
+    let frame = c.in_ok-frame.frame in
+    record {
+      searched = w;
+      finds = c.in_ok-frame.ensures;
+      fills = made_then w c.raise.new.self c.open.new.self (Raise frame ∷ []) _ (made_one w c.raise.new.self (Raise frame) c.raise.ensures.0 c.raise.ensures.1)
+          (made_then c.raise.new.self c.write.new.keeper c.open.new.self (steps_of (puts frame 0 c.args.bytes)) (Open frame ∷ [])
+          (made_part c.raise.new.self c.write.new.keeper (puts frame 0 c.args.bytes) c.write.ensures.wrote) (made_one c.write.new.keeper c.open.new.self (Open frame) _ c.open.ensures));
+    }

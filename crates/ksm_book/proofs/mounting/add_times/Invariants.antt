@@ -1,0 +1,8 @@
+use Rattle.ksm_book.proofs.Names.{Add, frame_at, Made, replicate, ◌+◌, ◌≡◌}
+use Rattle.ksm_book.proofs.mounting.add_times.Given as goal
+
+abbrev pub invariant-loop-done : goal.invariant-loop-done
+invariant-loop-done l = record {
+  made : Made l.fn.keeper l.keeper (replicate l.done (Add l.frame));
+  base : (frame_at l.keeper.ledger l.frame).base ≡ (frame_at l.fn.keeper.ledger l.frame).base + l.done;
+}

@@ -1,0 +1,29 @@
+use Rattle.ksm_book.proofs.Names.{IsShape, None, refl, rules, seen, subst, sym, ◌∙◌}
+use Rattle.ksm_book.proofs.Laying.{lawful}
+use Rattle.ksm_book.proofs.Resettled.{may_left, resettled, turned}
+use Rattle.ksm_book.proofs.settling.resettle.Goals as goal
+
+pub take_frame-requires-clause-shape : goal.take_frame-requires-clause-shape
+take_frame-requires-clause-shape c = c.shape-shape.ensures ∙ sym c.requires.laid.same
+
+pub take_frame-requires-clause-checked : goal.take_frame-requires-clause-checked
+take_frame-requires-clause-checked c = subst IsShape (sym c.shape-shape.ensures) c.requires.laid.small
+
+pub take_frame-requires-clause-lawful : goal.take_frame-requires-clause-lawful
+take_frame-requires-clause-lawful c =
+    let p = seen c.args.pages.now in
+    lawful p.shape p.knobs.merge_across_nodes c.args.keeper.now p.rows p.frame p.dups None c.requires.laid.same c.requires.laid.placed
+
+pub returns-in_default-clause-turned : goal.returns-in_default-clause-turned
+returns-in_default-clause-turned c = (refl, turned (seen c.args.pages.now) c.args.keeper.now c.take_frame.new.keeper c.args.node c.requires.laid c.requires.node c.in_default.ensures)
+
+pub release_if-requires-clause-may : goal.release_if-requires-clause-may
+release_if-requires-clause-may c =
+    may_left (seen c.args.pages.now) c.args.keeper.now c.take_frame.new.keeper c.requires.laid c.lie_in_order.ensures.rise c.args.spot.page c.requires.known c.args.node c.args.bytes c.in-Some.frame
+    c.requires.node (search rules) c.in-Some.ensures c.resettle-left.result c.resettle-left.ensures.left
+
+pub returns-clause-resettled : goal.returns-clause-resettled
+returns-clause-resettled c =
+    resettled (seen c.args.pages.now) c.args.keeper.now c.take_frame.new.keeper c.requires.laid c.lie_in_order.ensures.rise c.args.spot.page c.requires.known c.args.node c.args.bytes c.in-Some.frame
+    c.requires.node (search rules) c.in-Some.ensures c.resettle-left.result c.resettle-left.ensures.left
+    (seen c.resettle-left.new.self) c.release_if.new.keeper c.resettle-left.ensures.settled c.release_if.ensures

@@ -1,0 +1,48 @@
+use Rattle.ksm_book.proofs.Names.{[], and_parts, ap, arith, BookState, Deed, doing, from_to, IsStill, Listing, page_visited, pages_visited, Reached, slice_get, Some, subst, sym, ◌++◌, ◌+◌, ◌∙◌, ◌∷◌, ◌≡◌}
+use Rattle.ksm_book.proofs.Folded.{still_on, visited_more}
+use Rattle.ksm_book.proofs.PagesAhead.{from_to_end, from_to_more}
+use Rattle.ksm_book.proofs.state.State.visit_listed.Goals as goal
+
+pub loop-at-preserved : goal.loop-at-preserved
+loop-at-preserved c =
+    let all = c.args.self.now.restless.pages in
+    let pages = from_to c.args.first c.loop-at.at all in
+    let page = c.listed_at-spot.result.page in
+    let stands : slice_get all c.loop-at.at ≡ Some page =
+    ap (λ (l : Listing). slice_get l.pages c.loop-at.at) (sym c.loop-at.invariant.1) ∙ c.listed_at-spot.ensures in
+    let more : from_to c.args.first (c.loop-at.at + 1) all ≡ pages ++ page ∷ [] =
+    from_to_more all c.args.first c.loop-at.at page c.loop-at.auto.at stands in
+    let visit = λ (s : BookState × Deed). sym (visited_more doing pages s page) ∙ ap (pages_visited doing s) (sym more) in (
+      omega arith,
+      c.visit.ensures.restless ∙ c.loop-at.invariant.1,
+      λ from s before. subst (Reached from c.visit.new.self) (visit s)
+          (c.in-Ok.ensures.comes from (pages_visited doing s pages) (c.loop-at.invariant.2 from s before)),
+      λ quiet from s before.
+          let both = and_parts c.loop-at.made.quiet c.is_quiet.result quiet in
+          subst (IsStill s) (visit s)
+          (still_on s (pages_visited doing s pages) (page_visited doing (pages_visited doing s pages) page)
+          (c.loop-at.invariant.3 both.0 from s before)
+          (c.in-Ok.ensures.quiet (sym c.is_quiet.ensures ∙ both.1) from (pages_visited doing s pages)
+          (c.loop-at.invariant.2 from s before))),
+      c.visit.ensures.own ∙ c.loop-at.invariant.4,
+    )
+
+-- the pages between, once the loop is over
+all_done : (c : goal.After-loop-at)
+    → from_to c.args.first c.loop-at.at c.args.self.now.restless.pages ≡ from_to c.args.first c.args.end c.args.self.now.restless.pages
+all_done c =
+    from_to_end c.args.self.now.restless.pages c.args.first c.loop-at.at c.args.end c.loop-at-test.false c.loop-at.invariant.0
+    c.loop-at.auto.at
+
+pub returns-clause-comes : goal.returns-clause-comes
+returns-clause-comes c =
+    λ from s before. subst (λ l. Reached from c.loop-at.self (pages_visited doing s l)) (all_done c) (c.loop-at.invariant.2 from s before)
+
+pub returns-clause-quiet : goal.returns-clause-quiet
+returns-clause-quiet c =
+    λ quiet from s before. subst (λ l. IsStill s (pages_visited doing s l)) (all_done c) (c.loop-at.invariant.3 quiet from s before)
+
+pub returns-in-Err-clause-refused_comes : goal.returns-in-Err-clause-refused_comes
+returns-in-Err-clause-refused_comes c = λ from s before.
+    c.in-Err.ensures.refused from (pages_visited doing s (from_to c.args.first c.loop-at.at c.args.self.now.restless.pages))
+    (c.loop-at.invariant.2 from s before)

@@ -1,0 +1,27 @@
+use Rattle.ksm_book.proofs.Names.{arith, rules, seen, Some, ◌∙◌}
+use Rattle.ksm_book.proofs.Along.{further, not_far}
+use Rattle.ksm_book.proofs.Unmerged.{marking_end, marking_first, marking_known, marking_next}
+use Rattle.ksm_book.proofs.unmerging.make_mergeable.Goals as goal
+
+pub pages-init : goal.pages-init
+pages-init c = marking_first (seen c.args.pages.now) c.args.guest
+
+pub make_mergeable-requires : goal.make_mergeable-requires
+make_mergeable-requires c = marking_known c.pages.invariant c.lie_in_order.ensures.rise c.in-Some.ensures.1
+
+pub pages-preserved : goal.pages-preserved
+pages-preserved c =
+    marking_next c.pages.invariant c.lie_in_order.ensures.rise c.in-Some.ensures.1 c.make_mergeable.ensures (search rules, search rules)
+
+pub pages-smaller : goal.pages-smaller
+pages-smaller c =
+    let page = c.in-Some.held.spot.page in
+    let far = further (Some c.args.guest) c.pages.last c.pages.pages.rows page c.pages.invariant.fits c.in-Some.ensures.1 in
+    let end = not_far (Some page) (search rules, search rules) in
+    omega (arith, far, end)
+
+pub returns-clause-any : goal.returns-clause-any
+returns-clause-any c = c.is_some.ensures ∙ (marking_end c.pages.invariant c.in_default.ensures).0
+
+pub returns-clause-pages : goal.returns-clause-pages
+returns-clause-pages c = (marking_end c.pages.invariant c.in_default.ensures).1

@@ -1,0 +1,201 @@
+-- Commands as steps of the keeper: what each part of a command does to the frames, in order, and on which frame each page lies after it (own).
+-- Carried.antt says which of them each command and answer make.
+use Rattle.std.specs.Prelude.{◌≡◌, ℕ, zero, suc, ◌-◌, ◌==◌, List, [], ◌∷◌, ◌++◌, map, filter, find, replicate}
+use Rattle.std.specs.Prelude.{Option, Some, None, if◌then◌else◌}
+use Rattle.std.specs.List.{list_any}
+use Rattle.ksm_base.specs.declared.page.GuestPage.{GuestPage}
+use Rattle.ksm_base.specs.declared.row.Row.{Row}
+use Rattle.ksm_base.specs.declared.row.DupRow.{DupRow}
+use Rattle.ksm_base.specs.Rows.{shared_state, merged_into, item_count, is_stale}
+use Rattle.ksm_base.specs.State.{BookState, place_count}
+use Rattle.ksm_base.specs.Visit.{best_dup, is_for_zero, partner, new_place, next_row, visit_begun, visits}
+use Rattle.frame_core.specs.declared.event.KeeperStep.{KeeperStep}
+use Rattle.frame_core.specs.declared.event.KeeperStep.TheVariants.{Reap, Raise, Open, Add, Sub, Publish, Withdraw, Freeze}
+use Rattle.frame_core.specs.declared.frame.Kind.TheVariants.{Stable, Dying}
+use Rattle.frame_core.specs.Ledger.{frame_at}
+use Rattle.frame_table.specs.Named.{KeeperView}
+use Rattle.ksm_pages.specs.Paged.{Frames, lies_on}
+use Rattle.ksm_book.specs.Placement.{is_frame}
+use Rattle.ksm_book.specs.Steps.{Made, steps_of, dying_on, HasNoFree, IsLowestFree, puts, loads}
+
+-- a node was searched in vain: each dying frame of it was reaped, ascending, and none is free
+pub record FindsNone (v w : KeeperView) (node : ℕ) : Type 0 where
+  pub reaped : Made v w (map Reap (dying_on v.table.shape v.ledger node))
+  pub none : HasNoFree v.table.shape w.ledger node
+
+-- a free frame of a node was found: each dying one of it was reaped, ascending, and this is the lowest free one then
+pub record Finds (v w : KeeperView) (node frame : ℕ) : Type 0 where
+  pub reaped : Made v w (map Reap (dying_on v.table.shape v.ledger node))
+  pub lowest : IsLowestFree v.table.shape w.ledger node frame
+
+-- a frame of one's own: one of the node is found, raised, stored to word by word, and opened
+pub record Provides (v w : KeeperView) (node : ℕ) (bytes : List ℕ) (frame : ℕ) : Type 0 where
+  pub searched : KeeperView
+  pub finds : Finds v searched node frame
+  pub fills : Made searched w (Raise frame ∷ (steps_of (puts frame 0 bytes) ++ Open frame ∷ []))
+
+-- where each page lies, and the keeper of the frames
+pub record Mapped : Type 0 where
+  pub frame : Frames
+  pub keeper : KeeperView
+
+-- the number of a frame that is there
+abbrev pub frame_number : Option ℕ → ℕ
+frame_number None = 0
+frame_number (Some frame) = frame
+
+-- the number of the frame of a page that has one
+abbrev pub frame_on : Frames → GuestPage → ℕ
+frame_on frame page = frame_number (frame page)
+
+-- the frame of a row that was found
+abbrev pub frame_found : Frames → Option Row → ℕ
+frame_found frame None = 0
+frame_found frame (Some row) = frame_on frame row.page
+
+-- the frame of the dup with this number: its first item lies on it, and so do all
+abbrev pub dup_frame : Frames → List Row → ℕ → ℕ
+dup_frame frame rows number = frame_found frame (find (λ r. merged_into number r.state) rows)
+
+-- frame g in the stead of f
+abbrev pub instead : ℕ → ℕ → Frames → Frames
+instead f g frame = λ page. if is_frame f (frame page) then Some g else frame page
+
+-- a page leaves the frame that it had, if it had one
+abbrev pub leaving : Option ℕ → List KeeperStep
+leaving None = []
+leaving (Some frame) = Sub frame ∷ []
+
+-- no step was made, and each page lies where it lay
+pub record IsIdle (v w : Mapped) : Type 0 where
+  pub keeper : w.keeper ≡ v.keeper
+  pub frame : w.frame ≡ v.frame
+
+-- a node was searched in vain, and each page lies where it lay
+pub record TurnsAway (v w : Mapped) (node : ℕ) : Type 0 where
+  pub searched : FindsNone v.keeper w.keeper node
+  pub frame : w.frame ≡ v.frame
+
+-- a new page comes, on a frame of a node with its bytes
+pub record Admits (v w : Mapped) (page : GuestPage) (node : ℕ) (bytes : List ℕ) : Type 0 where
+  pub got : ℕ
+  pub provides : Provides v.keeper w.keeper node bytes got
+  pub frame : w.frame ≡ lies_on page (Some got) v.frame
+
+-- a page gets a frame of a node with these bytes, and leaves the one that it had, if it had one
+pub record Resettles (v w : Mapped) (page : GuestPage) (node : ℕ) (bytes : List ℕ) : Type 0 where
+  pub got : ℕ
+  pub between : KeeperView
+  pub provides : Provides v.keeper between node bytes got
+  pub leaves : Made between w.keeper (leaving (v.frame page))
+  pub frame : w.frame ≡ lies_on page (Some got) v.frame
+
+-- the pages of these rows are resettled at their homes, one after another
+abbrev pub ResettlesEach : List Row → Mapped → Mapped → Type 0
+ResettlesEach [] v w = IsIdle v w
+ResettlesEach (row ∷ rows) v w = (between : Mapped) × Resettles v between row.page row.home row.bytes × ResettlesEach rows between w
+
+-- a raised frame gets the bytes of another, so many references and a place: each word is loaded and each is stored, the frame is opened,
+-- the further references come, and the place names it
+abbrev pub mounting : ℕ → ℕ → ℕ → ℕ → List ℕ → List KeeperStep
+mounting left frame place count bytes =
+    Raise frame ∷ (steps_of (loads left 0 bytes) ++ (steps_of (puts frame 0 bytes) ++ (Open frame ∷ (replicate (count - 1) (Add frame) ++ Publish place frame ∷ []))))
+
+-- a dup, whose items are among the rows, moves: a frame of the node is found, the exchange of its own frame's count is made, and the one
+-- found is mounted in its stead. All its items lie there
+pub record Moves (v w : Mapped) (rows : List Row) (dup : DupRow) (node : ℕ) : Type 0 where
+  pub got : ℕ
+  pub searched : KeeperView
+  pub finds : Finds v.keeper searched node got
+  pub frozen : KeeperView
+  pub freezes : Made searched frozen (Freeze (dup_frame v.frame rows dup.number) ∷ [])
+  pub exchanged : (frame_at frozen.ledger (dup_frame v.frame rows dup.number)).kind ≡ Dying
+  pub mounts : Made frozen w.keeper (mounting (dup_frame v.frame rows dup.number) got dup.place (item_count rows dup) dup.bytes)
+  pub frame : w.frame ≡ instead (dup_frame v.frame rows dup.number) got v.frame
+
+-- a dup's frame is held: a frame of the node was found, and the exchange of the dup's frame's count was tried and not made
+pub record FindsHeld (v w : Mapped) (rows : List Row) (dup : DupRow) (node : ℕ) : Type 0 where
+  pub got : ℕ
+  pub searched : KeeperView
+  pub finds : Finds v.keeper searched node got
+  pub freezes : Made searched w.keeper (Freeze (dup_frame v.frame rows dup.number) ∷ [])
+  pub kept : (frame_at w.keeper.ledger (dup_frame v.frame rows dup.number)).kind ≡ Stable
+  pub frame : w.frame ≡ v.frame
+
+-- steps, in their order, and the frame of each page after them
+pub record Deed : Type 0 where
+  pub steps : List KeeperStep
+  pub frame : Frames
+
+-- the keeper made these steps, and the pages lie on these frames
+pub record Performs (v w : Mapped) (deed : Deed) : Type 0 where
+  pub made : Made v.keeper w.keeper deed.steps
+  pub frame : w.frame ≡ deed.frame
+
+-- no step
+abbrev pub idle : Frames → Deed
+idle frame = record { steps = []; frame = frame }
+
+-- bytes are stored to a page's own frame, word by word
+abbrev pub rewriting : Frames → GuestPage → List ℕ → Deed
+rewriting frame page bytes = record { steps = steps_of (puts (frame_on frame page) 0 bytes); frame = frame }
+
+-- a page leaves its frame, if it has one, and has none after it: it goes, or becomes Zero
+abbrev pub emptying : Frames → GuestPage → Deed
+emptying frame page = record { steps = leaving (frame page); frame = lies_on page None frame }
+
+-- a page joins the dup on a frame: first comes a reference there, then the page leaves its own frame
+abbrev pub joining : Frames → GuestPage → ℕ → Deed
+joining frame page shared = record { steps = Add shared ∷ leaving (frame page); frame = lies_on page (Some shared) frame }
+
+-- what a place names is withdrawn, where a dup stands there
+abbrev pub withdrawing : List DupRow → ℕ → List KeeperStep
+withdrawing dups place = if list_any (λ d. d.place == place) dups then Withdraw place ∷ [] else []
+
+-- a new dup of a waiting page and the visited one: a stale dup leaves the place; the place names the waiting page's frame, the visited
+-- page gets a reference there and leaves its own
+abbrev pub founding : List DupRow → Frames → ℕ → GuestPage → GuestPage → Deed
+founding dups frame place waiting page = record {
+  steps = withdrawing dups place ++ (Publish place (frame_on frame waiting) ∷ Add (frame_on frame waiting) ∷ leaving (frame page));
+  frame = lies_on page (frame waiting) frame;
+}
+
+-- the stale dups go, in the order of their places
+abbrev pub pruning : List Row → List DupRow → Frames → Deed
+pruning rows dups frame = record { steps = map (λ d. Withdraw d.place) (filter (is_stale rows) dups); frame = frame }
+
+-- what a visited page does with the one that waits for it
+abbrev pub pairing : Option Row → BookState → Frames → Row → Deed
+pairing (Some waiting) b frame row = founding b.dups frame (new_place (place_count b.shape) b.rows b.dups) waiting.page row.page
+pairing None b frame row = idle frame
+
+-- what a visited page does whose bytes have stayed
+abbrev pub staying : BookState → Frames → Row → Deed
+staying b frame row = if is_for_zero b.knobs row then emptying frame row.page else pairing (partner b.knobs b.rows row) b frame row
+
+-- what a visited page with a frame of its own does with the dup that it may join
+abbrev pub handling : Option DupRow → BookState → Frames → Row → Deed
+handling (Some d) b frame row = joining frame row.page (dup_frame frame b.rows d.number)
+handling None b frame row = if row.unchanged then staying b frame row else idle frame
+
+-- what a visited page does
+abbrev pub row_visiting : BookState → Frames → Row → Deed
+row_visiting b frame row = if shared_state row.state then idle frame else handling (best_dup b.knobs b.rows b.dups row) b frame row
+
+-- what the visit of the next row does, if there is one
+abbrev pub visiting_of : BookState → Frames → Option Row → Deed
+visiting_of b frame (Some row) = row_visiting b frame row
+visiting_of b frame None = idle frame
+
+-- what one visit does
+abbrev pub visiting : BookState → Frames → Deed
+visiting b frame = let begun = visit_begun b in visiting_of begun frame (next_row begun.cursor begun.rows)
+
+-- one deed after another
+abbrev pub then_doing : Deed → Deed → Deed
+then_doing first second = record { steps = first.steps ++ second.steps; frame = second.frame }
+
+-- what n visits do, one after another
+abbrev pub scanning : ℕ → BookState → Frames → Deed
+scanning zero b frame = idle frame
+scanning (suc n) b frame = let before = scanning n b frame in then_doing before (visiting (visits n b) before.frame)

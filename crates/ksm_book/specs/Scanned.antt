@@ -1,0 +1,112 @@
+-- What a scan asks of the book's inside, and what its parts come to (own).
+use Rattle.std.specs.Prelude.{◌≡◌, ℕ, ◌-◌, ◌<◌, ◌≤◌, Bool, true, false, not, ◌==◌, List, length, drop, take, slice_get, Option, Some, None, MatchOption}
+use Rattle.ksm_base.specs.declared.page.GuestPage.{GuestPage}
+use Rattle.ksm_base.specs.declared.row.Row.{Row}
+use Rattle.ksm_base.specs.declared.fault.Fault.TheVariants.{Memory}
+use Rattle.ksm_base.specs.declared.reply.Reply.{Reply}
+use Rattle.ksm_base.specs.declared.reply.Reply.TheVariants.{Scanned}
+use Rattle.ksm_base.specs.Rows.{comes_before, row_at}
+use Rattle.ksm_base.specs.Visit.{best_dup, is_for_zero, partner, row_visited}
+use Rattle.ksm_tree.specs.declared.dup.Best.{Best}
+use Rattle.ksm_pages.specs.Paged.{is_restless}
+use Rattle.ksm_base.specs.State.{BookState}
+use Rattle.ksm_rmap.specs.Items.{AreAscending, has_item}
+use Rattle.ksm_book.specs.Commands.{Deed, Performs, row_visiting, then_doing}
+use Rattle.ksm_book.specs.Whole.{BookValue, BookView, mapped, view_of}
+use Rattle.ksm_book.specs.Folded.{begun, restless_at, visits_beside}
+use Rattle.ksm_pages.specs.declared.ahead.Ahead.{Ahead}
+use Rattle.ksm_pages.specs.declared.ahead.Ahead.TheVariants.{At, End}
+use Rattle.ksm_book.specs.declared.visiting.Visited.{Visited}
+use Rattle.ksm_book.specs.declared.visiting.Visited.TheVariants.{Same, Changed, Shared, Gone}
+
+-- after a deed comes what the visit of a row does
+abbrev pub doing : BookState → Deed → Row → Deed
+doing b deed row = then_doing deed (row_visiting b deed.frame row)
+
+-- from the one to the other it came to this book, and this was done to the frames
+abbrev pub Reached : BookValue → BookValue → BookState × Deed → Type 0
+Reached old new s = (new.state ≡ s.0) × Performs (mapped (view_of old)) (mapped (view_of new)) s.1
+
+-- whatever was reached before, this is reached then
+abbrev pub Comes : BookValue → BookValue → (BookState × Deed → BookState × Deed) → Type 0
+Comes old new change = (from : BookValue) (s : BookState × Deed) → Reached from old s → Reached from new (change s)
+
+-- a row that a visit may change has this for the best dup that it may join
+abbrev pub MayJoin : BookState → Best → Row → Type 0
+MayJoin b best r =
+    (is_restless r ≡ true)
+    × MatchOption (best_dup b.knobs b.rows b.dups r) (true ≡ false) (λ d. (best.number ≡ d.number) × (best.place ≡ d.place))
+
+-- it may join no dup, its bytes have stayed, and they are zeroes that merge with the zero page, or not
+pub record HasStayed (b : BookState) (is_zero : Bool) (r : Row) : Type 0 where
+  pub restless : is_restless r ≡ true
+  pub none : best_dup b.knobs b.rows b.dups r ≡ None
+  pub unchanged : r.unchanged ≡ true
+  pub zeroes : is_for_zero b.knobs r ≡ is_zero
+
+-- it is to become Zero
+abbrev pub IsForZero : BookState → Row → Type 0
+IsForZero b r = HasStayed b true r
+
+-- it is to make a dup with this page
+abbrev pub MeetsPage : BookState → GuestPage → Row → Type 0
+MeetsPage b page r = HasStayed b false r × MatchOption (partner b.knobs b.rows r) (true ≡ false) (λ w. page ≡ w.page)
+
+-- the row of a page was visited
+abbrev pub VisitsPage : BookView → BookView → GuestPage → Type 0
+VisitsPage v w page =
+    MatchOption (row_at page v.state.rows) (true ≡ false)
+    (λ r. (w.state ≡ row_visited v.state r) × Performs (mapped v) (mapped w) (row_visiting v.state v.frame r))
+
+-- the page does not come behind the last one; where there is no last one, none does
+abbrev pub up_to : Option GuestPage → GuestPage → Bool
+up_to None page = true
+up_to (Some last) page = not (comes_before last page)
+
+-- what so many visits of these pages come to: the page of the last visit, where a page is left, or the end of the pass after so many
+abbrev pub EndsAt : List GuestPage → ℕ → Ahead → Type 0
+EndsAt pages visits (At page) = (visits < length pages) × (slice_get pages (visits - 1) ≡ Some page)
+EndsAt pages visits (End made) = (made ≡ length pages) × (made ≤ visits)
+
+-- no visit is made in this pass
+abbrev pub is_nowhere : Ahead → Bool
+is_nowhere (At page) = false
+is_nowhere (End made) = made == 0
+
+-- the page of the last visit, where the pass does not end with it
+abbrev pub last_visited : Ahead → Option GuestPage
+last_visited (At page) = Some page
+last_visited (End made) = None
+
+-- each page that a visit may change is among these, which are in order
+abbrev pub AreListed : List Row → List GuestPage → Type 0
+AreListed rows pages = AreAscending pages × ((page : GuestPage) → restless_at page rows ≡ true → has_item page pages ≡ true)
+
+-- so it is with the listed pages of a book
+abbrev pub ListsAll : BookValue → Type 0
+ListsAll v = AreListed v.state.rows v.restless.pages
+
+-- the pages from one index up to another
+abbrev pub from_to : ℕ → ℕ → List GuestPage → List GuestPage
+from_to first end pages = drop first (take end pages)
+
+-- a visit changed nothing but which rows wait
+abbrev pub is_quiet : Visited → Bool
+is_quiet Same = true
+is_quiet Changed = false
+is_quiet Shared = false
+is_quiet Gone = true
+
+-- later visits leave the row as it is
+abbrev pub is_over : Visited → Bool
+is_over Same = false
+is_over Changed = false
+is_over Shared = true
+is_over Gone = true
+
+-- what a scan of so many visits replies: all were made; or memory stopped it as one more had begun
+abbrev pub HasScanned : BookValue → BookValue → ℕ → Reply → Type 0
+HasScanned old new count (Scanned made None) = (made ≡ count) × Comes old new (visits_beside doing made)
+HasScanned old new count (Scanned made (Some fault)) =
+    (fault ≡ Memory) × (made < count) × Comes old new (λ s. begun (visits_beside doing made s))
+HasScanned old new count _ = ⊥

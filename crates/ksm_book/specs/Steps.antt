@@ -1,0 +1,107 @@
+-- The part of its log that the keeper adds in a call, and the frames that it gives in it (own).
+use Rattle.std.specs.Prelude.{◌≡◌, ℕ, ◌+◌, ◌*◌, ◌<◌, ◌≤◌, Bool, true, false, List, [], ◌∷◌, ◌++◌, map, filter, Option, Some, None}
+use Rattle.std.specs.List.{range_with_len}
+use Rattle.ksm_base.specs.declared.shape.Shape.{Shape}
+use Rattle.frame_core.specs.declared.event.KeeperStep.{KeeperStep}
+use Rattle.frame_core.specs.declared.event.KeeperStep.TheVariants.{Raise, Put, Word}
+use Rattle.frame_core.specs.declared.frame.Kind.{Kind}
+use Rattle.frame_core.specs.declared.frame.Kind.TheVariants.{Free, Dying}
+use Rattle.frame_core.specs.declared.ledger.Ledger.{Ledger}
+use Rattle.frame_core.specs.Ledger.{frame_at, ledger_after}
+use Rattle.frame_table.specs.Named.{KeeperView}
+
+-- steps of the keeper, each with the word that it found
+abbrev pub Log : Type 0
+Log = List (KeeperStep × ℕ)
+
+abbrev pub free_kind : Kind → Bool
+free_kind Free = true
+free_kind _ = false
+
+abbrev pub dying_kind : Kind → Bool
+dying_kind Dying = true
+dying_kind _ = false
+
+-- what the keeper knows after these steps
+abbrev pub replayed : Shape → Ledger → Log → Ledger
+replayed sh k [] = k
+replayed sh k (e ∷ es) = replayed sh (ledger_after sh k e.0 e.1) es
+
+-- the steps alone, without the words that they found
+abbrev pub steps_of : Log → List KeeperStep
+steps_of part = map (λ e. e.0) part
+
+-- the keeper once it has made these steps
+abbrev pub stepped : KeeperView → Log → KeeperView
+stepped v part = record { table = v.table; ledger = replayed v.table.shape v.ledger part; log = v.log ++ part }
+
+-- the keeper went from v to w by these steps in this order, and by no others
+pub record Made (v w : KeeperView) (steps : List KeeperStep) : Type 0 where
+  pub part : Log
+  pub after : w ≡ stepped v part
+  pub are : steps_of part ≡ steps
+
+-- the dying ones of so many frames from low on, ascending
+abbrev pub dying_from : Ledger → ℕ → ℕ → List ℕ
+dying_from k low count = filter (λ f. dying_kind (frame_at k f).kind) (range_with_len low count)
+
+-- the dying frames of a node, ascending
+abbrev pub dying_on : Shape → Ledger → ℕ → List ℕ
+dying_on sh k node = dying_from k (node * sh.frames_per_node) sh.frames_per_node
+
+-- no frame of the node is free
+abbrev pub HasNoFree : Shape → Ledger → ℕ → Type 0
+HasNoFree sh k node = (f : ℕ) → node * sh.frames_per_node ≤ f → f < node * sh.frames_per_node + sh.frames_per_node → free_kind (frame_at k f).kind ≡ false
+
+-- f is the lowest free frame of the node
+pub record IsLowestFree (sh : Shape) (k : Ledger) (node f : ℕ) : Type 0 where
+  pub low : node * sh.frames_per_node ≤ f
+  pub high : f < node * sh.frames_per_node + sh.frames_per_node
+  pub free : (frame_at k f).kind ≡ Free
+  pub least : (g : ℕ) → node * sh.frames_per_node ≤ g → g < f → free_kind (frame_at k g).kind ≡ false
+
+-- the frame that a step gives
+abbrev pub given_by : KeeperStep → Option ℕ
+given_by (Raise f) = Some f
+given_by _ = None
+
+-- a frame is given only where one is needed, and it is the lowest free one of the node
+abbrev pub IsNeeded : Shape → Ledger → List ℕ → Option ℕ → Type 0
+IsNeeded sh k [] (Some f) = ⊥
+IsNeeded sh k (node ∷ nodes) (Some f) = IsLowestFree sh k node f
+IsNeeded sh k nodes None = Unit {0}
+
+-- the nodes on which frames are still needed
+abbrev pub needed_after : List ℕ → Option ℕ → List ℕ
+needed_after [] given = []
+needed_after (node ∷ nodes) (Some f) = nodes
+needed_after (node ∷ nodes) None = node ∷ nodes
+
+-- the frames given by these steps are the lowest free ones of the nodes listed, one for each
+abbrev pub Gives : Shape → Ledger → List ℕ → Log → Type 0
+Gives sh k nodes [] = nodes ≡ []
+Gives sh k nodes (e ∷ es) = IsNeeded sh k nodes (given_by e.0) × Gives sh (ledger_after sh k e.0 e.1) (needed_after nodes (given_by e.0)) es
+
+-- the keeper went from v to w by this part of its log, which gave a frame on each of the nodes
+pub record Did (v w : KeeperView) (nodes : List ℕ) (part : Log) : Type 0 where
+  pub table : w.table ≡ v.table
+  pub log : w.log ≡ v.log ++ part
+  pub ledger : w.ledger ≡ replayed v.table.shape v.ledger part
+  pub gives : Gives v.table.shape v.ledger nodes part
+
+-- the keeper went from v to w, and gave a frame on each of the nodes
+abbrev pub Does : KeeperView → KeeperView → List ℕ → Type 0
+Does v w nodes = (part : Log) × Did v w nodes part
+
+-- a step for each of these words, from word i on
+abbrev pub along : (ℕ → ℕ → KeeperStep × ℕ) → ℕ → List ℕ → Log
+along step i [] = []
+along step i (w ∷ ws) = step i w ∷ along step (i + 1) ws
+
+-- a store of each of these words to frame f, from word i on
+abbrev pub puts : ℕ → ℕ → List ℕ → Log
+puts f = along (λ i w. (Put f i w, 0))
+
+-- a load of each word of frame f, from word i on, which found these
+abbrev pub loads : ℕ → ℕ → List ℕ → Log
+loads f = along (λ i w. (Word f i, w))

@@ -1,0 +1,211 @@
+//! The keeper with the sets of its free and of its dying frames, so that neither is looked for frame by frame.
+
+ghost use Rattle.std.specs.Prelude.{◌≡◌, ◌<◌, ◌≤◌, ◌*◌, ℕ, ◌↔◌, IsTrue, IfOk, IfErr, MatchOption, length, slice_index, true, false};
+ghost use Rattle.ksm_base.specs.declared.fault.Fault.TheVariants.{Memory};
+ghost use Rattle.ksm_base.specs.Values.{frames_of, IsShape};
+ghost use Rattle.frame_core.specs.declared.event.KeeperStep.TheVariants.{Reap, Put, Raise, Open, Add, Sub, Publish, Withdraw, Freeze, Word};
+ghost use Rattle.frame_core.specs.Ledger.{frame_at, first_ledger};
+ghost use Rattle.frame_core.specs.State.{frame_word, count_in};
+ghost use Rattle.frame_table.specs.Kept.{May, did, Did};
+ghost use Rattle.ksm_book.specs.FrameSets.{has, Marks, NoneOf, IsFirstOf};
+ghost use Rattle.ksm_book.specs.Steps.{free_kind, dying_kind};
+
+use crate::frame_set::FrameSet;
+use frame_core::Kind;
+use frame_table::{FrameTable, Keeper};
+use ksm_base::{Fault, Shape};
+use std::alloc::Global;
+use std::marker::Model;
+
+/// The keeper of the frames, with the sets of those that are free and of those that are dying. Contracts see the
+/// keeper.
+///
+/// It must be spent, by taking the keeper out.
+pub struct FrameKeeper {
+    keeper: Keeper,
+    free: FrameSet,
+    dying: FrameSet,
+}
+
+impl Model for FrameKeeper {
+    ghost use Rattle.frame_table.specs.Named.{KeeperView};
+    ghost use Rattle.ksm_book.specs.FrameSets.{AreSets};
+
+    ghost Value = { KeeperView };
+
+    ghost view = { λ k. k.keeper };
+
+    ghost invariant = { λ k. AreSets k.keeper k.free k.dying };
+}
+
+// All of so many frames, and none of them.
+fn all_and_none(alloc: Global, count: u32) -> Result<(FrameSet, FrameSet), Fault>
+    ensures all_wide { IfOk result (λ s. count ≤ 64 * length s.0) }
+    ensures all { IfOk result (λ s. (f : ℕ) → f < count → has s.0 f ≡ true) }
+    ensures none_wide { IfOk result (λ s. count ≤ 64 * length s.1) }
+    ensures none { IfOk result (λ s. (f : ℕ) → f < count → has s.1 f ≡ false) }
+    ensures fault { IfErr result (λ e. e ≡ Memory) }
+{
+    let all = FrameSet::full(alloc, count)?;
+    let none = FrameSet::empty(alloc, count)?;
+    Ok((all, none))
+}
+
+// Marks a frame in both sets by the kind that it has.
+fn sort(keeper: &Keeper, free: &mut FrameSet, dying: &mut FrameSet, frame: u32)
+    requires inside { frame < frames_of keeper.now.table.shape }
+    requires free_room { frame < 64 * length free.old }
+    requires dying_room { frame < 64 * length dying.old }
+    ensures free { Marks free.old free.new frame (free_kind (frame_at keeper.now.ledger frame).kind) }
+    ensures dying { Marks dying.old dying.new frame (dying_kind (frame_at keeper.now.ledger frame).kind) }
+{
+    let kind = keeper.kind(frame);
+    free.mark(frame, matches!(kind, Kind::Free));
+    dying.mark(frame, matches!(kind, Kind::Dying));
+}
+
+impl FrameKeeper {
+    /// Begins with a keeper that has made no step: all frames are free, none is dying. Refused for memory alone, it
+    /// gives the keeper back.
+    pub fn new(alloc: Global, keeper: Keeper, shape: Shape) -> Result<FrameKeeper, (Keeper, Fault)>
+        requires checked { IsShape shape }
+        requires same { keeper.table.shape ≡ shape }
+        requires new { keeper.ledger ≡ first_ledger shape }
+        ensures ok { IfOk result (λ k. k ≡ keeper) }
+        ensures refused { IfErr result (λ e. (e.0 ≡ keeper) × (e.1 ≡ Memory)) }
+    {
+        match all_and_none(alloc, shape.nodes * shape.frames_per_node) {
+            Ok((free, dying)) => Ok(FrameKeeper {
+                keeper,
+                free,
+                dying,
+            }),
+            Err(fault) => Err((keeper, fault)),
+        }
+    }
+
+    /// Gives the keeper back, as it is.
+    pub fn close(self) -> Keeper
+        ensures { result ≡ self }
+    {
+        let FrameKeeper {
+            keeper,
+            free: _free,
+            dying: _dying,
+        } = self;
+        keeper
+    }
+
+    /// The first dying one of the frames from `from` on and below `end`.
+    pub fn next_dying(&self, from: u32, end: u32) -> Option<u32>
+        requires { end ≤ frames_of self.now.table.shape }
+        ensures { MatchOption result (NoneOf dying_kind self.now.ledger from end) (IsFirstOf dying_kind self.now.ledger from end) }
+    {
+        self.dying.least(from, end)
+    }
+
+    /// The first free one of the frames from `from` on and below `end`.
+    pub fn next_free(&self, from: u32, end: u32) -> Option<u32>
+        requires { end ≤ frames_of self.now.table.shape }
+        ensures { MatchOption result (NoneOf free_kind self.now.ledger from end) (IsFirstOf free_kind self.now.ledger from end) }
+    {
+        self.free.least(from, end)
+    }
+
+    /// How many references on a frame are the keeper's own: 0 to 1,024.
+    pub fn base(&self, frame: u32) -> u64
+        requires { frame < frames_of self.now.table.shape }
+        ensures { result ≡ (frame_at self.now.ledger frame).base }
+    {
+        self.keeper.base(frame)
+    }
+
+    // The calls that follow hand a step to the keeper, and mark the frame in both sets by the kind that it has then.
+
+    pub fn add(&mut self, table: &FrameTable, frame: u32)
+        requires own { self.old.table ≡ table.now }
+        requires may { May self.old (Add frame) }
+        ensures { Did self.old (Add frame) self.new }
+    {
+        self.keeper.add(table, frame);
+    }
+
+    pub fn sub(&mut self, table: &FrameTable, frame: u32)
+        requires own { self.old.table ≡ table.now }
+        requires may { May self.old (Sub frame) }
+        ensures { Did self.old (Sub frame) self.new }
+    {
+        self.keeper.sub(table, frame);
+        sort(&self.keeper, &mut self.free, &mut self.dying, frame);
+    }
+
+    pub fn reap(&mut self, table: &FrameTable, frame: u32) -> bool
+        requires own { self.old.table ≡ table.now }
+        requires may { May self.old (Reap frame) }
+        ensures { (found : ℕ) × (self.new ≡ did self.old (Reap frame) found) × (IsTrue result ↔ count_in found ≡ 0) }
+    {
+        let alone = self.keeper.reap(table, frame);
+        sort(&self.keeper, &mut self.free, &mut self.dying, frame);
+        alone
+    }
+
+    pub fn raise(&mut self, table: &FrameTable, frame: u32)
+        requires own { self.old.table ≡ table.now }
+        requires may { May self.old (Raise frame) }
+        ensures { Did self.old (Raise frame) self.new }
+    {
+        self.keeper.raise(table, frame);
+        sort(&self.keeper, &mut self.free, &mut self.dying, frame);
+    }
+
+    pub fn put(&mut self, table: &FrameTable, frame: u32, i: usize, word: u64)
+        requires own { self.old.table ≡ table.now }
+        requires may { May self.old (Put frame i word) }
+        ensures { self.new ≡ did self.old (Put frame i word) 0 }
+    {
+        self.keeper.put(table, frame, i, word);
+    }
+
+    pub fn open(&mut self, table: &FrameTable, frame: u32)
+        requires own { self.old.table ≡ table.now }
+        requires may { May self.old (Open frame) }
+        ensures { self.new ≡ did self.old (Open frame) (frame_word (frame_at self.old.ledger frame).generation 0) }
+    {
+        self.keeper.open(table, frame);
+    }
+
+    pub fn publish(&mut self, table: &FrameTable, place: u32, frame: u32)
+        requires own { self.old.table ≡ table.now }
+        requires may { May self.old (Publish place frame) }
+        ensures { self.new ≡ did self.old (Publish place frame) 0 }
+    {
+        self.keeper.publish(table, place, frame);
+    }
+
+    pub fn withdraw(&mut self, table: &FrameTable, place: u32)
+        requires own { self.old.table ≡ table.now }
+        requires may { May self.old (Withdraw place) }
+        ensures { self.new ≡ did self.old (Withdraw place) 0 }
+    {
+        self.keeper.withdraw(table, place);
+    }
+
+    pub fn freeze(&mut self, table: &FrameTable, frame: u32) -> bool
+        requires own { self.old.table ≡ table.now }
+        requires may { May self.old (Freeze frame) }
+        ensures { (found : ℕ) × (self.new ≡ did self.old (Freeze frame) found) × (IsTrue result ↔ count_in found ≡ (frame_at self.old.ledger frame).base) }
+    {
+        let alone = self.keeper.freeze(table, frame);
+        sort(&self.keeper, &mut self.free, &mut self.dying, frame);
+        alone
+    }
+
+    pub fn word(&mut self, table: &FrameTable, frame: u32, i: usize) -> u64
+        requires own { self.old.table ≡ table.now }
+        requires may { May self.old (Word frame i) }
+        ensures step { self.new ≡ did self.old (Word frame i) result }
+        ensures content { result ≡ slice_index (frame_at self.old.ledger frame).content i }
+    {
+        self.keeper.word(table, frame, i)
+    }
+}

@@ -1,0 +1,61 @@
+//! What the book has the keeper do with the frames of a dup that moves.
+
+ghost use Rattle.std.specs.Prelude.{◌≡◌, ◌<◌, ◌≤◌, ◌+◌, ℕ, length, replicate};
+ghost use Rattle.ksm_base.specs.declared.page.TheConstants.{PAGE_WORDS as WORDS};
+ghost use Rattle.ksm_base.specs.Values.{frames_of};
+ghost use Rattle.frame_core.specs.declared.event.KeeperStep.TheVariants.{Add, Publish};
+ghost use Rattle.frame_core.specs.declared.frame.Kind.TheVariants.{Free as FreeKind, Dying as DyingKind};
+ghost use Rattle.frame_core.specs.Ledger.{frame_at, named_at, with_frame, IsLoose};
+ghost use Rattle.frame_table.specs.Kept.{did};
+ghost use Rattle.frame_table.specs.Named.{KeeperView};
+ghost use Rattle.ksm_book.specs.Commands.{mounting};
+ghost use Rattle.ksm_book.specs.Steps.{Made};
+
+use crate::frame_keeper::FrameKeeper;
+use crate::frames::{load, write};
+use frame_table::FrameTable;
+
+/// Adds so many references to a frame that has one.
+fn add_times(keeper: &mut FrameKeeper, table: &FrameTable, frame: u32, count: u64)
+    requires own { keeper.old.table ≡ table.now }
+    requires inside { frame < frames_of keeper.old.table.shape }
+    requires some { 1 ≤ (frame_at keeper.old.ledger frame).base }
+    requires few { (frame_at keeper.old.ledger frame).base + count ≤ 1024 }
+    ensures made { Made keeper.old keeper.new (replicate count (Add frame)) }
+    ensures ledger { keeper.new.ledger ≡ with_frame keeper.old.ledger frame (record (frame_at keeper.old.ledger frame) { base = (frame_at keeper.old.ledger frame).base + count }) }
+{
+    for done in 0..count {
+        keeper.add(table, frame);
+    }
+}
+
+/// A free frame gets the bytes of a dying one and so many references, and the place names it.
+pub fn mount(
+    keeper: &mut FrameKeeper,
+    table: &FrameTable,
+    left: u32,
+    frame: u32,
+    place: u32,
+    count: u64,
+)
+    requires own { keeper.old.table ≡ table.now }
+    requires inside { frame < frames_of keeper.old.table.shape }
+    requires within { frame < length keeper.old.ledger.frames }
+    requires left { left < frames_of keeper.old.table.shape }
+    requires place { place < frames_of keeper.old.table.shape }
+    requires free { (frame_at keeper.old.ledger frame).kind ≡ FreeKind }
+    requires dying { (frame_at keeper.old.ledger left).kind ≡ DyingKind }
+    requires wide { (f : ℕ) → length (frame_at keeper.old.ledger f).content ≡ WORDS }
+    requires some { 1 ≤ count }
+    requires few { count ≤ 1024 }
+    requires loose { IsLoose keeper.old.ledger (named_at keeper.old.ledger place) }
+    ensures made { Made keeper.old keeper.new (mounting left frame place count (frame_at keeper.old.ledger left).content) }
+    ensures published { (before : KeeperView) × (keeper.new ≡ did before (Publish place frame) 0) }
+{
+    keeper.raise(table, frame);
+    let bytes = load(keeper, table, left);
+    write(keeper, table, frame, bytes);
+    keeper.open(table, frame);
+    add_times(keeper, table, frame, count - 1);
+    keeper.publish(table, place, frame);
+}

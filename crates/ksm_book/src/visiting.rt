@@ -1,0 +1,121 @@
+//! The visit of a page: it joins a dup, becomes Zero, makes a dup with the page that waits for it, waits, or changes.
+
+ghost use Rattle.std.specs.Prelude.{◌≡◌, true, false, OnOk, OnErr, IfOk, MatchOption};
+ghost use Rattle.ksm_base.specs.Rows.{row_at};
+ghost use Rattle.ksm_base.specs.State.{BookState};
+ghost use Rattle.ksm_book.specs.Commands.{Deed};
+ghost use Rattle.ksm_book.specs.Folded.{IsStill, page_visited, restless_at};
+ghost use Rattle.ksm_book.specs.Scanned.{Comes, IsForZero, MayJoin, MeetsPage, Reached, VisitsPage, doing, is_quiet};
+ghost use Rattle.ksm_book.specs.Whole.{BookValue, view_of};
+
+use crate::frames::{clear, release_if};
+use crate::state::State;
+use frame_table::FrameTable;
+use ksm_base::{Fault, GuestPage};
+use ksm_pages::{Find, Held, Spot};
+use ksm_tree::Best;
+
+/// What became of a page that was visited.
+#[derive(Clone, Copy, Debug)]
+pub enum Visited {
+    /// All rows are as they were, but for which of them wait.
+    Same,
+    /// The row may be another one. The next pass visits it too.
+    Changed,
+    /// The row shares a frame now: later visits leave it as it is.
+    Shared,
+    /// The row is none that a visit may change.
+    Gone,
+}
+
+impl State {
+    /// Visits a page, if its row is one that a visit may change. Where memory is refused, nothing changes.
+    #[inline(always)]
+    pub fn visit(&mut self, table: &FrameTable, spot: Spot) -> Result<Visited, Fault>
+        requires own { self.old.keeper.table ≡ table.now }
+        ensures own { self.new.keeper.table ≡ self.old.keeper.table }
+        ensures comes { OnOk result (Comes self.old self.new (λ s. page_visited doing s spot.page)) }
+        ensures quiet { IfOk result (λ visited. is_quiet visited ≡ true → (from : BookValue) (s : BookState × Deed) → Reached from self.old s → IsStill s (page_visited doing s spot.page)) }
+        ensures restless { self.new.restless ≡ self.old.restless }
+        ensures refused { OnErr result (Comes self.old self.new (λ s. s)) }
+        ensures refused_row { OnErr result (restless_at spot.page self.new.state.rows ≡ true) }
+    {
+        let found = self.pages.visit(spot)?;
+        match found {
+            Find::Gone => Ok(Visited::Gone),
+            Find::Waits => Ok(Visited::Same),
+            Find::Changed => Ok(Visited::Changed),
+            Find::Dup(best) => {
+                self.join(table, spot, best)?;
+                Ok(Visited::Shared)
+            }
+            Find::Zero => {
+                self.become_zero(table, spot);
+                Ok(Visited::Shared)
+            }
+            Find::Partner(other) => {
+                self.pair(table, other, spot)?;
+                Ok(Visited::Shared)
+            }
+        }
+    }
+
+    // A page joins the best dup that it may join.
+    fn join(&mut self, table: &FrameTable, spot: Spot, best: Best) -> Result<(), Fault>
+        requires own { self.old.keeper.table ≡ table.now }
+        requires row { MatchOption (row_at spot.page self.old.state.rows) (true ≡ false) (MayJoin self.old.state best) }
+        ensures own { self.new.keeper.table ≡ self.old.keeper.table }
+        ensures visited { OnOk result (VisitsPage (view_of self.old) (view_of self.new) spot.page) }
+        ensures restless { self.new.restless ≡ self.old.restless }
+        ensures refused { OnErr result (self.new ≡ self.old) }
+    {
+        let frame = self.pages.dup_frame(best.place);
+        let lone = self.pages.join(spot, best)?;
+        self.keeper.add(table, frame);
+        self.keeper.sub(table, lone);
+        Ok(())
+    }
+
+    // A page of zeroes becomes Zero.
+    fn become_zero(&mut self, table: &FrameTable, spot: Spot)
+        requires own { self.old.keeper.table ≡ table.now }
+        requires row { MatchOption (row_at spot.page self.old.state.rows) (true ≡ false) (IsForZero self.old.state) }
+        ensures own { self.new.keeper.table ≡ self.old.keeper.table }
+        ensures visited { VisitsPage (view_of self.old) (view_of self.new) spot.page }
+        ensures restless { self.new.restless ≡ self.old.restless }
+    {
+        let lone = self.pages.become_zero(spot);
+        release_if(&mut self.keeper, table, lone);
+    }
+
+    // A page makes a dup with the one that waits for it.
+    fn pair(&mut self, table: &FrameTable, other: GuestPage, spot: Spot) -> Result<(), Fault>
+        requires own { self.old.keeper.table ≡ table.now }
+        requires row { MatchOption (row_at spot.page self.old.state.rows) (true ≡ false) (MeetsPage self.old.state other) }
+        ensures own { self.new.keeper.table ≡ self.old.keeper.table }
+        ensures visited { OnOk result (VisitsPage (view_of self.old) (view_of self.new) spot.page) }
+        ensures restless { self.new.restless ≡ self.old.restless }
+        ensures refused { OnErr result (self.new ≡ self.old) }
+    {
+        let first = known_spot(other, self.pages.held(other));
+        let place = self.pages.new_place();
+        let taken = self.pages.has_dup(place);
+        let (frame, lone) = self.pages.pair(place, first, spot)?;
+        clear(&mut self.keeper, table, place, taken);
+        self.keeper.publish(table, place, frame);
+        self.keeper.add(table, frame);
+        self.keeper.sub(table, lone);
+        Ok(())
+    }
+}
+
+// The page, with what is known of the key of its row.
+fn known_spot(page: GuestPage, held: Option<Held>) -> Spot
+    requires { MatchOption held (true ≡ true) (λ h. h.spot.page ≡ page) }
+    ensures { result.page ≡ page }
+{
+    match held {
+        Some(held) => held.spot,
+        None => Spot { page, key: 0 },
+    }
+}

@@ -1,9 +1,0 @@
-pub mod Placement
-pub mod Steps
-pub mod Commands
-pub mod Keeping
-pub mod Plain
-pub mod Laid
-pub mod Mounted
-pub mod Lawful
-pub mod FrameSets

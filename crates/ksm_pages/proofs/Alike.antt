@@ -1,0 +1,53 @@
+-- A list that is made of another, element by element: what is searched, kept and counted in it.
+use Rattle.ksm_pages.proofs.Names.{[], All, All-head, All-map, All-tail, AllPairs, AllPairs-cons, ap, ap₂, arith, Bool, cases_Bool, cond, count_by, count_more, false, filter, find, get_or, inl, inr, List, map, option_map, pairs_head, pairs_tail, refl, Some, suc, sym, true, ◌+◌, ◌∙◌, ◌∷◌, ◌≡◌}
+
+-- two changes that agree at each element make one list
+pub map_alike : {X Y : Type 0} (f g : X → Y) (xs : List X) → All (λ x. f x ≡ g x) xs → map f xs ≡ map g xs
+map_alike f g [] same = refl
+map_alike f g (x ∷ xs) same = ap₂ (λ y ys. y ∷ ys) (All-head (λ z. f z ≡ g z) x xs same) (map_alike f g xs (All-tail (λ z. f z ≡ g z) x xs same))
+
+-- two changes one after the other
+pub map_mapped : {X Y Z : Type 0} (f : Y → Z) (g : X → Y) (h : X → Z) (xs : List X) → All (λ x. f (g x) ≡ h x) xs → map f (map g xs) ≡ map h xs
+map_mapped f g h [] same = refl
+map_mapped f g h (x ∷ xs) same = ap₂ (λ y ys. y ∷ ys) (All-head (λ z. f (g z) ≡ h z) x xs same) (map_mapped f g h xs (All-tail (λ z. f (g z) ≡ h z) x xs same))
+
+module _ {X Y : Type 0} (g : X → Y) (p : Y → Bool) (q : X → Bool) where
+  -- what is found in the list that is made
+  pub find_mapped : (xs : List X) → All (λ x. p (g x) ≡ q x) xs → find p (map g xs) ≡ option_map g (find q xs)
+  find_mapped [] same = refl
+  find_mapped (x ∷ xs) same =
+      let here = All-head (λ z. p (g z) ≡ q z) x xs same in
+      let rest = find_mapped xs (All-tail (λ z. p (g z) ≡ q z) x xs same) in
+      elim (cases_Bool (q x)) [
+        | inl passes ↦ ap (λ b. cond b (Some (g x)) (find p (map g xs))) (here ∙ passes) ∙ ap (λ b. option_map g (cond b (Some x) (find q xs))) (sym passes)
+        | inr fails ↦ ap (λ b. cond b (Some (g x)) (find p (map g xs))) (here ∙ fails) ∙ rest ∙ ap (λ b. option_map g (cond b (Some x) (find q xs))) (sym fails)
+      ]
+
+  -- what is kept of it
+  pub filter_mapped : (xs : List X) → All (λ x. p (g x) ≡ q x) xs → filter p (map g xs) ≡ map g (filter q xs)
+  filter_mapped [] same = refl
+  filter_mapped (x ∷ xs) same =
+      let here = All-head (λ z. p (g z) ≡ q z) x xs same in
+      let rest = filter_mapped xs (All-tail (λ z. p (g z) ≡ q z) x xs same) in
+      elim (cases_Bool (q x)) [
+        | inl passes ↦ let also : p (g x) ≡ true = here ∙ passes in grind (arith, passes, also, rest)
+        | inr fails ↦ let also : p (g x) ≡ false = here ∙ fails in grind (arith, fails, also, rest)
+      ]
+
+  -- what is counted in it
+  pub count_mapped : (xs : List X) → All (λ x. p (g x) ≡ q x) xs → count_by p (map g xs) ≡ count_by q xs
+  count_mapped [] same = refl
+  count_mapped (x ∷ xs) same =
+      let here = All-head (λ z. p (g z) ≡ q z) x xs same in
+      let rest = count_mapped xs (All-tail (λ z. p (g z) ≡ q z) x xs same) in
+      let more = count_more p (g x) (map g xs) in
+      let also = count_more q x xs in
+      more ∙ ap₂ (λ b n. cond b 1 0 + n) here rest ∙ sym also
+
+-- elements in order make a list in order
+pub pairs_mapped : {X Y : Type 0} (S : X → X → Type 0) (R : Y → Y → Type 0) (P : X → Type 0) (g : X → Y) → ((a b : X) → P a → P b → S a b → R (g a) (g b)) → (xs : List X) → All P xs → AllPairs S xs → AllPairs R (map g xs)
+pairs_mapped S R P g step [] all rise = λ i j d less lt. absurd (omega arith)
+pairs_mapped S R P g step (x ∷ xs) all rise =
+    AllPairs-cons R (g x) (map g xs)
+    (All-map (R (g x)) g xs (λ k d lt. step x (get_or xs k d) (All-head P x xs all) (all (suc k) d (omega arith)) (pairs_head S x xs rise k d lt)))
+    (pairs_mapped S R P g step xs (All-tail P x xs all) (pairs_tail S x xs rise))

@@ -1,0 +1,141 @@
+-- What is asked of the pages: the place of a page's dup, and the first page after a cursor.
+use Rattle.ksm_pages.proofs.Names.{[], after_cursor, All-cons, ap, arith, Bool, cases_Bool, comes_before, DupRow, each_at_page, Entry, eq-eqb, false, find, find_all, find_none, find_nothing, find_passes, get_or, GuestPage, Held, held_at, held_of, inl, InPageOrder, inr, Inside, is_next, IsHeld, Kind, List, nat_tests, None, none-some, of_guest, Option, option_map, PagesValue, pairs_head, pairs_tail, place_of, refl, Row, row_at, rows_of, same_Some, seen, Some, state_of, subst, sym, true, true≢false, ℕ, ◌&&◌, ◌==◌, ◌∙◌, ◌∷◌, ◌≡◌, ◌≤◌}
+use Rattle.std.specs.Prelude.{IfSome, MatchOption, option_and_then}
+use Rattle.ksm_tree.specs.Dups.{rows_of as dup_rows}
+use Rattle.ksm_pages.specs.declared.pages.Held.{Held as Told}
+use Rattle.ksm_pages.specs.declared.row.Kind.TheVariants as kinds
+use Rattle.ksm_pages.proofs.Gathering.{own_either}
+use Rattle.ksm_pages.proofs.Leaving.{AreLawful, row_seen, view_of}
+
+-- ---------------------------------------------------------------- the place of a page's dup
+
+-- a row with a frame of its own is in no dup
+pub placed_own : (number pass : ℕ) (dups : List DupRow) → None ≡ place_of (state_of kinds.Own number pass) dups
+placed_own number pass dups = own_either (λ state. None ≡ place_of state dups) refl refl (number == pass)
+
+-- the place of the dup of a page is what the state of its entry says
+pub ticket_told : (s : Inside) (p : PagesValue) → view_of s ≡ p → (page known : GuestPage) → known ≡ page → (e : Entry)
+    → held_at known s.rows.held ≡ Some (held_of s.rows.pass e) → (kind : Kind) → e.kind ≡ kind
+    → place_of (state_of kind e.number s.rows.pass) (dup_rows s.dups.dups) ≡ option_and_then (λ r. place_of r.state p.dups) (row_at page p.rows)
+ticket_told s p seen_as page known at e found kind is =
+    ap (λ k. place_of (state_of k e.number s.rows.pass) (dup_rows s.dups.dups)) (sym is)
+    ∙ ap (option_and_then (λ (r : Row). place_of r.state (dup_rows s.dups.dups))) (sym (row_seen s p seen_as known ∙ ap (option_map (λ (h : Held). h.row)) found) ∙ ap (λ q. row_at q p.rows) at)
+    ∙ ap (λ (v : PagesValue). option_and_then (λ (r : Row). place_of r.state v.dups) (row_at page p.rows)) seen_as
+
+-- ---------------------------------------------------------------- the first page after a cursor
+
+-- the first that passes a test is the first that passes a narrower one, if it does
+find_narrower : {X : Type 0} (p q : X → Bool) → ((x : X) → q x ≡ true → p x ≡ true) → (xs : List X) (x : X) → find p xs ≡ Some x
+    → q x ≡ true → find q xs ≡ Some x
+find_narrower p q less [] x is passes = is
+find_narrower p q less (y ∷ ys) x is passes = elim (cases_Bool (p y)) [
+  | inl first ↦
+      let same : y ≡ x = grind (arith, first, is) in
+      let here = ap q same ∙ passes in
+      grind (arith, here, same)
+  | inr out ↦
+      let narrow = less y in
+      let rest = find_narrower p q less ys x (grind (arith, out, is)) passes in
+      grind (arith, out, narrow, rest)
+]
+
+-- of two pages in order the first is of no later guest
+guests_rise : (p q : GuestPage) → comes_before p q ≡ true → p.guest ≤ q.guest
+guests_rise p q before = grind (arith, nat_tests)
+
+-- a row at the page of a guest is of it
+pub of_some : (guest : Option ℕ) (g : ℕ) (page : GuestPage) → guest ≡ Some g → page.guest ≡ g → (x : Row) → x.page ≡ page
+    → of_guest guest x ≡ true
+of_some guest g page is at x of_page = ap (λ o. of_guest o x) is ∙ eq-eqb x.page.guest g (ap (λ (q : GuestPage). q.guest) of_page ∙ at)
+
+module _ (s : Inside) (are : AreLawful s) (p : PagesValue) (seen_as : view_of s ≡ p) (guest : Option ℕ) (cursor start : Option GuestPage)
+    (same : (row : Row) → of_guest guest row ≡ true → after_cursor start row.page ≡ after_cursor cursor row.page) where
+  abbrev behind : Row → Bool
+  behind r = after_cursor start r.page
+
+  abbrev next : Row → Bool
+  next = is_next guest cursor
+
+  -- what is told of the row that comes next
+  abbrev IsNext : Option Told → Type 0
+  IsNext told = MatchOption told (find next p.rows ≡ None) (λ held. IsHeld (seen p) held.spot.page held × (option_map (λ r. r.page) (find next p.rows) ≡ Some held.spot.page))
+
+  rise : InPageOrder p.rows
+  rise = subst (λ (v : PagesValue). InPageOrder v.rows) seen_as are.order
+
+  first_page : option_map (λ (r : Row). r.page) (find behind (rows_of s.rows.held)) ≡ option_map (λ (r : Row). r.page) (find behind p.rows)
+  first_page = ap (λ (v : PagesValue). option_map (λ (r : Row). r.page) (find behind v.rows)) seen_as
+
+  less : (r : Row) → next r ≡ true → behind r ≡ true
+  less r is = elim (cases_Bool (of_guest guest r)) [
+    | inl own ↦ let at = same r own in grind (arith, own, at, is)
+    | inr other ↦ absurd (grind (arith, other, is))
+  ]
+
+  not_next : (r : Row) → behind r ≡ false → next r ≡ false
+  not_next r out = elim (cases_Bool (next r)) [
+    | inl is ↦ absurd (true≢false (sym (less r is) ∙ out))
+    | inr is ↦ is
+  ]
+
+  -- where no row is behind the start, none comes next
+  pub next_none : None ≡ option_map (λ (r : Row). r.page) (find behind (rows_of s.rows.held)) → (told : Option Told) → told ≡ None
+      → IsNext told
+  next_none none told is =
+      subst IsNext (sym is) (find_nothing next p.rows (λ k d lt. not_next (get_or p.rows k d) (find_none behind p.rows (go (find behind p.rows) (none ∙ first_page)) k d lt)))
+    where
+      go : (o : Option Row) → None ≡ option_map (λ (r : Row). r.page) o → o ≡ None
+      go None is = refl
+      go (Some r) is = absurd (none-some r.page is)
+
+  module _ (page : GuestPage) (first : Some page ≡ option_map (λ (r : Row). r.page) (find behind (rows_of s.rows.held))) where
+    there : (r : Row) × (find behind p.rows ≡ Some r) × (page ≡ r.page)
+    there = go (find behind p.rows) refl (first ∙ first_page)
+      where
+        go : (o : Option Row) → find behind p.rows ≡ o → Some page ≡ option_map (λ (r : Row). r.page) o
+            → (r : Row) × (find behind p.rows ≡ Some r) × (page ≡ r.page)
+        go None found is = absurd (none-some page (sym is))
+        go (Some r) found is = (r, found, same_Some page r.page is)
+
+    abbrev r : Row
+    r = there.0
+
+    -- where the first row behind the start is of another guest, none comes next
+    pub next_past : (g : ℕ) → guest ≡ Some g → (page.guest ≡ g → ⊥)
+        → (after_cursor start page ≡ true → IfSome guest (λ h. h ≤ page.guest)) → find next p.rows ≡ None
+    next_past g is differs begun = past p.rows rise there.1
+      where
+        later : g ≤ page.guest
+        later =
+            subst (λ o. IfSome o (λ h. h ≤ page.guest)) is (begun (ap (after_cursor start) there.2 ∙ find_passes behind p.rows r there.1))
+
+        other : (x : Row) → page.guest ≤ x.page.guest → next x ≡ false
+        other x le =
+            let not_of : (x.page.guest == g) ≡ false = grind (arith, nat_tests, le, differs, later) in
+            ap (λ o. of_guest o x && after_cursor cursor x.page) is ∙ ap (λ b. b && after_cursor cursor x.page) not_of
+
+        past : (xs : List Row) → InPageOrder xs → find behind xs ≡ Some r → find next xs ≡ None
+        past [] up found = absurd (none-some r found)
+        past (x ∷ xs) up found = elim (cases_Bool (behind x)) [
+          | inl yes_it ↦
+              let is_first : x ≡ r = grind (arith, yes_it, found) in
+              let at : page.guest ≡ x.page.guest = ap (λ (q : GuestPage). q.guest) there.2 ∙ ap (λ (y : Row). y.page.guest) (sym is_first) in
+              find_nothing next (x ∷ xs) (All-cons (λ y. next y ≡ false) x xs (other x (omega (arith, at)))
+              (λ k d lt. let le = guests_rise x.page (get_or xs k d).page (pairs_head (λ (a b : Row). comes_before a.page b.page ≡ true) x xs up k d lt) in other (get_or xs k d) (omega (arith, at, le))))
+          | inr not_it ↦
+              let out = not_next x not_it in
+              let rest = past xs (pairs_tail (λ (a b : Row). comes_before a.page b.page ≡ true) x xs up) (grind (arith, not_it, found)) in
+              grind (arith, out, rest)
+        ]
+
+    -- where it is of the guest, it is what comes next
+    pub next_told : ((x : Row) → x.page ≡ page → of_guest guest x ≡ true) → (told : Option Told)
+        → MatchOption told (row_at page p.rows ≡ None) (IsHeld (seen p) page) → IsNext told
+    next_told own None gone =
+        absurd (none-some r (sym gone ∙ ap (λ q. row_at q p.rows) there.2 ∙ find_all behind (λ x. row_at x.page p.rows ≡ Some x) p.rows r there.1 (each_at_page p.rows rise)))
+    next_told own (Some held) is =
+        let of_it = own r (sym there.2) in
+        let passes : next r ≡ true = ap (λ b. b && after_cursor cursor r.page) of_it ∙ sym (same r of_it) ∙ find_passes behind p.rows r there.1 in (
+          subst (λ q. IsHeld (seen p) q held) (sym is.spot) is,
+          ap (option_map (λ (x : Row). x.page)) (find_narrower behind next less p.rows r there.1 passes) ∙ ap Some (sym (is.spot ∙ there.2)),
+        )

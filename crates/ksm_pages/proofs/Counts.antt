@@ -1,0 +1,92 @@
+-- What is counted in a list, and kept of it, by two tests.
+use Rattle.ksm_pages.proofs.Names.{[], All, All-cons, ap, arith, Bool, both_ways, cases_Bool, count-append, count_by, count_by-le-length, count_more, drop, filter, filter_all, filter_none, get_or, inl, inr, IsPartitionedBy, length, length-filter, List, list_all, nat_tests, refl, suc, sym, take, take-append-drop, true, ℕ, ◌&&◌, ◌+◌, ◌==◌, ◌∙◌, ◌∷◌, ◌≡◌, ◌≤◌}
+
+module _ {X : Type 0} (p : X → Bool) where
+  -- where as many are counted as there are, each passes
+  pub all_pass : (xs : List X) → count_by p xs ≡ length xs → All (λ x. p x ≡ true) xs
+  all_pass [] all = λ k d lt. absurd (omega arith)
+  all_pass (x ∷ xs) all =
+      let more = count_more p x xs in
+      let most = count_by-le-length p xs in
+      let here : p x ≡ true = elim (cases_Bool (p x)) [
+        | inl passes ↦ passes
+        | inr other ↦ absurd (grind (arith, more, most, other, all))
+      ] in
+      let rest : count_by p xs ≡ length xs = grind (arith, more, here, all) in
+      All-cons (λ y. p y ≡ true) x xs here (all_pass xs rest)
+
+  -- what is counted in the first of a list and in the rest is what is counted in all
+  pub count_parts : (n : ℕ) (xs : List X) → count_by p (take n xs) + count_by p (drop n xs) ≡ count_by p xs
+  count_parts n xs = sym (count-append p (take n xs) (drop n xs)) ∙ ap (count_by p) (take-append-drop n xs)
+
+module _ {X : Type 0} (p q : X → Bool) where
+  -- what is counted of what a test keeps is counted the other way round too
+  pub count_swapped : (xs : List X) → count_by p (filter q xs) ≡ count_by q (filter p xs)
+  count_swapped [] = refl
+  count_swapped (x ∷ xs) =
+      let rest = count_swapped xs in
+      let first = count_more p x (filter q xs) in
+      let second = count_more q x (filter p xs) in
+      elim (cases_Bool (p x)) [
+        | inl passes ↦ elim (cases_Bool (q x)) [
+          | inl both ↦ grind (arith, passes, rest, first, second, both)
+          | inr one ↦ grind (arith, passes, rest, first, second, one)
+        ]
+        | inr other ↦ elim (cases_Bool (q x)) [
+          | inl one ↦ grind (arith, other, rest, first, second, one)
+          | inr none ↦ grind (arith, other, rest, first, second, none)
+        ]
+      ]
+
+  -- two tests one after the other keep what passes both
+  pub filter_both : (xs : List X) → filter q (filter p xs) ≡ filter (λ x. p x && q x) xs
+  filter_both [] = refl
+  filter_both (x ∷ xs) =
+      let rest = filter_both xs in
+      elim (cases_Bool (p x)) [
+        | inl passes ↦ elim (cases_Bool (q x)) [
+          | inl both ↦ grind (arith, passes, rest, both)
+          | inr one ↦ grind (arith, passes, rest, one)
+        ]
+        | inr other ↦ grind (arith, other, rest)
+      ]
+
+module _ {X : Type 0} (q : X → Bool) where
+  -- where those that pass stand before all that do not, they are the first
+  pub take_parted : (xs : List X) → IsPartitionedBy q xs → take (length (filter q xs)) xs ≡ filter q xs
+  take_parted [] parted = refl
+  take_parted (x ∷ xs) parted =
+      elim (cases_Bool (q x)) [
+        | inl passes ↦
+            let rest = take_parted xs (λ i j d le lt later. parted (suc i) (suc j) d (omega arith) (omega arith) later) in
+            grind (arith, passes, rest)
+        | inr other ↦
+            let none = filter_none q xs (λ k d lt. elim (cases_Bool (q (get_or xs k d))) [
+              | inl later ↦ absurd (both_ways (q x) other (parted 0 (suc k) d (omega arith) (omega arith) later))
+              | inr fine ↦ fine
+            ]) in
+            grind (arith, other, none)
+      ]
+
+  -- as many are kept as there are exactly where all pass
+  pub all_kept : (xs : List X) → (length (filter q xs) == length xs) ≡ list_all q xs
+  all_kept [] = refl
+  all_kept (x ∷ xs) =
+      let rest = all_kept xs in
+      let few : length (filter q xs) ≤ length xs = omega (arith, length-filter q xs, count_by-le-length q xs) in
+      elim (cases_Bool (q x)) [
+        | inl passes ↦ grind (arith, nat_tests, passes, rest)
+        | inr other ↦ grind (arith, nat_tests, other, few)
+      ]
+
+module _ {X : Type 0} (p q : X → Bool) (xs : List X) where
+  -- of those that stand before all others, what is counted
+  pub counted_to_place : IsPartitionedBy q xs → count_by p (take (length (filter q xs)) xs) ≡ count_by q (filter p xs)
+  counted_to_place split = ap (count_by p) (take_parted q xs split) ∙ count_swapped p q xs
+
+  -- where all are counted, that is how many they are
+  pub kept_whole : count_by p xs ≡ length xs → filter p xs ≡ xs
+  kept_whole all = filter_all p xs (all_pass p xs all)
+
+  pub counted_if_all : count_by p xs ≡ length xs → length (filter q xs) ≡ count_by q (filter p xs)
+  counted_if_all all = length-filter q xs ∙ ap (count_by q) (sym (kept_whole all))

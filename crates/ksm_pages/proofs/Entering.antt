@@ -1,0 +1,124 @@
+-- The pages once one came with a row and a frame of its own.
+use Rattle.ksm_pages.proofs.Names.{[], AllPairs, AllPairs-cons, ap, AreTied, AreWaiting, arith, cases_Bool, comes_before, cond, Err, false, frame_of, Frames, get_or-map, GuestPage, Held, held_at, if◌then◌else◌, inl, InPageOrder, inr, Inside, length-map, lies_on, List, lodgings_of, merged_state, None, Ok, OnErr, OnOk, Option, option_map, ordered_with, PagesValue, PagesView, pairs_head, pairs_tail, refl, Result, Row, row_at, row_inserted, rows_of, RowsView, same_page, same_page_eq, same_page_refl, same_page_sym, seen, Some, subst, sym, tied_inserted, true, waiting_state, with_held, with_row, ℕ, ◌<◌, ◌∙◌, ◌∷◌, ◌≡◌}
+use Rattle.ksm_pages.proofs.Changing.{row_found, rows_with}
+use Rattle.ksm_pages.proofs.Found.{find_put, find_put_other}
+use Rattle.ksm_pages.proofs.Leaving.{AreLawful, of_dup, view_of}
+use Rattle.ksm_pages.proofs.Lodgings.{frame_by, seat}
+use Rattle.ksm_pages.proofs.Turning.{Comes}
+
+-- what is kept of rows in order is in order
+held_rise : (held : List Held) → InPageOrder (rows_of held) → AllPairs (λ h g. comes_before h.row.page g.row.page ≡ true) held
+held_rise [] rise = λ i j d less lt. absurd (omega arith)
+held_rise (h ∷ hs) rise =
+    let R = λ (r s : Row). comes_before r.page s.page ≡ true in
+    AllPairs-cons (λ h g. comes_before h.row.page g.row.page ≡ true) h hs
+    (λ k d lt. subst (λ (r : Row). comes_before h.row.page r.page ≡ true) (get_or-map (λ (g : Held). g.row) hs k d d.row lt)
+    (pairs_head R h.row (rows_of hs) rise k d.row (subst (λ n. k < n) (sym (length-map hs (λ (g : Held). g.row))) lt)))
+    (held_rise hs (pairs_tail R h.row (rows_of hs) rise))
+
+-- nothing is kept of a page without a row
+pub nothing_held : (page : GuestPage) (held : List Held) → row_at page (rows_of held) ≡ None → held_at page held ≡ None
+nothing_held page held absent = go (held_at page held) (sym (row_found page held) ∙ absent)
+  where
+    go : (o : Option Held) → option_map (λ (h : Held). h.row) o ≡ None → o ≡ None
+    go None is = refl
+    go (Some h) is = absurd (grind (arith, is))
+
+-- the page comes to lie where its row says, and no other page moves
+lodged_put : (of_dup : ℕ → Option ℕ) (held : List Held) (h : Held) → InPageOrder (rows_of held) → held_at h.row.page held ≡ None
+    → frame_of (lodgings_of of_dup (with_held h held)) ≡ lies_on h.row.page (seat of_dup (Some h)) (frame_of (lodgings_of of_dup held))
+lodged_put of_dup held h rise absent = λ i p. at p i
+  where
+    page : GuestPage
+    page = h.row.page
+
+    at : (p : GuestPage) → frame_of (lodgings_of of_dup (with_held h held)) p
+        ≡ (if same_page p page then seat of_dup (Some h) else frame_of (lodgings_of of_dup held) p)
+    at p =
+        frame_by of_dup (with_held h held) p
+        ∙ elim (cases_Bool (same_page p page)) [
+          | inl yes_it ↦
+              ap (λ q. seat of_dup (held_at q (with_held h held))) (same_page_eq p page yes_it)
+              ∙ ap (seat of_dup) (find_put (λ (g : Held). g.row.page) page h held refl)
+              ∙ ap (λ b. cond b (seat of_dup (Some h)) (frame_of (lodgings_of of_dup held) p)) (sym yes_it)
+          | inr not_it ↦
+              ap (seat of_dup) (find_put_other (λ (g : Held). g.row.page) page p h held refl (held_rise held rise) absent
+              (same_page_sym page p ∙ not_it))
+              ∙ sym (frame_by of_dup held p)
+              ∙ ap (λ b. cond b (seat of_dup (Some h)) (frame_of (lodgings_of of_dup held) p)) (sym not_it)
+        ]
+
+module _ (s : Inside) (are : AreLawful s) {p : PagesValue} (seen_as : view_of s ≡ p) (h : Held)
+    (absent : row_at h.row.page p.rows ≡ None) where
+  away : row_at h.row.page (rows_of s.rows.held) ≡ None
+  away = ap (λ (v : PagesValue). row_at h.row.page v.rows) seen_as ∙ absent
+
+  -- the page lay on no frame
+  pub lay_nowhere : frame_of p.lodgings h.row.page ≡ None
+  lay_nowhere =
+      ap (λ (v : PagesValue). frame_of v.lodgings h.row.page) (sym seen_as)
+      ∙ frame_by (of_dup s) s.rows.held h.row.page
+      ∙ ap (seat (of_dup s)) (nothing_held h.row.page s.rows.held away)
+
+  -- its row is neither merged nor does it wait
+  pub entered : merged_state h.row.state ≡ false → waiting_state h.row.state ≡ false → (rows : RowsView)
+      → rows.held ≡ with_held h s.rows.held
+      → Comes s rows s.dups (record (seen p) {
+        rows = with_row h.row p.rows;
+        frame = lies_on h.row.page (seat (of_dup s) (Some h)) (frame_of p.lodgings);
+        restless = rows.restless;
+      })
+  entered apart still rows put =
+      let before = rows_of s.rows.held in
+      let now : rows_of rows.held ≡ with_row h.row before = ap rows_of put ∙ rows_with h s.rows.held in
+      let lain : frame_of (lodgings_of (of_dup s) rows.held) ≡ lies_on h.row.page (seat (of_dup s) (Some h))
+      (frame_of (lodgings_of (of_dup s) s.rows.held)) =
+      ap (λ held. frame_of (lodgings_of (of_dup s) held)) put
+      ∙ lodged_put (of_dup s) s.rows.held h are.order (nothing_held h.row.page s.rows.held away) in
+      record {
+        lawful = record {
+          small = are.small;
+          order = subst InPageOrder (sym now) (ordered_with h.row before are.order);
+          tied = subst (λ rs. AreTied rs s.dups.dups) (sym now) (tied_inserted before h.row s.dups.dups are.order away apart are.tied);
+          places = are.places;
+          waits = subst (λ rs. AreWaiting s.knobs rs s.dups.waiting) (sym now)
+              (row_inserted s.knobs before s.dups.waiting are.waits h.row away still);
+          room = are.room;
+        };
+        told_as =
+            (λ i. record (seen (view_of (record s { rows = rows }))) { rows = now i; frame = lain i })
+            ∙ ap (λ (v : PagesValue). record (seen v) {
+              rows = with_row h.row v.rows;
+              frame = lies_on h.row.page (seat (of_dup s) (Some h)) (frame_of v.lodgings);
+              restless = rows.restless;
+            }) seen_as;
+      }
+
+-- it lies where it is said to lie
+pub but_there : (new old : PagesView) (rows : List Row) (page : GuestPage) (o : Option ℕ)
+    → new ≡ record old { rows = rows; frame = lies_on page o old.frame; restless = new.restless }
+    → (new ≡ record old { rows = rows; frame = new.frame; restless = new.restless }) × (new.frame ≡ lies_on page (new.frame page) old.frame)
+but_there new old rows page o is =
+    let frames : new.frame ≡ lies_on page o old.frame = ap (λ (v : PagesView). v.frame) is in
+    let there : new.frame page ≡ o = ap (λ (f : Frames). f page) frames ∙ ap (λ b. cond b o (old.frame page)) (same_page_refl page) in (
+      is ∙ (λ i. record old { rows = rows; frame = sym frames i; restless = new.restless }),
+      frames ∙ ap (λ l. lies_on page l old.frame)
+          (sym there),
+    )
+
+-- ---------------------------------------------------------------- results
+
+-- what follows where a result is Ok
+pub ok_then : {T E P Q : Type 0} (r : Result T E) → OnOk r P → (P → Q) → OnOk r Q
+ok_then (Ok x) holds so = so holds
+ok_then (Err e) holds so = tt
+
+-- what follows where it is an error
+pub err_then : {T E P Q : Type 0} (r : Result T E) → OnErr r P → (P → Q) → OnErr r Q
+err_then (Ok x) holds so = tt
+err_then (Err e) holds so = so holds
+
+-- what follows either way
+pub either_way : {T E P O Q : Type 0} (r : Result T E) → OnOk r P → OnErr r O → (P → Q) → (O → Q) → Q
+either_way (Ok x) holds fails so too = so holds
+either_way (Err e) holds fails so too = too fails

@@ -1,0 +1,326 @@
+-- Entries under keys and the order of their pages: what is found, and what one entry that came, went or changed leaves.
+use Rattle.ksm_pages.proofs.Names.{All, All-append, All-cons, All-filter, All-map, ap, ap₂, AreAscending, AreFiled, Bool, cases_Bool, change_held, comes_before, cond, Decides-eqb, Entry, false, filter, filter_passes, find, find_all, find_passes, get, get_or, GuestPage, Held, held_at, held_in, held_of, held_under, holds, if◌then◌else◌, inl, InPageOrder, inr, is_of, is_some, IsUnder, key_in, List, map, map-append, marked, Named, named_of, None, not, Option, option_map, refl, rows_of, same_page, same_page_eq, same_page_refl, same_page_sym, same_Some, Slab, Some, subst, sym, true, true≢false, with_held, with_named, without_held, without_named, ℕ, ◌++◌, ◌==◌, ◌∙◌, ◌∷◌, ◌≡◌, ◌≢◌}
+use Rattle.slab.specs.Slab.{Updates as Fills}
+use Rattle.ksm_pages.proofs.Alike.{filter_mapped, find_mapped, map_alike, map_mapped, pairs_mapped}
+use Rattle.ksm_pages.proofs.Found.{each_found, find_gone_other, find_put, find_put_other}
+
+abbrev page_of : Named → GuestPage
+page_of n = n.page
+
+-- an option is not both empty and full
+pub full : {X : Type 0} (x : X) (o : Option X) → o ≡ None → o ≡ Some x → ⊥
+full x o none some = true≢false (ap is_some (sym some ∙ none))
+
+-- numbers that are told apart differ
+pub differ_by : (m n : ℕ) → (m == n) ≡ false → m ≢ n
+differ_by m n told same = true≢false (sym ((Decides-eqb m n).1 same) ∙ told)
+
+-- the order names an entry as it stands
+abbrev pub Stands : Slab Entry → Named → Type 0
+Stands slab n = option_map (named_of n.key) (get slab n.key) ≡ Some n
+
+-- what stands under a key, as the order names it
+pub under_named : (slab : Slab Entry) (n : Named) → Stands slab n → IsUnder slab n.page n.key
+under_named slab n told = go (get slab n.key) refl told
+  where
+    go : (o : Option Entry) → get slab n.key ≡ o → option_map (named_of n.key) o ≡ Some n → IsUnder slab n.page n.key
+    go None is none = absurd (full n None refl none)
+    go (Some e) is some = record { entry = e; stands = is; of_page = ap (λ (m : Named). m.page) (same_Some (named_of n.key e) n some) }
+
+-- the row under a key is of the page that the order names
+pub page_under : (pass : ℕ) (slab : Slab Entry) (n : Named) → Stands slab n → (held_under pass (get slab n.key)).row.page ≡ n.page
+page_under pass slab n told = let u = under_named slab n told in ap (λ o. (held_under pass o).row.page) u.stands ∙ u.of_page
+
+-- and a scan visits it exactly where the order says so
+pub flag_under : (pass : ℕ) (slab : Slab Entry) (n : Named) → Stands slab n → (held_under pass (get slab n.key)).row.mergeable ≡ n.mergeable
+flag_under pass slab n told =
+    let u = under_named slab n told in
+    ap (λ o. (held_under pass o).row.mergeable) u.stands
+    ∙ ap (λ (m : Named). m.mergeable) (same_Some (named_of n.key u.entry) n (sym (ap (option_map (named_of n.key)) u.stands) ∙ told))
+
+-- pages are named as their entries say, where those that are named stand so, and those that stand are named so
+pub filed_by : (slab : Slab Entry) (order : List Named) → All (Stands slab) order
+    → ((key : ℕ) (e : Entry) → get slab key ≡ Some e → find (is_of e.page) order ≡ Some (named_of key e)) → AreFiled slab order
+filed_by slab order stand named n =
+    (λ found. find_all (is_of n.page) (Stands slab) order n found stand, λ told. go (get slab n.key) refl told)
+  where
+    go : (o : Option Entry) → get slab n.key ≡ o → option_map (named_of n.key) o ≡ Some n → find (is_of n.page) order ≡ Some n
+    go None is none = absurd (full n None refl none)
+    go (Some e) is some = subst (λ (m : Named). find (is_of m.page) order ≡ Some m) (same_Some (named_of n.key e) n some) (named n.key e is)
+
+-- what is so of the entry that a slab was given, and was of the others, is so of all
+pub all_filled : {slab later : Slab Entry} {key : ℕ} {e : Entry} → Fills slab later key (Some e) → (P : ℕ → Entry → Type 0) → P key e
+    → ((k : ℕ) (f : Entry) → get slab k ≡ Some f → k ≢ key → P k f) → (k : ℕ) (f : Entry) → get later k ≡ Some f → P k f
+all_filled {slab} {later} {key} {e} fills P new others k f stands = elim (cases_Bool (k == key)) [
+  | inl here ↦
+      let at = (Decides-eqb k key).0 here in
+      subst (P k) (same_Some e f (sym (ap (get later) at ∙ fills.changed) ∙ stands)) (subst (λ n. P n e) (sym at) new)
+  | inr other ↦ let apart = differ_by k key other in others k f (sym (fills.others k apart) ∙ stands) apart
+]
+
+module _ (slab : Slab Entry) (order : List Named) (filed : AreFiled slab order) where
+  -- an entry is named in the order
+  pub named_under : (key : ℕ) (e : Entry) → get slab key ≡ Some e → find (is_of e.page) order ≡ Some (named_of key e)
+  named_under key e stands = (filed (named_of key e)).1 (ap (option_map (named_of key)) stands)
+
+  -- entries of one page stand under one key
+  pub one_key : (k l : ℕ) (e f : Entry) → get slab k ≡ Some e → get slab l ≡ Some f → e.page ≡ f.page → k ≡ l
+  one_key k l e f first second same =
+      ap (λ (n : Named). n.key)
+      (same_Some (named_of k e) (named_of l f) (sym (named_under k e first) ∙ ap (λ p. find (is_of p) order) same ∙ named_under l f second))
+
+  -- the entry of a page stands under the page's key
+  pub under : (page : GuestPage) (key : ℕ) → key_in order page ≡ Some key → IsUnder slab page key
+  under page key told = go (find (is_of page) order) refl told
+    where
+      go : (o : Option Named) → find (is_of page) order ≡ o → option_map (λ n. n.key) o ≡ Some key → IsUnder slab page key
+      go None is none = absurd (full key None refl none)
+      go (Some n) is some =
+          let of_it : n.page ≡ page = same_page_eq n.page page (find_passes (is_of page) order n is) in
+          let at : n.key ≡ key = same_Some n.key key some in
+          let u = under_named slab n ((filed n).0 (ap (λ p. find (is_of p) order) of_it ∙ is)) in
+          record { entry = u.entry; stands = ap (get slab) (sym at) ∙ u.stands; of_page = u.of_page ∙ of_it }
+
+  -- and a page whose entry stands under a key has that key
+  pub key_under : (page : GuestPage) (key : ℕ) → IsUnder slab page key → key_in order page ≡ Some key
+  key_under page key u =
+      ap (λ p. option_map (λ (n : Named). n.key) (find (is_of p) order)) (sym u.of_page)
+      ∙ ap (option_map (λ (n : Named). n.key)) (named_under key u.entry u.stands)
+
+module _ (slab : Slab Entry) (order : List Named) (rise : AreAscending order) (filed : AreFiled slab order) where
+  -- each page that the order names stands under its key
+  pub all_stand : All (Stands slab) order
+  all_stand k d lt = (filed (get_or order k d)).0 (each_found page_of order rise k d lt)
+
+  module _ (pass : ℕ) where
+    abbrev held_by : Named → Held
+    held_by n = held_under pass (get slab n.key)
+
+    -- the row of a page is what stands under its key
+    pub held_found : (page : GuestPage) → held_at page (held_in pass slab order) ≡ option_map held_by (find (is_of page) order)
+    held_found page = find_mapped held_by (holds page) (is_of page) order (λ k d lt. ap (λ p. same_page p page) (page_under pass slab (get_or order k d) (all_stand k d lt)))
+
+    pub held_there : (page : GuestPage) (key : ℕ) (e : Entry) → get slab key ≡ Some e → e.page ≡ page → held_at page (held_in pass slab order) ≡ Some (held_of pass e)
+    held_there page key e stands of_page =
+        held_found page
+        ∙ ap (λ p. option_map held_by (find (is_of p) order)) (sym of_page)
+        ∙ ap (option_map held_by) (named_under slab order filed key e stands)
+        ∙ ap (λ o. Some (held_under pass o)) stands
+
+    pub held_nowhere : (page : GuestPage) → key_in order page ≡ None → held_at page (held_in pass slab order) ≡ None
+    held_nowhere page told = held_found page ∙ go (find (is_of page) order) told
+      where
+        go : (o : Option Named) → option_map (λ n. n.key) o ≡ None → option_map held_by o ≡ None
+        go None none = refl
+        go (Some n) none = absurd (full n.key (Some n.key) none refl)
+
+    -- and back
+    pub key_nowhere : (page : GuestPage) → held_at page (held_in pass slab order) ≡ None → find (is_of page) order ≡ None
+    key_nowhere page told = go (find (is_of page) order) (sym (held_found page) ∙ told)
+      where
+        go : (o : Option Named) → option_map held_by o ≡ None → o ≡ None
+        go None none = refl
+        go (Some n) none = absurd (full (held_by n) (Some (held_by n)) none refl)
+
+    -- the rows are in the order of their pages
+    pub rows_rise : InPageOrder (rows_of (held_in pass slab order))
+    rows_rise =
+        pairs_mapped (λ h g. comes_before h.row.page g.row.page ≡ true) (λ r s. comes_before r.page s.page ≡ true) (λ h. h ≡ h) (λ h. h.row) (λ h g p q less. less) (held_in pass slab order) (λ k d lt. refl)
+        (pairs_mapped (λ m n. comes_before m.page n.page ≡ true) (λ h g. comes_before h.row.page g.row.page ≡ true) (λ n. (held_by n).row.page ≡ n.page) held_by
+        (λ m n p q less. ap₂ comes_before p q ∙ less) order (λ k d lt. page_under pass slab (get_or order k d) (all_stand k d lt)) rise)
+
+  -- ---------------------------------------------------------------- one entry changed
+
+  module _ (key : ℕ) (e : Entry) (stood : get slab key ≡ Some e) where
+    -- under another key stands an entry of another page
+    pub elsewhere : (k : ℕ) (f : Entry) → get slab k ≡ Some f → k ≢ key → same_page f.page e.page ≡ false
+    elsewhere k f stands apart = elim (cases_Bool (same_page f.page e.page)) [
+      | inl same ↦ absurd (apart (one_key slab order filed k key f e stands stood (same_page_eq f.page e.page same)))
+      | inr other ↦ other
+    ]
+
+    named_elsewhere : (n : Named) → Stands slab n → n.key ≢ key → same_page n.page e.page ≡ false
+    named_elsewhere n stands apart = let u = under_named slab n stands in ap (λ p. same_page p e.page) (sym u.of_page) ∙ elsewhere n.key u.entry u.stands apart
+
+    -- under the key stands the entry of its page
+    same_entry : (n : Named) → Stands slab n → n.key ≡ key → n.page ≡ e.page
+    same_entry n stands at =
+        let u = under_named slab n stands in
+        let same : e ≡ u.entry = same_Some e u.entry (sym stood ∙ ap (get slab) (sym at) ∙ u.stands) in
+        sym u.of_page ∙ ap (λ (x : Entry). x.page) (sym same)
+
+    module _ (later : Slab Entry) (e' : Entry) (fills : Fills slab later key (Some e')) (same : e'.page ≡ e.page) where
+      -- the row of its page is changed, and no other
+      pub written : (pass : ℕ) (f : Held → Held) → held_of pass e' ≡ f (held_of pass e) → held_in pass later order ≡ change_held e.page f (held_in pass slab order)
+      written pass f is = sym (map_mapped (λ h. if holds e.page h then f h else h) before after order (λ k d lt. at (get_or order k d) (all_stand k d lt)))
+        where
+          before : Named → Held
+          before n = held_under pass (get slab n.key)
+
+          after : Named → Held
+          after n = held_under pass (get later n.key)
+
+          at : (n : Named) → Stands slab n → (if holds e.page (before n) then f (before n) else before n) ≡ after n
+          at n stands = elim (cases_Bool (n.key == key)) [
+            | inl here ↦
+                let is_key : n.key ≡ key = (Decides-eqb n.key key).0 here in
+                let was : before n ≡ held_of pass e = ap (λ k. held_under pass (get slab k)) is_key ∙ ap (held_under pass) stood in
+                let now : after n ≡ held_of pass e' = ap (λ k. held_under pass (get later k)) is_key ∙ ap (held_under pass) fills.changed in
+                ap (λ (h : Held). if holds e.page h then f h else h) was
+                ∙ ap (λ b. cond b (f (held_of pass e)) (held_of pass e)) (same_page_refl e.page)
+                ∙ sym is
+                ∙ sym now
+            | inr other ↦
+                let apart : n.key ≢ key = differ_by n.key key other in
+                let no : holds e.page (before n) ≡ false = ap (λ p. same_page p e.page) (page_under pass slab n stands) ∙ named_elsewhere n stands apart in
+                ap (λ b. cond b (f (before n)) (before n)) no ∙ ap (held_under pass) (sym (fills.others n.key apart))
+          ]
+
+      -- how the order names what stands under a key
+      named_later : e'.mergeable ≡ e.mergeable → (k : ℕ) → option_map (named_of k) (get later k) ≡ option_map (named_of k) (get slab k)
+      named_later flag k = elim (cases_Bool (k == key)) [
+        | inl here ↦
+            let is_key : k ≡ key = (Decides-eqb k key).0 here in
+            let named : named_of key e' ≡ named_of key e = ap₂ (λ p b. record { page = p; key = key; mergeable = b }) same flag in
+            ap (λ j. option_map (named_of j) (get later j)) is_key
+            ∙ ap (option_map (named_of key)) fills.changed
+            ∙ ap Some named
+            ∙ ap (option_map (named_of key)) (sym stood)
+            ∙ ap (λ j. option_map (named_of j) (get slab j)) (sym is_key)
+        | inr other ↦ ap (option_map (named_of k)) (fills.others k (differ_by k key other))
+      ]
+
+      -- pages are named as their entries say
+      pub filed_kept : e'.mergeable ≡ e.mergeable → AreFiled later order
+      filed_kept flag n = (λ h. named_later flag n.key ∙ (filed n).0 h, λ h. (filed n).1 (sym (named_later flag n.key) ∙ h))
+
+      abbrev mark : Named → Named
+      mark n = if is_of e.page n then record n { mergeable = e'.mergeable } else n
+
+      find_marked : (page : GuestPage) → find (is_of page) (marked e.page e'.mergeable order) ≡ option_map mark (find (is_of page) order)
+      find_marked page = find_mapped mark (is_of page) (is_of page) order (λ k d lt. keeps (get_or order k d))
+        where
+          keeps : (n : Named) → is_of page (mark n) ≡ is_of page n
+          keeps n = elim (cases_Bool (is_of e.page n)) [
+            | inl yes_it ↦ ap (λ b. is_of page (cond b (record n { mergeable = e'.mergeable }) n)) yes_it
+            | inr not_it ↦ ap (λ b. is_of page (cond b (record n { mergeable = e'.mergeable }) n)) not_it
+          ]
+
+      -- also where the order is told whether a scan visits the page
+      pub filed_marked : AreFiled later (marked e.page e'.mergeable order)
+      filed_marked =
+          filed_by later (marked e.page e'.mergeable order) (All-map (Stands later) mark order (λ k d lt. stands_later (get_or order k d) (all_stand k d lt)))
+          (all_filled fills (λ k f. find (is_of f.page) (marked e.page e'.mergeable order) ≡ Some (named_of k f))
+          (ap (λ p. find (is_of p) (marked e.page e'.mergeable order)) same ∙ find_marked e.page ∙ ap (option_map mark) (named_under slab order filed key e stood) ∙ ap Some (marked_here ∙ sym here_named))
+          (λ k f was apart. find_marked f.page ∙ ap (option_map mark) (named_under slab order filed k f was) ∙ ap Some (marked_other (named_of k f) (elsewhere k f was apart))))
+        where
+          here_named : named_of key e' ≡ record (named_of key e) { mergeable = e'.mergeable }
+          here_named = ap (λ p. record { page = p; key = key; mergeable = e'.mergeable }) same
+
+          marked_here : mark (named_of key e) ≡ record (named_of key e) { mergeable = e'.mergeable }
+          marked_here = ap (λ b. cond b (record (named_of key e) { mergeable = e'.mergeable }) (named_of key e)) (same_page_refl e.page)
+
+          marked_other : (m : Named) → same_page m.page e.page ≡ false → mark m ≡ m
+          marked_other m differ = ap (λ b. cond b (record m { mergeable = e'.mergeable }) m) differ
+
+          -- a page that stands in the order is named as its entry says later
+          stands_later : (m : Named) → option_map (named_of m.key) (get slab m.key) ≡ Some m → option_map (named_of (mark m).key) (get later (mark m).key) ≡ Some (mark m)
+          stands_later m stands = elim (cases_Bool (m.key == key)) [
+            | inl here ↦
+                let is_key : m.key ≡ key = (Decides-eqb m.key key).0 here in
+                let is : named_of key e ≡ m = same_Some (named_of key e) m (sym (ap (λ k. option_map (named_of k) (get slab k)) is_key ∙ ap (option_map (named_of key)) stood) ∙ stands) in
+                ap (λ (x : Named). option_map (named_of (mark x).key) (get later (mark x).key)) (sym is)
+                ∙ ap (λ (x : Named). option_map (named_of x.key) (get later x.key)) marked_here
+                ∙ ap (option_map (named_of key)) fills.changed
+                ∙ ap Some (here_named ∙ sym marked_here ∙ ap mark is)
+            | inr other ↦
+                let apart : m.key ≢ key = differ_by m.key key other in
+                let kept = marked_other m (named_elsewhere m stands apart) in
+                ap (λ (x : Named). option_map (named_of x.key) (get later x.key)) kept
+                ∙ ap (option_map (named_of m.key)) (fills.others m.key apart)
+                ∙ stands
+                ∙ ap Some (sym kept)
+          ]
+
+    -- ---------------------------------------------------------------- one entry gone
+
+    module _ (later : Slab Entry) (fills : Fills slab later key None) where
+      -- the other pages stand under other keys
+      away : All (λ n. Stands slab n × (n.key ≢ key)) (without_named e.page order)
+      away k d lt =
+          let n = get_or (without_named e.page order) k d in
+          let stands = All-filter (λ m. not (is_of e.page m)) (Stands slab) order all_stand k d lt in
+          let passes = filter_passes (λ m. not (is_of e.page m)) order k d lt in
+          (stands, λ at. true≢false (sym passes ∙ ap not (ap (λ p. same_page p e.page) (same_entry n stands at) ∙ same_page_refl e.page)))
+
+      -- the row of its page is gone, and no other
+      pub taken : (pass : ℕ) → held_in pass later (without_named e.page order) ≡ without_held e.page (held_in pass slab order)
+      taken pass =
+          map_alike after before (without_named e.page order) stay
+          ∙ sym (filter_mapped before (λ h. not (holds e.page h)) (λ n. not (is_of e.page n)) order (λ k d lt. ap (λ p. not (same_page p e.page)) (page_under pass slab (get_or order k d) (all_stand k d lt))))
+        where
+          before : Named → Held
+          before n = held_under pass (get slab n.key)
+
+          after : Named → Held
+          after n = held_under pass (get later n.key)
+
+          stay : All (λ n. after n ≡ before n) (without_named e.page order)
+          stay k d lt = ap (held_under pass) (fills.others (get_or (without_named e.page order) k d).key (away k d lt).1)
+
+      -- the others are named as their entries say
+      pub filed_taken : AreFiled later (without_named e.page order)
+      filed_taken =
+          filed_by later (without_named e.page order)
+          (λ k d lt. let n = get_or (without_named e.page order) k d in ap (option_map (named_of n.key)) (fills.others n.key (away k d lt).1) ∙ (away k d lt).0)
+          (λ k f stands.
+          let apart : k ≢ key = λ at. full f (get later k) (ap (get later) at ∙ fills.changed) stands in
+          let was = sym (fills.others k apart) ∙ stands in
+          find_gone_other page_of e.page f.page order (same_page_sym e.page f.page ∙ elsewhere k f was apart) ∙ named_under slab order filed k f was)
+
+  -- ---------------------------------------------------------------- one entry more
+
+  module _ (key : ℕ) (e : Entry) (later : Slab Entry) (vacant : get slab key ≡ None) (absent : find (is_of e.page) order ≡ None) (fills : Fills slab later key (Some e)) where
+    -- no page that the order names stands under the new key
+    taken_key : (n : Named) → Stands slab n → n.key ≢ key
+    taken_key n stands at = let u = under_named slab n stands in full u.entry (get slab n.key) (ap (get slab) at ∙ vacant) u.stands
+
+    pub put : (pass : ℕ) → held_in pass later (with_named (named_of key e) order) ≡ with_held (held_of pass e) (held_in pass slab order)
+    put pass =
+        map-append after (filter (λ n. comes_before n.page e.page) order) (named_of key e ∷ filter (λ n. comes_before e.page n.page) order)
+        ∙ ap₂ (λ front back. front ++ back) (part (λ p. comes_before p e.page)) (ap₂ (λ h hs. h ∷ hs) (ap (held_under pass) fills.changed) (part (comes_before e.page)))
+      where
+        before : Named → Held
+        before n = held_under pass (get slab n.key)
+
+        after : Named → Held
+        after n = held_under pass (get later n.key)
+
+        part : (test : GuestPage → Bool) → map after (filter (λ n. test n.page) order) ≡ filter (λ h. test h.row.page) (map before order)
+        part test =
+            map_alike after before (filter (λ n. test n.page) order)
+            (λ k d lt.
+            let n = get_or (filter (λ (m : Named). test m.page) order) k d in
+            let stands = All-filter (λ (m : Named). test m.page) (Stands slab) order all_stand k d lt in
+            ap (held_under pass) (fills.others n.key (taken_key n stands)))
+            ∙ sym (filter_mapped before (λ h. test h.row.page) (λ n. test n.page) order (λ k d lt. ap test (page_under pass slab (get_or order k d) (all_stand k d lt))))
+
+    -- all are named as their entries say
+    pub filed_put : AreFiled later (with_named (named_of key e) order)
+    filed_put =
+        filed_by later (with_named (named_of key e) order)
+        (All-append (Stands later) (filter (λ n. comes_before n.page e.page) order) (named_of key e ∷ filter (λ n. comes_before e.page n.page) order) (part_stands (λ p. comes_before p e.page))
+        (All-cons (Stands later) (named_of key e) (filter (λ n. comes_before e.page n.page) order) (ap (option_map (named_of key)) fills.changed) (part_stands (comes_before e.page))))
+        (all_filled fills (λ k f. find (is_of f.page) (with_named (named_of key e) order) ≡ Some (named_of k f)) (find_put page_of e.page (named_of key e) order refl)
+        (λ k f was apart. find_put_other page_of e.page f.page (named_of key e) order refl rise absent (differ k f was) ∙ named_under slab order filed k f was))
+      where
+        part_stands : (test : GuestPage → Bool) → All (Stands later) (filter (λ n. test n.page) order)
+        part_stands test =
+            All-filter (λ n. test n.page) (Stands later) order
+            (λ k d lt. let n = get_or order k d in ap (option_map (named_of n.key)) (fills.others n.key (taken_key n (all_stand k d lt))) ∙ all_stand k d lt)
+
+        differ : (k : ℕ) (f : Entry) → get slab k ≡ Some f → same_page e.page f.page ≡ false
+        differ k f was = elim (cases_Bool (same_page e.page f.page)) [
+          | inl same ↦ absurd (full (named_of k f) (find (is_of f.page) order) (ap (λ p. find (is_of p) order) (sym (same_page_eq e.page f.page same)) ∙ absent) (named_under slab order filed k f was))
+          | inr other ↦ other
+        ]

@@ -1,0 +1,67 @@
+-- The pages once the items of a dup went to another frame.
+use Rattle.ksm_pages.proofs.Names.{[], All, All-head, All-tail, ap, arith, cases_Bool, cond, dup_numbered, DupRow, each_has_number, eq-eqb, eqb-true, false, find_all, find_passes, frame_of, frame_seen, get_or, Held, held_at, if◌then◌else◌, inl, InPlaceOrder, inr, is_item, items_on, length, List, list_any, lodging, lodgings_of, Merged, merged_into, None, one_of_each_place, Option, option_and_then, option_map, PageState, Private, refl, rows_of, set, slice_get, Some, subst, sym, true, Waiting, Zero, ℕ, ◌<◌, ◌==◌, ◌∙◌, ◌∷◌, ◌≡◌}
+use Rattle.ksm_pages.proofs.Changing.{row_found}
+use Rattle.ksm_pages.proofs.Filing.{differ_by}
+use Rattle.ksm_pages.proofs.Lodgings.{frame_by, seat}
+use Rattle.ksm_pages.proofs.Paired.{set_away, set_there}
+
+-- the place of a dup is below all places
+pub any_below : (place n : ℕ) (dups : List DupRow) → All (λ d. d.place < n) dups → list_any (λ d. d.place == place) dups ≡ true → place < n
+any_below place n [] below there = cc
+any_below place n (d ∷ dups) below there = elim (cases_Bool (d.place == place)) [
+  | inl here ↦ subst (λ p. p < n) (eqb-true d.place place here) (All-head (λ e. e.place < n) d dups below)
+  | inr away ↦ any_below place n dups (All-tail (λ e. e.place < n) d dups below) (grind (arith, away, there))
+]
+
+module _ (dups : List DupRow) (rise : InPlaceOrder dups) (frames : List ℕ) (place frame : ℕ) (inside : place < length frames) where
+  abbrev of : ℕ → Option ℕ
+  of = lodging dups frames
+
+  abbrev of_now : ℕ → Option ℕ
+  of_now = lodging dups (set frames place frame)
+
+  module _ (d : DupRow) (at : d.place ≡ place) (found : dup_numbered d.number dups ≡ Some d)
+      (one : All (λ e. (e.place == d.place) ≡ true → e ≡ d) dups) where
+    moved : of_now d.number ≡ Some frame
+    moved = ap (option_and_then (λ (e : DupRow). slice_get (set frames place frame) e.place)) found
+        ∙ ap (slice_get (set frames place frame)) at ∙ set_there frames place frame inside
+
+    stayed : (n : ℕ) → (n == d.number) ≡ false → of_now n ≡ of n
+    stayed n other = go (dup_numbered n dups) refl
+      where
+        go : (o : Option DupRow) → dup_numbered n dups ≡ o
+            → option_and_then (λ e. slice_get (set frames place frame) e.place) o ≡ option_and_then (λ e. slice_get frames e.place) o
+        go None is = refl
+        go (Some e) is =
+            set_away frames place e.place frame
+            (λ same. differ_by n d.number other
+            (sym (eqb-true e.number n (find_passes (λ x. x.number == n) dups e is))
+            ∙ ap (λ (x : DupRow). x.number)
+            (find_all (λ x. x.number == n) (λ x. (x.place == d.place) ≡ true → x ≡ d) dups e is one
+            (eq-eqb e.place d.place (same ∙ sym at)))))
+
+    -- a row merged into the dup lies on the new frame, and any other where it lay
+    seats : (o : Option Held) → seat of_now o ≡ (if is_item d.number (option_map (λ h. h.row) o) then Some frame else seat of o)
+    seats None = refl
+    seats (Some h) = at_state h.row.state h.frame
+      where
+        at_state : (state : PageState) (own : Option ℕ)
+            → frame_seen of_now state own ≡ (if merged_into d.number state then Some frame else frame_seen of state own)
+        at_state Private own = refl
+        at_state Waiting own = refl
+        at_state Zero own = refl
+        at_state (Merged n) own = elim (cases_Bool (n == d.number)) [
+          | inl same ↦ ap of_now (eqb-true n d.number same) ∙ moved ∙ ap (λ b. cond b (Some frame) (of n)) (sym same)
+          | inr other ↦ stayed n other ∙ ap (λ b. cond b (Some frame) (of n)) (sym other)
+        ]
+
+    lie_now : (held : List Held)
+        → frame_of (lodgings_of of_now held) ≡ items_on d.number frame (rows_of held) (frame_of (lodgings_of of held))
+    lie_now held = λ i page. (frame_by of_now held page ∙ seats (held_at page held)
+        ∙ (λ j. if is_item d.number (sym (row_found page held) j) then Some frame else sym (frame_by of held page) j)) i
+
+  -- the items of the dup at a place lie on the frame that is written there
+  pub items_moved : (held : List Held)
+      → All (λ d. d.place ≡ place
+      → frame_of (lodgings_of of_now held) ≡ items_on d.number frame (rows_of held) (frame_of (lodgings_of of held))) dups
+  items_moved held k e lt at = lie_now (get_or dups k e) at (each_has_number dups rise k e lt) (one_of_each_place dups rise k e lt) held

@@ -1,0 +1,336 @@
+-- The pages once two of them became the items of a new dup.
+use Rattle.ksm_pages.proofs.Names.{[], All, ap, ap₂, AreDups, AreKept, AreTied, AreWaiting, arith, at_others, cases_Bool, change_held, change_row, change_rows, cond, dup_numbered, DupRow, DupsState, elsewhere, Entry, false, find, find_all, frame_of, Frames, get_or, GuestPage, Held, held_at, held_of, inl, InPageOrder, InPlaceOrder, inr, Inside, is_live, IsStopped, length, length-set, let_out, lies_on, List, lodging, lodgings_of, mapped, MatchOption, MayPair, Merged, merged_into, None, not, Option, option_and_then, option_map, ordered_change, PagesValue, paired, place_kept, place_new, refl, Row, row_at, row_stopped, rows_new, rows_of, RowsView, same_page, same_page_eq, same_page_sym, seen, set, slice_get, Some, stands_at, subst, suc, sym, tied_made, tree_of, true, with_dup, with_item, with_new, zero, ℕ, ◌&&◌, ◌+◌, ◌<◌, ◌==◌, ◌||◌, ◌∙◌, ◌∷◌, ◌≡◌, ◌≢◌}
+use Rattle.std.specs.Vec.{with_item as with_frame}
+use Rattle.ksm_tree.specs.Dups.{rows_of as dup_rows}
+use Rattle.ksm_pages.proofs.Alike.{map_mapped}
+use Rattle.ksm_pages.proofs.Changing.{row_found, rows_changed}
+use Rattle.ksm_pages.proofs.Dropping.{find_kept, lodged_alike, none_live, not_vacant}
+use Rattle.ksm_pages.proofs.Filing.{differ_by}
+use Rattle.ksm_pages.proofs.Joined.{let_out_alone, own_not_merged, own_seat}
+use Rattle.ksm_pages.proofs.Leaving.{AreLawful, lies, lies_same, of_dup, of_page, row_seen, view_of}
+use Rattle.ksm_pages.proofs.Lodgings.{changed_to, found_changed, frame_by, lodged_changed, seat}
+use Rattle.ksm_pages.proofs.Paging.{kept_at_place}
+use Rattle.ksm_pages.proofs.Visiting.{lawful_numbered, seen_numbered}
+
+-- ---------------------------------------------------------------- what is kept at one place
+
+-- what is written is kept there
+pub set_there : (xs : List ℕ) (i x : ℕ) → i < length xs → slice_get (set xs i x) i ≡ Some x
+set_there [] i x lt = absurd (omega (arith, lt))
+set_there (y ∷ ys) zero x lt = refl
+set_there (y ∷ ys) (suc i) x lt = set_there ys i x (omega (arith, lt))
+
+-- and nothing else changes
+pub set_away : (xs : List ℕ) (i j x : ℕ) → j ≢ i → slice_get (set xs i x) j ≡ slice_get xs j
+set_away [] i j x away = refl
+set_away (y ∷ ys) zero zero x away = absurd (away refl)
+set_away (y ∷ ys) zero (suc j) x away = refl
+set_away (y ∷ ys) (suc i) zero x away = refl
+set_away (y ∷ ys) (suc i) (suc j) x away = set_away ys i j x (λ same. away (ap suc same))
+
+module _ (dups : List DupRow) (dup : DupRow) (frames : List ℕ) (frame : ℕ) where
+  abbrev of_now : ℕ → Option ℕ
+  of_now = lodging (with_dup dup dups) (set frames dup.place frame)
+
+  -- a new dup has the frame that is written at its place
+  pub lodged_new : All (λ d. d.number < dup.number) dups → dup.place < length frames → of_now dup.number ≡ Some frame
+  lodged_new fresh inside =
+      sym (kept_at_place (set frames dup.place frame) (dup_numbered dup.number (with_dup dup dups)))
+      ∙ ap (option_and_then (slice_get (set frames dup.place frame))) (place_new dup dups fresh)
+      ∙ set_there frames dup.place frame inside
+
+  -- and a dup that stands elsewhere keeps its own
+  pub lodged_kept : InPlaceOrder dups → (n : ℕ) → (n == dup.number) ≡ false
+      → ((e : DupRow) → dup_numbered n dups ≡ Some e → (e.place == dup.place) ≡ false) → of_now n ≡ lodging dups frames n
+  lodged_kept rise n other away =
+      sym (kept_at_place (set frames dup.place frame) (dup_numbered n (with_dup dup dups)))
+      ∙ ap (option_and_then (slice_get (set frames dup.place frame)))
+      (place_kept n dup dups rise other
+      ∙ ap (option_map (λ d. d.place))
+      (find_kept (λ d. d.number == n) (elsewhere dup.place) dups (dup_numbered n dups) refl (λ e is. ap not (away e is))))
+      ∙ kept_at_place (set frames dup.place frame) (dup_numbered n dups)
+      ∙ go (dup_numbered n dups) away
+    where
+      go : (o : Option DupRow) → ((e : DupRow) → o ≡ Some e → (e.place == dup.place) ≡ false)
+          → option_and_then (λ d. slice_get (set frames dup.place frame) d.place) o ≡ option_and_then (λ d. slice_get frames d.place) o
+      go None apart = refl
+      go (Some e) apart = set_away frames dup.place e.place frame (differ_by e.place dup.place (apart e refl))
+
+-- ---------------------------------------------------------------- two rows
+
+-- two changes of rows of two pages are one of both
+pub both_changed : (q p : GuestPage) (f : Row → Row) → ((r : Row) → (f r).page ≡ r.page) → same_page q p ≡ false → (rows : List Row)
+    → change_row p f (change_row q f rows) ≡ change_rows (λ r. same_page r.page q || same_page r.page p) f rows
+both_changed q p f same apart rows =
+    map_mapped (λ r. cond (same_page r.page p) (f r) r) (λ r. cond (same_page r.page q) (f r) r)
+    (λ r. cond (same_page r.page q || same_page r.page p) (f r) r) rows (λ k d lt. at (get_or rows k d))
+  where
+    at : (r : Row) → (λ (x : Row). cond (same_page x.page p) (f x) x) (cond (same_page r.page q) (f r) r)
+        ≡ cond (same_page r.page q || same_page r.page p) (f r) r
+    at r = elim (cases_Bool (same_page r.page q)) [
+      | inl here ↦
+          let away : same_page (f r).page p ≡ false = ap (λ x. same_page x p) (same r ∙ same_page_eq r.page q here) ∙ apart in
+          ap (λ b. (λ (x : Row). cond (same_page x.page p) (f x) x) (cond b (f r) r)) here ∙ ap (λ b. cond b (f (f r)) (f r)) away
+          ∙ ap (λ b. cond (b || same_page r.page p) (f r) r) (sym here)
+      | inr other ↦ ap (λ b. (λ (x : Row). cond (same_page x.page p) (f x) x) (cond b (f r) r)) other
+          ∙ ap (λ b. cond (b || same_page r.page p) (f r) r) (sym other)
+    ]
+
+-- two pages have rows, of which something is so
+abbrev IsOfBoth : (Row → Row → Type 0) → Option Row → Option Row → Type 0
+IsOfBoth P o q = MatchOption o (true ≡ false) (λ r. MatchOption q (true ≡ false) (P r))
+
+module _ (s : Inside) (p : PagesValue) (seen_as : view_of s ≡ p) (place : ℕ) (first second : GuestPage)
+    (may : IsOfBoth (MayPair (seen p) place) (row_at first p.rows) (row_at second p.rows)) where
+  row_is : (page : GuestPage) (o : Option Held) → held_at page s.rows.held ≡ o → row_at page p.rows ≡ option_map (λ h. h.row) o
+  row_is page o is = row_seen s p seen_as page ∙ ap (option_map (λ (h : Held). h.row)) is
+
+  may_first : (o : Option Held) → held_at first s.rows.held ≡ o
+      → IsOfBoth (MayPair (seen p) place) (option_map (λ h. h.row) o) (row_at second p.rows)
+  may_first o is = subst (λ r. IsOfBoth (MayPair (seen p) place) r (row_at second p.rows)) (row_is first o is) may
+
+  -- both pages have rows
+  pub first_there : held_at first s.rows.held ≡ None → true ≡ false
+  first_there gone = may_first None gone
+
+  pub second_there : held_at second s.rows.held ≡ None → true ≡ false
+  second_there gone = go (held_at first s.rows.held) refl
+    where
+      go : (o : Option Held) → held_at first s.rows.held ≡ o → true ≡ false
+      go None is = first_there is
+      go (Some a) is = subst (IsOfBoth (MayPair (seen p) place) (Some a.row)) (row_is second None gone) (may_first (Some a) is)
+
+  -- and the rows may become items
+  may_both : (a b : Held) → held_at first s.rows.held ≡ Some a → held_at second s.rows.held ≡ Some b
+      → MayPair (seen (view_of s)) place a.row b.row
+  may_both a b found also =
+      subst (λ v. MayPair (seen v) place a.row b.row) (sym seen_as)
+      (subst (IsOfBoth (MayPair (seen p) place) (Some a.row)) (row_is second (Some b) also) (may_first (Some a) found))
+
+-- the dups with a new one of two pages
+abbrev with_pair : DupRow → GuestPage → GuestPage → DupsState → DupsState
+with_pair row first second d =
+    let items = with_item second (first ∷ []) in
+    record d { dups = with_new (record { row = row; items = items }) d.dups; next = d.next + 1 }
+
+-- two pages with frames of their own come to be mapped from that of a dup
+abbrev pub both_merged : ℕ → GuestPage → GuestPage → List Held → List Held
+both_merged number first second held =
+    change_held second (mapped (Merged number) None) (change_held first (mapped (Merged number) None) held)
+
+-- the entries of two pages, which may become the items of a new dup
+pub record CanPair (s : Inside) (p : PagesValue) (place : ℕ) (first second : GuestPage) (pass : ℕ) (one other : Entry) : Type 0 where
+  pub kept : AreLawful s
+  pub seen_as : view_of s ≡ p
+  pub found : held_at first s.rows.held ≡ Some (held_of pass one)
+  pub also : held_at second s.rows.held ≡ Some (held_of pass other)
+  pub may : MayPair (seen (view_of s)) place (held_of pass one).row (held_of pass other).row
+
+-- groups get numbers for that, and else the pages stay as they were
+pub can_pair : (s : Inside) → AreLawful s → {p : PagesValue} → view_of s ≡ p → (place : ℕ) (first second : GuestPage)
+    → IsOfBoth (MayPair (seen p) place) (row_at first p.rows) (row_at second p.rows) → (pass : ℕ) (one other : Entry)
+    → held_at first s.rows.held ≡ Some (held_of pass one) → held_at second s.rows.held ≡ Some (held_of pass other)
+    → {later : DupsState} → later ≡ record s.dups { numbers = later.numbers }
+    → CanPair (record s { dups = later }) p place first second pass one other
+can_pair s are {p = p} seen_as place first second required pass one other found also {later = later} same =
+    let now = seen_numbered s later same ∙ seen_as in
+    record {
+      kept = lawful_numbered s later same are;
+      seen_as = now;
+      found = found;
+      also = also;
+      may = may_both (record s { dups = later }) p now place first second required (held_of pass one) (held_of pass other) found also;
+    }
+
+module _ {s : Inside} {p : PagesValue} {place : ℕ} {first second : GuestPage} {pass : ℕ} {one other : Entry}
+    (it : CanPair s p place first second pass one other) where
+  abbrev a : Held
+  a = held_of pass one
+
+  abbrev b : Held
+  b = held_of pass other
+
+  abbrev are : AreLawful s
+  are = it.kept
+
+  abbrev may : MayPair (seen (view_of s)) place a.row b.row
+  may = it.may
+
+  abbrev before : List Row
+  before = rows_of s.rows.held
+
+  at_first : first ≡ a.row.page
+  at_first = sym (of_page s are first a it.found)
+
+  at_second : second ≡ b.row.page
+  at_second = sym (of_page s are second b it.also)
+
+  -- no dup with items stands at the place
+  pub is_free : find (λ d. stands_at place d && is_live d) s.dups.dups ≡ None
+  is_free = none_live place before s.dups.dups are.tied may.vacant
+
+  -- the pages differ
+  pub are_apart : same_page first second ≡ false
+  are_apart = ap₂ same_page at_first at_second ∙ may.apart
+
+  own_first : seat (of_dup s) (Some a) ≡ Some one.at
+  own_first = own_seat (of_dup s) pass one may.first_alone
+
+  -- both lie on frames of their own
+  pub lay_first : frame_of p.lodgings first ≡ Some one.at
+  lay_first = sym (lies s are first a it.found p it.seen_as) ∙ own_first
+
+  pub lay_second : frame_of p.lodgings second ≡ Some other.at
+  lay_second = sym (lies s are second b it.also p it.seen_as) ∙ own_seat (of_dup s) pass other may.second_alone
+
+  module _ {tree : ℕ} (in_tree : (r : Row) → r.home ≡ other.home → tree ≡ tree_of s.knobs r) {made between later : DupsState}
+      (is_made : made ≡ with_pair (record { number = s.dups.next; place = place; tree = tree; bytes = b.row.bytes }) first second s.dups)
+      (lawful : AreDups s.dups)
+      (out : between ≡ record made { dups = let_out a.row.state a.row.page made.dups; waiting = between.waiting })
+      (stopped : IsStopped s.knobs a.row made.waiting between.waiting)
+      (out_too : later ≡ record between { dups = let_out b.row.state b.row.page between.dups; waiting = later.waiting })
+      (stopped_too : IsStopped s.knobs b.row between.waiting later.waiting) {number : ℕ} (is_number : number ≡ s.dups.next)
+      {rows : RowsView} (turned : rows ≡ record s.rows { held = both_merged number first second s.rows.held }) where
+    abbrev frame : ℕ
+    frame = one.at
+
+    abbrev dup : DupRow
+    dup = record { number = s.dups.next; place = place; tree = tree; bytes = b.row.bytes }
+
+    abbrev item : Row → Row
+    item r = record r { state = Merged s.dups.next }
+
+    abbrev into : Held → Held
+    into h = mapped (Merged s.dups.next) None h
+
+    abbrev half : List Held
+    half = change_held a.row.page into s.rows.held
+
+    -- ---------------------------------------------------------------- the dups
+
+    now_dups : later.dups ≡ with_new (record { row = dup; items = with_item b.row.page (a.row.page ∷ []) }) s.dups.dups
+    now_dups =
+        ap (λ (d : DupsState). d.dups) out_too ∙ let_out_alone b.row.state b.row.page between.dups may.second_alone
+        ∙ ap (λ (d : DupsState). d.dups) out ∙ let_out_alone a.row.state a.row.page made.dups may.first_alone
+        ∙ ap (λ (d : DupsState). d.dups) is_made
+        ∙ ap₂ (λ q r. with_new (record { row = dup; items = with_item r (q ∷ []) }) s.dups.dups) at_first at_second
+
+    now_rows : dup_rows later.dups ≡ with_dup dup (dup_rows s.dups.dups)
+    now_rows = ap dup_rows now_dups ∙ rows_new (record { row = dup; items = with_item b.row.page (a.row.page ∷ []) }) s.dups.dups
+
+    -- ---------------------------------------------------------------- the rows
+
+    now_held : rows.held ≡ change_held b.row.page into half
+    now_held =
+        ap (λ (r : RowsView). r.held) turned
+        ∙ ap (λ n. both_merged n first second s.rows.held) is_number
+        ∙ ap₂ (λ q r. both_merged s.dups.next q r s.rows.held) at_first at_second
+
+    found_first : held_at a.row.page s.rows.held ≡ Some a
+    found_first = ap (λ q. held_at q s.rows.held) (sym at_first) ∙ it.found
+
+    found_second : held_at b.row.page half ≡ Some b
+    found_second =
+        found_changed a.row.page into (λ h. refl) b.row.page s.rows.held
+        ∙ ap (λ c. cond c (option_map into (held_at b.row.page s.rows.held)) (held_at b.row.page s.rows.held))
+        (same_page_sym b.row.page a.row.page ∙ may.apart)
+        ∙ ap (λ q. held_at q s.rows.held) (sym at_second) ∙ it.also
+
+    half_rows : rows_of half ≡ change_row a.row.page item before
+    half_rows = rows_changed a.row.page into item s.rows.held (λ h. refl)
+
+    both_rows : rows_of rows.held ≡ change_row b.row.page item (rows_of half)
+    both_rows = ap rows_of now_held ∙ rows_changed b.row.page into item half (λ h. refl)
+
+    half_order : InPageOrder (rows_of half)
+    half_order = subst InPageOrder (sym half_rows) (ordered_change (λ r. same_page r.page a.row.page) item before (λ r. refl) are.order)
+
+    abbrev one_row : List Row
+    one_row = change_row a.row.page (λ _. item a.row) before
+
+    whole : rows_of rows.held ≡ change_row b.row.page (λ _. item b.row) one_row
+    whole =
+        both_rows
+        ∙ changed_to b.row.page item (rows_of half) b.row half_order
+        (row_found b.row.page half ∙ ap (option_map (λ (h : Held). h.row)) found_second)
+        ∙ ap (change_row b.row.page (λ _. item b.row)) (half_rows ∙ changed_to a.row.page item before a.row are.order may.first_is)
+
+    -- the pages are lawful
+    pub lawful_paired : AreKept s.shape s.knobs (rows_of rows.held) later (set s.frames.items place frame)
+    lawful_paired = record {
+      small = are.small;
+      order = subst InPageOrder (sym both_rows)
+          (ordered_change (λ r. same_page r.page b.row.page) item (rows_of half) (λ r. refl) half_order);
+      tied = subst (λ rs. AreTied rs later.dups) (sym whole)
+          (subst (AreTied (change_row b.row.page (λ _. item b.row) one_row)) (sym now_dups)
+          (tied_made before a.row b.row dup are.order may.first_is may.second_is (own_not_merged a.row.state may.first_alone)
+          (own_not_merged b.row.state may.second_alone) may.fresh s.dups.dups lawful.numbers_below are.tied));
+      places = ap (λ (d : DupsState). d.places) out_too ∙ ap (λ (d : DupsState). d.places) out ∙ ap (λ (d : DupsState). d.places) is_made
+          ∙ are.places;
+      waits = subst (λ rs. AreWaiting s.knobs rs later.waiting) (sym whole) (row_stopped s.knobs one_row between.waiting
+          (row_stopped s.knobs before s.dups.waiting are.waits between.waiting (item a.row) a.row may.first_is refl
+          (subst (λ w. IsStopped s.knobs a.row w between.waiting) (ap (λ (d : DupsState). d.waiting) is_made) stopped))
+          later.waiting (item b.row) b.row (at_others (item a.row) b.row.page before may.apart ∙ may.second_is) refl stopped_too);
+      room = length-set s.frames.items place frame ∙ are.room;
+    }
+
+    -- ---------------------------------------------------------------- the frames
+
+    abbrev of_new : ℕ → Option ℕ
+    of_new = lodging (dup_rows later.dups) (set s.frames.items place frame)
+
+    of_with : of_new ≡ lodging (with_dup dup (dup_rows s.dups.dups)) (set s.frames.items place frame)
+    of_with = ap (λ ds. lodging ds (set s.frames.items place frame)) now_rows
+
+    abbrev lay : Frames
+    lay = frame_of (lodgings_of (of_dup s) s.rows.held)
+
+    lies_first : lay a.row.page ≡ Some frame
+    lies_first = frame_by (of_dup s) s.rows.held a.row.page ∙ ap (seat (of_dup s)) found_first ∙ own_first
+
+    new_frame : of_new s.dups.next ≡ Some frame
+    new_frame =
+        ap (λ of. of s.dups.next) of_with
+        ∙ lodged_new (dup_rows s.dups.dups) dup s.frames.items frame lawful.numbers_below (subst (λ n. place < n) (sym are.room) may.inside)
+
+    others : frame_of (lodgings_of of_new s.rows.held) ≡ lay
+    others =
+        lodged_alike of_new (of_dup s) s.rows.held
+        (λ page r n there merged.
+        ap (λ of. of n) of_with
+        ∙ lodged_kept (dup_rows s.dups.dups) dup s.frames.items frame lawful.in_place_order n (unlike page r n there merged)
+        (not_vacant before (dup_rows s.dups.dups) place n page r may.vacant there merged))
+      where
+        unlike : (page : GuestPage) (r : Row) (n : ℕ) → row_at page before ≡ Some r → r.state ≡ Merged n → (n == s.dups.next) ≡ false
+        unlike page r n there merged = ap (merged_into s.dups.next) (sym merged)
+            ∙ find_all (λ x. same_page x.page page) (λ x. merged_into s.dups.next x.state ≡ false) before r there may.fresh
+
+    now_lie : frame_of (lodgings_of of_new rows.held) ≡ lies_on b.row.page (lay a.row.page) lay
+    now_lie =
+        ap (λ held. frame_of (lodgings_of of_new held)) now_held
+        ∙ lodged_changed b.row.page into (λ h. refl) of_new half b found_second
+        ∙ ap (lies_on b.row.page (of_new s.dups.next))
+        (lodged_changed a.row.page into (λ h. refl) of_new s.rows.held a found_first ∙ ap (lies_on a.row.page (of_new s.dups.next)) others)
+        ∙ ap (λ o. lies_on b.row.page o (lies_on a.row.page o lay)) (new_frame ∙ sym lies_first)
+        ∙ ap (lies_on b.row.page (lay a.row.page)) (lies_same a.row.page lay)
+
+    told : seen (view_of (record s { rows = rows; dups = later; frames = with_frame s.frames place frame }))
+        ≡ paired place a.row b.row (seen (view_of s))
+    told =
+        let changed = both_rows ∙ ap (change_row b.row.page item) half_rows
+        ∙ both_changed a.row.page b.row.page item (λ r. refl) may.apart before in
+        let dups = now_rows ∙ ap (λ t. with_dup (record dup { tree = t }) (dup_rows s.dups.dups)) (in_tree b.row refl) in
+        let next = ap (λ (d : DupsState). d.next) out_too ∙ ap (λ (d : DupsState). d.next) out ∙ ap (λ (d : DupsState). d.next) is_made in
+        let listed = ap (λ (r : RowsView). r.restless) turned in
+        λ i. record (seen (view_of s)) { rows = changed i; frame = now_lie i; dups = dups i; next = next i; restless = listed i }
+
+    -- what is seen of the pages
+    pub told_paired : let now = seen (view_of (record s { rows = rows; dups = later; frames = with_frame s.frames place frame })) in
+        IsOfBoth (λ r t. now ≡ paired place r t (seen p)) (row_at first p.rows) (row_at second p.rows)
+    told_paired =
+        let now = seen (view_of (record s { rows = rows; dups = later; frames = with_frame s.frames place frame })) in
+        let is = told ∙ ap (λ v. paired place a.row b.row (seen v)) it.seen_as in
+        let row_is : (page : GuestPage) (h : Held) → held_at page s.rows.held ≡ Some h → Some h.row ≡ row_at page p.rows =
+        λ page h there. sym (row_seen s p it.seen_as page ∙ ap (option_map (λ (g : Held). g.row)) there) in
+        subst (λ o. IsOfBoth (λ r t. now ≡ paired place r t (seen p)) o (row_at second p.rows)) (row_is first a it.found)
+        (subst (IsOfBoth (λ r t. now ≡ paired place r t (seen p)) (Some a.row)) (row_is second b it.also) is)

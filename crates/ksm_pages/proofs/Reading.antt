@@ -1,0 +1,72 @@
+-- What is read of the rows along their order.
+use Rattle.ksm_pages.proofs.Names.{after_cursor, Ahead, ahead_of, All, All-filter, ap, ap₂, AreAscending, AreFiled, At, Bool, comes_before, ComesTo, count_by, End, Entry, filter, find, find_all, get, get_or, GuestPage, Held, held_at, held_in, held_under, is_some, key_in, last_or, length, length-map, List, map, Named, None, Option, option_map, option_or, pages_ahead, passed_to, Reaches, refl, Row, rows_of, same_page, Slab, slice_get, slice_get-map, Some, subst, sym, ℕ, ◌&&◌, ◌-◌, ◌<◌, ◌∙◌, ◌≡◌}
+use Rattle.ksm_pages.specs.Ordered.{last_or as last_named}
+use Rattle.ksm_pages.proofs.Alike.{count_mapped, filter_mapped, find_mapped, map_mapped}
+use Rattle.ksm_pages.proofs.Filing.{all_stand, flag_under, held_found, page_under}
+
+-- an option that is mapped is full where it was
+pub some_mapped : {X Y : Type 0} (f : X → Y) (o : Option X) → is_some (option_map f o) ≡ is_some o
+some_mapped f None = refl
+some_mapped f (Some x) = refl
+
+abbrev page_of : Named → GuestPage
+page_of n = n.page
+
+-- visits that come to a page of the order come to that page
+pub reached : (ahead : List Named) (visits : ℕ) (to : Ahead) → ComesTo ahead visits to → Reaches (map page_of ahead) visits to
+reached ahead visits (At page) comes = (subst (λ n. visits < n) (sym (length-map ahead page_of)) comes.0, slice_get-map page_of ahead (visits - 1) ∙ comes.1)
+reached ahead visits (End made) comes = (comes.0 ∙ sym (length-map ahead page_of), comes.1)
+
+pub last_mapped : (cursor : Option GuestPage) (named : List Named) → last_named cursor named ≡ last_or cursor (map page_of named)
+last_mapped cursor named =
+    ap (λ o. option_or o cursor) (sym (slice_get-map page_of named (length named - 1)))
+    ∙ ap (λ n. option_or (slice_get (map page_of named) (n - 1)) cursor) (sym (length-map named page_of))
+
+module _ (pass : ℕ) (slab : Slab Entry) (order : List Named) (rise : AreAscending order) (filed : AreFiled slab order) where
+  abbrev row_by : Named → Row
+  row_by n = (held_under pass (get slab n.key)).row
+
+  all_pages : All (λ n. (row_by n).page ≡ n.page) order
+  all_pages k d lt = page_under pass slab (get_or order k d) (all_stand slab order rise filed k d lt)
+
+  all_flags : All (λ n. (row_by n).mergeable ≡ n.mergeable) order
+  all_flags k d lt = flag_under pass slab (get_or order k d) (all_stand slab order rise filed k d lt)
+
+  -- the rows, one for each page of the order
+  rows_by : rows_of (held_in pass slab order) ≡ map row_by order
+  rows_by = map_mapped (λ (h : Held). h.row) (λ n. held_under pass (get slab n.key)) row_by order (λ k d lt. refl)
+
+  -- a page has a row where it has a key
+  pub known_by : (page : GuestPage) → is_some (held_at page (held_in pass slab order)) ≡ is_some (key_in order page)
+  known_by page =
+      ap is_some (held_found slab order rise filed pass page)
+      ∙ some_mapped (λ (n : Named). held_under pass (get slab n.key)) (find (λ n. same_page n.page page) order)
+      ∙ sym (some_mapped (λ (n : Named). n.key) (find (λ n. same_page n.page page) order))
+
+  -- the first page that passes
+  pub page_found : (test : GuestPage → Bool) → option_map (λ r. r.page) (find (λ r. test r.page) (rows_of (held_in pass slab order))) ≡ option_map page_of (find (λ n. test n.page) order)
+  page_found test =
+      ap (λ rows. option_map (λ (r : Row). r.page) (find (λ r. test r.page) rows)) rows_by
+      ∙ ap (option_map (λ (r : Row). r.page)) (find_mapped row_by (λ r. test r.page) (λ n. test n.page) order (λ k d lt. ap test (all_pages k d lt)))
+      ∙ go (find (λ n. test n.page) order) refl
+    where
+      go : (o : Option Named) → find (λ n. test n.page) order ≡ o → option_map (λ (r : Row). r.page) (option_map row_by o) ≡ option_map page_of o
+      go None is = refl
+      go (Some n) is = ap Some (find_all (λ m. test m.page) (λ m. (row_by m).page ≡ m.page) order n is all_pages)
+
+  -- how many rows a scan visits
+  pub flags_counted : count_by (λ r. r.mergeable) (rows_of (held_in pass slab order)) ≡ count_by (λ n. n.mergeable) order
+  flags_counted = ap (count_by (λ r. r.mergeable)) rows_by ∙ count_mapped row_by (λ r. r.mergeable) (λ n. n.mergeable) order all_flags
+
+  -- the pages that a scan visits behind a cursor
+  pub ahead_by : (cursor : Option GuestPage) → pages_ahead cursor (rows_of (held_in pass slab order)) ≡ map page_of (ahead_of cursor order)
+  ahead_by cursor =
+      ap (pages_ahead cursor) rows_by
+      ∙ ap (map (λ (r : Row). r.page)) (filter_mapped row_by (λ r. r.mergeable && after_cursor cursor r.page) (λ n. n.mergeable && after_cursor cursor n.page) order (λ k d lt. ap₂ (λ b p. b && after_cursor cursor p) (all_flags k d lt) (all_pages k d lt)))
+      ∙ map_mapped (λ (r : Row). r.page) row_by page_of (ahead_of cursor order) (All-filter (λ n. n.mergeable && after_cursor cursor n.page) (λ n. (row_by n).page ≡ n.page) order all_pages)
+
+  -- and before a page
+  pub between_by : (cursor : Option GuestPage) (page : GuestPage) → filter (λ p. comes_before p page) (pages_ahead cursor (rows_of (held_in pass slab order))) ≡ map page_of (passed_to cursor page order)
+  between_by cursor page =
+      ap (filter (λ p. comes_before p page)) (ahead_by cursor)
+      ∙ filter_mapped page_of (λ p. comes_before p page) (λ n. comes_before n.page page) (ahead_of cursor order) (λ k d lt. refl)

@@ -1,0 +1,100 @@
+-- Rows that wait no more, and the row of a page that has one.
+use Rattle.ksm_pages.proofs.Names.{All, ap, Bool, bytes_eq, bytes_eq-Decides, false, frame_seen, get_or, GuestPage, Held, held_at, Inside, is_some, IsKnown, let_go, List, map, Merged, merged_into, None, Option, option_map, PageState, PagesValue, Private, private_state, refl, Row, settled, settled_state, shared_state, Some, stored, sym, true, true≢false, unshared, Waiting, waiting_state, Zero, ℕ, ◌&&◌, ◌∙◌, ◌≡◌}
+use Rattle.ksm_pages.proofs.Alike.{map_alike}
+use Rattle.ksm_pages.proofs.Leaving.{row_seen, view_of}
+
+-- a row with a frame of its own is Private once it is settled
+pub rests : (state : PageState) → shared_state state ≡ false → settled_state state ≡ Private
+rests Private alone = refl
+rests Waiting alone = refl
+rests (Merged n) alone = absurd (true≢false alone)
+rests Zero alone = absurd (true≢false alone)
+
+and_right : (a b : Bool) → b ≡ true → a ≡ (a && b)
+and_right true b is = sym is
+and_right false b is = refl
+
+and_never : (a b : Bool) → b ≡ false → false ≡ (a && b)
+and_never true b is = sym is
+and_never false b is = refl
+
+-- a store of the same bytes settles the row
+pub stored_same : (bytes : List ℕ) (r : Row) → shared_state r.state ≡ false → bytes_eq r.bytes bytes ≡ true → settled r ≡ stored bytes r
+stored_same bytes r alone same =
+    λ i. record r {
+      bytes = (bytes_eq-Decides r.bytes bytes).0 same i;
+      unchanged = and_right r.unchanged (bytes_eq r.bytes bytes) same i;
+      state = rests r.state alone i;
+    }
+
+-- a store of other bytes writes them too
+pub stored_other : (bytes : List ℕ) (r : Row) → shared_state r.state ≡ false → bytes_eq r.bytes bytes ≡ false
+    → record (settled r) { bytes = bytes; unchanged = false } ≡ stored bytes r
+stored_other bytes r alone other =
+    λ i. record r { bytes = bytes; unchanged = and_never r.unchanged (bytes_eq r.bytes bytes) other i; state = rests r.state alone i }
+
+-- a row that is let go
+pub went : (r : Row) → shared_state r.state ≡ false → record (settled r) { unchanged = false; mergeable = false } ≡ let_go r
+went r alone = λ i. record r { mergeable = false; unchanged = false; state = rests r.state alone i }
+
+-- where a page lies does not hang on whether it waits
+pub lies_settled : (of_dup : ℕ → Option ℕ) (state : PageState) (own : Option ℕ)
+    → frame_seen of_dup (settled_state state) own ≡ frame_seen of_dup state own
+lies_settled of_dup Private own = refl
+lies_settled of_dup Waiting own = refl
+lies_settled of_dup (Merged n) own = refl
+lies_settled of_dup Zero own = refl
+
+-- settled twice is settled
+pub settled_again : (state : PageState) → settled_state (settled_state state) ≡ settled_state state
+settled_again Private = refl
+settled_again Waiting = refl
+settled_again (Merged n) = refl
+settled_again Zero = refl
+
+-- what is settled does not wait
+pub settled_still : (state : PageState) → waiting_state (settled_state state) ≡ false
+settled_still Private = refl
+settled_still Waiting = refl
+settled_still (Merged n) = refl
+settled_still Zero = refl
+
+settled_same : (number : ℕ) (state : PageState) → merged_into number (settled_state state) ≡ merged_into number state
+settled_same number Private = refl
+settled_same number Waiting = refl
+settled_same number (Merged n) = refl
+settled_same number Zero = refl
+
+-- two states that are settled to one are of the same dup
+pub item_alike : (number : ℕ) (a b : PageState) → settled_state a ≡ settled_state b → merged_into number a ≡ merged_into number b
+item_alike number a b like = sym (settled_same number a) ∙ ap (merged_into number) like ∙ settled_same number b
+
+-- and a page in them lies on the same frame
+pub lies_alike : (of_dup : ℕ → Option ℕ) (a b : PageState) (own : Option ℕ) → settled_state a ≡ settled_state b
+    → frame_seen of_dup a own ≡ frame_seen of_dup b own
+lies_alike of_dup a b own like = sym (lies_settled of_dup a own) ∙ ap (λ st. frame_seen of_dup st own) like ∙ lies_settled of_dup b own
+
+-- rows with frames of their own are unshared where they are settled and not unchanged
+pub all_unshared : (rows : List Row) → All (λ r. shared_state r.state ≡ false) rows
+    → map (λ r. record (settled r) { unchanged = false }) rows ≡ map unshared rows
+all_unshared rows alone =
+    map_alike (λ r. record (settled r) { unchanged = false }) unshared rows
+    (λ k d lt. ap (λ state. record (get_or rows k d) { unchanged = false; state = state }) (rests (get_or rows k d).state (alone k d lt)))
+
+-- a Private page does not wait
+pub private_still : (state : PageState) → private_state state ≡ true → waiting_state state ≡ false
+private_still Private is = refl
+private_still Waiting is = absurd (true≢false (sym is))
+private_still (Merged n) is = refl
+private_still Zero is = refl
+
+module _ (s : Inside) (p : PagesValue) (seen_as : view_of s ≡ p) (page : GuestPage) where
+  -- the row of a page that has one
+  pub known_row : IsKnown page p.rows → (h : Held) × (held_at page s.rows.held ≡ Some h)
+  known_row known = go (held_at page s.rows.held) refl
+    where
+      go : (o : Option Held) → held_at page s.rows.held ≡ o → (h : Held) × (held_at page s.rows.held ≡ Some h)
+      go None is =
+          absurd (true≢false (sym known ∙ ap is_some (row_seen s p seen_as page)
+          ∙ ap (λ o. is_some (option_map (λ (g : Held). g.row) o)) is))
+      go (Some h) is = (h, is)

@@ -1,0 +1,88 @@
+-- Spots in the order of their pages: the pages of them, once one was put in, written or taken away.
+use Rattle.ksm_pages.proofs.Names.{[], and_parts, ap, ap₂, AreInOrder, arith, Bool, cases_Bool, comes_before, cond, Entry, filter, find, find_filter, find_passes, get, get_or, GuestPage, has_item, if◌then◌else◌, inl, inr, is_restless, is_some, is_useless, IsCalm, length, length-map, List, map, map-append, None, not, not-true, Option, pages_of, pages_ordered, refl, same_page, same_page_eq, Slab, Some, Spot, subst, sym, true, true≢false, with_found, with_item, ◌++◌, ◌∙◌, ◌∷◌, ◌≡◌, ◌⊎◌}
+use Rattle.ksm_rmap.specs.Items.{AreAscending}
+use Rattle.ksm_pages.proofs.Alike.{filter_mapped, map_mapped, pairs_mapped}
+use Rattle.ksm_pages.proofs.Keyed.{with_rises}
+
+abbrev pub page_of : Spot → GuestPage
+page_of s = s.page
+
+-- the pages of spots in order ascend
+pub pages_rise : (spots : List Spot) → AreInOrder spots → AreAscending (pages_of spots)
+pages_rise spots rise = pairs_mapped (λ s t. comes_before s.page t.page ≡ true) (λ p q. comes_before p q ≡ true) (λ s. s ≡ s) page_of (λ s t e f less. less) spots (λ k d lt. refl) rise
+
+-- the pages of those that pass
+pub pages_kept : (test : GuestPage → Bool) (spots : List Spot) → filter test (pages_of spots) ≡ pages_of (filter (λ s. test s.page) spots)
+pages_kept test spots = filter_mapped page_of test (λ s. test s.page) spots (λ k d lt. refl)
+
+pub many_kept : (test : GuestPage → Bool) (spots : List Spot) → length (filter (λ s. test s.page) spots) ≡ length (filter test (pages_of spots))
+many_kept test spots = sym (length-map (filter (λ (s : Spot). test s.page) spots) page_of) ∙ ap length (sym (pages_kept test spots))
+
+-- a page is listed where a spot of it is found
+pub listed_found : (page : GuestPage) (spots : List Spot) → has_item page (pages_of spots) ≡ is_some (find (λ s. same_page s.page page) spots)
+listed_found page [] = refl
+listed_found page (s ∷ ss) =
+    let rest = listed_found page ss in
+    elim (cases_Bool (same_page s.page page)) [
+      | inl same ↦ let e = same in grind (arith, e)
+      | inr differ ↦ let e = differ in grind (arith, e, rest)
+    ]
+
+module _ (spot : Spot) (spots : List Spot) (rise : AreInOrder spots) where
+  abbrev before : Spot → Bool
+  before s = comes_before s.page spot.page
+
+  abbrev put_in : List Spot
+  put_in = filter before spots ++ spot ∷ filter (λ s. comes_before spot.page s.page) spots
+
+  -- a spot whose page is not there is put in at its place
+  pub put_pages : pages_of put_in ≡ with_item spot.page (pages_of spots)
+  put_pages =
+      map-append page_of (filter before spots) (spot ∷ filter (λ s. comes_before spot.page s.page) spots)
+      ∙ ap₂ (λ front back. front ++ spot.page ∷ back) (sym (pages_kept (λ p. comes_before p spot.page) spots)) (sym (pages_kept (comes_before spot.page) spots))
+
+  pub put_rises : AreInOrder put_in
+  put_rises = with_rises page_of spot.page spot spots refl rise
+
+  abbrev written : List Spot
+  written = map (λ s. if same_page s.page spot.page then spot else s) spots
+
+  same_pages : pages_of written ≡ pages_of spots
+  same_pages = map_mapped page_of (λ s. if same_page s.page spot.page then spot else s) page_of spots (λ k d lt. here (get_or spots k d))
+    where
+      here : (s : Spot) → (if same_page s.page spot.page then spot else s).page ≡ s.page
+      here s = elim (cases_Bool (same_page s.page spot.page)) [
+        | inl same ↦ ap (λ b. (cond b spot s).page) same ∙ sym (same_page_eq s.page spot.page same)
+        | inr differ ↦ ap (λ b. (cond b spot s).page) differ
+      ]
+
+  -- a spot whose page is there is written in its stead
+  pub written_pages : has_item spot.page (pages_of spots) ≡ true → pages_of written ≡ with_item spot.page (pages_of spots)
+  written_pages has = same_pages ∙ with_found comes_before same_page pages_ordered spot.page (pages_of spots) (pages_rise spots rise) has
+
+-- a page that is swept out of the list has a row that no visit changes
+calm_of : (entries : Slab Entry) (s : Spot) → is_useless s (get entries s.key) ≡ true → IsCalm entries s.page
+calm_of entries s useless = go (get entries s.key) refl useless
+  where
+    go : (o : Option Entry) → get entries s.key ≡ o → is_useless s o ≡ true → IsCalm entries s.page
+    go None is none = absurd (true≢false (sym none))
+    go (Some e) is both =
+        let parts = and_parts (same_page e.page s.page) (not (is_restless e)) both in
+        record { key = s.key; entry = e; stands = is; of_page = same_page_eq e.page s.page parts.0; calm = not-true (is_restless e) parts.1 }
+
+pub swept : (entries : Slab Entry) (spots : List Spot) (page : GuestPage) → has_item page (pages_of spots) ≡ true
+    → (has_item page (pages_of (filter (λ s. not (is_useless s (get entries s.key))) spots)) ≡ true) ⊎ IsCalm entries page
+swept entries spots page has = go (find it spots) refl (sym (listed_found page spots) ∙ has)
+  where
+    it : Spot → Bool
+    it s = same_page s.page page
+
+    keeps : Spot → Bool
+    keeps s = not (is_useless s (get entries s.key))
+
+    go : (o : Option Spot) → find it spots ≡ o → is_some o ≡ true → (has_item page (pages_of (filter keeps spots)) ≡ true) ⊎ IsCalm entries page
+    go None is none = absurd (true≢false (sym none))
+    go (Some s) is some = elim (cases_Bool (is_useless s (get entries s.key))) [
+      | inl useless ↦ inr (subst (IsCalm entries) (same_page_eq s.page page (find_passes it spots s is)) (calm_of entries s useless))
+      | inr kept ↦ inl (listed_found page (filter keeps spots) ∙ ap is_some (find_filter it keeps spots s is (ap not kept)))
+    ]

@@ -1,0 +1,69 @@
+-- The tally of rows once one came, went or changed.
+use Rattle.ksm_pages.proofs.Names.{ap, arith, Bool, CanMove, change_row, count_by, count_by-le-length, GuestPage, if◌then◌else◌, InPageOrder, IsMoved, IsTally, length, length-map, List, merged_state, None, one_if, Private, refl, Row, row_at, same_page, Some, Tally, waiting_state, with_row, without_page, zero_state, ℕ, ◌+◌, ◌<◌, ◌^◌, ◌≡◌, ◌≤◌}
+use Rattle.ksm_pages.proofs.Found.{count_one_changed, count_one_gone, counted_once}
+use Rattle.ksm_pages.proofs.Keyed.{count_with}
+
+abbrev page_of : Row → GuestPage
+page_of r = r.page
+
+module _ (rows : List Row) (rise : InPageOrder rows) (page : GuestPage) (old : Row) (found : row_at page rows ≡ Some old) (tally later : Tally) (are : IsTally rows tally) where
+  -- the row of a page went to another state
+  module _ (new : Row) where
+    abbrev changed : List Row
+    changed = change_row page (λ _. new) rows
+
+    counts : (p : Row → Bool) → count_by p changed + one_if (p old) ≡ count_by p rows + one_if (p new)
+    counts p = count_one_changed page_of page p rows old rise found (λ _. new)
+
+    most : (p : Row → Bool) → count_by p changed ≤ length rows
+    most p =
+        let le = count_by-le-length p changed in
+        let same = length-map rows (λ r. if same_page r.page page then new else r) in
+        omega (arith, le, same)
+
+    room : length rows < 2 ^ 64 → (p : Row → Bool) (n : ℕ) → n ≡ count_by p rows → n + one_if (p new) < 2 ^ 64 + one_if (p old)
+    room few p n is = let c = counts p in let m = most p in omega (arith, c, m, is, few)
+
+    has : (p : Row → Bool) (n : ℕ) → n ≡ count_by p rows → one_if (p old) ≤ n
+    has p n is = let c = counted_once page_of page p rows old rise found in omega (arith, c, is)
+
+    pub can_move : length rows < 2 ^ 64 → CanMove old.state new.state tally
+    can_move few = record {
+      merged = has (λ r. merged_state r.state) tally.merged are.merged;
+      merged_room = room few (λ r. merged_state r.state) tally.merged are.merged;
+      waiting = has (λ r. waiting_state r.state) tally.waiting are.waiting;
+      waiting_room = room few (λ r. waiting_state r.state) tally.waiting are.waiting;
+      zero = has (λ r. zero_state r.state) tally.zero are.zero;
+      zero_room = room few (λ r. zero_state r.state) tally.zero are.zero;
+    }
+
+    meets : (p : Row → Bool) (n m : ℕ) → n ≡ count_by p rows → m + one_if (p old) ≡ n + one_if (p new) → m ≡ count_by p changed
+    meets p n m is moved = let c = counts p in omega (arith, c, is, moved)
+
+    pub tally_changed : IsMoved old.state new.state tally later → IsTally changed later
+    tally_changed moved = record {
+      merged = meets (λ r. merged_state r.state) tally.merged later.merged are.merged moved.merged;
+      waiting = meets (λ r. waiting_state r.state) tally.waiting later.waiting are.waiting moved.waiting;
+      zero = meets (λ r. zero_state r.state) tally.zero later.zero are.zero moved.zero;
+    }
+
+  -- the row of a page went
+  left : (p : Row → Bool) (n m : ℕ) → n ≡ count_by p rows → m + one_if (p old) ≡ n + 0 → m ≡ count_by p (without_page page rows)
+  left p n m is moved = let c = count_one_gone page_of page p rows old rise found in omega (arith, c, is, moved)
+
+  pub tally_gone : IsMoved old.state Private tally later → IsTally (without_page page rows) later
+  tally_gone moved = record {
+    merged = left (λ r. merged_state r.state) tally.merged later.merged are.merged moved.merged;
+    waiting = left (λ r. waiting_state r.state) tally.waiting later.waiting are.waiting moved.waiting;
+    zero = left (λ r. zero_state r.state) tally.zero later.zero are.zero moved.zero;
+  }
+
+-- a Private row came, which is not counted
+pub tally_put : (rows : List Row) (row : Row) (tally : Tally) → InPageOrder rows → row_at row.page rows ≡ None → row.state ≡ Private → IsTally rows tally → IsTally (with_row row rows) tally
+tally_put rows row tally rise absent alone are =
+    let more : (p : Row → Bool) → count_by p (with_row row rows) ≡ count_by p rows + one_if (p row) = λ p. count_with page_of row.page p row rows refl rise absent in
+    record {
+      merged = let m = more (λ r. merged_state r.state) in let n = ap (λ s. one_if (merged_state s)) alone in omega (arith, m, n, are.merged);
+      waiting = let m = more (λ r. waiting_state r.state) in let n = ap (λ s. one_if (waiting_state s)) alone in omega (arith, m, n, are.waiting);
+      zero = let m = more (λ r. zero_state r.state) in let n = ap (λ s. one_if (zero_state s)) alone in omega (arith, m, n, are.zero);
+    }

@@ -1,0 +1,341 @@
+-- What each change of one row, found under its key, leaves: rows still, and what is seen of them.
+use Rattle.ksm_pages.proofs.Names.{ap, ap₂, AreBegun, AreFiled, AreListed, arith, Bool, CanMove, change_held, Decides-eqb, Entry, false, find, get, GuestPage, has_item, Held, held_at, held_in, held_of, held_under, IfSome, inl, InPageOrder, inr, is_of, is_own, is_restless, is_some, IsAddedTo, IsCalm, IsMoved, IsRows, IsTally, IsUnder, key_in, Kind, length, length-map, List, Listing, marked, Named, named_of, ne_eqb, None, number_left, option_map, own_state, PageState, Private, refl, row_at, rows_of, RowsView, same_page, same_page_refl, same_Some, settled_state, shared_state, Slab, Some, state_of, subst, sym, Tally, true, true≢false, Updates-with_value, Waiting, with_held, with_item, with_named, with_value, without_held, without_item, without_named, ℕ, ◌&&◌, ◌<◌, ◌==◌, ◌^◌, ◌∙◌, ◌≡◌, ◌≢◌, ◌≤◌, ◌⊎◌}
+use Rattle.slab.specs.Slab.{Updates as Fills}
+use Rattle.ksm_pages.specs.declared.row.Kind.TheVariants as kinds
+use Rattle.ksm_pages.specs.declared.rows.Rows.TheInside.{Inside}
+use Rattle.ksm_pages.proofs.Changing.{held_unchanged, marked_same, row_found, rows_changed, rows_with, rows_without}
+use Rattle.ksm_pages.proofs.Filing.{all_filled, elsewhere, filed_kept, filed_marked, filed_put, filed_taken, full, held_nowhere, held_there, key_nowhere, one_key, put, rows_rise, taken, written}
+use Rattle.ksm_pages.proofs.Gathering.{own_either}
+use Rattle.ksm_pages.proofs.Keyed.{absent_kept, with_rises, without_rises, write_rises}
+use Rattle.ksm_pages.proofs.Listings.{with_has, without_has}
+use Rattle.ksm_pages.proofs.Tallying.{can_move, tally_changed, tally_gone, tally_put}
+
+-- what is seen of the rows inside
+abbrev pub view_of : Inside → RowsView
+view_of s = record { held = held_in s.pass s.entries s.order; restless = s.restless; pass = s.pass }
+
+-- the rows inside are lawful
+abbrev pub AreRows : Inside → Type 0
+AreRows s = IsRows s.entries s.order s.restless s.tally s.pass
+
+-- both are not so at once
+pub never : {P : Type 0} (b : Bool) → (b && false) ≡ true → P
+never true both = absurd (true≢false (sym both))
+never false both = absurd (true≢false (sym both))
+
+-- a row that is not shared has a frame of its own
+pub own_kind : (kind : Kind) (number pass : ℕ) → shared_state (state_of kind number pass) ≡ false → kind ≡ kinds.Own
+own_kind kinds.Own number pass alone = refl
+own_kind kinds.Merged number pass alone = absurd (true≢false alone)
+own_kind kinds.Zero number pass alone = absurd (true≢false alone)
+
+-- and waits where its number is that of the pass
+pub waits_now : (kind : Kind) (pass : ℕ) → kind ≡ kinds.Own → state_of kind pass pass ≡ Waiting
+waits_now kind pass own = ap (λ k. state_of k pass pass) own ∙ ap own_state ((Decides-eqb pass pass).1 refl)
+
+-- but not where its number is another, as 0 is
+pub rests_apart : (number pass : ℕ) → number ≢ pass → state_of kinds.Own number pass ≡ Private
+rests_apart number pass apart = ap own_state (ne_eqb number pass apart)
+
+pub rests_now : (pass : ℕ) → 1 ≤ pass → state_of kinds.Own 0 pass ≡ Private
+rests_now pass counting = rests_apart 0 pass (λ same. absurd (omega (arith, same)))
+
+-- an entry that has forgotten its pass is settled in any
+pub rest_of : (kind : Kind) (number pass after : ℕ) → 1 ≤ after
+    → state_of kind (number_left kind number) after ≡ settled_state (state_of kind number pass)
+rest_of kinds.Own number pass after counting = rests_now after counting ∙ sym (own_either (λ state. settled_state state ≡ Private) refl refl (number == pass))
+rest_of kinds.Merged number pass after counting = refl
+rest_of kinds.Zero number pass after counting = refl
+
+-- and its number is not beyond the pass
+pub left_fits : (kind : Kind) (number pass : ℕ) → kind ≡ kinds.Own → number_left kind number ≤ pass
+left_fits kinds.Own number pass own = omega arith
+left_fits kinds.Merged number pass own = cc
+left_fits kinds.Zero number pass own = cc
+
+-- no change of a page without a row is seen
+pub nothing : (s : Inside) → AreRows s → (page : GuestPage) → None ≡ key_in s.order page → (f : Held → Held) (v : RowsView) → view_of s ≡ v → v ≡ record v { held = change_held page f v.held }
+nothing s are page told f v is =
+    let absent = held_nowhere s.entries s.order are.ascending are.filed s.pass page (sym told) in
+    sym is
+    ∙ ap (λ held. record { held = held; restless = s.restless; pass = s.pass }) (held_unchanged page f (held_in s.pass s.entries s.order) absent)
+    ∙ ap (λ (w : RowsView). record w { held = change_held page f w.held }) is
+
+-- what is listed later was listed before
+listed_known : (old now : Listing) (pages : List GuestPage) → now ≡ record old { pages = pages } → now.known ≡ true → old.known ≡ true
+listed_known old now pages is known = ap (λ (l : Listing). l.known) (sym is) ∙ known
+
+module _ (s : Inside) (are : AreRows s) where
+  abbrev held : List Held
+  held = held_in s.pass s.entries s.order
+
+  rise : InPageOrder (rows_of held)
+  rise = rows_rise s.entries s.order are.ascending are.filed s.pass
+
+  module _ {page : GuestPage} {key : ℕ} (there : IsUnder s.entries page key) {e : Entry} (stood : get s.entries key ≡ Some e) where
+    -- the entry is that of the page
+    of_page : e.page ≡ page
+    of_page = ap (λ (x : Entry). x.page) (same_Some e there.entry (sym stood ∙ there.stands)) ∙ there.of_page
+
+    -- which has a row
+    pub row_there : held_at page held ≡ Some (held_of s.pass e)
+    row_there = held_there s.entries s.order are.ascending are.filed s.pass page key e stood of_page
+
+    found_row : row_at page (rows_of held) ≡ Some (held_of s.pass e).row
+    found_row = row_found page held ∙ ap (option_map (λ (h : Held). h.row)) row_there
+
+    -- with a frame of its own, where it is not shared
+    pub own_there : (v : RowsView) → view_of s ≡ v → IfSome (held_at page v.held) (λ h. shared_state h.row.state ≡ false)
+        → e.kind ≡ kinds.Own
+    own_there v seen_as alone =
+        own_kind e.kind e.number s.pass
+        (subst (λ o. IfSome o (λ (h : Held). shared_state h.row.state ≡ false)) (ap (λ (w : RowsView). held_at page w.held) (sym seen_as) ∙ row_there) alone)
+
+    -- the tally can count it in another state
+    pub can_be : {from : PageState} → from ≡ state_of e.kind e.number s.pass → (state : PageState) → length s.order < 2 ^ 64
+        → CanMove from state s.tally
+    can_be is state few =
+        let old = (held_of s.pass e).row in
+        let many : length (rows_of held) < 2 ^ 64 =
+        omega (arith, length-map held (λ (h : Held). h.row), length-map s.order (λ (n : Named). held_under s.pass (get s.entries n.key)), few) in
+        subst (λ st. CanMove st state s.tally) (sym is) (can_move (rows_of held) rise page old found_row s.tally s.tally are.counted (record old { state = state }) many)
+
+    other_page : (k : ℕ) (f : Entry) → get s.entries k ≡ Some f → k ≢ key → same_page f.page page ≡ false
+    other_page k f stands apart =
+        ap (same_page f.page) (sym of_page) ∙ elsewhere s.entries s.order are.ascending are.filed key e stood k f stands apart
+
+    -- ---------------------------------------------------------------- the entry changed
+
+    module _ (e' : Entry) (same : e'.page ≡ e.page) where
+      abbrev later : Slab Entry
+      later = with_value s.entries key e'
+
+      fills : Fills s.entries later key (Some e')
+      fills = Updates-with_value s.entries key e' (ap is_some stood)
+
+      held_later : (f : Held → Held) → held_of s.pass e' ≡ f (held_of s.pass e) → held_in s.pass later s.order ≡ change_held page f held
+      held_later f is =
+          written s.entries s.order are.ascending are.filed key e stood later e' fills same s.pass f is
+          ∙ ap (λ p. change_held p f held) of_page
+
+      module _ {from to : PageState} {tally : Tally} (was : from ≡ state_of e.kind e.number s.pass) (is : to ≡ state_of e'.kind e'.number s.pass) (moved : IsMoved from to s.tally tally) where
+        tallied : IsTally (rows_of (held_in s.pass later s.order)) tally
+        tallied =
+            let new = (held_of s.pass e').row in
+            subst (λ rs. IsTally rs tally) (sym (ap rows_of (held_later (λ _. held_of s.pass e') refl) ∙ rows_changed page (λ _. held_of s.pass e') (λ _. new) held (λ h. refl)))
+            (tally_changed (rows_of held) rise page (held_of s.pass e).row found_row s.tally tally are.counted new (subst (λ st. IsMoved st new.state s.tally tally) was (subst (λ st. IsMoved from st s.tally tally) is moved)))
+
+      begun_still : (e'.kind ≡ kinds.Own → e'.number ≤ s.pass) → AreBegun later s.pass
+      begun_still fits = all_filled fills (λ k x. x.kind ≡ kinds.Own → x.number ≤ s.pass) fits (λ k f stands apart. are.begun k f stands)
+
+      listed_still : (pages : List GuestPage)
+          → ((k : ℕ) (f : Entry) → get s.entries k ≡ Some f → k ≢ key → is_restless f ≡ true → has_item f.page pages ≡ true)
+          → (is_restless e' ≡ true → has_item page pages ≡ true) → AreListed later pages
+      listed_still pages others own =
+          all_filled fills (λ k x. is_restless x ≡ true → has_item x.page pages ≡ true) (λ may. ap (λ p. has_item p pages) (same ∙ of_page) ∙ own may) others
+
+      -- where the page is listed from now on, it may be any
+      pub listed_now : (now : Listing) → IsAddedTo page s.restless now → now.known ≡ true → AreListed later now.pages
+      listed_now now added known = elim added [
+        | inl is ↦
+            subst (λ (l : Listing). AreListed later l.pages) (sym is)
+            (listed_still (with_item page s.restless.pages)
+            (λ k f stands apart may. with_has f.page page s.restless.pages (inr (are.listed (listed_known s.restless now _ is known) k f stands may)))
+            (λ may. with_has page page s.restless.pages (inl (same_page_refl page))))
+        | inr is ↦ absurd (true≢false (sym known ∙ ap (λ (l : Listing). l.known) is))
+      ]
+
+      -- where the page is not listed any more, no visit may change it
+      pub listed_less : (now : Listing) → now ≡ record s.restless { pages = without_item page s.restless.pages } → is_restless e' ≡ false
+          → now.known ≡ true → AreListed later now.pages
+      listed_less now is calm known =
+          subst (λ (l : Listing). AreListed later l.pages) (sym is)
+          (listed_still (without_item page s.restless.pages)
+          (λ k f stands apart may. without_has f.page page s.restless.pages (other_page k f stands apart) (are.listed (listed_known s.restless now _ is known) k f stands may))
+          (λ may. absurd (true≢false (sym may ∙ calm))))
+
+      -- the rows are lawful still, where a scan visits the page as before
+      pub still : e'.mergeable ≡ e.mergeable → (e'.kind ≡ kinds.Own → e'.number ≤ s.pass) → (now : Listing)
+          → (now.known ≡ true → AreListed later now.pages)
+          → {from to : PageState} {tally : Tally} → from ≡ state_of e.kind e.number s.pass → to ≡ state_of e'.kind e'.number s.pass
+          → IsMoved from to s.tally tally → IsRows later s.order now tally s.pass
+      still flag fits now listed was is moved = record {
+        ascending = are.ascending;
+        filed = filed_kept s.entries s.order are.ascending are.filed key e stood later e' fills same flag;
+        listed = listed;
+        counted = tallied was is moved;
+        begun = begun_still fits;
+        counting = are.counting;
+      }
+
+      -- also where no visit may change the row that could not before, and the list stays
+      pub kept : e'.mergeable ≡ e.mergeable → (e'.kind ≡ kinds.Own → e'.number ≤ s.pass) → (is_restless e' ≡ true → is_restless e ≡ true)
+          → (now : Listing) → now ≡ s.restless
+          → {from to : PageState} {tally : Tally} → from ≡ state_of e.kind e.number s.pass → to ≡ state_of e'.kind e'.number s.pass
+          → IsMoved from to s.tally tally → IsRows later s.order now tally s.pass
+      kept flag fits less now is =
+          still flag fits now (subst (λ (l : Listing). l.known ≡ true → AreListed later l.pages) (sym is)
+          (λ known. listed_still s.restless.pages (λ k f stands apart. are.listed known k f stands)
+          (λ may. ap (λ p. has_item p s.restless.pages) (sym of_page) ∙ are.listed known key e stood (less may))))
+
+      module _ (kind : e'.kind ≡ e.kind) (number : e'.number ≡ e.number) where
+        fits_still : e'.kind ≡ kinds.Own → e'.number ≤ s.pass
+        fits_still own = subst (λ n. n ≤ s.pass) (sym number) (are.begun key e stood (sym kind ∙ own))
+
+        same_state : state_of e.kind e.number s.pass ≡ state_of e'.kind e'.number s.pass
+        same_state = ap₂ (λ k n. state_of k n s.pass) (sym kind) (sym number)
+
+        unmoved : (state : PageState) → IsMoved state state s.tally s.tally
+        unmoved state = record { merged = refl; waiting = refl; zero = refl }
+
+        -- also where the row stays in its state
+        pub untouched : e'.mergeable ≡ e.mergeable → IsRows later s.order s.restless s.tally s.pass
+        untouched flag =
+            kept flag fits_still (λ may. sym (ap₂ (λ m k. m && is_own k) flag kind) ∙ may) s.restless refl refl same_state (unmoved _)
+
+        -- and the order is told whether a scan visits the page
+        pub still_marked : (now : Listing) → (now.known ≡ true → AreListed later now.pages)
+            → IsRows later (marked page e'.mergeable s.order) now s.tally s.pass
+        still_marked now listed = record {
+          ascending =
+              write_rises (λ (n : Named). n.page) page (λ n. record n { mergeable = e'.mergeable }) (λ n. refl) s.order are.ascending;
+          filed =
+              subst (λ p. AreFiled later (marked p e'.mergeable s.order)) of_page (filed_marked s.entries s.order are.ascending are.filed key e stood later e' fills same);
+          listed = listed;
+          counted =
+              subst (λ g. IsTally (rows_of g) s.tally) (sym (marked_same s.pass later page e'.mergeable s.order)) (tallied refl same_state (unmoved _));
+          begun = begun_still fits_still;
+          counting = are.counting;
+        }
+
+      -- what is seen of them
+      pub viewed : (f : Held → Held) → held_of s.pass e' ≡ f (held_of s.pass e) → (now : Listing) (v : RowsView) → view_of s ≡ v
+          → record { held = held_in s.pass later s.order; restless = now; pass = s.pass } ≡ record v { held = change_held page f v.held; restless = now }
+      viewed f is now v seen_as =
+          ap (λ held. record { held = held; restless = now; pass = s.pass }) (held_later f is)
+          ∙ ap (λ (w : RowsView). record w { held = change_held page f w.held; restless = now }) seen_as
+
+      pub viewed_same : (f : Held → Held) → held_of s.pass e' ≡ f (held_of s.pass e) → (now : Listing) → now ≡ s.restless → (v : RowsView)
+          → view_of s ≡ v
+          → record { held = held_in s.pass later s.order; restless = now; pass = s.pass } ≡ record v { held = change_held page f v.held }
+      viewed_same f is now same_list v seen_as =
+          viewed f is now v seen_as
+          ∙ ap (λ l. record v { held = change_held page f v.held; restless = l }) (same_list ∙ ap (λ (w : RowsView). w.restless) seen_as)
+
+      -- nor where a scan is told whether it visits the page
+      pub viewed_marked : (f : Held → Held) → held_of s.pass e' ≡ f (held_of s.pass e) → (m : Bool) (now : Listing) (v : RowsView)
+          → view_of s ≡ v
+          → record { held = held_in s.pass later (marked page m s.order); restless = now; pass = s.pass } ≡ record v { held = change_held page f v.held; restless = now }
+      viewed_marked f is m now v seen_as =
+          ap (λ held. record { held = held; restless = now; pass = s.pass }) (marked_same s.pass later page m s.order) ∙ viewed f is now v seen_as
+
+    -- ---------------------------------------------------------------- the entry went
+
+    module _ (later : Slab Entry) (fills : Fills s.entries later key None) where
+      -- what stands later stood before, under another key
+      stood_before : (k : ℕ) (f : Entry) → get later k ≡ Some f → (get s.entries k ≡ Some f) × (k ≢ key)
+      stood_before k f stands =
+          let apart : k ≢ key = λ at. full f (get later k) (ap (get later) at ∙ fills.changed) stands in
+          (sym (fills.others k apart) ∙ stands, apart)
+
+      held_gone : held_in s.pass later (without_named page s.order) ≡ without_held page held
+      held_gone =
+          subst (λ p. held_in s.pass later (without_named p s.order) ≡ without_held p held) of_page (taken s.entries s.order are.ascending are.filed key e stood later fills s.pass)
+
+      -- they are rows still
+      pub still_gone : (now : Listing) → now ≡ record s.restless { pages = without_item page s.restless.pages }
+          → {from : PageState} {tally : Tally} → from ≡ state_of e.kind e.number s.pass
+          → IsMoved from Private s.tally tally → IsRows later (without_named page s.order) now tally s.pass
+      still_gone now is {from} {tally} was moved = record {
+        ascending = without_rises (λ (n : Named). n.page) page s.order are.ascending;
+        filed =
+            subst (λ p. AreFiled later (without_named p s.order)) of_page (filed_taken s.entries s.order are.ascending are.filed key e stood later fills);
+        listed = subst (λ (l : Listing). l.known ≡ true → AreListed later l.pages) (sym is)
+            (λ known k f stands may. let was = stood_before k f stands in without_has f.page page s.restless.pages (other_page k f was.0 was.1) (are.listed known k f was.0 may));
+        counted = subst (λ rs. IsTally rs tally) (sym (ap rows_of held_gone ∙ rows_without page held))
+            (tally_gone (rows_of held) rise page (held_of s.pass e).row found_row s.tally tally are.counted (subst (λ st. IsMoved st Private s.tally tally) was moved));
+        begun = λ k f stands. are.begun k f (stood_before k f stands).0;
+        counting = are.counting;
+      }
+
+      pub viewed_gone : (now : Listing) (v : RowsView) → view_of s ≡ v
+          → record { held = held_in s.pass later (without_named page s.order); restless = now; pass = s.pass } ≡ record v { held = without_held page v.held; restless = now }
+      viewed_gone now v seen_as =
+          ap (λ held. record { held = held; restless = now; pass = s.pass }) held_gone ∙ ap (λ (w : RowsView). record w { held = without_held page w.held; restless = now }) seen_as
+
+-- no row of a page without one goes
+pub nothing_gone : (s : Inside) → AreRows s → (page : GuestPage) → None ≡ key_in s.order page → (v : RowsView) → view_of s ≡ v → v ≡ record v { held = without_held page v.held }
+nothing_gone s are page told v is =
+    let absent = held_nowhere s.entries s.order are.ascending are.filed s.pass page (sym told) in
+    sym is
+    ∙ ap (λ held. record { held = held; restless = s.restless; pass = s.pass }) (absent_kept (λ (h : Held). h.row.page) page (held_in s.pass s.entries s.order) absent)
+    ∙ ap (λ (w : RowsView). record w { held = without_held page w.held }) is
+
+-- a slab with more room has the same rows
+pub with_room : (s : Inside) → AreRows s → (room : Slab Entry) → room ≡ record s.entries { capacity = room.capacity } → IsRows room s.order s.restless s.tally s.pass
+with_room s are room is =
+    subst (λ slab. IsRows slab s.order s.restless s.tally s.pass) (sym is)
+    (record { ascending = are.ascending; filed = are.filed; listed = are.listed; counted = are.counted; begun = are.begun; counting = are.counting })
+
+pub seen_with_room : (s : Inside) (v : RowsView) → view_of s ≡ v → (room : Slab Entry)
+    → room ≡ record s.entries { capacity = room.capacity } → view_of (record s { entries = room }) ≡ v
+seen_with_room s v seen_as room is = ap (λ slab. view_of (record s { entries = slab })) is ∙ seen_as
+
+pub no_name : (s : Inside) → AreRows s → (page : GuestPage) (v : RowsView) → view_of s ≡ v → held_at page v.held ≡ None → find (is_of page) s.order ≡ None
+no_name s are page v seen_as absent = key_nowhere s.entries s.order are.ascending are.filed s.pass page (ap (λ (w : RowsView). held_at page w.held) seen_as ∙ absent)
+
+-- the row of a page came, with a frame of its own, under a key where nothing stood
+module _ (s : Inside) (are : AreRows s) (v : RowsView) (seen_as : view_of s ≡ v) (key : ℕ) (e : Entry) (later : Slab Entry) (vacant : get s.entries key ≡ None)
+    (absent : held_at e.page v.held ≡ None) (fills : Fills s.entries later key (Some e)) where
+  abbrev before : List Held
+  before = held_in s.pass s.entries s.order
+
+  held_absent : held_at e.page before ≡ None
+  held_absent = ap (λ (w : RowsView). held_at e.page w.held) seen_as ∙ absent
+
+  not_named : find (is_of e.page) s.order ≡ None
+  not_named = no_name s are e.page v seen_as absent
+
+  held_put : held_in s.pass later (with_named (named_of key e) s.order) ≡ with_held (held_of s.pass e) before
+  held_put = put s.entries s.order are.ascending are.filed key e later vacant not_named fills s.pass
+
+  -- they are rows still
+  pub still_put : state_of e.kind e.number s.pass ≡ Private → e.number ≤ s.pass → (now : Listing) → IsAddedTo e.page s.restless now → IsRows later (with_named (named_of key e) s.order) now s.tally s.pass
+  still_put alone fits now added = record {
+    ascending = with_rises (λ (n : Named). n.page) e.page (named_of key e) s.order refl are.ascending;
+    filed = filed_put s.entries s.order are.ascending are.filed key e later vacant not_named fills;
+    listed = λ known. elim added [
+      | inl is ↦
+          subst (λ (l : Listing). AreListed later l.pages) (sym is)
+          (all_filled fills (λ k x. is_restless x ≡ true → has_item x.page (with_item e.page s.restless.pages) ≡ true) (λ may. with_has e.page e.page s.restless.pages (inl (same_page_refl e.page)))
+          (λ k f stands apart may. with_has f.page e.page s.restless.pages (inr (are.listed (listed_known s.restless now _ is known) k f stands may))))
+      | inr is ↦ absurd (true≢false (sym known ∙ ap (λ (l : Listing). l.known) is))
+    ];
+    counted = subst (λ rs. IsTally rs s.tally) (sym (ap rows_of held_put ∙ rows_with (held_of s.pass e) before))
+        (tally_put (rows_of before) (held_of s.pass e).row s.tally (rows_rise s.entries s.order are.ascending are.filed s.pass) (row_found e.page before ∙ ap (option_map (λ h. h.row)) held_absent) alone are.counted);
+    begun = all_filled fills (λ k x. x.kind ≡ kinds.Own → x.number ≤ s.pass) (λ own. fits) (λ k f stands apart. are.begun k f stands);
+    counting = are.counting;
+  }
+
+  pub viewed_put : (now : Listing) → record { held = held_in s.pass later (with_named (named_of key e) s.order); restless = now; pass = s.pass } ≡ record v { held = with_held (held_of s.pass e) v.held; restless = now }
+  viewed_put now =
+      ap (λ held. record { held = held; restless = now; pass = s.pass }) held_put
+      ∙ ap (λ (w : RowsView). record w { held = with_held (held_of s.pass e) w.held; restless = now }) seen_as
+
+-- rows are rows still where their pages are listed otherwise
+pub relisted : (s : Inside) → AreRows s → (now : Listing) → (now.known ≡ true → AreListed s.entries now.pages) → IsRows s.entries s.order now s.tally s.pass
+relisted s are now listed = record { ascending = are.ascending; filed = are.filed; listed = listed; counted = are.counted; begun = are.begun; counting = are.counting }
+
+-- where pages whose rows no visit changes are listed no more
+pub swept_rows : (s : Inside) → AreRows s → (now : Listing) → now.known ≡ s.restless.known
+    → ((page : GuestPage) → has_item page s.restless.pages ≡ true → (has_item page now.pages ≡ true) ⊎ IsCalm s.entries page) → IsRows s.entries s.order now s.tally s.pass
+swept_rows s are now known kept = relisted s are now listed
+  where
+    listed : now.known ≡ true → AreListed s.entries now.pages
+    listed is k e stands may = elim (kept e.page (are.listed (sym known ∙ is) k e stands may)) [
+      | inl there ↦ there
+      | inr calm ↦
+          let at : calm.key ≡ k = one_key s.entries s.order are.filed calm.key k calm.entry e calm.stands stands calm.of_page in
+          let same : calm.entry ≡ e = same_Some calm.entry e (sym calm.stands ∙ ap (get s.entries) at ∙ stands) in
+          absurd (true≢false (sym may ∙ ap is_restless (sym same) ∙ calm.calm))
+    ]

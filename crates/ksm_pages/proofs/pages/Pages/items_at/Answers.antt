@@ -1,0 +1,18 @@
+use Rattle.ksm_pages.proofs.Names.{ap, find, has_items, items_of, option_map, PagesValue, rows_of, Some, sym, ◌&&◌, ◌==◌, ◌∙◌}
+use Rattle.ksm_pages.proofs.Paging.{items_none, items_there}
+use Rattle.ksm_pages.proofs.pages.Pages.items_at.Goals as goal
+
+pub returns-in-Some : goal.returns-in-Some
+returns-in-Some c =
+    let s = c.self.inside in
+    ap (λ (v : PagesValue). option_map (items_of v.rows) (find (λ d. d.place == c.args.place && has_items v.rows d) v.dups))
+    (sym c.self.view_is)
+    ∙ items_there (rows_of s.rows.held) s.dups.dups c.args.place c.self.invariant.tied c.in-Some.field-0 c.at.ensures.lawful.in_place_order
+    c.in-Some.ensures
+    ∙ ap Some (sym c.items_at.ensures)
+
+pub returns-in-None : goal.returns-in-None
+returns-in-None c =
+    let s = c.self.inside in
+    ap (λ (v : PagesValue). find (λ d. d.place == c.args.place && has_items v.rows d) v.dups) (sym c.self.view_is)
+    ∙ items_none (rows_of s.rows.held) s.dups.dups c.args.place c.self.invariant.tied c.in-None.ensures

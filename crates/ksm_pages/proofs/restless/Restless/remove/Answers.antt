@@ -1,0 +1,40 @@
+use Rattle.ksm_pages.proofs.Names.{ap, comes_before, filter, find, get_or, is_some, length, Listing, None, not, pages_of, refl, remove, same_page, Spot, sym, true, without_item, ◌<◌, ◌∙◌, ◌≡◌}
+use Rattle.ksm_pages.proofs.Keyed.{absent_kept, none_of, remove_at, without_rises}
+use Rattle.ksm_pages.proofs.Spots.{page_of, pages_kept}
+use Rattle.ksm_pages.proofs.restless.Restless.remove.Goals as goal
+
+-- the spots that are left
+left : (c : goal.After-remove) → c.remove.new.self.items ≡ filter (λ s. not (same_page s.page c.args.page)) c.self.inside.spots.items
+left c =
+    let page = c.args.page in
+    let spots = c.self.inside.spots.items in
+    let d = c.remove.result in
+    let seen = c.as_slice-2.ensures.value in
+    let place = c.place_of-at.ensures.count ∙ ap (λ ss. length (filter (λ s. comes_before s.page page) ss)) c.as_slice.ensures.value in
+    let within : c.place_of-at.result < length spots = rw (← seen) (c.if-found.ensures.within refl) in
+    let here : same_page (get_or spots c.place_of-at.result d).page page ≡ true = rw (← seen) (c.if-found.ensures.here refl d) in
+    c.remove.ensures.items
+    ∙ ap (remove spots) place
+    ∙ remove_at page_of page spots d c.self.invariant (rw (← place) within) (rw (← place) here)
+
+pub invariant_of-self : goal.invariant_of-self
+invariant_of-self c = rw (left c) (without_rises page_of c.args.page c.self.inside.spots.items c.self.invariant)
+
+pub returns-then-found : goal.returns-then-found
+returns-then-found c =
+    let page = c.args.page in
+    let spots = c.self.inside.spots.items in
+    ap (λ ss. record { pages = pages_of ss; known = c.self.inside.known }) (left c)
+    ∙ ap (λ ps. record { pages = ps; known = c.self.inside.known }) (sym (pages_kept (λ p. not (same_page p page)) spots))
+    ∙ ap (λ (l : Listing). record l { pages = without_item page l.pages }) c.self.view_is
+
+pub returns-else-found : goal.returns-else-found
+returns-else-found c =
+    let page = c.args.page in
+    let spots = c.self.inside.spots.items in
+    let absent : find (λ s. same_page s.page page) spots ≡ None =
+    none_of (find (λ s. same_page s.page page) spots) (ap (λ ss. is_some (find (λ (s : Spot). same_page s.page page) ss)) (sym c.as_slice-2.ensures.value) ∙ sym c.stands_at-found.ensures.found ∙ c.if-found.false) in
+    let same : pages_of spots ≡ without_item page (pages_of spots) = ap pages_of (absent_kept page_of page spots absent) ∙ sym (pages_kept (λ p. not (same_page p page)) spots) in
+    sym c.self.view_is
+    ∙ ap (λ ps. record { pages = ps; known = c.self.inside.known }) same
+    ∙ ap (λ (l : Listing). record l { pages = without_item page l.pages }) c.self.view_is

@@ -1,0 +1,17 @@
+use Rattle.ksm_pages.proofs.Names.{after_cursor, ap, find, Named, option_map, Row, rows_of, RowsView, sym, ◌∙◌}
+use Rattle.ksm_pages.proofs.Reading.{page_found}
+use Rattle.ksm_pages.proofs.rows.Rows.after.Goals as goal
+
+pub returns-in-Some : goal.returns-in-Some
+returns-in-Some c =
+    let s = c.self.inside in
+    ap (option_map (λ (n : Named). n.page)) c.in-Some.ensures
+    ∙ sym (page_found s.pass s.entries s.order c.self.invariant.ascending c.self.invariant.filed (after_cursor c.args.cursor))
+    ∙ ap (λ (v : RowsView). option_map (λ (r : Row). r.page) (find (λ r. after_cursor c.args.cursor r.page) (rows_of v.held))) c.self.view_is
+
+pub returns-in-None : goal.returns-in-None
+returns-in-None c =
+    let s = c.self.inside in
+    ap (option_map (λ (n : Named). n.page)) c.in-None.ensures
+    ∙ sym (page_found s.pass s.entries s.order c.self.invariant.ascending c.self.invariant.filed (after_cursor c.args.cursor))
+    ∙ ap (λ (v : RowsView). option_map (λ (r : Row). r.page) (find (λ r. after_cursor c.args.cursor r.page) (rows_of v.held))) c.self.view_is

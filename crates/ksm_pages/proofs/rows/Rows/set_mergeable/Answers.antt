@@ -1,0 +1,40 @@
+use Rattle.ksm_pages.proofs.Names.{ap, held_in, IsRows, on_row, refl, subst, sym, with_value, ◌∙◌}
+use Rattle.ksm_pages.proofs.Writing.{listed_less, listed_now, nothing, still_marked, viewed_marked}
+use Rattle.ksm_pages.proofs.rows.Rows.set_mergeable.Goals as goal
+
+pub returns-in_default : goal.returns-in_default
+returns-in_default c = nothing c.self.inside c.self.invariant c.args.spot.page c.in_default.ensures.told (on_row (λ r. record r { mergeable = c.args.mergeable })) c.args.self.now c.self.view_is
+
+pub invariant_of-self : goal.invariant_of-self
+invariant_of-self c =
+    let s = c.self.inside in
+    let there = c.in-Some.ensures.there in
+    let stood = c.index_mut-entry.ensures.value in
+    let e' = record c.index_mut-entry.result.now { mergeable = c.args.mergeable } in
+    subst (λ order. IsRows (with_value s.entries c.in-Some.key e') order c.add.new.self s.tally s.pass) (sym c.mark.ensures)
+    (still_marked s c.self.invariant there stood e' refl refl refl c.add.new.self (listed_now s c.self.invariant there stood e' refl c.add.new.self c.add.ensures))
+
+pub invariant_of-self-else-restless : goal.invariant_of-self-else-restless
+invariant_of-self-else-restless c =
+    let s = c.self.inside in
+    let there = c.in-Some.ensures.there in
+    let stood = c.index_mut-entry.ensures.value in
+    let e' = record c.index_mut-entry.result.now { mergeable = c.args.mergeable } in
+    subst (λ order. IsRows (with_value s.entries c.in-Some.key e') order c.remove.new.self s.tally s.pass) (sym c.mark.ensures)
+    (still_marked s c.self.invariant there stood e' refl refl refl c.remove.new.self (listed_less s c.self.invariant there stood e' refl c.remove.new.self c.remove.ensures (sym c.is_restless-restless.ensures ∙ c.if-restless.false)))
+
+pub returns-then-restless : goal.returns-then-restless
+returns-then-restless c =
+    let s = c.self.inside in
+    let e' = record c.index_mut-entry.result.now { mergeable = c.args.mergeable } in
+    ap (λ order. record { held = held_in s.pass (with_value s.entries c.in-Some.key e') order; restless = c.add.new.self; pass = s.pass }) c.mark.ensures
+    ∙ viewed_marked s c.self.invariant c.in-Some.ensures.there c.index_mut-entry.ensures.value e' refl
+    (on_row (λ r. record r { mergeable = c.args.mergeable })) refl c.args.mergeable c.add.new.self c.args.self.now c.self.view_is
+
+pub returns-else-restless : goal.returns-else-restless
+returns-else-restless c =
+    let s = c.self.inside in
+    let e' = record c.index_mut-entry.result.now { mergeable = c.args.mergeable } in
+    ap (λ order. record { held = held_in s.pass (with_value s.entries c.in-Some.key e') order; restless = c.remove.new.self; pass = s.pass }) c.mark.ensures
+    ∙ viewed_marked s c.self.invariant c.in-Some.ensures.there c.index_mut-entry.ensures.value e' refl
+    (on_row (λ r. record r { mergeable = c.args.mergeable })) refl c.args.mergeable c.remove.new.self c.args.self.now c.self.view_is

@@ -1,0 +1,43 @@
+use Rattle.ksm_pages.proofs.Names.{ap, arith, held_of, mapped, Private, refl, Some, sym, true, true≢false, ◌&&◌, ◌∙◌}
+use Rattle.ksm_pages.specs.declared.row.Kind.TheVariants as kinds
+use Rattle.ksm_pages.proofs.Writing.{can_be, kept, listed_now, nothing, rests_now, still, viewed}
+use Rattle.ksm_pages.proofs.rows.Rows.settle_on.Goals as goal
+
+pub returns-in_default : goal.returns-in_default
+returns-in_default c = nothing c.self.inside c.self.invariant c.args.spot.page c.in_default.ensures.told (mapped Private (Some c.args.frame)) c.args.self.now c.self.view_is
+
+pub moved-self-inside-requires : goal.moved-self-inside-requires
+moved-self-inside-requires c =
+    can_be c.self.inside c.self.invariant c.in-Some.ensures.there c.index_mut-entry.ensures.value c.state-old.ensures Private (rw (← c.len.ensures) c.len.type_inv)
+
+pub invariant_of-self : goal.invariant_of-self
+invariant_of-self c =
+    let s = c.self.inside in
+    let e = c.index_mut-entry.result.now in
+    let there = c.in-Some.ensures.there in
+    let stood = c.index_mut-entry.ensures.value in
+    let e' = record e { number = 0; at = c.args.frame; kind = kinds.Own } in
+    still s c.self.invariant there stood e' refl refl (λ own. omega arith) c.add.new.self (listed_now s c.self.invariant there stood e' refl c.add.new.self c.add.ensures)
+    c.state-old.ensures (sym (rests_now s.pass c.self.invariant.counting)) c.moved-self-inside.ensures
+
+pub invariant_of-self-else-restless : goal.invariant_of-self-else-restless
+invariant_of-self-else-restless c =
+    let s = c.self.inside in
+    let e = c.index_mut-entry.result.now in
+    kept s c.self.invariant c.in-Some.ensures.there c.index_mut-entry.ensures.value (record e { number = 0; at = c.args.frame; kind = kinds.Own }) refl refl (λ own. omega arith)
+    (λ may. absurd (true≢false (sym may ∙ ap (λ b. b && true) c.if-restless.false))) s.restless refl
+    c.state-old.ensures (sym (rests_now s.pass c.self.invariant.counting)) c.moved-self-inside.ensures
+
+pub returns-then-restless : goal.returns-then-restless
+returns-then-restless c =
+    let s = c.self.inside in
+    let e = c.index_mut-entry.result.now in
+    viewed s c.self.invariant c.in-Some.ensures.there c.index_mut-entry.ensures.value (record e { number = 0; at = c.args.frame; kind = kinds.Own }) refl
+    (mapped Private (Some c.args.frame)) (ap (λ st. mapped st (Some c.args.frame) (held_of s.pass e)) (rests_now s.pass c.self.invariant.counting)) c.add.new.self c.args.self.now c.self.view_is
+
+pub returns-else-restless : goal.returns-else-restless
+returns-else-restless c =
+    let s = c.self.inside in
+    let e = c.index_mut-entry.result.now in
+    viewed s c.self.invariant c.in-Some.ensures.there c.index_mut-entry.ensures.value (record e { number = 0; at = c.args.frame; kind = kinds.Own }) refl
+    (mapped Private (Some c.args.frame)) (ap (λ st. mapped st (Some c.args.frame) (held_of s.pass e)) (rests_now s.pass c.self.invariant.counting)) s.restless c.args.self.now c.self.view_is

@@ -1,0 +1,11 @@
+use Rattle.ksm_pages.proofs.Names.{comes_before, IsPartitionPoint-from_clause, not, point_is_count, rules}
+use Rattle.ksm_pages.proofs.Keyed.{parted_behind}
+use Rattle.ksm_pages.proofs.run.place_behind.Goals as goal
+
+pub returns-clause-count : goal.returns-clause-count
+returns-clause-count c =
+    let page = c.args.page in
+    let pages = c.args.pages.now in
+    let split = parted_behind (λ n. n.page) page pages c.requires in
+    let point = IsPartitionPoint-from_clause (λ n. not (comes_before page n.page)) pages _ c.partition_point.ensures.partitioned split (λ a r q k. search rules) in
+    point_is_count (λ n. not (comes_before page n.page)) pages _ c.partition_point.ensures.bound point.0 point.1

@@ -1,0 +1,109 @@
+-- Entries in a slab, with the order of their pages, the pages that a visit may change, and a tally. (own)
+use Rattle.std.specs.Prelude.{◌≡◌, ◌↔◌, ℕ, ◌+◌, ◌≤◌, ◌<◌, ◌^◌, Bool, true, false, not, ◌&&◌, List, [], count_by, find, map, option_map, Option, None, Some, if◌then◌else◌}
+use Rattle.ksm_base.specs.declared.page.GuestPage.{GuestPage}
+use Rattle.ksm_base.specs.declared.row.PageState.{PageState}
+use Rattle.ksm_base.specs.declared.row.PageState.TheVariants.{Private}
+use Rattle.ksm_base.specs.declared.row.Row.{Row}
+use Rattle.ksm_base.specs.Rows.{merged_state, same_page, waiting_state, zero_state}
+use Rattle.ksm_rmap.specs.Items.{has_item}
+use Rattle.slab.specs.Slab.{Slab, get}
+use Rattle.ksm_pages.specs.declared.named.Named.{Named}
+use Rattle.ksm_pages.specs.declared.row.Kind.TheVariants as kinds
+use Rattle.ksm_pages.specs.declared.row.Entry.{Entry}
+use Rattle.ksm_pages.specs.declared.row.Spot.{Spot}
+use Rattle.ksm_pages.specs.declared.tally.Tally.{Tally}
+use Rattle.ksm_pages.specs.Held.{Held, Listing, held_of, is_restless, rows_of}
+use Rattle.ksm_pages.specs.Ordered.{AreAscending, is_of}
+
+-- ---------------------------------------------------------------- tallies
+
+abbrev pub one_if : Bool → ℕ
+one_if b = if b then 1 else 0
+
+-- how many of the rows are merged, wait, and are on the zero page
+pub record IsTally (rows : List Row) (tally : Tally) : Type 0 where
+  pub merged : tally.merged ≡ count_by (λ r. merged_state r.state) rows
+  pub waiting : tally.waiting ≡ count_by (λ r. waiting_state r.state) rows
+  pub zero : tally.zero ≡ count_by (λ r. zero_state r.state) rows
+
+-- the second tally is the first, but that one row went from a state to another
+pub record IsMoved (from to : PageState) (old new : Tally) : Type 0 where
+  pub merged : new.merged + one_if (merged_state from) ≡ old.merged + one_if (merged_state to)
+  pub waiting : new.waiting + one_if (waiting_state from) ≡ old.waiting + one_if (waiting_state to)
+  pub zero : new.zero + one_if (zero_state from) ≡ old.zero + one_if (zero_state to)
+
+-- a tally that counts a row in a state, with room for one in another
+pub record CanMove (from to : PageState) (tally : Tally) : Type 0 where
+  pub merged : one_if (merged_state from) ≤ tally.merged
+  pub merged_room : tally.merged + one_if (merged_state to) < 2 ^ 64 + one_if (merged_state from)
+  pub waiting : one_if (waiting_state from) ≤ tally.waiting
+  pub waiting_room : tally.waiting + one_if (waiting_state to) < 2 ^ 64 + one_if (waiting_state from)
+  pub zero : one_if (zero_state from) ≤ tally.zero
+  pub zero_room : tally.zero + one_if (zero_state to) < 2 ^ 64 + one_if (zero_state from)
+
+-- ---------------------------------------------------------------- entries and their order
+
+-- how the order names an entry that is kept under a key
+abbrev pub named_of : ℕ → Entry → Named
+named_of key e = record { page = e.page; key = key; mergeable = e.mergeable }
+
+-- a page is named in the order exactly as the entry under its key says
+abbrev pub AreFiled : Slab Entry → List Named → Type 0
+AreFiled slab order = (n : Named) → (find (is_of n.page) order ≡ Some n) ↔ (option_map (named_of n.key) (get slab n.key) ≡ Some n)
+
+-- the key of a page, if it has one
+abbrev pub key_in : List Named → GuestPage → Option ℕ
+key_in order page = option_map (λ n. n.key) (find (is_of page) order)
+
+-- an entry of the page stands under the key
+pub record IsUnder (slab : Slab Entry) (page : GuestPage) (key : ℕ) : Type 0 where
+  pub entry : Entry
+  pub stands : get slab key ≡ Some entry
+  pub of_page : entry.page ≡ page
+
+-- the page of each entry that a visit may change is listed
+abbrev pub AreListed : Slab Entry → List GuestPage → Type 0
+AreListed slab pages = (key : ℕ) (e : Entry) → get slab key ≡ Some e → is_restless e ≡ true → has_item e.page pages ≡ true
+
+-- it is certain that no visit changes the row of a spot: what stands under its key is of its page, and such
+abbrev pub is_useless : Spot → Option Entry → Bool
+is_useless spot None = false
+is_useless spot (Some e) = same_page e.page spot.page && not (is_restless e)
+
+-- an entry of the page is such that no visit changes it
+pub record IsCalm (slab : Slab Entry) (page : GuestPage) : Type 0 where
+  pub key : ℕ
+  pub entry : Entry
+  pub stands : get slab key ≡ Some entry
+  pub of_page : entry.page ≡ page
+  pub calm : is_restless entry ≡ false
+
+-- the number of no entry with a frame of its own is beyond the pass
+abbrev pub AreBegun : Slab Entry → ℕ → Type 0
+AreBegun slab pass = (key : ℕ) (e : Entry) → get slab key ≡ Some e → e.kind ≡ kinds.Own → e.number ≤ pass
+
+-- the row of an entry that is not there
+abbrev pub no_held : Held
+no_held = record {
+  row = record { page = record { guest = 0; page = 0 }; home = 0; bytes = []; mergeable = false; unchanged = false; state = Private };
+  frame = None;
+}
+
+-- the row that stands under a key
+abbrev pub held_under : ℕ → Option Entry → Held
+held_under pass None = no_held
+held_under pass (Some e) = held_of pass e
+
+-- the rows in the order of their pages
+abbrev pub held_in : ℕ → Slab Entry → List Named → List Held
+held_in pass slab order = map (λ n. held_under pass (get slab n.key)) order
+
+-- the pages ascend, each is named as its entry says, those that a visit may change are listed if they are known,
+-- the tally is that of the rows, and no entry's pass is beyond the one that goes on
+pub record IsRows (slab : Slab Entry) (order : List Named) (restless : Listing) (tally : Tally) (pass : ℕ) : Type 0 where
+  pub ascending : AreAscending order
+  pub filed : AreFiled slab order
+  pub listed : restless.known ≡ true → AreListed slab restless.pages
+  pub counted : IsTally (rows_of (held_in pass slab order)) tally
+  pub begun : AreBegun slab pass
+  pub counting : 1 ≤ pass

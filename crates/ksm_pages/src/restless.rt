@@ -1,0 +1,183 @@
+//! The pages that a visit of the scan may change: those of mergeable rows with frames of their own, so there are never
+//! more of these than frames.
+//!
+//! Some other pages may be listed too: whoever visits a page looks at its row anyhow, so a row that is merged stays
+//! listed until many may be so. Where memory for a page is refused, the list is no longer known to have all, and
+//! the next scan makes it anew: so no command is refused for it.
+
+ghost use Rattle.std.specs.Prelude.{◌≡◌, ◌⊎◌, ◌≤◌, [], true, false, filter, find, is_some, length, not, slice_get, slice_index_or, option_map, IsTrue, ◌<◌};
+ghost use Rattle.ksm_base.specs.declared.page.GuestPage.{GuestPage};
+ghost use Rattle.ksm_base.specs.Rows.{comes_before, same_page};
+ghost use Rattle.ksm_base.specs.Visit.{after_cursor};
+ghost use Rattle.ksm_rmap.specs.Items.{AreAscending, has_item, without_item};
+ghost use Rattle.ksm_pages.specs.Filed.{IsCalm, is_useless as is_of_no_use};
+ghost use Rattle.ksm_pages.specs.Held.{AreInOrder, IsAddedTo};
+ghost use Rattle.slab.specs.Slab.{get};
+
+use crate::named::comes_before as precedes;
+use crate::row::{Entry, Spot};
+use ksm_base::GuestPage;
+use slab::Slab;
+use std::alloc::Global;
+use std::marker::Model;
+
+/// Pages in order, each with a guess of the key of its row, and whether all that a visit may change are among them.
+///
+/// `add` and `remove` cost the logarithm of the number of pages, and a move of those behind.
+#[derive(Drop)]
+pub struct Restless {
+    spots: Vec<Spot>,
+    known: bool,
+    /// How many rows have become such that no visit changes them, since `sweep` looked.
+    useless: usize,
+}
+
+impl Model for Restless {
+    ghost use Rattle.ksm_pages.specs.Held.{AreInOrder, Listing, pages_of};
+
+    ghost Value = { Listing };
+
+    ghost view = { λ r. record { pages = pages_of r.spots.items; known = r.known } };
+
+    ghost invariant = { λ r. AreInOrder r.spots.items };
+}
+
+/// How many of the pages come before this one: the index at which it stands, or would.
+fn place_of(spots: &[Spot], page: GuestPage) -> usize
+    requires { AreInOrder spots.now }
+    ensures count { result ≡ length (filter (λ s. comes_before s.page page) spots.now) }
+    ensures within { result ≤ length spots.now }
+{
+    let len = spots.len();
+    // Pages mostly come in order.
+    if len > 0 && precedes(spots[len - 1].page, page) {
+        return len;
+    }
+    spots.partition_point(|spot| precedes(spot.page, page))
+}
+
+/// Whether the page stands at the index.
+fn stands_at(spots: &[Spot], at: usize, page: GuestPage) -> bool
+    requires order { AreInOrder spots.now }
+    requires place { at ≡ length (filter (λ s. comes_before s.page page) spots.now) }
+    ensures found { result ≡ is_some (find (λ s. same_page s.page page) spots.now) }
+    ensures within { IsTrue result → at < length spots.now }
+    ensures here { IsTrue result → (d : Spot) → same_page (slice_index_or spots.now at d).page page ≡ true }
+{
+    at < spots.len() && spots[at].page == page
+}
+
+/// Whether it is certain that no visit changes the row of a spot.
+#[inline(always)]
+fn is_useless(entries: &Slab<Entry>, spot: &Spot) -> bool
+    ensures { result ≡ is_of_no_use spot.now (get entries.now spot.now.key) }
+{
+    match entries.get(spot.key as usize) {
+        Some(entry) => entry.page == spot.page && !entry.is_restless(),
+        None => false,
+    }
+}
+
+impl Restless {
+    /// No pages, and none that is missing.
+    pub fn new(alloc: Global) -> Restless
+        ensures { result ≡ record { pages = []; known = true } }
+    {
+        Restless {
+            spots: Vec::new(alloc),
+            known: true,
+            useless: 0,
+        }
+    }
+
+    /// Whether all pages that a visit may change are listed.
+    pub fn is_known(&self) -> bool
+        ensures { result ≡ self.now.known }
+    {
+        self.known
+    }
+
+    /// No page is listed any more, and all are about to be.
+    pub fn clear(&mut self)
+        ensures { self.new ≡ record { pages = []; known = true } }
+    {
+        self.spots.clear();
+        self.known = true;
+        self.useless = 0;
+    }
+
+    /// How many pages are listed.
+    pub fn len(&self) -> usize
+        ensures count { result ≡ length self.now.pages }
+        ensures ascending { AreAscending self.now.pages }
+    {
+        self.spots.len()
+    }
+
+    /// The page at an index, with a guess of its key.
+    #[inline(always)]
+    pub fn get(&self, at: usize) -> Option<Spot>
+        ensures { option_map (λ s. s.page) result ≡ slice_get self.now.pages at }
+    {
+        self.spots.get(at).copied()
+    }
+
+    /// How many pages come up to a cursor.
+    pub fn up_to(&self, cursor: Option<GuestPage>) -> usize
+        ensures { result ≡ length (filter (λ p. not (after_cursor cursor p)) self.now.pages) }
+    {
+        match cursor {
+            None => 0,
+            Some(page) => self
+                .spots
+                .as_slice()
+                .partition_point(|spot| !precedes(page, spot.page)),
+        }
+    }
+
+    /// The page of a spot is listed. Where memory for it is refused, the list stays as it is, and is no longer known.
+    pub fn add(&mut self, spot: Spot)
+        ensures { IsAddedTo spot.page self.old self.new }
+    {
+        let at = place_of(self.spots.as_slice(), spot.page);
+        let found = stands_at(self.spots.as_slice(), at, spot.page);
+        if found {
+            self.spots[at] = spot;
+            return;
+        }
+        match self.spots.insert(at, spot) {
+            Ok(()) => {}
+            Err(_) => self.known = false,
+        }
+    }
+
+    /// A page is not listed any more.
+    pub fn remove(&mut self, page: GuestPage)
+        ensures { self.new ≡ record self.old { pages = without_item page self.old.pages } }
+    {
+        let at = place_of(self.spots.as_slice(), page);
+        let found = stands_at(self.spots.as_slice(), at, page);
+        if found {
+            self.spots.remove(at);
+        }
+    }
+
+    /// A listed page has become one that no visit changes.
+    #[inline(always)]
+    pub fn let_be(&mut self)
+        ensures { self.new ≡ self.old }
+    {
+        self.useless = self.useless.saturating_add(1);
+    }
+
+    /// Once many pages may be such that no visit changes their rows, those are not listed any more.
+    pub fn sweep(&mut self, entries: &Slab<Entry>)
+        ensures known { self.new.known ≡ self.old.known }
+        ensures kept { (page : GuestPage) → has_item page self.old.pages ≡ true → (has_item page self.new.pages ≡ true) ⊎ IsCalm entries.now page }
+    {
+        if self.useless > self.spots.len() / 2 {
+            self.spots.retain(|spot| !is_useless(entries, spot));
+            self.useless = 0;
+        }
+    }
+}

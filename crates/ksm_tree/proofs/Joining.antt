@@ -1,0 +1,290 @@
+-- The best dup to join: a walk over a group, keeping the better of two, ends at the one that the definition chooses of all.
+use Rattle.ksm_tree.proofs.Names.{[], add-one, All, All-cons, All-head, All-tail, All-weaker, AllPass-from_list_all, and_parts, ap, ArePlacesToJoin, arith, best_of, better, Bool, cases_Bool, cond, drop, drop-cons, Dup, dup_at, DupRow, false, false≢true, filter, find, get_or, group_places, if◌then◌else◌, in_group, inl, InPlaceOrder, inr, is_no_worse, is_open, items_in, length, List, list_all, list_all-from_AllPass, map, may_join, nat_le, nat_lt, nat_tests, None, none-some, not, of_group, Option, pairs_head, pairs_tail, places_open, refl, rows_of, Some, sym, true, ℕ, ◌%◌, ◌&&◌, ◌+◌, ◌-◌, ◌<◌, ◌==◌, ◌^◌, ◌||◌, ◌∙◌, ◌∷◌, ◌≡◌, ◌≤◌}
+use Rattle.ksm_tree.proofs.Changes.{all_rows}
+
+-- the order of dups to join
+worse_refl : (d : Dup) → is_no_worse d d ≡ true
+worse_refl d = grind (arith, nat_tests)
+
+worse_trans : (d e f : Dup) → is_no_worse d e ≡ true → is_no_worse e f ≡ true → is_no_worse d f ≡ true
+worse_trans d e f first second = grind (arith, nat_tests)
+
+worse_total : (d e : Dup) → is_no_worse d e ≡ false → is_no_worse e d ≡ true
+worse_total d e not_first = grind (arith, nat_tests)
+
+-- a walk that keeps the better of two, over dups that pass a test
+module _ (may : Dup → Bool) where
+  abbrev rival : Dup → Dup → Bool
+  rival d e = not (may e) || is_no_worse d e
+
+  abbrev top : List Dup → Dup → Bool
+  top dups d = may d && list_all (rival d) dups
+
+  abbrev kept : Option Dup → Dup → Option Dup
+  kept None d = if may d then Some d else None
+  kept (Some best) d = if may d && not (is_no_worse best d) then Some d else Some best
+
+  abbrev walked : Option Dup → List Dup → Option Dup
+  walked acc [] = acc
+  walked acc (d ∷ dups) = walked (kept acc d) dups
+
+  -- what a dup is no worse than, another is not that is no worse than that
+  through : (e b d : Dup) → may b ≡ true → rival e b ≡ true → rival b d ≡ true → rival e d ≡ true
+  through e b d passes above r =
+      elim (cases_Bool (may d)) [
+        | inl also ↦
+            let h : is_no_worse e b ≡ true = grind (arith, passes, above) in
+            let g : is_no_worse b d ≡ true = grind (arith, also, r) in
+            let t = worse_trans e b d h g in
+            grind (arith, t)
+        | inr fails ↦ grind (arith, fails)
+      ]
+
+  -- of three tests in a row, one that another implies does not matter
+  skip_second : (m a b all : Bool) → (a ≡ true → b ≡ true) → (m && (a && (b && all))) ≡ (m && (a && all))
+  skip_second m true b all implied = ap (λ q. m && (q && all)) (implied refl)
+  skip_second m false b all implied = refl
+
+  skip_first : (m a b all : Bool) → (b ≡ true → a ≡ true) → (m && (a && (b && all))) ≡ (m && (b && all))
+  skip_first m a true all implied = ap (λ q. m && (q && all)) (implied refl)
+  skip_first m true false all implied = refl
+  skip_first m false false all implied = refl
+
+  -- where b is not at the top, no dup is that b is no worse than
+  below : (b d : Dup) (dups : List Dup) → may b ≡ true → rival b d ≡ true → top (b ∷ dups) b ≡ false → top (b ∷ dups) d ≡ false
+  below b d dups first r other =
+      elim (cases_Bool (top (b ∷ dups) d)) [
+        | inl best ↦
+            let of_d = and_parts (may d) (list_all (rival d) (b ∷ dups)) best in
+            let behind = AllPass-from_list_all (rival d) dups (and_parts (rival d b) (list_all (rival d) dups) of_d.1).1 in
+            let each = list_all-from_AllPass (rival b) dups (All-weaker (λ e. rival d e ≡ true) (λ e. rival b e ≡ true) (λ e above. through b d e of_d.0 r above) dups behind) in
+            let refl_b = worse_refl b in
+            absurd (false≢true (sym other ∙ (grind (arith, first, refl_b, each))))
+        | inr fails ↦ fails
+      ]
+
+  -- a dup that b is no worse than changes nothing behind b
+  passed_by : (b d : Dup) (dups : List Dup) → may b ≡ true → rival b d ≡ true → find (top (b ∷ dups)) (b ∷ dups) ≡ find (top (b ∷ d ∷ dups)) (b ∷ d ∷ dups)
+  passed_by b d dups first r =
+      let same : (e : Dup) → top (b ∷ dups) e ≡ top (b ∷ d ∷ dups) e =
+      λ e. sym (skip_second (may e) (rival e b) (rival e d) (list_all (rival e) dups) (λ above. through e b d first above r)) in
+      let t = top (b ∷ dups) in
+      elim (cases_Bool (t b)) [
+        | inl best ↦ ap (λ c. cond c (Some b) (find t dups)) best ∙ sym (ap (λ c. cond c (Some b) (find t (d ∷ dups))) best)
+        | inr other ↦
+            ap (λ c. cond c (Some b) (find t dups)) other
+            ∙ sym (ap (λ c. cond c (Some b) (find t (d ∷ dups))) other ∙ ap (λ c. cond c (Some d) (find t dups)) (below b d dups first r other))
+      ]
+      ∙ (λ i. find (λ e. same e i) (b ∷ d ∷ dups))
+
+  -- a walk from a dup on ends at the best of it and the others
+  walk_from : (b : Dup) (dups : List Dup) → may b ≡ true → walked (Some b) dups ≡ find (top (b ∷ dups)) (b ∷ dups)
+  walk_from b [] first = let r = worse_refl b in grind (arith, first, r)
+  walk_from b (d ∷ dups) first =
+      elim (cases_Bool (may d)) [
+        | inl passes ↦ elim (cases_Bool (is_no_worse b d)) [
+          | inl above ↦
+              let stays : kept (Some b) d ≡ Some b = rw (passes, above) refl in
+              ap (λ acc. walked acc dups) stays ∙ walk_from b dups first ∙ passed_by b d dups first (grind (arith, above))
+          | inr worse ↦
+              let goes : kept (Some b) d ≡ Some d = rw (passes, worse) refl in
+              let beats = worse_total b d worse in
+              let over : rival d b ≡ true = grind (arith, beats) in
+              let lost : top (b ∷ d ∷ dups) b ≡ false = grind (arith, passes, worse) in
+              let same : (e : Dup) → top (d ∷ dups) e ≡ top (b ∷ d ∷ dups) e =
+              λ e. sym (skip_first (may e) (rival e b) (rival e d) (list_all (rival e) dups) (λ above. through e d b passes above over)) in
+              ap (λ acc. walked acc dups) goes
+              ∙ walk_from d dups passes
+              ∙ (λ i. find (λ e. same e i) (d ∷ dups))
+              ∙ sym (ap (λ c. cond c (Some b) (find (top (b ∷ d ∷ dups)) (d ∷ dups))) lost)
+        ]
+        | inr fails ↦
+            let stays : kept (Some b) d ≡ Some b = rw fails refl in
+            ap (λ acc. walked acc dups) stays ∙ walk_from b dups first ∙ passed_by b d dups first (grind (arith, fails))
+      ]
+
+  pub walk_top : (dups : List Dup) → walked None dups ≡ find (top dups) dups
+  walk_top [] = refl
+  walk_top (d ∷ dups) =
+      elim (cases_Bool (may d)) [
+        | inl passes ↦ ap (λ b. walked (cond b (Some d) None) dups) passes ∙ walk_from d dups passes
+        | inr fails ↦
+            let same : (e : Dup) → top dups e ≡ top (d ∷ dups) e = λ e. sym (ap (λ m. may e && ((not m || is_no_worse e d) && list_all (rival e) dups)) fails) in
+            ap (λ b. walked (cond b (Some d) None) dups) fails
+            ∙ walk_top dups
+            ∙ (λ i. find (λ e. same e i) dups)
+            ∙ sym (ap (λ m. cond (m && list_all (rival d) (d ∷ dups)) (Some d) (find (top (d ∷ dups)) dups)) fails)
+      ]
+
+-- each dup is what is found at its place
+pub found_self : (dups : List Dup) → InPlaceOrder (rows_of dups) → All (λ d. dup_at d.row.place dups ≡ Some d) dups
+found_self [] rise = λ k d lt. absurd (omega arith)
+found_self (d ∷ dups) rise =
+    let first = pairs_head (λ a b. (a.place < b.place) × ((a.number == b.number) ≡ false)) d.row (rows_of dups) rise in
+    let rest = found_self dups (pairs_tail (λ a b. (a.place < b.place) × ((a.number == b.number) ≡ false)) d.row (rows_of dups) rise) in
+    All-cons (λ e. dup_at e.row.place (d ∷ dups) ≡ Some e) d dups (grind (arith, nat_tests))
+    (λ k e lt. let behind = (all_rows (λ r. d.row.place < r.place) dups (All-weaker (λ r. (d.row.place < r.place) × ((d.row.number == r.number) ≡ false)) (λ r. d.row.place < r.place) (λ r h. h.0) (rows_of dups) first)) k e lt in let found = rest k e lt in grind (arith, nat_tests, behind, found))
+
+-- a dup that may be joined: it has an item, and fewer than the limit
+abbrev has_room : ℕ → Dup → Bool
+has_room limit d = nat_le 1 (length d.items) && nat_lt (length d.items) limit
+
+-- the better of the best dup so far and the one found, if that has room
+abbrev pub joined : ℕ → Option Dup → Option Dup → Option Dup
+joined limit acc None = acc
+joined limit acc (Some d) = if has_room limit d then Some (better acc d) else acc
+
+-- the best dup of those at places from here on
+abbrev pub folded : ℕ → List ℕ → ℕ → List Dup → Option Dup → List ℕ → Option Dup
+folded t b limit dups acc [] = acc
+folded t b limit dups acc (p ∷ places) = folded t b limit dups (joined limit acc (of_group t b (dup_at p dups))) places
+
+-- how many items a dup must have to be joined where another was found
+abbrev pub least_of : Option Dup → ℕ
+least_of None = 1
+least_of (Some d) = length d.items
+
+-- a count that is found to be within the room is the least and what it is above that
+pub above_least : (items least limit above : ℕ) → items < 2 ^ 32 → least < 2 ^ 32 → limit < 2 ^ 32 → above ≡ (items + (2 ^ 32 - least)) % 2 ^ 32 → above < limit - least → least + above ≡ items
+above_least items least limit above fits least_fits limit_fits is within = omega arith
+
+-- a count that is found not to be within the room is below the least, or at the limit or above
+pub out_of_room : (items least limit above : ℕ) → items < 2 ^ 32 → least < 2 ^ 32 → limit < 2 ^ 32 → above ≡ (items + (2 ^ 32 - least)) % 2 ^ 32 → limit - least ≤ above → (nat_lt items least || nat_le limit items) ≡ true
+out_of_room items least limit above fits least_fits limit_fits is outside = grind (arith, nat_tests)
+
+-- one step of the walk: over a dup with too few items or too many, and to one with room
+pub stepped_over : (limit : ℕ) (acc slot : Option Dup) → (nat_lt (length (items_in slot)) (least_of acc) || nat_le limit (length (items_in slot))) ≡ true → joined limit acc slot ≡ acc
+stepped_over limit acc None outside = refl
+stepped_over limit None (Some d) outside = grind (arith, nat_tests, outside)
+stepped_over limit (Some best) (Some d) outside = grind (arith, nat_tests, outside)
+
+-- a dup with an item and below the limit is compared with the best so far
+pub stepped_to : (limit : ℕ) (acc : Option Dup) (d : Dup) → 1 ≤ length d.items → length d.items < limit → joined limit acc (Some d) ≡ Some (better acc d)
+stepped_to limit acc d least below = grind (arith, nat_tests, least, below)
+
+-- a dup with as many items as the best so far, or more, sets the number
+pub least_better : (acc : Option Dup) (d : Dup) → least_of acc ≤ length d.items → length (better acc d).items ≡ length d.items
+least_better None d least = refl
+least_better (Some best) d least = grind (arith, nat_tests, least)
+
+-- one place looked at is one step of the fold
+pub stepped : (t : ℕ) (b : List ℕ) (limit : ℕ) (dups : List Dup) (acc next : Option Dup) (places : List ℕ) (i : ℕ) → i < length places → joined limit acc (of_group t b (dup_at (get_or places i 0) dups)) ≡ next → folded t b limit dups next (drop (i + 1) places) ≡ folded t b limit dups acc (drop i places)
+stepped t b limit dups acc next places i within is =
+    let rest : drop i places ≡ get_or places i 0 ∷ drop (i + 1) places = rw (add-one, drop-cons places i 0) in
+    ap (λ best. folded t b limit dups best (drop (i + 1) places)) (sym is) ∙ ap (folded t b limit dups acc) (sym rest)
+
+-- a dup that is looked at for a group is the one that stands there
+pub stands_so : (t : ℕ) (b : List ℕ) (slot : Option Dup) (d : Dup) → Some d ≡ of_group t b slot → Some d ≡ slot
+stands_so t b None d is = is
+stands_so t b (Some e) d is =
+    elim (cases_Bool (in_group t b e.row)) [
+      | inl inside ↦ grind (arith, is, inside)
+      | inr outside ↦ absurd (none-some d (sym (is ∙ (grind (arith, outside)))))
+    ]
+
+-- a slot that cannot be joined leaves the best as it is
+pub passed_over_so : (t : ℕ) (b : List ℕ) (limit : ℕ) (acc slot : Option Dup) → joined limit acc slot ≡ acc → joined limit acc (of_group t b slot) ≡ acc
+passed_over_so t b limit acc None over = refl
+passed_over_so t b limit acc (Some d) over =
+    elim (cases_Bool (in_group t b d.row)) [
+      | inl inside ↦ rw inside over
+      | inr outside ↦ rw outside refl
+    ]
+
+-- the places of a group lie below how many there are
+pub places_within : (t : ℕ) (b : List ℕ) (places : ℕ) (rows : List DupRow) → All (λ r. r.place < places) rows → All (λ p. p < places) (group_places t b rows)
+places_within t b places [] below = λ k d lt. absurd (omega arith)
+places_within t b places (r ∷ rows) below =
+    let here = All-head (λ e. e.place < places) r rows below in
+    let rest = places_within t b places rows (All-tail (λ e. e.place < places) r rows below) in
+    elim (cases_Bool (in_group t b r)) [
+      | inl inside ↦ rw inside (All-cons (λ p. p < places) r.place (group_places t b rows) here rest)
+      | inr outside ↦ rw outside rest
+    ]
+
+-- the places of the open dups are places of the table
+open_within : (limit places : ℕ) (dups : List Dup) → All (λ r. r.place < places) (rows_of dups) → All (λ p. p < places) (places_open limit dups)
+open_within limit places [] below = λ k d lt. absurd (omega arith)
+open_within limit places (d ∷ dups) below =
+    let here = All-head (λ e. e.place < places) d.row (rows_of dups) below in
+    let rest = open_within limit places dups (All-tail (λ e. e.place < places) d.row (rows_of dups) below) in
+    elim (cases_Bool (is_open limit (length d.items))) [
+      | inl inside ↦ rw inside (All-cons (λ p. p < places) d.row.place (places_open limit dups) here rest)
+      | inr outside ↦ rw outside rest
+    ]
+
+-- the places of dups to join are places of the tree
+pub candidates_within : (t : ℕ) (b : List ℕ) (limit places : ℕ) (dups : List Dup) (found : List ℕ) (is_chain : Bool) → All (λ r. r.place < places) (rows_of dups) → ArePlacesToJoin (group_places t b (rows_of dups)) limit dups found is_chain → All (λ p. p < places) found
+candidates_within t b limit places dups found true below group = rw group (places_within t b places (rows_of dups) below)
+candidates_within t b limit places dups found false below opens = rw opens (open_within limit places dups below)
+
+-- at each place of a group stands a dup of it
+group_found : (t : ℕ) (b : List ℕ) (all dups : List Dup) → All (λ d. dup_at d.row.place all ≡ Some d) dups → All (λ p. of_group t b (dup_at p all) ≡ dup_at p all) (group_places t b (rows_of dups))
+group_found t b all [] found = λ k d lt. absurd (omega arith)
+group_found t b all (d ∷ dups) found =
+    let here = All-head (λ e. dup_at e.row.place all ≡ Some e) d dups found in
+    let rest = group_found t b all dups (All-tail (λ e. dup_at e.row.place all ≡ Some e) d dups found) in
+    elim (cases_Bool (in_group t b d.row)) [
+      | inl inside ↦
+          let is : of_group t b (Some d) ≡ Some d = rw inside refl in
+          rw inside (All-cons (λ p. of_group t b (dup_at p all) ≡ dup_at p all) d.row.place (group_places t b (rows_of dups)) (ap (of_group t b) here ∙ is ∙ sym here) rest)
+      | inr outside ↦ rw outside rest
+    ]
+
+-- a dup of the chain needs no comparison: its place is one of the group
+pub candidate_is : (t : ℕ) (b : List ℕ) (limit : ℕ) (dups : List Dup) (found : List ℕ) (is_chain : Bool) (i : ℕ) → InPlaceOrder (rows_of dups) → ArePlacesToJoin (group_places t b (rows_of dups)) limit dups found is_chain → i < length found
+    → (if is_chain then dup_at (get_or found i 0) dups else of_group t b (dup_at (get_or found i 0) dups)) ≡ of_group t b (dup_at (get_or found i 0) dups)
+candidate_is t b limit dups found true i rise group within =
+    let each : All (λ p. of_group t b (dup_at p dups) ≡ dup_at p dups) found = rw group (group_found t b dups dups (found_self dups rise)) in
+    sym (each i 0 within)
+candidate_is t b limit dups found false i rise opens within = refl
+
+kept_so : (t : ℕ) (b : List ℕ) (limit : ℕ) (acc : Option Dup) (d : Dup) → joined limit acc (of_group t b (Some d)) ≡ kept (may_join t b limit) acc d
+kept_so t b limit None d = grind arith
+kept_so t b limit (Some best) d = grind arith
+
+passed_group : (t : ℕ) (b : List ℕ) (limit : ℕ) (acc : Option Dup) (d : Dup) → may_join t b limit d ≡ false → acc ≡ kept (may_join t b limit) acc d
+passed_group t b limit None d fails = grind (arith, fails)
+passed_group t b limit (Some best) d fails = grind (arith, fails)
+
+-- a walk over the places of those dups that pass a test, which all that may be joined pass
+module _ (t : ℕ) (b : List ℕ) (limit : ℕ) (test : Dup → Bool) (passes : (d : Dup) → test d ≡ false → may_join t b limit d ≡ false) where
+  fold_passing : (all dups : List Dup) (acc : Option Dup) → All (λ d. dup_at d.row.place all ≡ Some d) dups → folded t b limit all acc (map (λ d. d.row.place) (filter test dups)) ≡ walked (may_join t b limit) acc dups
+  fold_passing all [] acc found = refl
+  fold_passing all (d ∷ dups) acc found =
+      let here = All-head (λ e. dup_at e.row.place all ≡ Some e) d dups found in
+      let rest = All-tail (λ e. dup_at e.row.place all ≡ Some e) d dups found in
+      let left = map (λ d. d.row.place) (filter test dups) in
+      elim (cases_Bool (test d)) [
+        | inl inside ↦
+            rw inside (ap (λ v. folded t b limit all (joined limit acc (of_group t b v)) left) here
+            ∙ ap (λ v. folded t b limit all v left) (kept_so t b limit acc d)
+            ∙ fold_passing all dups (kept (may_join t b limit) acc d) rest)
+        | inr outside ↦
+            rw outside (ap (λ v. folded t b limit all v left) (passed_group t b limit acc d (passes d outside))
+            ∙ fold_passing all dups (kept (may_join t b limit) acc d) rest)
+      ]
+
+group_of_dups : (t : ℕ) (b : List ℕ) (dups : List Dup) → group_places t b (rows_of dups) ≡ map (λ d. d.row.place) (filter (λ d. in_group t b d.row) dups)
+group_of_dups t b [] = refl
+group_of_dups t b (d ∷ dups) =
+    let rest = group_of_dups t b dups in
+    elim (cases_Bool (in_group t b d.row)) [
+      | inl inside ↦ grind (arith, inside, rest)
+      | inr outside ↦ grind (arith, outside, rest)
+    ]
+
+-- the walk over the places to join ends at the best dup
+pub folded_best : (t : ℕ) (b : List ℕ) (limit : ℕ) (dups : List Dup) (found : List ℕ) (is_chain : Bool) → InPlaceOrder (rows_of dups) → ArePlacesToJoin (group_places t b (rows_of dups)) limit dups found is_chain → folded t b limit dups None found ≡ best_of t b limit dups
+folded_best t b limit dups found true rise group =
+    ap (folded t b limit dups None) (group ∙ group_of_dups t b dups)
+    ∙ fold_passing t b limit (λ d. in_group t b d.row) (λ d outside. grind (arith, outside)) dups dups None (found_self dups rise)
+    ∙ walk_top (may_join t b limit) dups
+folded_best t b limit dups found false rise opens =
+    ap (folded t b limit dups None) opens
+    ∙ fold_passing t b limit (λ d. is_open limit (length d.items)) (λ d outside. grind (arith, outside)) dups dups None (found_self dups rise)
+    ∙ walk_top (may_join t b limit) dups
+
+-- where a tree and bytes have no place, no dup of theirs is best
+pub none_best : (t : ℕ) (b : List ℕ) (limit : ℕ) (dups : List Dup) → InPlaceOrder (rows_of dups) → [] ≡ group_places t b (rows_of dups) → None ≡ best_of t b limit dups
+none_best t b limit dups rise none = folded_best t b limit dups [] true rise none

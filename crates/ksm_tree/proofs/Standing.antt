@@ -1,0 +1,315 @@
+-- What a change of one group makes of the chains and of the pages that wait.
+use Rattle.ksm_tree.proofs.Names.{[], and_parts, ap, AreGroups, AreNumbered, arith, Bool, BTreeMap, bytes_eq, bytes_eq-Decides, cases_Bool, chain_in, cond, Content, content_in, content_of, content_order, Decides-eqb, false, filter_map, ForSome, get, get_or, Group, Groups, GuestPage, if◌then◌else◌, inl, inr, is_at, is_some, IsIdle, List, None, number_of, Numbers, Option, option_map, places_in, refl, same_Some, Slab, Some, subst, suc, sym, then_some, true, true≢false, under, Updates, Updates-with_value, waiting_in, waiting_page, waits_in, with_value, zero, ℕ, ◌&&◌, ◌==◌, ◌↔◌, ◌∙◌, ◌∷◌, ◌≡◌, ◌≢◌, ◌≤◌}
+use Rattle.slab.specs.Slab.{Updates as Fills}
+use Rattle.ksm_tree.proofs.Numbering.{Stands, entered, forgotten, full, its_number, same_content}
+
+-- ---------------------------------------------------------------- what stands under the number of each content
+
+cond_same : {X : Type 0} (s : Bool) (x : X) → (if s then x else x) ≡ x
+cond_same true x = refl
+cond_same false x = refl
+
+-- the same stands under each number
+pub same_under : {X : Type 0} (none : X) (old new : ℕ → X) → ((n : ℕ) → new n ≡ old n) → (o : Option ℕ) → under none new o ≡ under none old o
+same_under none old new same None = refl
+same_under none old new same (Some n) = same n
+
+-- whether two contents are one
+is_one : (t u : ℕ) (b c : List ℕ) → (t == u && bytes_eq b c) ≡ true → content_of t b ≡ content_of u c
+is_one t u b c same =
+    let parts = and_parts (t == u) (bytes_eq b c) same in
+    λ i. content_of ((Decides-eqb t u).0 parts.0 i) ((bytes_eq-Decides b c).0 parts.1 i)
+
+are_one : (t u : ℕ) (b c : List ℕ) → content_of t b ≡ content_of u c → (t == u && bytes_eq b c) ≡ true
+are_one t u b c same =
+    let tree : (t == u) ≡ true = (Decides-eqb t u).1 (ap (λ k. k.tree) same) in
+    let bytes : bytes_eq b c ≡ true = (bytes_eq-Decides b c).1 (ap (λ k. k.bytes) same) in
+    rw (tree, bytes) refl
+
+-- where what stands under the number of a content has changed, it has changed at that content alone
+module _ {X : Type 0} (none : X) (numbers : Numbers) (stands : ℕ → Option Content) (are : AreNumbered numbers stands) (old : ℕ → X) (tree : ℕ) (bytes : List ℕ) (change : X → X) where
+  pub under_moved : (new : ℕ → X) (number : ℕ) → number_of tree bytes numbers ≡ Some number → ((n : ℕ) → new n ≡ (if n == number then change (old n) else old n))
+      → (t : ℕ) (b : List ℕ) → under none new (number_of t b numbers) ≡ (if t == tree && bytes_eq b bytes then change (under none old (number_of t b numbers)) else under none old (number_of t b numbers))
+  under_moved new number is moved t b = by (number_of t b numbers) refl
+    where
+      by : (o : Option ℕ) → number_of t b numbers ≡ o → under none new o ≡ (if t == tree && bytes_eq b bytes then change (under none old o) else under none old o)
+      by None absent =
+          let apart : (t == tree && bytes_eq b bytes) ≡ false = elim (cases_Bool (t == tree && bytes_eq b bytes)) [
+            | inl same ↦ absurd (full number (number_of t b numbers) absent (ap (λ k. its_number k numbers) (is_one t tree b bytes same) ∙ is))
+            | inr differ ↦ differ
+          ] in
+          rw apart refl
+      by (Some n) found = elim (cases_Bool (t == tree && bytes_eq b bytes)) [
+        | inl same ↦
+            let here : n ≡ number = same_Some n number (sym found ∙ ap (λ k. its_number k numbers) (is_one t tree b bytes same) ∙ is) in
+            moved n ∙ rw (same, (Decides-eqb n number).1 here) refl
+        | inr differ ↦
+            let apart : (n == number) ≡ false = elim (cases_Bool (n == number)) [
+              | inl same ↦
+                  let one : content_of t b ≡ content_of tree bytes =
+                  same_Some (content_of t b) (content_of tree bytes) (sym ((are (content_of t b) n).0 found) ∙ ap stands ((Decides-eqb n number).0 same) ∙ (are (content_of tree bytes) number).0 is) in
+                  absurd (true≢false (sym (are_one t tree b bytes one) ∙ differ))
+              | inr other ↦ other
+            ] in
+            moved n ∙ rw (differ, apart) refl
+      ]
+
+  -- a content that has no number has nothing that could change
+  pub under_absent : number_of tree bytes numbers ≡ None → none ≡ change none
+      → (t : ℕ) (b : List ℕ) → under none old (number_of t b numbers) ≡ (if t == tree && bytes_eq b bytes then change (under none old (number_of t b numbers)) else under none old (number_of t b numbers))
+  under_absent absent stays t b = elim (cases_Bool (t == tree && bytes_eq b bytes)) [
+    | inl same ↦
+        let nothing = ap (λ k. under none old (its_number k numbers)) (is_one t tree b bytes same) ∙ ap (under none old) absent in
+        rw same (nothing ∙ stays ∙ ap change (sym nothing))
+    | inr differ ↦ rw differ refl
+  ]
+
+-- ---------------------------------------------------------------- the list of the pages that wait
+
+-- two lists whose elements give the same give the same lists
+pub given_same : {X Y : Type 0} (f g : Option X → Option Y) → f None ≡ None → g None ≡ None → (xs ys : List (Option X)) → ((n : ℕ) → f (get_or xs n None) ≡ g (get_or ys n None)) → filter_map f xs ≡ filter_map g ys
+given_same f g f_none g_none [] [] same = refl
+given_same f g f_none g_none [] (y ∷ ys) same =
+    let here : g y ≡ None = sym (same 0) ∙ f_none in
+    rw here (given_same f g f_none g_none [] ys (λ n. same (suc n)))
+given_same f g f_none g_none (x ∷ xs) [] same =
+    let here : f x ≡ None = same 0 ∙ g_none in
+    rw here (given_same f g f_none g_none xs [] (λ n. same (suc n)))
+given_same f g f_none g_none (x ∷ xs) (y ∷ ys) same =
+    let rest = given_same f g f_none g_none xs ys (λ n. same (suc n)) in
+    rw (same 0, rest) refl
+
+abbrev page_in : ℕ → Option Group → Option GuestPage
+page_in pass slot = option_map (λ w. w.page) (waits_in pass slot)
+
+module _ (t : ℕ) (b : List ℕ) (pass : ℕ) where
+  -- where no group is of a content, no page waits for it
+  none_waits : (slots : List (Option Group)) → ((n : ℕ) → content_in (get_or slots n None) ≢ Some (content_of t b)) → waiting_page t b (filter_map (waits_in pass) slots) ≡ None
+  none_waits [] apart = refl
+  none_waits (None ∷ slots) apart = none_waits slots (λ n. apart (suc n))
+  none_waits (Some g ∷ slots) apart =
+      let rest = none_waits slots (λ n. apart (suc n)) in
+      let other : (g.content.tree == t && bytes_eq g.content.bytes b) ≡ false = elim (cases_Bool (g.content.tree == t && bytes_eq g.content.bytes b)) [
+        | inl same ↦ absurd (apart 0 (ap Some (is_one g.content.tree t g.content.bytes b same)))
+        | inr differ ↦ differ
+      ] in
+      grind (arith, rest, other)
+
+  -- where one group is, its page waits, if one does there
+  one_waits : (slots : List (Option Group)) (n : ℕ) → content_in (get_or slots n None) ≡ Some (content_of t b) → ((m : ℕ) → content_in (get_or slots m None) ≡ Some (content_of t b) → m ≡ n)
+      → waiting_page t b (filter_map (waits_in pass) slots) ≡ page_in pass (get_or slots n None)
+  one_waits [] n here only = refl
+  one_waits (None ∷ slots) zero here only = absurd (full (content_of t b) None refl here)
+  one_waits (None ∷ slots) (suc n) here only = one_waits slots n here (λ m is. let e = only (suc m) is in omega (arith, e))
+  one_waits (Some g ∷ slots) zero here only =
+      let rest = none_waits slots (λ m is. let e = only (suc m) is in omega (arith, e)) in
+      let same = are_one g.content.tree t g.content.bytes b (same_Some g.content (content_of t b) here) in
+      elim (cases_Bool (g.pass == pass)) [
+        | inl waits ↦ grind (arith, same, waits)
+        | inr still ↦ grind (arith, rest, still)
+      ]
+  one_waits (Some g ∷ slots) (suc n) here only =
+      let rest = one_waits slots n here (λ m is. let e = only (suc m) is in omega (arith, e)) in
+      let other : (g.content.tree == t && bytes_eq g.content.bytes b) ≡ false = elim (cases_Bool (g.content.tree == t && bytes_eq g.content.bytes b)) [
+        | inl same ↦ (let e = only 0 (ap Some (is_one g.content.tree t g.content.bytes b same)) in absurd (omega (arith, e)))
+        | inr differ ↦ differ
+      ] in
+      grind (arith, rest, other)
+
+-- the page that waits for a content is that of its group
+pub waiting_found : (numbers : Numbers) (groups : Slab Group) (pass : ℕ) → AreGroups numbers groups pass → (t : ℕ) (b : List ℕ)
+    → waiting_page t b (filter_map (waits_in pass) groups.slots) ≡ under None (λ n. page_in pass (get groups n)) (number_of t b numbers)
+waiting_found numbers groups pass are t b = by (number_of t b numbers) refl
+  where
+    by : (o : Option ℕ) → number_of t b numbers ≡ o → waiting_page t b (filter_map (waits_in pass) groups.slots) ≡ under None (λ n. page_in pass (get groups n)) o
+    by None absent = none_waits t b pass groups.slots (λ n is. full n (number_of t b numbers) absent ((are.numbered (content_of t b) n).1 is))
+    by (Some n) found =
+        one_waits t b pass groups.slots n ((are.numbered (content_of t b) n).0 found)
+        (λ m is. same_Some m n (sym ((are.numbered (content_of t b) m).1 is) ∙ found))
+
+-- the page that waits under the number of a content
+pub waits_here : (g : Groups) (t : ℕ) (b : List ℕ) (n : ℕ) (slot : Option Group) → number_of t b g.numbers.entries ≡ Some n → slot ≡ get g.groups n → waiting_page t b (waiting_in g) ≡ page_in g.pass slot
+waits_here g t b n slot is at =
+    waiting_found g.numbers.entries g.groups g.pass g.lawful t b ∙ ap (under None (λ n. page_in g.pass (get g.groups n))) is ∙ ap (page_in g.pass) (sym at)
+
+-- no page waits for a content that has no number
+pub none_here : (g : Groups) (t : ℕ) (b : List ℕ) → number_of t b g.numbers.entries ≡ None → waiting_page t b (waiting_in g) ≡ None
+none_here g t b none = waiting_found g.numbers.entries g.groups g.pass g.lawful t b ∙ ap (under None (λ n. page_in g.pass (get g.groups n))) none
+
+-- a content that has a number stands under it
+pub stands_under : (g : Groups) (t : ℕ) (b : List ℕ) (n : ℕ) → number_of t b g.numbers.entries ≡ Some n → None ≡ get g.groups n → ⊥
+stands_under g t b n is none = full (content_of t b) (content_in (get g.groups n)) (ap content_in (sym none)) ((g.lawful.numbered (content_of t b) n).0 is)
+
+-- the group under a guess is that of a tree and bytes
+pub guessed : (g : Groups) (guess : ℕ) (group : Group) (tree : ℕ) (bytes : List ℕ) → Some group ≡ get g.groups guess → group.content.tree ≡ tree → true ≡ bytes_eq group.content.bytes bytes → Some guess ≡ number_of tree bytes g.numbers.entries
+guessed g guess group tree bytes stands same_tree same_bytes =
+    let bytes_is = (bytes_eq-Decides group.content.bytes bytes).0 (sym same_bytes) in
+    let is : group.content ≡ content_of tree bytes = (λ i. content_of (same_tree i) (bytes_is i)) in
+    sym ((g.lawful.numbered (content_of tree bytes) guess).1 (ap content_in (sym stands) ∙ ap Some is))
+
+pub page_waits : (g : Group) (pass : ℕ) → g.pass ≡ pass → page_in pass (Some g) ≡ Some g.page
+page_waits g pass same = rw ((Decides-eqb g.pass pass).1 same) refl
+
+pub waits_still : (g : Group) (pass : ℕ) → g.pass ≢ pass → waits_in pass (Some g) ≡ None
+waits_still g pass apart = elim (cases_Bool (g.pass == pass)) [
+  | inl same ↦ absurd (apart ((Decides-eqb g.pass pass).0 same))
+  | inr other ↦ rw other refl
+]
+
+pub page_still : (g : Group) (pass : ℕ) → g.pass ≢ pass → page_in pass (Some g) ≡ None
+page_still g pass apart = ap (option_map (λ w. w.page)) (waits_still g pass apart)
+
+pub page_so : (g : Group) (pass : ℕ) → page_in pass (Some g) ≡ then_some (g.pass == pass) g.page
+page_so g pass = elim (cases_Bool (g.pass == pass)) [
+  | inl same ↦ rw same refl
+  | inr other ↦ rw other refl
+]
+
+-- where no group's pass is this one, none waits
+pub none_waiting : (pass : ℕ) (groups : Slab Group) → ((n : ℕ) → ForSome (get groups n) (λ g. g.pass ≢ pass)) → filter_map (waits_in pass) groups.slots ≡ []
+none_waiting pass groups apart = given_same (waits_in pass) (waits_in pass) refl refl groups.slots [] (λ n. by (get groups n) (apart n))
+  where
+    by : (o : Option Group) → ForSome o (λ g. g.pass ≢ pass) → waits_in pass o ≡ None
+    by None none = refl
+    by (Some g) differs = waits_still g pass (differs g refl)
+
+-- ---------------------------------------------------------------- one group is written
+
+-- under a number, where a group stood, one of the same content is written
+module _ (numbers : Numbers) (pass : ℕ) (old : Slab Group) (are : AreGroups numbers old pass) (number : ℕ) (was now : Group) (stood : get old number ≡ Some was) (content : now.content ≡ was.content) where
+  abbrev new : Slab Group
+  new = with_value old number now
+
+  fills : Fills old new number (Some now)
+  fills = Updates-with_value old number now (ap is_some stood)
+
+  written_moved : {X : Type 0} (at : Option Group → X) (change : X → X) → at (Some now) ≡ change (at (Some was)) → (n : ℕ) → at (get new n) ≡ (if n == number then change (at (get old n)) else at (get old n))
+  written_moved at change is n = elim (cases_Bool (n == number)) [
+    | inl same ↦
+        let here = (Decides-eqb n number).0 same in
+        ap (λ n. at (get new n)) here ∙ ap at fills.changed ∙ is ∙ sym (rw same (ap (λ n. change (at (get old n))) here ∙ ap (λ o. change (at o)) stood))
+    | inr differ ↦ ap at (fills.others n (λ same. true≢false (sym ((Decides-eqb n number).1 same) ∙ differ))) ∙ sym (rw differ refl)
+  ]
+
+  written_same : {X : Type 0} (at : Option Group → X) → at (Some now) ≡ at (Some was) → (n : ℕ) → at (get new n) ≡ at (get old n)
+  written_same at is n = written_moved at (λ x. x) is n ∙ cond_same (n == number) (at (get old n))
+
+  -- each group has its number still
+  pub rewritten : now.pass ≤ pass → AreGroups numbers new pass
+  rewritten within = record {
+    numbered = λ content_now n. subst (λ o. (its_number content_now numbers ≡ Some n) ↔ (o ≡ Some content_now)) (sym (written_same content_in (ap Some content) n)) (are.numbered content_now n);
+    passes = λ n. elim (cases_Bool (n == number)) [
+      | inl same ↦ λ g is. subst (λ g. g.pass ≤ pass) (same_Some now g (sym fills.changed ∙ ap (get new) (sym ((Decides-eqb n number).0 same)) ∙ is)) within
+      | inr differ ↦ subst (λ o. ForSome o (λ g. g.pass ≤ pass)) (sym (fills.others n (λ same. true≢false (sym ((Decides-eqb n number).1 same) ∙ differ)))) (are.passes n)
+    ];
+    begun = are.begun;
+  }
+
+  -- the chains change with the places
+  pub rechained : (change : List ℕ → List ℕ) → now.places.list.items ≡ change was.places.list.items → (tree : ℕ) (bytes : List ℕ) → number_of tree bytes numbers ≡ Some number → (t : ℕ) (b : List ℕ)
+      → under [] (λ n. places_in (get new n)) (number_of t b numbers) ≡ (if t == tree && bytes_eq b bytes then change (under [] (λ n. places_in (get old n)) (number_of t b numbers)) else under [] (λ n. places_in (get old n)) (number_of t b numbers))
+  rechained change is tree bytes named =
+      under_moved [] numbers (λ n. content_in (get old n)) are.numbered (λ n. places_in (get old n)) tree bytes change (λ n. places_in (get new n)) number named (written_moved places_in change is)
+
+  -- what waits changes with the page
+  pub repaged : now.pass ≤ pass → (tree : ℕ) (bytes : List ℕ) → number_of tree bytes numbers ≡ Some number → (t : ℕ) (b : List ℕ)
+      → waiting_page t b (filter_map (waits_in pass) new.slots) ≡ (if t == tree && bytes_eq b bytes then page_in pass (Some now) else waiting_page t b (filter_map (waits_in pass) old.slots))
+  repaged within tree bytes named t b =
+      waiting_found numbers new pass (rewritten within) t b
+      ∙ under_moved None numbers (λ n. content_in (get old n)) are.numbered (λ n. page_in pass (get old n)) tree bytes (λ _. page_in pass (Some now)) (λ n. page_in pass (get new n)) number named
+      (written_moved (page_in pass) (λ _. page_in pass (Some now)) refl) t b
+      ∙ ap (λ o. if t == tree && bytes_eq b bytes then page_in pass (Some now) else o) (sym (waiting_found numbers old pass are t b))
+
+  -- what waits stays with the page
+  pub same_waiting : waits_in pass (Some now) ≡ waits_in pass (Some was) → filter_map (waits_in pass) new.slots ≡ filter_map (waits_in pass) old.slots
+  same_waiting is = given_same (waits_in pass) (waits_in pass) refl refl new.slots old.slots (written_same (waits_in pass) is)
+
+-- a content without a number has no page that could stop to wait
+pub none_removed : (g : Groups) (tree : ℕ) (bytes : List ℕ) → number_of tree bytes g.numbers.entries ≡ None → (t : ℕ) (b : List ℕ) → waiting_page t b (waiting_in g) ≡ (if t == tree && bytes_eq b bytes then None else waiting_page t b (waiting_in g))
+none_removed g tree bytes none t b =
+    let found = waiting_found g.numbers.entries g.groups g.pass g.lawful t b in
+    found
+    ∙ under_absent None g.numbers.entries (λ n. content_in (get g.groups n)) g.lawful.numbered (λ n. page_in g.pass (get g.groups n)) tree bytes (λ _. None) none refl t b
+    ∙ ap (λ o. if t == tree && bytes_eq b bytes then None else o) (sym found)
+
+-- ---------------------------------------------------------------- a group comes, and one goes
+
+-- a content gets a number under which nothing stood, or loses one under which nothing stood
+module _ (numbers_old numbers_new : BTreeMap Content ℕ) (pass : ℕ) (old new : Slab Group) (are : AreGroups numbers_old.entries old pass) (k : Content) (number : ℕ) (named : Option ℕ) (slot : Option Group)
+    (updates : Updates content_order numbers_old numbers_new k named) (fills : Fills old new number slot) (was : IsIdle pass (get old number)) (now : IsIdle pass slot) where
+  idle_same : {X : Type 0} (at : Option Group → X) → at slot ≡ at (get old number) → (n : ℕ) → at (get new n) ≡ at (get old n)
+  idle_same at same n = elim (cases_Bool (n == number)) [
+    | inl here ↦ let is = (Decides-eqb n number).0 here in ap (λ n. at (get new n)) is ∙ ap at fills.changed ∙ same ∙ ap (λ n. at (get old n)) (sym is)
+    | inr other ↦ ap at (fills.others n (λ same. true≢false (sym ((Decides-eqb n number).1 same) ∙ other)))
+  ]
+
+  -- what waits is as it was
+  pub idle_waiting : filter_map (waits_in pass) new.slots ≡ filter_map (waits_in pass) old.slots
+  idle_waiting = given_same (waits_in pass) (waits_in pass) refl refl new.slots old.slots (idle_same (waits_in pass) (now.1 ∙ sym was.1))
+
+  -- the chains are as they were
+  pub idle_chains : under [] (λ n. places_in (get new n)) named ≡ under [] (λ n. places_in (get old n)) (its_number k numbers_old.entries)
+      → (t : ℕ) (b : List ℕ) → under [] (λ n. places_in (get new n)) (number_of t b numbers_new.entries) ≡ under [] (λ n. places_in (get old n)) (number_of t b numbers_old.entries)
+  idle_chains here t b =
+      let at = λ (o : Option ℕ). under [] (λ n. places_in (get new n)) o in
+      let before = λ (o : Option ℕ). under [] (λ n. places_in (get old n)) o in
+      let told : number_of t b numbers_new.entries ≡ cond (is_at (content_order k) (content_of t b)) named (number_of t b numbers_old.entries) = updates.0 (content_of t b) in
+      elim (cases_Bool (is_at (content_order k) (content_of t b))) [
+        | inl is ↦
+            ap at (told ∙ ap (λ s. cond s named (number_of t b numbers_old.entries)) is)
+            ∙ here ∙ ap (λ k. before (its_number k numbers_old.entries)) (same_content k (content_of t b) is)
+        | inr other ↦
+            ap at (told ∙ ap (λ s. cond s named (number_of t b numbers_old.entries)) other)
+            ∙ same_under [] (λ n. places_in (get old n)) (λ n. places_in (get new n)) (idle_same places_in (now.0 ∙ sym was.0)) (number_of t b numbers_old.entries)
+      ]
+
+  idle_stands : Stands (λ n. content_in (get old n)) (λ n. content_in (get new n)) number (content_in slot)
+  idle_stands = record { changed = ap content_in fills.changed; others = λ n apart. ap content_in (fills.others n apart) }
+
+  idle_passes : ForSome slot (λ g. g.pass ≤ pass) → (n : ℕ) → ForSome (get new n) (λ g. g.pass ≤ pass)
+  idle_passes here n = elim (cases_Bool (n == number)) [
+    | inl same ↦ subst (λ o. ForSome o (λ g. g.pass ≤ pass)) (sym (ap (get new) ((Decides-eqb n number).0 same) ∙ fills.changed)) here
+    | inr other ↦ subst (λ o. ForSome o (λ g. g.pass ≤ pass)) (sym (fills.others n (λ same. true≢false (sym ((Decides-eqb n number).1 same) ∙ other)))) (are.passes n)
+  ]
+
+  -- each group has its number still, once one came
+  pub came_groups : (g : Group) → slot ≡ Some g → g.content ≡ k → g.pass ≤ pass → named ≡ Some number → its_number k numbers_old.entries ≡ None → get old number ≡ None → AreGroups numbers_new.entries new pass
+  came_groups g is content within name none vacant = record {
+    numbered = entered numbers_old numbers_new (λ n. content_in (get old n)) (λ n. content_in (get new n)) k are.numbered number none (ap content_in vacant)
+        (subst (Updates content_order numbers_old numbers_new k) name updates) (subst (Stands (λ n. content_in (get old n)) (λ n. content_in (get new n)) number) (ap content_in is ∙ ap Some content) idle_stands);
+    passes = idle_passes (λ h at. subst (λ h. h.pass ≤ pass) (same_Some g h (sym is ∙ at)) within);
+    begun = are.begun;
+  }
+
+  -- and once one went
+  pub gone_groups : (g : Group) → Some g ≡ get old number → g.content ≡ k → slot ≡ None → named ≡ None → AreGroups numbers_new.entries new pass
+  gone_groups g stood content is name = record {
+    numbered = forgotten numbers_old numbers_new (λ n. content_in (get old n)) (λ n. content_in (get new n)) k are.numbered number (ap content_in (sym stood) ∙ ap Some content)
+        (subst (Updates content_order numbers_old numbers_new k) name updates) (subst (Stands (λ n. content_in (get old n)) (λ n. content_in (get new n)) number) (ap content_in is) idle_stands);
+    passes = idle_passes (λ h at. absurd (full h None refl (sym is ∙ at)));
+    begun = are.begun;
+  }
+
+-- a group in which nothing stands has come into the room that was made for it
+module _ (g : Groups) (kept later : Slab Group) (numbers : BTreeMap Content ℕ) (k : Content) (number : ℕ) (fresh : Group) (room : kept ≡ record g.groups { capacity = kept.capacity }) (none : its_number k g.numbers.entries ≡ None)
+    (vacant : get kept number ≡ None) (updates : Updates content_order g.numbers numbers k (Some number)) (fills : Fills kept later number (Some fresh)) (content : fresh.content ≡ k) (idle : fresh.pass ≡ 0) (empty : fresh.places.list.items ≡ []) where
+  are_kept : AreGroups g.numbers.entries kept g.pass
+  are_kept = subst (λ s. AreGroups g.numbers.entries s g.pass) (sym room) (record { numbered = g.lawful.numbered; passes = g.lawful.passes; begun = g.lawful.begun })
+
+  was_idle : IsIdle g.pass (get kept number)
+  was_idle = (ap places_in vacant, ap (waits_in g.pass) vacant)
+
+  now_idle : IsIdle g.pass (Some fresh)
+  now_idle = (empty, waits_still fresh g.pass (λ same. let begun = g.lawful.begun in omega (arith, begun, idle, same)))
+
+  pub enter_groups : AreGroups numbers.entries later g.pass
+  enter_groups = came_groups g.numbers numbers g.pass kept later are_kept k number (Some number) (Some fresh) updates fills was_idle now_idle fresh refl content (omega (arith, idle)) refl none vacant
+
+  pub enter_waiting : filter_map (waits_in g.pass) later.slots ≡ waiting_in g
+  enter_waiting = idle_waiting g.numbers numbers g.pass kept later are_kept k number (Some number) (Some fresh) updates fills was_idle now_idle ∙ ap (λ s. filter_map (waits_in g.pass) s.slots) room
+
+  pub enter_chains : (t : ℕ) (b : List ℕ) → under [] (λ n. places_in (get later n)) (number_of t b numbers.entries) ≡ chain_in t b g
+  enter_chains t b =
+      idle_chains g.numbers numbers g.pass kept later are_kept k number (Some number) (Some fresh) updates fills was_idle now_idle
+      (ap places_in fills.changed ∙ empty ∙ sym (ap (under [] (λ n. places_in (get kept n))) none)) t b
+      ∙ ap (λ s. under [] (λ n. places_in (get s n)) (number_of t b g.numbers.entries)) room

@@ -1,0 +1,35 @@
+use Rattle.ksm_tree.proofs.Names.{[], ap, arith, best_of, content_in, found_at, group_places, length, List, nat_tests, number_of, option_map, refl, rows_of, sym, true, ℕ, ◌==◌, ◌∙◌, ◌∷◌, ◌≡◌}
+use Rattle.ksm_tree.proofs.Indexed.{content_here, group_here}
+use Rattle.ksm_tree.proofs.Joining.{none_best}
+use Rattle.ksm_tree.proofs.Standing.{stands_under}
+use Rattle.ksm_tree.proofs.dups.Dups.best_of.Goals as goal
+
+-- a list of length 0
+none_of : (xs : List ℕ) → true ≡ (length xs == 0) → [] ≡ xs
+none_of [] none = refl
+none_of (x ∷ xs) none = grind (arith, nat_tests, none)
+
+pub returns-in_err-found : goal.returns-in_err-found
+returns-in_err-found c tree bytes is =
+    absurd (stands_under c.self.inside.index.groups tree bytes c.args.group (ap (λ s. number_of tree bytes s.numbers) c.self.view_is ∙ is) c.in_err-found.ensures)
+
+pub returns-then-is_empty : goal.returns-then-is_empty
+returns-then-is_empty c tree bytes is =
+    let s = c.self.inside in
+    let chain = group_here s.slots s.next s.index c.self.invariant tree bytes c.args.group c.in_ok-found.found.now (ap (λ s. number_of tree bytes s.numbers) c.self.view_is ∙ is) c.in_ok-found.ensures in
+    ap (option_map found_at) (none_best tree bytes c.args.limit s.slots.dups c.self.invariant.lawful.in_place_order (none_of _ c.if-is_empty.ensures ∙ c.as_slice-chain.ensures ∙ chain))
+    ∙ ap (λ s. option_map found_at (best_of tree bytes c.args.limit s.dups)) c.self.view_is
+
+pub best_in-requires : goal.best_in-requires
+best_in-requires c =
+    let s = c.self.inside in
+    let g = c.in_ok-found.found.now in
+    let own = (s.index.groups.lawful.numbered g.content c.args.group).1 (ap content_in (sym c.in_ok-found.ensures)) in
+    c.as_slice-chain.ensures ∙ group_here s.slots s.next s.index c.self.invariant g.content.tree g.content.bytes c.args.group g own c.in_ok-found.ensures
+    ∙ ap (λ s. group_places g.content.tree g.content.bytes (rows_of s.dups)) c.self.view_is
+
+pub returns : goal.returns
+returns c tree bytes is =
+    let s = c.self.inside in
+    let one = content_here s.slots s.next s.index c.self.invariant tree bytes c.args.group c.in_ok-found.found.now (ap (λ s. number_of tree bytes s.numbers) c.self.view_is ∙ is) c.in_ok-found.ensures in
+    c.best_in.ensures ∙ ap (λ k. option_map found_at (best_of k.tree k.bytes c.args.limit c.args.self.now.dups)) one

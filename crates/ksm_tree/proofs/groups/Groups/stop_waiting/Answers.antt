@@ -1,0 +1,24 @@
+use Rattle.ksm_tree.proofs.Names.{ap, arith, bytes_eq, Group, if◌then◌else◌, refl, sym, waiting_in, waiting_page, ◌&&◌, ◌==◌, ◌∙◌}
+use Rattle.ksm_tree.proofs.Standing.{none_removed, page_still, repaged, rewritten, stands_under}
+use Rattle.ksm_tree.proofs.groups.Groups.stop_waiting.Goals as goal
+
+pub invariant_of-self : goal.invariant_of-self
+invariant_of-self c =
+    let s = c.args.self.now in
+    let was = c.in-Some-get_mut.group.now in
+    record { lawful = rewritten s.numbers.entries s.pass s.groups s.lawful c.in-Some.number was (record was { pass = 0 }) (sym c.in-Some-get_mut.ensures.value) refl (omega arith) }
+
+pub returns-in-Some-get_mut-clause-removed : goal.returns-in-Some-get_mut-clause-removed
+returns-in-Some-get_mut-clause-removed c t b =
+    let s = c.args.self.now in
+    let was = c.in-Some-get_mut.group.now in
+    let now : Group = record was { pass = 0 } in
+    let begun = s.lawful.begun in
+    repaged s.numbers.entries s.pass s.groups s.lawful c.in-Some.number was now (sym c.in-Some-get_mut.ensures.value) refl (omega arith) c.args.tree c.args.bytes.now (sym c.in-Some.ensures) t b
+    ∙ ap (λ o. if t == c.args.tree && bytes_eq b c.args.bytes.now then o else waiting_page t b (waiting_in s)) (page_still now s.pass (λ e. omega (arith, begun, e)))
+
+pub returns-in_default-get_mut-clause-removed : goal.returns-in_default-get_mut-clause-removed
+returns-in_default-get_mut-clause-removed c = absurd (stands_under c.args.self.now c.args.tree c.args.bytes.now c.in-Some.number (sym c.in-Some.ensures) c.in_default-get_mut.ensures.value)
+
+pub returns-in_default-clause-removed : goal.returns-in_default-clause-removed
+returns-in_default-clause-removed c = none_removed c.args.self.now c.args.tree c.args.bytes.now (sym c.in_default.ensures)
