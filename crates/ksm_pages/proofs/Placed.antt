@@ -1,5 +1,7 @@
 -- The run of a page among the runs: what comes before it and behind it, and what a change of it is for all pages.
-use Rattle.ksm_pages.proofs.Names.{[], add-one, All, All-drop, All-nil, All-set, AllWithin, ap, AreAscending, AreRuns, arith, begins_behind, Bool, cases_lt, comes_before, drop, drop_all, drop_more, false, find, find-append, flat_map-append, get_or, GuestPage, inl, inr, is_of, IsRunOf, length, List, marked, Named, None, not, not-false, not-true, Option, option_or, pages_in, pages_ordered, refl, set, set_split, slice_get, subst, suc, sym, take, take-append-drop, true, with_named, without_named, ℕ, ◌++◌, ◌+◌, ◌-◌, ◌<◌, ◌∙◌, ◌∷◌, ◌≡◌, ◌≢◌, ◌≤◌}
+use Rattle.std.proofs.lemmas.List.Sums.{AllPass-from_list_all}
+use Rattle.std.proofs.Math.Seq.{take-suc}
+use Rattle.ksm_pages.proofs.Names.{[], add-one, All, All-append, All-drop, All-nil, All-set, AllWithin, ap, append-nil, AreAscending, AreRuns, arith, begins_behind, Bool, cases_lt, comes_before, drop, drop_all, drop_more, false, find, find-append, flat_map-append, get_or, GuestPage, inl, inr, is_of, IsRunOf, length, List, list_all, marked, Named, None, not, not-false, not-true, Option, option_or, pages_in, pages_ordered, refl, set, set_split, slice_get, subst, suc, sym, take, take-append-drop, true, with_named, without_named, ℕ, ◌++◌, ◌+◌, ◌-◌, ◌<◌, ◌∙◌, ◌∷◌, ◌≡◌, ◌≢◌, ◌≤◌}
 use Rattle.ksm_pages.proofs.Between.{all_behind, before_last, pairs_first, pairs_second}
 use Rattle.ksm_pages.proofs.Keyed.{changed_between, find_between, with_between, without_between}
 
@@ -54,6 +56,17 @@ behind_run page runs parts at begins =
           subst (λ rs. All (high page) (pages_in rs)) (sym (drop_more runs at [] within)) (all_behind page run rest rise (begins within))
       | inr past ↦ subst (λ rs. All (high page) (pages_in rs)) (sym (drop_all at runs past)) (All-nil (high page))
     ]
+
+-- where the pages of a run come before a page, so do all up to the end of that run
+pub ahead_through : (page : GuestPage) (runs : List (List Named)) (at : ℕ) (d : List Named) → at < length runs → All (low page) (pages_in (take at runs))
+    → list_all (λ n. comes_before n.page page) (get_or runs at d) ≡ true → All (low page) (pages_in (take (at + 1) runs))
+ahead_through page runs at d within before ends =
+    let run = get_or runs at d in
+    let cut : pages_in (take (at + 1) runs) ≡ pages_in (take at runs) ++ run =
+    ap (λ n. pages_in (take n runs)) (add-one at) ∙ ap pages_in (take-suc runs at d within)
+    ∙ flat_map-append (λ r. r) (take at runs) (run ∷ []) ∙ ap (λ r. pages_in (take at runs) ++ r) (append-nil run) in
+    subst (All (low page)) (sym cut)
+    (All-append (low page) (pages_in (take at runs)) run before (AllPass-from_list_all (λ n. comes_before n.page page) run ends))
 
 -- the last run that does not begin behind a page is its run, or else the first
 pub placed_at : (page : GuestPage) (runs : List (List Named)) → AreRuns runs → (n : ℕ) → n ≤ length runs

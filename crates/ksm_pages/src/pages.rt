@@ -563,8 +563,8 @@ impl Pages {
         if !self.dups.is_empty_group(group, tree, &entry.bytes) {
             return false;
         }
-        self.dups.meet(group, spot.page);
         self.rows.wait(spot);
+        self.dups.meet(group, spot.page);
         true
     }
 

@@ -67,6 +67,19 @@ impl Entry {
         }
     }
 
+    /// The same of a row with a frame of its own.
+    #[inline(always)]
+    pub fn state_alone(&self, pass: u64) -> PageState
+        requires { self.now.kind ≡ Kind.Own }
+        ensures { result ≡ state_of self.now.kind self.now.number pass }
+    {
+        if self.number == pass {
+            PageState::Waiting
+        } else {
+            PageState::Private
+        }
+    }
+
     /// The frame of its own, if it has one.
     #[inline(always)]
     pub fn own_frame(&self) -> Option<u32>

@@ -334,7 +334,7 @@ impl Rows {
         // Called for its contract alone: the number of pages fits 64 bits.
         let _ = self.order.len();
         let entry = &mut self.entries[key as usize];
-        let old = entry.state(self.pass);
+        let old = entry.state_alone(self.pass);
         entry.number = self.pass;
         self.tally = self.tally.moved(old, PageState::Waiting);
     }

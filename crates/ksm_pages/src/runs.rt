@@ -154,11 +154,12 @@ pub fn put(runs: &mut Vec<Run>, alloc: Global, named: Named) -> Result<(), Fault
         return put_behind(runs, alloc, at, named);
     }
     let is_full = runs[at].len() >= LONGEST_RUN;
-    if !is_full && runs[at].begins_with(named.page.guest) {
-        return put_in(runs, at, named);
+    // Pages that come in order fill their runs, and those of another guest begin one: so mostly none is missing in a run.
+    let begins_one = is_full || !runs[at].begins_with(named.page.guest);
+    if begins_one && runs[at].begins_behind(named.page) {
+        return put_behind(runs, alloc, at, named);
     }
-    // Pages that come in order fill their runs, and those of another guest begin one.
-    if runs[at].ends_before(named.page) {
+    if begins_one && runs[at].ends_before(named.page) {
         return put_behind(runs, alloc, at + 1, named);
     }
     if !is_full {

@@ -3,12 +3,12 @@ use Rattle.ksm_pages.proofs.Visiting.{IsAsked, asked, finds_waits, lawful_waits}
 use Rattle.ksm_pages.proofs.pages.Pages.waits_again.Goals as goal
 
 -- the row may be changed, and its group is known
-known : (c : goal.After-wait) → IsAsked c.self.inside c.args.self.now c.args.spot.page c.in-Some.entry.now c.in-Some.entry.now.group
+known : (c : goal.After-meet) → IsAsked c.self.inside c.args.self.now c.args.spot.page c.in-Some.entry.now c.in-Some.entry.now.group
 known c =
     asked c.self.inside c.self.invariant c.self.view_is c.in-Some.entry.now c.in-Some.ensures (sym c.if-not-is_restless.ensures)
     refl c.tree_in-tree.ensures (c.if-not-is_empty_group.ensures.numbered refl)
 
-own : (c : goal.After-wait) → same_page c.meet.result c.args.spot.page ≡ true
+own : (c : goal.After-meet) → same_page c.meet.result c.args.spot.page ≡ true
 own c =
     let told = c.if-not-is_empty_group.ensures in
     let tree = c.tree_in-tree.result in
