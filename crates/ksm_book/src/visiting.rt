@@ -30,8 +30,28 @@ pub enum Visited {
 
 impl State {
     /// Visits a page, if its row is one that a visit may change. Where memory is refused, nothing changes.
+    ///
+    /// Of a page that waited in the last pass mostly one call tells all; any other is visited in a function of its own, so that
+    /// what it needs is not laid out before.
     #[inline(always)]
     pub fn visit(&mut self, table: &FrameTable, spot: Spot) -> Result<Visited, Fault>
+        requires own { self.old.keeper.table ≡ table.now }
+        ensures own { self.new.keeper.table ≡ self.old.keeper.table }
+        ensures comes { OnOk result (Comes self.old self.new (λ s. page_visited doing s spot.page)) }
+        ensures quiet { IfOk result (λ visited. is_quiet visited ≡ true → (from : BookValue) (s : BookState × Deed) → Reached from self.old s → IsStill s (page_visited doing s spot.page)) }
+        ensures restless { self.new.restless ≡ self.old.restless }
+        ensures refused { OnErr result (Comes self.old self.new (λ s. s)) }
+        ensures refused_row { OnErr result (restless_at spot.page self.new.state.rows ≡ true) }
+    {
+        if self.pages.waits_again(spot) {
+            return Ok(Visited::Same);
+        }
+        self.visit_any(table, spot)
+    }
+
+    // The same for any page.
+    #[inline(never)]
+    fn visit_any(&mut self, table: &FrameTable, spot: Spot) -> Result<Visited, Fault>
         requires own { self.old.keeper.table ≡ table.now }
         ensures own { self.new.keeper.table ≡ self.old.keeper.table }
         ensures comes { OnOk result (Comes self.old self.new (λ s. page_visited doing s spot.page)) }

@@ -1,5 +1,5 @@
 -- Rows that wait no more, and the row of a page that has one.
-use Rattle.ksm_pages.proofs.Names.{All, ap, Bool, bytes_eq, bytes_eq-Decides, false, frame_seen, get_or, GuestPage, Held, held_at, Inside, is_some, IsKnown, let_go, List, map, Merged, merged_into, None, Option, option_map, PageState, PagesValue, Private, private_state, refl, Row, settled, settled_state, shared_state, Some, stored, sym, true, true≢false, unshared, Waiting, waiting_state, Zero, ℕ, ◌&&◌, ◌∙◌, ◌≡◌}
+use Rattle.ksm_pages.proofs.Names.{All, ap, bytes_eq, false, frame_seen, get_or, GuestPage, Held, held_at, Inside, is_some, IsKnown, let_go, List, map, Merged, merged_into, None, Option, option_map, PageState, PagesValue, Private, private_state, refl, Row, settled, settled_state, shared_state, Some, stored, sym, true, true≢false, unshared, Waiting, waiting_state, Zero, ℕ, ◌&&◌, ◌∙◌, ◌≡◌}
 use Rattle.ksm_pages.proofs.Alike.{map_alike}
 use Rattle.ksm_pages.proofs.Leaving.{row_seen, view_of}
 
@@ -10,28 +10,11 @@ rests Waiting alone = refl
 rests (Merged n) alone = absurd (true≢false alone)
 rests Zero alone = absurd (true≢false alone)
 
-and_right : (a b : Bool) → b ≡ true → a ≡ (a && b)
-and_right true b is = sym is
-and_right false b is = refl
-
-and_never : (a b : Bool) → b ≡ false → false ≡ (a && b)
-and_never true b is = sym is
-and_never false b is = refl
-
--- a store of the same bytes settles the row
-pub stored_same : (bytes : List ℕ) (r : Row) → shared_state r.state ≡ false → bytes_eq r.bytes bytes ≡ true → settled r ≡ stored bytes r
-stored_same bytes r alone same =
-    λ i. record r {
-      bytes = (bytes_eq-Decides r.bytes bytes).0 same i;
-      unchanged = and_right r.unchanged (bytes_eq r.bytes bytes) same i;
-      state = rests r.state alone i;
-    }
-
--- a store of other bytes writes them too
-pub stored_other : (bytes : List ℕ) (r : Row) → shared_state r.state ≡ false → bytes_eq r.bytes bytes ≡ false
-    → record (settled r) { bytes = bytes; unchanged = false } ≡ stored bytes r
-stored_other bytes r alone other =
-    λ i. record r { bytes = bytes; unchanged = and_never r.unchanged (bytes_eq r.bytes bytes) other i; state = rests r.state alone i }
+-- a store settles the row, and writes its bytes
+pub stored_settled : (bytes : List ℕ) (r : Row) → shared_state r.state ≡ false
+    → record (settled r) { bytes = bytes; unchanged = r.unchanged && bytes_eq r.bytes bytes } ≡ stored bytes r
+stored_settled bytes r alone =
+    λ i. record r { bytes = bytes; unchanged = r.unchanged && bytes_eq r.bytes bytes; state = rests r.state alone i }
 
 -- a row that is let go
 pub went : (r : Row) → shared_state r.state ≡ false → record (settled r) { unchanged = false; mergeable = false } ≡ let_go r

@@ -2,6 +2,7 @@
 #![tactic(auto)]
 
 mod ahead;
+mod guesses;
 mod named;
 mod order;
 mod pages;

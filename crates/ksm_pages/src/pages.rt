@@ -137,8 +137,26 @@ fn frame_of(dups: &Dups, frames: &[u32], entry: &Entry, pass: u64) -> Option<u32
 }
 
 /// Takes the page of a row out of its dup, if it is merged, and out of the waiting pages, if it waits. Gives the frame
-/// on which it lay, if it did on one.
+/// on which it lay, if it did on one. Mostly the row is Private, and is in nothing.
+#[inline(always)]
 fn left_by(dups: &mut Dups, frames: &[u32], knobs: &Knobs, entry: &Entry, pass: u64) -> Option<u32>
+    ensures { IsLeft knobs.now frames.now dups.old dups.new result (held_of pass entry.now) }
+{
+    match entry.state(pass) {
+        PageState::Private => Some(entry.at),
+        _ => left_by_any(dups, frames, knobs, entry, pass),
+    }
+}
+
+/// The same, whatever the row is.
+#[inline(never)]
+fn left_by_any(
+    dups: &mut Dups,
+    frames: &[u32],
+    knobs: &Knobs,
+    entry: &Entry,
+    pass: u64,
+) -> Option<u32>
     ensures { IsLeft knobs.now frames.now dups.old dups.new result (held_of pass entry.now) }
 {
     match entry.state(pass) {
@@ -266,6 +284,7 @@ impl Pages {
     }
 
     /// Where a page lies, and where it is at home; none where it has no row.
+    #[inline(always)]
     pub fn held(&self, page: GuestPage) -> Option<Held>
         ensures { MatchOption result (row_at page self.now.rows ≡ None) (IsHeld (seen self.now) page) }
     {
@@ -455,7 +474,6 @@ impl Pages {
         let Some(entry) = self.rows.find(spot) else {
             return;
         };
-        let is_same = entry.bytes == *bytes;
         left_by(
             &mut self.dups,
             &self.frames,
@@ -463,10 +481,7 @@ impl Pages {
             entry,
             self.rows.pass(),
         );
-        self.rows.stop_waiting(spot);
-        if !is_same {
-            self.rows.write(spot, bytes);
-        }
+        self.rows.store(spot, bytes);
     }
 
     /// A Private page is at home on another node from now on.
@@ -531,24 +546,11 @@ impl Pages {
         }
     }
 
-    /// What a visit of a page finds, and what it changes by that alone. Refused for memory alone, it changes nothing.
+    /// Whether a visit of a page finds that it waits, where its row and its group lie where that was guessed and nothing
+    /// stands in the group, as it is with nearly all visits of pages that waited in the last pass. Then it waits from now
+    /// on. Else nothing changes, and `visit` tells.
     #[inline(always)]
-    pub fn visit(&mut self, spot: Spot) -> Result<Find, Fault>
-        ensures found { IfOk result (Finds (seen self.old) (seen self.new) spot.page) }
-        ensures refused { OnErr result (self.new ≡ self.old) }
-        ensures restless { OnErr result (MatchOption (row_at spot.page self.old.rows) (true ≡ false) (λ r. is_restless r ≡ true)) }
-        ensures fault { OnErr result (result ≡ Err Memory) }
-    {
-        if self.waits_again(spot) {
-            return Ok(Find::Waits);
-        }
-        self.visit_any(spot)
-    }
-
-    // A page waits, where its row and its group lie where that was guessed and nothing stands in the group, as it is with
-    // nearly all visits of pages that waited in the last pass. Else nothing changes.
-    #[inline(always)]
-    fn waits_again(&mut self, spot: Spot) -> bool
+    pub fn waits_again(&mut self, spot: Spot) -> bool
         ensures waits { IsTrue result → Finds (seen self.old) (seen self.new) spot.page Waits }
         ensures denied { result ≡ false → self.new ≡ self.old }
     {
@@ -568,9 +570,8 @@ impl Pages {
         true
     }
 
-    // The same for any page.
-    #[inline(never)]
-    fn visit_any(&mut self, spot: Spot) -> Result<Find, Fault>
+    /// What a visit of a page finds, and what it changes by that alone. Refused for memory alone, it changes nothing.
+    pub fn visit(&mut self, spot: Spot) -> Result<Find, Fault>
         ensures found { IfOk result (Finds (seen self.old) (seen self.new) spot.page) }
         ensures refused { OnErr result (self.new ≡ self.old) }
         ensures restless { OnErr result (MatchOption (row_at spot.page self.old.rows) (true ≡ false) (λ r. is_restless r ≡ true)) }
@@ -590,8 +591,7 @@ impl Pages {
             return Ok(Find::Dup(best));
         }
         if !entry.unchanged {
-            self.become_unchanged(spot);
-            self.rows.remember(spot, group);
+            self.become_unchanged(spot, group);
             return Ok(Find::Changed);
         }
         if is_for_zero(&self.knobs, &entry.bytes) {
@@ -727,8 +727,8 @@ impl Pages {
         self.rows.sweep_restless();
     }
 
-    // A page with a frame of its own is Private and unchanged from now on.
-    fn become_unchanged(&mut self, spot: Spot)
+    // A page with a frame of its own is Private and unchanged from now on. The number of its group is remembered.
+    fn become_unchanged(&mut self, spot: Spot, group: u32)
         requires { IsAlone spot.page self.old.rows }
         ensures { seen self.new ≡ visited spot.page (λ r. record r { unchanged = true; state = Private }) (seen self.old) }
     {
@@ -742,11 +742,11 @@ impl Pages {
             entry,
             self.rows.pass(),
         );
-        self.rows.stop_waiting(spot);
-        self.rows.set_unchanged(spot, true);
+        self.rows.become_unchanged(spot, group);
     }
 
     // Where the page of a spot lies, and where it is at home.
+    #[inline(always)]
     fn told(&self, spot: Spot) -> Option<Held>
         ensures { MatchOption result (row_at spot.page self.now.rows ≡ None) (IsHeld (seen self.now) spot.page) }
     {

@@ -3,7 +3,7 @@
 //! The state of a row is kept as a kind and a number. A row with a frame of its own waits exactly where its number is
 //! that of the pass that goes on: so when a pass begins and none waits any more, one number grows, and no row is written.
 
-ghost use Rattle.std.specs.Prelude.{◌≡◌};
+ghost use Rattle.std.specs.Prelude.{◌≡◌, ◌&&◌, bytes_eq};
 ghost use Rattle.ksm_pages.specs.Held.{forgotten, frame_of, held_of, is_restless as is_a_restless, state_of};
 
 use ksm_base::{GuestPage, PageBytes, PageState, Row};
@@ -91,7 +91,19 @@ impl Entry {
         }
     }
 
+    /// The entry has these bytes. Where they are others than before, it is not unchanged.
+    #[inline(always)]
+    pub fn take_bytes(&mut self, bytes: &PageBytes)
+        ensures { self.new ≡ record self.old { bytes = bytes.now; unchanged = self.old.unchanged && bytes_eq self.old.bytes bytes.now } }
+    {
+        if self.bytes != *bytes {
+            self.bytes = *bytes;
+            self.unchanged = false;
+        }
+    }
+
     /// An entry with a frame of its own says no longer in which pass it came to wait.
+    #[inline(always)]
     pub fn forget_pass(&mut self)
         ensures { self.new ≡ forgotten self.old }
     {

@@ -1,10 +1,11 @@
 //! The rows: each in a slab under a key, with the order of their pages, those that a visit of the scan may change, and
 //! how many there are of each state.
 //!
-//! A call that is told a right key costs no search, and one that is told a wrong one two binary searches: of the run in
-//! which the page is, and of the page in it. `settle_all` writes no row. `unshare_all` walks over all.
+//! A key is told as a guess, or comes from a table of guesses by page (`guesses.rt`). Where it is right no search is made;
+//! where it is wrong there are two binary searches: of the run in which the page is, and of the page in it. `settle_all`
+//! writes no row. `unshare_all` walks over all.
 
-ghost use Rattle.std.specs.Prelude.{◌≡◌, ◌≤◌, true, false, [], None, Some, All, IfErr, IfOk, IfSome, MatchOption, OnErr, OnOk, count_by, filter, find, is_some, length, map, not, option_map, slice_get};
+ghost use Rattle.std.specs.Prelude.{◌≡◌, ◌≤◌, true, false, [], None, Some, All, IfErr, IfOk, IfSome, MatchOption, OnErr, OnOk, ◌&&◌, bytes_eq, count_by, filter, find, is_some, length, map, not, option_map, slice_get};
 ghost use Rattle.ksm_base.specs.declared.page.GuestPage.{GuestPage};
 ghost use Rattle.ksm_base.specs.declared.row.PageState.TheVariants.{Private, Waiting, Merged, Zero};
 ghost use Rattle.ksm_base.specs.Apply.{fresh_row};
@@ -16,6 +17,7 @@ ghost use Rattle.ksm_pages.specs.Held.{AreAllListed, Reaches, change_held, held_
 ghost use Rattle.ksm_pages.specs.Ordered.{AreAscending, is_of};
 
 use crate::ahead::Ahead;
+use crate::guesses::Guesses;
 use crate::order::Order;
 use crate::restless::Restless;
 use crate::row::{Entry, Kind, Spot};
@@ -30,6 +32,7 @@ use std::marker::Model;
 pub struct Rows {
     entries: Slab<Entry>,
     order: Order,
+    guesses: Guesses,
     restless: Restless,
     tally: Tally,
     /// One more whenever no row waits any longer.
@@ -102,6 +105,7 @@ impl Rows {
         Rows {
             entries: Slab::new(alloc),
             order: Order::new(alloc),
+            guesses: Guesses::new(),
             restless: Restless::new(alloc),
             tally: Tally::NONE,
             pass: 1,
@@ -146,7 +150,8 @@ impl Rows {
         ensures known { is_some result ≡ is_some (held_at page self.now.held) }
         ensures page { IfSome result (λ spot. spot.page ≡ page) }
     {
-        match search(&self.order, page) {
+        let key = self.guesses.of(page);
+        match key_of(&self.entries, &self.order, Spot { page, key }) {
             Some(key) => Some(Spot { page, key }),
             None => None,
         }
@@ -242,6 +247,7 @@ impl Rows {
             mergeable: true,
             unchanged: false,
         });
+        self.guesses.remember(page, key);
         let spot = Spot { page, key };
         self.restless.add(spot);
         Ok(spot)
@@ -358,16 +364,40 @@ impl Rows {
 
     // ------------------------------------------------------------ what else a row says
 
-    /// The row has other bytes, and is not unchanged.
-    pub fn write(&mut self, spot: Spot, bytes: &PageBytes)
-        ensures { self.new ≡ record self.old { held = change_held spot.page (on_row (λ r. record r { bytes = bytes.now; unchanged = false })) self.old.held } }
+    /// The row has these bytes, and waits no more. Where its bytes were others, it is not unchanged.
+    #[inline(always)]
+    pub fn store(&mut self, spot: Spot, bytes: &PageBytes)
+        ensures { self.new ≡ record self.old { held = change_held spot.page (on_row (λ r. record (settled r) { bytes = bytes.now; unchanged = r.unchanged && bytes_eq r.bytes bytes.now })) self.old.held } }
     {
         let Some(key) = key_of(&self.entries, &self.order, spot) else {
             return;
         };
+        // Called for its contract alone: the number of pages fits 64 bits.
+        let _ = self.order.len();
         let entry = &mut self.entries[key as usize];
-        entry.bytes = *bytes;
-        entry.unchanged = false;
+        let old = entry.state(self.pass);
+        entry.take_bytes(bytes);
+        entry.forget_pass();
+        let new = entry.state(self.pass);
+        self.tally = self.tally.moved(old, new);
+    }
+
+    /// The row waits no more, and is unchanged. The number of the group in which it was found is remembered.
+    pub fn become_unchanged(&mut self, spot: Spot, group: u32)
+        ensures { self.new ≡ record self.old { held = change_held spot.page (on_row (λ r. record (settled r) { unchanged = true })) self.old.held } }
+    {
+        let Some(key) = key_of(&self.entries, &self.order, spot) else {
+            return;
+        };
+        // Called for its contract alone: the number of pages fits 64 bits.
+        let _ = self.order.len();
+        let entry = &mut self.entries[key as usize];
+        let old = entry.state(self.pass);
+        entry.unchanged = true;
+        entry.group = group;
+        entry.forget_pass();
+        let new = entry.state(self.pass);
+        self.tally = self.tally.moved(old, new);
     }
 
     /// Says whether the bytes have stayed since a visit.

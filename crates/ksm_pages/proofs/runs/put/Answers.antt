@@ -1,4 +1,4 @@
-use Rattle.ksm_pages.proofs.Names.{arith, begins_behind, comes_before, get_or, get_or_default, IsRunOf, length, list_all, subst, sym, true, ◌<◌, ◌∙◌, ◌≡◌}
+use Rattle.ksm_pages.proofs.Names.{arith, begins_behind, comes_before, get_or_default, IsRunOf, length, list_all, subst, sym, true, ◌<◌, ◌∙◌, ◌≡◌}
 use Rattle.ksm_pages.proofs.Placed.{ahead_through, behind_run}
 use Rattle.ksm_pages.proofs.runs.put.Goals as goal
 

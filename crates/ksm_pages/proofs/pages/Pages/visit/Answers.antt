@@ -1,7 +1,6 @@
-use Rattle.ksm_pages.proofs.Names.{ap, Err, Ok, OnErr, Result, RowsView, seen, sym, ◌∙◌}
-use Rattle.ksm_pages.proofs.Leaving.{view_of}
+use Rattle.ksm_pages.proofs.Names.{Err, Ok, OnErr, Result, sym, ◌∙◌}
 use Rattle.ksm_pages.proofs.Visiting.{asked, finds_changed, finds_dup, finds_gone, finds_none, finds_partner, finds_waits, finds_zero, is_alone, is_seen_restless, lawful_waits}
-use Rattle.ksm_pages.proofs.pages.Pages.visit_any.Goals as goal
+use Rattle.ksm_pages.proofs.pages.Pages.visit.Goals as goal
 
 pub returns-in_default-clause-found : goal.returns-in_default-clause-found
 returns-in_default-clause-found c = finds_none c.self.inside c.args.self.now c.self.view_is c.args.spot.page c.in_default.ensures
@@ -25,9 +24,7 @@ returns-then-not-entry-clause-found c =
     finds_changed (asked c.self.inside c.self.invariant c.self.view_is c.in-Some.entry.now c.in-Some.ensures
     (sym c.if-not-is_restless.ensures)
     c.group.ensures.kept c.tree_in.ensures c.in_ok-group.ensures.numbered)
-    c.in_default-best_of.ensures c.if-not-entry.true _
-    (ap (λ (r : RowsView). seen (view_of (record c.self-then-not-entry.inside { rows = r }))) c.remember.ensures
-    ∙ ap seen c.self-then-not-entry.view_is ∙ c.become_unchanged.ensures)
+    c.in_default-best_of.ensures c.if-not-entry.true _ c.become_unchanged.ensures
 
 pub returns-then-is_for_zero-clause-found : goal.returns-then-is_for_zero-clause-found
 returns-then-is_for_zero-clause-found c =
@@ -42,7 +39,7 @@ invariant_of-self-then-eq c =
     c.group.ensures.kept c.tree_in.ensures c.in_ok-group.ensures.numbered)
     c.in_default-best_of.ensures c.if-not-entry.false
     (sym c.if-is_for_zero.ensures) c.meet-other.ensures.met c.meet-other.ensures.again (sym c.if-eq.ensures)
-    c.meet-other.ensures.kept c.meet-other.ensures.added c.remember-then-eq.new.rows (c.remember-then-eq.ensures ∙ c.wait.ensures)
+    c.meet-other.ensures.kept c.meet-other.ensures.added c.remember.new.rows (c.remember.ensures ∙ c.wait.ensures)
 
 pub returns-then-eq-clause-found : goal.returns-then-eq-clause-found
 returns-then-eq-clause-found c =
@@ -51,7 +48,7 @@ returns-then-eq-clause-found c =
     c.group.ensures.kept c.tree_in.ensures c.in_ok-group.ensures.numbered)
     c.in_default-best_of.ensures c.if-not-entry.false
     (sym c.if-is_for_zero.ensures) c.meet-other.ensures.met c.meet-other.ensures.again (sym c.if-eq.ensures)
-    c.meet-other.ensures.kept c.meet-other.ensures.added c.remember-then-eq.new.rows (c.remember-then-eq.ensures ∙ c.wait.ensures)
+    c.meet-other.ensures.kept c.meet-other.ensures.added c.remember.new.rows (c.remember.ensures ∙ c.wait.ensures)
 
 pub returns-clause-found : goal.returns-clause-found
 returns-clause-found c =

@@ -1,7 +1,7 @@
 use Rattle.ksm_pages.proofs.Names.{ap, bytes_eq, dup_numbered, frame_seen, held_of, if◌then◌else◌, lodging, None, option_and_then, refl, rules, slice_get, sym, waiting_page, waiting_state, ◌&&◌, ◌==◌, ◌∙◌}
 use Rattle.ksm_tree.specs.Dups.{rows_of as dup_rows}
 use Rattle.ksm_pages.proofs.Paging.{kept_at_place, place_numbered}
-use Rattle.ksm_pages.proofs.pages.left_by.Goals as goal
+use Rattle.ksm_pages.proofs.pages.left_by_any.Goals as goal
 
 pub returns-in-Merged : goal.returns-in-Merged
 returns-in-Merged c = record {

@@ -3,7 +3,7 @@ use Rattle.ksm_pages.specs.declared.pages.Find.TheVariants as finds
 use Rattle.ksm_pages.specs.Paged.{Finds}
 use Rattle.ksm_book.proofs.PageVisits.{changed_leads, finds_it, none_met, restless_there, shared_comes, waits_leads, waits_quiet}
 use Rattle.ksm_book.proofs.Singles.{if_err}
-use Rattle.ksm_book.proofs.state.State.visit.Goals as goal
+use Rattle.ksm_book.proofs.state.State.visit_any.Goals as goal
 
 pub returns-in_err-found-clause-refused_row : goal.returns-in_err-found-clause-refused_row
 returns-in_err-found-clause-refused_row c =
