@@ -1,5 +1,5 @@
 -- A dup with items, and where its pages lie before and after it moves.
-use Rattle.ksm_book.proofs.Names.{list_any_at, [], Agrees, All, and_parts, ap, arith, blank, Bool, cases_Bool, cond, count_in, did, dup_frame, dup_numbered, DupFits, DupRow, Dying, each_at_page, each_has_number, eq-eqb, eqb-true, find, find_all, find_passes, Finds, FindsHeld, frame_at, frame_found, frame_number, Frames, frames_of, Free, Freeze, get_or, get_or-set_other, GuestPage, has_items, HasLost, HasMoved, if◌then◌else◌, inl, inr, instead, is_frame, is_item, IsInLife, IsLaid, IsLoose, IsLowestFree, IsServed, IsSound, item_count, items_on, KeeperView, Kind, kind_for, Ledger, length, length-set, Life, life_or, List, list_any, ltb-true, lying, Made, merged_into, mounting, Moves, named_at, ne_eqb, node_of, None, Note, Option, PAGE_WORDS, PagesView, past_lives, place_frame, Placed, Publish, refl, Row, row_at, same_page, same_Some, set, Shape, Some, spent, spent_on, Stable, state_of, subst, sym, true, with_frame, ℕ, ◌&&◌, ◌*◌, ◌+◌, ◌<◌, ◌==◌, ◌∙◌, ◌∷◌, ◌≡◌, ◌≢◌, ◌≤◌}
+use Rattle.ksm_book.proofs.Names.{list_any_at, [], Agrees, All, and_parts, ap, arith, blank, Bool, cond, count_in, did, dup_frame, dup_numbered, DupFits, DupRow, Dying, each_at_page, each_has_number, eq-eqb, eqb-true, find, find_all, find_passes, Finds, FindsHeld, frame_at, frame_found, frame_number, Frames, frames_of, Free, Freeze, get_or, get_or-set_other, GuestPage, has_items, HasLost, HasMoved, if◌then◌else◌, instead, is_frame, is_item, IsInLife, IsLaid, IsLoose, IsLowestFree, IsServed, IsSound, item_count, items_on, KeeperView, Kind, kind_for, Ledger, length, length-set, Life, life_or, List, list_any, ltb-true, lying, Made, merged_into, mounting, Moves, named_at, ne_eqb, node_of, None, Note, Option, PAGE_WORDS, PagesView, past_lives, place_frame, Placed, Publish, refl, Row, row_at, same_page, same_Some, set, Shape, Some, spent, spent_on, Stable, state_of, subst, sym, true, with_frame, ℕ, ◌&&◌, ◌*◌, ◌+◌, ◌<◌, ◌==◌, ◌∙◌, ◌∷◌, ◌≡◌, ◌≢◌, ◌≤◌}
 use mathlib.Core.Logic.{dite}
 use native.Mathlib.Decide.{ℕ_discrete}
 use Rattle.ksm_book.proofs.ByPage.{found_page, same_frames}

@@ -40,8 +40,8 @@ impl Guesses {
 
     /// A guess of the key of a page's row.
     #[inline(always)]
-    pub fn of(&self, page: GuestPage) -> u32 {
-        self.keys[slot_of(page)]
+    pub fn of(&self, page: GuestPage) -> usize {
+        self.keys[slot_of(page)] as usize
     }
 
     /// Remembers the key of a page's row.

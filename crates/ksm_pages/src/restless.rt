@@ -72,7 +72,7 @@ fn stands_at(spots: &[Spot], at: usize, page: GuestPage) -> bool
 fn is_useless(entries: &Slab<Entry>, spot: &Spot) -> bool
     ensures { result ≡ is_of_no_use spot.now (get entries.now spot.now.key) }
 {
-    match entries.get(spot.key as usize) {
+    match entries.get(spot.key) {
         Some(entry) => entry.page == spot.page && !entry.is_restless(),
         None => false,
     }

@@ -52,12 +52,12 @@ impl Model for Rows {
 
 /// The key of a page's row. The guess is tried first.
 #[inline(always)]
-fn key_of(entries: &Slab<Entry>, order: &Order, spot: Spot) -> Option<u32>
+fn key_of(entries: &Slab<Entry>, order: &Order, spot: Spot) -> Option<usize>
     requires { AreFiled entries.now order.now }
     ensures told { result ≡ key_in order.now spot.page }
     ensures there { IfSome result (λ key. IsUnder entries.now spot.page key) }
 {
-    if let Some(entry) = entries.get(spot.key as usize) {
+    if let Some(entry) = entries.get(spot.key) {
         if entry.page == spot.page {
             return Some(spot.key);
         }
@@ -67,11 +67,11 @@ fn key_of(entries: &Slab<Entry>, order: &Order, spot: Spot) -> Option<u32>
 
 /// The same, without a guess.
 #[inline(never)]
-fn search(order: &Order, page: GuestPage) -> Option<u32>
+fn search(order: &Order, page: GuestPage) -> Option<usize>
     ensures { result ≡ key_in order.now page }
 {
     match order.find(page) {
-        Some(named) => Some(named.key),
+        Some(named) => Some(named.key as usize),
         None => None,
     }
 }
@@ -89,7 +89,7 @@ fn gather(entries: &Slab<Entry>, order: &Order, restless: &mut Restless)
         if entries[named.key as usize].is_restless() {
             restless.add(Spot {
                 page: named.page,
-                key: named.key,
+                key: named.key as usize,
             });
         }
         last = Some(named.page);
@@ -130,7 +130,7 @@ impl Rows {
     pub fn at(&self, spot: Spot) -> Option<&Entry>
         ensures { IfSome result (λ entry. held_at spot.page self.now.held ≡ Some (held_of self.now.pass entry.now)) }
     {
-        match self.entries.get(spot.key as usize) {
+        match self.entries.get(spot.key) {
             Some(entry) if entry.page == spot.page => Some(entry),
             _ => None,
         }
@@ -142,7 +142,7 @@ impl Rows {
         ensures { MatchOption result (held_at spot.page self.now.held ≡ None) (λ entry. held_at spot.page self.now.held ≡ Some (held_of self.now.pass entry.now)) }
     {
         let key = key_of(&self.entries, &self.order, spot)?;
-        Some(&self.entries[key as usize])
+        Some(&self.entries[key])
     }
 
     /// A page with the key of its row, if it has one.
@@ -193,7 +193,7 @@ impl Rows {
         match self.order.after(cursor) {
             Some(named) => Some(Spot {
                 page: named.page,
-                key: named.key,
+                key: named.key as usize,
             }),
             None => None,
         }
@@ -248,7 +248,10 @@ impl Rows {
             unchanged: false,
         });
         self.guesses.remember(page, key);
-        let spot = Spot { page, key };
+        let spot = Spot {
+            page,
+            key: key as usize,
+        };
         self.restless.add(spot);
         Ok(spot)
     }
@@ -262,7 +265,7 @@ impl Rows {
         };
         // Called for its contract alone: the number of pages fits 64 bits.
         let _ = self.order.len();
-        let gone = self.entries.remove(key as usize);
+        let gone = self.entries.remove(key);
         self.tally = self.tally.moved(gone.state(self.pass), PageState::Private);
         self.order.remove(spot.page);
         self.restless.remove(spot.page);
@@ -279,7 +282,7 @@ impl Rows {
         };
         // Called for its contract alone: the number of pages fits 64 bits.
         let _ = self.order.len();
-        let entry = &mut self.entries[key as usize];
+        let entry = &mut self.entries[key];
         let old = entry.state(self.pass);
         entry.kind = Kind::Own;
         entry.number = 0;
@@ -303,7 +306,7 @@ impl Rows {
         };
         // Called for its contract alone: the number of pages fits 64 bits.
         let _ = self.order.len();
-        let entry = &mut self.entries[key as usize];
+        let entry = &mut self.entries[key];
         let old = entry.state(self.pass);
         entry.kind = Kind::Merged;
         entry.number = number;
@@ -321,7 +324,7 @@ impl Rows {
         };
         // Called for its contract alone: the number of pages fits 64 bits.
         let _ = self.order.len();
-        let entry = &mut self.entries[key as usize];
+        let entry = &mut self.entries[key];
         let old = entry.state(self.pass);
         entry.kind = Kind::Zero;
         self.tally = self.tally.moved(old, PageState::Zero);
@@ -339,7 +342,7 @@ impl Rows {
         };
         // Called for its contract alone: the number of pages fits 64 bits.
         let _ = self.order.len();
-        let entry = &mut self.entries[key as usize];
+        let entry = &mut self.entries[key];
         let old = entry.state_alone(self.pass);
         entry.number = self.pass;
         self.tally = self.tally.moved(old, PageState::Waiting);
@@ -355,7 +358,7 @@ impl Rows {
         };
         // Called for its contract alone: the number of pages fits 64 bits.
         let _ = self.order.len();
-        let entry = &mut self.entries[key as usize];
+        let entry = &mut self.entries[key];
         let old = entry.state(self.pass);
         entry.forget_pass();
         let new = entry.state(self.pass);
@@ -374,7 +377,7 @@ impl Rows {
         };
         // Called for its contract alone: the number of pages fits 64 bits.
         let _ = self.order.len();
-        let entry = &mut self.entries[key as usize];
+        let entry = &mut self.entries[key];
         let old = entry.state(self.pass);
         entry.take_bytes(bytes);
         entry.forget_pass();
@@ -391,7 +394,7 @@ impl Rows {
         };
         // Called for its contract alone: the number of pages fits 64 bits.
         let _ = self.order.len();
-        let entry = &mut self.entries[key as usize];
+        let entry = &mut self.entries[key];
         let old = entry.state(self.pass);
         entry.unchanged = true;
         entry.group = group;
@@ -408,7 +411,7 @@ impl Rows {
         let Some(key) = key_of(&self.entries, &self.order, spot) else {
             return;
         };
-        self.entries[key as usize].unchanged = unchanged;
+        self.entries[key].unchanged = unchanged;
     }
 
     /// The home of the row is another node.
@@ -418,7 +421,7 @@ impl Rows {
         let Some(key) = key_of(&self.entries, &self.order, spot) else {
             return;
         };
-        self.entries[key as usize].home = home;
+        self.entries[key].home = home;
     }
 
     /// A scan visits the row from now on, or does not.
@@ -428,7 +431,7 @@ impl Rows {
         let Some(key) = key_of(&self.entries, &self.order, spot) else {
             return;
         };
-        let entry = &mut self.entries[key as usize];
+        let entry = &mut self.entries[key];
         entry.mergeable = mergeable;
         let restless = entry.is_restless();
         self.order.mark(spot.page, mergeable);
@@ -450,7 +453,7 @@ impl Rows {
         let Some(key) = key_of(&self.entries, &self.order, spot) else {
             return;
         };
-        self.entries[key as usize].group = group;
+        self.entries[key].group = group;
     }
 
     // ------------------------------------------------------------ changes of all rows
