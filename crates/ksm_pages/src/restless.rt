@@ -14,9 +14,9 @@ ghost use Rattle.ksm_pages.specs.Filed.{IsCalm, is_useless as is_of_no_use};
 ghost use Rattle.ksm_pages.specs.Held.{AreInOrder, IsAddedTo};
 ghost use Rattle.slab.specs.Slab.{get};
 
-use crate::named::comes_before as precedes;
 use crate::row::{Entry, Spot};
 use ksm_base::GuestPage;
+use ksm_rmap::comes_before as precedes;
 use slab::Slab;
 use std::alloc::Global;
 use std::marker::Model;

@@ -4,8 +4,9 @@ ghost use Rattle.std.specs.List.{list_all};
 ghost use Rattle.ksm_base.specs.Rows.{comes_before};
 ghost use Rattle.ksm_pages.specs.Ordered.{AreAscending, begins_behind, begins_with, is_of, page_at, visited, with_named, without_named, marked};
 
-use crate::named::{Named, comes_before as precedes};
+use crate::named::Named;
 use ksm_base::{Fault, GuestPage};
+use ksm_rmap::comes_before as precedes;
 use std::alloc::Global;
 use std::marker::Model;
 

@@ -2,8 +2,10 @@
 #![tactic(auto)]
 
 mod items;
+mod page_order;
 
 pub use items::Items;
+pub use page_order::comes_before;
 
 #[cfg(test)]
 mod tests;
