@@ -49,13 +49,16 @@ impl Model for Keeper {
     } };
 }
 
-// Writes down what is known of a frame from now on.
+// Writes down what is known of a frame from now on: field by field, so that the bytes between them are not moved too.
 #[tactic(auto, using(crate::proofs::Notes::notes_set))]
 fn write_down(frames: &mut Vec<Kept>, frame: u32, note: Kept)
     requires { frame < length frames.old.items }
     ensures { (notes : List Note) (x : Note) → frames.old.items ≡ map kept_of notes → kept_of x ≡ note → frames.new.items ≡ map kept_of (slice_set notes frame x) }
 {
-    frames[frame as usize] = note;
+    let kept = &mut frames[frame as usize];
+    kept.kind = note.kind;
+    kept.base = note.base;
+    kept.generation = note.generation;
 }
 
 impl Keeper {

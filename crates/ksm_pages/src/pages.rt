@@ -467,6 +467,7 @@ impl Pages {
     }
 
     /// A page with a frame of its own gets these bytes.
+    #[inline(always)]
     pub fn store(&mut self, spot: Spot, bytes: &PageBytes)
         requires { IsAlone spot.page self.old.rows }
         ensures { seen self.new ≡ record (seen self.old) { rows = change_row spot.page (stored bytes.now) self.old.rows; restless = self.new.restless } }
