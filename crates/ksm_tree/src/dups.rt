@@ -159,7 +159,8 @@ impl Dups {
         ensures best { IsTrue result → (t limit : ℕ) (b : List ℕ) → number_of t b self.now.numbers ≡ Some group → best_of t b limit self.now.dups ≡ None }
         ensures waiting { IsTrue result → (t : ℕ) (b : List ℕ) → number_of t b self.now.numbers ≡ Some group → waiting_page t b self.now.waiting ≡ None }
     {
-        self.index.groups.is_of(group, tree, bytes) && self.index.groups.is_idle(group as usize)
+        // Whether anything stands in it is told by two words, its content by the bytes of a page: so that comes last.
+        self.index.groups.is_idle(group as usize) && self.index.groups.is_of(group, tree, bytes)
     }
 
     /// The page that waits in the group with a number from now on: the one that did, or else this one.
