@@ -39,9 +39,10 @@ const SHORT_CHAIN: usize = 16;
 /// The dups with their items, by place, by number, and by tree and bytes (mm/ksm, stable nodes and their chains).
 ///
 /// A look-up by number costs a hash and a comparison in the mean: the book gives the numbers, so nobody picks them. A
-/// look-up by content costs a comparison where the number of its group was remembered, else a search among the contents
-/// that are known, in a number of steps in the order of the logarithm of how many there are. `best` and `best_of` also
-/// walk along the chain, or, where a chain is long, along the dups of all contents that are not full, if these are fewer.
+/// look-up by content costs a comparison or two where the number of its group is remembered, by the caller or here, else
+/// a search among the contents that are known, in a number of steps in the order of the logarithm of how many there are.
+/// `best` and `best_of` also walk along the chain, or, where a chain is long, along the dups of all contents that are
+/// not full, if these are fewer.
 /// The counts are kept, so nothing is counted when they are read. Room for every place is taken at the start, so only a
 /// group, a new dup and a new item may want memory.
 #[derive(Drop)]
