@@ -1,5 +1,5 @@
 -- The best dup to join: a walk over a group, keeping the better of two, ends at the one that the definition chooses of all.
-use Rattle.ksm_tree.proofs.Names.{[], add-one, All, All-cons, All-head, All-tail, All-weaker, AllPass-from_list_all, and_parts, ap, ArePlacesToJoin, arith, best_of, better, Bool, cases_Bool, cond, drop, drop-cons, Dup, dup_at, DupRow, false, false≢true, filter, find, get_or, group_places, if◌then◌else◌, in_group, inl, InPlaceOrder, inr, is_no_worse, is_open, items_in, length, List, list_all, list_all-from_AllPass, map, may_join, nat_le, nat_lt, nat_tests, None, none-some, not, of_group, Option, pairs_head, pairs_tail, places_open, refl, rows_of, Some, sym, true, ℕ, ◌%◌, ◌&&◌, ◌+◌, ◌-◌, ◌<◌, ◌==◌, ◌^◌, ◌||◌, ◌∙◌, ◌∷◌, ◌≡◌, ◌≤◌}
+use Rattle.ksm_tree.proofs.Names.{[], add-one, All, All-cons, All-head, All-tail, All-weaker, AllPass-from_list_all, and_parts, ap, ArePlacesToJoin, arith, best_of, Bool, cases_Bool, cond, drop, drop-cons, Dup, dup_at, DupRow, false, false≢true, filter, find, get_or, group_places, if◌then◌else◌, in_group, inl, InPlaceOrder, inr, is_behind, is_no_worse, is_open, items_in, length, List, list_all, list_all-from_AllPass, map, may_join, nat_le, nat_lt, nat_tests, None, none-some, not, of_group, Option, pairs_head, pairs_tail, places_open, refl, rows_of, Some, sym, true, unless_behind, ℕ, ◌%◌, ◌&&◌, ◌+◌, ◌-◌, ◌<◌, ◌==◌, ◌^◌, ◌||◌, ◌∙◌, ◌∷◌, ◌≡◌, ◌≤◌}
 use Rattle.ksm_tree.proofs.Changes.{all_rows}
 
 -- the order of dups to join
@@ -129,6 +129,11 @@ found_self (d ∷ dups) rise =
 abbrev has_room : ℕ → Dup → Bool
 has_room limit d = nat_le 1 (length d.items) && nat_lt (length d.items) limit
 
+-- the better of two dups with room, of which the second comes later
+abbrev better : Option Dup → Dup → Dup
+better None d = d
+better (Some best) d = if is_no_worse best d then best else d
+
 -- the better of the best dup so far and the one found, if that has room
 abbrev pub joined : ℕ → Option Dup → Option Dup → Option Dup
 joined limit acc None = acc
@@ -158,29 +163,44 @@ stepped_over limit acc None outside = refl
 stepped_over limit None (Some d) outside = grind (arith, nat_tests, outside)
 stepped_over limit (Some best) (Some d) outside = grind (arith, nat_tests, outside)
 
--- a dup with an item and below the limit is compared with the best so far
-pub stepped_to : (limit : ℕ) (acc : Option Dup) (d : Dup) → 1 ≤ length d.items → length d.items < limit → joined limit acc (Some d) ≡ Some (better acc d)
-stepped_to limit acc d least below = grind (arith, nat_tests, least, below)
+-- the dup that is taken, or where there is none the best so far
+abbrev pub or_else : Option Dup → Option Dup → Option Dup
+or_else acc None = acc
+or_else acc (Some d) = Some d
 
--- a dup with as many items as the best so far, or more, sets the number
-pub least_better : (acc : Option Dup) (d : Dup) → least_of acc ≤ length d.items → length (better acc d).items ≡ length d.items
-least_better None d least = refl
-least_better (Some best) d least = grind (arith, nat_tests, least)
+-- a dup with room that has as many items as the best so far, or more, is the better of the two, but where it is no more and the number is greater
+better_is : (limit : ℕ) (acc : Option Dup) (d : Dup) (least : ℕ) → least ≡ least_of acc → 1 ≤ least → least ≤ length d.items → length d.items < limit
+    → joined limit acc (Some d) ≡ or_else acc (unless_behind (if length d.items == least then acc else None) (Some d))
+better_is limit None d least is one above below = grind (arith, nat_tests, is, one, above, below)
+better_is limit (Some best) d least is one above below = grind (arith, nat_tests, is, one, above, below)
+
+-- the dup at a place is taken where it is the better one
+pub stepped_to : (t : ℕ) (b : List ℕ) (limit : ℕ) (acc slot : Option Dup) (items least : ℕ) → items ≡ length (items_in slot) → least ≡ least_of acc → 1 ≤ least → least ≤ items → items < limit
+    → joined limit acc (of_group t b slot) ≡ or_else acc (unless_behind (if items == least then acc else None) (of_group t b slot))
+stepped_to t b limit acc None items least has is one above below = refl
+stepped_to t b limit acc (Some d) items least has is one above below =
+    elim (cases_Bool (in_group t b d.row)) [
+      | inl inside ↦ rw (inside, has) (better_is limit acc d least is one (rw (← has) above) (rw (← has) below))
+      | inr outside ↦ rw outside refl
+    ]
+
+-- what is taken stands there
+pub taken_so : (t : ℕ) (b : List ℕ) (rival slot : Option Dup) (d : Dup) → Some d ≡ unless_behind rival (of_group t b slot) → Some d ≡ slot
+taken_so t b rival None d is = is
+taken_so t b rival (Some e) d is =
+    elim (cases_Bool (in_group t b e.row)) [
+      | inl inside ↦ elim (cases_Bool (is_behind e rival)) [
+        | inl behind ↦ absurd (none-some d (sym (is ∙ (grind (arith, inside, behind)))))
+        | inr before ↦ grind (arith, is, inside, before)
+      ]
+      | inr outside ↦ absurd (none-some d (sym (is ∙ (grind (arith, outside)))))
+    ]
 
 -- one place looked at is one step of the fold
 pub stepped : (t : ℕ) (b : List ℕ) (limit : ℕ) (dups : List Dup) (acc next : Option Dup) (places : List ℕ) (i : ℕ) → i < length places → joined limit acc (of_group t b (dup_at (get_or places i 0) dups)) ≡ next → folded t b limit dups next (drop (i + 1) places) ≡ folded t b limit dups acc (drop i places)
 stepped t b limit dups acc next places i within is =
     let rest : drop i places ≡ get_or places i 0 ∷ drop (i + 1) places = rw (add-one, drop-cons places i 0) in
     ap (λ best. folded t b limit dups best (drop (i + 1) places)) (sym is) ∙ ap (folded t b limit dups acc) (sym rest)
-
--- a dup that is looked at for a group is the one that stands there
-pub stands_so : (t : ℕ) (b : List ℕ) (slot : Option Dup) (d : Dup) → Some d ≡ of_group t b slot → Some d ≡ slot
-stands_so t b None d is = is
-stands_so t b (Some e) d is =
-    elim (cases_Bool (in_group t b e.row)) [
-      | inl inside ↦ grind (arith, is, inside)
-      | inr outside ↦ absurd (none-some d (sym (is ∙ (grind (arith, outside)))))
-    ]
 
 -- a slot that cannot be joined leaves the best as it is
 pub passed_over_so : (t : ℕ) (b : List ℕ) (limit : ℕ) (acc slot : Option Dup) → joined limit acc slot ≡ acc → joined limit acc (of_group t b slot) ≡ acc

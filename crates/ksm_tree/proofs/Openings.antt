@@ -38,6 +38,10 @@ pub counts_begun : (limit n : ℕ) (places : SmallVec ℕ) → places.items ≡ 
 counts_begun limit n places none room =
     record { opens = none ∙ sym (none_open limit 0 (replicate n 0) (all_none n)); room = rw length_zeroes room }
 
+-- by the limit 0 none is open
+pub never_open : (limit n m : ℕ) → limit ≡ 0 → is_open limit n ≡ is_open limit m
+never_open limit n m none = grind (arith, nat_tests, none)
+
 -- the open places stay where a count changes and its place is open as before
 pub counts_same : (limit p n : ℕ) (counts : List ℕ) (places : SmallVec ℕ) → is_open limit n ≡ is_open limit (get_or counts p 0) → AreCounts limit counts places → AreCounts limit (set counts p n) places
 counts_same limit p n counts places same h =

@@ -51,10 +51,15 @@ chosen None None = None
 abbrev pub choice_of : DupsState → Option Choice
 choice_of s = chosen (empty_place s.places (rows_of s.dups)) (find is_stale s.dups)
 
--- the better of two dups with room, of which the second comes later
-abbrev pub better : Option Dup → Dup → Dup
-better None d = d
-better (Some best) d = if is_no_worse best d then best else d
+-- a rival has a number that is no greater than that of d
+abbrev pub is_behind : Dup → Option Dup → Bool
+is_behind d None = false
+is_behind d (Some rival) = nat_le rival.row.number d.row.number
+
+-- a dup that does not stand behind a rival
+abbrev pub unless_behind : Option Dup → Option Dup → Option Dup
+unless_behind rival None = None
+unless_behind rival (Some d) = if is_behind d rival then None else Some d
 
 -- a dup, if it is of the tree and the bytes
 abbrev pub of_group : ℕ → List ℕ → Option Dup → Option Dup

@@ -14,7 +14,7 @@ ghost use Rattle.std.specs.Option.{unwrap_or};
 ghost use Rattle.ksm_base.specs.Counting.{in_chain, leads_group};
 ghost use Rattle.ksm_base.specs.Rows.{same_page};
 ghost use Rattle.ksm_rmap.specs.Items.{has_item, with_item, without_item};
-ghost use Rattle.ksm_tree.specs.Choosing.{ArePlacesToJoin, best_of, found_at, of_group, better as better_dup, choice_of, is_no_worse as no_worse_than};
+ghost use Rattle.ksm_tree.specs.Choosing.{ArePlacesToJoin, best_of, found_at, of_group, choice_of, is_behind, unless_behind};
 ghost use Rattle.ksm_tree.specs.Dups.{AreDups, change_items, dup_at, dup_of, is_live, is_stale, items_in, items_of, rows_of, stands_at, with_new, without_place};
 ghost use Rattle.ksm_tree.specs.Index.{group_places};
 ghost use Rattle.ksm_tree.specs.Numbered.{number_of};
@@ -39,9 +39,10 @@ const SHORT_CHAIN: usize = 16;
 /// The dups with their items, by place, by number, and by tree and bytes (mm/ksm, stable nodes and their chains).
 ///
 /// A look-up by number costs a hash and a comparison in the mean: the book gives the numbers, so nobody picks them. A
-/// look-up by content costs a comparison where the number of its group was remembered, else a search among the contents
-/// that are known, in a number of steps in the order of the logarithm of how many there are. `best` and `best_of` also
-/// walk along the chain, or, where a chain is long, along the dups of all contents that are not full, if these are fewer.
+/// look-up by content costs a comparison or two where the number of its group is remembered, by the caller or here, else
+/// a search among the contents that are known, in a number of steps in the order of the logarithm of how many there are.
+/// `best` and `best_of` also walk along the chain, or, where a chain is long, along the dups of all contents that are
+/// not full, if these are fewer.
 /// The counts are kept, so nothing is counted when they are read. Room for every place is taken at the start, so only a
 /// group, a new dup and a new item may want memory.
 #[derive(Drop)]
@@ -122,6 +123,7 @@ impl Dups {
     }
 
     // The dup that a page of a tree and these bytes joins, where the places of their dups are known.
+    #[inline(always)]
     fn best_in(&self, tree: u32, bytes: &PageBytes, chain: &[u32], limit: u32) -> Option<Best>
         requires { chain.now ≡ group_places tree bytes.now (rows_of self.now.dups) }
         ensures { result ≡ option_map found_at (best_of tree bytes.now limit self.now.dups) }
@@ -136,8 +138,9 @@ impl Dups {
             let items = counts[*place as usize];
             // Fewer items than `least` wrap round to more than `room`, so one comparison tells both.
             if items.wrapping_sub(least) < room {
-                if let Some(dup) = self.candidate(*place, is_chain, tree, bytes) {
-                    best = Some(better(best, dup));
+                let rival = rival_of(best, items == least);
+                if let Some(dup) = self.candidate(*place, rival, is_chain, tree, bytes) {
+                    best = Some(dup);
                     least = items;
                     room = limit - items;
                 }
@@ -159,7 +162,8 @@ impl Dups {
         ensures best { IsTrue result → (t limit : ℕ) (b : List ℕ) → number_of t b self.now.numbers ≡ Some group → best_of t b limit self.now.dups ≡ None }
         ensures waiting { IsTrue result → (t : ℕ) (b : List ℕ) → number_of t b self.now.numbers ≡ Some group → waiting_page t b self.now.waiting ≡ None }
     {
-        self.index.groups.is_of(group, tree, bytes) && self.index.groups.is_idle(group as usize)
+        // Whether anything stands in it is told by two words, its content by the bytes of a page: so that comes last.
+        self.index.groups.is_idle(group as usize) && self.index.groups.is_of(group, tree, bytes)
     }
 
     /// The page that waits in the group with a number from now on: the one that did, or else this one.
@@ -504,11 +508,22 @@ impl Dups {
         }
     }
 
-    // The dup at a place, if it is of that tree and these bytes, as each in the chain is.
-    fn candidate(&self, place: u32, is_chain: bool, tree: u32, bytes: &PageBytes) -> Option<&Dup>
-        ensures { option_copied result ≡ (if is_chain then dup_at place self.now.dups else of_group tree bytes.now (dup_at place self.now.dups)) }
+    // The dup at a place, if it does not stand behind its rival, and is of that tree and these bytes, as each in the chain
+    // is. The rival is asked first, since a number is less to compare than the bytes of a page.
+    fn candidate(
+        &self,
+        place: u32,
+        rival: Option<&Dup>,
+        is_chain: bool,
+        tree: u32,
+        bytes: &PageBytes,
+    ) -> Option<&Dup>
+        ensures { option_copied result ≡ unless_behind (option_copied rival.entry) (if is_chain then dup_at place self.now.dups else of_group tree bytes.now (dup_at place self.now.dups)) }
     {
         let dup = self.slots.at(place)?;
+        if stands_behind(dup, rival) {
+            return None;
+        }
         if is_chain || (dup.row.tree == tree && dup.row.bytes == *bytes) {
             Some(dup)
         } else {
@@ -538,20 +553,20 @@ fn pair(alloc: Global, first: GuestPage, second: GuestPage) -> Result<Items, Fau
     Ok(items)
 }
 
-/// The better of two dups with room, of which the second comes later.
-fn better<'a>(best: Option<&'a Dup>, dup: &'a Dup) -> &'a Dup
-    ensures { result.now ≡ better_dup (option_copied best.entry) dup.entry.now }
+/// The dup that stands before one with as many items as the best so far, or more, if it has the lower number: the best
+/// one where they tie, else none.
+fn rival_of<'a>(best: Option<&'a Dup>, is_tie: bool) -> Option<&'a Dup>
+    ensures { option_copied result ≡ (if is_tie then option_copied best.entry else None) }
 {
-    match best {
-        Some(best) => { if is_no_worse(best, dup) { best } else { dup } }
-        None => dup,
-    }
+    if is_tie { best } else { None }
 }
 
-fn is_no_worse(dup: &Dup, other: &Dup) -> bool
-    ensures { result ≡ no_worse_than dup.now other.now }
+/// Whether there is a rival, and its number is no greater.
+fn stands_behind(dup: &Dup, rival: Option<&Dup>) -> bool
+    ensures { result ≡ is_behind dup.now (option_copied rival.entry) }
 {
-    let items = dup.items.len();
-    let others = other.items.len();
-    others < items || others == items && dup.row.number <= other.row.number
+    match rival {
+        Some(rival) => rival.row.number <= dup.row.number,
+        None => false,
+    }
 }

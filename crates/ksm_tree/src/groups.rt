@@ -1,7 +1,7 @@
 //! The groups by number: each tree and bytes once, with the places of its dups and the page that waits there.
 //!
-//! A group is found by its number in one step, where the caller remembers it, else by a search in the order of the
-//! contents, so nobody can pick contents that are dear to find. What the caller remembers is a guess: it is compared
+//! A group is found by its number in one step, where the caller or `Recent` remembers it, else by a search in the order
+//! of the contents, so nobody can pick contents that are dear to find. What is remembered is a guess: it is compared
 //! before it is believed.
 //!
 //! A group keeps its number when nothing stands in it any more, until there are 4,096 groups more than there were after
@@ -18,6 +18,7 @@ ghost use Rattle.ksm_tree.specs.Waits.{IsAdded, IsRemoved, waiting_page};
 
 use crate::content::Content;
 use crate::places::Places;
+use crate::recent::{Recent, place_of};
 use crate::totals::Totals;
 use ksm_base::{Fault, GuestPage, PageBytes};
 use slab::Slab;
@@ -49,6 +50,7 @@ pub struct Groups {
     pass: u64,
     // With how many groups those go in which nothing stands.
     most: usize,
+    recent: Recent,
     ghost lawful: { AreGroups numbers.entries groups pass },
 }
 
@@ -72,6 +74,7 @@ impl Groups {
             },
             pass: 1,
             most: SPARE,
+            recent: Recent::new(),
         }
     }
 
@@ -97,7 +100,7 @@ impl Groups {
         }
     }
 
-    // The same, without a guess.
+    // The same, where nothing is guessed.
     #[inline(never)]
     fn search(&self, tree: u32, bytes: &PageBytes) -> Option<u32>
         ensures { result ≡ number_of tree bytes.now self.now.numbers.entries }
@@ -118,7 +121,7 @@ impl Groups {
     }
 
     /// The number of a group, which it gets if it has none: then groups in which nothing stands may lose theirs. The
-    /// guess is tried first. The one fault is `Memory`, and then none gets one.
+    /// guess is tried first, then the number that was found lately. The one fault is `Memory`, and then none gets one.
     #[inline(always)]
     pub fn numbered(
         &mut self,
@@ -136,10 +139,17 @@ impl Groups {
         if self.is_of(guess, tree, bytes) {
             return Ok(guess);
         }
-        self.search_or_enter(alloc, tree, bytes)
+        let place = place_of(tree, bytes);
+        let recent = self.recent.at(place);
+        if self.is_of(recent, tree, bytes) {
+            return Ok(recent);
+        }
+        let number = self.search_or_enter(alloc, tree, bytes)?;
+        self.recent.set(place, number);
+        Ok(number)
     }
 
-    // The same, without a guess.
+    // The same, where nothing is guessed.
     #[inline(never)]
     fn search_or_enter(&mut self, alloc: Global, tree: u32, bytes: &PageBytes) -> Result<u32, Fault>
         ensures numbered { IfOk result (λ number. number_of tree bytes.now self.new.numbers.entries ≡ Some number) }

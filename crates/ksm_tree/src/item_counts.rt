@@ -81,6 +81,11 @@ impl Counts {
         requires { place < length self.old }
         ensures { self.new ≡ slice_set self.old place count }
     {
+        // By the limit 0 no place is open before or after, as it is where all chains are short.
+        if self.limit == 0 {
+            self.each[place as usize] = count;
+            return;
+        }
         let was_open = is_open(self.limit, self.each[place as usize]);
         let opens = is_open(self.limit, count);
         self.each[place as usize] = count;

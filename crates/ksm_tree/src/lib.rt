@@ -10,6 +10,7 @@ mod index;
 mod item_counts;
 pub mod laws;
 mod places;
+mod recent;
 mod slots;
 mod totals;
 mod waiting;

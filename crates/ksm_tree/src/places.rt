@@ -90,8 +90,9 @@ impl Places {
         ensures one { length self.new.list.items ≤ length self.old.list.items + 1 }
         ensures capacity { self.new.list.capacity ≡ self.old.list.capacity }
     {
-        let at = place_in(self.list.as_slice(), place);
-        if !stands_at(self.list.as_slice(), at, place) {
+        let places = self.list.as_slice();
+        let at = place_in(places, place);
+        if !stands_at(places, at, place) {
             let _there_is_room = self.list.insert(at, place);
         }
     }
@@ -102,8 +103,9 @@ impl Places {
         ensures less { length self.new.list.items ≤ length self.old.list.items }
         ensures capacity { self.new.list.capacity ≡ self.old.list.capacity }
     {
-        let at = place_in(self.list.as_slice(), place);
-        if stands_at(self.list.as_slice(), at, place) {
+        let places = self.list.as_slice();
+        let at = place_in(places, place);
+        if stands_at(places, at, place) {
             self.list.remove(at);
         }
     }

@@ -1,5 +1,5 @@
 use Rattle.ksm_tree.proofs.Names.{ap, arith, get_or_default, is_open, length, sym, ◌<◌, ◌∙◌}
-use Rattle.ksm_tree.proofs.Openings.{agree, differ, counts_same, counts_opened, counts_closed, opens_with_room}
+use Rattle.ksm_tree.proofs.Openings.{agree, differ, counts_same, counts_opened, counts_closed, never_open, opens_with_room}
 use Rattle.ksm_tree.proofs.item_counts.Counts.set.Goals as goal
 
 pub insert-requires : goal.insert-requires
@@ -11,6 +11,10 @@ insert-requires c =
 
 pub invariant_of-self : goal.invariant_of-self
 invariant_of-self c =
+    counts_same c.self.inside.limit c.args.place c.args.count c.self.inside.each.items c.self.inside.open_at.list (never_open c.self.inside.limit _ _ c.if-self-eq0.true) c.self.invariant
+
+pub invariant_of-self-then-opens-was_open : goal.invariant_of-self-then-opens-was_open
+invariant_of-self-then-opens-was_open c =
     let within : c.args.place < length c.self.inside.each.items = omega (arith, c.requires, ap length c.self.view_is) in
     let read = get_or_default c.self.inside.each.items c.args.place 0 c.index.result.now within ∙ sym c.index.ensures in
     let same = sym c.is_open-opens.ensures ∙ agree _ _ c.if-opens-was_open.true ∙ c.is_open-was_open.ensures ∙ ap (is_open c.self.inside.limit) (sym read) in

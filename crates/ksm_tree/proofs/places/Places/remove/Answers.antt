@@ -6,9 +6,9 @@ taken : (c : goal.After-remove) → c.remove.new.self.items ≡ without c.args.p
 taken c =
     let place = c.args.place in
     let places = c.args.self.now.list.items in
-    let count = c.place_in-at.ensures.count ∙ ap (λ ps. length (filter (λ p. nat_lt p place) ps)) c.as_slice.ensures in
-    let within : c.place_in-at.result < length places = rw (← c.as_slice-2.ensures) (c.if-stands_at.ensures.within refl) in
-    let here : (get_or places c.place_in-at.result 0 == place) ≡ true = rw (← c.as_slice-2.ensures) (c.if-stands_at.ensures.here refl 0) in
+    let count = c.place_in-at.ensures.count ∙ ap (λ ps. length (filter (λ p. nat_lt p place) ps)) c.as_slice-places.ensures in
+    let within : c.place_in-at.result < length places = rw (← c.as_slice-places.ensures) (c.if-stands_at.ensures.within refl) in
+    let here : (get_or places c.place_in-at.result 0 == place) ≡ true = rw (← c.as_slice-places.ensures) (c.if-stands_at.ensures.here refl 0) in
     c.remove.ensures.items ∙ taken_out place places c.args.self.now.ascending c.place_in-at.result count within here
 
 pub invariant_of-self : goal.invariant_of-self
@@ -18,14 +18,14 @@ pub returns-then-stands_at-clause-without : goal.returns-then-stands_at-clause-w
 returns-then-stands_at-clause-without c =
     let place = c.args.place in
     let places = c.args.self.now.list.items in
-    let count = c.place_in-at.ensures.count ∙ ap (λ ps. length (filter (λ p. nat_lt p place) ps)) c.as_slice.ensures in
-    let within : c.place_in-at.result < length places = rw (← c.as_slice-2.ensures) (c.if-stands_at.ensures.within refl) in
-    let here : (get_or places c.place_in-at.result 0 == place) ≡ true = rw (← c.as_slice-2.ensures) (c.if-stands_at.ensures.here refl 0) in
+    let count = c.place_in-at.ensures.count ∙ ap (λ ps. length (filter (λ p. nat_lt p place) ps)) c.as_slice-places.ensures in
+    let within : c.place_in-at.result < length places = rw (← c.as_slice-places.ensures) (c.if-stands_at.ensures.within refl) in
+    let here : (get_or places c.place_in-at.result 0 == place) ≡ true = rw (← c.as_slice-places.ensures) (c.if-stands_at.ensures.here refl 0) in
     c.remove.ensures.items ∙ taken_out place places c.args.self.now.ascending c.place_in-at.result count within here
 
 pub returns-else-stands_at-clause-without : goal.returns-else-stands_at-clause-without
 returns-else-stands_at-clause-without c =
     let place = c.args.place in
     let places = c.args.self.now.list.items in
-    let count = c.place_in-at.ensures.count ∙ ap (λ ps. length (filter (λ p. nat_lt p place) ps)) c.as_slice.ensures in
-    was_out place places c.args.self.now.ascending c.place_in-at.result count (c.if-stands_at.ensures.found ∙ ap (λ ps. list_any (λ p. p == place) ps) c.as_slice-2.ensures)
+    let count = c.place_in-at.ensures.count ∙ ap (λ ps. length (filter (λ p. nat_lt p place) ps)) c.as_slice-places.ensures in
+    was_out place places c.args.self.now.ascending c.place_in-at.result count (c.if-stands_at.ensures.found ∙ ap (λ ps. list_any (λ p. p == place) ps) c.as_slice-places.ensures)
