@@ -23,7 +23,7 @@
  *   - the other pointers point to as much as is said here, none of it part of a handle; none of two pointers in a call is the same;
  *   - no call is made from a signal handler, or in the child of a fork of a program with threads.
  *
- * Link out/libksm_ffi.a of crates/ksm_ffi (`rt lib` there makes it) and libc_c.a of the kit.
+ * Link out/libksm_ffi.a of crates/ksm_ffi (`rt lib` there makes it) and liblibc_c.a of the kit.
  */
 #ifndef KSMBOOK_H
 #define KSMBOOK_H

@@ -65,7 +65,7 @@ FORMS = [
     Form("ticket", (GUEST, PAGE), "asks at which place a page is merged", "place PLACE, or private", (2,)),
     Form("rmap", (PLACE,), "asks which pages are merged at a place", "rmap G:P ..., ascending", (10,)),
     Form("scan", (), "makes pages_to_scan visits", "scanned VISITS", (5,)),
-    Form("scan", (VISITS,), "makes N visits, or less where no page is mergeable", "scanned VISITS", (5,)),
+    Form("scan", (VISITS,), "makes N visits, or none where no page is mergeable", "scanned VISITS", (5,)),
     Form("prune", (), "drops every stale dup", "pruned COUNT"),
     Form("unmerge", (GUEST,), "unmerges the pages of a guest, which the scan then passes over", "unmerged PAGES", (2,)),
     Form("mergeable", (GUEST,), "makes the pages of a guest mergeable", "ok", (2,)),

@@ -1,7 +1,7 @@
 """A machine with the real kernel: Debian's packages under software emulation, and the driver as its only program.
 
-All of it lies in a cache folder outside the repository: $KSMBOOK_CACHE, or else ksmbook/kernel in
-$XDG_CACHE_HOME or ~/.cache. A boot may take 600 seconds, or $KSMBOOK_BOOT_SECONDS.
+The kernels are kept in a folder outside the repository: $KSMBOOK_CACHE, or else ksmbook/kernel in $XDG_CACHE_HOME
+or ~/.cache. A boot may take 600 seconds, or $KSMBOOK_BOOT_SECONDS.
 """
 
 import os
