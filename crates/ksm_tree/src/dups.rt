@@ -264,21 +264,24 @@ impl Dups {
         ensures lawful { AreDups self.old }
     {
         let number = self.next;
-        let row = DupRow {
-            number,
-            place,
-            tree,
-            bytes: *bytes,
-        };
         let items = pair(self.alloc, first, second)?;
+        let dup = Dup {
+            row: DupRow {
+                number,
+                place,
+                tree,
+                bytes: *bytes,
+            },
+            items,
+        };
         let left = self.group_at(place);
         let old = self.slots.at(place);
-        self.index.add(group, &row)?;
+        self.index.add(group, &dup.row)?;
         match old {
-            Some(old) => self.index.replace(left, &old.row, &row),
+            Some(old) => self.index.replace(left, &old.row, &dup.row),
             None => {}
         }
-        self.slots.put(Dup { row, items });
+        self.slots.put(dup);
         self.next += 1;
         self.remember_group(place, group);
         self.keep_open();
