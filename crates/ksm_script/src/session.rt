@@ -7,9 +7,9 @@ ghost use Rattle.ksm_base.specs.Refusals.{is_known};
 ghost use Rattle.ksm_base.specs.declared.command.Command.TheVariants.{Scan as scan};
 ghost use Rattle.ksm_lines.specs.Knobs.{shown_in};
 ghost use Rattle.ksm_lines.specs.Leading.{short_form, page_form};
-ghost use Rattle.ksm_lines.specs.declared.line.Line.TheVariants.{Get as get_line, Ticket as ticket_line, Find as find_line, Look as look_line, Leave as leave_line, Stat as stat_line};
+ghost use Rattle.ksm_lines.specs.declared.line.Line.TheVariants.{Get as get_line, Ticket as ticket_line, Find as find_line, Look as look_line, Leave as leave_line, Equal as equal_line, ScanPages as scan_pages_line, Stat as stat_line};
 ghost use Rattle.ksm_base.specs.Counting.{counters_of};
-ghost use Rattle.ksm_script.specs.declared.reply.LineReply.TheVariants.{Counters as counters_reply, Value as value_reply};
+ghost use Rattle.ksm_script.specs.declared.reply.LineReply.TheVariants.{Counters as counters_reply, Done as done_reply, Value as value_reply};
 ghost use Rattle.frame_table.specs.Seats.{new_pass};
 ghost use Rattle.ksm_shared.specs.Locked.{EndsLawfully};
 ghost use Rattle.ksm_script.specs.declared.pass_state.PassState.TheVariants.{Idle as idle_state};
@@ -232,15 +232,26 @@ impl<N: Naming> Session<N> {
     {
         match line {
             PageLine::Store { page } => {
-                tell_made::<P, S>(to, self.apply(rt, Command::Store { page, bytes }))
+                self.tell_made::<P, R, S>(rt, Command::Store { page, bytes }, to)
             }
             PageLine::Register { page, node } => {
-                tell_made::<P, S>(to, self.apply(rt, Command::Register { page, node, bytes }))
+                self.tell_made::<P, R, S>(rt, Command::Register { page, node, bytes }, to)
             }
-            PageLine::Equal { pass, place } => {
-                P::reply(to, self.act(pass, Act::Equal { place, bytes }))
-            }
+            PageLine::Equal { pass, place } => self.tell_equal::<P, S>(pass, place, bytes, to),
         }
+    }
+
+    #[inline(never)]
+    fn tell_equal<P: Replies<S>, S>(
+        &mut self,
+        pass: u32,
+        place: u32,
+        bytes: PageBytes,
+        to: &mut S,
+    ) -> Result<(), RunFault>
+        ensures answers { IsSaid P.takes (λ reply. Answers (equal_line pass place bytes) self.old.state reply self.new.state) to.old to.new result }
+    {
+        P::reply(to, self.act(pass, Act::Equal { place, bytes }))
     }
 
     /// Does what a line says, and hands its reply over, if it has one.
@@ -266,7 +277,7 @@ impl<N: Naming> Session<N> {
             Line::Set { knob, value } => knob.setting(value),
             _ => return self.tell::<P, R, S>(rt, line, to),
         };
-        P::reply(to, self.apply(rt, command))
+        self.tell_made::<P, R, S>(rt, command, to)
     }
 
     // Hands over the reply to a line that is no command of its own, each where it arises.
@@ -283,12 +294,12 @@ impl<N: Naming> Session<N> {
             Line::Get { page } => self.tell_content::<P, R, S>(rt, page, to),
             Line::Ticket { page } => self.tell_ticket::<P, R, S>(rt, page, to),
             Line::Mappers { place } => P::reply(to, self.mappers(rt, place)),
-            Line::ScanPages => P::reply(to, self.scan_pages(rt)),
+            Line::ScanPages => self.tell_scanned::<P, R, S>(rt, to),
             Line::Show { shown } => P::reply(to, self.value(rt, shown)),
             Line::Stat => self.tell_counters::<P, R, S>(rt, to),
             Line::Find { pass, place } => self.tell_found::<P, S>(pass, place, to),
             Line::Equal { pass, place, bytes } => {
-                P::reply(to, self.act(pass, Act::Equal { place, bytes }))
+                self.tell_equal::<P, S>(pass, place, bytes, to)
             }
             Line::Look { pass } => self.tell_held::<P, S>(pass, to),
             Line::Leave { pass } => self.tell_left::<P, S>(pass, to),
@@ -318,11 +329,15 @@ impl<N: Naming> Session<N> {
         self.passes.audit(rt, self.alloc, &self.ksm)
     }
 
-    fn scan_pages<R: Wait>(&mut self, rt: &R) -> LineReply
-        ensures answers { Commands (scan self.old.state.book.knobs.pages_to_scan) self.old.state (Some result) self.new.state }
+    fn tell_scanned<P: Replies<S>, R: Wait, S>(
+        &mut self,
+        rt: &R,
+        to: &mut S,
+    ) -> Result<(), RunFault>
+        ensures answers { IsSaid P.takes (λ reply. Answers scan_pages_line self.old.state reply self.new.state) to.old to.new result }
     {
         let knobs = self.ksm.knobs(rt, &mut self.share);
-        self.apply(rt, scan_of(knobs.pages_to_scan))
+        self.tell_made::<P, R, S>(rt, scan_of(knobs.pages_to_scan), to)
     }
 
     #[inline(always)]
@@ -363,11 +378,28 @@ impl<N: Naming> Session<N> {
         }
     }
 
-    fn apply<R: Wait>(&mut self, rt: &R, command: Command) -> LineReply
-        ensures answers { Commands command self.old.state (Some result) self.new.state }
+    // Makes a command, and hands its reply over. Mostly that is `ok`, which is told apart: so no value with room for any reply is cleared
+    // before it.
+    #[inline(always)]
+    fn tell_made<P: Replies<S>, R: Wait, S>(
+        &mut self,
+        rt: &R,
+        command: Command,
+        to: &mut S,
+    ) -> Result<(), RunFault>
+        ensures answers { IsSaid P.takes (λ reply. Commands command self.old.state reply self.new.state) to.old to.new result }
+    {
+        match self.apply(rt, command) {
+            Ok(Reply::Done) => tell_done::<P, S>(to),
+            other => tell_other::<P, S>(to, other),
+        }
+    }
+
+    fn apply<R: Wait>(&mut self, rt: &R, command: Command) -> Result<Reply, Fault>
+        ensures answers { Commands command self.old.state (Some (reply_to result)) self.new.state }
     {
         let answer = self.ksm.command(rt, &mut self.share, command);
-        reply_to(answer.result())
+        answer.result()
     }
 
     #[inline(always)]
@@ -379,24 +411,20 @@ impl<N: Naming> Session<N> {
     }
 }
 
-/// Hands over the reply to a command that comes by the million. Mostly that is `ok`, which is told apart: so its text is known where it is
-/// written.
-#[inline(always)]
-fn tell_made<P: Replies<S>, S>(to: &mut S, reply: LineReply) -> Result<(), RunFault>
-    ensures { P.takes to.old to.new reply result }
+/// Hands over `ok`. It stands apart, so that LLVM doesn't take the writing for a rare case of reading a line, which it would not inline.
+#[inline(never)]
+fn tell_done<P: Replies<S>, S>(to: &mut S) -> Result<(), RunFault>
+    ensures { P.takes to.old to.new done_reply result }
 {
-    match reply {
-        LineReply::Done => P::reply(to, LineReply::Done),
-        other => tell_other::<P, S>(to, other),
-    }
+    P::reply(to, LineReply::Done)
 }
 
-/// Hands over any reply. It stands apart, so that `ok` is written without what the others want.
+/// Hands over any reply. It stands apart, so that `ok` is told without what the others want.
 #[inline(never)]
-fn tell_other<P: Replies<S>, S>(to: &mut S, reply: LineReply) -> Result<(), RunFault>
-    ensures { P.takes to.old to.new reply result }
+fn tell_other<P: Replies<S>, S>(to: &mut S, answer: Result<Reply, Fault>) -> Result<(), RunFault>
+    ensures { P.takes to.old to.new (reply_to answer) result }
 {
-    P::reply(to, reply)
+    P::reply(to, reply_to(answer))
 }
 
 /// The command that makes so many visits.
