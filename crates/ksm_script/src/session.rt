@@ -1,5 +1,5 @@
 //! A book of one caller with its passes.
-ghost use Rattle.std.specs.Prelude.{◌≡◌, ◌≤◌, ℕ, List, [], length, replicate, Ok, Some, IfOk, IfErr};
+ghost use Rattle.std.specs.Prelude.{◌≡◌, ◌≤◌, ℕ, List, [], length, replicate, None, Ok, Some, IfOk, IfErr};
 ghost use Rattle.std.specs.Io.KnownBytes.{Consumes, IsAtEnd, Keeps};
 ghost use Rattle.ksm_base.specs.State.{opening};
 ghost use Rattle.ksm_base.specs.Reading.{bytes_of, ticket_of, mappers_of};
@@ -7,7 +7,7 @@ ghost use Rattle.ksm_base.specs.Refusals.{is_known};
 ghost use Rattle.ksm_base.specs.declared.command.Command.TheVariants.{Scan as scan};
 ghost use Rattle.ksm_lines.specs.Knobs.{shown_in};
 ghost use Rattle.ksm_lines.specs.Leading.{short_form, page_form};
-ghost use Rattle.ksm_lines.specs.declared.line.Line.TheVariants.{Get as get_line, Ticket as ticket_line, Find as find_line, Look as look_line, Leave as leave_line, Equal as equal_line, ScanPages as scan_pages_line, Stat as stat_line};
+ghost use Rattle.ksm_lines.specs.declared.line.Line.TheVariants.{Get as get_line, Ticket as ticket_line, Find as find_line, Look as look_line, Leave as leave_line, ScanPages as scan_pages_line, Stat as stat_line};
 ghost use Rattle.ksm_base.specs.Counting.{counters_of};
 ghost use Rattle.ksm_script.specs.declared.reply.LineReply.TheVariants.{Counters as counters_reply, Done as done_reply, Value as value_reply};
 ghost use Rattle.frame_table.specs.Seats.{new_pass};
@@ -179,7 +179,11 @@ impl<N: Naming> Session<N> {
     ) -> Result<(), RunFault>
         ensures answers { IsSaid P.takes (λ reply. Answers (ticket_line page) self.old.state reply self.new.state) to.old to.new result }
     {
-        P::reply(to, self.ticket(rt, page))
+        // A page that is merged has a row, so the lock is taken once for it.
+        match self.ksm.ticket(rt, &mut self.share, page) {
+            Some(place) => P::reply(to, LineReply::Place(place)),
+            None => P::reply(to, self.unmerged(rt, page)),
+        }
     }
 
     #[inline(never)]
@@ -237,21 +241,23 @@ impl<N: Naming> Session<N> {
             PageLine::Register { page, node } => {
                 self.tell_made::<P, R, S>(rt, Command::Register { page, node, bytes }, to)
             }
-            PageLine::Equal { pass, place } => self.tell_equal::<P, S>(pass, place, bytes, to),
+            PageLine::Equal { pass, place } => {
+                self.tell_act::<P, S>(pass, Act::Equal { place, bytes }, to)
+            }
         }
     }
 
+    // It takes the content in an `Act`: so that of a store need not lie in memory first.
     #[inline(never)]
-    fn tell_equal<P: Replies<S>, S>(
+    fn tell_act<P: Replies<S>, S>(
         &mut self,
         pass: u32,
-        place: u32,
-        bytes: PageBytes,
+        act: Act,
         to: &mut S,
     ) -> Result<(), RunFault>
-        ensures answers { IsSaid P.takes (λ reply. Answers (equal_line pass place bytes) self.old.state reply self.new.state) to.old to.new result }
+        ensures answers { IsSaid P.takes (λ reply. OnPasses (AtPass pass (Acts act)) self.old.state reply self.new.state) to.old to.new result }
     {
-        P::reply(to, self.act(pass, Act::Equal { place, bytes }))
+        P::reply(to, self.act(pass, act))
     }
 
     /// Does what a line says, and hands its reply over, if it has one.
@@ -299,7 +305,7 @@ impl<N: Naming> Session<N> {
             Line::Stat => self.tell_counters::<P, R, S>(rt, to),
             Line::Find { pass, place } => self.tell_found::<P, S>(pass, place, to),
             Line::Equal { pass, place, bytes } => {
-                self.tell_equal::<P, S>(pass, place, bytes, to)
+                self.tell_act::<P, S>(pass, Act::Equal { place, bytes }, to)
             }
             Line::Look { pass } => self.tell_held::<P, S>(pass, to),
             Line::Leave { pass } => self.tell_left::<P, S>(pass, to),
@@ -340,19 +346,15 @@ impl<N: Naming> Session<N> {
         self.tell_made::<P, R, S>(rt, scan_of(knobs.pages_to_scan), to)
     }
 
-    #[inline(always)]
-    fn ticket<R: Wait>(&mut self, rt: &R, page: GuestPage) -> LineReply
-        ensures reply { result ≡ ticket_reply (is_known self.old.state.book page) (ticket_of page self.old.state.book) }
+    // The ticket of a page that is not merged.
+    fn unmerged<R: Wait>(&mut self, rt: &R, page: GuestPage) -> LineReply
+        ensures reply { result ≡ ticket_reply (is_known self.old.state.book page) None }
         ensures state { self.new.state ≡ self.old.state }
     {
-        // A page that is merged has a row, so the lock is taken once for it.
-        if let Some(place) = self.ksm.ticket(rt, &mut self.share, page) {
-            return LineReply::Place(place);
+        if self.ksm.registered(rt, &mut self.share, page) {
+            return LineReply::Private;
         }
-        if !self.ksm.registered(rt, &mut self.share, page) {
-            return LineReply::Refused(Refusal::Book(Fault::UnknownPage));
-        }
-        LineReply::Private
+        LineReply::Refused(Refusal::Book(Fault::UnknownPage))
     }
 
     fn mappers<R: Wait>(&mut self, rt: &R, place: u32) -> LineReply
@@ -389,10 +391,11 @@ impl<N: Naming> Session<N> {
     ) -> Result<(), RunFault>
         ensures answers { IsSaid P.takes (λ reply. Commands command self.old.state reply self.new.state) to.old to.new result }
     {
-        match self.apply(rt, command) {
-            Ok(Reply::Done) => tell_done::<P, S>(to),
-            other => tell_other::<P, S>(to, other),
+        let answer = self.apply(rt, command);
+        if let Ok(Reply::Done) = answer {
+            return tell_done::<P, S>(to);
         }
+        tell_other::<P, S>(to, answer)
     }
 
     fn apply<R: Wait>(&mut self, rt: &R, command: Command) -> Result<Reply, Fault>
