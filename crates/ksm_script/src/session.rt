@@ -380,8 +380,8 @@ impl<N: Naming> Session<N> {
         }
     }
 
-    // Makes a command, and hands its reply over. Mostly that is `ok`, which is told apart: so no value with room for any reply is cleared
-    // before it.
+    // Makes a command, and hands its reply over. Mostly that is `ok`, which is told apart: so no value with room for
+    // any reply is cleared before it.
     #[inline(always)]
     fn tell_made<P: Replies<S>, R: Wait, S>(
         &mut self,
@@ -414,7 +414,8 @@ impl<N: Naming> Session<N> {
     }
 }
 
-/// Hands over `ok`. It stands apart, so that LLVM doesn't take the writing for a rare case of reading a line, which it would not inline.
+/// Hands over `ok`. It stands apart: within the reading of a line LLVM takes the writing for a rare case, and doesn't
+/// inline it.
 #[inline(never)]
 fn tell_done<P: Replies<S>, S>(to: &mut S) -> Result<(), RunFault>
     ensures { P.takes to.old to.new done_reply result }
