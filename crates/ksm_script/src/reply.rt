@@ -77,23 +77,27 @@ pub fn write_reply<W: Write>(writer: &mut W, reply: &LineReply) -> Result<(), Ru
     match reply {
         LineReply::Done => write_text(writer, b"ok\n"),
         LineReply::Content(content) => write_content(writer, content),
-        LineReply::Place(place) => write_count(writer, "place ", u64::from(*place)),
+        LineReply::Place(place) => write_count(writer, b"place ", u64::from(*place)),
         LineReply::Private => write_text(writer, b"private\n"),
         LineReply::Mappers(pages) => write_mappers(writer, pages.as_slice()),
-        LineReply::Scanned { visits, stop } => write_stopped(writer, "scanned ", *visits, *stop),
-        LineReply::Pruned(count) => write_count(writer, "pruned ", *count),
-        LineReply::Unmerged { pages, stop } => write_stopped(writer, "unmerged ", *pages, *stop),
-        LineReply::Value(value) => write_count(writer, "", *value),
+        LineReply::Scanned { visits, stop } => write_stopped(writer, b"scanned ", *visits, *stop),
+        LineReply::Pruned(count) => write_count(writer, b"pruned ", *count),
+        LineReply::Unmerged { pages, stop } => write_stopped(writer, b"unmerged ", *pages, *stop),
+        LineReply::Value(value) => write_count(writer, b"", *value),
         LineReply::Counters(counters) => write_counters(writer, counters),
-        LineReply::Held { frame, generation } => write_held(writer, "held ", *frame, *generation),
+        LineReply::Held { frame, generation } => write_held(writer, b"held ", *frame, *generation),
         LineReply::Differs { frame, generation } => {
-            write_held(writer, "differs ", *frame, *generation)
+            write_held(writer, b"differs ", *frame, *generation)
         }
-        LineReply::Gone(why) => write_count(writer, "gone ", why.number()),
+        LineReply::Gone(why) => write_count(writer, b"gone ", why.number()),
         LineReply::Busy => write_text(writer, b"busy\n"),
         LineReply::Audit(report) => write_audit(writer, report.rows()),
-        LineReply::Refused(refusal) => write_count(writer, "refused ", u64::from(refusal.number())),
-        LineReply::BadLine(number) => write_count(writer, "bad line ", *number),
+        LineReply::Refused(refusal) => write_count(
+            writer,
+            b"refused ",
+            u64::from(refusal.number()),
+        ),
+        LineReply::BadLine(number) => write_count(writer, b"bad line ", *number),
     }
 }
 
@@ -109,8 +113,14 @@ pub(crate) fn write_content<W: Write>(writer: &mut W, content: &PageBytes) -> Re
     write_text(writer, b"\n")
 }
 
+// The length of a name is a part of the type of what writes it, so that the name is copied by a store or two.
+
 /// Writes a name and a number.
-fn write_count<W: Write>(writer: &mut W, name: &str, count: u64) -> Result<(), RunFault>
+fn write_count<const N: usize, W: Write>(
+    writer: &mut W,
+    name: &[u8; N],
+    count: u64,
+) -> Result<(), RunFault>
     requires { length name.now ≤ 16 }
     ensures whole { OnOk result (Appends (W.contents writer.old) (W.contents writer.new) (counted_text name.now count)) }
     ensures fault { IfErr result (λ e. (e ≡ RunFault.Write)
@@ -118,14 +128,15 @@ fn write_count<W: Write>(writer: &mut W, name: &str, count: u64) -> Result<(), R
 {
     let mut text = LineText::<SHORT_ROOM>::new();
     text.put_name("\n");
-    text.put_named(name, count);
+    text.put_number(count);
+    text.put_bytes(name);
     write_text(writer, text.as_slice())
 }
 
 /// Writes a name, a number, and the refusal that stopped the command, if one did.
-fn write_stopped<W: Write>(
+fn write_stopped<const N: usize, W: Write>(
     writer: &mut W,
-    name: &str,
+    name: &[u8; N],
     count: u64,
     stop: Option<Fault>,
 ) -> Result<(), RunFault>
@@ -140,7 +151,8 @@ fn write_stopped<W: Write>(
     let mut text = LineText::<SHORT_ROOM>::new();
     text.put_name("\n");
     text.put_named(" refused ", u64::from(fault.number()));
-    text.put_named(name, count);
+    text.put_number(count);
+    text.put_bytes(name);
     write_text(writer, text.as_slice())
 }
 
@@ -198,9 +210,9 @@ fn write_mappers<W: Write>(writer: &mut W, pages: &[GuestPage]) -> Result<(), Ru
 }
 
 /// Writes a name, and the frame that is held in a life.
-fn write_held<W: Write>(
+fn write_held<const N: usize, W: Write>(
     writer: &mut W,
-    name: &str,
+    name: &[u8; N],
     frame: u32,
     generation: u64,
 ) -> Result<(), RunFault>
@@ -212,7 +224,8 @@ fn write_held<W: Write>(
     let mut text = LineText::<SHORT_ROOM>::new();
     text.put_name("\n");
     text.put_named(" ", generation);
-    text.put_named(name, u64::from(frame));
+    text.put_number(u64::from(frame));
+    text.put_bytes(name);
     write_text(writer, text.as_slice())
 }
 

@@ -1,5 +1,5 @@
 //! A book of one caller with its passes.
-ghost use Rattle.std.specs.Prelude.{◌≡◌, ◌≤◌, ℕ, List, [], length, replicate, Ok, Some, IfOk, IfErr};
+ghost use Rattle.std.specs.Prelude.{◌≡◌, ◌≤◌, ℕ, List, [], length, replicate, None, Ok, Some, IfOk, IfErr};
 ghost use Rattle.std.specs.Io.KnownBytes.{Consumes, IsAtEnd, Keeps};
 ghost use Rattle.ksm_base.specs.State.{opening};
 ghost use Rattle.ksm_base.specs.Reading.{bytes_of, ticket_of, mappers_of};
@@ -7,9 +7,9 @@ ghost use Rattle.ksm_base.specs.Refusals.{is_known};
 ghost use Rattle.ksm_base.specs.declared.command.Command.TheVariants.{Scan as scan};
 ghost use Rattle.ksm_lines.specs.Knobs.{shown_in};
 ghost use Rattle.ksm_lines.specs.Leading.{short_form, page_form};
-ghost use Rattle.ksm_lines.specs.declared.line.Line.TheVariants.{Get as get_line, Ticket as ticket_line, Find as find_line, Look as look_line, Leave as leave_line, Stat as stat_line};
+ghost use Rattle.ksm_lines.specs.declared.line.Line.TheVariants.{Get as get_line, Ticket as ticket_line, Find as find_line, Look as look_line, Leave as leave_line, ScanPages as scan_pages_line, Stat as stat_line};
 ghost use Rattle.ksm_base.specs.Counting.{counters_of};
-ghost use Rattle.ksm_script.specs.declared.reply.LineReply.TheVariants.{Counters as counters_reply, Value as value_reply};
+ghost use Rattle.ksm_script.specs.declared.reply.LineReply.TheVariants.{Counters as counters_reply, Done as done_reply, Value as value_reply};
 ghost use Rattle.frame_table.specs.Seats.{new_pass};
 ghost use Rattle.ksm_shared.specs.Locked.{EndsLawfully};
 ghost use Rattle.ksm_script.specs.declared.pass_state.PassState.TheVariants.{Idle as idle_state};
@@ -179,7 +179,11 @@ impl<N: Naming> Session<N> {
     ) -> Result<(), RunFault>
         ensures answers { IsSaid P.takes (λ reply. Answers (ticket_line page) self.old.state reply self.new.state) to.old to.new result }
     {
-        P::reply(to, self.ticket(rt, page))
+        // A page that is merged has a row, so the lock is taken once for it.
+        match self.ksm.ticket(rt, &mut self.share, page) {
+            Some(place) => P::reply(to, LineReply::Place(place)),
+            None => P::reply(to, self.unmerged(rt, page)),
+        }
     }
 
     #[inline(never)]
@@ -232,15 +236,28 @@ impl<N: Naming> Session<N> {
     {
         match line {
             PageLine::Store { page } => {
-                tell_made::<P, S>(to, self.apply(rt, Command::Store { page, bytes }))
+                self.tell_made::<P, R, S>(rt, Command::Store { page, bytes }, to)
             }
             PageLine::Register { page, node } => {
-                tell_made::<P, S>(to, self.apply(rt, Command::Register { page, node, bytes }))
+                self.tell_made::<P, R, S>(rt, Command::Register { page, node, bytes }, to)
             }
             PageLine::Equal { pass, place } => {
-                P::reply(to, self.act(pass, Act::Equal { place, bytes }))
+                self.tell_act::<P, S>(pass, Act::Equal { place, bytes }, to)
             }
         }
+    }
+
+    // It takes the content in an `Act`: so that of a store need not lie in memory first.
+    #[inline(never)]
+    fn tell_act<P: Replies<S>, S>(
+        &mut self,
+        pass: u32,
+        act: Act,
+        to: &mut S,
+    ) -> Result<(), RunFault>
+        ensures answers { IsSaid P.takes (λ reply. OnPasses (AtPass pass (Acts act)) self.old.state reply self.new.state) to.old to.new result }
+    {
+        P::reply(to, self.act(pass, act))
     }
 
     /// Does what a line says, and hands its reply over, if it has one.
@@ -266,7 +283,7 @@ impl<N: Naming> Session<N> {
             Line::Set { knob, value } => knob.setting(value),
             _ => return self.tell::<P, R, S>(rt, line, to),
         };
-        P::reply(to, self.apply(rt, command))
+        self.tell_made::<P, R, S>(rt, command, to)
     }
 
     // Hands over the reply to a line that is no command of its own, each where it arises.
@@ -283,12 +300,12 @@ impl<N: Naming> Session<N> {
             Line::Get { page } => self.tell_content::<P, R, S>(rt, page, to),
             Line::Ticket { page } => self.tell_ticket::<P, R, S>(rt, page, to),
             Line::Mappers { place } => P::reply(to, self.mappers(rt, place)),
-            Line::ScanPages => P::reply(to, self.scan_pages(rt)),
+            Line::ScanPages => self.tell_scanned::<P, R, S>(rt, to),
             Line::Show { shown } => P::reply(to, self.value(rt, shown)),
             Line::Stat => self.tell_counters::<P, R, S>(rt, to),
             Line::Find { pass, place } => self.tell_found::<P, S>(pass, place, to),
             Line::Equal { pass, place, bytes } => {
-                P::reply(to, self.act(pass, Act::Equal { place, bytes }))
+                self.tell_act::<P, S>(pass, Act::Equal { place, bytes }, to)
             }
             Line::Look { pass } => self.tell_held::<P, S>(pass, to),
             Line::Leave { pass } => self.tell_left::<P, S>(pass, to),
@@ -318,26 +335,26 @@ impl<N: Naming> Session<N> {
         self.passes.audit(rt, self.alloc, &self.ksm)
     }
 
-    fn scan_pages<R: Wait>(&mut self, rt: &R) -> LineReply
-        ensures answers { Commands (scan self.old.state.book.knobs.pages_to_scan) self.old.state (Some result) self.new.state }
+    fn tell_scanned<P: Replies<S>, R: Wait, S>(
+        &mut self,
+        rt: &R,
+        to: &mut S,
+    ) -> Result<(), RunFault>
+        ensures answers { IsSaid P.takes (λ reply. Answers scan_pages_line self.old.state reply self.new.state) to.old to.new result }
     {
         let knobs = self.ksm.knobs(rt, &mut self.share);
-        self.apply(rt, scan_of(knobs.pages_to_scan))
+        self.tell_made::<P, R, S>(rt, scan_of(knobs.pages_to_scan), to)
     }
 
-    #[inline(always)]
-    fn ticket<R: Wait>(&mut self, rt: &R, page: GuestPage) -> LineReply
-        ensures reply { result ≡ ticket_reply (is_known self.old.state.book page) (ticket_of page self.old.state.book) }
+    // The ticket of a page that is not merged.
+    fn unmerged<R: Wait>(&mut self, rt: &R, page: GuestPage) -> LineReply
+        ensures reply { result ≡ ticket_reply (is_known self.old.state.book page) None }
         ensures state { self.new.state ≡ self.old.state }
     {
-        // A page that is merged has a row, so the lock is taken once for it.
-        if let Some(place) = self.ksm.ticket(rt, &mut self.share, page) {
-            return LineReply::Place(place);
+        if self.ksm.registered(rt, &mut self.share, page) {
+            return LineReply::Private;
         }
-        if !self.ksm.registered(rt, &mut self.share, page) {
-            return LineReply::Refused(Refusal::Book(Fault::UnknownPage));
-        }
-        LineReply::Private
+        LineReply::Refused(Refusal::Book(Fault::UnknownPage))
     }
 
     fn mappers<R: Wait>(&mut self, rt: &R, place: u32) -> LineReply
@@ -363,11 +380,29 @@ impl<N: Naming> Session<N> {
         }
     }
 
-    fn apply<R: Wait>(&mut self, rt: &R, command: Command) -> LineReply
-        ensures answers { Commands command self.old.state (Some result) self.new.state }
+    // Makes a command, and hands its reply over. Mostly that is `ok`, which is told apart: so no value with room for
+    // any reply is cleared before it.
+    #[inline(always)]
+    fn tell_made<P: Replies<S>, R: Wait, S>(
+        &mut self,
+        rt: &R,
+        command: Command,
+        to: &mut S,
+    ) -> Result<(), RunFault>
+        ensures answers { IsSaid P.takes (λ reply. Commands command self.old.state reply self.new.state) to.old to.new result }
+    {
+        let answer = self.apply(rt, command);
+        if let Ok(Reply::Done) = answer {
+            return tell_done::<P, S>(to);
+        }
+        tell_other::<P, S>(to, answer)
+    }
+
+    fn apply<R: Wait>(&mut self, rt: &R, command: Command) -> Result<Reply, Fault>
+        ensures answers { Commands command self.old.state (Some (reply_to result)) self.new.state }
     {
         let answer = self.ksm.command(rt, &mut self.share, command);
-        reply_to(answer.result())
+        answer.result()
     }
 
     #[inline(always)]
@@ -379,24 +414,21 @@ impl<N: Naming> Session<N> {
     }
 }
 
-/// Hands over the reply to a command that comes by the million. Mostly that is `ok`, which is told apart: so its text is known where it is
-/// written.
-#[inline(always)]
-fn tell_made<P: Replies<S>, S>(to: &mut S, reply: LineReply) -> Result<(), RunFault>
-    ensures { P.takes to.old to.new reply result }
+/// Hands over `ok`. It stands apart: within the reading of a line LLVM takes the writing for a rare case, and doesn't
+/// inline it.
+#[inline(never)]
+fn tell_done<P: Replies<S>, S>(to: &mut S) -> Result<(), RunFault>
+    ensures { P.takes to.old to.new done_reply result }
 {
-    match reply {
-        LineReply::Done => P::reply(to, LineReply::Done),
-        other => tell_other::<P, S>(to, other),
-    }
+    P::reply(to, LineReply::Done)
 }
 
-/// Hands over any reply. It stands apart, so that `ok` is written without what the others want.
+/// Hands over any reply. It stands apart, so that `ok` is told without what the others want.
 #[inline(never)]
-fn tell_other<P: Replies<S>, S>(to: &mut S, reply: LineReply) -> Result<(), RunFault>
-    ensures { P.takes to.old to.new reply result }
+fn tell_other<P: Replies<S>, S>(to: &mut S, answer: Result<Reply, Fault>) -> Result<(), RunFault>
+    ensures { P.takes to.old to.new (reply_to answer) result }
 {
-    P::reply(to, reply)
+    P::reply(to, reply_to(answer))
 }
 
 /// The command that makes so many visits.

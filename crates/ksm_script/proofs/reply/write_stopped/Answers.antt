@@ -9,7 +9,8 @@ returns-clause-fault g c =
     rw (
       c.in-Some.is,
       c.as_slice.ensures,
-      c.put_named-2.ensures.text,
+      c.put_bytes.ensures,
+      c.put_number.ensures.text,
       c.put_named.ensures.text,
       c.put_name.ensures,
       c.new-text.ensures,

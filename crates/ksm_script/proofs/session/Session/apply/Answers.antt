@@ -1,4 +1,4 @@
-use Rattle.std.proofs.Common.{◌≡◌, ◌∙◌, Some, ap, subst, sym}
+use Rattle.std.proofs.Common.{◌≡◌, Some, ap, subst, sym}
 use Rattle.ksm_script.specs.declared.reply.LineReply.{LineReply}
 use Rattle.ksm_script.specs.Answering.{Commands, reply_to}
 use Rattle.ksm_script.specs.Seen.{SessionView, script_of}
@@ -12,6 +12,6 @@ returns g c =
     let did = c.command-answer.ensures in
     let now : ScriptState = script_of parts c.command-answer.new.share c.self.inside.passes in
     let made = commands parts c.self.inside.share c.command-answer.new.share c.args.command c.command-answer.result.result c.self.invariant.0 did.seen c.self.inside.passes did.alone in
-    let reply : reply_to c.command-answer.result.result ≡ c.reply_to.result = sym (c.reply_to.ensures ∙ ap reply_to c.result.ensures) in
+    let reply : reply_to c.command-answer.result.result ≡ reply_to c.result.result = sym (ap reply_to c.result.ensures) in
     let told = subst (λ (r : LineReply). Commands c.args.command (script_of parts c.self.inside.share c.self.inside.passes) (Some r) now) reply made in
-    record { answers = subst (λ (v : SessionView). Commands c.args.command v.state (Some c.reply_to.result) now) c.self.view_is told }
+    record { answers = subst (λ (v : SessionView). Commands c.args.command v.state (Some (reply_to c.result.result)) now) c.self.view_is told }
