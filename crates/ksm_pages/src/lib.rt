@@ -2,7 +2,6 @@
 #![tactic(auto)]
 
 mod ahead;
-mod guesses;
 mod named;
 mod order;
 mod pages;
@@ -11,6 +10,7 @@ pub mod row;
 mod rows;
 mod run;
 mod runs;
+mod slot;
 mod tally;
 mod visits;
 

@@ -1,7 +1,7 @@
 //! The rows: each in a slab under a key, with the order of their pages, those that a visit of the scan may change, and
 //! how many there are of each state.
 //!
-//! A key is told as a guess, or comes from a table of guesses by page (`guesses.rt`). Where it is right no search is made;
+//! A key is told as a guess, or comes from a table of guesses by page (`slot.rt`). Where it is right no search is made;
 //! where it is wrong there are two binary searches: of the run in which the page is, and of the page in it. `settle_all`
 //! writes no row. `unshare_all` walks over all.
 
@@ -17,12 +17,13 @@ ghost use Rattle.ksm_pages.specs.Held.{AreAllListed, Reaches, change_held, held_
 ghost use Rattle.ksm_pages.specs.Ordered.{AreAscending, is_of};
 
 use crate::ahead::Ahead;
-use crate::guesses::Guesses;
 use crate::order::Order;
 use crate::restless::Restless;
 use crate::row::{Entry, Kind, Spot};
+use crate::slot::{SLOTS, slot_of};
 use crate::tally::Tally;
 use ksm_base::{Fault, GuestPage, PageBytes, PageState};
+use ksm_tree::Recent;
 use slab::Slab;
 use std::alloc::Global;
 use std::marker::Model;
@@ -32,7 +33,8 @@ use std::marker::Model;
 pub struct Rows {
     entries: Slab<Entry>,
     order: Order,
-    guesses: Guesses,
+    /// The key under which a page's row was put last.
+    keys: Recent,
     restless: Restless,
     tally: Tally,
     /// One more whenever no row waits any longer.
@@ -105,7 +107,7 @@ impl Rows {
         Rows {
             entries: Slab::new(alloc),
             order: Order::new(alloc),
-            guesses: Guesses::new(),
+            keys: Recent::new(alloc, SLOTS as usize),
             restless: Restless::new(alloc),
             tally: Tally::NONE,
             pass: 1,
@@ -150,7 +152,7 @@ impl Rows {
         ensures known { is_some result ≡ is_some (held_at page self.now.held) }
         ensures page { IfSome result (λ spot. spot.page ≡ page) }
     {
-        let key = self.guesses.of(page);
+        let key = self.keys.at(slot_of(page)) as usize;
         match key_of(&self.entries, &self.order, Spot { page, key }) {
             Some(key) => Some(Spot { page, key }),
             None => None,
@@ -247,7 +249,7 @@ impl Rows {
             mergeable: true,
             unchanged: false,
         });
-        self.guesses.remember(page, key);
+        self.keys.set(slot_of(page), key);
         let spot = Spot {
             page,
             key: key as usize,

@@ -52,6 +52,7 @@ impl<N: Naming> Model for Merge<N> {
 impl<N: Naming> Merge<N> {
     /// Makes a command for the share's caller, and shows readers the counters after it. The share owns its entry, and has then seen the whole
     /// journal.
+    #[inline(always)]
     pub fn command<R: Wait>(
         &mut self,
         rt: &R,

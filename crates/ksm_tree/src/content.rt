@@ -1,4 +1,5 @@
-//! What groups and waiting pages are found by: a tree and the bytes of a page, in an order of their own.
+//! What groups and waiting pages are found by: a tree and the bytes of a page, in an order of their own. Beside that the
+//! slot in which the number of their group is remembered.
 
 use ksm_base::PageBytes;
 
@@ -8,4 +9,21 @@ use ksm_base::PageBytes;
 pub struct Content {
     pub tree: u32,
     pub bytes: PageBytes,
+}
+
+/// How many slots there are for the numbers of groups: 2 to the number of bits that `slot_of` keeps.
+pub const SLOTS: usize = 1_024;
+
+// 2 to the 64 over the golden ratio. The highest bits of a product by it hang on all bits of what is multiplied.
+const SPREAD: u64 = 0x9e37_79b9_7f4a_7c15;
+
+/// The slot of a tree and bytes, below `SLOTS`. It hangs on each word and where that stands, also in a page full of one
+/// byte, whose words are equal.
+#[inline(always)]
+pub fn slot_of(tree: u32, bytes: &PageBytes) -> usize {
+    let mut mixed = u64::from(tree);
+    for word in bytes {
+        mixed = mixed.wrapping_mul(SPREAD).wrapping_add(*word);
+    }
+    (mixed.wrapping_mul(SPREAD) >> 54) as usize
 }

@@ -16,9 +16,9 @@ ghost use Rattle.ksm_tree.specs.Places.{with_place, without};
 ghost use Rattle.ksm_tree.specs.Totals.{IsRegrouped, Tells};
 ghost use Rattle.ksm_tree.specs.Waits.{IsAdded, IsRemoved, waiting_page};
 
-use crate::content::Content;
+use crate::content::{Content, SLOTS, slot_of};
 use crate::places::Places;
-use crate::recent::{Recent, place_of};
+use crate::recent::Recent;
 use crate::totals::Totals;
 use ksm_base::{Fault, GuestPage, PageBytes};
 use slab::Slab;
@@ -74,7 +74,7 @@ impl Groups {
             },
             pass: 1,
             most: SPARE,
-            recent: Recent::new(),
+            recent: Recent::new(alloc, SLOTS),
         }
     }
 
@@ -139,13 +139,13 @@ impl Groups {
         if self.is_of(guess, tree, bytes) {
             return Ok(guess);
         }
-        let place = place_of(tree, bytes);
-        let recent = self.recent.at(place);
+        let slot = slot_of(tree, bytes);
+        let recent = self.recent.at(slot);
         if self.is_of(recent, tree, bytes) {
             return Ok(recent);
         }
         let number = self.search_or_enter(alloc, tree, bytes)?;
-        self.recent.set(place, number);
+        self.recent.set(slot, number);
         Ok(number)
     }
 

@@ -20,4 +20,5 @@ pub use choice::Choice;
 pub use dup::Best;
 pub use dups::{Dups, NO_PLACE};
 pub use groups::NO_NUMBER;
+pub use recent::Recent;
 pub use waiting::Waiting;

@@ -1,56 +1,55 @@
-//! The numbers of the groups that were searched for lately.
+//! Numbers that were used lately, each in a slot that is told by what it belongs to: the keys of pages' rows, the numbers
+//! of groups.
 //!
-//! A page that was written to remembers the group of its old content. Mostly another page of the new content was looked
-//! at a short while before, and the number of their group stands here, at a place that the words of the content tell.
-//! It is a guess, since two contents may have one place, and a number may have gone to another group: it is compared
-//! before it is believed. Whoever picks contents of one place gains that each is searched for, as it would be without
-//! guesses.
+//! They are guesses, since many things have one slot, and since a number may go to another thing: whoever takes one
+//! compares before it is believed, and nothing is promised of it. So whoever picks things of one slot gains that each is
+//! searched for, as it would be without this table.
 
 use crate::groups::NO_NUMBER;
-use ksm_base::PageBytes;
+use std::alloc::Global;
 
-// How many places there are: 2 to the number of bits that `place_of` keeps.
-const PLACES: usize = 1_024;
-
-/// A number for each of a thousand places. Nothing is promised of it.
+/// A number for each of so many slots. The first number that is put in takes the memory of all; where that is refused
+/// nothing is remembered.
 #[derive(Drop)]
 pub struct Recent {
-    numbers: [u32; PLACES],
+    slots: usize,
+    numbers: Vec<u32>,
 }
 
 impl Recent {
     /// No numbers.
-    pub fn new() -> Recent {
+    pub fn new(alloc: Global, slots: usize) -> Recent {
         Recent {
-            numbers: [NO_NUMBER; PLACES],
+            slots,
+            numbers: Vec::new(alloc),
         }
     }
 
-    /// The number at a place.
+    /// The number in a slot.
     #[inline(always)]
-    pub fn at(&self, place: usize) -> u32 {
-        match self.numbers.get(place) {
+    pub fn at(&self, slot: usize) -> u32 {
+        match self.numbers.get(slot) {
             Some(number) => *number,
             None => NO_NUMBER,
         }
     }
 
-    /// Puts a number at a place.
+    /// Puts a number into a slot.
     #[inline(always)]
-    pub fn set(&mut self, place: usize, number: u32) {
-        if place < PLACES {
-            self.numbers[place] = number;
+    pub fn set(&mut self, slot: usize, number: u32) {
+        if slot < self.numbers.len() {
+            self.numbers[slot] = number;
+        } else {
+            self.begin(slot, number);
         }
     }
-}
 
-/// The place of a tree and bytes.
-#[inline(always)]
-pub fn place_of(tree: u32, bytes: &PageBytes) -> usize {
-    let mut mixed = u64::from(tree);
-    for word in bytes {
-        mixed = mixed.rotate_left(7) ^ *word;
+    // Takes the memory of all slots, and puts the first number into one.
+    #[inline(never)]
+    fn begin(&mut self, slot: usize, number: u32) {
+        let taken = self.numbers.resize(self.slots, NO_NUMBER);
+        if taken.is_ok() && slot < self.numbers.len() {
+            self.numbers[slot] = number;
+        }
     }
-    // By 2 to the 64 over the golden ratio: the highest bits of the product hang on all bits of what is multiplied.
-    (mixed.wrapping_mul(0x9e37_79b9_7f4a_7c15) >> 54) as usize
 }

@@ -1,0 +1,19 @@
+//! The slots of pages, in the table where the keys of their rows are remembered.
+
+use ksm_base::GuestPage;
+
+/// How many slots there are: twice as many as frames at most.
+pub const SLOTS: u32 = 2_048;
+
+// How far the slots of a page lie apart in two guests that follow each other: by the golden section of all, so that the
+// first pages of few guests do not meet.
+const STRIDE: u32 = 1_266;
+
+/// The slot of a page, below `SLOTS`. Pages that follow each other in a guest have slots of their own.
+#[inline(always)]
+pub fn slot_of(page: GuestPage) -> usize {
+    let number = page
+        .page
+        .wrapping_add(u32::from(page.guest).wrapping_mul(STRIDE));
+    (number % SLOTS) as usize
+}
