@@ -2,22 +2,28 @@
 
 import argparse
 
-DESCRIPTION = """\
+from .called import DOCUMENT, MEASURE, NAME
+
+DESCRIPTION = f"""\
 What would merging equal pages (KSM) save on this machine?
 
-measure reads the memory of running processes, counts how often each page's
-content is there, and tells in megabytes what the kernel's KSM would save with
-each of its settings, what that costs, and which processes share with which.
-It changes nothing, stops nothing, and writes nothing of what it read.
+{NAME} reads the memory of running processes, counts how often each
+page's content is there, and tells in megabytes what the kernel's KSM would
+save with each of its settings, what that costs, and which processes share with
+which. It changes nothing, stops nothing, and writes nothing of what it read.
 """
 
-EPILOG = """\
+EXAMPLES = [
+    (f"sudo {MEASURE} --name qemu", "every virtual machine"),
+    (f"{MEASURE} 4711 4712", "two of your own"),
+    (f"sudo {MEASURE} --all --again 20", "everything, looked at twice"),
+    (f"sudo {MEASURE} --name qemu --html saved.html", "a page for a browser"),
+]
+WIDTH = max(len(call) for call, _ in EXAMPLES)
+CALLS = "\n".join(f"  {call:{WIDTH}}  {what}" for call, what in EXAMPLES)
+EPILOG = f"""\
 examples:
-  sudo ./measure --name qemu                     every virtual machine of QEMU
-  ./measure 4711 4712                            two processes of your own
-  sudo ./measure --all --again 20                everything; what changes within
-                                                 20 seconds is not merged
-  sudo ./measure --name qemu --html saved.html   a page for a browser or printer
+{CALLS}
 
 statuses:
   0  measured             3  the report could not be written
@@ -25,7 +31,7 @@ statuses:
      or not allowed       130  interrupted
   2  wrong options
 
-docs/MEASURE.md says what is counted, and what may be wrong.
+{DOCUMENT} says what is counted, and what may be wrong.
 """
 
 
@@ -40,7 +46,7 @@ def positive(word: str) -> float:
 def parser() -> argparse.ArgumentParser:
     """The options, and the text of --help."""
     made = argparse.ArgumentParser(
-        prog="measure", usage="measure [options] PID .. | --name NAME | --all", description=DESCRIPTION, epilog=EPILOG,
+        prog=NAME, usage=f"{NAME} [options] PID .. | --name NAME | --all", description=DESCRIPTION, epilog=EPILOG,
         formatter_class=lambda prog: argparse.RawDescriptionHelpFormatter(prog, max_help_position=22, width=80))
     made.add_argument("pids", metavar="PID", nargs="*", type=int, help="a process to read")
     made.add_argument("--name", metavar="NAME", action="append", default=[],

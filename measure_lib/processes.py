@@ -7,6 +7,7 @@ import re
 from collections.abc import Iterator
 from pathlib import Path
 
+from .called import MEASURE
 from .trouble import Ended, Trouble
 
 PTRACE_SCOPE = Path("/proc/sys/kernel/yama/ptrace_scope")
@@ -121,8 +122,8 @@ def advice(who: str) -> str:
                 "it lacks CAP_SYS_PTRACE here (in a container: docker run --cap-add SYS_PTRACE --pid host)")
     if PTRACE_SCOPE.exists() and PTRACE_SCOPE.read_text().strip() != "0":
         return (f"{who} may not be read: kernel.yama.ptrace_scope lets only root read other processes. "
-                "Run it as root: sudo ./measure ..")
-    return f"{who} may not be read by this user. Run it as root: sudo ./measure .."
+                f"Run it as root: sudo {MEASURE} ..")
+    return f"{who} may not be read by this user. Run it as root: sudo {MEASURE} .."
 
 
 def by_number(pids: list[int]) -> list[Process]:

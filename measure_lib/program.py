@@ -6,6 +6,7 @@ import sys
 import time
 
 from . import processes, sample, text
+from .called import IS_CHECKOUT, KSMBOOK, NAME
 from .html_page import as_html
 from .kernel import kernel_of_machine
 from .look import Look
@@ -17,7 +18,7 @@ from .trouble import INTERRUPTED, MEASURED, NOT_WRITTEN, Trouble
 
 def say(sentence: str) -> None:
     """A line on standard error."""
-    print(f"measure: {sentence}", file=sys.stderr)
+    print(f"{NAME}: {sentence}", file=sys.stderr)
 
 
 def look_for(options: argparse.Namespace) -> tuple[Report, Look]:
@@ -59,12 +60,12 @@ def check(report: Report, look: Look, options: argparse.Namespace) -> Checked:
     taken = sample.sample_of(look.piles, look.reader.zeroes, report.census, look.by_node)
     if options.script:
         write(options.script, "".join(f"{line}\n" for line in sample.script_of(taken)))
-        say(f"./ksmbook {' '.join(taken.options())} < {options.script}")
+        say(f"{KSMBOOK} {' '.join(taken.options())} < {options.script}")
     if options.no_check:
         return Checked(why_not="--no-check was given")
     if not sample.is_built():
         return Checked(why_not="ksmbook is not built here (./ksmbook --nodes 1 --frames 1 </dev/null "
-                               "proves and builds it)")
+                               "proves and builds it)" if IS_CHECKOUT else "there is no ksmbook beside it")
     return Checked(taken.pages(), taken.apart, sample.check(taken))
 
 

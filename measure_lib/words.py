@@ -3,6 +3,7 @@
 import collections
 import os
 
+from .called import MEASURE
 from .census import Heavy
 from .report import Report
 from .savings import Saving
@@ -80,7 +81,7 @@ def warnings(report: Report) -> list[str]:
     said = ended_or_grown(report)
     if report.refused:
         who = "1 more such process is" if report.refused == 1 else f"{report.refused:,} more such processes are"
-        why = "even root may not read it here" if os.geteuid() == 0 else "root may (sudo ./measure ..)"
+        why = "even root may not read it here" if os.geteuid() == 0 else f"root may (sudo {MEASURE} ..)"
         said.append(f"{who} left out, which this user may not read; {why}.")
     if len(report.kernel.nodes) > 1 and "not told" in report.nodes_from:
         said.append(f"The nodes of pages are {report.nodes_from}.")
