@@ -6,7 +6,7 @@ use Rattle.frame_core.specs.State.{State, place_word, life_at, frame_word, count
 use Rattle.frame_core.specs.Ledger.{frame_at, named_at}
 use Rattle.frame_core.specs.KeeperSteps.{frame_word_of, counted_up, counted_down}
 
--- how far a seat has come; a seat that there is not is as one that was given back
+-- how far a seat has come; one that there is not is Spent
 abbrev pub phase_at : State → ℕ → Phase
 phase_at s q = slice_index_or s.seats q Spent
 

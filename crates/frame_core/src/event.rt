@@ -8,7 +8,8 @@ pub enum Event {
     Keeper(KeeperStep),
 }
 
-/// A step of a reader, in the order in which a lookup makes them.
+/// A step of a reader. A lookup makes the first three in this order; then words are loaded, and the reference is given
+/// back last.
 #[derive(Clone, Copy, Debug, PartialEq, Eq)]
 pub enum ReaderStep {
     /// Loads the word of this place.

@@ -59,7 +59,7 @@ impl Machine {
         })
     }
 
-    /// How far a seat has come: one that there is not is as one that was given back.
+    /// How far a seat has come: one that there is not is Spent.
     pub(crate) fn phase(&self, seat: u32) -> Phase
         ensures { result ≡ phase_at self.now.state seat }
     {

@@ -21,7 +21,7 @@ use std::thread::{Threads, for_each_mut};
 pub enum AuditFault {
     /// A growth was refused, and no lookup was made.
     Memory(Vec<Pass>),
-    /// The gate refused this place. Some other places, each at most once, were looked up before.
+    /// The gate refused this place. Some other places, each at most once, were looked up.
     Gate(Vec<Pass>, u32),
 }
 

@@ -11,7 +11,7 @@ use Rattle.ksm_base.specs.Visit.{partner}
 
 -- each knob is in its range
 pub record AreKnobs (knobs : Knobs) : Type 0 where
-  -- 0: the scan stands, 1: it runs, 2: all pages are let go
+  -- 0: the scan stands, 1: it runs, 2: all merged pages are unmerged
   pub run : knobs.run ≤ 2
   pub pages_to_scan : (1 ≤ knobs.pages_to_scan) × (knobs.pages_to_scan ≤ 1000000)
   pub merge_across_nodes : knobs.merge_across_nodes ≤ 1

@@ -9,7 +9,8 @@ use std::alloc::{AllocError, AllocFailed};
 /// may have been reaped for it. A command that stopped says so in its reply.
 #[derive(Clone, Copy, Debug, PartialEq, Eq)]
 pub enum Fault {
-    /// 1: a growth was refused. The command gave no frame, and the journal has no entry of it. A scan stops with it.
+    /// 1: a growth was refused, or there is no number of 32 bits for one thing more. The command gave no frame, and the
+    /// journal has no entry of it. A scan stops with it.
     Memory,
     /// 2: no row has this page, or this guest.
     UnknownPage,

@@ -148,7 +148,7 @@ impl Book {
         self.state.mappers(alloc, place)
     }
 
-    /// The counters, counted from the pages and dups as they are.
+    /// The counters: what is counted from the pages and dups as they are. Totals are kept, so nothing is walked.
     pub fn counters(&self) -> Counters
         ensures { result ≡ counters_of self.now.state }
     {

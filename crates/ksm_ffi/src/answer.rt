@@ -2,7 +2,8 @@
 ghost use Rattle.std.specs.Prelude.{◌≡◌};
 ghost use Rattle.ksm_ffi.specs.Answers.{number_of};
 
-/// What a call answers. Below 10 it did what it was called for; from 10 on it was refused, and nothing has changed.
+/// What a call answers. Below 10 it did what it was called for; from 10 on it was refused. A refusal changes nothing, but
+/// that a command which a book refused, other than for memory, has its entry in the journal, and may have reaped frames.
 #[derive(Clone, Copy, Debug, PartialEq, Eq)]
 pub enum Answer {
     /// Done; of a lookup: a frame is held.
@@ -31,7 +32,7 @@ pub enum Answer {
     Shape = 13,
     /// There is no memory.
     Memory = 14,
-    /// There is no such frame, place or word, or no room for all words of a page.
+    /// There is no such frame, place or word, or no room for what is told.
     Range = 15,
     /// The frame or the place is in a state that does not allow the call.
     State = 16,
@@ -43,7 +44,7 @@ pub enum Answer {
     NoPass = 19,
     /// Passes of the table are open.
     PassesOut = 20,
-    /// The pass is another table's.
+    /// The pass is another table's, or none of this table is out.
     Other = 21,
     /// There is no command of this kind.
     Command = 22,

@@ -720,7 +720,7 @@ impl Pages {
         self.rows.restless_at(at)
     }
 
-    /// Of the listed pages those that no visit may change are listed no more.
+    /// Of the listed pages those that no visit may change are listed no more, once they may be many.
     pub fn sweep_restless(&mut self)
         ensures rest { seen self.new ≡ record (seen self.old) { restless = self.new.restless } }
         ensures known { self.new.restless.known ≡ self.old.restless.known }

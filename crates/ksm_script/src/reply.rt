@@ -63,7 +63,7 @@ pub enum LineReply {
     BadLine(u64),
 }
 
-// One of the hints of inlining that together took small merges from 95.0 to 89.4 million instructions.
+// Inlined for speed: where the reply is known, nothing but its text is left.
 
 /// Writes the line of a reply, its newline included.
 ///

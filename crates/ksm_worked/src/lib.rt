@@ -1,4 +1,4 @@
-//! The worked scripts: what the definitions of the book answer and show, line by line. Each is a law, with nothing to
+//! The worked journals: what the definitions of the book answer and show, command by command. Each is a law, with nothing to
 //! run.
 #![tactic(auto)]
 
