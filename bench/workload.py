@@ -418,6 +418,12 @@ def pages_that_collide(script):
     return registered_and_read(script, names, random_contents(script))
 
 
+def pages_in_a_slot(script):
+    """The same of pages that have one slot in ksmbook's table of keys."""
+    names = [f"0 {page}" for page in collide.in_a_slot(script.pages)]
+    return registered_and_read(script, names, random_contents(script))
+
+
 def passes_over(script, contents):
     """Passes over pages of these contents, which wait; a store in each puts one of them again."""
     lay_unlike(script, contents)
