@@ -13,7 +13,8 @@ pub enum Command {
         node: u32,
         bytes: PageBytes,
     },
-    /// The page goes, and gives its frame back, or its reference on its dup's frame (own). Answers `Done`; `UnknownPage`.
+    /// The page goes, and gives its frame back, or its reference on its dup's frame (own). Answers `Done`;
+    /// `UnknownPage`.
     Drop {
         page: GuestPage,
     },

@@ -2,8 +2,9 @@
 ghost use Rattle.std.specs.Prelude.{◌≡◌};
 ghost use Rattle.ksm_ffi.specs.Answers.{number_of};
 
-/// What a call answers. Below 10 it did what it was called for; from 10 on it was refused. A refusal changes nothing, but
-/// that a command which a book refused, other than for memory, has its entry in the journal, and may have reaped frames.
+/// What a call answers. Below 10 it did what it was called for; from 10 on it was refused. A refusal changes nothing,
+/// but that a command which a book refused, other than for memory, has its entry in the journal, and may have reaped
+/// frames.
 #[derive(Clone, Copy, Debug, PartialEq, Eq)]
 pub enum Answer {
     /// Done; of a lookup: a frame is held.

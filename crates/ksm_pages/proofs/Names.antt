@@ -70,7 +70,6 @@ pub use Rattle.std.proofs.lemmas.List.Sorted.{IsPartitionPoint-from_clause}
 pub use Rattle.std.proofs.lemmas.List.Sums.{count_by-le-length, length-filter, sum_by-insert, sum_by-remove, sum_by-set}
 pub use Rattle.std.proofs.lemmas.Map.Views.{any-filter_same, Contains-from_any}
 pub use Rattle.std.proofs.lemmas.Option.{none-some, same_Some, slice_get-get_or, slice_get-map, slice_get_past, unwrap_or-slice_get}
-pub use Rattle.std.proofs.lemmas.Slice.Eq.{bytes_eq-Decides}
 pub use Rattle.std.specs.Int.{from_bool}
 pub use Rattle.std.specs.List.{AllWithin, list_all, list_any}
 pub use Rattle.std.specs.List.Sorted.{IsPartitionedBy}

@@ -547,9 +547,9 @@ impl Pages {
         }
     }
 
-    /// Whether a visit of a page finds that it waits, where its row and its group lie where that was guessed and nothing
-    /// stands in the group, as it is with nearly all visits of pages that waited in the last pass. Then it waits from now
-    /// on. Else nothing changes, and `visit` tells.
+    /// Whether a visit of a page finds that it waits, where its row and its group lie where that was guessed and
+    /// nothing stands in the group, as it is with nearly all visits of pages that waited in the last pass. Then it
+    /// waits from now on. Else nothing changes, and `visit` tells.
     #[inline(always)]
     pub fn waits_again(&mut self, spot: Spot) -> bool
         ensures waits { IsTrue result → Finds (seen self.old) (seen self.new) spot.page Waits }

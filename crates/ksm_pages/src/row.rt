@@ -9,7 +9,8 @@ ghost use Rattle.ksm_pages.specs.Held.{forgotten, frame_of, held_of, is_restless
 use ksm_base::{GuestPage, PageBytes, PageState, Row};
 
 /// A page with a guess of the key under which its row is kept. A call compares the guess before it believes it, so a
-/// wrong one costs a search and changes nothing else. The key has 64 bits, so that a list of spots moves two words at once.
+/// wrong one costs a search and changes nothing else. The key has 64 bits, so that a list of spots moves two words at
+/// once.
 #[derive(Clone, Copy, Debug)]
 pub struct Spot {
     pub page: GuestPage,

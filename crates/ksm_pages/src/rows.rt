@@ -1,9 +1,9 @@
 //! The rows: each in a slab under a key, with the order of their pages, those that a visit of the scan may change, and
 //! how many there are of each state.
 //!
-//! A key is told as a guess, or comes from a table of guesses by page (`slot.rt`). Where it is right no search is made;
-//! where it is wrong there are two binary searches: of the run in which the page is, and of the page in it. `settle_all`
-//! writes no row. `unshare_all` walks over all.
+//! A key is told as a guess, or comes from a table of guesses by slots of pages (`slot.rt`). Where it is right no search is
+//! made; where it is wrong there are two binary searches: of the run in which the page is, and of the page in it.
+//! `settle_all` writes no row. `unshare_all` walks over all.
 
 ghost use Rattle.std.specs.Prelude.{◌≡◌, ◌≤◌, true, false, [], None, Some, All, IfErr, IfOk, IfSome, MatchOption, OnErr, OnOk, ◌&&◌, bytes_eq, count_by, filter, find, is_some, length, map, not, option_map, slice_get};
 ghost use Rattle.ksm_base.specs.declared.page.GuestPage.{GuestPage};
@@ -23,7 +23,7 @@ use crate::row::{Entry, Kind, Spot};
 use crate::slot::{SLOTS, slot_of};
 use crate::tally::Tally;
 use ksm_base::{Fault, GuestPage, PageBytes, PageState};
-use ksm_tree::Recent;
+use ksm_tree::Guesses;
 use slab::Slab;
 use std::alloc::Global;
 use std::marker::Model;
@@ -33,8 +33,8 @@ use std::marker::Model;
 pub struct Rows {
     entries: Slab<Entry>,
     order: Order,
-    /// The key under which a page's row was put last.
-    keys: Recent,
+    /// Guesses: in the slot of a page the key of the row that came last of the pages with that slot.
+    keys: Guesses,
     restless: Restless,
     tally: Tally,
     /// One more whenever no row waits any longer.
@@ -107,7 +107,7 @@ impl Rows {
         Rows {
             entries: Slab::new(alloc),
             order: Order::new(alloc),
-            keys: Recent::new(alloc, SLOTS as usize),
+            keys: Guesses::new(alloc, SLOTS as usize),
             restless: Restless::new(alloc),
             tally: Tally::NONE,
             pass: 1,

@@ -1,4 +1,4 @@
-//! The reverse map of a merged page: which guest pages are mapped to it.
+//! The reverse map of a merged page: which guest pages are mapped to it. Beside that the order of pages.
 #![tactic(auto)]
 
 mod items;

@@ -2,7 +2,7 @@
 ghost use Rattle.std.specs.Prelude.{◌≡◌, ◌≤◌, ℕ, List, [], length, replicate, None, Ok, Some, IfOk, IfErr};
 ghost use Rattle.std.specs.Io.KnownBytes.{Consumes, IsAtEnd, Keeps};
 ghost use Rattle.ksm_base.specs.State.{opening};
-ghost use Rattle.ksm_base.specs.Reading.{bytes_of, ticket_of, mappers_of};
+ghost use Rattle.ksm_base.specs.Reading.{mappers_of};
 ghost use Rattle.ksm_base.specs.Refusals.{is_known};
 ghost use Rattle.ksm_base.specs.declared.command.Command.TheVariants.{Scan as scan};
 ghost use Rattle.ksm_lines.specs.Knobs.{shown_in};
@@ -13,7 +13,7 @@ ghost use Rattle.ksm_script.specs.declared.reply.LineReply.TheVariants.{Counters
 ghost use Rattle.frame_table.specs.Seats.{new_pass};
 ghost use Rattle.ksm_shared.specs.Locked.{EndsLawfully};
 ghost use Rattle.ksm_script.specs.declared.pass_state.PassState.TheVariants.{Idle as idle_state};
-ghost use Rattle.ksm_script.specs.Answering.{Answers, IsTold, AllGivenBack, OnPasses, Commands, IsMappers, reply_to, content_reply, ticket_reply};
+ghost use Rattle.ksm_script.specs.Answering.{Answers, IsTold, AllGivenBack, OnPasses, Commands, IsMappers, reply_to, ticket_reply};
 ghost use Rattle.ksm_script.specs.Input.{EndsAs, IsPlain};
 ghost use Rattle.ksm_script.specs.declared.input.TheConstants.{LONGEST_LINE as longest_line};
 ghost use Rattle.ksm_script.specs.Lookups.{Acts, AtPass, Audits};
@@ -182,7 +182,7 @@ impl<N: Naming> Session<N> {
         // A page that is merged has a row, so the lock is taken once for it.
         match self.ksm.ticket(rt, &mut self.share, page) {
             Some(place) => P::reply(to, LineReply::Place(place)),
-            None => P::reply(to, self.unmerged(rt, page)),
+            None => P::reply(to, self.without_ticket(rt, page)),
         }
     }
 
@@ -247,7 +247,7 @@ impl<N: Naming> Session<N> {
         }
     }
 
-    // It takes the content in an `Act`: so that of a store need not lie in memory first.
+    // Stands apart, as an `Act` has room for a content: so the content of a store need not lie in memory first.
     #[inline(never)]
     fn tell_act<P: Replies<S>, S>(
         &mut self,
@@ -347,7 +347,7 @@ impl<N: Naming> Session<N> {
     }
 
     // The ticket of a page that is not merged.
-    fn unmerged<R: Wait>(&mut self, rt: &R, page: GuestPage) -> LineReply
+    fn without_ticket<R: Wait>(&mut self, rt: &R, page: GuestPage) -> LineReply
         ensures reply { result ≡ ticket_reply (is_known self.old.state.book page) None }
         ensures state { self.new.state ≡ self.old.state }
     {

@@ -1,5 +1,5 @@
-//! What groups and waiting pages are found by: a tree and the bytes of a page, in an order of their own. Beside that the
-//! slot in which the number of their group is remembered.
+//! What groups and waiting pages are found by: a tree and the bytes of a page, in an order of their own. Beside that
+//! the slot in which the number of their group is remembered.
 
 use ksm_base::PageBytes;
 

@@ -38,11 +38,11 @@ const SHORT_CHAIN: usize = 16;
 
 /// The dups with their items, by place, by number, and by tree and bytes (mm/ksm, stable nodes and their chains).
 ///
-/// A look-up by number costs a hash and a comparison in the mean: the book gives the numbers, so nobody picks them. A
-/// look-up by content costs a comparison or two where the number of its group is remembered, by the caller or here, else
-/// a search among the contents that are known, in a number of steps in the order of the logarithm of how many there are.
-/// `best` and `best_of` also walk along the chain, or, where a chain is long, along the dups of all contents that are
-/// not full, if these are fewer.
+/// A look-up by number costs a hash and a comparison in the mean: the book gives the numbers, so nobody picks them.
+/// A look-up by content costs a comparison where the number of its group is remembered by the caller, and for `group`
+/// two where it is remembered here alone; else a search among the contents that are known, in a number of steps in the
+/// order of the logarithm of how many there are. `best` and `best_of` also walk along the chain, or, where a chain is
+/// long, along the dups of all contents that are not full, if these are fewer.
 /// The counts are kept, so nothing is counted when they are read. Room for every place is taken at the start, so only a
 /// group, a new dup and a new item may want memory.
 #[derive(Drop)]
@@ -511,8 +511,8 @@ impl Dups {
         }
     }
 
-    // The dup at a place, if it does not stand behind its rival, and is of that tree and these bytes, as each in the chain
-    // is. The rival is asked first, since a number is less to compare than the bytes of a page.
+    // The dup at a place, if it does not stand behind its rival, and is of that tree and these bytes, as each in the
+    // chain is. The rival is asked first, since a number is less to compare than the bytes of a page.
     fn candidate(
         &self,
         place: u32,
@@ -556,8 +556,8 @@ fn pair(alloc: Global, first: GuestPage, second: GuestPage) -> Result<Items, Fau
     Ok(items)
 }
 
-/// The dup that stands before one with as many items as the best so far, or more, if it has the lower number: the best
-/// one where they tie, else none.
+/// What a dup with as many items as the best so far, or more, has to come before by its number: the best one where
+/// they tie, else none.
 fn rival_of<'a>(best: Option<&'a Dup>, is_tie: bool) -> Option<&'a Dup>
     ensures { option_copied result ≡ (if is_tie then option_copied best.entry else None) }
 {

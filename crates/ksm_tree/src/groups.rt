@@ -1,8 +1,8 @@
 //! The groups by number: each tree and bytes once, with the places of its dups and the page that waits there.
 //!
-//! A group is found by its number in one step, where the caller or `Recent` remembers it, else by a search in the order
-//! of the contents, so nobody can pick contents that are dear to find. What is remembered is a guess: it is compared
-//! before it is believed.
+//! A group is found by its number in one step, where the caller remembers it, or, by `numbered`, `Guesses` do; else by a
+//! search in the order of the contents, so nobody can pick contents that are dear to find. What is remembered is a guess:
+//! it is compared before it is believed.
 //!
 //! A group keeps its number when nothing stands in it any more, until there are 4,096 groups more than there were after
 //! the last sweep: then all such groups go. A page waits as long as the pass goes on whose number stands beside it, so
@@ -17,8 +17,8 @@ ghost use Rattle.ksm_tree.specs.Totals.{IsRegrouped, Tells};
 ghost use Rattle.ksm_tree.specs.Waits.{IsAdded, IsRemoved, waiting_page};
 
 use crate::content::{Content, SLOTS, slot_of};
+use crate::guesses::Guesses;
 use crate::places::Places;
-use crate::recent::Recent;
 use crate::totals::Totals;
 use ksm_base::{Fault, GuestPage, PageBytes};
 use slab::Slab;
@@ -50,7 +50,7 @@ pub struct Groups {
     pass: u64,
     // With how many groups those go in which nothing stands.
     most: usize,
-    recent: Recent,
+    recent: Guesses,
     ghost lawful: { AreGroups numbers.entries groups pass },
 }
 
@@ -74,7 +74,7 @@ impl Groups {
             },
             pass: 1,
             most: SPARE,
-            recent: Recent::new(alloc, SLOTS),
+            recent: Guesses::new(alloc, SLOTS),
         }
     }
 
@@ -121,7 +121,7 @@ impl Groups {
     }
 
     /// The number of a group, which it gets if it has none: then groups in which nothing stands may lose theirs. The
-    /// guess is tried first, then the number that was found lately. The one fault is `Memory`, and then none gets one.
+    /// guess is tried first, then the one that is kept here. The one fault is `Memory`, and then none gets one.
     #[inline(always)]
     pub fn numbered(
         &mut self,

@@ -1,5 +1,5 @@
-//! The worked journals: what the definitions of the book answer and show, command by command. Each is a law, with nothing to
-//! run.
+//! The worked journals: what the definitions of the book answer and show, command by command. Each is a law, with
+//! nothing to run.
 #![tactic(auto)]
 
 pub mod edges;

@@ -1,9 +1,9 @@
-//! Numbers that were used lately, each in a slot that is told by what it belongs to: the keys of pages' rows, the numbers
-//! of groups.
+//! Numbers as guesses, each in a slot that is told by what it belongs to: the keys of pages' rows, as they came last, and
+//! the numbers of groups, as they were searched for last.
 //!
-//! They are guesses, since many things have one slot, and since a number may go to another thing: whoever takes one
-//! compares before it is believed, and nothing is promised of it. So whoever picks things of one slot gains that each is
-//! searched for, as it would be without this table.
+//! Many things have one slot, and a number may go to another thing: whoever takes one compares before it is believed,
+//! and nothing is promised of it. So whoever picks things of one slot gains that each is searched for, as it would be
+//! without this table.
 
 use crate::groups::NO_NUMBER;
 use std::alloc::Global;
@@ -11,15 +11,15 @@ use std::alloc::Global;
 /// A number for each of so many slots. The first number that is put in takes the memory of all; where that is refused
 /// nothing is remembered.
 #[derive(Drop)]
-pub struct Recent {
+pub struct Guesses {
     slots: usize,
     numbers: Vec<u32>,
 }
 
-impl Recent {
+impl Guesses {
     /// No numbers.
-    pub fn new(alloc: Global, slots: usize) -> Recent {
-        Recent {
+    pub fn new(alloc: Global, slots: usize) -> Guesses {
+        Guesses {
             slots,
             numbers: Vec::new(alloc),
         }
