@@ -18,6 +18,28 @@ pub struct GuestPage {
     pub page: u32,
 }
 
+impl GuestPage {
+    ghost use Rattle.std.specs.Prelude.{◌≡◌, ◌+◌, ◌*◌, ◌^◌};
+    ghost use Rattle.ksm_base.specs.Rows.{comes_before as is_before};
+
+    /// The place of the page among all that there may be, in their order.
+    #[inline(always)]
+    fn rank(self) -> u64
+        ensures { result ≡ self.guest * 2 ^ 32 + self.page }
+    {
+        (u64::from(self.guest) << 32) + u64::from(self.page)
+    }
+
+    /// Whether the page comes before another: the order of `Ord`, told by one comparison, as searches ask for it in
+    /// each step.
+    #[inline(always)]
+    pub fn comes_before(self, other: GuestPage) -> bool
+        ensures { result ≡ is_before self other }
+    {
+        self.rank() < other.rank()
+    }
+}
+
 // A derived hash would hand the hasher guest and page one after the other, which multiplies by each.
 impl Hash for GuestPage {
     ghost use Rattle.std.specs.Prelude.{◌+◌, ◌*◌, ◌^◌};
@@ -30,6 +52,6 @@ impl Hash for GuestPage {
     ghost respects_eq = { Prim.search (hashing, rules) };
 
     fn hash<H: Hasher>(&self, state: &mut H) {
-        state.write_u64((u64::from(self.guest) << 32) + u64::from(self.page));
+        state.write_u64(self.rank());
     }
 }

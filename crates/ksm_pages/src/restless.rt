@@ -16,7 +16,6 @@ ghost use Rattle.slab.specs.Slab.{get};
 
 use crate::row::{Entry, Spot};
 use ksm_base::GuestPage;
-use ksm_rmap::comes_before as precedes;
 use slab::Slab;
 use std::alloc::Global;
 use std::marker::Model;
@@ -50,10 +49,10 @@ fn place_of(spots: &[Spot], page: GuestPage) -> usize
 {
     let len = spots.len();
     // Pages mostly come in order.
-    if len > 0 && precedes(spots[len - 1].page, page) {
+    if len > 0 && spots[len - 1].page.comes_before(page) {
         return len;
     }
-    spots.partition_point(|spot| precedes(spot.page, page))
+    spots.partition_point(|spot| spot.page.comes_before(page))
 }
 
 /// Whether the page stands at the index.
@@ -131,7 +130,7 @@ impl Restless {
             Some(page) => self
                 .spots
                 .as_slice()
-                .partition_point(|spot| !precedes(page, spot.page)),
+                .partition_point(|spot| !page.comes_before(spot.page)),
         }
     }
 

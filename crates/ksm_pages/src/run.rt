@@ -6,7 +6,6 @@ ghost use Rattle.ksm_pages.specs.Ordered.{AreAscending, begins_behind, begins_wi
 
 use crate::named::Named;
 use ksm_base::{Fault, GuestPage};
-use ksm_rmap::comes_before as precedes;
 use std::alloc::Global;
 use std::marker::Model;
 
@@ -41,7 +40,7 @@ fn place_of(pages: &[Named], page: GuestPage) -> usize
     if len == 0 {
         return 0;
     }
-    if precedes(pages[len - 1].page, page) {
+    if pages[len - 1].page.comes_before(page) {
         return len;
     }
     let guess = page.page.wrapping_sub(pages[0].page.page) as usize;
@@ -58,7 +57,7 @@ fn search(pages: &[Named], page: GuestPage) -> usize
     ensures count { result ≡ length (filter (λ n. comes_before n.page page) pages.now) }
     ensures within { result ≤ length pages.now }
 {
-    pages.partition_point(|named| precedes(named.page, page))
+    pages.partition_point(|named| named.page.comes_before(page))
 }
 
 /// How many of the pages do not come behind one.
@@ -67,7 +66,7 @@ fn place_behind(pages: &[Named], page: GuestPage) -> usize
     ensures count { result ≡ length (filter (λ n. not (comes_before page n.page)) pages.now) }
     ensures within { result ≤ length pages.now }
 {
-    pages.partition_point(|named| !precedes(page, named.page))
+    pages.partition_point(|named| !page.comes_before(named.page))
 }
 
 /// Whether a page stands at a place, that of the page.
@@ -139,7 +138,7 @@ impl Run {
         ensures { result ≡ begins_behind page self.now }
     {
         let pages = self.pages.as_slice();
-        !pages.is_empty() && precedes(page, pages[0].page)
+        !pages.is_empty() && page.comes_before(pages[0].page)
     }
 
     /// Whether all its pages come before a page.

@@ -4,7 +4,6 @@ ghost use Rattle.ksm_base.specs.declared.page.GuestPage.{GuestPage};
 ghost use Rattle.ksm_base.specs.Rows.{comes_before, same_page};
 ghost use Rattle.ksm_rmap.specs.Items.{AreAscending, has_item, with_item, without_item};
 
-use crate::page_order::comes_before as precedes;
 use ksm_base::{Fault, GuestPage};
 use smallvec::SmallVec;
 use std::alloc::Global;
@@ -106,7 +105,7 @@ fn place_of(pages: &[GuestPage], page: GuestPage) -> usize
     ensures count { result ≡ length (filter (λ p. comes_before p page) pages.now) }
     ensures within { result ≤ length pages.now }
 {
-    pages.partition_point(|p| precedes(*p, page))
+    pages.partition_point(|p| p.comes_before(page))
 }
 
 /// Whether the page stands at the index.
