@@ -1,4 +1,5 @@
 //! The slots of pages, in the table where the keys of their rows are remembered.
+ghost use Rattle.std.specs.Prelude.{◌<◌};
 
 use ksm_base::GuestPage;
 
@@ -11,7 +12,9 @@ const STRIDE: u32 = 1_266;
 
 /// The slot of a page, below `SLOTS`. Pages that follow each other in a guest have slots of their own.
 #[inline(always)]
-pub fn slot_of(page: GuestPage) -> usize {
+pub fn slot_of(page: GuestPage) -> usize
+    ensures { result < 2048 }
+{
     let number = page
         .page
         .wrapping_add(u32::from(page.guest).wrapping_mul(STRIDE));

@@ -4,6 +4,7 @@ pub mod Counts
 pub mod Dups
 pub mod Grouping
 pub mod Groups
+pub mod Guesses
 pub mod Index
 pub mod Numbered
 pub mod Places

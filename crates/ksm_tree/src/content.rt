@@ -1,5 +1,6 @@
 //! What groups and waiting pages are found by: a tree and the bytes of a page, in an order of their own. Beside that
 //! the slot in which the number of their group is remembered.
+ghost use Rattle.std.specs.Prelude.{◌<◌};
 
 use ksm_base::PageBytes;
 
@@ -20,7 +21,9 @@ const SPREAD: u64 = 0x9e37_79b9_7f4a_7c15;
 /// The slot of a tree and bytes, below `SLOTS`. It hangs on each word and where that stands, also in a page full of one
 /// byte, whose words are equal.
 #[inline(always)]
-pub fn slot_of(tree: u32, bytes: &PageBytes) -> usize {
+pub fn slot_of(tree: u32, bytes: &PageBytes) -> usize
+    ensures { result < 1024 }
+{
     let mut mixed = u64::from(tree);
     for word in bytes {
         mixed = mixed.wrapping_mul(SPREAD).wrapping_add(*word);

@@ -1,9 +1,10 @@
 //! Numbers as guesses, each in a slot that is told by what it belongs to: the keys of pages' rows, as they came last, and
 //! the numbers of groups, as they were searched for last.
 //!
-//! Many things have one slot, and a number may go to another thing: whoever takes one compares before it is believed,
-//! and nothing is promised of it. So whoever picks things of one slot gains that each is searched for, as it would be
-//! without this table.
+//! Many things have one slot, and a number may go to another thing: whoever takes one compares before it is believed. So
+//! whoever picks things of one slot gains that each is searched for, as it would be without this table.
+ghost use Rattle.std.specs.Prelude.{◌≡◌, []};
+ghost use Rattle.ksm_tree.specs.Guesses.{IsBegun, IsPut, guess_at};
 
 use crate::groups::NO_NUMBER;
 use std::alloc::Global;
@@ -18,16 +19,21 @@ pub struct Guesses {
 
 impl Guesses {
     /// No numbers.
-    pub fn new(alloc: Global, slots: usize) -> Guesses {
+    pub fn new(alloc: Global, slots: usize) -> Guesses
+        ensures slots { result.slots ≡ slots }
+        ensures none { result.numbers.items ≡ [] }
+    {
         Guesses {
             slots,
             numbers: Vec::new(alloc),
         }
     }
 
-    /// The number in a slot.
+    /// The number in a slot, or `NO_NUMBER`.
     #[inline(always)]
-    pub fn at(&self, slot: usize) -> u32 {
+    pub fn at(&self, slot: usize) -> u32
+        ensures { result ≡ guess_at self.now.numbers.items slot }
+    {
         match self.numbers.get(slot) {
             Some(number) => *number,
             None => NO_NUMBER,
@@ -36,17 +42,24 @@ impl Guesses {
 
     /// Puts a number into a slot.
     #[inline(always)]
-    pub fn set(&mut self, slot: usize, number: u32) {
+    pub fn set(&mut self, slot: usize, number: u32)
+        ensures slots { self.new.slots ≡ self.old.slots }
+        ensures put { IsPut self.old.slots slot number self.old.numbers.items self.new.numbers.items }
+    {
         if slot < self.numbers.len() {
             self.numbers[slot] = number;
-        } else {
+        } else if self.numbers.is_empty() {
             self.begin(slot, number);
         }
     }
 
     // Takes the memory of all slots, and puts the first number into one.
     #[inline(never)]
-    fn begin(&mut self, slot: usize, number: u32) {
+    fn begin(&mut self, slot: usize, number: u32)
+        requires empty { self.old.numbers.items ≡ [] }
+        ensures slots { self.new.slots ≡ self.old.slots }
+        ensures begun { IsBegun self.old.slots slot number self.new.numbers.items }
+    {
         let taken = self.numbers.resize(self.slots, NO_NUMBER);
         if taken.is_ok() && slot < self.numbers.len() {
             self.numbers[slot] = number;
