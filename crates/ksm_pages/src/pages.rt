@@ -498,7 +498,7 @@ impl Pages {
         requires { IsKnown spot.page self.old.rows }
         ensures { seen self.new ≡ record (seen self.old) { rows = change_row spot.page (λ r. record r { unchanged = false }) self.old.rows; restless = self.new.restless } }
     {
-        self.rows.set_unchanged(spot, false);
+        self.rows.forget_unchanged(spot);
     }
 
     /// The scan visits the page from now on.
@@ -516,7 +516,7 @@ impl Pages {
     {
         leave(&mut self.dups, &self.frames, &self.knobs, &self.rows, spot);
         self.rows.stop_waiting(spot);
-        self.rows.set_unchanged(spot, false);
+        self.rows.forget_unchanged(spot);
         self.rows.set_mergeable(spot, false);
     }
 

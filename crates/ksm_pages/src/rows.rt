@@ -405,15 +405,15 @@ impl Rows {
         self.tally = self.tally.moved(old, new);
     }
 
-    /// Says whether the bytes have stayed since a visit.
+    /// The row is unchanged no more.
     #[inline(always)]
-    pub fn set_unchanged(&mut self, spot: Spot, unchanged: bool)
-        ensures { self.new ≡ record self.old { held = change_held spot.page (on_row (λ r. record r { unchanged = unchanged })) self.old.held } }
+    pub fn forget_unchanged(&mut self, spot: Spot)
+        ensures { self.new ≡ record self.old { held = change_held spot.page (on_row (λ r. record r { unchanged = false })) self.old.held } }
     {
         let Some(key) = key_of(&self.entries, &self.order, spot) else {
             return;
         };
-        self.entries[key].unchanged = unchanged;
+        self.entries[key].unchanged = false;
     }
 
     /// The home of the row is another node.

@@ -12,7 +12,7 @@ turned : (c : goal.After-set_mergeable) → c.set_mergeable.new.self.held
 turned c =
     let held = c.self.inside.rows.held in
     let first = and_then c.args.spot.page settled (λ r. record r { unchanged = false }) (λ r. refl) held (held_as c.stop_waiting.ensures)
-    (held_as c.set_unchanged.ensures) in
+    (held_as c.forget_unchanged.ensures) in
     and_then c.args.spot.page (λ r. record (settled r) { unchanged = false }) (λ r. record r { mergeable = false }) (λ r. refl) held first
     (held_as c.set_mergeable.ensures)
 
