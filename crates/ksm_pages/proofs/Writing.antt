@@ -1,5 +1,5 @@
 -- What each change of one row, found under its key, leaves: rows still, and what is seen of them.
-use Rattle.ksm_pages.proofs.Names.{ap, ap₂, AreBegun, AreFiled, AreListed, arith, Bool, CanMove, change_held, Decides-eqb, Entry, false, find, get, GuestPage, has_item, Held, held_at, held_in, held_of, held_under, IfSome, inl, InPageOrder, inr, is_of, is_own, is_restless, is_some, IsAddedTo, IsCalm, IsMoved, IsRows, IsTally, IsUnder, key_in, Kind, length, length-map, List, Listing, marked, Named, named_of, ne_eqb, None, number_left, option_map, own_state, PageState, Private, refl, row_at, rows_of, RowsView, same_page, same_page_refl, same_Some, settled_state, shared_state, Slab, Some, state_of, subst, sym, Tally, true, true≢false, Updates-with_value, Waiting, with_held, with_item, with_named, with_value, without_held, without_item, without_named, ℕ, ◌&&◌, ◌<◌, ◌==◌, ◌^◌, ◌∙◌, ◌≡◌, ◌≢◌, ◌≤◌, ◌⊎◌}
+use Rattle.ksm_pages.proofs.Names.{ap, ap₂, AreBegun, AreFiled, AreListed, arith, Bool, CanMove, change_held, Decides-eqb, Entry, false, find, forgotten, get, GuestPage, has_item, Held, held_at, held_in, held_of, held_under, IfSome, inl, InPageOrder, inr, is_of, is_own, is_restless, is_some, IsAddedTo, IsCalm, IsMoved, IsRows, IsTally, IsUnder, key_in, Kind, length, length-map, List, Listing, marked, Named, named_of, ne_eqb, None, number_left, on_row, option_map, own_state, PageState, Private, refl, Row, row_at, rows_of, RowsView, same_page, same_page_refl, same_Some, settled, settled_state, shared_state, Slab, Some, state_of, subst, sym, Tally, true, true≢false, Updates-with_value, Waiting, with_held, with_item, with_named, with_value, without_held, without_item, without_named, ℕ, ◌&&◌, ◌<◌, ◌==◌, ◌^◌, ◌∙◌, ◌≡◌, ◌≢◌, ◌≤◌, ◌⊎◌}
 use Rattle.slab.specs.Slab.{Updates as Fills}
 use Rattle.ksm_pages.specs.declared.row.Kind.TheVariants as kinds
 use Rattle.ksm_pages.specs.declared.rows.Rows.TheInside.{Inside}
@@ -228,6 +228,27 @@ module _ (s : Inside) (are : AreRows s) where
           → record { held = held_in s.pass later (marked page m s.order); restless = now; pass = s.pass } ≡ record v { held = change_held page f v.held; restless = now }
       viewed_marked f is m now v seen_as =
           ap (λ held. record { held = held; restless = now; pass = s.pass }) (marked_same s.pass later page m s.order) ∙ viewed f is now v seen_as
+
+    -- ---------------------------------------------------------------- the entry changed, and then forgot its pass
+
+    -- the rows are lawful still where an entry is changed, but neither in its page nor in how that is mapped, and then forgets its pass
+    pub kept_forgotten : (e' : Entry) {now : Entry} → now ≡ forgotten e' → e'.page ≡ e.page → e'.mergeable ≡ e.mergeable → e'.kind ≡ e.kind
+        → {from to : PageState} {tally : Tally} → from ≡ state_of e.kind e.number s.pass → to ≡ state_of now.kind now.number s.pass
+        → IsMoved from to s.tally tally → IsRows (with_value s.entries key now) s.order s.restless tally s.pass
+    kept_forgotten e' is same flag kind {from} {to} {tally} was told moved =
+        subst (λ x. IsRows (with_value s.entries key x) s.order s.restless tally s.pass) (sym is)
+        (kept (forgotten e') same flag (left_fits e'.kind e'.number s.pass) (λ may. sym (ap₂ (λ m k. m && is_own k) flag kind) ∙ may)
+        s.restless refl was (told ∙ ap (λ (x : Entry). state_of x.kind x.number s.pass) is) moved)
+
+    -- the row of an entry that is changed, and then forgets its pass, is seen changed and settled
+    pub viewed_forgotten : (e' : Entry) {now : Entry} → now ≡ forgotten e' → e'.page ≡ e.page → (f : Row → Row)
+        → on_row settled (held_of s.pass e') ≡ on_row f (held_of s.pass e) → (v : RowsView) → view_of s ≡ v
+        → record { held = held_in s.pass (with_value s.entries key now) s.order; restless = s.restless; pass = s.pass } ≡ record v { held = change_held page (on_row f) v.held }
+    viewed_forgotten e' is same f told v seen_as =
+        ap (λ x. record { held = held_in s.pass (with_value s.entries key x) s.order; restless = s.restless; pass = s.pass }) is
+        ∙ viewed_same (forgotten e') same (on_row f)
+        (ap (λ (st : PageState). on_row (λ r. record r { state = st }) (held_of s.pass e')) (rest_of e'.kind e'.number s.pass s.pass are.counting) ∙ told)
+        s.restless refl v seen_as
 
     -- ---------------------------------------------------------------- the entry went
 
