@@ -39,28 +39,40 @@ pairs_right : {X : Type 0} (R : X → X → Type 0) (xs ys : List X) → AllPair
 pairs_right R [] ys pairs = pairs
 pairs_right R (x ∷ xs) ys pairs = pairs_right R xs ys (pairs_tail R x (xs ++ ys) pairs)
 
--- the rows that are asked for are changed up to the cursor: those done
+-- rows cut at the cursor: in the part done each row asked for is changed, and the part left is as it was
 pub record IsAlong (asked : Row → Bool) (f : Row → Row) (rows now : List Row) (last : Option GuestPage) (done left : List Row) :
     Type 0 where
+  -- the rows are those done and then those left
   pub whole : rows ≡ done ++ left
+  -- the rows now are those done, with each one asked for changed, and then those left
   pub are : now ≡ change_rows asked f done ++ left
+  -- no row done comes after the cursor
   pub behind : All (λ r. after_cursor last r.page ≡ false) done
+  -- each row left comes after the cursor
   pub ahead : All (λ r. after_cursor last r.page ≡ true) left
 
--- a page is the next behind the cursor: the rows before its own and those after it, and what becomes of them
+-- a page is the next one asked for after the cursor: its row, the rows before and after it, and how they change
 pub record IsCut (asked : Row → Bool) (f : Row → Row) (rows now done : List Row) (page : GuestPage) : Type 0 where
+  -- the row of the page
   pub row : Row
+  -- the rows before the page's row
   pub before : List Row
+  -- the rows after the page's row
   pub rest : List Row
+  -- the rows are those before the page's row, that row, and those after it
   pub whole : rows ≡ before ++ row ∷ rest
+  -- the rows asked for that pass a test are the same before the page's row as among those done
   pub met : (t : Row → Bool) → filter (λ x. asked x && t x) before ≡ filter (λ x. asked x && t x) done
+  -- the page's row is asked for
   pub of : asked row ≡ true
+  -- the page's row is found as it was
   pub there : row_at page now ≡ Some row
+  -- once the page's row is changed, the rows are cut at that page
   pub next : IsAlong asked f rows (change_row page f now) (Some page) (before ++ row ∷ []) rest
-  -- where its row is not changed, those before it are
+  -- while the page's row is not changed, just the rows asked for before it are
   pub stop : now ≡ change_rows (λ x. asked x && is_before (Some row) x) f rows
 
--- no row is changed yet
+-- before the first page no row is done and no row is changed
 pub along_first : (asked : Row → Bool) (f : Row → Row) (rows : List Row) → IsAlong asked f rows rows None [] rows
 along_first asked f rows = record { whole = refl; are = refl; behind = λ k d lt. absurd (omega (arith, lt)); ahead = λ k d lt. refl }
 
@@ -84,7 +96,7 @@ module _ {asked : Row → Bool} (f : Row → Row) (keeps : (r : Row) → (f r).p
   agree : All (λ r. next_of last r ≡ asked r) left
   agree = λ k d lt. let r = get_or left k d in ap (λ b. asked r && b) (a.ahead k d lt) ∙ and-true (asked r)
 
-  -- where there is no next, all are changed, and none of those left is asked for
+  -- where no row asked for comes after the cursor, each row asked for is changed, and those left are not asked for
   pub along_end : find (next_of last) now ≡ None → (now ≡ change_rows asked f rows)
       × (list_any asked rows ≡ list_any asked done) × All (λ r. asked r ≡ false) left
   along_end ended =
@@ -175,7 +187,7 @@ module _ {asked : Row → Bool} (f : Row → Row) (keeps : (r : Row) → (f r).p
           ∙ ap (change_rows test f) (sym whole);
     }
 
-  -- the next page that is told cuts the rows
+  -- where a search tells a page as the next one asked for after the cursor, the rows are cut at that page
   pub along_cut : InPageOrder rows → (page : GuestPage) → option_map (λ r. r.page) (find (next_of last) now) ≡ Some page
       → IsCut asked f rows now done page
   along_cut rise page told = by (find (next_of last) now) refl told
@@ -191,12 +203,12 @@ abbrev pub position : Option GuestPage → ℕ
 position None = 0
 position (Some p) = p.guest * 4294967296 + p.page + 1
 
--- the numbers of the cursor's page fit
+-- the page at the cursor, if there is one, has a guest below 2^16 and a number below 2^32
 abbrev pub FitsPage : Option GuestPage → Type 0
 FitsPage None = ⊤
 FitsPage (Some p) = (p.guest < 65536) × (p.page < 4294967296)
 
--- the next page is further than the cursor
+-- the next page of a guest, or of all, after a cursor that fits has a greater position than the cursor
 pub further : (guest : Option ℕ) (last : Option GuestPage) (rows : List Row) (page : GuestPage) → FitsPage last
     → option_map (λ r. r.page) (find (is_next guest last) rows) ≡ Some page → position last < position (Some page)
 further guest last rows page fits told = by (find (is_next guest last) rows) refl told
@@ -217,7 +229,7 @@ further guest last rows page fits told = by (find (is_next guest last) rows) ref
     by (Some r) found is = far last fits (ap (after_cursor last) (sym (same_Some r.page page is))
         ∙ (and_parts (of_guest guest r) (after_cursor last r.page) (find_passes (is_next guest last) rows r found)).1)
 
--- no page is further than so many
+-- the position of a cursor that fits is 2^48 at most
 pub not_far : (last : Option GuestPage) → FitsPage last → position last ≤ 281474976710656
 not_far None fits = omega arith
 not_far (Some p) fits = (let guest = fits.0 in let page = fits.1 in omega (arith, guest, page))

@@ -20,7 +20,7 @@ pub one_other : (f : ℕ) (o : Option ℕ) → o ≢ Some f → one_at f o ≡ 0
 one_other f None ne = refl
 one_other f (Some g) ne = ap (λ (b : Bool). cond b 1 0) (ne_eqb g f (λ e. ne (ap Some e)))
 
--- what is tested is so
+-- a frame that passes the test for frame f is f
 pub is_that : (f : ℕ) (o : Option ℕ) → is_frame f o ≡ true → o ≡ Some f
 is_that f None here = absurd (grind (arith, here))
 is_that f (Some g) here = ap Some (eqb-true g f here)
@@ -28,7 +28,7 @@ is_that f (Some g) here = ap Some (eqb-true g f here)
 is_it : (f : ℕ) (o : Option ℕ) → o ≡ Some f → is_frame f o ≡ true
 is_it f o e = ap (is_frame f) e ∙ eq-eqb f f refl
 
--- another frame, or none, fails the test
+-- another frame, or none, fails the test for frame f
 pub not_on : (f : ℕ) (o : Option ℕ) → o ≢ Some f → is_frame f o ≡ false
 not_on f None ne = refl
 not_on f (Some g) ne = ne_eqb g f (λ e. ne (ap Some e))
@@ -42,15 +42,15 @@ frame_cases f o = elim (cases_Bool (is_frame f o)) [
 
 -- ---------------------------------------------------------------- a page
 
--- the page itself lies on the frame told
+-- a page that comes to lie on a frame, or on none, lies there
 pub on_page : (page : GuestPage) (o : Option ℕ) (frame : Frames) (p : GuestPage) → same_page p page ≡ true → lies_on page o frame p ≡ o
 on_page page o frame p same = ap (λ (b : Bool). if b then o else frame p) same
 
--- any other page lies where it lay
+-- where one page comes to lie on a frame, or on none, any other page lies where it lay
 pub off_page : (page : GuestPage) (o : Option ℕ) (frame : Frames) (p : GuestPage) → same_page p page ≡ false → lies_on page o frame p ≡ frame p
 off_page page o frame p other = ap (λ (b : Bool). if b then o else frame p) other
 
--- the row found is of the page
+-- the row that is found at a page is of that page
 pub found_page : (page : GuestPage) (rows : List Row) (row : Row) → row_at page rows ≡ Some row → row.page ≡ page
 found_page page rows row found = same_page_eq row.page page (find_passes (λ r. same_page r.page page) rows row found)
 
@@ -70,13 +70,13 @@ lies_still page o frame there = same_frames _ _ (λ p. elim (cases_Bool (same_pa
 
 -- ---------------------------------------------------------------- the rows
 
--- a row of the page is the one found
+-- of rows in page order, each row of a page is the one found at that page
 pub row_of_page : (page : GuestPage) (rows : List Row) (row : Row) → InPageOrder rows → row_at page rows ≡ Some row → All (λ r. same_page r.page page ≡ true → r ≡ row) rows
 row_of_page page rows row rise found =
     let each = find_all (λ r. same_page r.page page) (λ r. All (λ s. same_page s.page r.page ≡ true → s ≡ r) rows) rows row found (one_of_each_page rows rise) in
     λ i d lt same. each i d lt (ap (same_page (get_or rows i d).page) (found_page page rows row found) ∙ same)
 
--- what holds of each row, where the row of a page changes
+-- where P holds of each row and the row of a page changes, Q holds of each, if P gives Q there and elsewhere
 pub all_changed_row : (P Q : Row → Type 0) (page : GuestPage) (c : Row → Row) (rows : List Row) (row : Row) → InPageOrder rows → row_at page rows ≡ Some row → All P rows
     → ((r : Row) → same_page r.page page ≡ false → P r → Q r) → (P row → Q (c row)) → All Q (change_row page c rows)
 all_changed_row P Q page c rows row rise found all others here =
@@ -87,7 +87,7 @@ all_changed_row P Q page c rows row rise found all others here =
     (λ same. let is = one i d lt same in subst (λ s. P s → Q (c s)) (sym is) here (all i d lt))
     (λ other. others r other (all i d lt)))
 
--- what holds of each row that passes a filter holds of each row that passes it
+-- what holds of each element of a filtered list holds of each element of the list that passes the test
 pub filter_back : {X : Type 0} (t : X → Bool) (P : X → Type 0) (xs : List X) → All P (filter t xs) → All (λ x. t x ≡ true → P x) xs
 filter_back t P [] h = λ k x lt. absurd (omega arith)
 filter_back t P (x ∷ xs) h = elim (cases_Bool (t x)) [
@@ -130,7 +130,7 @@ module _ (f : ℕ) (page : GuestPage) (o : Option ℕ) (frame : Frames) where
   apart_uses : (rows : List Row) → All (λ r. same_page r.page page ≡ false) rows → uses f (lies_on page o frame) rows ≡ uses f frame rows
   apart_uses rows apart = counts_agree new_test old_test rows (λ i d lt. ap (is_frame f) (off_page page o frame (get_or rows i d).page (apart i d lt)))
 
-  -- the row of a page goes
+  -- where the row of a page goes, one row less lies on the frame if the page lay there, else as many
   pub uses_gone : (rows : List Row) (row : Row) → InPageOrder rows → row_at page rows ≡ Some row → uses f (lies_on page o frame) (without_page page rows) + one_at f (frame page) ≡ uses f frame rows
   uses_gone rows row rise found =
       let rest = apart_uses (without_page page rows) (λ i d lt. not-true _ (filter_passes (λ r. not (same_page r.page page)) rows i d lt)) in
@@ -138,7 +138,7 @@ module _ (f : ℕ) (page : GuestPage) (o : Option ℕ) (frame : Frames) where
       let gone = count_without_page old_test page rows row rise found in
       omega (arith, rest, own, gone)
 
-  -- the row of a page comes to lie on another frame
+  -- where a page comes to lie on another frame, one row less lies on the old frame and one more on the new one
   pub uses_changed : (c : Row → Row) (rows : List Row) (row : Row) → InPageOrder rows → row_at page rows ≡ Some row → ((r : Row) → (c r).page ≡ r.page)
       → uses f (lies_on page o frame) (change_row page c rows) + one_at f (frame page) ≡ uses f frame rows + one_at f o
   uses_changed c rows row rise found keeps =
@@ -158,7 +158,7 @@ module _ (f : ℕ) (page : GuestPage) (o : Option ℕ) (frame : Frames) where
       let each = filter_back (λ r. not (same_page r.page page)) (λ r. old_test r ≡ false) rows (none_counted old_test (without_page page rows) none) in
       λ i d lt other e. both_ways _ (each i d lt (ap not other)) (is_it f _ e)
 
--- a row comes on a page that had none
+-- where a row comes at a page that had none, one row more lies on the frame if it comes there, else as many
 pub uses_come : (f : ℕ) (o : Option ℕ) (frame : Frames) (row : Row) (rows : List Row) → row_at row.page rows ≡ None
     → uses f (lies_on row.page o frame) (with_row row rows) ≡ uses f frame rows + one_at f o
 uses_come f o frame row rows absent =

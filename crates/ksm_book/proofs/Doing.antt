@@ -3,6 +3,7 @@ use Rattle.ksm_book.proofs.Names.{ap, append-nil, best_dup, BookState, Deed, doi
 use Rattle.ksm_book.proofs.Going.{elsewhere}
 use Rattle.ksm_book.proofs.Folded.{beside_state}
 
+-- a deed and then no step is that deed alone
 pub then_idle : (deed : Deed) → then_doing deed (idle deed.frame) ≡ deed
 then_idle deed = λ t. record { steps = append-nil deed.steps t; frame = deed.frame }
 
@@ -20,6 +21,7 @@ module _ (b : BookState) (frame : Frames) (row : Row) (cursor : Option GuestPage
   row_visiting_alike : row_visiting (elsewhere cursor passes b) frame row ≡ row_visiting b frame row
   row_visiting_alike = λ t. if shared_state row.state then idle frame else handling_alike (best_dup b.knobs b.rows b.dups row) t
 
+-- what visits do to the frames is nothing at a shared row, and the same wherever the cursor stands
 pub doing_beside : IsBeside doing
 doing_beside = record {
   shared = λ b deed row is. ap
@@ -28,7 +30,7 @@ doing_beside = record {
   alike = λ b deed row cursor passes. ap (then_doing deed) (row_visiting_alike b deed.frame row cursor passes);
 }
 
--- the deed of n visits
+-- what n visits do to the frames is the deed that n visits come to, each with its deed beside it
 pub scanning_is : (n : ℕ) (b : BookState) (frame : Frames) → scanning n b frame ≡ (visits_beside doing n (b, idle frame)).1
 scanning_is zero b frame = refl
 scanning_is (suc n) b frame =

@@ -62,7 +62,7 @@ puts_from sh k g pre (w ∷ ws) (c ∷ cs) lt same is =
     ap (λ i. replayed sh next (puts g i ws)) (sym long) ∙ puts_from sh next g (pre ++ w ∷ []) ws cs (omega (arith, room, lt)) (omega arith) content
     ∙ again k g lt note (λ x. holding x ((pre ++ w ∷ []) ++ ws)) ∙ ap (λ l. with_frame k g (holding n l)) (append_assoc pre (w ∷ []) ws)
 
--- all words of a frame are written
+-- where all words of a frame are stored, the keeper knows that the frame holds these bytes, and the rest as it was
 pub puts_ledger : (sh : Shape) (k : Ledger) (g : ℕ) (bytes : List ℕ) → g < length k.frames → length (frame_at k g).content ≡ length bytes
     → replayed sh k (puts g 0 bytes) ≡ with_frame k g (holding (frame_at k g) bytes)
 puts_ledger sh k g bytes lt same = puts_from sh k g [] bytes (frame_at k g).content lt same refl
@@ -96,19 +96,19 @@ module _ (v w : KeeperView) (node g : ℕ) (less : node < v.table.shape.nodes) (
   abbrev sh : Shape
   sh = v.table.shape
 
-  -- rows and dups lie lawfully once it is found
+  -- rows and dups lie lawfully once the frame is found
   pub found_placed : Placed sh l.0 w.ledger l.1 l.2 l.3 None
   found_placed = searched_placed v w node less finds.reaped l.0 l.1 l.2 l.3 None l.4
 
-  -- it is one of the table
+  -- the frame found is one of the table
   pub found_inside : g < frames_of sh
   found_inside = let end = node_end node sh.nodes sh.frames_per_node less in let high = finds.lowest.high in omega (arith, end, high)
 
-  -- and one that the keeper knows
+  -- the frame found is one that the keeper knows
   pub found_within : g < length w.ledger.frames
   found_within = let long = found_placed.frames_long in let i = found_inside in omega (arith, long, i)
 
-  -- once it is raised it is ready to be filled
+  -- once the frame found is raised it is ready to be filled
   pub raised_ready : (r : KeeperView) (n : ℕ) → r ≡ did w (Raise g) n
       → (g < length r.ledger.frames) × (frame_at r.ledger g ≡ raised (frame_at w.ledger g)) × (length (frame_at r.ledger g).content ≡ PAGE_WORDS)
   raised_ready r n is =
@@ -192,19 +192,19 @@ held_within k f some = elim (cases_lt f (length k.frames)) [
   | inr more ↦ absurd (let none = ap (λ (x : Note). x.base) (get_or_past k.frames f blank more) in omega (arith, some, none))
 ]
 
--- a reference more is counted
+-- once one reference more came to a frame, the keeper counts one more there than so far
 pub base_more : (v w : KeeperView) (f n found : ℕ) → 1 ≤ (frame_at v.ledger f).base → (frame_at w.ledger f).base ≡ (frame_at v.ledger f).base + n
     → (frame_at (did w (Add f) found).ledger f).base ≡ (frame_at v.ledger f).base + (n + 1)
 base_more v w f n found some so_far =
     let at = ap (λ (x : Note). x.base) (at_again w.ledger f (held_within w.ledger f (omega (arith, some, so_far))) (added (frame_at w.ledger f))) in
     omega (arith, at, so_far)
 
--- and is one step more
+-- n references that came to a frame, and one more, are n + 1 steps of the keeper
 pub add_more : (v w w' : KeeperView) (f n found : ℕ) → Made v w (replicate n (Add f)) → w' ≡ did w (Add f) found → Made v w' (replicate (n + 1) (Add f))
 add_more v w w' f n found so_far is =
     subst (Made v w') (replicate-append-replicate n 1 (Add f)) (made_then v w w' (replicate n (Add f)) (Add f ∷ []) so_far (made_one w w' (Add f) found is))
 
--- so many references came to a frame
+-- where n references came to a frame, the keeper counts n more there and knows the rest as it was
 pub adds_ledger : (n : ℕ) (v w : KeeperView) (f : ℕ) → f < length v.ledger.frames → Made v w (replicate n (Add f))
     → w.ledger ≡ with_frame v.ledger f (referring (frame_at v.ledger f) ((frame_at v.ledger f).base + n))
 adds_ledger zero v w f lt m =

@@ -30,7 +30,7 @@ some_next c page more is = by (next_row c.cursor c.rows) refl (next_first c.curs
     by None found at = cc
     by (Some row) found at = (row, found, same_Some row.page page at)
 
--- there is none where no page is ahead
+-- where no page is ahead there is no next row
 pub none_next : (c : BookState) → pages_ahead c ≡ [] → next_row c.cursor c.rows ≡ None
 none_next c is = by (next_row c.cursor c.rows) (next_first c.cursor c.rows ∙ ap (λ l. slice_get l 0) is)
   where
@@ -38,7 +38,7 @@ none_next c is = by (next_row c.cursor c.rows) (next_first c.cursor c.rows ∙ a
     by None none = refl
     by (Some row) none = cc
 
--- a pass with a page ahead does not end, and where it is under way nothing is done before its next visit
+-- a pass with a page ahead does not end
 pub pass_goes_on : (c : BookState) (page : GuestPage) (more : List GuestPage) → pages_ahead c ≡ page ∷ more → pass_ended_at_last c ≡ c
 pass_goes_on c page more is =
     ap (λ o. if is_some c.cursor && is_none o then pass_ended c else c) (some_next c page more is).1 ∙ either (is_some c.cursor)
@@ -47,6 +47,7 @@ pass_goes_on c page more is =
     either true = refl
     either false = refl
 
+-- where a pass is under way with a page ahead, the next visit begins with nothing done
 begun_goes_on : (c : BookState) (last page : GuestPage) (more : List GuestPage) → c.cursor ≡ Some last → pages_ahead c ≡ page ∷ more
     → visit_begun c ≡ c
 begun_goes_on c last page more at is =
@@ -65,6 +66,7 @@ ascending_mergeable rows rise =
     ascending_pages (filter (λ r. r.mergeable) rows)
     (AllPairs-filter (λ a b. comes_before a.page b.page ≡ true) (λ r. r.mergeable) rows rise)
 
+-- the pages ahead ascend where the rows are in page order
 pub ascending_ahead : (b : BookState) → InPageOrder b.rows → AreAscending (pages_ahead b)
 ascending_ahead b rise = AllPairs-filter Before (after_cursor b.cursor) (mergeable_pages b.rows) (ascending_mergeable b.rows rise)
 
@@ -95,7 +97,7 @@ every_page rows = filter_all (after_cursor None) (mergeable_pages rows) (λ k d 
 
 -- ---------------------------------------------------------------- visits with what they do beside
 
--- what is still twice is still
+-- where nothing but which rows wait changed from a first book to a second and to a third, so it is from first to third
 pub still_on : {X : Type 0} (first second third : BookState × X) → IsStill first second → IsStill second third → IsStill first third
 still_on first second third f g = record {
   rest = g.rest ∙ ap (λ (b : BookState). record b { rows = third.0.rows }) f.rest;
@@ -107,14 +109,14 @@ module _ {X : Type 0} (step : BookState → X → Row → X) where
   abbrev one_visit : BookState × X → BookState × X
   one_visit s = let t = begun s in next_visited step t (next_row t.0.cursor t.0.rows)
 
-  -- n visits and then k are as many as both
+  -- n visits and then k come to the same as n + k visits
   pub beside_on : (n k m : ℕ) (s : BookState × X) → m ≡ n + k → visits_beside step m s ≡ visits_beside step k (visits_beside step n s)
   beside_on n zero m s sum = let same : m ≡ n = omega (arith, sum) in ap (λ j. visits_beside step j s) same
   beside_on n (suc k) m s sum =
       (let more : m ≡ suc (n + k) = omega (arith, sum) in ap (λ j. visits_beside step j s) more)
       ∙ ap one_visit (beside_on n k (n + k) s refl)
 
-  -- the book after them is that after as many visits
+  -- the book after n visits with what they do beside is the book after n visits
   pub beside_state : (n : ℕ) (s : BookState × X) → (visits_beside step n s).0 ≡ visits n s.0
   beside_state zero s = refl
   beside_state (suc n) s =
@@ -169,7 +171,7 @@ module _ {X : Type 0} (step : BookState → X → Row → X) where
           (not-true (shared_state r.state) (and_parts r.mergeable (not (shared_state r.state)) is).1))
           (λ calm. goes_same s.0.rows)
 
-  -- so do the visits of some pages
+  -- visits of pages keep the rows in page order and which pages scans visit, and make no page restless
   pub pages_go : (pages : List GuestPage) (s : BookState × X) → InPageOrder s.0.rows → Goes s.0.rows (pages_visited step s pages).0.rows
   pages_go [] s rise = goes_same s.0.rows
   pages_go (page ∷ pages) s rise =
@@ -177,6 +179,7 @@ module _ {X : Type 0} (step : BookState → X → Row → X) where
       let first = page_goes s page rise in
       goes_on s.0.rows next.0.rows (pages_visited step next pages).0.rows first (pages_go pages next (first.order rise))
 
+  -- visits of some pages and of one page more are the visits of those pages and then the visit of that one
   pub visited_more : (pages : List GuestPage) (s : BookState × X) (page : GuestPage)
       → pages_visited step s (pages ++ page ∷ []) ≡ page_visited step (pages_visited step s pages) page
   visited_more [] s page = refl
@@ -201,7 +204,7 @@ module _ {X : Type 0} (step : BookState → X → Row → X) where
             ∙ ap (λ z. pages_visited step z pages) (sym (calm_stays s page (All-head P page pages calm goes_out)))
       ]
 
-  -- ascending lists with the same restless pages come to the same
+  -- visits of two ascending lists of pages with the same restless pages come to the same
   pub same_restless : (ps qs : List GuestPage) (s : BookState × X) → InPageOrder s.0.rows → AreAscending ps → AreAscending qs
       → ((page : GuestPage) → restless_at page s.0.rows ≡ true → has_item page ps ≡ has_item page qs)
       → pages_visited step s ps ≡ pages_visited step s qs
@@ -268,6 +271,7 @@ module _ {X : Type 0} (step : BookState → X → Row → X) where
           by None = refl
           by (Some r) = either r (is_restless r)
 
+      -- visits of pages from another cursor and count of passes come to the same, but for that cursor and count
       pub pages_alike : (pages : List GuestPage) (s : BookState × X)
           → pages_visited step (moved s) pages ≡ moved (pages_visited step s pages)
       pages_alike [] s = refl
@@ -319,7 +323,7 @@ module _ {X : Type 0} (step : BookState → X → Row → X) where
         ∙ first_done page done left v ahead (λ more. along done left here (going.order rise) more ahead)
         ∙ ap (λ z. pass_at (page ∷ done) left (pages_visited step z done)) (sym visit)
 
-    -- so many visits as there are pages, of those that were ahead, are the fold over these pages
+    -- as many visits as pages in a first part of those ahead are the visits of these; the pass ends if none is left
     pub visits_folded : (s : BookState × X) (done left : List GuestPage) → InPageOrder s.0.rows → 1 ≤ length done
         → pages_ahead (visit_begun s.0) ≡ done ++ left
         → visits_beside step (length done) s ≡ pass_at done left (pages_visited step (begun s) done)
@@ -327,7 +331,7 @@ module _ {X : Type 0} (step : BookState → X → Row → X) where
     visits_folded s (page ∷ done) left rise some is =
         visits_go (length done) s ∙ along (page ∷ done) left (begun s) ((begun_goes s.0).order rise) (omega arith) is
 
-    -- where pages are left, the next visit begins from there
+    -- where a page is still ahead after the visits of some pages, the next visit begins from where these have led
     pub begun_folded : (s : BookState × X) (done : List GuestPage) (next : GuestPage) (left : List GuestPage) → InPageOrder s.0.rows
         → pages_ahead (visit_begun s.0) ≡ done ++ next ∷ left
         → begun (visits_beside step (length done) s) ≡ pass_at done (next ∷ left) (pages_visited step (begun s) done)
@@ -389,6 +393,7 @@ module _ {X : Type 0} (step : BookState → X → Row → X) where
             ∙ ap (visits_beside step (length all)) (again_times times passes small)
             ∙ again so_far ∙ ap ended more
 
+        -- after a whole pass that changed nothing but which rows wait, further passes add to the count of passes alone
         pub repeats : (times : ℕ) → visits_beside step (times * length all) (pass_ended after.0, after.1)
             ≡ (record (pass_ended after.0) { passes = min ((pass_ended after.0).passes + times) (2 ^ 64 - 1) }, after.1)
         repeats times =

@@ -29,6 +29,7 @@ module _ (cursor : Option GuestPage) (passes : ℕ) where
       let marked : BookState = record b { rows = change_row row.page (λ r. record r { unchanged = true; state = Private }) b.rows } in
       either row.unchanged (stayed b row) marked (stayed (elsewhere b) row) (elsewhere marked) (stayed_alike b row) refl
 
+  -- the visit of a row does the same to the book wherever its cursor stands and however many passes have ended
   pub row_visited_alike : (b : BookState) (row : Row) → row_visited (elsewhere b) row ≡ elsewhere (row_visited b row)
   row_visited_alike b row =
       let best = best_dup b.knobs b.rows b.dups row in
@@ -38,13 +39,18 @@ module _ (cursor : Option GuestPage) (passes : ℕ) where
 
 -- new rows in the stead of old ones: the order stays, and which pages scans visit, and no page becomes restless
 pub record Goes (old new : List Row) : Type 0 where
+  -- the new rows are in page order where the old ones are
   pub order : InPageOrder old → InPageOrder new
+  -- scans visit the same pages
   pub mergeable : mergeable_pages new ≡ mergeable_pages old
+  -- a page that was not restless is not so now
   pub calm : (page : GuestPage) → restless_at page old ≡ false → restless_at page new ≡ false
 
+-- rows that do not change keep their order and which pages scans visit, and no page becomes restless
 pub goes_same : (rows : List Row) → Goes rows rows
 goes_same rows = record { order = λ rise. rise; mergeable = refl; calm = λ page calm. calm }
 
+-- two changes that keep the order and which pages scans visit, and make no page restless, are one such change
 pub goes_on : (first second third : List Row) → Goes first second → Goes second third → Goes first third
 goes_on first second third f g = record {
   order = λ rise. g.order (f.order rise);
@@ -57,6 +63,7 @@ abbrev pub KeepsPage : (Row → Row) → Type 0
 KeepsPage change = (r : Row) → ((change r).page ≡ r.page) × ((change r).mergeable ≡ r.mergeable)
 
 module _ (change : Row → Row) (keeps : KeepsPage change) where
+  -- where a change keeps each row's page and whether scans visit it, scans visit the same pages
   pub mergeable_kept : (rows : List Row) → mergeable_pages (map change rows) ≡ mergeable_pages rows
   mergeable_kept [] = refl
   mergeable_kept (r ∷ rows) =
@@ -142,6 +149,7 @@ module _ (b : BookState) (row : Row) (rise : InPageOrder b.rows) (found : row_at
       (record b { rows = change_row row.page (λ r. record r { unchanged = true; state = Private }) b.rows }) Comes
       (λ _. stayed_goes own) (λ _. own_changes (λ r. record r { unchanged = true; state = Private }) (λ r. (refl, refl)) own)
 
+  -- the visit of a row with a frame of its own keeps the order and which pages scans visit, and makes no page restless
   pub visited_goes : shared_state row.state ≡ false → Comes (row_visited b row)
   visited_goes own =
       subst Comes (sym (ap (λ s. if s then b else handled (best_dup b.knobs b.rows b.dups row) b row) own))
@@ -149,6 +157,7 @@ module _ (b : BookState) (row : Row) (rise : InPageOrder b.rows) (found : row_at
 
 -- ---------------------------------------------------------------- what a visit begins with
 
+-- once no row waits the rows keep their order and which pages scans visit, and no page becomes restless
 pub settled_goes : (rows : List Row) → Goes rows (map settled rows)
 settled_goes rows = change_goes settled (λ r. (refl, refl)) rows (λ k d lt is. by (get_or rows k d).state is)
   where
@@ -156,6 +165,7 @@ settled_goes rows = change_goes settled (λ r. (refl, refl)) rows (λ k d lt is.
     by Private is = is
     by _ is = is
 
+-- as a visit begins the rows keep their order and which pages scans visit, and no page becomes restless
 pub begun_goes : (b : BookState) → Goes b.rows (visit_begun b).rows
 begun_goes b =
     cond_both (is_some b.cursor && is_none (next_row b.cursor b.rows)) (pass_ended b) b (λ e. Goes b.rows (pass_begun e).rows)
@@ -165,6 +175,7 @@ begun_goes b =
     begins =
         cond_both (is_none b.cursor) (with_none_waiting b) b (λ c. Goes b.rows c.rows) (λ _. settled_goes b.rows) (λ _. goes_same b.rows)
 
+-- an option that holds nothing is None
 pub none_of : {X : Type 0} (o : Option X) → is_some o ≡ false → o ≡ None
 none_of None none = refl
 none_of (Some x) none = absurd (true≢false none)

@@ -34,7 +34,7 @@ lived_taken last n base _ true some fits h = h
 
 -- ---------------------------------------------------------------- lives
 
--- no frame was given more often than it may be
+-- a generation that fits a frame's kind is at most the last generation
 pub lives_most : (last n : ℕ) (kind : Kind) → GenerationFits last kind n → n ≤ last
 lives_most last n Free h = omega (arith, h)
 lives_most last n _ h = h.1
@@ -90,7 +90,7 @@ held_inside sh across k rows frame dups g p =
       some,
     )
 
--- what is in hand may be given back
+-- the frame in hand, if there is one, may be left
 pub may_leave : (v : KeeperView) (sh : Shape) → v.table.shape ≡ sh → (across : ℕ) (rows : List Row) (frame : Frames) (dups : List DupRow) (o : Option ℕ)
     → Placed sh across v.ledger rows frame dups o → IfSome o (λ f. May v (Sub f))
 may_leave v sh same across rows frame dups None p = tt

@@ -14,7 +14,7 @@ module _ (sh : Shape) (across : ℕ) (v : KeeperView) (rows : List Row) (frame :
   pub lawful : Placed sh across v.ledger rows frame dups hand → IsLawful v hand
   lawful p = (across, rows, frame, dups, at_table p)
 
-  -- a call keeps it
+  -- a placement that is lawful before a call is lawful after it, where the call keeps every lawful placement
   pub kept : (w : KeeperView) (hand' : Option ℕ) → Keeps v w hand hand' → Placed sh across v.ledger rows frame dups hand → Placed sh across w.ledger rows frame dups hand'
   kept w hand' keeps p = subst (λ (s : Shape). Placed s across w.ledger rows frame dups hand') same (keeps across rows frame dups (at_table p))
 
@@ -40,7 +40,7 @@ module _ (sh : Shape) (across : ℕ) (v w : KeeperView) (rows : List Row) (frame
     own_agrees sh across w.ledger rows frame dups (Some g) in_new_hand r g (λ n. ap (merged_into n) own) took.kind,
   )
 
-  -- a page moves to it, and its old frame comes into the hand
+  -- a page moves to the frame taken: its placement is lawful, with the frame that it had, if it had one, in hand
   pub moved_there : (page : GuestPage) (c : Row → Row) → InPageOrder rows → Houses c page node bytes rows → Placed sh across w.ledger (change_row page c rows) (lies_on page (Some g) frame) dups (frame page)
   moved_there page c rise houses = by (row_at page rows) refl houses.row
     where
@@ -49,11 +49,11 @@ module _ (sh : Shape) (across : ℕ) (v w : KeeperView) (rows : List Row) (frame
       by None found none = absurd none
       by (Some row) found h = swapped sh across w.ledger rows frame dups (Some g) page c row rise found houses.pages in_new_hand (serves (c row) h.0 h.1 h.2)
 
-  -- a row comes on it
+  -- where a new row comes on the frame taken, rows and dups lie lawfully
   pub come_there : (r : Row) → row_at r.page rows ≡ None → r.state ≡ OwnPage → r.home ≡ node → r.bytes ≡ bytes → Placed sh across w.ledger (with_row r rows) (lies_on r.page (Some g) frame) dups None
   come_there r absent own home content = inserted sh across w.ledger rows frame dups (Some g) r absent in_new_hand (serves r own home content)
 
--- the frame of a page with one of its own
+-- the frame of a row that is not shared is Private
 pub own_kind : (s : PageState) → shared_state s ≡ false → kind_for s ≡ Private
 own_kind (Merged d) e = absurd (grind (arith, e))
 own_kind Zero e = absurd (grind (arith, e))
@@ -64,12 +64,12 @@ pub own_item : (s : PageState) → shared_state s ≡ false → (n : ℕ) → me
 own_item (Merged d) e n = absurd (grind (arith, e))
 own_item _ e n = refl
 
--- a page with a frame of its own has one
+-- a row that is not shared is not Zero
 pub own_framed : (s : PageState) → shared_state s ≡ false → zero_state s ≡ false
 own_framed Zero e = absurd (grind (arith, e))
 own_framed _ e = refl
 
--- a row may stand in the stead of another on the same frame
+-- a row may stand in the stead of another on its frame: same home and bytes, and the same state, or neither is shared
 abbrev pub LodgesAs : Row → Row → Type 0
 LodgesAs row r = (row.home ≡ r.home) × (row.bytes ≡ r.bytes) × ((row.state ≡ r.state) ⊎ ((shared_state r.state ≡ false) × (shared_state row.state ≡ false)))
 
@@ -113,7 +113,7 @@ module _ (p : PagesView) (k : KeeperView) (h : IsLaid p k) where
   abbrev sh : Shape
   sh = p.shape
 
-  -- what the keeper knows by other names
+  -- pages that lie lawfully do so after a call that keeps every lawful placement and spends no fewer lives
   pub laid_kept : (w : KeeperView) → w.table ≡ k.table → Keeps k w None None → spent k.ledger ≤ spent w.ledger → IsLaid p w
   laid_kept w e keeps more = record {
     small = h.small;
@@ -122,6 +122,7 @@ module _ (p : PagesView) (k : KeeperView) (h : IsLaid p k) where
     spent = (let s = h.spent in omega (arith, s, more));
   }
 
+  -- pages that lie lawfully do so with a keeper of the same table and the same ledger
   pub laid_same : (w : KeeperView) → w.table ≡ k.table → w.ledger ≡ k.ledger → IsLaid p w
   laid_same w t l = record {
     small = h.small;
@@ -130,7 +131,7 @@ module _ (p : PagesView) (k : KeeperView) (h : IsLaid p k) where
     spent = subst (λ (z : Ledger). p.next ≤ spent z) (sym l) h.spent;
   }
 
-  -- other rows that lie lawfully, where no dup was made
+  -- pages lie lawfully with other rows and frames that are placed lawfully beside the same dups
   pub laid_rows : (rows : List Row) (frame : Frames) (restless : Listing) (w : KeeperView) → w.table ≡ k.table → spent k.ledger ≤ spent w.ledger → Placed sh across w.ledger rows frame p.dups None
       → IsLaid (record p { rows = rows; frame = frame; restless = restless }) w
   laid_rows rows frame restless w e more placed = record {
@@ -140,15 +141,15 @@ module _ (p : PagesView) (k : KeeperView) (h : IsLaid p k) where
     spent = (let s = h.spent in omega (arith, s, more));
   }
 
-  -- each row changes on its frame
+  -- pages lie lawfully where each row changes into one that may stand in its stead on its frame
   pub laid_mapped : (c : Row → Row) (restless : Listing) → ((r : Row) → (c r).page ≡ r.page) → All (λ r. LodgesAs (c r) r) p.rows → IsLaid (record p { rows = map c p.rows; restless = restless }) k
   laid_mapped c restless keeps lodges = laid_rows (map c p.rows) p.frame restless k refl (omega arith) (lodged_rows sh across k.ledger p.rows p.frame p.dups None h.placed c keeps lodges)
 
-  -- a row that is not Zero has a frame
+  -- a row that is not Zero lies on a frame that serves it
   pub has_frame : (page : GuestPage) (row : Row) → row_at page p.rows ≡ Some row → zero_state row.state ≡ false → (f : ℕ) × (p.frame page ≡ Some f) × Serves sh k.ledger p.dups row f
   has_frame page row found other = framed sh k.ledger p.dups row (p.frame page) other (served_at sh across k.ledger p.rows p.frame p.dups None h.placed page row found)
 
-  -- the row of a page with a frame of its own is written in place
+  -- pages lie lawfully where the row of a page with a frame of its own gets new bytes, and the frame holds them
   pub laid_written : (page : GuestPage) (row : Row) (c : Row → Row) (restless : Listing) (w : KeeperView) (g : ℕ) → InPageOrder p.rows → row_at page p.rows ≡ Some row → ((r : Row) → (c r).page ≡ r.page) → p.frame page ≡ Some g
       → w.table ≡ k.table → w.ledger ≡ with_frame k.ledger g (holding (frame_at k.ledger g) (c row).bytes) → length (c row).bytes ≡ PAGE_WORDS → shared_state row.state ≡ false → (c row).home ≡ row.home → (c row).state ≡ OwnPage
       → IsLaid (record p { rows = change_row page c p.rows; restless = restless }) w
@@ -163,12 +164,12 @@ module _ (p : PagesView) (k : KeeperView) (h : IsLaid p k) where
       (written_in sh across k.ledger p.rows p.frame p.dups h.placed page row rise found g lies kind c keeps fr kind refl refl wide
       (ap zero_state is) (ap kind_for is) (λ n. ap (merged_into n) is) home refl alone))
 
--- the frame of a row may be read
+-- a frame of the kind that a row has which is not Zero may be read
 pub readable : (x : Kind) (s : PageState) → zero_state s ≡ false → x ≡ kind_for s → IsReadable x
 readable x Zero framed e = absurd (grind (arith, framed))
 readable x _ framed e = subst IsReadable (sym e) tt
 
--- other knobs, of which merge_across_nodes speaks of dups alone
+-- pages lie lawfully with other knobs, where merge_across_nodes stays as it is or there are no dups
 pub retuned : (p : PagesView) (tuned : Knobs) (k : KeeperView) → (tuned.merge_across_nodes ≡ p.knobs.merge_across_nodes) ⊎ (p.dups ≡ []) → IsLaid p k → IsLaid (record p { knobs = tuned }) k
 retuned p tuned k (inl same) h = record {
   small = h.small;
@@ -203,7 +204,7 @@ same_in (suc n) (suc i) a = same_in n i a
 first_note : (sh : Shape) (f : ℕ) → frame_at (first_ledger sh) f ≡ blank
 first_note sh f = same_in (frames_of sh) f blank
 
--- the pages as they are opened
+-- pages lie lawfully as they are opened, with no rows and no dups, where the keeper has its first ledger
 pub first_laid : (sh : Shape) (k : KeeperView) → IsShape sh → k.table.shape ≡ sh → k.ledger ≡ first_ledger sh
     → IsLaid (record { shape = sh; rows = []; frame = nowhere; dups = []; knobs = default_knobs; next = 0; restless = record { pages = []; known = true } }) k
 first_laid sh k is same first = record {

@@ -17,7 +17,7 @@ pages_are cursor (r ∷ rows) =
       | inr not_so ↦ grind (arith, not_so, rest)
     ]
 
--- where so many visits end
+-- where so many visits of the rows ahead end, so many visits of the pages ahead end
 pub ahead_ends : (cursor : Option GuestPage) (rows : List Row) (visits : ℕ) (ahead : Ahead) → ComesTo (rows_ahead cursor rows) visits ahead
     → EndsAt (filter (after_cursor cursor) (mergeable_pages rows)) visits ahead
 ahead_ends cursor rows visits ahead comes = subst (λ l. EndsAt l visits ahead) (pages_are cursor rows) (by ahead comes)
@@ -46,6 +46,7 @@ between_are : (cursor : Option GuestPage) (page : GuestPage) (rows : List Row)
     ≡ filter (λ p. comes_before p page) (filter (after_cursor cursor) (mergeable_pages rows))
 between_are cursor page rows = before_are page (rows_ahead cursor rows) ∙ ap (filter (λ p. comes_before p page)) (pages_are cursor rows)
 
+-- the rows that scans visit between the cursor and a page are as many as the pages ahead before that page
 pub between_many : (cursor : Option GuestPage) (page : GuestPage) (rows : List Row)
     → length (rows_between cursor page rows)
     ≡ length (filter (λ p. comes_before p page) (filter (after_cursor cursor) (mergeable_pages rows)))
@@ -56,12 +57,13 @@ last_is : (cursor : Option GuestPage) (rows : List Row) → last_page cursor row
 last_is cursor [] = refl
 last_is cursor (r ∷ rows) = last_is (Some r.page) rows
 
+-- the last of the rows that scans visit between the cursor and a page is of the last page ahead before that page
 pub between_last : (cursor : Option GuestPage) (page : GuestPage) (rows : List Row)
     → last_page cursor (rows_between cursor page rows)
     ≡ last_of cursor (filter (λ p. comes_before p page) (filter (after_cursor cursor) (mergeable_pages rows)))
 between_last cursor page rows = last_is cursor (rows_between cursor page rows) ∙ ap (last_of cursor) (between_are cursor page rows)
 
--- as many pages are to be visited as are mergeable
+-- scans visit as many pages as there are mergeable rows
 pub some_pages : (rows : List Row) → length (mergeable_pages rows) ≡ mergeable_count rows
 some_pages rows = length-map (filter (λ (r : Row). r.mergeable) rows) (λ (r : Row). r.page) ∙ length-filter (λ (r : Row). r.mergeable) rows
 

@@ -64,11 +64,11 @@ word_written (w ∷ ws) (c ∷ cs) (suc i) same lt = ap (λ l. w ∷ l) (word_wr
 pub made_none : (v w : KeeperView) → w ≡ v → Made v w []
 made_none v w e = record { part = []; after = e ∙ (λ i. record { table = v.table; ledger = v.ledger; log = sym (append-nil v.log) i }); are = refl }
 
--- one step of the keeper is the list of that step
+-- a keeper that went on by one step has made that step and no other
 pub made_one : (v w : KeeperView) (e : KeeperStep) (found : ℕ) → w ≡ did v e found → Made v w (e ∷ [])
 made_one v w e found is = record { part = (e, found) ∷ []; after = is; are = refl }
 
--- a part of the log is the list of its steps
+-- a keeper that went on by a part of the log has made the steps of that part
 pub made_part : (v w : KeeperView) (part : Log) → w ≡ stepped v part → Made v w (steps_of part)
 made_part v w part is = record { part = part; after = is; are = refl }
 
@@ -88,7 +88,7 @@ none_made v w m = by m.part m.after m.are
     by [] after are = after ∙ (λ i. record { table = v.table; ledger = v.ledger; log = append-nil v.log i })
     by (e ∷ es) after are = absurd (grind (arith, are))
 
--- the first of some steps was made, and then the others
+-- a keeper that made some steps made the first of them and then the others
 pub first_made : (v w : KeeperView) (e : KeeperStep) (es : List KeeperStep) → Made v w (e ∷ es) → (found : ℕ) × Made (did v e found) w es
 first_made v w e es m = by m.part m.after m.are
   where
@@ -99,11 +99,11 @@ first_made v w e es m = by m.part m.after m.are
         let rest : steps_of part ≡ es = grind (arith, are) in
         (s.1, record { part = part; after = after ∙ sym (stepped_then v (s ∷ []) part) ∙ ap (λ x. stepped (did v x s.1) part) first; are = rest })
 
--- one step was made
+-- a keeper that made one step went on by that step, with some word that it found
 pub step_made : (v w : KeeperView) (e : KeeperStep) → Made v w (e ∷ []) → (found : ℕ) × (w ≡ did v e found)
 step_made v w e m = let first = first_made v w e [] m in (first.0, none_made (did v e first.0) w first.1)
 
--- some steps were made, and then the others
+-- a keeper that made the steps of two lists made those of the first and then those of the second
 pub parts_made : (v w : KeeperView) (xs ys : List KeeperStep) → Made v w (xs ++ ys) → (between : KeeperView) × Made v between xs × Made between w ys
 parts_made v w [] ys m = (v, made_none v v refl, m)
 parts_made v w (x ∷ xs) ys m =

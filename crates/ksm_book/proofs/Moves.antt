@@ -5,24 +5,24 @@ use native.Mathlib.Decide.{ℕ_discrete}
 use Rattle.ksm_book.proofs.Noted.{by_frame}
 use Rattle.ksm_book.proofs.ByPage.{all_changed_row, counts_agree, filter_back, found_page, off_page, on_page, uses_changed, uses_come, uses_gone, uses_mapped, uses_once}
 
--- a row has this frame
+-- a frame serves a row: the row fits the frame, and agrees with each dup
 abbrev pub Serves : Shape → Ledger → List DupRow → Row → ℕ → Type 0
 Serves sh k dups r f = RowFits sh k r f × All (Agrees k r f) dups
 
--- what a row's frame serves it with may change, where it has one
+-- a row that is served is so still where its state stays and its frame, if it has one, serves it still
 pub served_as : (sh : Shape) (k k' : Ledger) (dups dups' : List DupRow) (r r' : Row) (o : Option ℕ) → r'.state ≡ r.state
     → ((f : ℕ) → o ≡ Some f → Serves sh k dups r f → Serves sh k' dups' r' f) → IsServed sh k dups r o → IsServed sh k' dups' r' o
 served_as sh k k' dups dups' r r' None same on h = ap zero_state same ∙ h
 served_as sh k k' dups dups' r r' (Some f) same on h = on f refl h
 
--- a row that is not Zero has a frame
+-- a row that is not Zero and is served has a frame that serves it
 pub framed : (sh : Shape) (k : Ledger) (dups : List DupRow) (r : Row) (o : Option ℕ) → zero_state r.state ≡ false → IsServed sh k dups r o
     → (f : ℕ) × (o ≡ Some f) × Serves sh k dups r f
 framed sh k dups r None other h = absurd (grind (arith, other, h))
 framed sh k dups r (Some f) other h = (f, refl, h)
 
 module _ (sh : Shape) (across : ℕ) (k : Ledger) (rows : List Row) (frame : Frames) (dups : List DupRow) (hand : Option ℕ) (p : Placed sh across k rows frame dups hand) where
-  -- a row with a frame of its own agrees with each dup
+  -- a row that is no item of any dup agrees with each dup, where its frame is Private
   pub own_agrees : (r : Row) (g : ℕ) → ((n : ℕ) → merged_into n r.state ≡ false) → (frame_at k g).kind ≡ Private → All (Agrees k r g) dups
   own_agrees r g alone kind = All-weaker (DupFits sh across k) (Agrees k r g) (λ d fits. record {
     item = λ m. absurd (both_ways _ (alone d.number) m);
@@ -40,6 +40,7 @@ module _ (sh : Shape) (across : ℕ) (k : Ledger) (rows : List Row) (frame : Fra
     by : (P : Note → Type 0) (h : ℕ) → (h ≡ g → P fr) → (h ≢ g → P (frame_at k h)) → P (frame_at next h)
     by = by_frame sh across k rows frame dups hand p g inside fr
 
+    -- a row fits its frame still where one note changes, if that keeps its frame's kind, content and generation
     pub row_still : (r : Row) (f : ℕ) → (f ≡ g → (fr.kind ≡ (frame_at k f).kind) × (fr.content ≡ (frame_at k f).content) × (fr.generation ≡ (frame_at k f).generation)) → RowFits sh k r f → RowFits sh next r f
     row_still r f same n = record {
       mapped = n.mapped;
@@ -101,14 +102,14 @@ module _ (sh : Shape) (across : ℕ) (k : Ledger) (rows : List Row) (frame : Fra
       (λ _. subst (IsServed sh k dups (c row)) (sym (on_page page o frame (c row).page at)) new))
       (λ f. p.bases f ∙ sym (uses_changed f page o frame c rows row rise found keeps))
 
-  -- rows change, each on its frame
+  -- rows and dups lie lawfully where each row changes, keeps its page, and is served by its frame still
   pub remapped : (hand : Option ℕ) (c : Row → Row) → ((r : Row) → (c r).page ≡ r.page) → Placed sh across k rows frame dups hand
       → All (λ r. At frame r → IsServed sh k dups (c r) (frame r.page)) rows → Placed sh across k (map c rows) frame dups hand
   remapped hand c keeps p new = rehoused p
       (All-map (At frame) c rows (λ i d lt. let r : Row = get_or rows i d in subst (λ q. IsServed sh k dups (c r) (frame q)) (sym (keeps r)) (new i d lt (p.each_row i d lt))))
       (λ f. p.bases f ∙ ap (λ n. n + in_hand f hand) (sym (uses_mapped f frame c rows keeps)))
 
-  -- a row comes on the frame in hand
+  -- rows and dups lie lawfully where a new row comes on the frame in hand
   pub inserted : (o : Option ℕ) (row : Row) → row_at row.page rows ≡ None → Placed sh across k rows frame dups o → IsServed sh k dups row o
       → Placed sh across k (with_row row rows) (lies_on row.page o frame) dups None
   inserted o row absent p new =
@@ -117,7 +118,7 @@ module _ (sh : Shape) (across : ℕ) (k : Ledger) (rows : List Row) (frame : Fra
       (λ i d lt. let r : Row = get_or rows i d in subst (IsServed sh k dups r) (sym (off_page row.page o frame r.page (apart i d lt))) (p.each_row i d lt)))
       (λ f. let come = uses_come f o frame row rows absent in let b = p.bases f in omega (arith, come, b))
 
-  -- the row of a page goes, and its frame comes into the hand
+  -- where the row of a page goes, rows and dups lie lawfully with its frame, if it had one, in hand
   pub removed : (page : GuestPage) (row : Row) → InPageOrder rows → row_at page rows ≡ Some row → Placed sh across k rows frame dups None
       → Placed sh across k (without_page page rows) (lies_on page None frame) dups (frame page)
   removed page row rise found p =
@@ -226,9 +227,11 @@ all_without P d dups h =
 -- a new dup of the row of a page stands on its frame, which the place names
 module _ (sh : Shape) (across : ℕ) (k : Ledger) (rows : List Row) (frame : Frames) (dups : List DupRow) (p : Placed sh across k rows frame dups None) (page : GuestPage) (row : Row) (rise : InPageOrder rows) (found : row_at page rows ≡ Some row)
     (g : ℕ) (lies : frame page ≡ Some g) (own : (frame_at k g).kind ≡ Private) (d : DupRow) (inside : d.place < frames_of sh) where
+  -- the note of the row's frame once it is Stable
   abbrev pub stable : Note
   stable = record { kind = Stable; base = (frame_at k g).base; generation = (frame_at k g).generation; content = (frame_at k g).content }
 
+  -- what the keeper knows once the row's frame is Stable and the place names it
   abbrev pub shown_next : Ledger
   shown_next = record { frames = set k.frames g stable; places = set k.places d.place (Some (record { frame = g; generation = (frame_at k g).generation })) }
 
@@ -360,7 +363,7 @@ base_is_items sh across k rows frame dups p n d lt life =
     let c : uses f frame rows ≡ item_count rows e = counts_agree (λ r. is_frame f (frame r.page)) (λ r. merged_into e.number r.state) rows (lies_as_item sh across k rows frame dups p n d lt life) in
     omega (arith, b, c)
 
--- above the limit stands no frame, and a stale dup's frame is not stable in its life
+-- a dup without items has no Stable frame in the life that its place names
 pub stale_is_loose : (sh : Shape) (across : ℕ) (k : Ledger) (rows : List Row) (frame : Frames) (dups : List DupRow) (p : Placed sh across k rows frame dups None) (n : ℕ) (d : DupRow) → n < length dups → item_count rows (get_or dups n d) ≡ 0 → IsInLife k (get_or dups n d).place
     → ¬ ((frame_at k (place_frame k (get_or dups n d).place)).kind ≡ Stable)
 stale_is_loose sh across k rows frame dups p n d lt none life stable =
@@ -369,7 +372,7 @@ stale_is_loose sh across k rows frame dups p n d lt none life stable =
     let some : 1 ≤ (frame_at k f).base = subst (λ (x : Kind). FitsBase x (frame_at k f).base) stable (p.kinds f) in
     omega (arith, b, none, some)
 
--- a page joins an item: one reference more on the item's frame, one less on its own
+-- where a page joins an item with a reference in hand on the item's frame, its own frame comes into the hand
 pub joined : (sh : Shape) (across : ℕ) (k : Ledger) (rows : List Row) (frame : Frames) (dups : List DupRow) (page : GuestPage) (row item : Row) (g : ℕ) (c : Row → Row) → InPageOrder rows → row_at page rows ≡ Some row → ((r : Row) → (c r).page ≡ r.page)
     → Serves sh k dups item g → (c row).state ≡ item.state → (c row).bytes ≡ item.bytes → shared_state item.state ≡ true
     → Placed sh across k rows frame dups (Some g) → Placed sh across k (change_row page c rows) (lies_on page (Some g) frame) dups (frame page)

@@ -7,11 +7,17 @@ use Rattle.ksm_book.proofs.ByPage.{uses_some}
 -- a note may follow another on a frame on which so many rows lie, with so many references in hand: where a row lies there it stays as it
 -- was; and it begins another life, or no place named it in this one, or it keeps its words and does not become Private
 pub record Follows (last used held : ℕ) (old new : Note) : Type 0 where
+  -- the new content has as many words as a page
   pub wide : length new.content ≡ PAGE_WORDS
+  -- the new generation fits the new kind
   pub lived : GenerationFits last new.kind new.generation
+  -- the references are as many as the rows on the frame and those in hand
   pub base : new.base ≡ used + held
+  -- the number of references fits the new kind
   pub fits : FitsBase new.kind new.base
+  -- where a row lies on the frame, kind, content and generation stay
   pub same : 1 ≤ used → (new.kind ≡ old.kind) × (new.content ≡ old.content) × (new.generation ≡ old.generation)
+  -- a new life begins, or the frame was Private in this one, or the words stay and it does not become Private
   pub life : (old.generation < new.generation)
       ⊎ ((new.generation ≡ old.generation) × ((old.kind ≡ Private) ⊎ ((new.content ≡ old.content) × (new.kind ≡ Private → old.kind ≡ Private))))
 
@@ -23,7 +29,7 @@ module _ (sh : Shape) (across : ℕ) (k : Ledger) (rows : List Row) (frame : Fra
   abbrev next : Ledger
   next = with_frame k g new
 
-  -- a frame is the one that changes, or it is as it was
+  -- what holds of the new note at the frame that changes, and of each other frame's note, holds of each note
   pub by_frame : (P : Note → Type 0) (h : ℕ) → (h ≡ g → P new) → (h ≢ g → P (frame_at k h)) → P (frame_at next h)
   by_frame P h here there = dite (ℕ_discrete h g)
       (λ e. let long = p.frames_long in
@@ -64,7 +70,7 @@ module _ (sh : Shape) (across : ℕ) (k : Ledger) (rows : List Row) (frame : Fra
           },
         )
 
-    -- rows and dups lie lawfully with the note that follows
+    -- rows and dups lie lawfully where one note follows the old one and no other frame comes into or leaves the hand
     pub noted : ((f : ℕ) → f ≢ g → in_hand f hand' ≡ in_hand f hand) → Placed sh across next rows frame dups hand'
     noted other = record {
       frames_long = length-set k.frames g new ∙ p.frames_long;

@@ -24,7 +24,7 @@ finds_it f some {p} {k} {cursor} {passes} {v} lawful same q page is told = by (r
     by None none is = absurd (some is.0)
     by (Some row) found is = record { is = same; sound = lawful.0; laid = lawful.1; row = row; found = found; so = is }
 
--- where it finds nothing, no visit may change the page's row, and nothing changed
+-- where a visit finds a page gone, no visit may change the page's row, and nothing changed
 pub none_met : (old new : PagesView) (page : GuestPage) → Finds old new page finds.Gone → (restless_row (row_at page old.rows) ≡ false) ×
     (new ≡ old)
 none_met old new page told = by (row_at page old.rows) told
@@ -57,7 +57,7 @@ visits_come v w page restless did = by (row_at page v.state.rows) refl restless 
     by None found is told = absurd (true≢false told)
     by (Some row) found is told = visit_comes v w page row found is told.0 told.1
 
--- so it is where first the pages were asked, and nothing changed by that
+-- where a search changed nothing and the page's row was visited then, the visit of the page was reached
 pub shared_comes : {P : BookState → Row → Type 0} {p : PagesView} {k : KeeperView} {cursor : Option GuestPage} {passes : ℕ}
     (v w : BookValue)
     {page : GuestPage} (at : Meets P p k cursor passes (view_of v) page) → is_restless at.row ≡ true → (q : PagesView) → q ≡ p
@@ -83,13 +83,15 @@ waiting_settles page (r ∷ rows) alone =
 
 -- a row whose bytes have stayed, and with which none waits, waits, and no step is made
 module _ (b : BookState) (row : Row) (stays : HasStayed b false row) (alone : partner b.knobs b.rows row ≡ None) where
+  -- the visit of a row that has stayed and has no partner makes the row Waiting
   pub waits_is : row_visited b row ≡ record b { rows = change_row row.page (λ r. record r { state = Waiting }) b.rows }
   waits_is = stayed_is b (λ _. None) row false stays ∙ ap (λ o. paired o b row) alone
 
+  -- the visit of a row that has stayed and has no partner does nothing to the frames
   pub waiting_is : (frame : Frames) → row_visiting b frame row ≡ idle frame
   waiting_is frame = staying_is b frame row false stays ∙ ap (λ o. pairing o b frame row) alone
 
-  -- nothing changes but that
+  -- the visit of a row that has stayed and has no partner changes nothing but which rows wait
   pub waits_still : (deed : Deed) (page : GuestPage) → InPageOrder b.rows → row_at page b.rows ≡ Some row → IsStill (b, deed)
       (page_visited doing (b, deed) page)
   waits_still deed page rise found =
@@ -137,18 +139,18 @@ module _ {p q : PagesView} {k : KeeperView} {cursor : Option GuestPage} {passes 
   stays : HasStayed (state_of p cursor passes) false at.row
   stays = (let is = at.so in record { restless = is.0; none = is.1; unchanged = is.2; zeroes = is.3 })
 
-  -- the page waits
+  -- where a visit found that the page is to wait, and made its row Waiting, the book is what the visit leads to
   pub waits_leads : Leads v q k cursor passes page
   waits_leads = row_leads at at.so.0 (λ r. record r { state = Waiting }) (λ r. refl) (refl, refl, inr (restless_own at.row at.so.0, refl))
       (waits_is (state_of p cursor passes) at.row stays at.so.4) (waiting_is (state_of p cursor passes) at.row stays at.so.4 p.frame)
       at.so.5
 
-  -- by that nothing changes but which rows wait
+  -- the visit of a page that is to wait changes nothing but which rows wait
   pub waits_quiet : (deed : Deed) → IsStill (v.state, deed) (page_visited doing (v.state, deed) page)
   waits_quiet deed = subst (λ (x : BookView). IsStill (x.state, deed) (page_visited doing (x.state, deed) page)) at.is
       (waits_still (state_of p cursor passes) at.row stays at.so.4 deed page at.sound.rows_rise at.found)
 
--- the page's bytes have changed
+-- where a visit found the page's bytes changed, and marked its row, the book is what the visit leads to
 pub changed_leads : {p q : PagesView} {k : KeeperView} {cursor : Option GuestPage} {passes : ℕ} {v : BookView} {page : GuestPage}
     → Meets (λ _ r. FindsAt p q r finds.Changed) p k cursor passes v page → Leads v q k cursor passes page
 changed_leads {p} {q} {k} {cursor} {passes} at =

@@ -1,13 +1,15 @@
 -- Ascending lists of pages: their parts before and behind a page, by test and by index; and each is known by what it has.
 use Rattle.ksm_book.proofs.Names.{[], after_cursor, All, All-cons, All-filter, All-head, All-tail, and_right, any-filter_same, ap, AreAscending, arith, before_differs, before_irrefl, before_trans, Bool, cases_Bool, cases_lt, comes_before, Contains-from_any, drop, drop-append-le, drop_of_length-le, false, filter, filter_all, filter_none, from_to, get_or, get_or-drop, get_or-take, get_or_from_slice_get, GuestPage, has_item, if◌then◌else◌, inl, inr, last_of, length, length-drop, length-take, length-take-le, List, list_any_none, max, None, not, not_both, one_before, Option, pairs_head, pairs_tail, refl, same_page, same_page_eq, same_page_refl, same_Some, slice_get, slice_get-get_or, slice_get_within, Some, subst, suc, sym, take, take_more, true, true≢false, up_to, zero, ℕ, ◌&&◌, ◌++◌, ◌+◌, ◌-◌, ◌<◌, ◌||◌, ◌∙◌, ◌∷◌, ◌≡◌, ◌≤◌}
 
+-- the first page comes before the second
 abbrev pub Before : GuestPage → GuestPage → Type 0
 Before p q = comes_before p q ≡ true
 
--- an element that passes is kept, one that fails is not
+-- a filter keeps a first element that passes the test
 pub filter_in : {X : Type 0} (t : X → Bool) (x : X) (xs : List X) → t x ≡ true → filter t (x ∷ xs) ≡ x ∷ filter t xs
 filter_in t x xs passes = ap (λ b. if b then x ∷ filter t xs else filter t xs) passes
 
+-- a filter leaves out a first element that fails the test
 pub filter_out : {X : Type 0} (t : X → Bool) (x : X) (xs : List X) → t x ≡ false → filter t (x ∷ xs) ≡ filter t xs
 filter_out t x xs fails = ap (λ b. if b then x ∷ filter t xs else filter t xs) fails
 
@@ -17,7 +19,7 @@ pub after_later : (cursor : Option GuestPage) (p q : GuestPage) → after_cursor
 after_later None p q is later = refl
 after_later (Some c) p q is later = before_trans c p q is later
 
--- of the pages behind a cursor, those behind the first
+-- where a page and others are those behind a cursor in an ascending list, the others are those behind that page
 pub behind_first : (cursor : Option GuestPage) (pages : List GuestPage) (page : GuestPage) (more : List GuestPage) → AreAscending pages
     → filter (after_cursor cursor) pages ≡ page ∷ more → filter (after_cursor (Some page)) pages ≡ more
 behind_first cursor [] page more rise is = cc
@@ -40,10 +42,11 @@ behind_first cursor (p ∷ pages) page more rise is =
           ∙ behind_first cursor pages page more (pairs_tail Before p pages rise) found
     ]
 
--- a test that each page before one that passes it passes
+-- a test goes down: where a page passes it, each page before that page passes it
 abbrev pub GoesDown : (GuestPage → Bool) → Type 0
 GoesDown t = (p q : GuestPage) → comes_before p q ≡ true → t q ≡ true → t p ≡ true
 
+-- where a page is not behind a last one, no page before that page is
 pub up_to_down : (last : Option GuestPage) → GoesDown (up_to last)
 up_to_down None p q before is = refl
 up_to_down (Some last) p q before is = elim (cases_Bool (comes_before last p)) [
@@ -51,6 +54,7 @@ up_to_down (Some last) p q before is = elim (cases_Bool (comes_before last p)) [
   | inr fine ↦ ap not fine
 ]
 
+-- where a page comes before another, each page before that page does
 pub before_down : (page : GuestPage) → GoesDown (λ p. comes_before p page)
 before_down page p q before is = before_trans p q page before is
 
@@ -87,7 +91,7 @@ module _ (t : GuestPage → Bool) (down : GoesDown t) where
             let none = filter_none t (p ∷ pages) (none_pass p pages rise fails) in ap (λ l. take (length l) (p ∷ pages)) none ∙ sym none
       ]
 
-  -- from as many as do not come behind a cursor, up to as many as pass such a test
+  -- in an ascending list, the pages behind a cursor that pass a test that goes down stand between two counts
   pub between_is : (cursor : Option GuestPage) (pages : List GuestPage) → AreAscending pages
       → from_to (length (filter (λ p. not (after_cursor cursor p)) pages)) (length (filter t pages)) pages
       ≡ filter (λ p. after_cursor cursor p && t p) pages
@@ -119,7 +123,7 @@ module _ (t : GuestPage → Bool) (down : GoesDown t) where
             ]
       ]
 
--- the pages before the one at a place, and those up to it
+-- in an ascending list the pages before the one at index n are the first n, those not behind it the first n + 1
 pub place_splits : (pages : List GuestPage) (n : ℕ) (page : GuestPage) → AreAscending pages → slice_get pages n ≡ Some page
     → (filter (λ p. comes_before p page) pages ≡ take n pages) × (filter (λ p. not (comes_before page p)) pages ≡ take (suc n) pages)
 place_splits [] n page rise at = cc
@@ -141,20 +145,20 @@ place_splits (p ∷ pages) (suc n) page rise at =
       filter_in (λ q. not (comes_before page q)) p pages (ap not (not_both p page first)) ∙ ap (λ l. p ∷ l) rest.1,
     )
 
--- a page that is there stands at a place
+-- a page that a list has stands at an index of the list
 pub place_of : (page : GuestPage) (pages : List GuestPage) → has_item page pages ≡ true → (n : ℕ) × (slice_get pages n ≡ Some page)
 place_of page pages has =
     let there = Contains-from_any {eq = λ q p. same_page p q} (λ x y e. sym (same_page_eq y x e)) page pages has in
     (there.0, slice_get-get_or pages there.0 page there.1 ∙ ap Some there.2)
 
--- the last of the pages up to one at a place is that page
+-- the last of the first n + 1 pages is the page at index n
 pub last_of_take : (pages : List GuestPage) (n : ℕ) (cursor : Option GuestPage) (page : GuestPage) → slice_get pages n ≡ Some page
     → last_of cursor (take (suc n) pages) ≡ Some page
 last_of_take [] n cursor page is = cc
 last_of_take (p ∷ pages) zero cursor page is = is
 last_of_take (p ∷ pages) (suc n) cursor page is = last_of_take pages n (Some p) page is
 
--- one page more
+-- the pages from one index up to another, and the page at that other, are those up to the next index
 pub from_to_more : (pages : List GuestPage) (first at : ℕ) (page : GuestPage) → first ≤ at → slice_get pages at ≡ Some page
     → from_to first (at + 1) pages ≡ from_to first at pages ++ page ∷ []
 from_to_more pages first at page le is =
@@ -164,7 +168,7 @@ from_to_more pages first at page le is =
     ∙ ap (λ p. drop first (take at pages ++ p ∷ [])) (get_or_from_slice_get pages at page page is)
     ∙ drop-append-le first (take at pages) (page ∷ []) (omega (arith, le, short))
 
--- behind the end there are no more
+-- the pages from a first index up to the greater of it and an end are the pages from it up to the end
 pub from_to_end : (pages : List GuestPage) (first at end : ℕ) → end ≤ at → at ≤ max first end → first ≤ at
     → from_to first at pages ≡ from_to first end pages
 from_to_end pages first at end past within le = elim (cases_lt first end) [
@@ -175,7 +179,7 @@ from_to_end pages first at end past within le = elim (cases_lt first end) [
       ∙ sym (drop_of_length-le (take end pages) (short end no_less))
 ]
 
--- the page at an index between stands there
+-- the page at an index between first and end stands among the pages from first up to end
 pub between_at : (pages : List GuestPage) (first at end : ℕ) (page : GuestPage) → slice_get pages at ≡ Some page → first ≤ at → at < end
     → (at - first < length (from_to first end pages)) × (get_or (from_to first end pages) (at - first) page ≡ page)
 between_at pages first at end page is low high =
@@ -228,5 +232,6 @@ same_pages (p ∷ ps) (q ∷ qs) rise rise' same =
     ]) in
     λ t. first t ∷ rest t
 
+-- a filtered list has a page exactly where the list has it and the page passes the test
 pub has_filter : (t : GuestPage → Bool) (x : GuestPage) (pages : List GuestPage) → has_item x (filter t pages) ≡ (t x && has_item x pages)
 has_filter t x pages = any-filter_same (λ p. same_page p x) t (t x) (λ p is. ap t (same_page_eq p x is)) pages

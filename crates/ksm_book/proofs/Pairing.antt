@@ -54,13 +54,18 @@ contains_dup d dups =
 -- a visited page is to make a dup at a place, with another page, which waits for it
 pub record Pairs (p : PagesView) (k : KeeperView) (cursor : Option GuestPage) (passes : ℕ) (v : BookView) (one page : GuestPage)
     (place : ℕ) : Type 0 where
+  -- the visited page's row is met; its bytes have stayed, and are not to merge with the zero page
   pub met : Meets (λ b. HasStayed b false) p k cursor passes v page
+  -- the row that waits for the visited one
   pub waiting : Row
+  -- the waiting row is the partner of the visited one
   pub waits : partner p.knobs p.rows met.row ≡ Some waiting
+  -- the other page is that of the waiting row
   pub named : one ≡ waiting.page
+  -- the place is the one for a new dup
   pub chosen : place ≡ new_place (place_count p.shape) p.rows p.dups
 
--- so it is where the page meets the other
+-- a visited page that meets another page as its partner is to make a dup with it at the place for a new dup
 pub pairs : (other : GuestPage) {p : PagesView} {k : KeeperView} {cursor : Option GuestPage} {passes : ℕ} {v : BookView}
     {one page : GuestPage}
     {place : ℕ} → Meets (λ b. MeetsPage b other) p k cursor passes v page → one ≡ other
@@ -104,6 +109,7 @@ module _ {p : PagesView} {k : KeeperView} {cursor : Option GuestPage} {passes : 
   tells : WaitsFor p.knobs row w
   tells = waits_tells p.knobs row w (find_passes (waits_for p.knobs row) p.rows w at.waits)
 
+  -- the waiting row is found at its page
   pub waits_at : row_at w.page p.rows ≡ Some w
   waits_at = find_all (waits_for p.knobs row) (λ r. row_at r.page p.rows ≡ Some r) p.rows w at.waits (each_at_page p.rows s.rows_rise)
 
@@ -113,6 +119,7 @@ module _ {p : PagesView} {k : KeeperView} {cursor : Option GuestPage} {passes : 
   apart : same_page w.page page ≡ false
   apart = ap (same_page w.page) (sym at_page) ∙ tells.other
 
+  -- the place for a new dup is one of the places
   pub room : new_place (place_count p.shape) p.rows p.dups < place_count p.shape
   room = finds_places p k cursor passes s h row (find_all (λ r. same_page r.page page) (Contains p.rows) p.rows row at.met.found
       (All-contains_itself p.rows)) (restless_own row at.met.so.restless)
@@ -148,14 +155,14 @@ module _ {p : PagesView} {k : KeeperView} {cursor : Option GuestPage} {passes : 
     fresh = fresh;
   }
 
-  -- what the place names may be withdrawn
+  -- what the place of the new dup names may be withdrawn
   pub may_withdraw : May k (Withdraw place)
   may_withdraw = may_clear p k k h place inside vacant
 
   waits_one : row_at one p.rows ≡ Some w
   waits_one = ap (λ q. row_at q p.rows) at.named ∙ waits_at
 
-  -- the two pages may become the items of a new dup
+  -- the two pages may become the items of a new dup at the place
   pub pair_may : MatchOption (row_at one p.rows) (true ≡ false) (λ r. MatchOption (row_at page p.rows) (true ≡ false) (MayPair p place r))
   pair_may = subst (λ o. MatchOption o (true ≡ false) (λ r. MatchOption (row_at page p.rows) (true ≡ false) (MayPair p place r)))
       (sym waits_one)
@@ -170,7 +177,7 @@ module _ {p : PagesView} {k : KeeperView} {cursor : Option GuestPage} {passes : 
     clears : Made k k1 (withdrawing p.dups place)
     clears = subst (λ t. Made k k1 (if t then Withdraw place ∷ [] else [])) taken_is cleared
 
-    -- then it may name the frame of the page that waits
+    -- once its place is cleared, the new dup may be published there on the frame of the page that waits
     pub may_publish : May k1 (Publish place f)
     may_publish = may_found p k h s.rows_rise w.page w f waits_at lies alone dup refl inside vacant k1 clears
 
@@ -203,13 +210,13 @@ module _ {p : PagesView} {k : KeeperView} {cursor : Option GuestPage} {passes : 
           (waiting_is_alone w.state tells.state).1 in
           omega (arith, none, one)
 
-      -- then a reference may come there
+      -- once the place names the frame of the page that waits, a reference may come to that frame
       pub may_add_to : May k2 (Add f)
       may_add_to = may_join first k2 first_laid first_rise page row (change w) row_still item_at f lies refl dup (contains_dup dup p.dups)
           (eq-eqb p.next p.next refl) one_item
 
       module _ {lone : ℕ} (left : p.frame page ≡ Some lone) where
-        -- and then the page's own may be left
+        -- once a reference came to the frame of the page that waits, the visited page's own frame may be left
         pub may_sub_from : {k3 : KeeperView} → Made k2 k3 (Add f ∷ []) → May k3 (Sub lone)
         may_sub_from {k3} comes = subst (λ o. IfSome o (λ g. May k3 (Sub g))) left
             (may_part first k2 first_laid first_rise page row (change w) row_still item_at f lies refl change (λ r. refl) refl
@@ -247,7 +254,7 @@ module _ {p : PagesView} {k : KeeperView} {cursor : Option GuestPage} {passes : 
                 frame = lies_on (at_page t) (lies t) p.frame;
               })
 
-          -- the two pages are the items of a new dup
+          -- once the two pages are the items of a new dup, on one frame, the book is what the visit leads to
           pub pair_leads : Leads v q l cursor passes page
           pair_leads = leads at.met q l at.met.so.restless
               (subst (λ (x : PagesView). IsLaid x l) (sym q_is)

@@ -244,6 +244,7 @@ module _ (b : BookState) (k : Ledger) (s : IsSound b) (frame : Frames) (p : Plac
         over = λ life. stale_is_loose b.shape across k b.rows frame b.dups p n d lt (let zero_is : item_count b.rows e ≡ 0 = grind (arith, nat_tests, none) in zero_is) life;
       }
 
+  -- a sound book lies on its frames as promised, where it is placed lawfully and pages without a row lie on none
   pub lie_on : LieOn b frame k
   lie_on = record {
     own = owns;

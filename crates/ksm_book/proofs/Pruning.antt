@@ -66,11 +66,14 @@ first_stale rows (x ∷ xs) d rise found = elim (cases_Bool (is_stale rows x)) [
 
 -- so far the places of the stale dups that went were withdrawn, in their order
 pub record Withdraws (v w : KeeperView) (rows : List Row) (before now : List DupRow) : Type 0 where
+  -- the steps that were made
   pub steps : List KeeperStep
+  -- the keeper made these steps and no others
   pub made : Made v w steps
+  -- with the withdrawals that are still to come, the steps are the withdrawals of all that were stale
   pub whole : steps ++ map (λ d. Withdraw d.place) (filter (is_stale rows) now) ≡ map (λ d. Withdraw d.place) (filter (is_stale rows) before)
 
--- the first stale dup, withdrawn from its place, is the next of those to withdraw
+-- where the first stale dup's place is withdrawn next, one place more of the stale dups is withdrawn
 pub withdraws_more : (v w w' : KeeperView) (rows : List Row) (before now : List DupRow) (d : DupRow) → InPlaceOrder now → find (is_stale rows) now ≡ Some d
     → Withdraws v w rows before now → Made w w' (Withdraw d.place ∷ [])
     → Withdraws v w' rows before (filter (elsewhere d.place) now)
@@ -103,16 +106,26 @@ few_from m n (d ∷ ds) le rise all =
 
 -- so far so many stale dups went, and rows and dups lie lawfully
 pub record Drops (p q : PagesView) (k l : KeeperView) (count : ℕ) : Type 0 where
+  -- nothing changed but the dups
   pub pages : q ≡ record p { dups = q.dups }
+  -- the dups with items are those that there were
   pub live : filter (has_items p.rows) q.dups ≡ filter (has_items p.rows) p.dups
+  -- the dups that went and those still stale are as many as were stale at first
   pub many : count + count_by (is_stale p.rows) q.dups ≡ count_by (is_stale p.rows) p.dups
+  -- at first the dups were in the order of their places
   pub first : InPlaceOrder p.dups
+  -- now the dups are in the order of their places
   pub rise : InPlaceOrder q.dups
+  -- at first rows and dups lay lawfully
   pub before : IsLaid p k
+  -- now rows and dups lie lawfully
   pub laid : IsLaid q l
+  -- the keeper's table is the same
   pub table : l.table ≡ k.table
+  -- the places of the dups that went were withdrawn, in their order
   pub withdraws : Withdraws k l p.rows p.dups q.dups
 
+-- at first no stale dup went, where rows and dups lie lawfully and the dups are in the order of their places
 pub drops_none : (p : PagesView) (k : KeeperView) → IsLaid p k → InPlaceOrder p.dups → Drops p p k k 0
 drops_none p k h rise = record {
   pages = refl;
@@ -137,19 +150,22 @@ module _ (p q : PagesView) (k l : KeeperView) (count : ℕ) (h : Drops p q k l c
   found : find (is_stale p.rows) q.dups ≡ Some stale.0
   found = ap (λ rows. find (is_stale rows) q.dups) (sym rows_are) ∙ stale.1
 
+  -- no dup with items stands at the place of the first stale dup
   pub drop_vacant : IsVacant place q.rows q.dups
   drop_vacant = subst (λ x. IsVacant x q.rows q.dups) stale.2 (stale_vacant q.rows q.dups stale.0 h.rise stale.1)
 
   inside : place < frames_of q.shape
   inside = subst (λ x. x < frames_of q.shape) stale.2 (find_all (is_stale q.rows) (λ d. d.place < frames_of q.shape) q.dups stale.0 stale.1 (λ n d lt. (h.laid.placed.each_dup n d lt).place))
 
+  -- the place of the first stale dup is one of the table's
   pub drop_inside : place < frames_of l.table.shape
   drop_inside = subst (λ (s : Shape). place < frames_of s) (sym h.laid.same) inside
 
+  -- the place of the first stale dup names no frame that is Stable in the life named
   pub drop_loose : IsLoose l.ledger (named_at l.ledger place)
   drop_loose = vacant_loose q.shape q.knobs.merge_across_nodes l.ledger q.rows q.frame q.dups place h.laid.placed drop_vacant
 
-  -- one less is stale
+  -- once the first stale dup goes, one dup less is stale
   pub drop_fewer : count_by (is_stale p.rows) (filter (elsewhere place) q.dups) + 1 ≡ count_by (is_stale p.rows) q.dups
   drop_fewer =
       let first = ap length (first_stale p.rows q.dups stale.0 h.rise found) in
@@ -157,6 +173,7 @@ module _ (p q : PagesView) (k l : KeeperView) (count : ℕ) (h : Drops p q k l c
       let there = ap (λ x. length (filter (is_stale p.rows) (filter (elsewhere x) q.dups))) stale.2 ∙ length-filter (is_stale p.rows) (filter (elsewhere place) q.dups) in
       omega (arith, first, here, there)
 
+  -- the count of stale dups that went, and the next one, is below 2^64
   pub drop_few : count + 1 < 2 ^ 64
   drop_few =
       let fewer = drop_fewer in
@@ -166,6 +183,7 @@ module _ (p q : PagesView) (k l : KeeperView) (count : ℕ) (h : Drops p q k l c
       let few = frames_few p.shape h.before.small in
       omega (arith, fewer, many, most, frames, few)
 
+  -- where the place of the first stale dup is withdrawn and that dup goes, one stale dup more went
   pub drops_more : (q' : PagesView) (l' : KeeperView) → l' ≡ did l (Withdraw place) 0 → q' ≡ record q { dups = filter (elsewhere place) q.dups } → Drops p q' k l' (count + 1)
   drops_more q' l' is goes =
       let table = ap (λ (z : KeeperView). z.table) is in
@@ -191,12 +209,15 @@ module _ (p q : PagesView) (k l : KeeperView) (count : ℕ) (h : Drops p q k l c
   none : find (is_stale p.rows) q.dups ≡ None
   none = ap (λ (x : PagesView). find (is_stale x.rows) q.dups) (sym h.pages) ∙ no_dup_at (find (is_stale q.rows) q.dups) told
 
+  -- where no stale dup is left, nothing changed but that the dups are those with items
   pub dropped_pages : q ≡ record p { dups = filter (has_items p.rows) p.dups }
   dropped_pages = h.pages ∙ (λ t. record p { dups = (sym (none_stale p.rows q.dups none) ∙ h.live) t })
 
+  -- where no stale dup is left, as many dups went as were stale
   pub dropped_count : count ≡ count_by (is_stale p.rows) p.dups
   dropped_count = let zero' = count_none (is_stale p.rows) q.dups (find_none (is_stale p.rows) q.dups none) in let many = h.many in omega (arith, zero', many)
 
+  -- where no stale dup is left, the keeper made just the steps of a pruning, and each page lies where it lay
   pub dropped_performs : Performs (lying p k) (lying q l) (pruning p.rows p.dups p.frame)
   dropped_performs = record {
     made = withdraws_all k l p.rows p.dups q.dups (find_none (is_stale p.rows) q.dups none) h.withdraws;

@@ -3,14 +3,15 @@ use Rattle.ksm_book.proofs.Names.{ap, arith, BookState, BookValue, BookView, Com
 use Rattle.ksm_book.proofs.Laying.{laid_rows}
 use Rattle.ksm_book.proofs.Made.{made_none}
 
--- the book, and no step made
+-- the state of a book, and a deed without a step
 abbrev pub first : BookValue → BookState × Deed
 first v = (v.state, idle (view_of v).frame)
 
+-- a book has reached its own state with no step made
 pub begins : (v : BookValue) → Reached v v (first v)
 begins v = (refl, record { made = made_none v.keeper v.keeper refl; frame = refl })
 
--- the state of the book then
+-- where a change was reached from one book to another, the other's state is what the change makes of the first one's
 pub comes_to : (v w : BookValue) (change : BookState × Deed → BookState × Deed) → Comes v w change → w.state ≡ (change (first v)).0
 comes_to v w change comes = (comes v (first v) (begins v)).0
 
@@ -35,7 +36,7 @@ state_comes v w change state keeper frame = λ from s before. (
 -- where other pages are listed, and nothing else changes
 module _ (p q : PagesValue) (k : KeeperView) (cursor : Option GuestPage) (passes : ℕ)
     (relisted : seen q ≡ record (seen p) { restless = q.restless }) where
-  -- the book is lawful still
+  -- a sound book that lies lawfully is so still where other pages are listed and nothing else changes
   pub relisted_lawful : IsSound (state_of (seen p) cursor passes) × IsLaid (seen p) k
       → IsSound (state_of (seen q) cursor passes) × IsLaid (seen q) k
   relisted_lawful h = (
@@ -44,7 +45,7 @@ module _ (p q : PagesValue) (k : KeeperView) (cursor : Option GuestPage) (passes
         (laid_rows (seen p) k h.1 p.rows (seen p).frame q.restless k refl (omega arith) h.1.placed),
   )
 
-  -- the same is seen of it
+  -- the same is seen of a book where other pages are listed and nothing else changes
   pub relisted_view : view_of (value q k cursor passes) ≡ view_of (value p k cursor passes)
   relisted_view = ap (λ (x : PagesView). record { state = state_of x cursor passes; frame = x.frame; keeper = k }) relisted
 

@@ -13,10 +13,11 @@ one_number : (s : PageState) (m n : ℕ) → merged_into m s ≡ true → merged
 one_number (Merged d) m n a b = sym (eqb-true d n b) ∙ eqb-true d m a
 one_number _ m n a b = absurd (grind (arith, a))
 
--- where a page lay on f it lies on g, and else where it lay
+-- where frame g comes in the stead of f, a page that lay on f lies on g
 instead_here : (f g : ℕ) (frame : Frames) (page : GuestPage) → frame page ≡ Some f → instead f g frame page ≡ Some g
 instead_here f g frame page e = ap (λ (o : Option ℕ). cond (is_frame f o) (Some g) o) e ∙ ap (λ (b : Bool). cond b (Some g) (Some f)) (eq-eqb f f refl)
 
+-- where frame g comes in the stead of f, a page that did not lie on f lies where it lay
 pub instead_there : (f g : ℕ) (frame : Frames) (page : GuestPage) → frame page ≢ Some f → instead f g frame page ≡ frame page
 instead_there f g frame page ne = by (frame page) ne
   where
@@ -54,9 +55,11 @@ module _ (f g : ℕ) (frame : Frames) (rows : List Row) where
       ])
 
 module _ (sh : Shape) (across : ℕ) (k : Ledger) (rows : List Row) (frame : Frames) (dups : List DupRow) (p : Placed sh across k rows frame dups None) (n : ℕ) (d : DupRow) (lt : n < length dups) (g : ℕ) where
+  -- the dup that moves
   abbrev pub moving : DupRow
   moving = get_or dups n d
 
+  -- the place of the dup that moves
   abbrev pub q : ℕ
   q = moving.place
 
@@ -64,6 +67,7 @@ module _ (sh : Shape) (across : ℕ) (k : Ledger) (rows : List Row) (frame : Fra
   abbrev pub left : ℕ
   left = place_frame k q
 
+  -- the note of the frame that the dup leaves, once it is left
   abbrev pub dead : Note
   dead = record { kind = Dying; base = 0; generation = (frame_at k left).generation; content = (frame_at k left).content }
 
@@ -71,9 +75,11 @@ module _ (sh : Shape) (across : ℕ) (k : Ledger) (rows : List Row) (frame : Fra
   abbrev pub mounted : Note
   mounted = record { kind = Stable; base = (frame_at k left).base; generation = (frame_at k g).generation + 1; content = (frame_at k left).content }
 
+  -- the life of the frame to which the dup goes
   abbrev pub life : Life
   life = record { frame = g; generation = (frame_at k g).generation + 1 }
 
+  -- what the keeper knows once the dup has moved
   abbrev pub next : Ledger
   next = record { frames = set (set k.frames left dead) g mounted; places = set k.places q (Some life) }
 
@@ -235,6 +241,7 @@ module _ (sh : Shape) (across : ℕ) (k : Ledger) (rows : List Row) (frame : Fra
           node = λ z. ap (node_of sh) fo ∙ m.node z;
         }
 
+    -- rows and dups lie lawfully once a dup has moved from its Stable frame to a free one, with all of its items
     pub remounted : Placed sh across next rows (instead left g frame) dups None
     remounted = record {
       frames_long = length-set (set k.frames left dead) g mounted ∙ length-set k.frames left dead ∙ p.frames_long;

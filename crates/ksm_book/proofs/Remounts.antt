@@ -14,12 +14,18 @@ use Rattle.ksm_book.proofs.Shown.{lost as so_lost, moved as so_moved}
 
 -- the dup with items at a place is to move, from the frame on which its items lie
 pub record Leaves (p : PagesView) (k : KeeperView) (place : ℕ) (dup : DupRow) (g : ℕ) : Type 0 where
+  -- rows and dups lie lawfully
   pub laid : IsLaid p k
+  -- the book of these pages is sound
   pub lives : (cursor : Option GuestPage) × (passes : ℕ) × IsSound (state_of p cursor passes)
+  -- the dup is the one with items at the place
   pub live : find (λ d. d.place == place && has_items p.rows d) p.dups ≡ Some dup
+  -- each item of a dup at the place lies on the frame
   pub lie : All (λ d. d.place ≡ place → All (λ r. merged_into d.number r.state ≡ true → p.frame r.page ≡ Some g) p.rows) p.dups
+  -- a page without a row lies on no frame
   pub absent : (page : GuestPage) → row_at page p.rows ≡ None → p.frame page ≡ None
 
+-- the dup with items at a place is to move from the frame on which its items lie, in a sound book that lies lawfully
 pub leaves : {p : PagesView} {k : KeeperView} {place : ℕ} {dup : DupRow} {g : ℕ} → IsLaid p k → (cursor : Option GuestPage) × (passes : ℕ)
     × IsSound (state_of p cursor passes)
     → find (λ d. d.place == place && has_items p.rows d) p.dups ≡ Some dup
@@ -27,12 +33,16 @@ pub leaves : {p : PagesView} {k : KeeperView} {place : ℕ} {dup : DupRow} {g : 
     → ((page : GuestPage) → row_at page p.rows ≡ None → p.frame page ≡ None) → Leaves p k place dup g
 leaves laid lives live lie absent = record { laid = laid; lives = lives; live = live; lie = lie; absent = absent }
 
--- and goes to a free frame of a node, found once the dying frames were reaped
+-- a dup goes to a free frame of a node where it may stand, found once the node's dying frames were reaped
 pub record GoesTo (p : PagesView) (k w : KeeperView) (dup : DupRow) (node f : ℕ) : Type 0 where
+  -- the node is one of the shape's
   pub less : node < p.shape.nodes
+  -- where pages do not merge across nodes the node is the dup's tree
   pub home : p.knobs.merge_across_nodes ≡ 0 → node ≡ dup.tree
+  -- the frame was found on the node
   pub finds : Finds k w node f
 
+-- a dup goes to a frame found on a node that is there, and is the dup's tree where pages do not merge across nodes
 pub goes_to : (p : PagesView) {k w : KeeperView} (dup : DupRow) {node f : ℕ} → node < p.shape.nodes
     → (p.knobs.merge_across_nodes ≡ 0 → node ≡ dup.tree) → Finds k w node f → GoesTo p k w dup node f
 goes_to p dup less home finds = record { less = less; home = home; finds = finds }
@@ -165,6 +175,7 @@ module _ {v : PagesView} {k : KeeperView} {place : ℕ} {dup : DupRow} {g : ℕ}
     shape_is : w.table.shape ≡ sh
     shape_is = shape_same sh k w at.laid.same table_is
 
+    -- the frame that the dup is to leave is one of the table and Stable, so the exchange of its count may be tried
     pub may_freeze : (g < frames_of w.table.shape) × (n.kind ≡ Stable)
     may_freeze = (subst (λ (x : Shape). g < frames_of x) (sym shape_is) fits.0.frame, stable)
 
@@ -199,6 +210,7 @@ module _ {v : PagesView} {k : KeeperView} {place : ℕ} {dup : DupRow} {g : ℕ}
             (λ (b : Bool). cond b (with_frame w.ledger g (record
             { kind = Dying; base = 0; generation = n.generation; content = n.content })) w.ledger) (ne_eqb (count_in found) n.base other)
 
+        -- where the exchange found another count than the keeper's references, the dup's frame is held
         pub found_held : FindsHeld (lying v k) (lying v u) v.rows dup node
         found_held = record {
           got = f;
@@ -209,9 +221,11 @@ module _ {v : PagesView} {k : KeeperView} {place : ℕ} {dup : DupRow} {g : ℕ}
           frame = refl;
         }
 
+        -- where the exchange found another count than the keeper's references, the log shows so
         pub lost : HasLost k u
         lost = so_lost (lying v k) (lying v u) v.rows dup node found_held
 
+        -- where the exchange found another count than the keeper's references, rows and dups lie lawfully
         pub laid_lost : IsLaid v u
         laid_lost = record {
           small = at.laid.small;
@@ -236,28 +250,35 @@ module _ {v : PagesView} {k : KeeperView} {place : ℕ} {dup : DupRow} {g : ℕ}
         at_other : (x : ℕ) → x ≢ g → frame_at u.ledger x ≡ frame_at w.ledger x
         at_other x ne = ap (λ (z : Ledger). frame_at z x) frozen ∙ get_or-set_other w.ledger.frames g x dead blank ne
 
+        -- after the exchange the new frame is one that the keeper knows
         pub mount_within : f < length u.ledger.frames
         mount_within = (let e : length u.ledger.frames ≡ length w.ledger.frames = ap (λ (z : Ledger). length z.frames) frozen
             ∙ length-set w.ledger.frames g dead in let lt = within in omega (arith, e, lt))
 
+        -- after the exchange the place of the dup is one of the table's
         pub mount_place : place < frames_of u.table.shape
         mount_place = subst (λ (x : Shape × ℕ). x.1 < frames_of x.0) (λ t. (sym (shape_same sh w u shape_is frozen_table) t, place_is t))
             (find_all test (DupFits sh across w.ledger) dups dup at.live p.each_dup).place
 
+        -- after the exchange the new frame is Free
         pub mount_free : (frame_at u.ledger f).kind ≡ Free
         mount_free = ap (λ (x : Note). x.kind) (at_other f apart) ∙ lowest.free
 
+        -- after the exchange the old frame is Dying
         pub mount_dying : (frame_at u.ledger g).kind ≡ Dying
         mount_dying = ap (λ (x : Note). x.kind) at_g
 
+        -- after the exchange the content of each frame has as many words as a page
         pub mount_wide : (x : ℕ) → length (frame_at u.ledger x).content ≡ PAGE_WORDS
         mount_wide x = dite (ℕ_discrete x g)
             (λ e. ap (λ y. length (frame_at u.ledger y).content) e ∙ ap (λ (y : Note). length y.content) at_g ∙ p.widths g)
             (λ ne. ap (λ (y : Note). length y.content) (at_other x ne) ∙ p.widths x)
 
+        -- the dup's items, as many as the old frame had references, are one at least
         pub mount_some : {items : ℕ} → items ≡ n.base → 1 ≤ items
         mount_some is = (let b = base in let one = item_some in omega (arith, is, b, one))
 
+        -- the dup's items, as many as the old frame had references, are 1,024 at most
         pub mount_few : {items : ℕ} → items ≡ n.base → items ≤ 1024
         mount_few is = (let b = base in let most = item_few in omega (arith, is, b, most))
 
@@ -265,6 +286,7 @@ module _ {v : PagesView} {k : KeeperView} {place : ℕ} {dup : DupRow} {g : ℕ}
         loose_of None e = tt
         loose_of (Some life) e = λ _ kind. let both : Dying ≡ Stable = sym mount_dying ∙ ap (λ x. (frame_at u.ledger x).kind) (sym e) ∙ kind in cc
 
+        -- after the exchange the place of the dup names no frame that is Stable in the life named
         pub mount_loose : IsLoose u.ledger (named_at u.ledger place)
         mount_loose = subst (λ x. IsLoose u.ledger (named_at u.ledger x)) place_is
             (loose_of (named_at u.ledger dup.place) (ap (λ (z : Ledger). place_frame z dup.place) frozen ∙ sym on_frame.0))
@@ -279,6 +301,7 @@ module _ {v : PagesView} {k : KeeperView} {place : ℕ} {dup : DupRow} {g : ℕ}
             goes_there : q.frame ≡ instead g f v.frame
             goes_there = ap (λ (y : PagesView). y.frame) goes ∙ items_go f
 
+            -- once the new frame is mounted and the items lie there, the dup has moved to a frame of the node
             pub moves : Moves (lying v k) (lying q x) v.rows dup node
             moves = record {
               got = f;
@@ -292,6 +315,7 @@ module _ {v : PagesView} {k : KeeperView} {place : ℕ} {dup : DupRow} {g : ℕ}
               frame = goes_there ∙ ap (λ y. instead y f v.frame) (sym dup_frame_is);
             }
 
+            -- once the new frame is mounted, the log shows that the dup moved to a frame of the node
             pub has_moved : (before : KeeperView) × (x ≡ did before (Publish place f) 0) → HasMoved k x place node
             unfolding moves
             has_moved ends = subst (λ y. HasMoved k x y node) place_is
@@ -325,6 +349,7 @@ module _ {v : PagesView} {k : KeeperView} {place : ℕ} {dup : DupRow} {g : ℕ}
             left_is : g ≡ place_frame w.ledger m.place
             left_is = on_frame.0 ∙ ap (λ (y : DupRow). place_frame w.ledger y.place) (sym m_is)
 
+            -- rows and dups lie lawfully once the dup has moved
             pub laid_moved_dup : IsLaid q x
             laid_moved_dup =
                 let there = remounted sh across w.ledger v.rows v.frame dups p index.0 dup index.1 f inside lowest.free
@@ -379,7 +404,7 @@ module _ {v : PagesView} {k : KeeperView} {place : ℕ} {dup : DupRow} {g : ℕ}
                     let more = more_spent in
                     omega (arith, one, was, two, was_free, end, before, more)
 
--- a dup stands at the place
+-- where a dup is to move from a place, a dup stands at that place
 pub taken_place : {v : PagesView} {k : KeeperView} {place : ℕ} {dup : DupRow} {g : ℕ} → Leaves v k place dup g
     → list_any (λ d. d.place == place) v.dups ≡ true
 taken_place {v} {k} {place} {dup} {g} at =

@@ -34,10 +34,12 @@ module _ (p : PagesView) (k w : KeeperView) (h : IsLaid p k) (rise : InPageOrder
   in_hand change by_this = moved_there p.shape across k w p.rows p.frame p.dups h.same node bytes g taken h.placed page change rise by_this
 
   module _ (left : Option ℕ) (was : left ≡ p.frame page) where
+    -- once a page has a new frame in hand, the frame that it had, if it had one, may be left
     pub may_left : IfSome left (λ f. May w (Sub f))
     may_left = subst (λ o. IfSome o (λ f. May w (Sub f))) (sym was)
         (may_leave w p.shape same across (change_row page (housed node bytes) p.rows) (lies_on page (Some g) p.frame) p.dups (p.frame page) (in_hand (housed node bytes) houses))
 
+    -- a page that took a frame with its bytes on a node, and left the one that it had, is resettled there
     pub resettled : (q : PagesView) (u : KeeperView) → q ≡ record p { rows = change_row page on_its_own p.rows; frame = lies_on page (Some g) p.frame; restless = q.restless }
         → Made w u (leaving left) → Resettled p q k u page node bytes
     resettled q u goes made =
@@ -58,7 +60,7 @@ module _ (p : PagesView) (k w : KeeperView) (h : IsLaid p k) (rise : InPageOrder
           spent = (let s = h.spent in let m = taken.spent in let more = left_spends w u (p.frame page) leaves in omega (arith, s, m, more));
         }
 
--- no frame of a node was found, and no page changed
+-- where no frame of a node was found, pages that lie lawfully are turned away, and no page changed
 pub turned : (p : PagesView) (k w : KeeperView) (node : ℕ) → IsLaid p k → node < p.shape.nodes → FindsNone k w node → TurnedAway p p k w node
 turned p k w node h less none = record {
   pages = refl;

@@ -14,26 +14,27 @@ use Rattle.ksm_book.proofs.Singles.{alone_now, book}
 pub restless_own : (row : Row) → is_restless row ≡ true → shared_state row.state ≡ false
 restless_own row is = let both = and_parts row.mergeable (not (shared_state row.state)) is in grind (arith, both.1)
 
--- what a visit does with a row with a frame of its own, by the dup that it may join
+-- the visit of a row that a visit may change handles the row by the dup that it may join, if there is one
 pub visited_by : (b : BookState) (row : Row) (o : Option DupRow) → is_restless row ≡ true → best_dup b.knobs b.rows b.dups row ≡ o →
     row_visited b row ≡ handled o b row
 visited_by b row o is best = ap (λ m. if m then b else handled (best_dup b.knobs b.rows b.dups row) b row) (restless_own row is) ∙ ap
     (λ x. handled x b row) best
 
--- and with the frames
+-- to the frames the visit of a row that a visit may change does what its handling does, by the dup that it may join
 pub visiting_by : (b : BookState) (frame : Frames) (row : Row) (o : Option DupRow) → is_restless row ≡ true → best_dup b.knobs b.rows b.dups
     row ≡ o
     → row_visiting b frame row ≡ handling o b frame row
 visiting_by b frame row o is best = ap (λ m. if m then idle frame else handling (best_dup b.knobs b.rows b.dups row) b frame row)
     (restless_own row is) ∙ ap (λ x. handling x b frame row) best
 
--- a row that was not unchanged is marked so, and becomes Private
+-- the visit of a row with no dup to join that was not unchanged marks it so, and makes it Private
 pub marked_is : (b : BookState) (row : Row) → is_restless row ≡ true → best_dup b.knobs b.rows b.dups row ≡ None → row.unchanged ≡ false
     → row_visited b row ≡ record b { rows = change_row row.page (λ r. record r { unchanged = true; state = Private }) b.rows }
 marked_is b row is best changed =
     visited_by b row None is best ∙ ap (λ u. if u then stayed b row else record b
     { rows = change_row row.page (λ r. record r { unchanged = true; state = Private }) b.rows }) changed
 
+-- the visit of a row with no dup to join that was not unchanged does nothing to the frames
 pub marking_is : (b : BookState) (frame : Frames) (row : Row) → is_restless row ≡ true → best_dup b.knobs b.rows b.dups row ≡ None →
     row.unchanged ≡ false → row_visiting b frame row ≡ idle frame
 marking_is b frame row is best changed = visiting_by b frame row None is best ∙ ap (λ u. if u then staying b frame row else idle frame)
@@ -41,6 +42,7 @@ marking_is b frame row is best changed = visiting_by b frame row None is best �
 
 -- a row whose bytes have stayed becomes Zero, or is paired
 module _ (b : BookState) (frame : Frames) (row : Row) (zeroes : Bool) (stays : HasStayed b zeroes row) where
+  -- the visit of a row whose bytes have stayed makes it Zero where its zeroes are to merge, and else pairs it
   pub stayed_is : row_visited b row ≡ (if zeroes then record b { rows = change_row row.page (λ r. record r { state = Zero }) b.rows } else
       paired (partner b.knobs b.rows row) b row)
   stayed_is =
@@ -52,6 +54,7 @@ module _ (b : BookState) (frame : Frames) (row : Row) (zeroes : Bool) (stays : H
       ∙ ap (λ z. if z then record b { rows = change_row row.page (λ r. record r { state = Zero }) b.rows } else paired
       (partner b.knobs b.rows row) b row) stays.zeroes
 
+  -- to the frames the visit of a row whose bytes have stayed does what leaving for Zero does, or what pairing does
   pub staying_is : row_visiting b frame row ≡ (if zeroes then emptying frame row.page else pairing (partner b.knobs b.rows row) b frame row)
   staying_is =
       visiting_by b frame row None stays.restless stays.none ∙ ap (λ u. if u then staying b frame row else idle frame) stays.unchanged
@@ -71,14 +74,20 @@ made_by {v} {w} {e} did = made_one v w e did.0 did.1
 -- a book, seen as v, lies lawfully, and something is so of the row of a page
 pub record Meets (P : BookState → Row → Type 0) (p : PagesView) (k : KeeperView) (cursor : Option GuestPage) (passes : ℕ) (v : BookView)
     (page : GuestPage) : Type 0 where
+  -- the pages, the keeper, the cursor and the passes are the book seen
   pub is : book p k cursor passes ≡ v
+  -- the book is sound
   pub sound : IsSound (state_of p cursor passes)
+  -- rows and dups lie lawfully
   pub laid : IsLaid p k
+  -- the row of the page
   pub row : Row
+  -- the row is found at the page
   pub found : row_at page p.rows ≡ Some row
+  -- the property holds of the book and the row
   pub so : P (state_of p cursor passes) row
 
--- where it is so in the book as callers see it, it is so in the book
+-- where something is so of a page's row in a sound book that lies lawfully, as callers see it, the row is met with it
 pub meets : (P : BookState → Row → Type 0) {p : PagesView} {k : KeeperView} {cursor : Option GuestPage} {passes : ℕ} {now : BookView}
     {page : GuestPage} → IsSound (state_of p cursor passes) × IsLaid p k → book p k cursor passes ≡ now
     → MatchOption (row_at page now.state.rows) (true ≡ false) (P now.state) → Meets P p k cursor passes now page
@@ -91,21 +100,24 @@ meets P {p} {k} {cursor} {passes} {now = now} {page = page} lawful same told =
     by None none is = absurd (true≢false is)
     by (Some row) found is = record { is = same; sound = lawful.0; laid = lawful.1; row = row; found = found; so = is }
 
--- what is so of the book behind the visit of a page
+-- the visit of a page in the book seen as v leads to this book
 pub record Leads (v : BookView) (q : PagesView) (l : KeeperView) (cursor : Option GuestPage) (passes : ℕ) (page : GuestPage) : Type 0 where
+  -- the book then is sound, and its rows and dups lie lawfully
   pub lawful : IsSound (state_of q cursor passes) × IsLaid q l
+  -- the page's row was visited
   pub visits : VisitsPage v (book q l cursor passes) page
 
 module _ {P : BookState → Row → Type 0} {p : PagesView} {k : KeeperView} {cursor : Option GuestPage} {passes : ℕ} {v : BookView}
     {page : GuestPage} (at : Meets P p k cursor passes v page) where
+  -- the row that is met is of the page
   pub page_is : at.row.page ≡ page
   page_is = found_page page p.rows at.row at.found
 
-  -- its row is found by the row's own page
+  -- the row that is met is found at its own page
   pub there_is : row_at at.row.page p.rows ≡ Some at.row
   there_is = ap (λ q. row_at q p.rows) page_is ∙ at.found
 
-  -- the visit of a row leads to a sound book
+  -- where the row met was visited and rows and dups lie lawfully then, the visit leads to the book as it is then
   pub leads : (q : PagesView) (l : KeeperView) → is_restless at.row ≡ true → IsLaid q l
       → state_of q cursor passes ≡ row_visited (state_of p cursor passes) at.row
       → Performs (lying p k) (lying q l) (row_visiting (state_of p cursor passes) p.frame at.row) → Leads v q l cursor passes page
@@ -122,7 +134,7 @@ module _ {P : BookState → Row → Type 0} {p : PagesView} {k : KeeperView} {cu
         × Performs (lying p k) (lying q l) (row_visiting (state_of p cursor passes) p.frame r))) (sym at.found) (state, does));
   }
 
--- where the row of a page was visited, it has come to that
+-- where the row of a page was visited, with what that does to the frames, the visit of the page was reached
 pub visit_comes : (v w : BookValue) (page : GuestPage) (row : Row) → row_at page v.state.rows ≡ Some row → is_restless row ≡ true → w.state
     ≡ row_visited v.state row
     → Performs (mapped (view_of v)) (mapped (view_of w)) (row_visiting v.state (view_of v).frame row) → Comes v w
@@ -163,7 +175,7 @@ module _ (best : Best) {p : PagesView} {k : KeeperView} {cursor : Option GuestPa
   abbrev row : Row
   row = at.row
 
-  -- the page has a frame of its own
+  -- a page that is to join a dup has a frame of its own
   pub joins_alone : IsAlone page p.rows
   joins_alone = alone_now p.rows page row at.found (restless_own row at.so.0)
 
@@ -215,10 +227,11 @@ module _ (best : Best) {p : PagesView} {k : KeeperView} {cursor : Option GuestPa
     stands : Contains p.dups dup
     stands = find_all (is_best p.knobs p.rows p.dups row) (Contains p.dups) p.dups dup told.1 (All-contains_itself p.dups)
 
+    -- the dup that a page is to join has room for one item more
     pub has_room : HasRoom p.rows p.dups best.number
     has_room = (dup, stands, sym told.2, few)
 
-    -- a reference may come to the dup's frame
+    -- a reference may come to the frame of the dup that a page is to join
     pub may_add : May k (Add g)
     may_add = join_may p k at.laid at.sound.rows_rise page row item at.found found_item g there
         item_merged dup stands is_item few
@@ -230,7 +243,7 @@ module _ (best : Best) {p : PagesView} {k : KeeperView} {cursor : Option GuestPa
     state_is = ap Merged told.2 ∙ sym (state_of_item dup.number item.state is_item)
 
     module _ (lone : ℕ) (left : p.frame page ≡ Some lone) where
-      -- and then the page's own may be left
+      -- once a reference came to the dup's frame, the joining page's own frame may be left
       pub may_sub : {w : KeeperView} → Made k w (Add g ∷ []) → May w (Sub lone)
       may_sub {w} comes = subst (λ o. IfSome o (λ f. May w (Sub f))) left
           (may_part p k at.laid at.sound.rows_rise page row item at.found found_item g there item_merged
@@ -255,7 +268,7 @@ module _ (best : Best) {p : PagesView} {k : KeeperView} {cursor : Option GuestPa
         deed_is = visiting_by (state_of p cursor passes) p.frame row (Some dup) at.so.0 told.1
             ∙ (λ t. joining p.frame (page_is at t) ((ap (frame_found p.frame) first.1 ∙ ap frame_number there) t))
 
-        -- the page has joined
+        -- once the page is an item of the dup and lies on the dup's frame, the book is what the visit leads to
         pub joined_leads : Leads v q l cursor passes page
         joined_leads = leads at q l at.so.0
             (subst (λ (x : PagesView). IsLaid x l) (sym q_is)
@@ -273,7 +286,7 @@ module _ (best : Best) {p : PagesView} {k : KeeperView} {cursor : Option GuestPa
 
 module _ {p : PagesView} {k : KeeperView} {cursor : Option GuestPage} {passes : ℕ} {v : BookView} {page : GuestPage}
     (at : Meets IsForZero p k cursor passes v page) where
-  -- the page has a frame of its own
+  -- a page that is to become Zero has a frame of its own
   pub zero_alone : IsAlone page p.rows
   zero_alone = alone_now p.rows page at.row at.found (restless_own at.row at.so.restless)
 
@@ -285,13 +298,13 @@ module _ {p : PagesView} {k : KeeperView} {cursor : Option GuestPage} {passes : 
   zero_hand = swapped p.shape p.knobs.merge_across_nodes k.ledger p.rows p.frame p.dups None page zeroed at.row at.sound.rows_rise at.found
       (λ r. refl) at.laid.placed refl
 
-  -- its frame may be left
+  -- the frame of a page that is to become Zero may be left
   pub may_empty : {left : Option ℕ} → left ≡ p.frame page → IfSome left (λ f. May k (Sub f))
   may_empty was = subst (λ o. IfSome o (λ f. May k (Sub f))) (sym was)
       (may_leave k p.shape at.laid.same p.knobs.merge_across_nodes (change_row page zeroed p.rows) (lies_on page None p.frame) p.dups
       (p.frame page) zero_hand)
 
-  -- the page has become Zero
+  -- once the page is Zero and has left its frame, the book is what the visit leads to
   pub zero_leads : (q : PagesView) {l : KeeperView} {left : Option ℕ} → left ≡ p.frame page → Made k l (leaving left)
       → q ≡ record p { rows = change_row page zeroed p.rows; frame = lies_on page None p.frame } → Leads v q l cursor passes page
   zero_leads q {l} was made goes =

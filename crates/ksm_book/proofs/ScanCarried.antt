@@ -34,6 +34,7 @@ quiet_visiting b frame (Some row) =
     (λ (d : Deed). GivesNone d.steps)
     (λ _. tt) (λ _. quiet_handling (best_dup b.knobs b.rows b.dups row) b frame row)
 
+-- what visits do to the frames gives no frame
 pub quiet_scanning : (n : ℕ) (b : BookState) (frame : Frames) → GivesNone (scanning n b frame).steps
 quiet_scanning zero b frame = tt
 quiet_scanning (suc n) b frame =
@@ -52,12 +53,12 @@ any_some (r ∷ rows) some = elim (cases_Bool r.mergeable) [
   | inr not_so ↦ let rest = any_some rows (grind (arith, not_so, some)) in grind (arith, not_so, rest)
 ]
 
--- where there is none, none is
+-- where no page is mergeable, no row is
 pub any_none : (rows : List Row) → length (mergeable_pages rows) ≡ 0 → list_any (λ r. r.mergeable) rows ≡ false
 any_none rows none = list_any_none (λ r. r.mergeable) rows (none_counted (λ r. r.mergeable) rows (sym (some_pages rows) ∙ none))
 
 module _ (v w : BookValue) (count : ℕ) (running : v.state.knobs.run ≡ 1) (table : w.keeper.table ≡ v.keeper.table) where
-  -- so many visits were made, and then the scan stopped, or did not
+  -- `Scan` is carried out where visits were made and then the scan stopped, or did not, as it answers
   pub scanned : (made : ℕ) (stop : Option Fault) → IsScanned v.state count (Ok (Scanned made stop))
       → Comes v w (λ s. (scan_stopped stop (visits_beside doing made s).0, (visits_beside doing made s).1))
       → CarriedOut (view_of v) (view_of w) (Scan count) (Ok (Scanned made stop))
@@ -76,7 +77,7 @@ module _ (v w : BookValue) (count : ℕ) (running : v.state.knobs.run ≡ 1) (ta
         shown = tt;
       }
 
-  -- visits of pages that there are
+  -- `Scan` is carried out where there is a page to visit and the visits that it replies were made
   pub visits_carried : (reply : Reply) → 1 ≤ length (mergeable_pages v.state.rows) → HasScanned v w count reply
       → CarriedOut (view_of v) (view_of w) (Scan count) (Ok reply)
   visits_carried (Scanned made None) some did =

@@ -20,7 +20,7 @@ pass_over b most ahead comes nowhere under_way =
     let none = none_next b ((none_nowhere (pages_ahead b) most ahead comes).0 nowhere) in λ t. if sym under_way t && is_none
     (sym none t) then pass_ended b else b
 
--- any other goes on
+-- a pass with a page ahead, or one that has not begun, does not end
 pub pass_stays : (b : BookState) (most : ℕ) (ahead : Ahead) → EndsAt (pages_ahead b) most ahead
     → (is_nowhere ahead ≡ false) ⊎ (is_some b.cursor ≡ false) → b ≡ pass_ended_at_last b
 pass_stays b most ahead comes (inr none) = λ t. if sym none t && is_none (next_row b.cursor b.rows) then pass_ended b else b
@@ -81,7 +81,7 @@ some_ahead b some = elim (begins b) [
 
 -- ---------------------------------------------------------------- listed pages
 
--- a page that is restless was so
+-- a page that is restless after a change that makes no page restless was so before
 pub was_restless : (old new : List Row) → Goes old new → (page : GuestPage) → restless_at page new ≡ true → restless_at page old ≡ true
 was_restless old new goes page restless = elim (cases_Bool (restless_at page old)) [
   | inl was ↦ was
@@ -115,7 +115,7 @@ module _ (t : GuestPage → Bool) (down : GoesDown t) (pages : List GuestPage) (
       (λ i. from_to ((low ∙ ap (λ o. length (filter (λ p. not (after_cursor o p)) pages)) at) i) (high i) pages)
       ∙ between_is t down b.cursor pages listed.0
 
-  -- their visits come to the same as those of the pages ahead that pass
+  -- visits of the listed pages from first up to end come to the same as those of the pages ahead that pass the test
   pub part_visited : {X : Type 0} (step : BookState → X → Row → X) (s : BookState × X) → b ≡ s.0
       → pages_visited step s (from_to first end pages) ≡ pages_visited step s (filter t (pages_ahead s.0))
   part_visited step s same =
@@ -139,7 +139,7 @@ module _ (t : GuestPage → Bool) (down : GoesDown t) (pages : List GuestPage) (
       either_way false true = refl
       either_way false false = refl
 
-  -- a restless page among them is ahead, and passes
+  -- a restless page among the listed ones from first up to end is ahead, and passes the test
   pub part_ahead : (n : ℕ) (page : GuestPage) → slice_get pages n ≡ Some page → first ≤ n → n < end → restless_at page b.rows ≡ true
       → (t page ≡ true) × (has_item page (pages_ahead b) ≡ true)
   part_ahead n page stands le lt restless =
@@ -157,9 +157,11 @@ module _ (t : GuestPage → Bool) (down : GoesDown t) (pages : List GuestPage) (
 -- ---------------------------------------------------------------- visits made
 
 module _ {X : Type 0} (step : BookState → X → Row → X) (beside : IsBeside step) (s : BookState × X) (rise : InPageOrder s.0.rows) where
+  -- the pages ahead once a visit begins
   abbrev pub ahead : List GuestPage
   ahead = pages_ahead (visit_begun s.0)
 
+  -- the pages ahead once a visit begins ascend
   pub ascending : AreAscending ahead
   ascending = ascending_ahead (visit_begun s.0) ((begun_goes s.0).order rise)
 
@@ -171,7 +173,7 @@ module _ {X : Type 0} (step : BookState → X → Row → X) (beside : IsBeside 
   parts : (n : ℕ) (next : GuestPage) → n < length ahead → ahead ≡ take n ahead ++ get_or ahead n next ∷ drop (n + 1) ahead
   parts n next lt = sym (take-append-drop n ahead) ∙ ap (λ l. take n ahead ++ l) (drop_more ahead n next lt)
 
-  -- visits that end at a page
+  -- as many visits as lead up to a page are the visits of the pages ahead up to it, with the cursor there
   pub page_made : (most : ℕ) (page : GuestPage) → 1 ≤ most → EndsAt ahead most (At page)
       → (record (after (filter (up_to (Some page)) ahead)).0 { cursor = Some page }, (after (filter (up_to (Some page)) ahead)).1)
       ≡ visits_beside step most s
@@ -186,14 +188,14 @@ module _ {X : Type 0} (step : BookState → X → Row → X) (beside : IsBeside 
       ∙ sym (visits_folded step beside s done (get_or ahead (suc n) page ∷ drop (suc n + 1) ahead) rise (omega (arith, many))
       (parts (suc n) page (omega (arith, one, ends.0)))) ∙ ap (λ m. visits_beside step m s) (many ∙ one)
 
-  -- visits that end a pass
+  -- as many visits as there are pages ahead are the visits of all of them, and then the end of the pass
   pub pass_made : 1 ≤ length ahead
       → (pass_ended (after (filter (up_to None) ahead)).0, (after (filter (up_to None) ahead)).1) ≡ visits_beside step (length ahead) s
   pass_made some =
       ap (λ l. (pass_ended (after l).0, (after l).1)) (filter_all (up_to None) ahead (λ k d lt. refl))
       ∙ sym (visits_folded step beside s ahead [] rise some (sym (append-nil ahead)))
 
-  -- a whole pass, quiet, and so many that repeat it
+  -- where a whole pass changed nothing but which rows wait, so many passes more add to the count of passes alone
   pub passes_made : (times : ℕ) → 1 ≤ length (mergeable_pages s.0.rows) → (visit_begun s.0).cursor ≡ None
       → IsStill (begun s) (after (filter (up_to None) ahead))
       → (
@@ -224,6 +226,7 @@ module _ {X : Type 0} (step : BookState → X → Row → X) (beside : IsBeside 
     abbrev before_it : List GuestPage → List GuestPage
     before_it pages = filter (λ p. comes_before p page) pages
 
+    -- the index of the page among the pages ahead
     abbrev pub place : ℕ
     place = (place_of page ahead there).0
 
@@ -233,10 +236,11 @@ module _ {X : Type 0} (step : BookState → X → Row → X) (beside : IsBeside 
     within : place < length ahead
     within = slice_get_within ahead place page stands
 
+    -- as many pages ahead come before the page as its index says
     pub stopped_many : length (before_it ahead) ≡ place
     stopped_many = ap length (place_splits ahead place page ascending stands).0 ∙ length-take-le place ahead (omega (arith, within))
 
-    -- the pages ahead are the same still
+    -- visits of the pages ahead before the page leave the same pages ahead
     pub stopped_ahead : pages_ahead (after (before_it ahead)).0 ≡ ahead
     stopped_ahead =
         let b : BookState = visit_begun s.0 in
@@ -244,6 +248,7 @@ module _ {X : Type 0} (step : BookState → X → Row → X) (beside : IsBeside 
         ap (λ (z : BookState × X). z.0.cursor) (pages_alike step beside b.cursor b.passes (before_it ahead) (begun s)) in
         λ t. filter (after_cursor (cursor t)) ((pages_go step (before_it ahead) (begun s) ((begun_goes s.0).order rise)).mergeable t)
 
+    -- visits of the pages ahead before the page, with the cursor at the last, are as many visits and one more begun
     pub stopped_made : (
       record
           (after (before_it ahead)).0
@@ -273,6 +278,7 @@ module _ {X : Type 0} (step : BookState → X → Row → X) (beside : IsBeside 
       | inr no_later ↦ omega (arith, no_later, stopped_many)
     ]
 
+    -- where so many visits would visit the page, fewer pages ahead come before it
     pub stopped_fewer : (most : ℕ) (a : Ahead) → 1 ≤ most → EndsAt ahead most a → up_to (last_visited a) page ≡ true
         → length (before_it ahead) < most
     stopped_fewer most (At last) some comes passes =

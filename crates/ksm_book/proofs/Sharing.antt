@@ -10,12 +10,12 @@ merged_as : (s : PageState) → merged_state s ≡ true → (n : ℕ) × (s ≡ 
 merged_as (Merged d) e = (d, refl)
 merged_as _ e = absurd (grind (arith, e))
 
--- an item of a dup is merged into it
+-- the state of an item of a dup is Merged with the dup's number
 pub state_of_item : (n : ℕ) (s : PageState) → merged_into n s ≡ true → s ≡ Merged n
 state_of_item n (Merged d) e = ap Merged (eqb-true d n e)
 state_of_item n _ e = absurd (grind (arith, e))
 
--- of elements that are counted there is a first one
+-- where a test counts one element at least, a search for it finds one
 pub first_found : {X : Type 0} (t : X → Bool) (xs : List X) → 1 ≤ count_by t xs → (x : X) × (find t xs ≡ Some x)
 first_found t xs some = by (find t xs) refl
   where
@@ -23,7 +23,7 @@ first_found t xs some = by (find t xs) refl
     by (Some x) found = (x, found)
     by None none = absurd (let zero' = count_none t xs (find_none t xs none) in omega (arith, zero', some))
 
--- where a search finds an element
+-- an element that a search finds stands at an index of the list
 pub index_found : {X : Type 0} (t : X → Bool) (xs : List X) (x : X) → find t xs ≡ Some x → (n : ℕ) × (n < length xs)
     × ((d : X) → get_or xs n d ≡ x)
 index_found t [] x found = absurd (grind (arith, found))
@@ -47,7 +47,7 @@ module _ (p : PagesView) (k : KeeperView) (h : IsLaid p k) (rise : InPageOrder p
   item_stable : (frame_at k.ledger g).kind ≡ Stable
   item_stable = item_fits.0.kind ∙ ap kind_for (merged_as item.state merged).1
 
-  -- one reference more may come to its frame, where the dup has room for one item more
+  -- one reference more may come to an item's frame, where its dup has room for one item more
   pub may_join : (d : DupRow) → Contains p.dups d → merged_into d.number item.state ≡ true → item_count p.rows d ≤ 1023 → May k (Add g)
   may_join d stands into few =
       let n : ℕ = stands.0 in
@@ -72,12 +72,12 @@ module _ (p : PagesView) (k : KeeperView) (h : IsLaid p k) (rise : InPageOrder p
         (served_at p.shape across w.ledger p.rows p.frame p.dups (Some g) q item.page item found_item)) state bytes
         (ap shared_state (merged_as item.state merged).1) q
 
-    -- and may be given back
+    -- once a reference came to the item's frame, the frame of the page that joins, if it has one, may be left
     pub may_part : (w : KeeperView) → Made k w (Add g ∷ []) → IfSome (p.frame page) (λ f. May w (Sub f))
     may_part w comes = may_leave w p.shape (shape_same p.shape k w h.same (ap (λ (z : KeeperView). z.table) comes.after)) across
         (change_row page c p.rows) (lies_on page (Some g) p.frame) p.dups (p.frame page) (joined_hand w comes)
 
-    -- the page has joined: its row is an item, and lies on the item's frame
+    -- rows and dups lie lawfully once a page is an item, lies on the item's frame and has left its own
     pub laid_joined : (u : KeeperView) (restless : Listing) → Made k u (Add g ∷ leaving (p.frame page))
         → IsLaid (record p { rows = change_row page c p.rows; frame = lies_on page (Some g) p.frame; restless = restless }) u
     laid_joined u restless m =
@@ -109,7 +109,7 @@ has_none place [] e k x lt same = absurd (omega arith)
 has_none place (d ∷ ds) e zero x lt same = absurd (grind (arith, nat_tests, e, same))
 has_none place (d ∷ ds) e (suc k) x lt same = has_none place ds (grind (arith, e)) k x (omega arith) same
 
--- a vacant place names no frame, or one without a reference of its dup's items
+-- a place where no dup with items stands names no frame that is Stable in the life named
 pub vacant_loose : (sh : Shape) (across : ℕ) (k : Ledger) (rows : List Row) (frame : Frames) (dups : List DupRow) (place : ℕ)
     → Placed sh across k rows frame dups None → IsVacant place rows dups → IsLoose k (named_at k place)
 vacant_loose sh a k rows frame dups place p vacant = elim (cases_Bool (list_any (λ d. d.place == place) dups)) [
@@ -125,12 +125,14 @@ vacant_loose sh a k rows frame dups place p vacant = elim (cases_Bool (list_any 
 -- what a vacant place names is withdrawn, and then it names nothing
 module _ (p : PagesView) (k w : KeeperView) (h : IsLaid p k) (place : ℕ) (inside : place < frames_of p.shape)
     (vacant : IsVacant place p.rows p.dups) where
+  -- what is named by a place where no dup with items stands may be withdrawn
   pub may_clear : May k (Withdraw place)
   may_clear = (
     subst (λ (s : Shape). place < frames_of s) (sym h.same) inside,
     vacant_loose p.shape p.knobs.merge_across_nodes k.ledger p.rows p.frame p.dups place h.placed vacant,
   )
 
+  -- once what a vacant place names is withdrawn, the place names nothing, and the keeper knows the rest as it was
   pub cleared_ledger : Made k w (withdrawing p.dups place) → w.ledger ≡ record
       { frames = k.ledger.frames; places = set k.ledger.places place None }
   cleared_ledger m = elim (cases_Bool (list_any (λ d. d.place == place) p.dups)) [
@@ -146,7 +148,7 @@ module _ (p : PagesView) (k w : KeeperView) (h : IsLaid p k) (place : ℕ) (insi
         })
   ]
 
--- a stale dup goes
+-- pages lie lawfully where a place names nothing any more and the dup that stood there is gone
 pub laid_cleared : (p : PagesView) (k w : KeeperView) (place : ℕ) → IsLaid p k → place < frames_of p.shape → w.table ≡ k.table
     → w.ledger ≡ record { frames = k.ledger.frames; places = set k.ledger.places place None }
     → IsLaid (record p { dups = filter (elsewhere place) p.dups }) w
@@ -196,7 +198,7 @@ spent_most v k h =
     let s = h.spent in
     omega (arith, s, most, short)
 
--- a row that waits no more, or is mergeable again, lodges as before
+-- a row that waits no more may stand on its frame in the stead of the row as it was
 pub settled_lodges : (r : Row) → LodgesAs (settled r) r
 settled_lodges r = (refl, refl, by r.state)
   where
@@ -227,7 +229,7 @@ module _ (p : PagesView) (k : KeeperView) (h : IsLaid p k) (rise : InPageOrder p
   own : o.kind ≡ Private
   own = fits.kind ∙ own_kind row.state alone
 
-  -- the place may name the row's frame once it is cleared
+  -- once its place is cleared, a new dup may be published there on the frame of a row that is not shared
   pub may_found : (w : KeeperView) → Made k w (withdrawing p.dups d.place) → May w (Publish d.place f)
   may_found w m =
       let empty = cleared_ledger p k w h d.place inside vacant m in

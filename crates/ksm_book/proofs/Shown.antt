@@ -8,35 +8,42 @@ abbrev pub GivesNone : List KeeperStep → Type 0
 GivesNone [] = Unit {0}
 GivesNone (e ∷ es) = (given_by e ≡ None) × GivesNone es
 
+-- where two lists of steps give no frame, the one followed by the other gives none
 pub quiet_both : (xs ys : List KeeperStep) → GivesNone xs → GivesNone ys → GivesNone (xs ++ ys)
 quiet_both [] ys q r = r
 quiet_both (x ∷ xs) ys q r = (q.0, quiet_both xs ys q.1 r)
 
+-- stores of words give no frame
 pub quiet_puts : (f i : ℕ) (ws : List ℕ) → GivesNone (steps_of (puts f i ws))
 quiet_puts f i [] = tt
 quiet_puts f i (w ∷ ws) = (refl, quiet_puts f (i + 1) ws)
 
+-- loads of words give no frame
 pub quiet_loads : (f i : ℕ) (ws : List ℕ) → GivesNone (steps_of (loads f i ws))
 quiet_loads f i [] = tt
 quiet_loads f i (w ∷ ws) = (refl, quiet_loads f (i + 1) ws)
 
+-- the reaping of frames gives no frame
 pub quiet_reaps : (fs : List ℕ) → GivesNone (map Reap fs)
 quiet_reaps [] = tt
 quiet_reaps (f ∷ fs) = (refl, quiet_reaps fs)
 
+-- references that come to a frame give no frame
 pub quiet_adds : (n f : ℕ) → GivesNone (replicate n (Add f))
 quiet_adds zero f = tt
 quiet_adds (suc n) f = (refl, quiet_adds n f)
 
+-- the withdrawing of dups from their places gives no frame
 pub quiet_withdraws : (ds : List DupRow) → GivesNone (map (λ d. Withdraw d.place) ds)
 quiet_withdraws [] = tt
 quiet_withdraws (d ∷ ds) = (refl, quiet_withdraws ds)
 
+-- a page that leaves its frame, if it has one, makes no step that gives a frame
 pub quiet_leaving : (o : Option ℕ) → GivesNone (leaving o)
 quiet_leaving None = tt
 quiet_leaving (Some f) = (refl, tt)
 
--- a part of the log gave no frame
+-- a part of the log whose steps give no frame gave none
 pub part_did : (v w : KeeperView) (part : Log) → w ≡ stepped v part → GivesNone (steps_of part) → Did v w [] part
 part_did v w part is quiet = record {
   table = ap (λ (z : KeeperView). z.table) is;
@@ -51,15 +58,15 @@ part_did v w part is quiet = record {
         let next : Ledger = ledger_after v.table.shape k s.0 s.1 in
         subst (λ (o : Option ℕ). IsNeeded v.table.shape k [] o × Gives v.table.shape next (needed_after [] o) part) (sym q.0) (tt, by next part q.1)
 
--- nor did steps
+-- steps that give no frame gave none by the part of the log in which they were made
 pub quiet_did : (v w : KeeperView) (steps : List KeeperStep) (m : Made v w steps) → GivesNone steps → Did v w [] m.part
 quiet_did v w steps m quiet = part_did v w m.part m.after (subst GivesNone (sym m.are) quiet)
 
--- whatever words they found
+-- a keeper that made steps that give no frame gave none
 pub quiet_does : (v w : KeeperView) (steps : List KeeperStep) → Made v w steps → GivesNone steps → Does v w []
 quiet_does v w steps m quiet = (m.part, quiet_did v w steps m quiet)
 
--- what was given by one part and then by the other was given by both
+-- frames given on some nodes and then on others were given on the nodes of both, in order
 pub does_then : (u v w : KeeperView) (ms ns : List ℕ) → Does u v ms → Does v w ns → Does u w (ms ++ ns)
 does_then u v w ms ns a b = (a.0 ++ b.0, chained u v w ms ns a.0 b.0 a.1 b.1)
 
@@ -71,11 +78,11 @@ raised_does v w g node steps lowest m quiet =
     let one : Did v r (node ∷ []) ((Raise g, first.0) ∷ []) = record { table = refl; log = refl; ledger = refl; gives = (lowest, refl) } in
     does_then v r w (node ∷ []) [] ((Raise g, first.0) ∷ [], one) (quiet_does r w steps first.1 quiet)
 
--- a frame that is found lies in the same table
+-- a keeper that reaped the dying frames of a node gave no frame
 pub searched_does : (v w : KeeperView) (node : ℕ) → Made v w (map Reap (dying_on v.table.shape v.ledger node)) → Does v w []
 searched_does v w node m = quiet_does v w (map Reap (dying_on v.table.shape v.ledger node)) m (quiet_reaps (dying_on v.table.shape v.ledger node))
 
--- a frame of one's own is the lowest free one of the node
+-- a keeper that provided a frame with bytes gave one frame, on the node asked for
 pub provides_does : (v w : KeeperView) (node : ℕ) (bytes : List ℕ) (g : ℕ) → Provides v w node bytes g → Does v w (node ∷ [])
 provides_does v w node bytes g h =
     let u : KeeperView = h.searched in

@@ -19,7 +19,7 @@ book p k cursor passes = record { state = state_of p cursor passes; frame = p.fr
 pub sound_carried : (v w : BookView) (command : Command) (answer : Answer) → IsSound v.state → CarriedOut v w command answer → IsSound w.state
 sound_carried v w command answer s h = subst IsSound (sym h.state) (sound_after v.state command answer s h.answer)
 
--- the same, by what proofs tell the book by, and by the page that was asked for
+-- a command carried out from one book value was carried out from an equal one, and so was an equal command
 pub carried_so : (old now : BookValue) (w : BookView) (by given : Command) (answer : Answer) → old ≡ now → by ≡ given → CarriedOut (view_of old) w by answer → CarriedOut (view_of now) w given answer
 carried_so old now w by given answer same told h = subst (λ (z : BookValue × Command). CarriedOut (view_of z.0) w z.1 answer) (λ t. (same t, told t)) h
 
@@ -36,7 +36,7 @@ change_twice page c d e (r ∷ rows) keeps same = elim (cases_Bool (same_page r.
   | inr other ↦ grind (arith, other, change_twice page c d e rows keeps (λ i x lt. same (suc i) x (omega (arith, lt))))
 ]
 
--- the row of a page that was changed is found so
+-- where the row of a page changes, the changed row is found at the page
 pub at_changed : (page : GuestPage) (c : Row → Row) (rows : List Row) (row : Row) → ((r : Row) → (c r).page ≡ r.page) → row_at page rows ≡ Some row → row_at page (change_row page c rows) ≡ Some (c row)
 at_changed page c [] row keeps found = absurd (grind (arith, found))
 at_changed page c (r ∷ rows) row keeps found = elim (cases_Bool (same_page r.page page)) [
@@ -52,13 +52,16 @@ module _ (p m q : PagesView) (k l : KeeperView) (page : GuestPage) (node : ℕ) 
   settled_frame : q.frame ≡ m.frame
   settled_frame = ap (λ (x : PagesView). x.frame) goes
 
+  -- a page was resettled and its row then changed: the pages differ in that row, in where pages lie and in the listing
   pub settled_pages : q ≡ record p { rows = change_row page change p.rows; frame = q.frame; restless = q.restless }
   settled_pages = goes ∙ (λ t. record (r.pages t) { rows = change_row page d (r.pages t).rows; restless = q.restless })
       ∙ (λ t. record p { rows = rows t; frame = sym settled_frame t; restless = q.restless })
 
+  -- a page that was resettled, and whose row then changed, is resettled by the same steps
   pub settled_steps : Resettles (lying p k) (lying q l) page node bytes
   settled_steps = subst (λ (f : Frames). Resettles (lying p k) (record { frame = f; keeper = l }) page node bytes) (sym settled_frame) r.resettles
 
+  -- rows and dups lie lawfully once the row of a resettled page tells of its home and bytes too
   pub settled_laid : Houses change page node bytes p.rows → IsLaid q l
   settled_laid by_this = subst (λ (x : PagesView). IsLaid x l) (sym settled_pages) (record {
     small = h.small;
@@ -67,7 +70,7 @@ module _ (p m q : PagesView) (k l : KeeperView) (page : GuestPage) (node : ℕ) 
     spent = r.spent;
   })
 
--- a row that was found has a frame of its own
+-- a page whose row is found and not shared has a frame of its own
 pub alone_now : (rows : List Row) (page : GuestPage) (row : Row) → row_at page rows ≡ Some row → shared_state row.state ≡ false → IsAlone page rows
 alone_now rows page row found alone = subst (λ o. MatchOption o (true ≡ false) (λ r. shared_state r.state ≡ false)) (sym found) alone
 
@@ -78,12 +81,12 @@ may_read p k h page row found g lies =
     let served : IsServed p.shape k.ledger p.dups row (Some g) = subst (IsServed p.shape k.ledger p.dups row) lies (served_at p.shape p.knobs.merge_across_nodes k.ledger p.rows p.frame p.dups None h.placed page row found) in
     (subst (λ (s : Shape). g < frames_of s) (sym h.same) served.0.frame, readable (frame_at k.ledger g).kind row.state served.0.mapped served.0.kind, h.placed.widths g, served.0.content)
 
--- what is true is so of each error
+-- what is true anyway is true of each error of a result
 pub if_err : {T E : Type 0} (r : Result T E) (P : Type 0) → P → IfErr r (λ _. P)
 if_err (Ok x) P h = tt
 if_err (Err e) P h = h
 
--- where no row is told, there is none
+-- an option of a row that holds nothing is None
 pub absent_so : (o : Option Row) → is_some o ≡ false → o ≡ None
 absent_so None none = refl
 absent_so (Some row) none = absurd (grind (arith, none))
@@ -93,7 +96,7 @@ pub alone_resettled : (rows : List Row) (page : GuestPage) (row : Row) → row_a
 alone_resettled rows page row found now made =
     alone_now now page (on_its_own row) (ap (row_at page) made ∙ at_changed page on_its_own rows row (λ r. refl) found) refl
 
--- and is Private
+-- a page that was resettled is Private
 pub private_resettled : (rows : List Row) (page : GuestPage) (row : Row) → row_at page rows ≡ Some row → (now : List Row) → now ≡ change_row page on_its_own rows → MatchOption (row_at page now) (true ≡ false) (λ r. private_state r.state ≡ true)
 private_resettled rows page row found now made =
     subst (λ o. MatchOption o (true ≡ false) (λ r. private_state r.state ≡ true)) (sym (ap (row_at page) made ∙ at_changed page on_its_own rows row (λ r. refl) found)) refl
@@ -136,7 +139,7 @@ module _ (p : PagesView) (k l : KeeperView) (cursor : Option GuestPage) (passes 
         done_or None = tt
         done_or (Some n) = tt
 
-  -- to the page's own frame
+  -- `Store` is carried out where the bytes are stored to the page's own frame, and its row tells them
   pub store_written : (q : PagesView) (g : ℕ) → q ≡ record p { rows = change_row page (stored bytes) p.rows; restless = q.restless } → shared_state row.state ≡ false → p.frame page ≡ Some g → l ≡ stepped k (puts g 0 bytes)
       → CarriedOut (book p k cursor passes) (book q l cursor passes) (Store page bytes) (Ok Done)
   store_written q g goes alone lies wrote =
@@ -145,7 +148,7 @@ module _ (p : PagesView) (k l : KeeperView) (cursor : Option GuestPage) (passes 
         frame = ap (λ (x : PagesView). x.frame) goes;
       }) (quiet_does k l (steps_of (puts g 0 bytes)) (made_part k l (puts g 0 bytes) wrote) (quiet_puts g 0 bytes))
 
-  -- to another frame
+  -- `Store` is carried out, and all lies lawfully, where a shared page is resettled with the bytes, as its row tells
   pub store_copied : (m q : PagesView) → IsLaid p k → Resettled p m k l page row.home bytes → q ≡ record m { rows = change_row page (stored bytes) m.rows; restless = q.restless } → shared_state row.state ≡ true
       → CarriedOut (book p k cursor passes) (book q l cursor passes) (Store page bytes) (Ok Done) × IsLaid q l
   store_copied m q h r goes shared =
@@ -182,7 +185,7 @@ module _ (p : PagesView) (k : KeeperView) (cursor : Option GuestPage) (passes : 
   move_allowed : refusal b' (MovePage page node) ≡ None
   move_allowed = ap (λ x. refused_if x BadNode (refused_if (not (is_some (row_at page p.rows))) UnknownPage None)) (there_is p.shape.nodes node less) ∙ ap (λ o. refused_if (not (is_some o)) UnknownPage None) found
 
-  -- a page that is at home there stays
+  -- `MovePage` to the node where the page is at home is carried out with nothing changed
   pub move_home : row.home ≡ node → CarriedOut (book p k cursor passes) (book p k cursor passes) (MovePage page node) (Ok Done)
   move_home same =
       let is : (row.home == node) ≡ true = eq-eqb row.home node same in
@@ -199,7 +202,7 @@ module _ (p : PagesView) (k : KeeperView) (cursor : Option GuestPage) (passes : 
       }
 
   module _ (l : KeeperView) (table : l.table ≡ k.table) (away : (row.home == node) ≡ false) where
-    -- a page that moves has a frame there
+    -- `MovePage` is carried out, and all lies lawfully, where the page is resettled on another node and at home there
     pub move_moved : (m q : PagesView) → IsLaid p k → Resettled p m k l page node row.bytes → q ≡ record m { rows = change_row page (λ r. record r { home = node }) m.rows; restless = q.restless }
         → CarriedOut (book p k cursor passes) (book q l cursor passes) (MovePage page node) (Ok Done) × IsLaid q l
     move_moved m q h r goes =
@@ -229,10 +232,12 @@ module _ (p : PagesView) (k : KeeperView) (cursor : Option GuestPage) (passes : 
   gone_hand : Placed p.shape p.knobs.merge_across_nodes k.ledger (without_page page p.rows) (lies_on page None p.frame) p.dups (p.frame page)
   gone_hand = removed p.shape p.knobs.merge_across_nodes k.ledger p.rows p.frame p.dups page row rise found h.placed
 
+  -- the frame of a page that goes, if it has one, may be left
   pub drop_may : IfSome left (λ f. May k (Sub f))
   drop_may = subst (λ o. IfSome o (λ f. May k (Sub f))) (sym was)
       (may_leave k p.shape h.same p.knobs.merge_across_nodes (without_page page p.rows) (lies_on page None p.frame) p.dups (p.frame page) gone_hand)
 
+  -- `Drop` is carried out, and all lies lawfully, where the page has left its frame and its row is gone
   pub drop_gone : (q : PagesView) (l : KeeperView) → q ≡ record p { rows = without_page page p.rows; frame = lies_on page None p.frame; restless = q.restless } → Made k l (leaving left)
       → CarriedOut (book p k cursor passes) (book q l cursor passes) (Drop page) (Ok Done) × IsLaid q l
   drop_gone q l goes made =
@@ -298,10 +303,11 @@ module _ (p m : PagesView) (k l : KeeperView) (cursor : Option GuestPage) (passe
   found_fresh : row_at page (with_row fresh p.rows) ≡ Some fresh
   found_fresh = come_found fresh p.rows absent
 
+  -- a page that came has a row
   pub come_known : is_some (row_at page m.rows) ≡ true
   come_known = ap (λ (x : PagesView). is_some (row_at page x.rows)) comes ∙ ap is_some found_fresh
 
-  -- on the frame taken
+  -- `Register` is carried out, and all lies lawfully, where the page comes on a frame taken with its bytes
   pub register_come : (q : PagesView) (g : ℕ) → q ≡ record m { rows = change_row page on_its_own m.rows; frame = lies_on page (Some g) m.frame; restless = q.restless } → length bytes ≡ PAGE_WORDS → Provides k l node bytes g
       → CarriedOut (book p k cursor passes) (book q l cursor passes) (Register page node bytes) (Ok Done) × IsLaid q l
   register_come q g goes long provides =
@@ -324,7 +330,7 @@ module _ (p m : PagesView) (k l : KeeperView) (cursor : Option GuestPage) (passe
             (come_there p.shape p.knobs.merge_across_nodes k l p.rows p.frame p.dups h.same node bytes g taken h.placed fresh absent refl refl refl)),
       )
 
-  -- no frame of the node was left, and the page went again
+  -- `Register` is refused, and all lies lawfully, where no frame of the node was left and the page went again
   pub register_turned : (q : PagesView) → p.frame page ≡ None → q ≡ record m { rows = without_page page m.rows; frame = lies_on page None m.frame; restless = q.restless } → FindsNone k l node
       → CarriedOut (book p k cursor passes) (book q l cursor passes) (Register page node bytes) (Err (NoFrame node)) × IsLaid q l
   register_turned q nowhere_there goes searched =

@@ -6,11 +6,17 @@ use Rattle.ksm_book.proofs.Sharing.{first_found, state_of_item}
 
 -- a dup with items: an item lies on the frame that its place names, which is stable in the life named
 pub record Lives (k : Ledger) (dups : List DupRow) (sh : Shape) (frame : Frames) (d : DupRow) : Type 0 where
+  -- an item of the dup
   pub item : Row
+  -- the item is served by its frame
   pub served : IsServed sh k dups item (frame item.page)
+  -- the item is merged into the dup
   pub merged : merged_into d.number item.state ≡ true
+  -- the item lies on the frame that the dup's place names
   pub lies : frame item.page ≡ Some (place_frame k d.place)
+  -- the frame that the dup's place names is in the life named
   pub life : IsInLife k d.place
+  -- the frame that the dup's place names is Stable
   pub kind : (frame_at k (place_frame k d.place)).kind ≡ Stable
 
 module _ (sh : Shape) (across : ℕ) (k : Ledger) (rows : List Row) (frame : Frames) (dups : List DupRow) (p : Placed sh across k rows frame dups None) where
@@ -49,6 +55,7 @@ module _ (sh : Shape) (across : ℕ) (k : Ledger) (rows : List Row) (frame : Fra
 
   -- the frames of dups with items differ, and none of them is a page's own
   module _ (rise : InPlaceOrder dups) where
+    -- two dups with items stand on frames that differ, where the dups are in the order of their places
     pub frames_apart : (n m : ℕ) (d : DupRow) → n < m → m < length dups → Lives k dups sh frame (get_or dups n d) → Lives k dups sh frame (get_or dups m d)
         → place_frame k (get_or dups n d).place ≢ place_frame k (get_or dups m d).place
     frames_apart n m d before lt a b same =
@@ -56,6 +63,7 @@ module _ (sh : Shape) (across : ℕ) (k : Ledger) (rows : List Row) (frame : Fra
         let one = one_number n m d (omega (arith, before, lt)) lt a b same in
         absurd (grind (arith, nat_tests, other, one))
 
+  -- a row with a frame of its own does not lie on the frame of a dup with items
   pub own_apart : (row : Row) (f : ℕ) → IsServed sh k dups row (frame row.page) → shared_state row.state ≡ false → frame row.page ≡ Some f → (d : DupRow) → Lives k dups sh frame d → f ≢ place_frame k d.place
   own_apart row f served alone is d a same =
       let own = (subst (IsServed sh k dups row) is served).0.kind ∙ own_kind row.state alone in
@@ -124,12 +132,12 @@ finds_place sh across k rows frame dups p rise row served alone =
             ne_eqb _ _ (λ same. frames_apart sh across k rows frame dups p rise n m d0 (omega (arith, before)) l' (live n d0 l'') (live m d0 l')
             (sym (get_or-map of_dup dups n d0 f l'') ∙ same ∙ get_or-map of_dup dups m d0 f l'))
 
--- each page with a frame of its own leaves a place for a dup that is made of it
+-- beside each page with a frame of its own a new dup finds a place, in a sound book that lies lawfully
 pub finds_places : (p : PagesView) (k : KeeperView) (cursor : Option GuestPage) (passes : ℕ) → IsSound (state_of p cursor passes) → IsLaid p k → FindsPlace (state_of p cursor passes)
 finds_places p k cursor passes s h row in_rows alone =
     finds_place p.shape p.knobs.merge_across_nodes k.ledger p.rows p.frame p.dups h.placed s.dups_rise row
     (subst (λ r. IsServed p.shape k.ledger p.dups r (p.frame r.page)) in_rows.2 (h.placed.each_row in_rows.0 row in_rows.1)) alone
 
--- no number reaches that of the next dup
+-- the numbers of dups are below 2^50, where the number of the next dup is 2^50 at most
 pub numbers_small : (b : BookState) → IsSound b → b.next ≤ 2 ^ 50 → NumbersAreSmall b
 numbers_small b s few k d lt = let below = s.numbers k d lt in omega (arith, below, few)

@@ -36,7 +36,7 @@ module _ (k : Ledger) (low : ℕ) where
 
   -- those before a place were reaped, and those from there on are as they were
   module _ (k' : Ledger) (from : ℕ) (onward : low ≤ from) (later : (f : ℕ) → from ≤ f → frame_at k' f ≡ frame_at k f) where
-    -- no frame is passed that is dying
+    -- where no frame from `from` up to `to` is dying, the dying frames up to `to` are those up to `from`
     pub passed : (to : ℕ) → from ≤ to → NoneOf dying_kind k' from to → dying_from k low (to - low) ≡ dying_from k low (from - low)
     passed to further none =
         let e : to - low ≡ from - low + (to - from) = omega (arith, onward, further) in
@@ -44,7 +44,7 @@ module _ (k : Ledger) (low : ℕ) where
         let there : from ≤ f = omega (arith, onward, ge) in
         ap (λ (x : Note). dying_kind x.kind) (sym (later f there)) ∙ none f there (omega (arith, onward, further, lt)))
 
-    -- the next dying frame comes after those
+    -- where the next dying frame is `to`, the dying frames up to it are those up to `from`, and then it
     pub next_reaped : (to : ℕ) → from ≤ to → NoneOf dying_kind k' from to → dying_kind (frame_at k' to).kind ≡ true
         → dying_from k low (to + 1 - low) ≡ dying_from k low (from - low) ++ to ∷ []
     next_reaped to further none there =

@@ -25,7 +25,7 @@ any_left None none = refl
 
 -- ---------------------------------------------------------------- one page
 
--- no step gives no frame
+-- a keeper that makes no step gives no frame
 pub does_nothing : (k : KeeperView) → Does k k []
 does_nothing k = quiet_does k k [] (made_none k k refl) tt
 
@@ -72,7 +72,7 @@ module _ {p : PagesView} {k : KeeperView} (guest : Option ℕ) {page : GuestPage
               (λ r. cond_both (there r) (left_by guest r) r (λ x. x.page ≡ r.page) (λ _. page_left guest r) (λ _. refl)) lodged);
         }
 
-    -- where no guest is told, the row stays as it is
+    -- a row with a frame of its own is left as it is where all pages are asked for
     pub left_still : is_some guest ≡ false → HasLeft p p k k guest page 0
     left_still none = left_own p (λ t. record p { rows = sym same t })
       where
@@ -80,7 +80,7 @@ module _ {p : PagesView} {k : KeeperView} (guest : Option ℕ) {page : GuestPage
         same = ap (λ f. change_row page f p.rows) (any_left guest none)
             ∙ change_still page (left_by None) p.rows (λ i d lt is. subst (λ r. left_by None r ≡ r) (sym (one i d lt is)) still)
 
-    -- a guest's leaves the scan
+    -- a guest's row with a frame of its own is left once it is let go, and no frame is given for it
     pub left_alone : is_some guest ≡ true → {q : PagesView} → q ≡ record p { rows = change_row page let_go p.rows; restless = q.restless }
         → HasLeft p q k k guest page 0
     left_alone some {q} goes =
@@ -95,9 +95,11 @@ module _ {p : PagesView} {k : KeeperView} (guest : Option ℕ) {page : GuestPage
     now : row_at page m.rows ≡ Some (on_its_own row)
     now = ap (λ (x : PagesView). row_at page x.rows) r.pages ∙ at_changed page on_its_own p.rows row (λ x. refl) told.found
 
+    -- a shared page that was resettled has a row
     pub left_known : IsKnown page m.rows
     left_known = ap is_some now
 
+    -- a shared page that was resettled has a frame of its own
     pub left_lone : IsAlone page m.rows
     left_lone = alone_now m.rows page (on_its_own row) now refl
 
@@ -132,12 +134,12 @@ module _ {p : PagesView} {k : KeeperView} (guest : Option ℕ) {page : GuestPage
           });
         }
 
-    -- and leaves the scan, where it is a guest's
+    -- a shared row of a guest is left once its page was resettled and it is let go, and one frame is given for it
     pub left_guest : is_some guest ≡ true → {q : PagesView} → q ≡ record m { rows = change_row page let_go m.rows; restless = q.restless }
         → HasLeft p q k l guest page 1
     left_guest some {q} goes = left_shared q let_go goes (λ x _ t. sym (guest_left guest some) t x) refl refl refl
 
-    -- or is not unchanged
+    -- where all pages are asked for, a shared row is left once its page was resettled and it is not unchanged
     pub left_any : is_some guest ≡ false → {q : PagesView}
         → q ≡ record m { rows = change_row page (λ x. record x { unchanged = false }) m.rows; restless = q.restless }
         → HasLeft p q k l guest page 1
@@ -154,18 +156,28 @@ each_then (x ∷ xs) ys u v w (between, first, others) more = (between, first, e
 
 -- so many pages of the guest, or of all, got frames of their own; the cursor is behind the last page that was looked at
 pub record IsUnsharing (p q : PagesView) (k l : KeeperView) (guest : Option ℕ) (count : ℕ) (last : Option GuestPage) : Type 0 where
+  -- the rows that were looked at
   pub done : List Row
+  -- the rows still to be looked at
   pub left : List Row
+  -- the rows asked for are changed up to the cursor, as rows that were left
   pub along : IsAlong (of_guest guest) (left_by guest) p.rows q.rows last done left
+  -- nothing changed but the rows, where pages lie and the listing
   pub pages : q ≡ record p { rows = q.rows; frame = q.frame; restless = q.restless }
+  -- the count is that of the shared rows among those looked at
   pub counted : count ≡ length (filter (is_shared_of guest) done)
+  -- the shared rows among those looked at were resettled, one after another
   pub each : ResettlesEach (filter (is_shared_of guest) done) (lying p k) (lying q l)
+  -- a frame was given on the home of each shared row among those looked at
   pub does : Does k l (map (λ r. r.home) (filter (is_shared_of guest) done))
+  -- rows and dups lie lawfully
   pub laid : IsLaid q l
+  -- the count is at most the cursor's position
   pub few : count ≤ position last
+  -- the numbers of the cursor's page fit
   pub fits : FitsPage last
 
--- at first none did
+-- before the first page is looked at no page got a frame
 pub unsharing_first : (p : PagesView) (k : KeeperView) (guest : Option ℕ) → IsLaid p k → IsUnsharing p p k k guest 0 None
 unsharing_first p k guest h = record {
   done = [];
@@ -208,7 +220,7 @@ module _ {p q : PagesView} {k l : KeeperView} {guest : Option ℕ} {count : ℕ}
         let home : held.home ≡ r.home = h.home ∙ ap (λ (x : Row). x.home) (same_Some h.row r (sym h.found ∙ cut.there)) in
         subst (λ (z : ℕ × ℕ). z.0 < z.1) (λ t. (sym home t, (sym u.pages t).shape.nodes)) at
 
-    -- the next page was left
+    -- once the next page was left too, so many pages more got frames of their own, up to that page
     pub unsharing_next : {v : PagesView} {w : KeeperView} {given : ℕ} → HasLeft q v l w guest page given → FitsPage (Some page)
         → IsUnsharing p v k w guest (count + given) (Some page)
     unsharing_next {v} {w} {given} h fits =
@@ -240,7 +252,7 @@ module _ {p q : PagesView} {k l : KeeperView} {guest : Option ℕ} {count : ℕ}
           fits = fits;
         }
 
-    -- no frame was left for the next page
+    -- where no frame was left for the next page, the unsharing stops there, and the shared rows before it are done
     pub unsharing_stop : {v : PagesView} {w : KeeperView} {fault : Fault} → MayNotLeave q v l w page fault
         → Unshares p v k w guest count (Some fault)
     unsharing_stop {v} {w} {fault} h =
@@ -272,7 +284,7 @@ module _ {p q : PagesView} {k l : KeeperView} {guest : Option ℕ} {count : ℕ}
         get_seam [] x ys = refl
         get_seam (y ∷ xs) x ys = get_seam xs x ys
 
-  -- no page was left to look at
+  -- where no page is left to look at, the shared rows of the guest, or of all, are unshared with no stop
   pub unsharing_end : find (is_next guest last) q.rows ≡ None → Unshares p q k l guest count None
   unsharing_end ended =
       let done = along_end (left_by guest) (page_left guest) u.along ended in
@@ -302,14 +314,20 @@ in_scan r = record r { mergeable = true }
 
 -- a guest's pages are mergeable up to the cursor, which is at one of them where there is one
 pub record IsMarking (p q : PagesView) (guest : ℕ) (last : Option GuestPage) : Type 0 where
+  -- the rows that were looked at
   pub done : List Row
+  -- the rows still to be looked at
   pub left : List Row
+  -- the guest's rows are in the scan up to the cursor
   pub along : IsAlong (is_of guest) in_scan p.rows q.rows last done left
+  -- nothing changed but the rows and the listing
   pub pages : q ≡ record p { rows = q.rows; restless = q.restless }
+  -- there is a page at the cursor exactly where a row looked at is the guest's
   pub any : is_some last ≡ list_any (is_of guest) done
+  -- the numbers of the cursor's page fit
   pub fits : FitsPage last
 
--- at first none is
+-- before the first page is looked at no page of the guest is marked
 pub marking_first : (p : PagesView) (guest : ℕ) → IsMarking p p guest None
 marking_first p guest =
     record { done = []; left = p.rows; along = along_first (is_of guest) in_scan p.rows; pages = refl; any = refl; fits = tt }
@@ -321,10 +339,11 @@ module _ {p q : PagesView} {guest : ℕ} {last : Option GuestPage} (u : IsMarkin
     at : IsCut (is_of guest) in_scan p.rows q.rows u.done page
     at = along_cut in_scan (λ _. refl) u.along rise page told
 
+    -- the next page of the guest has a row
     pub marking_known : IsKnown page q.rows
     marking_known = ap is_some at.there
 
-    -- and becomes mergeable
+    -- once the next page of the guest is mergeable too, the guest's pages are so up to that page
     pub marking_next : {v : PagesView} → v ≡ record q { rows = change_row page in_scan q.rows; restless = v.restless }
         → FitsPage (Some page) → IsMarking p v guest (Some page)
     marking_next {v} goes fits =
@@ -339,7 +358,7 @@ module _ {p q : PagesView} {guest : ℕ} {last : Option GuestPage} (u : IsMarkin
           fits = fits;
         }
 
-  -- where there is no next, all are
+  -- where no page of the guest is left, all its rows are mergeable, and there is one exactly if there is a cursor
   pub marking_end : find (is_next (Some guest) last) q.rows ≡ None → (is_some last ≡ list_any (is_of guest) p.rows)
       × (q ≡ record p { rows = change_rows (is_of guest) in_scan p.rows; restless = q.restless })
   marking_end ended =

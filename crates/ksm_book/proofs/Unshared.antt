@@ -47,7 +47,7 @@ abbrev pub IsTold : PagesView → ℕ → Option Held → Type 0
 IsTold p guest told = MatchOption told (find (is_next (Some guest) None) p.rows ≡ None) (λ held. IsHeld p held.spot.page held
     × (option_map (λ r. r.page) (find (is_next (Some guest) None) p.rows) ≡ Some held.spot.page))
 
--- so it has one where one is told
+-- a guest has a row exactly where a first row of the guest is told
 pub has_told : (p : PagesView) (guest : ℕ) (o : Option Held) → IsTold p guest o → list_any (is_of guest) p.rows ≡ is_some o
 has_told p guest o told = any_found (is_of guest) p.rows ∙ (λ i. is_some (find (λ r. sym (and-true (is_of guest r)) i) p.rows)) ∙ by o told
   where
@@ -55,7 +55,7 @@ has_told p guest o told = any_found (is_of guest) p.rows ∙ (λ i. is_some (fin
     by None none = ap is_some none
     by (Some held) found = some_mapped (λ r. r.page) _ ∙ ap is_some found.1
 
--- an unmerging of a guest that has none
+-- `Unmerge` of a guest without a row is refused, and nothing changes
 pub unmerge_refused : (p : PagesView) (k : KeeperView) (cursor : Option GuestPage) (passes guest : ℕ)
     → has_guest (state_of p cursor passes) guest ≡ false
     → CarriedOut (book p k cursor passes) (book p k cursor passes) (Unmerge guest) (Err UnknownPage)
@@ -69,7 +69,7 @@ unmerge_refused p k cursor passes guest has = record {
   shown = tt;
 }
 
--- an unmerging of a guest that has a row
+-- `Unmerge` of a guest that has a row is carried out where its shared rows are unshared up to a stop or the end
 pub unmerge_carried : {p q : PagesView} {k l : KeeperView} (cursor : Option GuestPage) (passes : ℕ) {guest count : ℕ} {stop : Option Fault}
     → Unshares p q k l (Some guest) count stop → has_guest (state_of p cursor passes) guest ≡ true
     → CarriedOut (book p k cursor passes) (book q l cursor passes) (Unmerge guest) (Ok (Unmerged count stop))
@@ -94,6 +94,7 @@ unmerge_carried {p} {q} {k} {l} cursor passes {guest} {count} {stop} u has =
 -- all pages of a guest become mergeable, if it has one
 module _ {p q : PagesView} {k : KeeperView} (cursor : Option GuestPage) (passes guest : ℕ) (h : IsLaid p k)
     (goes : q ≡ record p { rows = change_rows (is_of guest) in_scan p.rows; restless = q.restless }) where
+  -- `Mergeable` of a guest that has a row is carried out where all its rows are put in the scan
   pub mergeable_carried : has_guest (state_of p cursor passes) guest ≡ true
       → CarriedOut (book p k cursor passes) (book q k cursor passes) (Mergeable guest) (Ok Done)
   mergeable_carried has = record {
@@ -106,6 +107,7 @@ module _ {p q : PagesView} {k : KeeperView} (cursor : Option GuestPage) (passes 
     shown = tt;
   }
 
+  -- `Mergeable` of a guest without a row is refused, and nothing changes but perhaps the listing
   pub mergeable_refused : has_guest (state_of p cursor passes) guest ≡ false
       → CarriedOut (book p k cursor passes) (book q k cursor passes) (Mergeable guest) (Err UnknownPage)
   mergeable_refused has =
@@ -122,6 +124,7 @@ module _ {p q : PagesView} {k : KeeperView} (cursor : Option GuestPage) (passes 
         shown = tt;
       }
 
+  -- rows and dups lie lawfully once a guest's rows are in the scan
   pub mergeable_laid : IsLaid q k
   mergeable_laid = subst (λ (x : PagesView). IsLaid x k) (sym goes)
       (laid_mapped p k h (λ r. if is_of guest r then in_scan r else r) q.restless
@@ -176,7 +179,7 @@ module _ {p m : PagesView} {k l : KeeperView} (cursor : Option GuestPage) (passe
   across : knobs.merge_across_nodes ≡ m.knobs.merge_across_nodes
   across = ap (λ (x : Knobs). x.merge_across_nodes) same ∙ sym (ap (λ (x : PagesView). x.knobs.merge_across_nodes) u.pages)
 
-  -- it stopped
+  -- `SetRun` 2 is carried out, and all lies lawfully, where the unsharing of all rows stopped and run is 0 then
   pub unshare_stops : is_some stop ≡ true → {q : PagesView} → q ≡ record m { knobs = record knobs { run = 0 } }
       → CarriedOut (book p k cursor passes) (book q l cursor passes) (SetRun 2) (Ok (Unmerged count stop)) × IsLaid q l
   unshare_stops some {q} goes =
@@ -201,13 +204,13 @@ module _ {p m : PagesView} {k l : KeeperView} (cursor : Option GuestPage) (passe
     went = ap (λ (x : PagesView). x.rows) u.pages ∙ ap (λ o. change_rows (λ r. of_guest None r && is_before o r) (left_by None) p.rows)
         (absent_so u.at (some_mapped (λ r. NoFrame r.home) u.at ∙ ap is_some (sym u.fault) ∙ none))
 
-    -- so no row is merged or Zero
+    -- where the unsharing of all rows did not stop, no row is merged or Zero
     pub unshare_none : All (λ r. shared_state r.state ≡ false) m.rows
     unshare_none = subst (All (λ r. shared_state r.state ≡ false)) (sym went)
         (All-map (λ r. shared_state r.state ≡ false) (left_by None) p.rows (λ i d lt. let r = get_or p.rows i d in
         cond_both (shared_state r.state) (unshared r) r (λ x. shared_state x.state ≡ false) (λ _. refl) (λ alone. alone)))
 
-    -- and all are unshared then
+    -- `SetRun` 2 is carried out, and all lies lawfully, where the unsharing of all rows went through and run is 2 then
     pub unshare_ends : {w q : PagesView} → w ≡ record m { rows = map unshared m.rows; restless = w.restless }
         → q ≡ record w { knobs = record knobs { run = 2 } }
         → CarriedOut (book p k cursor passes) (book q l None passes) (SetRun 2) (Ok (Unmerged count stop)) × IsLaid q l

@@ -5,6 +5,7 @@ use native.Mathlib.Decide.{ℕ_discrete}
 use Rattle.ksm_book.proofs.ByPage.{filter_back}
 use Rattle.ksm_book.proofs.Moves.{served_as}
 
+-- a dup that passes the test for dups elsewhere stands at another place
 pub elsewhere_is : (q : ℕ) (d : DupRow) → elsewhere q d ≡ true → d.place ≢ q
 elsewhere_is q d e same = both_ways (d.place == q) (not-true (d.place == q) e) (eq-eqb d.place q same)
 
@@ -13,6 +14,7 @@ pub elsewhere_so : (q : ℕ) (d : DupRow) → d.place ≢ q → elsewhere q d �
 elsewhere_so q d ne = ap not (ne_eqb d.place q ne)
 
 module _ (sh : Shape) (across : ℕ) (k : Ledger) (rows : List Row) (frame : Frames) (dups : List DupRow) (hand : Option ℕ) (q : ℕ) (inside : q < frames_of sh) where
+  -- what the keeper knows once the place names nothing
   abbrev pub emptied : Ledger
   emptied = record { frames = k.frames; places = set k.places q None }
 
