@@ -3,7 +3,7 @@ use Rattle.std.proofs.Common.{◌≡◌, ℕ, ◌<◌, ◌≤◌, ◌==◌, ◌&
 use Rattle.std.proofs.lemmas.Bool.{and_parts, and_from, lt-ltb, ltb-true, le-leb, leb-true, eqb-true, eq-eqb}
 use Rattle.frame_core.proofs.Names.{PAGE_WORDS, Shape, frames_of, KeeperStep, Reap, Put, Raise, Open, Add, Sub, Publish, Withdraw, Freeze, Word, Kind, Free, Filling, Private, Stable, Dying, Retired, Ledger, Life, is_kind, is_writable, is_readable, is_live, may_step, frame_at, named_at, IsWritable, IsReadable, IsLoose, MayStep}
 
--- the test is met exactly where this is true
+-- a test is met exactly where a statement is true
 abbrev pub Tests : Bool → Type 0 → Type 0
 Tests b P = (b ≡ true → P) × (P → b ≡ true)
 

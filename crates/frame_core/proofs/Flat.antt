@@ -122,7 +122,7 @@ module _ (sh : Shape) (s : State) (rule : Rule sh s) where
       ∙ (flat_get line_of LINE_WORDS 0 words f 0 (λ i below. refl) (omega (arith, below, all_words)) (omega arith)
       ∙ words_get s.ledger.frames s.counts f same_long)))
 
-  -- the content word i of the frame f stands where its page has it
+  -- the content word i of the frame f stands at the place i of that frame's page
   pub content_get : (f i : ℕ) → f < F → i < PAGE_WORDS → get_or (words_of s) (content_at F f i) 0 ≡ get_or (frame_at s.ledger f).content i 0
   content_get f i below inside =
       let n : ℕ = f * PAGE_WORDS + i in
@@ -139,7 +139,7 @@ module _ (sh : Shape) (s : State) (rule : Rule sh s) where
       get_or_append_left places (lines ++ pages_of s.ledger.frames) 0 p (omega (arith, below, places_long))
       ∙ get_or-map place_word s.ledger.places p None 0 (omega (arith, below, rule.place_count))
 
-  -- the word of the frame f becomes that of this note and count, with the same content
+  -- a write of a frame word leaves the words of the state with that life and count, where the content stays
   pub word_set : (f v count : ℕ) (note : Note) → f < F → v ≡ frame_word note.generation count → note.content ≡ (frame_at s.ledger f).content
       → set (words_of s) (frame_word_at F f) v ≡ words_of record { ledger = with_frame s.ledger f note; counts = set s.counts f count; seats = s.seats }
   word_set f v count note below is same =
@@ -153,20 +153,20 @@ module _ (sh : Shape) (s : State) (rule : Rule sh s) where
       ∙ λ i. places ++ ((flat_set line_of LINE_WORDS 0 words f 0 v v (λ i below. refl) (omega (arith, below, all_words)) (omega arith) refl ∙ ap (flat_map line_of) new) i
       ++ (replicate LINE_WORDS 0 ++ others i))))
 
-  -- the word of the frame f becomes that of another note, with the same count and content
+  -- a write of a frame word leaves the words of the state with that life, where count and content stay
   pub note_set : (f v : ℕ) (note : Note) → f < F → v ≡ frame_word note.generation (count_at s f) → note.content ≡ (frame_at s.ledger f).content
       → set (words_of s) (frame_word_at F f) v ≡ words_of record { ledger = with_frame s.ledger f note; counts = s.counts; seats = s.seats }
   note_set f v note below is same = word_set f v (count_at s f) note below is same
       ∙ ap (λ (c : List ℕ). words_of record { ledger = with_frame s.ledger f note; counts = c; seats = s.seats }) (set-get_or s.counts f 0)
 
-  -- the word of the frame f becomes that of another count, in the same life
+  -- a write of a frame word leaves the words of the state with that count, where the life stays
   pub count_set : (f v count : ℕ) → f < F → v ≡ frame_word (frame_at s.ledger f).generation count
       → set (words_of s) (frame_word_at F f) v ≡ words_of (record s { counts = set s.counts f count })
   count_set f v count below is = word_set f v count (frame_at s.ledger f) below is refl
       ∙ ap (λ (n : List Note). words_of record { ledger = record { frames = n; places = s.ledger.places }; counts = set s.counts f count; seats = s.seats })
       (set-get_or s.ledger.frames f blank)
 
-  -- the content word i of the frame f becomes v, and its life stays
+  -- a write of a content word leaves the words of the state with that content, where the life stays
   pub content_set : (f i v : ℕ) (note : Note) → f < F → i < PAGE_WORDS → set (frame_at s.ledger f).content i v ≡ note.content
       → note.generation ≡ (frame_at s.ledger f).generation → set (words_of s) (content_at F f i) v ≡ words_of (record s { ledger = with_frame s.ledger f note })
   content_set f i v note below inside is same =
@@ -191,7 +191,7 @@ module _ (sh : Shape) (s : State) (rule : Rule sh s) where
       sym (set-get_or (words_of s) (frame_word_at F f) 0)
       ∙ note_set f (get_or (words_of s) (frame_word_at F f) 0) note below (word_get f below ∙ ap (λ (g : ℕ). frame_word g (count_at s f)) (sym life)) same
 
-  -- the word of the place p becomes that of this place, with frames known so that have the same words
+  -- a write of a place's word leaves the words of the state with that place, where all frames keep their words
   pub place_set : (p : ℕ) (place : Option Life) (notes : List Note) → p < F → words_of s ≡ words_of (record s { ledger = record s.ledger { frames = notes } })
       → set (words_of s) p (place_word place) ≡ words_of (record s { ledger = record { frames = notes; places = set s.ledger.places p place } })
   place_set p place notes below same =

@@ -13,11 +13,12 @@ use Rattle.frame_core.proofs.Telling.{told_step}
 
 -- ---------------------------------------------------------------- runs
 
+-- a history is sound: its state keeps the rule, and goes together with its trace
 pub record Sound (sh : Shape) (h : History) : Type 0 where
   pub rule : Rule sh h.state
   pub told : Told h.state (tale_of h.trace)
 
--- a step that was made, added to the history before it
+-- a sound history stays sound with a step that was made
 pub sound_more : (sh : Shape) (h : History) (e : Event) (r : ℕ × State) → Sound sh h → step sh h.state e ≡ Some r → Sound sh (history_with h e (Some r))
 sound_more sh h e r sound is = record { rule = step_keeps sh h.state e r is sound.rule; told = told_step sh h.state h.trace e r sound.rule sound.told is }
 
@@ -27,10 +28,12 @@ module _ (sh : Shape) (P : History → Type 0) (more : (h : History) (e : Event)
   added h e None is here = here
   added h e (Some r) is here = more h e r here is
 
+  -- what holds of a history, and is kept by each step that is made, holds after any events
   pub run_all : (h : History) (events : List Event) → P h → P (fold (history_after sh) h events)
   run_all h [] here = here
   run_all h (e ∷ events) here = run_all (history_after sh h e) events (added h e (step sh h.state e) refl here)
 
+-- the first history is sound
 pub first_sound : (sh : Shape) → IsShape sh → Sound sh (first_history sh)
 first_sound sh valid =
     let frame : FrameTold 0 (λ i. 0) (λ g i. None) blank = record {
@@ -49,6 +52,7 @@ first_sound sh valid =
       };
     }
 
+-- the history of any events is sound
 pub run_sound : (sh : Shape) → IsShape sh → (events : List Event) → Sound sh (run_of sh events)
 run_sound sh valid events = run_all sh (Sound sh) (sound_more sh) (first_history sh) events (first_sound sh valid)
 
@@ -58,7 +62,7 @@ run_rule sh valid events = (run_sound sh valid events).rule
 
 -- ---------------------------------------------------------------- a run, one event further
 
--- a step that was made after these events makes of their run this one
+-- a step that is made after some events leads the run of the events and that step to the step's state
 pub run_step : (sh : Shape) (events : List Event) (e : Event) (r : ℕ × State) → step sh (run_of sh events).state e ≡ Some r
     → run_of sh (events ++ e ∷ []) ≡ record { state = r.1; trace = record { event = e; word = r.0 } ∷ (run_of sh events).trace }
 run_step sh events e r is = fold_push (history_after sh) (first_history sh) events e ∙ ap (history_with (run_of sh events) e) is
@@ -87,6 +91,7 @@ allowed sh s e true a is some = (decides sh s.ledger e).0 is
 allowed sh s e false a is some = absurd (some refl)
 
 module _ (sh : Shape) (h : History) (sound : Sound sh h) where
+  -- in a sound history a frame has as many holders as its trace tells as readers on the seats
   pub holders_count : (f : ℕ) → length (holders sh.passes f h.trace) ≡ readers_on f h.state.seats
   holders_count f =
       length-filter (λ seat. is_frame f (held_by seat h.trace)) (range_with_len 0 sh.passes)
@@ -105,6 +110,7 @@ module _ (sh : Shape) (h : History) (sound : Sound sh h) where
       let same : aim.life.generation ≡ life_of aim.life.frame h.trace = rule.1.same ∙ sym (sound.told.frames aim.life.frame).life_is in
       record { named = told.1.loaded_is; frame = told.1.below; same_life = same; not_given = told.1.not_given same; words = told.2 }
 
+  -- a sound history is safe
   pub safe : IsSafe sh h
   safe = record {
     raised = λ f some. let may = allowed sh h.state (Raise f) _ _ refl some in
@@ -132,7 +138,7 @@ was_unheld sh h sound e r is = tt
 abbrev Given : Shape → History → Type 0
 Given sh h = Sound sh h × GivenUnheld sh.passes h.trace
 
--- each frame that was raised or opened in a run had no holder then
+-- each frame that was raised or opened in a run had no holder at that moment
 pub run_given : (sh : Shape) → IsShape sh → (events : List Event) → GivenUnheld sh.passes (run_of sh events).trace
 run_given sh valid events =
     (run_all sh (Given sh) (λ h e r here is. (sound_more sh h e r here.0 is, (was_unheld sh h here.0 e r is, here.1))) (first_history sh) events (first_sound sh valid, tt)).1

@@ -49,6 +49,7 @@ module _ (sh : Shape) (s : State) (rule : Rule sh s) where
       subst (λ (x : Note). LifeRule sh x life) (sym (get_or-set_same k.frames f (shown note) blank (omega (arith, below, rule.frame_count))))
       record { inside = below; first = given.0; past = omega arith; named = λ same. tt }
 
+  -- a step of the keeper that the ledger allows keeps the rule
   pub keeper_keeps : (e : KeeperStep) → MayStep sh k e → Rule sh (after_keeper sh s e (keeper_finds s e))
   keeper_keeps (Reap f) may = reap_cases f (count_in (frame_word_of s f) == 0) may.0 may.1 refl
   keeper_keeps (Put f i w) may = frame_noted sh s rule f (filled i w (frame_at k f)) may.0 (put_kept _ _ _ _ (rule.frames f may.0) i w may.2)
@@ -217,12 +218,13 @@ module _ (sh : Shape) (s : State) (rule : Rule sh s) where
     reads (LoadWord i) (Held aim known) at may = load_word i aim known at (ltb-true i PAGE_WORDS may)
     reads _ _ at may = absurd (cc (may))
 
+  -- a step of a reader that the phase of its seat allows keeps the rule
   pub reader_keeps : (q : ℕ) (e : ReaderStep) → may_read sh e (phase_at s q) ≡ true → Rule sh (after_reader sh s q e (reader_finds s e (phase_at s q)))
   reader_keeps q e may = reads q (seat_there sh e s q may) e (phase_at s q) refl may
 
 -- ---------------------------------------------------------------- any step
 
--- what is true of the step that a test allows, is true of each that was made
+-- what holds of the step that a test allows holds of the step that was made
 pub if_made : {A : Type 0} (b : Bool) (a r : A) (P : A → Type 0) → only_if b a ≡ Some r → (b ≡ true → P a) → P r
 if_made true a r P e h = subst P (same_Some a r e) (h refl)
 if_made false a r P e h = absurd (cc (e))

@@ -6,6 +6,7 @@ use Rattle.atomic_table.specs.Table.{State, Step, step, Allows}
 use Rattle.frame_table.proofs.CoreNames.{Shape, count_in}
 use Rattle.frame_table.proofs.Names.{View, Sat, Holds}
 
+-- what a step tells its seat: of the step, the seat before, the word found and the seat after
 abbrev pub Tells : Type 1
 Tells = Step (Unit {0}) → Sat → ℕ → Sat → Type 0
 
@@ -34,11 +35,11 @@ module _ (then : Tells) (slots id : ℕ) where
 pub turned : (Q : Shape → ℕ → Sat → Type 0) (key sh : Shape) (i j : ℕ) (me at : Sat) → key ≡ sh → i ≡ j → me ≡ at → Q sh j at → Q key i me
 turned Q key sh i j me at e f h q = subst (λ (x : Shape × ℕ × Sat). Q x.0 x.1 x.2) (λ t. (sym e t, sym f t, sym h t)) q
 
--- what is allowed by what the step tells, is allowed by what follows from that
+-- an operation that is allowed with what its step tells is allowed with whatever follows from that
 pub weaker : {holds : State (Unit {0}) View → Type 0} {slots id i : ℕ} {me : Sat} (f : ℕ → ℕ) (P Q : ℕ → Sat → Type 0) → ((n : ℕ) (m : Sat) → P n m → Q n m)
     → Allows holds slots id me i f P → Allows holds slots id me i f Q
 weaker f P Q follows may t h size at small = let r = may t h size at small in (r.0, r.1, r.2, r.3, follows _ _ r.4)
 
--- one less, as the machine takes it, of a frame word with a reference
+-- taking one from a frame word with a reference, modulo 2 ^ 64, leaves the word less 1
 pub one_less_word : (n : ℕ) → 1 ≤ count_in n → n < 18446744073709551616 → (n + 18446744073709551615) % 18446744073709551616 ≡ n - 1
 one_less_word n low small = omega arith

@@ -18,12 +18,12 @@ module _ {A : Type 0} where
   there (y ∷ ys) zero x e = ap Some e
   there (y ∷ ys) (suc i) x e = there ys i x e
 
-  -- what holds of each element, with its number, holds after a write of one of which it holds
+  -- a property of each element at its place is kept by a write of an element that has the property there
   pub each_put : (P : ℕ → A → Type 0) (xs : List A) (i : ℕ) (a : A) → P i a → ((j : ℕ) (b : A) → j ≢ i → get_elem? xs j ≡ some b → P j b)
       → (j : ℕ) (b : A) → get_elem? (set xs i a) j ≡ some b → P j b
   each_put P xs i a here there j b at = ⊎_elim (λ (k : (j ≡ i) × (a ≡ b)). subst (λ (x : ℕ × A). P x.0 x.1) (λ t. (sym k.0 t, k.1 t)) here)
       (λ (k : (j ≢ i) × (get_elem? xs j ≡ some b)). there j b k.0 k.1) (at_set xs i j a b at)
 
--- what is there is what is read with a default
+-- an element that `get_elem?` finds is what is read there with a default
 pub found_at : (xs : List ℕ) (i x : ℕ) → get_elem? xs i ≡ some x → x ≡ get_or xs i 0
 found_at xs i x e = sym (get_or_from_slice_get xs i x 0 (got xs i x e))

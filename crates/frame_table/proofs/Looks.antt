@@ -82,7 +82,7 @@ pub word_names : (w : ℕ) (life : Life) (b : Bool) → eqb w 0 ≡ b → cond b
 word_names w life true is e = absurd (cc (e))
 word_names w life false is e = (eqb-false w 0 is, same_Some (life_at w) life e)
 
--- a lookup that ended with these steps leaves its pass at its table, and its log has them at its end
+-- a lookup that ended with some last steps leaves its pass at the table, with those steps at the log's end
 pub ended : (mine now : TableName) (id : TableId) (m : Sat) (phase : Phase) (log : ReaderLog) (p w : ℕ) (xs : List (ℕ × ℕ)) (last : ReaderLog)
     → id ≡ now.id → mine ≡ now → m ≡ sits now.shape phase ((log ++ lookup_so_far p w xs) ++ last) (order_in m)
     → (◌≡◌ {A = TableName} record { id = id; shape = shape_in m } mine) × (log_in m ≡ log ++ (lookup_so_far p w xs ++ last))

@@ -18,7 +18,7 @@ pub all_set : (sh : Shape) (tally : Tally) (views : List View) (j : ℕ) (v w : 
     → all_views sh tally (set views j w) ≡ set (all_views sh tally views) j w
 all_set sh tally views j v w at = sym (set-append_left views (replicate tally.unmade (Reader sh Idle [] [])) j w (slice_get_within views j v (got views j v at)))
 
--- as many passes are out where a view changes that stays in or out
+-- a change of a view that stays in, or stays out, leaves the number of passes that are out
 pub out_same : (views : List View) (j : ℕ) (v w : View) → get_elem? views j ≡ some v → is_out w ≡ is_out v → count_by is_out (set views j w) ≡ count_by is_out views
 out_same views j v w at same =
     let here = got views j v at in
@@ -55,9 +55,11 @@ module _ (sh : Shape) (t : Moment) (h : Holds sh t) where
   phase_is q v at = get_or_from_slice_get past.state.seats q (phase_of v) spent_phase (seated q v at)
 
   module _ (j : ℕ) (v w : View) (at : get_elem? t.views j ≡ some v) (this : Event) (r : ℕ × core.State) (is : step sh past.state this ≡ Some r) where
+    -- the history so far with the step that the seat has made
     abbrev pub next : History
     next = record { state = r.1; trace = record { event = this; word = r.0 } ∷ past.trace }
 
+    -- the steps so far with the step that the seat has made
     abbrev pub events : List Event
     events = h.events ++ this ∷ []
 

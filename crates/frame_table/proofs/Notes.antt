@@ -7,11 +7,11 @@ use Rattle.frame_core.specs.Ledger.{blank}
 use Rattle.frame_table.specs.declared.keeper.Kept.{Kept}
 use Rattle.frame_table.specs.Notes.{kept_of}
 
--- one that is found
+-- what is kept of the notes has at each frame what is kept of the note there
 pub notes_get : (notes : List Note) (f : ℕ) (d : Kept) → f < length notes → get_or (map kept_of notes) f d ≡ kept_of (get_or notes f blank)
 notes_get notes f d below = get_or-map kept_of notes f blank d below
 
--- all of them, where one is another
+-- what is kept of the notes, once one is another, is a write of what is kept of the new note
 pub notes_set : (notes : List Note) (f : ℕ) (x : Note) → map kept_of (set notes f x) ≡ set (map kept_of notes) f (kept_of x)
 notes_set notes f x = map-set kept_of notes f x
 

@@ -16,6 +16,7 @@ flat_zeros g w (suc n) a zeros =
     let e : w + n * w ≡ suc n * w = omega (arith, suc-mul n w) in
     (λ i. zeros i ++ flat_zeros g w n a zeros i) ∙ (replicate-append-replicate w (n * w) 0 ∙ ap (λ (k : ℕ). replicate k 0) e)
 
+-- a map of n copies is n copies of what the map makes of one
 pub map_replicate : {A B : Type 0} (f : A → B) (n : ℕ) (a : A) → map f (replicate n a) ≡ replicate n (f a)
 map_replicate f zero a = refl
 map_replicate f (suc n) a = ap (λ (xs : List _). f a ∷ xs) (map_replicate f n a)

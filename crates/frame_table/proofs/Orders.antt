@@ -12,9 +12,11 @@ module _ {A : Type 0} where
   pub begins_itself : (xs : List A) → Begins xs xs
   begins_itself xs = ([], sym (append-nil xs))
 
+  -- a beginning of a list is a beginning of that list with more behind it
   pub begins_more : (xs ys zs : List A) → Begins xs ys → Begins xs (ys ++ zs)
   begins_more xs ys zs b = (b.0 ++ zs, ap (λ (l : List A). l ++ zs) b.1 ∙ append_assoc xs b.0 zs)
 
+  -- a beginning of a beginning is a beginning
   pub begins_trans : (xs ys zs : List A) → Begins xs ys → Begins ys zs → Begins xs zs
   begins_trans xs ys zs a b = (a.0 ++ b.0, b.1 ∙ (ap (λ (l : List A). l ++ b.0) a.1 ∙ append_assoc xs a.0 b.0))
 
@@ -26,6 +28,7 @@ module _ {A : Type 0} where
   begins_length : (xs ys : List A) → Begins xs ys → length xs ≤ length ys
   begins_length xs ys b = omega (arith, ap length b.1, length-append xs b.0)
 
+  -- two lists that are beginnings of each other are equal
   pub begins_both : (xs ys : List A) → Begins xs ys → Begins ys xs → ys ≡ xs
   begins_both xs ys a b = begins_whole xs ys a (begins_length ys xs b)
 
@@ -72,7 +75,7 @@ module _ {A : Type 0} (part : History → List A) (grows : (h : History) (e : Ev
   part_grows sh es fs b =
       subst (λ (h : History). Begins (part (run_of sh es)) (part h)) (sym (fold-append (history_after sh) (first_history sh) es b.0) ∙ ap (run_of sh) (sym b.1)) (fold_grows sh b.0 (run_of sh es))
 
-  -- where the beginning of a run tells as much as the run does, so does all between
+  -- where a beginning of a run tells as much as the whole run, so does each longer beginning
   pub between : (sh : Shape) (es fs gs : List Event) → Begins es fs → Begins fs gs → part (run_of sh es) ≡ part (run_of sh gs) → part (run_of sh fs) ≡ part (run_of sh es)
   between sh es fs gs a b same =
       begins_both (part (run_of sh es)) (part (run_of sh fs)) (part_grows sh es fs a)

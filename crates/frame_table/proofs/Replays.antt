@@ -7,7 +7,7 @@ use Rattle.frame_table.proofs.CoreNames.{Shape, Event, State, step, History, fir
 use Rattle.frame_table.specs.Orders.{Begins}
 
 module _ {S : Type 0} (sh : Shape) (mk : S → Event) where
-  -- these steps, one after another, each with the word that it finds
+  -- steps made one after another lead from a state to the last, each with the word that it finds
   abbrev pub Replays : State → List (S × ℕ) → State → Type 0
   Replays s [] last = s ≡ last
   Replays s (x ∷ xs) last = (next : State) × (step sh s (mk x.0) ≡ Some (x.1, next)) × Replays next xs last
@@ -51,7 +51,7 @@ module _ {S : Type 0} (sh : Shape) (mk : S → Event) where
       walk [] h good same = ([], sym (append-nil (own h)), refl)
       walk (x ∷ xs) h good same = walk_with x xs h (step sh h.state x) (walk xs) good refl same
 
-      -- of two runs that go on from a third and tell the same of all others, one by an entry more: its last step was made in the state after the other
+      -- where one run tells one entry more of a seat than another, and else the same, that step follows the other run
       pub last_step : (first es fs : List Event) (x : S × ℕ) → Begins first es → Begins first fs → Good (run_of sh first)
           → Same (run_of sh first) (run_of sh es) → Same (run_of sh first) (run_of sh fs) → own (run_of sh fs) ≡ own (run_of sh es) ++ x ∷ []
           → step sh (run_of sh es).state (mk x.0) ≡ Some (x.1, (run_of sh fs).state)

@@ -60,7 +60,7 @@ module _ (sh : Shape) (t : Moment) (h : Holds sh t) where
             (λ i. (sym h.after.words_are i, sym tied.1 i, sym tied.3 i)) (ledger_is sh past (kept sh t h) (run_safe sh h.shape h.events)),
       )
 
--- the rule of the table says that it runs safely
+-- a table that keeps its rule runs safely
 pub runs_safely : TheTableRunsSafely
 runs_safely sh t h =
     let safe = run_safe sh h.shape h.events in

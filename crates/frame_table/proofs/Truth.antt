@@ -14,7 +14,7 @@ use Rattle.frame_table.proofs.Orders.{begins_shorter, later_is, between, log_gro
 
 -- ---------------------------------------------------------------- the longest order of some views
 
--- the longest order of these views
+-- the longest order of some views
 abbrev pub longest_of : List View → List Event
 longest_of [] = []
 longest_of (v ∷ vs) = later (order_of v) (longest_of vs)

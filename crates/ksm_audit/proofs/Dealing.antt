@@ -10,15 +10,18 @@ use Rattle.ksm_audit.specs.declared.claims.Deal.{Deal}
 use Rattle.ksm_audit.specs.declared.claims.Hand.{Hand}
 use Rattle.ksm_audit.specs.Claims.{total, times, once_below, once_from, first_hand, worker_hand, one_less, both, spent_hand, drew, Fits, IsDealt, Dealt, Draws}
 
+-- a total over hands, where one is replaced, differs by what the two hands count
 pub total_set : (f : Hand → ℕ) (views : List Hand) (i : ℕ) (v w : Hand) → get_elem? views i ≡ some v → total f (set views i w) + f v ≡ total f views + f w
 total_set f [] i v w e = absurd (some-ne-none v (sym e))
 total_set f (x ∷ xs) zero v w e = let s : f x ≡ f v = ap f (some-injective x v e) in omega arith
 total_set f (x ∷ xs) (suc i) v w e = let s = total_set f xs i v w e in omega arith
 
+-- a total with one more hand has what that hand counts more
 pub total_snoc : (f : Hand → ℕ) (views : List Hand) (w : Hand) → total f (views ++ w ∷ []) ≡ total f views + f w
 total_snoc f [] w = omega arith
 total_snoc f (x ∷ xs) w = let s = total_snoc f xs w in omega arith
 
+-- no hand counts more than the total
 pub total_one : (f : Hand → ℕ) (views : List Hand) (i : ℕ) (v : Hand) → get_elem? views i ≡ some v → f v ≤ total f views
 total_one f [] i v e = absurd (some-ne-none v (sym e))
 total_one f (x ∷ xs) zero v e = let s : f x ≡ f v = ap f (some-injective x v e) in omega arith
@@ -93,6 +96,7 @@ read_set : (ws : List ℕ) (n : ℕ) → length ws ≡ 1 → slice_index (slice_
 read_set [] n e = absurd (omega arith)
 read_set (w ∷ ws) n e = refl
 
+-- where all numbers of a deal fit, the claim word at 0 and the first hand alone are dealt
 pub begins : (deal : Deal) → deal.places + (deal.workers + 1) < 2 ^ 64 → IsDealt deal (0 ∷ []) (first_hand deal ∷ [])
 begins deal small = record { size = refl; small = small; parts = omega arith; past = omega arith; each = nothing; fits = one }
   where
@@ -103,7 +107,7 @@ begins deal small = record { size = refl; small = small; parts = omega arith; pa
     one zero v e = subst (Fits deal 0) (some-injective _ v e) record { below = omega arith; few = omega arith; empty = λ none. refl; same = λ some. refl }
     one (suc j) v e = absurd (some-ne-none v (sym e))
 
--- a worker that draws takes the next number, and no other has it
+-- a worker that draws takes the next number, and no other worker has that number
 pub draws : {S : Type 0} (deal : Deal) (slots id : ℕ) (v : Hand) (held : List (ℕ × S)) → v.past < v.parts
     → Allows (Dealt deal) slots id (v, held) 0 (λ n. (n + 1) % 2 ^ 64) (Draws (step slots 0 1 0 mathlib.Core.Option.none) (v, held))
 draws deal slots id v held may s h len at small =

@@ -39,13 +39,14 @@ fills_more ls l before rows h p row e = ⊎_elim
     (h p row t.1))
     (get_set rows l.place p l.row row e)
 
+-- no lines leave the rows as they are
 pub fills_none : (rows : List Row) → Fills [] rows rows
 fills_none rows p row e = inr (refl, e)
 
 not_past : (count x : ℕ) → ((count ≤ x) → ⊥) → x < count
 not_past count x never = omega (arith, never)
 
--- where no lookup is of a place from the count on, each line's place is below
+-- where no lookup is of a place from the count on, the place of each line is below the count
 pub place_below : (count : ℕ) (ls : List Line) (k : ℕ) (d : Line) → AreInside count ls → k < length ls → (get_or ls k d).place < count
 place_below count [] k d inside lt = absurd (omega arith)
 place_below count (l ∷ ls) zero d inside lt = not_past count l.place (λ le. let h = inside l.place le in let one : times l.place (l.place ∷ []) ≡ 1 = subst (λ (b : Bool). (if b then 1 else 0) + 0 ≡ 1) (sym (eq-eqb l.place l.place refl)) refl in omega arith)
@@ -67,7 +68,7 @@ lines_total_append p (x ∷ xs) ys = let h = lines_total_append p xs ys in omega
 abbrev pub AreFilled : List Job → List Row → Type 0
 AreFilled jobs rows = (p : ℕ) (row : Row) → slice_get rows p ≡ Some row → InJobs p row jobs ⊎ (lines_total p jobs ≡ 0)
 
--- rows filled by the jobs so far, and by one more, are filled by them all
+-- rows filled by some jobs, and then by one more, are filled by all of those jobs
 pub filled_more : (js : List Job) (j : Job) (rows after : List Row) → AreFilled js rows → Fills j.lines.items rows after → AreFilled (js ++ j ∷ []) after
 filled_more js j rows after h fills p row e = ⊎_elim
     (λ (is : InLines p row j.lines.items). inl (jobs_last p row js j is))
@@ -77,19 +78,27 @@ filled_more js j rows after h fills p row e = ⊎_elim
     (h p row t.1))
     (fills p row e)
 
+-- the passes of two lists of jobs are those of the second list, then those of the first
 pub loaded_append : (xs ys : List Job) → loaded (xs ++ ys) ≡ loaded ys ++ loaded xs
 loaded_append [] ys = sym (append-nil (loaded ys))
 loaded_append (x ∷ xs) ys = ap (λ (l : List PassView). l ++ option_to_list x.pass) (loaded_append xs ys) ∙ append_assoc (loaded ys) (loaded xs) (option_to_list x.pass)
 
 -- what was gathered of the workers that were taken back, of so many in all
 pub record Gathered (all jobs : List Job) (before now : List PassView) (m : Sat) : Type 0 where
+  -- the workers that were taken back
   pub done : List Job
+  -- all workers are those that are left and those that were taken back
   pub parted : all ≡ jobs ++ done
+  -- the passes are those from before and those of the workers that were taken back
   pub passes : now ≡ before ++ loaded done
+  -- the seat has drawn each number as often as the workers that were taken back
   pub drawn : (x : ℕ) → times x m.0.drawn ≡ drawn_total x done
+  -- no worker that was taken back has gone beyond the seat's next number
   pub below : AllBelow m.0.next done
+  -- the seat holds nothing
   pub held : m.1 ≡ []
 
+-- a seat that drew nothing and holds nothing stands as before the first worker is taken back
 pub gathers_none : (all : List Job) (before : List PassView) (m : Sat) → m.0.drawn ≡ [] → m.1 ≡ [] → Gathered all all before before m
 gathers_none all before m nothing held = record {
   done = [];
@@ -113,6 +122,7 @@ gathers_more all jobs rest j before passes after v m n g is has more joined = re
   held = ap (λ (s : Sat). s.1) joined ∙ g.held;
 }
 
+-- where no worker is left, all workers were taken back
 pub gathered_all : (all jobs : List Job) (before now : List PassView) (m : Sat) (g : Gathered all jobs before now m) → jobs ≡ [] → all ≡ g.done
 gathered_all all jobs before now m g none = g.parted ∙ ap (λ (l : List Job). l ++ g.done) none
 

@@ -11,6 +11,7 @@ use Rattle.ksm_audit.specs.Lookups.{IsLookup, Visits}
 use Rattle.ksm_audit.specs.Working.{Sat, Drew, line, places_of, AreLookups, Made, Keeps, Answers, MayStop}
 use Rattle.ksm_audit.proofs.Dealing.{times_append}
 
+-- a number does not occur in a list of one other number
 pub apart : (x y : ℕ) → y ≢ x → times x (y ∷ []) ≡ 0
 apart x y ne = subst (λ (b : Bool). (if b then 1 else 0) + 0 ≡ 0) (sym (ne_eqb y x ne)) refl
 
@@ -59,7 +60,7 @@ module _ (count : ℕ) (places : List ℕ) (refused : Option ℕ) (m : Sat) (k :
     all = λ none x lt. (let t = times_now x in let o = k.all none x lt in let z = apart x found (λ e. omega arith) in omega arith);
   }
 
-  -- the gate has refused
+  -- `Keeps` becomes true of a worker that drew a number once the gate has refused
   pub keeps_refused : (at : ℕ) → Keeps count places (Some at) w
   keeps_refused at = record {
     held = held_now;
@@ -70,7 +71,7 @@ module _ (count : ℕ) (places : List ℕ) (refused : Option ℕ) (m : Sat) (k :
     all = λ none. absurd (cc none);
   }
 
-  -- the place was looked up
+  -- `Keeps` stays true of a worker that drew a place and looked that place up
   pub keeps_answered : found < count → refused ≡ None → Keeps count (places ++ found ∷ []) None w
   keeps_answered lt no_refusal = record {
     held = held_now;
@@ -81,6 +82,7 @@ module _ (count : ℕ) (places : List ℕ) (refused : Option ℕ) (m : Sat) (k :
     all = λ none x below. (let t = times_now x in let a = times_append x places (found ∷ []) in let o = k.all no_refusal x below in omega arith);
   }
 
+-- one line more adds its place behind the places of the lines
 pub places_more : (lines : List Line) (place : ℕ) (row : Row) → places_of (lines ++ line place row ∷ []) ≡ places_of lines ++ place ∷ []
 places_more [] place row = refl
 places_more (l ∷ ls) place row = ap (λ (ps : List ℕ). l.place ∷ ps) (places_more ls place row)
@@ -90,9 +92,11 @@ lookups_more sh [] place row log here are is = (here, [], ap (λ (l : ReaderLog)
 lookups_more sh (l ∷ ls) place row log here are is =
     (are.0, are.1 ++ here, ap (λ (x : ReaderLog). x ++ here) are.2 ∙ append_assoc are.0 are.1 here, are.3, lookups_more sh ls place row are.1 here are.4 is)
 
+-- a pass that stays as it is made no lookups
 pub made_nothing : (v : PassView) → Made v [] v
 made_nothing v = (refl, ([], sym (append-nil v.log), refl))
 
+-- a pass that made some lookups and then one visit made the lookups with the line of that visit
 pub made_more : (v w x : PassView) (ls : List Line) (place : ℕ) (row : Row) → Made v ls w → Visits w place row x → Made v (ls ++ line place row ∷ []) x
 made_more v w x ls place row made visit =
     let added = made.1.0 in
@@ -110,7 +114,7 @@ module _ (may : ℕ → Type 0) (place : ℕ) (v : PassView) (ls : List Line) (r
   abbrev Looks : Type 0
   Looks = (r ≡ None) × (r' ≡ None) × ((row : Row) × (ls' ≡ ls ++ line place row ∷ []) × Visits v place row w)
 
-  -- `Keeps` stays true of a worker that drew one more place and answered it
+  -- `Keeps` stays true of a worker that drew one more place and answered that place
   pub keeps_on : (count : ℕ) (m n : Sat) → Keeps count (places_of ls) r m → place < count → Drew m place n → Keeps count (places_of ls') r' n
   keeps_on count m n k lt d = ⊎_elim
       (λ (b : Before). subst (λ (x : List Line × Option ℕ). Keeps count (places_of x.0) x.1 n) (λ i. (sym b.2 i, sym (b.0 ∙ b.3.1) i)) (keeps_refused count (places_of ls) r m k place n d b.3.0))

@@ -14,7 +14,7 @@ pub count-append : {X : Type 0} (p : X → Bool) (xs ys : List X) → count_by p
 count-append p xs ys = sum_by-append (λ x. if p x then 1 else 0) xs ys
 
 module _ {X : Type 0} (p : X → Bool) where
-  -- what is found stands in the list and passes
+  -- what holds of each element of a list holds of what a search finds there
   pub find_all : (P : X → Type 0) (xs : List X) (x : X) → find p xs ≡ Some x → All P xs → P x
   find_all P [] x found all = cc
   find_all P (y ∷ ys) x found all =
@@ -48,7 +48,7 @@ module _ {X : Type 0} (p : X → Bool) where
       let rest = find_nothing ys (All-tail (λ x. p x ≡ false) y ys none) in
       grind (arith, here, rest)
 
-  -- what is found is found among those that pass another test, if it does
+  -- what a search finds is found among those that pass another test, where what is found passes that test
   pub find_filter : (q : X → Bool) (xs : List X) (x : X) → find p xs ≡ Some x → q x ≡ true → find p (filter q xs) ≡ Some x
   find_filter q [] x found keeps = cc
   find_filter q (y ∷ ys) x found keeps =
@@ -87,7 +87,7 @@ module _ {X : Type 0} (p : X → Bool) where
       let induction = count_map_le f xs (All-tail (λ y. p (f y) ≡ true → p y ≡ true) x xs less) in
       grind (arith, count_more, here, induction)
 
-  -- a change of some elements counts at most as many more
+  -- a change of those that pass a test raises a count by at most as many as pass
   pub count_change_le : (test : X → Bool) (f : X → X) (xs : List X)
       → count_by p (map (λ x. if test x then f x else x) xs) ≤ count_by p xs + count_by test xs
   count_change_le test f [] = omega arith
@@ -117,7 +117,7 @@ module _ {X : Type 0} (p : X → Bool) where
       let either = count_more (λ y. p y || q y) x xs in
       grind (arith, count_more, either, induction)
 
-  -- an element that passes is counted
+  -- where an element passes, the count is above 0
   pub counts_one : (xs : List X) → All (λ x. p x ≡ true → 0 < count_by p xs) xs
   counts_one [] = λ k d lt. absurd (omega arith)
   counts_one (x ∷ xs) =

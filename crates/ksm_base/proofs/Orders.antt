@@ -38,7 +38,7 @@ pub pairs_cross : {X : Type 0} (R : X → X → Type 0) (xs ys : List X) → All
 pairs_cross R [] ys h = λ k d lt. absurd (omega arith)
 pairs_cross R (x ∷ xs) ys h = All-cons (λ y. All (R y) ys) x xs (all_right (R x) xs ys (pairs_head R x (xs ++ ys) h)) (pairs_cross R xs ys (pairs_tail R x (xs ++ ys) h))
 
--- what no element passes is filtered to nothing
+-- a filter that no element passes leaves nothing
 pub filter_none : {X : Type 0} (p : X → Bool) (xs : List X) → All (λ x. p x ≡ false) xs → filter p xs ≡ []
 filter_none p [] none = refl
 filter_none p (x ∷ xs) none =
@@ -112,7 +112,7 @@ one_of_page page (r ∷ rs) rise =
       | inr other ↦ let rest = one_of_page page rs (pairs_tail Before r rs rise) in grind (arith, more, other, rest)
     ]
 
--- one dup's place is below the other's
+-- one dup's place is below the other's, and their numbers differ
 abbrev pub Lower : DupRow → DupRow → Type 0
 Lower d e = (d.place < e.place) × ((d.number == e.number) ≡ false)
 

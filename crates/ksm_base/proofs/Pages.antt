@@ -36,7 +36,7 @@ one_before p q differ not_before = grind (arith, nat_tests)
 pub same_page_eq : (p q : GuestPage) → same_page p q ≡ true → p ≡ q
 same_page_eq p q same = grind (arith, nat_tests)
 
--- the test for the same page asks for no order
+-- two pages test as the same page in either order
 pub same_page_sym : (p q : GuestPage) → same_page p q ≡ same_page q p
 same_page_sym p q = grind (arith, nat_tests)
 

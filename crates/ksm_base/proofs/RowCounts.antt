@@ -10,7 +10,7 @@ use Rattle.ksm_base.proofs.Pages.{same_page_refl, apart_second, after_differs, n
 use Rattle.ksm_base.proofs.Edits.{find_none, count_more, count-append}
 use Rattle.ksm_base.proofs.Orders.{pairs_tail}
 
--- a change of no row changes nothing
+-- where no row passes the test, a change of those that pass leaves the rows as they are
 pub change_none : (test : Row → Bool) (f : Row → Row) (rows : List Row) → All (λ r. test r ≡ false) rows → change_rows test f rows ≡ rows
 change_none test f [] none = refl
 change_none test f (r ∷ rs) none =
@@ -51,7 +51,7 @@ module _ (p : Row → Bool) where
             rw (behind, before, here) (omega (arith, rest))
       ]
 
-  -- a change by which the row counts as before
+  -- a change of a page's row that counts as before leaves the count as it is
   pub count_change_same : (page : GuestPage) (f : Row → Row) (rows : List Row) (row : Row) → InPageOrder rows → row_at page rows ≡ Some row
       → p (f row) ≡ p row → count_by p (change_row page f rows) ≡ count_by p rows
   count_change_same page f rows row rise found same =
@@ -59,7 +59,7 @@ module _ (p : Row → Bool) where
       let alike : one_if (p (f row)) ≡ one_if (p row) = ap one_if same in
       omega (arith, exact, alike)
 
-  -- a page's row goes
+  -- where a page's row goes, the count is less by what that row counted
   pub count_without_page : (page : GuestPage) (rows : List Row) (row : Row) → InPageOrder rows → row_at page rows ≡ Some row
       → count_by p (without_page page rows) + one_if (p row) ≡ count_by p rows
   count_without_page page [] row rise found = cc
@@ -87,7 +87,7 @@ module _ (p : Row → Bool) where
       let induction = count_filters q s rs (All-tail (λ x. s x ≡ not (q x)) r rs other) in
       grind (arith, count_more, here, induction)
 
-  -- a page that had no row gets one
+  -- where a page that had no row gets one, the count is more by what that row counts
   pub count_with_row : (row : Row) (rows : List Row) → row_at row.page rows ≡ None → count_by p (with_row row rows) ≡ count_by p rows + one_if (p row)
   count_with_row row rows absent =
       let first : Row → Bool = λ r. comes_before r.page row.page in

@@ -48,14 +48,15 @@ left_count rows page row dup f rise found merged single =
     let behind : p (f row) ≡ false = not_an_item dup.number (f row).state single in
     grind (arith, exact, before, behind)
 
--- a stale dup is no row's
+-- no row is merged into a stale dup
 pub stale_has_none : (rows : List Row) (dup : DupRow) → is_stale rows dup ≡ true → All (λ r. merged_into dup.number r.state ≡ false) rows
 stale_has_none rows dup stale = none_counted (λ r. merged_into dup.number r.state) rows (eqb-true (item_count rows dup) 0 stale)
 
+-- a dup is stale exactly where it has no items
 pub stale_or_live : (rows : List Row) (dup : DupRow) → is_stale rows dup ≡ not (has_items rows dup)
 stale_or_live rows dup = grind (arith, nat_tests)
 
--- the partner is the only one
+-- in a sound book the partner of a row is the only row that passes the test for one
 pub only_partner : (b : BookState) (row w : Row) → IsSound b → partner b.knobs b.rows row ≡ Some w
     → All (λ r. waits_for b.knobs row r ≡ true → r ≡ w) b.rows
 only_partner b row w s found k d lt waits =
@@ -72,13 +73,14 @@ only_partner b row w s found k d lt waits =
           absurd (both_ways (waits_for b.knobs w r) (find_none (waits_for b.knobs w) b.rows alone k d lt) both)
     ]
 
--- a knob gets another value only while no dup has items
+-- merge_across_nodes may get another value only while no dup has items
 pub across_unshares : (b : BookState) (v : ℕ) → refusal b (SetAcross v) ≡ None → (v == b.knobs.merge_across_nodes) ≡ false
     → shared_count b.rows b.dups ≡ 0
 across_unshares b v accepted other =
     let second = (refused_none (nat_lt 1 v) BadValue _ accepted).1 in
     none_shared b (v == b.knobs.merge_across_nodes) (refused_none (changes_while_shared b b.knobs.merge_across_nodes v) SharedPages None second).0 other
 
+-- max_page_sharing may get another value only while no dup has items
 pub limit_unshares : (b : BookState) (v : ℕ) → refusal b (SetLimit v) ≡ None → (v == b.knobs.max_page_sharing) ≡ false
     → shared_count b.rows b.dups ≡ 0
 limit_unshares b v accepted other =

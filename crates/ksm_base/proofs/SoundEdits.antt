@@ -86,7 +86,7 @@ sound_rows b rows s h =
       limit = h.limit;
     }
 
--- the cursor, the number of passes and the knobs that neither trees nor dups read may be any in their ranges
+-- a sound book stays sound with any cursor, passes, run, pages_to_scan and use_zero_pages in their ranges
 pub sound_settings : (b : BookState) (run pages_to_scan zero_pages passes : ℕ) (cursor : Option GuestPage) → run ≤ 2 → (1 ≤ pages_to_scan) × (pages_to_scan ≤ 1000000)
     → zero_pages ≤ 1
     → passes < 2 ^ 64 → IsSound b
@@ -116,7 +116,7 @@ sound_settings b run pages_to_scan zero_pages passes cursor run_most pages_range
       limit = s.limit;
     }
 
--- a row after a change by which it became private, or kept its home, bytes and state
+-- a calmer row: of the old row's page, and private, or else with the old row's home, bytes and state
 pub record IsCalmer (old new : Row) : Type 0 where
   pub page : new.page ≡ old.page
   pub state : private_state new.state ≡ false → new.state ≡ old.state
@@ -137,6 +137,7 @@ zero_not_private Waiting is = cc
 zero_not_private (Merged n) is = cc
 zero_not_private Zero is = refl
 
+-- a calmer row waits only as the old row did
 pub calmer_waits : (old new : Row) → IsCalmer old new → WaitsAs old new
 calmer_waits old new c =
     record {
@@ -152,13 +153,13 @@ merged_not_private number Waiting merged = cc
 merged_not_private number (Merged n) merged = refl
 merged_not_private number Zero merged = cc
 
--- the dup of a row is that of a row with its home and bytes
+-- a row with the home and bytes of another has the dup of that other
 pub same_dup : (knobs : Knobs) (dups : List DupRow) (old new : Row) (number : ℕ) (dup : DupRow) → new.home ≡ old.home → new.bytes ≡ old.bytes
     → IsDupOf knobs dups old number dup → IsDupOf knobs dups new number dup
 same_dup knobs dups old new number dup home bytes h =
     record { stands = h.stands; tree = rw home h.tree; bytes = rw bytes h.bytes }
 
--- rows may become private, each with any home and bytes
+-- a sound book stays sound where rows become calmer, each with a home that there is
 pub sound_calmed : (b : BookState) (f : Row → Row) → ((r : Row) → IsCalmer r (f r)) → All (λ r. (f r).home < b.shape.nodes) b.rows → IsSound b → IsSound (record b { rows = map f b.rows })
 sound_calmed b f calmer homes s =
     sound_rows b (map f b.rows) s
@@ -284,7 +285,7 @@ none_merged b s none k d lt number merged =
     let stale = find_all (λ d. d.number == number) (λ d. has_items b.rows d ≡ false) b.dups item.0 item.1.stands (none_counted (has_items b.rows) b.dups none) in
     both_ways (has_items b.rows item.0) stale lives
 
--- where no dup is shared, none has items
+-- where the count of shared dups is 0, no dup has items
 pub no_dup_lives : (b : BookState) → shared_count b.rows b.dups ≡ 0 → filter (has_items b.rows) b.dups ≡ []
 no_dup_lives b none = filter_none (has_items b.rows) b.dups (none_counted (has_items b.rows) b.dups none)
 
@@ -294,11 +295,11 @@ becomes_private old new page is_private =
     let never : private_state new.state ≡ false → ⊥ = λ taken. true≢false (rw is_private at taken) in
     record { page = page; state = λ taken. absurd (never taken); home = λ taken. absurd (never taken); bytes = λ taken. absurd (never taken); mergeable = λ taken _. absurd (never taken) }
 
--- a row that stays as it is waits no more than before
+-- a row that stays as it is counts as calmer
 pub stays_calm : (r : Row) → IsCalmer r r
 stays_calm r = record { page = refl; state = λ _. refl; home = λ _. refl; bytes = λ _. refl; mergeable = λ _ yet. yet }
 
--- the rows that pass a test may become private
+-- a sound book stays sound where the rows that pass a test become calmer, with homes that there are
 pub sound_changed : (b : BookState) (test : Row → Bool) (f : Row → Row) → ((r : Row) → IsCalmer r (f r)) → ((r : Row) → r.home < b.shape.nodes → (f r).home < b.shape.nodes) → IsSound b → IsSound (record b { rows = change_rows test f b.rows })
 sound_changed b test f calmer home s =
     sound_calmed b (λ r. if test r then f r else r) (λ r. cond_both (test r) (f r) r (IsCalmer r) (λ _. calmer r) (λ _. stays_calm r))

@@ -27,7 +27,7 @@ dup_of_item b s k d lt j e lt_e into =
     let same : item.0 ≡ dup = same_Some item.0 dup (sym item.1.stands ∙ each_has_number b.dups s.dups_rise k d lt) in
     subst (λ (x : DupRow). IsDupOf b.knobs b.dups r dup.number x) same item.1
 
--- where each node has trees of its own the tree is the home
+-- where each node has trees of its own, the home of each item is the tree of its dup
 pub home_of_item : (b : BookState) → IsSound b → b.knobs.merge_across_nodes ≡ 0
     → All (λ d. All (λ r. merged_into d.number r.state ≡ true → r.home ≡ d.tree) b.rows) b.dups
 home_of_item b s apart k d lt j e lt_e into =

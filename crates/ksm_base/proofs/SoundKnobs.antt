@@ -25,18 +25,19 @@ use Rattle.ksm_base.specs.Sound.{AreKnobs, IsDupOf, IsSound}
 use Rattle.ksm_base.proofs.SoundEdits.{NoneWaitsTwice, sound_settings, becomes_private, sound_calmed, sound_changed, sound_without_stale, no_dup_lives}
 use Rattle.ksm_base.proofs.SoundScan.{sound_cursor, sound_none_waiting}
 
--- what isn't refused passed each test
+-- what is not refused passed the first test, and is not refused by a later one
 pub refused_none : (test : Bool) (fault : Fault) (later : Option Fault) → refused_if test fault later ≡ None → (test ≡ false) × (later ≡ None)
 refused_none true fault later none = cc
 refused_none false fault later none = (refl, none)
 
+-- a sound book stays sound where run gets a value of at most 2
 pub sound_run : (b : BookState) (v : ℕ) → v ≤ 2 → IsSound b → IsSound (record b { knobs = record b.knobs { run = v } })
 sound_run b v most s = sound_settings b v b.knobs.pages_to_scan b.knobs.use_zero_pages b.passes b.cursor most s.knobs.pages_to_scan s.knobs.use_zero_pages s.passes s
 
 unshared_home : (b : BookState) (r : Row) → r.home < b.shape.nodes → (unshared r).home < b.shape.nodes
 unshared_home b r home = home
 
--- all pages are let go, or those before a stop
+-- a sound book stays sound where all pages are let go, or those before a stop
 pub sound_unshared : (stop : Option Fault) (k : ℕ) (b : BookState) → IsSound b → IsSound (unshare_stopped stop k b)
 sound_unshared None k b s =
     let let_go = sound_calmed b unshared (λ r. becomes_private r (unshared r) refl refl) s.homes s in
@@ -94,7 +95,7 @@ sound_reset b knobs are_knobs empty alone s =
       limit = rw empty (λ k d lt. absurd (omega arith));
     }
 
--- where the value is another one, no dup has items
+-- where a knob may get another value than it has, no dup has items
 pub none_shared : (b : BookState) (same : Bool) → (not same && nat_lt 0 (shared_count b.rows b.dups)) ≡ false → same ≡ false
     → shared_count b.rows b.dups ≡ 0
 none_shared b same accepted other =

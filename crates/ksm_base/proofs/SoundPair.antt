@@ -21,9 +21,10 @@ use Rattle.ksm_base.proofs.SoundVisit.{IsVisited, all_changed, waiting_changed, 
 
 -- where a new dup stands: a place at which no dup has items
 pub record IsFree (b : BookState) (place : ℕ) : Type 0 where
+  -- no dup with items stands at the place
   pub apart : All (λ d. has_items b.rows d ≡ true → (d.place == place) ≡ false) b.dups
 
--- no dup has the least empty place
+-- the least empty place from a place on is not below that place
 pub empty_from_le : (p : ℕ) (dups : List DupRow) → p ≤ empty_from p dups
 empty_from_le p [] = omega arith
 empty_from_le p (d ∷ ds) =
@@ -121,7 +122,7 @@ pub record IsPair (b : BookState) (w row : Row) : Type 0 where
   pub tree : tree_of b.knobs w ≡ tree_of b.knobs row
   pub bytes : w.bytes ≡ row.bytes
 
--- what it says of a row that another waits for it
+-- one row waits for another: it is of another page, and has the tree and bytes of the other
 pub record WaitsFor (knobs : Knobs) (row w : Row) : Type 0 where
   pub state : waiting_state w.state ≡ true
   pub other : same_page w.page row.page ≡ false
@@ -150,7 +151,7 @@ tells_waits knobs row w h =
     (eq-eqb (tree_of knobs w) (tree_of knobs row) h.tree))
     ((bytes_eq-Decides w.bytes row.bytes).1 h.bytes)
 
--- the partner of a visited row may be merged with it
+-- the partner of a visited row is a pair with that row
 pub partner_pairs : (b : BookState) (w row : Row) → IsSound b → IsVisited b row → partner b.knobs b.rows row ≡ Some w → IsPair b w row
 partner_pairs b w row s visited found =
     let p = waits_for b.knobs row in
@@ -176,7 +177,7 @@ each_of_pair P b w row pair of_w of_row k d lt either =
       | inr same ↦ subst P (sym (pair.visited.once k d lt same)) of_row
     ]
 
--- the book is sound once a new dup is made of the two pages
+-- a sound book stays sound where a new dup is made of a pair at a free place
 pub sound_made : (b : BookState) (w row : Row) (place : ℕ) → IsPair b w row → IsFree b place → IsSound b → IsSound (made_dup place b w row)
 sound_made b w row place pair free s =
     let test : Row → Bool = λ r. same_page r.page w.page || same_page r.page row.page in

@@ -23,6 +23,7 @@ use Rattle.ksm_base.proofs.SoundPair.{new_place_free, partner_pairs, sound_made}
 pub sound_cursor : (b : BookState) (cursor : Option GuestPage) → IsSound b → IsSound (record b { cursor = cursor })
 sound_cursor b cursor s = sound_settings b b.knobs.run b.knobs.pages_to_scan b.knobs.use_zero_pages b.passes cursor s.knobs.run s.knobs.pages_to_scan s.knobs.use_zero_pages s.passes s
 
+-- a sound book stays sound where a pass ends
 pub sound_pass_ended : (b : BookState) → IsSound b → IsSound (pass_ended b)
 sound_pass_ended b s = sound_settings b b.knobs.run b.knobs.pages_to_scan b.knobs.use_zero_pages _ None s.knobs.run s.knobs.pages_to_scan s.knobs.use_zero_pages (omega arith) s
 
@@ -32,6 +33,7 @@ settled_keeps Waiting taken = cc
 settled_keeps (Merged number) taken = refl
 settled_keeps Zero taken = refl
 
+-- a settled row is calmer than it was
 pub settled_calmer : (r : Row) → IsCalmer r (settled r)
 settled_calmer r = record { page = refl; state = settled_keeps r.state; home = λ _. refl; bytes = λ _. refl; mergeable = λ _ yet. yet }
 
@@ -39,12 +41,14 @@ settled_calmer r = record { page = refl; state = settled_keeps r.state; home = �
 pub sound_none_waiting : (b : BookState) → IsSound b → IsSound (with_none_waiting b)
 sound_none_waiting b s = sound_calmed b settled settled_calmer s.homes s
 
+-- a sound book stays sound where its pass ends as no mergeable page comes after the cursor
 pub sound_ended_at_last : (b : BookState) → IsSound b → IsSound (pass_ended_at_last b)
 sound_ended_at_last b s = cond_both _ (pass_ended b) b IsSound (λ _. sound_pass_ended b s) (λ _. s)
 
 sound_begun : (b : BookState) → IsSound b → IsSound (pass_begun b)
 sound_begun b s = cond_both _ (with_none_waiting b) b IsSound (λ _. sound_none_waiting b s) (λ _. s)
 
+-- a sound book stays sound where a visit begins
 pub sound_visit_begun : (b : BookState) → IsSound b → IsSound (visit_begun b)
 sound_visit_begun b s = sound_begun (pass_ended_at_last b) (sound_ended_at_last b s)
 
@@ -84,6 +88,7 @@ module _ (b : BookState) (row : Row) (visited : IsVisited b row) (s : IsSound b)
   sound_row_visited =
       cond_both (shared_state row.state) b (handled (best_dup b.knobs b.rows b.dups row) b row) IsSound (λ _. s) (λ _. sound_handled (best_dup b.knobs b.rows b.dups row) refl)
 
+-- a sound book stays sound after a visit of the row that comes next, if there is one
 pub sound_visit_of : (b : BookState) (row : Option Row) → next_row b.cursor b.rows ≡ row → IsSound b → IsSound (visit_of b row)
 sound_visit_of b None found s = s
 sound_visit_of b (Some row) found s =

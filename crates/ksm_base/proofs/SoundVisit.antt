@@ -19,7 +19,7 @@ use Rattle.ksm_base.proofs.Orders.{ordered_change, one_of_page, each_has_number}
 use Rattle.ksm_base.proofs.Pages.{same_page_sym}
 use Rattle.ksm_base.proofs.SoundEdits.{sound_rows, WaitsAs, waiting_map}
 
--- what holds of the rows changed and of the others holds after a change
+-- what holds of each row that a change makes, and of each row left alone, holds of all rows after the change
 pub all_changed : (P : Row → Type 0) (test : Row → Bool) (f : Row → Row) (rows : List Row) → All (λ r. test r ≡ true → P (f r)) rows
     → All (λ r. test r ≡ false → P r) rows → All P (change_rows test f rows)
 all_changed P test f rows changed others =
@@ -37,19 +37,19 @@ waiting_changed knobs test f rows like alone =
 pub merged_waits : (number : ℕ) (r : Row) → WaitsAs r (record r { state = Merged number })
 merged_waits number r = record { page = refl; state = λ waits. absurd (false≢true waits); home = λ _. refl; bytes = λ _. refl }
 
--- a mergeable row of the book
+-- a row is mergeable, and is the only row of its page in the book
 pub record IsVisited (b : BookState) (row : Row) : Type 0 where
   pub mergeable : row.mergeable ≡ true
   pub once : All (λ r. same_page r.page row.page ≡ true → r ≡ row) b.rows
 
--- what a dup is that a row may join
+-- a row may join a dup: the dup stands, has the row's tree and bytes, and has room
 pub record IsJoined (b : BookState) (row : Row) (dup : DupRow) : Type 0 where
   pub stands : dup_numbered dup.number b.dups ≡ Some dup
   pub tree : dup.tree ≡ tree_of b.knobs row
   pub bytes : dup.bytes ≡ row.bytes
   pub room : item_count b.rows dup < b.knobs.max_page_sharing
 
--- the dup that is found has room
+-- the best dup of a row in a sound book is one that the row may join
 pub best_dup_has_room : (b : BookState) (row : Row) (dup : DupRow) → IsSound b → best_dup b.knobs b.rows b.dups row ≡ Some dup → IsJoined b row dup
 best_dup_has_room b row dup s found =
     let best = find_passes (is_best b.knobs b.rows b.dups row) b.dups dup found in

@@ -77,7 +77,7 @@ state_once Waiting mergeable h = rw (h refl) refl
 state_once (Merged number) mergeable h = rw (h refl) refl
 state_once Zero mergeable h = rw (h refl) refl
 
--- the rows by their states, where only mergeable rows wait, are merged or are Zero
+-- rows by states add up to the mergeable rows, where only mergeable rows wait, are merged or are Zero
 pub states-add : (rows : List Row) → All (λ r. private_state r.state ≡ false → r.mergeable ≡ true) rows
     → merged_count rows + count_by (λ r. waiting_state r.state) rows + count_by (λ r. r.mergeable && private_state r.state) rows
     + count_by (λ r. zero_state r.state) rows ≡ count_by (λ r. r.mergeable) rows

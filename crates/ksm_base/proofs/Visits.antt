@@ -37,6 +37,7 @@ some_changed : (test : Row → Bool) (f : Row → Row) → ((r : Row) → IsSame
 some_changed test f keeps rows =
     record { change = λ r. if test r then f r else r; keeps = λ r. cond_both (test r) (f r) r (IsSameBut r) (λ _. keeps r) (λ _. same_but r r.unchanged r.state); rows = refl }
 
+-- rows that are changed one by one twice are changed one by one
 pub and_then : (first second third : List Row) → IsRowwise first second → IsRowwise second third → IsRowwise first third
 and_then first second third f g =
     record {
@@ -111,7 +112,7 @@ rowwise_begun b = comes_begun b.rows b (none_changed b.rows)
 pub rowwise_visits : (n : ℕ) (b : BookState) → IsRowwise b.rows (visits n b).rows
 rowwise_visits n b = comes_visits b.rows n b (none_changed b.rows)
 
--- what holds of each row and is kept by a change of state and flag holds after it
+-- what holds of each row, and is kept by a change of state and flag, holds of each row after such changes
 pub rowwise_all : (P : Row → Type 0) → ((r s : Row) → IsSameBut r s → P r → P s) → (old new : List Row) → IsRowwise old new → All P old → All P new
 rowwise_all P keeps old new h all =
     rw h.rows (All-map P h.change old (λ k d lt. keeps (get_or old k d) (h.change (get_or old k d)) (h.keeps (get_or old k d)) (all k d lt)))

@@ -32,6 +32,7 @@ MayEnd [] = Unit {0}
 MayEnd (Number Visits ∷ parts) = Unit {0}
 MayEnd (part ∷ parts) = ⊥
 
+-- each word may stand for its part, and the words end where the parts may
 abbrev pub AllStand : List Part → List (List ℕ) → Type 0
 AllStand parts [] = MayEnd parts
 AllStand [] (word ∷ words) = ⊥

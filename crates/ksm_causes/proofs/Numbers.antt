@@ -15,19 +15,20 @@ use Rattle.ksm_causes.specs.declared.part.Number.{Number}
 use Rattle.ksm_causes.specs.declared.part.Number.TheVariants.{Guest, Page, Node, Place, Pass, Visits, Value}
 use Rattle.ksm_causes.specs.Troubles.{are_digits, is_signed, has_leading_zero, most, number_cause}
 
--- a cause under a test, before others
+-- where a cause under a test, or else a later one, is none, the test failed and the later one is none
 pub untested : (b : Bool) (cause : Cause) (later : Option Cause) → (let none : Option Cause = None in cond b (Some cause) later ≡ none) → (b ≡ false) × (later ≡ None)
 untested true cause later e = absurd cc
 untested false cause later e = (refl, e)
 
 -- ---- no byte fails a test
 
+-- where each byte that passes one test passes another, a text that passes the first has no byte that fails the other
 pub passes_all : (p q : ℕ → Bool) → ((byte : ℕ) → p byte ≡ true → q byte ≡ true) → (word : List ℕ) (i : ℕ) → list_all p word ≡ true
     → position_from (λ byte. not (q byte)) i word ≡ None
 passes_all p q h [] i e = refl
 passes_all p q h (x ∷ xs) i e = rw (h x (first_true (p x) _ e)) (passes_all p q h xs (i + 1) (second_true (p x) _ e))
 
--- where each byte passes one test, and with it another, none is found that fails the other
+-- where each byte that passes one test passes another, and all pass the first, no byte fails the other
 pub no_byte_fails : (p q : ℕ → Bool) → ((byte : ℕ) → p byte ≡ true → q byte ≡ true) → (word : List ℕ) → list_all p word ≡ true
     → position (λ byte. not (q byte)) word ≡ None
 no_byte_fails p q h word e = position_from-zero (λ byte. not (q byte)) word ∙ passes_all p q h word 0 e
@@ -40,7 +41,7 @@ all_pass q (x ∷ xs) i e =
       | false ↦ λ h. absurd cc
     ] e
 
--- where no byte is found that fails a test, each passes it
+-- where no byte is found that fails a test, each byte passes the test
 pub each_passes : (q : ℕ → Bool) (word : List ℕ) → position (λ byte. not (q byte)) word ≡ None → list_all q word ≡ true
 each_passes q word e = all_pass q word 0 (sym (position_from-zero (λ byte. not (q byte)) word) ∙ e)
 
@@ -49,7 +50,7 @@ each_passes q word e = all_pass q word 0 (sym (position_from-zero (λ byte. not 
 in_range : (low high byte : ℕ) → is_in_range low high byte ≡ true → (low ≤ byte) × (byte ≤ high)
 in_range low high byte e = (leb-true _ _ (first_true _ _ e), leb-true _ _ (second_true _ _ e))
 
--- a byte of a range of printable characters
+-- a byte of a range of printable characters is printable
 pub range_graphic : (low high byte : ℕ) → 33 ≤ low → high ≤ 126 → is_in_range low high byte ≡ true → is_ascii_graphic byte ≡ true
 range_graphic low high byte above below e =
     let within = in_range low high byte e in
@@ -57,7 +58,7 @@ range_graphic low high byte above below e =
     let under : byte ≤ 126 = omega (arith, within.1) in
     rw (le-leb _ _ over, le-leb _ _ under) refl
 
--- a digit is a byte that a line may have
+-- a digit is printable
 pub digit_graphic : (byte : ℕ) → is_ascii_digit byte ≡ true → is_ascii_graphic byte ≡ true
 digit_graphic byte e = range_graphic 48 57 byte (omega arith) (omega arith) e
 

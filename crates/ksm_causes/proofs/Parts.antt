@@ -6,13 +6,13 @@ use Rattle.ksm_causes.specs.declared.cause.Trouble.{Trouble}
 use Rattle.ksm_causes.specs.declared.part.Part.{Part}
 use Rattle.ksm_causes.specs.Troubles.{word_trouble, parts_trouble, missing_trouble}
 
--- a word that has bytes
+-- the trouble of a word that has bytes is the word's own, or else that of the words behind the word
 pub with_word : (end : ℕ) (part : Part) (parts : List Part) (word : List ℕ) (words : List (List ℕ)) → false ≡ (length word == 0)
     → parts_trouble end (part ∷ parts) (word ∷ words) ≡ option_or (word_trouble part (end + 1) word) (parts_trouble (end + 1 + length word) parts words)
 with_word end part parts [] words h = absurd cc
 with_word end part parts (byte ∷ bytes) words h = refl
 
--- the parts from one on
+-- the parts from one on are that part and the parts behind
 pub from_part : (parts : List Part) (i : ℕ) (d : Part) → i < length parts → drop i parts ≡ get_or parts i d ∷ drop (i + 1) parts
 from_part parts i d lt = let next : suc i ≡ i + 1 = omega arith in subst (λ j. drop i parts ≡ get_or parts i d ∷ drop j parts) next (drop-cons parts i d lt)
 

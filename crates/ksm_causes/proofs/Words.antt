@@ -30,32 +30,36 @@ MayStand Content word = (page : List ℕ) × (content_of word ≡ Some page)
 MayStand Knob word = (knob : knobs.Knob) × (word ≡ knob_name knob)
 MayStand Shown word = (shown : showns.Shown) × (word ≡ shown_name shown)
 
--- no trouble
+-- there is no trouble
 abbrev pub IsNone : Option Trouble → Type 0
 IsNone trouble = let none : Option Trouble = None in trouble ≡ none
 
+-- where a word has no cause, there is no trouble at its column
 pub mapped_none : (column : ℕ) (cause : Option Cause) → cause ≡ None → IsNone (option_map (at column) cause)
 mapped_none column cause e = ap (option_map (at column)) e
 
+-- where there is no trouble at a column, the word there has no cause
 pub none_mapped : (column : ℕ) (cause : Option Cause) → IsNone (option_map (at column) cause) → cause ≡ None
 none_mapped column None e = refl
 none_mapped column (Some cause) e = absurd cc
 
--- where neither of two places tells a trouble, there is none in both
+-- where neither of two places tells a trouble, each of the two has none
 pub none_or : (a b : Option Trouble) → IsNone (option_or a b) → IsNone a × IsNone b
 none_or None b e = (refl, e)
 none_or (Some trouble) b e = absurd cc
 
--- no trouble in both is none in either
+-- where each of two places has no trouble, neither tells one
 pub both_none : (a b : Option Trouble) → IsNone a → IsNone b → IsNone (option_or a b)
 both_none a b e f = ap (λ t. option_or t b) e ∙ f
 
 -- ---- bytes
 
+-- where no byte of a word fails a test, its bytes make no trouble
 pub bytes_stand : (stands : ℕ → Bool) (cause : ℕ → Cause) (column : ℕ) (word : List ℕ) → position (λ byte. not (stands byte)) word ≡ None
     → IsNone (byte_trouble stands cause column word)
 bytes_stand stands cause column word e = ap (option_map _) e
 
+-- where the bytes of a word make no trouble, each byte passes the test
 pub each_stands : (stands : ℕ → Bool) (cause : ℕ → Cause) (column : ℕ) (word : List ℕ) → IsNone (byte_trouble stands cause column word)
     → list_all stands word ≡ true
 each_stands stands cause column word e = each_passes stands word (unmapped (position (λ byte. not (stands byte)) word) e)

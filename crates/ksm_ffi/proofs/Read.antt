@@ -6,7 +6,7 @@ use Rattle.frame_table.specs.Named.{HeldView}
 use Rattle.frame_table.specs.Lookup.{ReadsWord}
 use Rattle.frame_table.specs.Equal.{IsRead}
 
--- the words read so far stay read as one more is, and are kept as it is put beside them
+-- the words of a page read and kept so far stay so as one more word is read and kept
 pub one_more_read : (words : List ℕ) (w x : HeldView) (i word : ℕ) → i < length words → ReadsWord w i word x → ((k : ℕ) → k < i → IsRead w k (get_or words k 0)) → (k : ℕ) → k < i + 1 → IsRead x k (get_or (set words i word) k 0)
 one_more_read words w x i word room r before k below = dite (ℕ_discrete k i)
     (λ here. subst (λ (j : ℕ). IsRead x j (get_or (set words i word) j 0)) (sym here) (r.2 ∙ ap Some (sym (get_or-set_same words i word 0 room))))

@@ -65,7 +65,7 @@ all_told false false z y x a tells = refl
 told_beside : (b d : Bool) (z : Entry) (y x : Command) (a : Answer) → b ≡ false → d ≡ true → ◌≡◌ {A = Entry} (if b then z else (if d then y else x, a)) (y, a)
 told_beside b d z y x a off is = (λ i. if off i then z else (if is i then y else x, a))
 
--- an entry is added that its codes tell all of
+-- two codes that tell all of an entry, put behind the others, add that entry
 pub adds_short : (ps : List StoredPage) (ws : List Entry) (cs cs' : List CommandCode) (ts ts' : List AnswerCode) (c : CommandCode) (t : AnswerCode) (command : Command) (answer : Answer) (es : List Entry)
     → length ts ≡ length cs → entries_of ps ws cs ts ≡ es → cs' ≡ cs ++ c ∷ [] → ts' ≡ ts ++ t ∷ []
     → tells_all c.kind ≡ true → command_of c.kind c ≡ command → answer_of t c.number ≡ answer → entries_of ps ws cs' ts' ≡ es ++ (command, answer) ∷ []
@@ -75,7 +75,7 @@ adds_short ps ws cs cs' ts ts' c t command answer es same view pushed told tells
     ∙ (λ i. view i ++ all_told (is_whole c.kind) (is_beside c.kind) (get_or ws c.number no_entry) (command_beside c.kind c (get_or ps c.number no_page)) (command_of c.kind c) (answer_of t c.number) tells i ∷ [])
     ∙ (λ i. es ++ (is i, answered i) ∷ [])
 
--- an entry is added whose page stands in a row of the pages
+-- two codes put behind the others, with the page of their entry behind the pages, add that entry
 pub adds_beside : (ps ps' : List StoredPage) (ws : List Entry) (cs cs' : List CommandCode) (ts ts' : List AnswerCode) (c : CommandCode) (t : AnswerCode) (p : StoredPage) (command : Command) (answer : Answer) (es : List Entry)
     → length ts ≡ length cs → AreInside (length ps) (length ws) cs → entries_of ps ws cs ts ≡ es → ps' ≡ ps ++ p ∷ [] → cs' ≡ cs ++ c ∷ [] → ts' ≡ ts ++ t ∷ []
     → c.number ≡ length ps → is_whole c.kind ≡ false → is_beside c.kind ≡ true → command_beside c.kind c p ≡ command → answer_of t c.number ≡ answer
@@ -90,7 +90,7 @@ adds_beside ps ps' ws cs cs' ts ts' c t p command answer es same all view paged 
     ∙ (λ i. es ++ (command_beside c.kind c (read i), answer_of t c.number) ∷ [])
     ∙ (λ i. es ++ (is i, answered i) ∷ [])
 
--- an entry is added that is kept as a whole
+-- two codes put behind the others, with their entry behind the entries kept whole, add that entry
 pub adds_whole : (ps : List StoredPage) (ws ws' : List Entry) (cs cs' : List CommandCode) (ts ts' : List AnswerCode) (c : CommandCode) (t : AnswerCode) (e : Entry) (es : List Entry)
     → length ts ≡ length cs → AreInside (length ps) (length ws) cs → entries_of ps ws cs ts ≡ es → ws' ≡ ws ++ e ∷ [] → cs' ≡ cs ++ c ∷ [] → ts' ≡ ts ++ t ∷ []
     → c.number ≡ length ws → is_whole c.kind ≡ true → entries_of ps ws' cs' ts' ≡ es ++ e ∷ []
@@ -113,7 +113,7 @@ told_inside true d p w n tells = absurd (true≢false (sym tells))
 told_inside false true p w n tells = absurd (true≢false (sym tells))
 told_inside false false p w n tells = tt
 
--- numbers of pages and of whole entries stay in range behind a code that needs neither
+-- numbers of pages and of whole entries stay in range behind a code that needs neither of them
 pub inside_short : (p w : ℕ) (cs cs' : List CommandCode) (c : CommandCode) → AreInside p w cs → cs' ≡ cs ++ c ∷ [] → tells_all c.kind ≡ true → AreInside p w cs'
 inside_short p w cs cs' c all pushed tells =
     subst (AreInside p w) (sym pushed) (All-append (λ c. IsInside p w c.kind c.number) cs (c ∷ []) all (one_inside p w c (told_inside (is_whole c.kind) (is_beside c.kind) p w c.number tells)))
@@ -122,7 +122,7 @@ inside_short p w cs cs' c all pushed tells =
     one_inside p w c is zero d lt = is
     one_inside p w c is (suc k) d lt = absurd (omega arith)
 
--- numbers stay in range behind a code whose page lies beside it
+-- numbers of pages and of whole entries stay in range behind a code whose page was put behind the pages
 pub inside_beside : (p p' w : ℕ) (cs cs' : List CommandCode) (c : CommandCode) → AreInside p w cs → cs' ≡ cs ++ c ∷ [] → p' ≡ suc p → c.number ≡ p → is_whole c.kind ≡ false → is_beside c.kind ≡ true
     → AreInside p' w cs'
 inside_beside p p' w cs cs' c all pushed more row off beside =

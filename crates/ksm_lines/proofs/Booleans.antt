@@ -1,15 +1,16 @@
 -- What tests say of their parts.
 use Rattle.std.proofs.Common.{◌≡◌, Bool, true, false, ◌&&◌, cond, Option, Some, None, refl}
 
--- a value under a test
+-- a value where a test passes, and none where the test fails
 abbrev pub chosen : {A : Type 0} → Bool → A → Option A
 chosen b n = cond b (Some n) None
 
--- a choice that gives a value was made, and of that value
+-- where a choice gives a value, the test passed and the value is the one under the test
 pub is_chosen : {A : Type 0} (b : Bool) (n i : A) → chosen b n ≡ Some i → (b ≡ true) × (i ≡ n)
 is_chosen true n i e = (refl, cc)
 is_chosen false n i e = absurd cc
 
+-- where a choice gives no value, the test failed
 pub not_chosen : {A : Type 0} (b : Bool) (n : A) → chosen b n ≡ None → b ≡ false
 not_chosen true n e = absurd cc
 not_chosen false n e = refl

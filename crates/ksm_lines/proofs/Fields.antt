@@ -30,12 +30,16 @@ shown_known (OfKnob MaxPageSharing) = refl
 shown_known (OfKnob UseZeroPages) = refl
 shown_known ZeroPages = refl
 
--- the first word of a written line, and the others
+-- a reading of the words of a line takes a value, and leaves the words of the other parts
 pub record Taken {A : Type 0} (read : List (List ℕ) → Option (A × List (List ℕ))) (value : A) (parts : List Part) (words : List (List ℕ)) : Type 0 where
+  -- the words that are left
   pub rest : List (List ℕ)
+  -- the reading gives the value and the words that are left
   pub is : read words ≡ Some (value, rest)
+  -- the words that are left write the other parts
   pub others : AreWritten parts rest
 
+-- where the first word writes a guest, reading takes that guest and leaves the words of the other parts
 pub guest_again : (n : ℕ) (parts : List Part) (words : List (List ℕ)) → AreWritten (guest n ∷ parts) words → Taken (field guest_of) n parts words
 guest_again n parts [] h = absurd h
 guest_again n parts (w ∷ ws) h = record { rest = ws; is = rw (h.0.1, number_again (2 ^ 16) n (omega arith) h.0.0) refl; others = h.1 }
@@ -50,6 +54,7 @@ pub knob_again : (knob : Knob) (parts : List Part) (words : List (List ℕ)) →
 knob_again knob parts [] h = absurd h
 knob_again knob parts (w ∷ ws) h = record { rest = ws; is = rw (h.0, knob_known knob) refl; others = h.1 }
 
+-- where the first word names what is shown, reading takes what it names and leaves the other words
 pub shown_again : (shown : Shown) (parts : List Part) (words : List (List ℕ)) → AreWritten (name (shown_name shown) ∷ parts) words → Taken (field shown_of) shown parts words
 shown_again shown parts [] h = absurd h
 shown_again shown parts (w ∷ ws) h = record { rest = ws; is = rw (h.0, shown_known shown) refl; others = h.1 }
@@ -71,7 +76,7 @@ pub no_words : (words : List (List ℕ)) → AreWritten [] words → words ≡ [
 no_words [] h = refl
 no_words (w ∷ ws) h = absurd h
 
--- the last word of a written line
+-- a word alone that writes a number is read as that number
 pub number_alone_again : (n : ℕ) (words : List (List ℕ)) → AreWritten (number n ∷ []) words → alone number_of words ≡ Some n
 number_alone_again n words h = let f = number_again_field n [] words h in rw (f.is, ended_again f.rest f.others) refl
 
@@ -112,10 +117,13 @@ some_is x y e = cc
 pub none_some : {A : Type 0} (x : A) → None ≡ Some x → ⊥
 none_some x e = absurd cc
 
--- a field that was read, by the word that it was read from
+-- a field that was read, with the word from which it was read
 pub record Word {A : Type 0} (read : List ℕ → Option A) (words : List (List ℕ)) (x : A × List (List ℕ)) : Type 0 where
+  -- the word from which the field was read
   pub word : List ℕ
+  -- the words are that word and those that are left
   pub is : words ≡ word ∷ x.1
+  -- the word is read as the value of the field
   pub reads : read word ≡ Some x.0
 
 -- a field that is read takes the first word and leaves the others
@@ -126,20 +134,25 @@ field_takes read (w ∷ ws) x e =
     let is = some_is _ _ b.2 in
     record { word = w; is = ap (λ (rest : List (List ℕ)). w ∷ rest) (ap (λ p. p.1) is); reads = b.1 ∙ ap (λ p. Some p.0) is }
 
--- a word that is read as a number writes it
+-- a word that is read as a number writes that number
 pub number_written : (n : ℕ) (word : List ℕ) → number_of word ≡ Some n → IsWritten (number n) word
 number_written n word e = number_takes (2 ^ 32) word n (omega arith) e
 
--- a word that is read as a guest writes it
+-- a word that is read as a guest writes that guest
 pub guest_written : (n : ℕ) (word : List ℕ) → guest_of word ≡ Some n → IsWritten (guest n) word
 guest_written n word e = number_takes (2 ^ 16) word n (omega arith) e
 
--- a page that was read, by the words that it was read from
+-- a page that was read, with the two words from which it was read
 pub record PageWords (words : List (List ℕ)) (x : GuestPage × List (List ℕ)) : Type 0 where
+  -- the word of the page's guest
   pub guest_word : List ℕ
+  -- the word of the page's number
   pub page_word : List ℕ
+  -- the words are the two words of the page and those that are left
   pub is : words ≡ guest_word ∷ page_word ∷ x.1
+  -- the first word writes the page's guest
   pub guest_written : IsWritten (guest x.0.guest) guest_word
+  -- the second word writes the page's number
   pub page_written : IsWritten (number x.0.page) page_word
 
 -- a page is read from two words, its guest and its number
@@ -168,11 +181,11 @@ ended_takes (w ∷ ws) x e = absurd cc
 pub words_are : (parts : List Part) (words found : List (List ℕ)) → words ≡ found → AreWritten parts found → AreWritten parts words
 words_are parts words found is h = subst (λ (ws : List (List ℕ)). AreWritten parts ws) (sym is) h
 
--- words by their front, and the rest as it was found
+-- words that are a word and a rest are that word and whatever the rest is equal to
 pub behind_word : (words rest found : List (List ℕ)) (w : List ℕ) → words ≡ w ∷ rest → rest ≡ found → words ≡ w ∷ found
 behind_word words rest found w is same = is ∙ ap (λ (ws : List (List ℕ)). w ∷ ws) same
 
--- the words behind a page follow its two
+-- words from which a page was read are its two words and whatever the rest is equal to
 pub behind_page : (words found : List (List ℕ)) (x : GuestPage × List (List ℕ)) (p : PageWords words x) → x.1 ≡ found → words ≡ p.guest_word ∷ p.page_word ∷ found
 behind_page words found x p same = p.is ∙ ap (λ (ws : List (List ℕ)). p.guest_word ∷ p.page_word ∷ ws) same
 
@@ -209,7 +222,7 @@ tested text found later knob word e =
 named_so : (found knob : Knob) (word : List ℕ) → word ≡ knob_name found → found ≡ knob → word ≡ knob_name knob
 named_so found knob word same is = same ∙ ap knob_name is
 
--- a word that is read as a knob is its name
+-- a word that is read as a knob is the name of that knob
 pub knob_written : (knob : Knob) (word : List ℕ) → knob_of word ≡ Some knob → word ≡ knob_name knob
 knob_written knob word e =
     elim (tested (knob_name Run) Run _ knob word e) [
@@ -229,7 +242,7 @@ knob_written knob word e =
       ]
     ]
 
--- a word that is read as a question is its name
+-- a word that is read as what is shown is the name of what is shown
 pub shown_written : (shown : Shown) (word : List ℕ) → shown_of word ≡ Some shown → word ≡ shown_name shown
 shown_written shown word e =
     elim (tested (shown_name ZeroPages) ZeroPages (option_map OfKnob (knob_of word)) shown word e) [

@@ -18,7 +18,7 @@ use Rattle.ksm_lines.proofs.Words.{cut_none}
 abbrev is_space : ℕ → Bool
 is_space byte = eqb byte 32
 
--- what the bytes at the front pass, one of them passes
+-- where all bytes at the front of a text pass a test, each byte there passes
 pub passes_in : (p : ℕ → Bool) (text : List ℕ) (i k : ℕ) → list_all p (take i text) ≡ true → k < i → i ≤ length text → p (get_or text k 0) ≡ true
 passes_in p text i k all lt le = of (p (get_or text k 0)) refl
   where
@@ -73,14 +73,14 @@ module _ (text : List ℕ) (end : ℕ) (inside : end ≤ length text) (digits : 
             absurd (cc (sym (passes_at_first is_space text 0 lt) ∙ ap (λ k. is_space (get_or text k 0)) at ∙ other))
       ]
 
-  -- digits up to the end are the one word
+  -- a text of digits up to its end is one word
   pub one_word : length text ≤ end → words_of text ≡ text ∷ []
   one_word whole =
       let at : position_or_len is_space text ≡ end = position_or_len_is is_space text end 0 inside no_space (λ lt. absurd (omega arith)) in
       let none : ltb end (length text) ≡ false = le-ltb _ _ whole in
       cut_none is_space text (rw (at, none) refl)
 
-  -- digits up to a space are the first word
+  -- digits up to a space are the first word of a text, and the words behind that space follow
   pub first_word : end < length text → get_or text end 0 ≡ 32 → words_of text ≡ take end text ∷ words_of (take (length text - (end + 1)) (drop (end + 1) text))
   first_word lt space =
       let at : position_or_len is_space text ≡ end = position_or_len_is is_space text end 0 inside no_space (λ h. ap is_space space) in
@@ -97,7 +97,7 @@ module _ (text : List ℕ) (end : ℕ) (inside : end ≤ length text) (digits : 
         | inr le ↦ let at : ltb (position_or_len is_space text) (length text) ≡ false = le-ltb _ _ le in none (cut_none is_space text (rw at refl))
       ]
 
-  -- a byte that is neither a digit nor a space behind them makes the first word no number
+  -- a byte behind the digits that is neither a digit nor a space makes the first word no number
   pub odd_word : end < length text → is_ascii_digit (get_or text end 0) ≡ false → is_space (get_or text end 0) ≡ false → field number_of (words_of text) ≡ None
   odd_word lt fails other =
       by_space (λ first is.
@@ -107,7 +107,7 @@ module _ (text : List ℕ) (end : ℕ) (inside : end ≤ length text) (digits : 
       unread text word _ is (no_number word (list_all_at is_ascii_digit word end 0 long (ap is_ascii_digit (get_or-take (position_or_len is_space text) text end 0 more) ∙ fails))))
       (λ is. unread text text [] is (no_number text (list_all_at is_ascii_digit text end 0 lt fails)))
 
-  -- nor do digits that write too much
+  -- digits at the front that write 2 ^ 32 or more make the first word no number
   pub high_word : 2 ^ 32 ≤ digits_value 10 (take end text) → field number_of (words_of text) ≡ None
   high_word high =
       by_space (λ first is.

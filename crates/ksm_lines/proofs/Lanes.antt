@@ -17,7 +17,7 @@ pub itself : (v : List ℕ) → v ≡ map (λ x. x) v
 itself [] = refl
 itself (x ∷ xs) = ap (λ r. x ∷ r) (itself xs)
 
--- an operation on two vectors that were computed lane by lane from v
+-- an operation on two vectors computed lane by lane from v is computed lane by lane from v
 pub joined : (h : ℕ → ℕ → ℕ) (f g : ℕ → ℕ) (v : List ℕ) {a b : List ℕ} → a ≡ map f v → b ≡ map g v → zip2 h a b ≡ map (λ x. h (f x) (g x)) v
 joined h f g v p q = zip2_of_maps h f g v p q
 
@@ -25,7 +25,7 @@ joined h f g v p q = zip2_of_maps h f g v p q
 pub splat_is : (v : List ℕ) (n y : ℕ) → length v ≡ n → replicate n y ≡ map (λ _. y) v
 splat_is v n y e = splat_is_map v n y e
 
--- lanes that are picked by a mask that was computed from v
+-- a pick by a mask, of lanes that were all computed from v, is computed lane by lane from v
 pub picked : (m f g : ℕ → ℕ) (v : List ℕ) {a b c : List ℕ} → a ≡ map m v → b ≡ map f v → c ≡ map g v
     → sel_l (map (top 7) a) b c ≡ map (λ x. cond (top 7 (m x)) (f x) (g x)) v
 picked m f g v {b = b} {c = c} p q r = ap (λ a. sel_l (map (top 7) a) b c) p ∙ ap₂ (λ b c. sel_l (map (top 7) (map m v)) b c) q r ∙ of v
@@ -34,7 +34,7 @@ picked m f g v {b = b} {c = c} p q r = ap (λ a. sel_l (map (top 7) a) b c) p �
     of [] = refl
     of (x ∷ xs) = ap (λ r. cond (top 7 (m x)) (f x) (g x) ∷ r) (of xs)
 
--- what was computed for each byte is another function of it, where the two agree on all bytes
+-- what one function computed of each byte is what another computes, where both agree on all bytes
 pub agrees : (f g : ℕ → ℕ) (v : List ℕ) {a : List ℕ} → a ≡ map f v → Each1 (Fits w8) v → passes_below (λ k. eqb (f k) (g k)) 256 ≡ true → a ≡ map g v
 agrees f g v p fits all = p ∙ of v fits
   where
@@ -66,18 +66,18 @@ same_test p q (x ∷ xs) fits all = ap₂ (λ a b. a && b) (of (p x) (q x) (pass
     of true false h = absurd cc
     of false true h = absurd cc
 
--- what is not said by a contrary
+-- where one answer is the contrary of another, the other is the contrary of the first
 pub other_way : (a b : Bool) → a ≡ not b → b ≡ not a
 other_way a true e = sym (ap not e)
 other_way a false e = sym (ap not e)
 
--- small values were computed of those bytes that are digits
+-- where a small value is computed exactly of digits, all values are small exactly where all bytes are digits
 pub small_for_digits : (f : ℕ → ℕ) (v : List ℕ) {a : List ℕ} → a ≡ map f v → Each1 (Fits w8) v
     → passes_below (λ k. (not (is_small (f k)) || is_ascii_hexdigit k) && (is_small (f k) || not (is_ascii_hexdigit k))) 256 ≡ true
     → list_all is_small a ≡ list_all is_ascii_hexdigit v
 small_for_digits f v is fits all = ap (list_all is_small) is ∙ list_all-map is_small f v ∙ same_test (λ k. is_small (f k)) is_ascii_hexdigit v fits all
 
--- what was computed of digits is their values
+-- where each digit's value is computed of the digit, what is computed of a text of digits is their values
 pub values_of_digits : (f : ℕ → ℕ) (v : List ℕ) {a : List ℕ} → a ≡ map f v → Each1 (Fits w8) v
     → passes_below (λ k. not (is_ascii_hexdigit k) || eqb (f k) (hex_value k)) 256 ≡ true → list_all is_ascii_hexdigit v ≡ true → a ≡ map hex_value v
 values_of_digits f v is fits all digits = is ∙ of v fits digits
@@ -99,7 +99,7 @@ flipped f [] (y ∷ ys) = refl
 flipped f (x ∷ xs) [] = refl
 flipped f (x ∷ xs) (y ∷ ys) = ap (λ r. f x y ∷ r) (flipped f xs ys)
 
--- no bit of the mask of the values above 15 is set exactly where all are small
+-- a bit of the mask of values above 15 is set exactly where not all values are small
 pub none_above : (v : List ℕ) → length v ≡ 16 → Each1 (Fits w8) v
     → not (eqb (mask_l (map (top 7) (zip2 (λ a b. cond (ltb a b) 255 0) (replicate 16 15) v)) % 2 ^ 64) 0) ≡ not (list_all is_small v)
 none_above v long fits =
@@ -107,7 +107,7 @@ none_above v long fits =
     ∙ ap (λ m. not (eqb m 0)) (bitmask_splat w8 (λ a b. ltb b a) v 16 15 long (omega arith))
     ∙ ap not (none_set (λ x. ltb 15 x) v ∙ same_test (λ x. not (ltb 15 x)) is_small v fits refl)
 
--- the larger of two values in each lane are small where those of both are
+-- the larger of two values in each lane is small in all lanes exactly where all values of both are
 pub larger_small : (a b : List ℕ) → length a ≡ length b
     → list_all is_small (sel_l (map (top 7) (zip2 (λ x y. cond (ltb x y) 255 0) a b)) b a) ≡ (list_all is_small a && list_all is_small b)
 larger_small [] [] e = refl
@@ -142,7 +142,7 @@ same_below : (f g : ℕ → ℕ) (a n : ℕ) → ((j : ℕ) → a ≤ j → j < 
 same_below f g a zero h = refl
 same_below f g a (suc n) h = ap₂ (λ x xs. x ∷ xs) (h a (omega arith) (omega arith)) (same_below f g (a + 1) n (λ j low high. h j (omega (arith, low)) (omega (arith, high))))
 
--- the eight bytes that the values of its digits make in pairs
+-- the values of the 16 digits of word i, in pairs, are the eight bytes from 8 * i on
 pub word_is : (text : List ℕ) (i : ℕ) → 16 * i + 16 ≤ length text
     → map (pair_in (map hex_value (digits_of_word text i))) (range_with_len 0 8) ≡ map (λ j. byte_at text (8 * i + j)) (range_with_len 0 8)
 word_is text i inside =
@@ -156,7 +156,7 @@ word_is text i inside =
     at_digit k lt =
         get_or-map hex_value (digits_of_word text i) k 0 0 (omega (arith, length-chunk (16 * i) 16 text inside, lt)) ∙ ap hex_value (get_or-chunk (16 * i) 16 text k 0 lt)
 
--- small values make their bytes in pairs, whose sums wrap nowhere
+-- sixteen small values make eight bytes in pairs, and no sum of a pair wraps
 pub pairs_told : (values : List ℕ) → length values ≡ 16 → list_all is_small values ≡ true
     → map (λ k. (get_or (values ++ values) (2 * k) 0 * 16 % 256 + get_or (values ++ values) (2 * k + 1) 0) % 256) (range_with_len 0 8) ≡ map (pair_in values) (range_with_len 0 8)
 pairs_told values long small =

@@ -296,19 +296,19 @@ named_takes (form ∷ later) text words line all e =
       | false ↦ λ same h. named_takes later text words line all.1 h
     ] (bytes_eq-Decides text form.0).0 e
 
--- words that are read as a line write it
+-- words that are read as a line write that line
 pub line_takes : (words : List (List ℕ)) (line : Line) → line_at words ≡ Some line → AreWritten (parts_of line) words
 line_takes [] line e = absurd cc
 line_takes (text ∷ words) line e = named_takes forms text words line all_take e
 
 -- ---- both, of a call
 
--- a reader that gives what the words are read as gives a line that they write
+-- a reader that gives what the words are read as gives a line that the words write
 pub given_written : (r : Result Line LineFault) (words : List (List ℕ)) → Gives r (line_at words) → IfOk r (λ line. AreWritten (parts_of line) words)
 given_written (Ok line) words h = line_takes words line h
 given_written (Err f) words h = tt
 
--- such a reader gives the line wherever the words write one
+-- a reader that gives what the words are read as gives each line that the words write
 pub written_given : (r : Result Line LineFault) (words : List (List ℕ)) → Gives r (line_at words) → (line : Line) → AreWritten (parts_of line) words → r ≡ Ok line
 written_given (Ok found) words h line w = ap (λ (l : Line). Ok l) (some_is found line (sym h ∙ line_again line words w))
 written_given (Err f) words h line w = absurd (none_some line (sym h ∙ line_again line words w))

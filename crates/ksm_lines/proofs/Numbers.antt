@@ -16,10 +16,11 @@ use Rattle.std.proofs.lemmas.List.Folds.{list_all_more}
 use Rattle.std.specs.Char.{digit_value}
 use Rattle.ksm_lines.proofs.Booleans.{chosen, is_chosen, first_true, second_true}
 
--- decimal digits, as a test
+-- the test for decimal digits and the value of a text of digits are a model of numerals
 pub own : IsNumeralModel (λ word. list_all is_ascii_digit word ≡ true) (digits_value 10)
 own = numerals_by_value _ (search rules)
 
+-- a word is plain: digits alone, one at least, and no zero before another digit
 pub record IsPlain (word : List ℕ) : Type 0 where
   pub digits : list_all is_ascii_digit word ≡ true
   pub long : 0 < length word
@@ -44,7 +45,7 @@ not_zero : (a b : Bool) → (a ≡ true → b ≡ true) → (not a || b) ≡ tru
 not_zero true b h = h refl
 not_zero false b h = refl
 
--- digits that write a number out of range
+-- a word whose first digits write 2 ^ 32 or more has no value as digits
 pub no_digits_high : (word : List ℕ) (i value : ℕ) → value ≡ digits_value 10 (take i word) → 2 ^ 32 ≤ value → digits_of word ≡ None
 no_digits_high word i value is high =
     let all : 2 ^ 32 ≤ digits_value 10 word = omega (arith, digits_value-take-le 10 word i (omega arith)) in

@@ -59,7 +59,7 @@ content_is_word word page read = word_of is_ascii_hexdigit word refl refl (of (l
 
 -- ---- a number that was read
 
--- digits that were read up to the byte behind them are the number's decimal
+-- a text whose first digits were read as a number is the number's decimal, the byte behind, and the rest
 pub number_in_front : (text : List ℕ) (at number end : ℕ) → IsReadTo at text number → at < length text → 0 < at → (get_or text 0 0 ≡ 48 → at ≤ 1)
     → get_or text at 0 ≡ end → text ≡ decimal number ++ end ∷ take (length text - (at + 1)) (drop (at + 1) text)
 number_in_front text at number end read lt long single is =
@@ -127,18 +127,22 @@ plain_word (byte ∷ bytes) is =
     of true b e = e
     of false b e = absurd cc
 
--- a text is a line of these words, its newline, and the rest
+-- a text begins with a line of the given words and a newline, and the rest follows
 pub record Leads (words : List (List ℕ)) (text rest : List ℕ) : Type 0 where
+  -- the bytes of the line
   pub line : List ℕ
+  -- the words of the line are those given
   pub parts : words_of line ≡ words
+  -- no byte of the line is a newline
   pub plain : list_all is_plain line ≡ true
+  -- the text is the line, a newline and the rest
   pub is : text ≡ line ++ 10 ∷ rest
 
 -- a word and a newline are a line
 pub last : (word text rest : List ℕ) → IsWord word → text ≡ word ++ 10 ∷ rest → Leads (word ∷ []) text rest
 last word text rest is same = record { line = word; parts = last_word word is; plain = plain_word word is; is = same }
 
--- a word and a space before a line make a longer one
+-- a word and a space before a text that leads with a line make a text that leads with a longer line
 pub more : (word text behind rest : List ℕ) (words : List (List ℕ)) → IsWord word → text ≡ word ++ 32 ∷ behind → Leads words behind rest → Leads (word ∷ words) text rest
 more word text behind rest words is same later =
     record {
@@ -157,7 +161,7 @@ all_plain (byte ∷ bytes) is =
     other : is_plain byte ≡ true → byte ≢ 10
     other h e = absurd (cc (sym h ∙ ap is_plain e))
 
--- such a text begins with each form that the words write
+-- a text that leads with a line of some words begins with each form that the words write
 pub begins : (form : Line) (words : List (List ℕ)) (text rest : List ℕ) → AreWritten (parts_of form) words → Leads words text rest → BeginsWith form text rest
 begins form words text rest written lead =
     (lead.line, subst (λ (ws : List (List ℕ)). AreWritten (parts_of form) ws) (sym lead.parts) written, all_plain lead.line lead.plain, lead.is)

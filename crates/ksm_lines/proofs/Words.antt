@@ -11,7 +11,7 @@ use Rattle.std.proofs.lemmas.List.Sums.{passes_at_first}
 use Rattle.ksm_lines.specs.Reading.{◌>>=◌, alone, ended}
 use Rattle.ksm_lines.proofs.Booleans.{is_chosen}
 
--- there is always a first part
+-- a text that is split has a first part
 pub split_part : {X : Type 0} (p : X → Bool) (xs : List X) → (first : List X) × (rest : List (List X)) × (slice_split p xs ≡ first ∷ rest)
 split_part p [] = ([], [], refl)
 split_part {X = X} p (x ∷ xs) =
@@ -21,11 +21,11 @@ split_part {X = X} p (x ∷ xs) =
       | false ↦ (x ∷ later.0, later.1, ap (onto_first x) later.2)
     ]
 
--- words that are left have a first one
+-- a text that is split has at least one word
 pub not_ended : (p : ℕ → Bool) (text : List ℕ) → ended (slice_split p text) ≡ None
 not_ended p text = let part = split_part p text in ap ended part.2
 
--- the words before and behind the first space
+-- where a space is found, the words are what stands before the space, and the words of what is behind
 pub cut_at : (p : ℕ → Bool) (text : List ℕ) (at : ℕ) → position p text ≡ Some at
     → slice_split p text ≡ take at text ∷ slice_split p (take (length text - (at + 1)) (drop (at + 1) text))
 cut_at p text at e =
@@ -42,7 +42,7 @@ one_word p (x ∷ xs) i e =
       | false ↦ λ h. ap (onto_first x) (one_word p xs (i + 1) h)
     ] e
 
--- without a space there is one word
+-- where no space is found, the whole text is the one word
 pub cut_none : (p : ℕ → Bool) (text : List ℕ) → position p text ≡ None → slice_split p text ≡ text ∷ []
 cut_none p text e = one_word p text 0 (sym (position_from-zero p text) ∙ e)
 
@@ -62,7 +62,7 @@ alone_more read word words e = of (read word)
     of None = refl
     of (Some x) = rw e refl
 
--- A word whose bytes all pass a test that no space passes is the last one where the whole text is read as it.
+-- what is read alone of a text's words is what is read of the text, where no text with a space is read
 pub alone_text : {A : Type 0} (read : List ℕ → Option A) (test p : ℕ → Bool) (text : List ℕ) → ((word : List ℕ) → list_all test word ≡ false → read word ≡ None)
     → ((byte : ℕ) → p byte ≡ true → test byte ≡ false) → alone read (slice_split p text) ≡ read text
 alone_text read test p text none space = go (position p text) refl

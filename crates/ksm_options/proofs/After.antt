@@ -58,9 +58,11 @@ defaults_pass rows = (no_defaults rules refl rows).1
 abbrev pub required_fault : Bool → Bool → Kinds
 required_fault nodes frames = cond (not nodes || (not frames || false)) (kind.MissingRequiredArgument ∷ []) []
 
+-- the last check finds the fault of a required option that the rows do not have
 pub check_is : (rows : List Row) → check_fault shape rows false ≡ required_fault (is_given (name_of Nodes) rows) (is_given (name_of Frames) rows)
 check_is rows = refl
 
+-- where no required option is missing, both are given
 pub both_given : (a b : Bool) → required_fault a b ≡ [] → (a ≡ true) × (b ≡ true)
 both_given true true e = (refl, refl)
 both_given true false e = absurd (cc)
@@ -68,13 +70,14 @@ both_given false b e = absurd (cc)
 
 -- ---- the whole
 
+-- all faults of the words behind the program's name, in the order in which clap finds them
 abbrev pub whole : List Text → Kinds
 whole words =
     let end = end_of (walk_from (held [] None)) words in
     or_else (walk_fault shape [] (walk_from (held [] None)) words) (or_else (settle_fault rules false end.held)
     (or_else (defaults_fault (settled rules end.held).rows rules) (check_fault shape (finished rules end.held) false)))
 
--- the program's own name is passed over
+-- clap finds the faults of the words behind the program's own name
 pub fault_is : (words : List Text) → fault_of ksmbook words ≡ whole (drop 1 words)
 fault_is words = go (end_of (walk_from (held [] None)) (drop 1 words)).stopped
   where

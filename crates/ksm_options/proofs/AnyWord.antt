@@ -160,7 +160,7 @@ spelled_is word p e = go (strip_byte 45 word) refl e
 
 -- ---- a word that is no fault, and not `--`
 
--- it is read as any word that is no flag, or it is `--NAME` or `--NAME=TEXT` after what settles
+-- a word is read as one that is no flag, or is `--NAME` or `--NAME=TEXT` where what was pending settles
 abbrev pub Reading : Waiting → Text → Held → Type 0
 Reading waiting word h = (long_or_other rules waiting word (long_of word) h ≡ plain_word rules waiting word h)
     ⊎ ((s : Setting) × (settle_fault rules false h ≡ []) × ((word ≡ flag s) ⊎ ((text : Text) × (word ≡ flag s ++ 61 ∷ text))))

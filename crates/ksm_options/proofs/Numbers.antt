@@ -40,6 +40,7 @@ fit_of s (g ∷ rest) t fit e = go (is_of s g) refl e (fit_of s rest t fit.1)
         subst (IsUnsignedIn 1 (most_of s)) same (subst (λ m. IsUnsignedIn 1 m g.1) (same_most s g is) fit.0)
     go false is f more = more f
 
+-- a setting that was given has a text
 pub some_text : (s : Setting) (given : List Given) → has s given ≡ true → (t : Text) × (text_of s given ≡ Some t)
 some_text s [] e = absurd (cc)
 some_text s (g ∷ rest) e = go (is_of s g) e (some_text s rest)

@@ -29,7 +29,7 @@ at_row_missing id change missing (r ∷ rs) e = go (bytes_eq r.id id) refl e (at
     go true is f more = cc
     go false is f more = ap (λ t. r ∷ t) (more f)
 
--- a row stands for a setting exactly where it was given
+-- a row stands for a setting exactly where the setting was given
 pub has_rows : (s : Setting) (given : List Given) → has_row (name_of s) (map row_for given) ≡ has s given
 has_rows s [] = refl
 has_rows s (g ∷ rest) = ap (λ b. is_of s g || b) (has_rows s rest)
@@ -91,7 +91,7 @@ text_fits s text rows e = accepts-Accepts false (Unsigned 1 (most_of s)) text (g
 
 -- ---- what the rows tell
 
--- the parser says that a setting was given exactly where it was
+-- the parser says that a setting was given exactly where the setting was given
 pub given_is : (s : Setting) (given : List Given) → is_given (name_of s) (map row_for given) ≡ has s given
 given_is s [] = refl
 given_is s (g ∷ rest) = go (is_of s g) (given_is s rest)

@@ -15,7 +15,7 @@ use Rattle.ksm_options.specs.Settings.{Setting, Nodes, Frames, Passes, Tries, La
 abbrev pub shape : Shape
 shape = (built ksmbook).top
 
--- the rules of its options
+-- the rules of the options of the program's command
 abbrev pub rules : List Rule
 rules = shape.rules
 
@@ -99,7 +99,7 @@ joined_step Passes text h = refl
 joined_step Tries text h = refl
 joined_step LastGeneration text h = refl
 
--- such a word makes the faults of what was waited for, and of its value
+-- a name with its value in one word makes the faults of what was waited for, and of that value
 pub joined_fault : (s : Setting) (text : Text) (h : Held)
     → turn_fault shape [] (walk_from h) (flag s ++ 61 ∷ text) ≡ or_else (or_else (settle_fault rules false h) (text_fault s text (settled rules h).rows)) []
 unfolding clap_on_literals
@@ -121,7 +121,7 @@ pub second_none : (a b : Kinds) → or_else a b ≡ [] → b ≡ []
 second_none [] b e = e
 second_none (k ∷ ks) b e = cc
 
--- where both are none, no fault is told
+-- where neither of two tells a fault, no fault is told
 pub both_none : (a b : Kinds) → a ≡ [] → b ≡ [] → or_else a b ≡ []
 both_none a b e f = ap (λ x. or_else x b) e ∙ f
 

@@ -56,7 +56,7 @@ value_plain Passes rows word = refl
 value_plain Tries rows word = refl
 value_plain LastGeneration rows word = refl
 
--- the walk reads the word as it reads any that is no flag
+-- a word behind a setting's name that is read as no flag becomes the text of the setting
 pub value_step : (s : Setting) (rows : List Row) (word : Text) → bytes_eq word two_hyphens ≡ false
     → long_or_other rules (option (name_of s)) word (long_of word) (held rows (Some (name_of s, []))) ≡ plain_word rules (option (name_of s)) word (held rows (Some (name_of s, [])))
     → walked rules [] (waiting_for s (held rows None)) word ≡ walk_from (held rows (Some (name_of s, word ∷ [])))

@@ -11,13 +11,13 @@ use Rattle.ksm_options.proofs.Rows.{fit_more, once_more, text_fits, text_is_new,
 use Rattle.ksm_options.proofs.Steps.{after_use, first_none, held, joined_fault, joined_step, name_fault, name_step, row_for, rules, second_none, shape, text_fault, two_hyphens, used_fault, used_rows, waiting_for}
 use Rattle.ksm_options.proofs.Turns.{after_hyphens, hyphens_step, idle_turn, no_more, value_turn, waiting_fault, waiting_hyphens}
 
--- the rows of what was given so far
+-- the rows stand for what was given so far, each setting once and in its range
 pub record Settled (given : List Given) (rows : List Row) : Type 0 where
   pub rows_are : rows ≡ map row_for given
   pub once : IsOnce given
   pub fit : AllFit given
 
--- what the rest of the words gives
+-- the rest of the words gives texts, and the rows at the end stand for all that was given
 pub record Reads (before : List Given) (words : List Text) (end : Walk) : Type 0 where
   pub given : List Given
   pub gives : Gives words given
@@ -177,7 +177,7 @@ read_all (word ∷ words) =
     let rest = read_all words in
     (read_word word words rest.0 rest.1, rest.0)
 
--- where the walk finds no fault, the words give texts, and its rows hold them
+-- where a walk along the words finds no fault, the words give texts, and the walk's rows hold those texts
 pub words_read : (words : List Text) → walk_fault shape [] (walk_from (held [] None)) words ≡ [] → settle_fault rules false (end_of (walk_from (held [] None)) words).held ≡ []
     → Reads [] words (end_of (walk_from (held [] None)) words)
 words_read words faults ends = (read_all words).0 _ [] [] None refl (λ _. record { rows_are = refl; once = tt; fit = tt }) faults ends

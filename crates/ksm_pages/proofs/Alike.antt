@@ -1,18 +1,18 @@
 -- A list that is made of another, element by element: what is searched, kept and counted in it.
 use Rattle.ksm_pages.proofs.Names.{[], All, All-head, All-map, All-tail, AllPairs, AllPairs-cons, ap, ap₂, arith, Bool, cases_Bool, cond, count_by, count_more, false, filter, find, get_or, inl, inr, List, map, option_map, pairs_head, pairs_tail, refl, Some, suc, sym, true, ◌+◌, ◌∙◌, ◌∷◌, ◌≡◌}
 
--- two changes that agree at each element make one list
+-- two changes that agree at each element of a list make one list of it
 pub map_alike : {X Y : Type 0} (f g : X → Y) (xs : List X) → All (λ x. f x ≡ g x) xs → map f xs ≡ map g xs
 map_alike f g [] same = refl
 map_alike f g (x ∷ xs) same = ap₂ (λ y ys. y ∷ ys) (All-head (λ z. f z ≡ g z) x xs same) (map_alike f g xs (All-tail (λ z. f z ≡ g z) x xs same))
 
--- two changes one after the other
+-- where h is f after g at each element, a map by g and then by f makes the list that h makes
 pub map_mapped : {X Y Z : Type 0} (f : Y → Z) (g : X → Y) (h : X → Z) (xs : List X) → All (λ x. f (g x) ≡ h x) xs → map f (map g xs) ≡ map h xs
 map_mapped f g h [] same = refl
 map_mapped f g h (x ∷ xs) same = ap₂ (λ y ys. y ∷ ys) (All-head (λ z. f (g z) ≡ h z) x xs same) (map_mapped f g h xs (All-tail (λ z. f (g z) ≡ h z) x xs same))
 
 module _ {X Y : Type 0} (g : X → Y) (p : Y → Bool) (q : X → Bool) where
-  -- what is found in the list that is made
+  -- where two tests agree across a map, a search in the mapped list finds the image of what is found before
   pub find_mapped : (xs : List X) → All (λ x. p (g x) ≡ q x) xs → find p (map g xs) ≡ option_map g (find q xs)
   find_mapped [] same = refl
   find_mapped (x ∷ xs) same =
@@ -23,7 +23,7 @@ module _ {X Y : Type 0} (g : X → Y) (p : Y → Bool) (q : X → Bool) where
         | inr fails ↦ ap (λ b. cond b (Some (g x)) (find p (map g xs))) (here ∙ fails) ∙ rest ∙ ap (λ b. option_map g (cond b (Some x) (find q xs))) (sym fails)
       ]
 
-  -- what is kept of it
+  -- where two tests agree across a map, those kept of the mapped list are the images of those kept before
   pub filter_mapped : (xs : List X) → All (λ x. p (g x) ≡ q x) xs → filter p (map g xs) ≡ map g (filter q xs)
   filter_mapped [] same = refl
   filter_mapped (x ∷ xs) same =
@@ -34,7 +34,7 @@ module _ {X Y : Type 0} (g : X → Y) (p : Y → Bool) (q : X → Bool) where
         | inr fails ↦ let also : p (g x) ≡ false = here ∙ fails in grind (arith, fails, also, rest)
       ]
 
-  -- what is counted in it
+  -- where two tests agree across a map, as many pass in the mapped list as before
   pub count_mapped : (xs : List X) → All (λ x. p (g x) ≡ q x) xs → count_by p (map g xs) ≡ count_by q xs
   count_mapped [] same = refl
   count_mapped (x ∷ xs) same =
@@ -44,7 +44,7 @@ module _ {X Y : Type 0} (g : X → Y) (p : Y → Bool) (q : X → Bool) where
       let also = count_more q x xs in
       more ∙ ap₂ (λ b n. cond b 1 0 + n) here rest ∙ sym also
 
--- elements in order make a list in order
+-- a map that takes related elements to related ones makes a list in order of a list in order
 pub pairs_mapped : {X Y : Type 0} (S : X → X → Type 0) (R : Y → Y → Type 0) (P : X → Type 0) (g : X → Y) → ((a b : X) → P a → P b → S a b → R (g a) (g b)) → (xs : List X) → All P xs → AllPairs S xs → AllPairs R (map g xs)
 pairs_mapped S R P g step [] all rise = λ i j d less lt. absurd (omega arith)
 pairs_mapped S R P g step (x ∷ xs) all rise =

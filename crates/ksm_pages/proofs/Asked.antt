@@ -43,7 +43,7 @@ find_narrower p q less (y ∷ ys) x is passes = elim (cases_Bool (p y)) [
 guests_rise : (p q : GuestPage) → comes_before p q ≡ true → p.guest ≤ q.guest
 guests_rise p q before = grind (arith, nat_tests)
 
--- a row at the page of a guest is of it
+-- a row at a page of the guest is a row of that guest
 pub of_some : (guest : Option ℕ) (g : ℕ) (page : GuestPage) → guest ≡ Some g → page.guest ≡ g → (x : Row) → x.page ≡ page
     → of_guest guest x ≡ true
 of_some guest g page is at x of_page = ap (λ o. of_guest o x) is ∙ eq-eqb x.page.guest g (ap (λ (q : GuestPage). q.guest) of_page ∙ at)
@@ -100,7 +100,7 @@ module _ (s : Inside) (are : AreLawful s) (p : PagesValue) (seen_as : view_of s 
     abbrev r : Row
     r = there.0
 
-    -- where the first row behind the start is of another guest, none comes next
+    -- where the first row behind the start is of another guest, no row comes next
     pub next_past : (g : ℕ) → guest ≡ Some g → (page.guest ≡ g → ⊥)
         → (after_cursor start page ≡ true → IfSome guest (λ h. h ≤ page.guest)) → find next p.rows ≡ None
     next_past g is differs begun = past p.rows rise there.1
@@ -128,7 +128,7 @@ module _ (s : Inside) (are : AreLawful s) (p : PagesValue) (seen_as : view_of s 
               grind (arith, out, rest)
         ]
 
-    -- where it is of the guest, it is what comes next
+    -- where the first row behind the start is of the guest, what is told of that row is what comes next
     pub next_told : ((x : Row) → x.page ≡ page → of_guest guest x ≡ true) → (told : Option Told)
         → MatchOption told (row_at page p.rows ≡ None) (IsHeld (seen p) page) → IsNext told
     next_told own None gone =

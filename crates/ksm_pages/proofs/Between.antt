@@ -12,11 +12,11 @@ module _ {X : Type 0} (key : X → GuestPage) (page : GuestPage) where
   abbrev high : X → Bool
   high y = comes_before page (key y)
 
-  -- a list that begins behind the page is behind it as a whole
+  -- where the first element of a list in order is behind the page, all elements are
   pub behind_first : (y : X) (ys : List X) → AllPairs Before (y ∷ ys) → high y ≡ true → All (λ z. high z ≡ true) (y ∷ ys)
   behind_first y ys rise here = All-cons (λ z. high z ≡ true) y ys here (behind_rest key page y ys rise here)
 
-  -- what stands before one that is not behind the page comes before it
+  -- in a list in order, all that stand before an element not behind the page come before the page
   pub before_last : (xs : List X) (y : X) (ys : List X) → AllPairs Before (xs ++ y ∷ ys) → high y ≡ false → All (λ z. low z ≡ true) xs
   before_last [] y ys rise from_it = λ k d lt. absurd (omega arith)
   before_last (x ∷ xs) y ys rise from_it =
@@ -31,10 +31,12 @@ module _ {X : Type 0} (key : X → GuestPage) (page : GuestPage) where
 all_first : {X : Type 0} (P : X → Type 0) (xs ys : List X) → All P (xs ++ ys) → All P xs
 all_first P xs ys all k d lt = subst P (get_or_append_left xs ys d k lt) (all k d (omega (arith, length-append xs ys)))
 
+-- what holds for all of two lists in a row holds for all of the second
 pub all_second : {X : Type 0} (P : X → Type 0) (xs ys : List X) → All P (xs ++ ys) → All P ys
 all_second P [] ys all = all
 all_second P (x ∷ xs) ys all = all_second P xs ys (All-tail P x (xs ++ ys) all)
 
+-- where all pairs of two lists in a row are related, so are those of the second
 pub pairs_second : {X : Type 0} (R : X → X → Type 0) (xs ys : List X) → AllPairs R (xs ++ ys) → AllPairs R ys
 pairs_second R [] ys pairs = pairs
 pairs_second R (x ∷ xs) ys pairs = pairs_second R xs ys (pairs_tail R x (xs ++ ys) pairs)
@@ -56,6 +58,7 @@ filled_behind : (page : GuestPage) (run : List Named) → run ≢ [] → All (λ
 filled_behind page [] filled all = absurd (filled refl)
 filled_behind page (n ∷ ns) filled all = all 0 n (omega arith)
 
+-- where a run in order begins behind a page, all of the run and what follows come behind that page
 pub all_behind : (page : GuestPage) (run rest : List Named) → AreAscending (run ++ rest) → begins_behind page run ≡ true → All (λ n. comes_before page n.page ≡ true) (run ++ rest)
 all_behind page [] rest rise begins = absurd (true≢false (sym begins))
 all_behind page (n ∷ ns) rest rise begins = behind_first (λ m. m.page) page n (ns ++ rest) rise begins

@@ -8,14 +8,14 @@ use Rattle.ksm_pages.proofs.Placed.{pages_cut, run_rises}
 abbrev before : Named → Named → Type 0
 before m n = comes_before m.page n.page ≡ true
 
--- what is counted is what is counted before a run, in it, and behind it
+-- the count over all pages is the count before a run, that in the run, and that behind the run together
 pub count_cut : (p : Named → Bool) (runs : List (List Named)) (at : ℕ) (d : List Named) → at < length runs → count_by p (pages_in runs) ≡ count_by p (pages_in (take at runs)) + (count_by p (get_or runs at d) + count_by p (pages_in (drop (at + 1) runs)))
 count_cut p runs at d within =
     ap (count_by p) (pages_cut runs at d within)
     ∙ count-append p (pages_in (take at runs)) (get_or runs at d ++ pages_in (drop (at + 1) runs))
     ∙ ap (λ n. count_by p (pages_in (take at runs)) + n) (count-append p (get_or runs at d) (pages_in (drop (at + 1) runs)))
 
--- what a scan visits is what it visits before a run, in it, and behind it
+-- what a scan visits is what it visits before a run, then in the run, then behind the run
 pub visited_cut : (runs : List (List Named)) (at : ℕ) (d : List Named) → at < length runs → visited (pages_in runs) ≡ visited (pages_in (take at runs)) ++ (visited (get_or runs at d) ++ visited (pages_in (drop (at + 1) runs)))
 visited_cut runs at d within =
     let some : Named → Bool = λ n. n.mergeable in
@@ -37,30 +37,30 @@ page_within (x ∷ xs) ys (suc k) lt = page_within xs ys k (omega arith)
 
 -- the visits are those of the runs before one, and those left in it
 module _ (front run behind : List Named) (visits left : ℕ) (counted : visits ≡ length front + left) (some : 1 ≤ left) (within : left ≤ length run) where
-  -- the page of the last visit is in the run
+  -- where visits end within a run, the page of the last visit is in that run, at the place of the visits left
   pub page_left : page_at (front ++ (run ++ behind)) (visits - 1) ≡ page_at run (left - 1)
   page_left =
       page_behind front (run ++ behind) (visits - 1) (left - 1) (omega arith)
       ∙ page_within run behind (left - 1) (omega arith)
 
-  -- they come to that page where more follow
+  -- where visits end within a run and more pages follow, the visits come to the page of the last
   pub goes_on_at : (page : GuestPage) → left < length run + length behind → page_at run (left - 1) ≡ Some page → ComesTo (front ++ (run ++ behind)) visits (At page)
   goes_on_at page more last = (omega (arith, length-append front (run ++ behind), length-append run behind), page_left ∙ last)
 
-  -- they end the pass where none follows
+  -- where visits end within a run and no page follows, the visits end the pass
   pub ends_at : length run + length behind ≤ left → ComesTo (front ++ (run ++ behind)) visits (End visits)
   ends_at none = (omega (arith, length-append front (run ++ behind), length-append run behind), omega arith)
 
 -- where pages that were passed stand before those ahead, that many visits more come to the same
 module _ (passed ahead : List Named) (visits total : ℕ) (some : 1 ≤ visits) (few : length (passed ++ ahead) < 2 ^ 64) (sum : total ≡ min (visits + length passed) (2 ^ 64 - 1)) where
-  -- to the page of the last
+  -- where the passed visits and so many more come to a page of all, so many come to that page ahead
   pub passed_at : (page : GuestPage) → ComesTo (passed ++ ahead) total (At page) → ComesTo ahead visits (At page)
   passed_at page comes =
       let both = length-append passed ahead in
       let exact : total ≡ visits + length passed = omega (arith, comes.0, few, sum) in
       (omega (arith, both, exact, comes.0), sym (page_behind passed ahead (total - 1) (visits - 1) (omega (arith, exact))) ∙ comes.1)
 
-  -- or to the end of the pass
+  -- where the passed visits and so many more end the pass of all, so many end the pass ahead, less by those passed
   pub passed_end : (made : ℕ) → ComesTo (passed ++ ahead) total (End made) → ComesTo ahead visits (End (made - length passed))
   passed_end made comes =
       let both = length-append passed ahead in
@@ -81,17 +81,17 @@ split_at_page page (x ∷ xs) rise =
           grind (arith, second, rest)
     ]
 
--- what a scan has ahead of a cursor are those behind the cursor of all that it visits
+-- what a scan has ahead of a cursor are those of all pages that it visits that stand behind the cursor
 pub ahead_is : (cursor : Option GuestPage) (named : List Named) → ahead_of cursor named ≡ filter (λ n. after_cursor cursor n.page) (visited named)
 ahead_is cursor named = sym (filter_both (λ (n : Named). n.mergeable) (λ n. after_cursor cursor n.page) named)
 
--- where a scan visits none, none is passed
+-- where a scan visits no page at all, it passes none between a cursor and a page
 pub none_passed : (cursor : Option GuestPage) (page : GuestPage) (named : List Named) → count_by (λ n. n.mergeable) named ≡ 0 → passed_to cursor page named ≡ []
 none_passed cursor page named none =
     let empty : visited named ≡ [] = nil_from_length (visited named) (length-filter (λ (n : Named). n.mergeable) named ∙ none) in
     ap (filter (λ (n : Named). comes_before n.page page)) (ahead_is cursor named ∙ ap (filter (λ (n : Named). after_cursor cursor n.page)) empty)
 
--- it has all of them ahead of no cursor
+-- without a cursor a scan has all pages ahead that it visits
 pub ahead_of_none : (named : List Named) → ahead_of None named ≡ visited named
 ahead_of_none named = ahead_is None named ∙ filter_all (λ n. true) (visited named) (λ k d lt. refl)
 
@@ -132,13 +132,13 @@ no_page (x ∷ xs) (suc k) lt none = no_page xs k (omega arith) none
 
 -- more visits than are left in the runs before one end there or behind it
 module _ (runs : List (List Named)) (at visits left : ℕ) (counted : left + count_by (λ n. n.mergeable) (pages_in (take at runs)) ≡ visits) where
-  -- there are no more runs
+  -- where all runs are passed, the visits end the pass, less by those that are left
   pub ends_past : length runs ≤ at → ComesTo (visited (pages_in runs)) visits (End (visits - left))
   ends_past past =
       let all = ap (λ rs. count_by (λ (n : Named). n.mergeable) (pages_in rs)) (take_all at runs past) in
       (omega (arith, all, counted, length-filter (λ (n : Named). n.mergeable) (pages_in runs)), omega arith)
 
-  -- then no page is the last
+  -- where all runs are passed and a visit is left, no page is that of the last visit
   pub none_past : length runs ≤ at → 1 ≤ left → None ≡ page_at (visited (pages_in runs)) (visits - 1)
   none_past past some =
       let all = ap (λ rs. count_by (λ (n : Named). n.mergeable) (pages_in rs)) (take_all at runs past) in
@@ -155,17 +155,17 @@ module _ (runs : List (List Named)) (at visits left : ℕ) (counted : left + cou
     in_run : left ≤ length (visited (get_or runs at []))
     in_run = omega (arith, here, length-filter m (get_or runs at []))
 
-    -- the last page is one of its pages
+    -- where a run has the visits that are left, the page of the last visit is in that run
     pub last_there : page_at (visited (get_or runs at [])) (left - 1) ≡ page_at (visited (pages_in runs)) (visits - 1)
     last_there =
         sym (page_left (visited (pages_in (take at runs))) (visited (get_or runs at [])) (visited (pages_in (drop (at + 1) runs))) visits left in_front some in_run)
         ∙ ap (λ ns. page_at ns (visits - 1)) (sym (visited_cut runs at [] within))
 
-    -- which there is
+    -- where a run has the visits that are left, the page of the last visit exists
     pub is_there : page_at (visited (get_or runs at [])) (left - 1) ≢ None
     is_there = no_page (visited (get_or runs at [])) (left - 1) (omega (arith, some, in_run))
 
-    -- it is what they come to where more follow
+    -- where the runs from one on have more visits than are left, the visits come to the page of the last
     pub comes_at : (page : GuestPage) → nat_lt left (count_by (λ n. n.mergeable) (pages_in (drop at runs))) ≡ true → page_at (visited (get_or runs at [])) (left - 1) ≡ Some page → ComesTo (visited (pages_in runs)) visits (At page)
     comes_at page more last =
         let less = ltb-true left _ more in
@@ -173,7 +173,7 @@ module _ (runs : List (List Named)) (at visits left : ℕ) (counted : left + cou
         (goes_on_at (visited (pages_in (take at runs))) (visited (get_or runs at [])) (visited (pages_in (drop (at + 1) runs))) visits left in_front some in_run page
         (omega (arith, less, count_from runs at [] within, length-filter m (get_or runs at []), length-filter m (pages_in (drop (at + 1) runs)))) last)
 
-    -- they end the pass where none follows
+    -- where the runs from one on have no more visits than are left, the visits end the pass
     pub comes_end : nat_lt left (count_by (λ n. n.mergeable) (pages_in (drop at runs))) ≡ false → ComesTo (visited (pages_in runs)) visits (End visits)
     comes_end none =
         let most = ltb-false left _ none in
@@ -195,11 +195,11 @@ some_visited runs at left counted some here =
           le-ltb at (length runs) past ∙ sym (le-ltb 0 _ (omega (arith, all, counted, some)))
     ]
 
--- more are visited from a run on than are left where it has more
+-- where a run has more pages to visit than are left, so have that run and those behind it together
 pub more_there : (runs : List (List Named)) (at left : ℕ) (d : List Named) → at < length runs → left < count_by (λ n. n.mergeable) (get_or runs at d) → true ≡ nat_lt left (count_by (λ n. n.mergeable) (pages_in (drop at runs)))
 more_there runs at left d within less = sym (lt-ltb left _ (omega (arith, less, count_from runs at d within)))
 
--- and where it has as many, if a run behind it has some
+-- where a run has as many pages to visit as are left, there are more exactly if a run behind has some
 pub more_behind : (runs : List (List Named)) (at left : ℕ) (d : List Named) → at < length runs → left ≡ count_by (λ n. n.mergeable) (get_or runs at d) → nat_lt 0 (count_by (λ n. n.mergeable) (pages_in (drop (at + 1) runs))) ≡ nat_lt left (count_by (λ n. n.mergeable) (pages_in (drop at runs)))
 more_behind runs at left d within is =
     let all = count_from runs at d within in
@@ -209,7 +209,7 @@ more_behind runs at left d within is =
       | inr none ↦ le-ltb 0 rest none ∙ sym (le-ltb left _ (omega (arith, all, is, none)))
     ]
 
--- what is visited from one run on is at most all that is
+-- from one run on there are at most as many pages to visit as in all runs
 pub count_rest : (runs : List (List Named)) (at : ℕ) → count_by (λ n. n.mergeable) (pages_in (drop at runs)) ≤ count_by (λ n. n.mergeable) (pages_in runs)
 count_rest runs at =
     let all =
@@ -218,7 +218,7 @@ count_rest runs at =
     ∙ count-append (λ (n : Named). n.mergeable) (pages_in (take at runs)) (pages_in (drop at runs)) in
     omega (arith, all)
 
--- what a scan visits from the run of a page on, also where there is no run
+-- from the run of a page on a scan visits the pages of that run up to the page, then all behind the page
 pub visited_from : (page : GuestPage) (runs : List (List Named)) (at : ℕ) → AreRuns runs → IsRunOf page runs at → at ≤ length runs - 1
     → visited (pages_in (drop at runs)) ≡ filter (λ n. not (comes_before page n.page)) (visited (get_or runs at [])) ++ ahead_of (Some page) (pages_in runs)
 visited_from page runs at parts place within =
@@ -231,11 +231,11 @@ visited_from page runs at parts place within =
           (subst (λ k. visited (pages_in (drop k [])) ≡ filter (λ n. not (comes_before page n.page)) (visited (get_or {A = List Named} [] k [])) ++ ahead_of (Some page) []) (sym first) refl)
     ]
 
--- of those that are visited no more come before a page than there are
+-- at most as many pages that a scan visits in a run come before a page as the run has
 pub few_before : (page : GuestPage) (run : List Named) → count_by (λ n. comes_before n.page page) (visited run) ≤ count_by (λ n. n.mergeable) run
 few_before page run = omega (arith, count_by-le-length (λ (n : Named). comes_before n.page page) (visited run), length-filter (λ (n : Named). n.mergeable) run)
 
--- those before a page are all of the runs before its run, and those before it there
+-- the pages to visit before a page are all of the runs before its run, and those before the page there
 pub before_in_run : (page : GuestPage) (runs : List (List Named)) (at : ℕ) (d : List Named) → IsRunOf page runs at → at < length runs
     → count_by (λ n. comes_before n.page page) (visited (pages_in runs)) ≡ count_by (λ n. n.mergeable) (pages_in (take at runs)) + count_by (λ n. comes_before n.page page) (visited (get_or runs at d))
 before_in_run page runs at d place within =
@@ -273,7 +273,7 @@ module _ (page : GuestPage) where
         | inr fine ↦ fine
       ]
 
-  -- those ahead that come before the page are all that do, but for those that were passed
+  -- those ahead that come before the page are as many as all that do, less those that were passed
   pub low_ahead : (passed ahead : List Named) → AreAscending (passed ++ ahead) → length (filter low ahead) ≡ length (filter low (passed ++ ahead)) - length passed
   low_ahead [] ahead rise = omega arith
   low_ahead (x ∷ xs) ahead rise =
@@ -289,7 +289,7 @@ module _ (page : GuestPage) where
             omega (arith, here, both, length-append (filter low xs) (filter low ahead))
       ]
 
-  -- and the last of them is the last of all that do
+  -- the last of those ahead that come before the page is the last of all that come before it
   pub last_low : (passed ahead : List Named) → AreAscending (passed ++ ahead) → length passed < length (filter low (passed ++ ahead))
       → page_at (passed ++ ahead) (length (filter low (passed ++ ahead)) - 1) ≡ page_at (filter low ahead) (length (filter low ahead) - 1)
   last_low [] ahead rise more =
@@ -311,7 +311,7 @@ module _ (page : GuestPage) where
   or_here None other some = absurd (some refl)
   or_here (Some x) other some = refl
 
-  -- of those behind a cursor, how many come before the page, and the last of them, as they are counted among all
+  -- counts among all pages tell how many lie between a cursor and the page, and which is the last of them
   pub before_page : (cursor : Option GuestPage) (named all front : List Named) (passed : ℕ) → all ≡ front ++ ahead_of cursor named → AreAscending all → passed ≡ length front
       → (count_by low all - passed ≡ length (passed_to cursor page named)) × ((if nat_lt passed (count_by low all) then page_at all (count_by low all - 1) else cursor) ≡ last_or cursor (passed_to cursor page named))
   before_page cursor named all front passed is rise many =

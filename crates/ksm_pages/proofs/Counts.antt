@@ -15,12 +15,12 @@ module _ {X : Type 0} (p : X → Bool) where
       let rest : count_by p xs ≡ length xs = grind (arith, more, here, all) in
       All-cons (λ y. p y ≡ true) x xs here (all_pass xs rest)
 
-  -- what is counted in the first of a list and in the rest is what is counted in all
+  -- the count in the first n elements and the count in the rest add up to the count in all
   pub count_parts : (n : ℕ) (xs : List X) → count_by p (take n xs) + count_by p (drop n xs) ≡ count_by p xs
   count_parts n xs = sym (count-append p (take n xs) (drop n xs)) ∙ ap (count_by p) (take-append-drop n xs)
 
 module _ {X : Type 0} (p q : X → Bool) where
-  -- what is counted of what a test keeps is counted the other way round too
+  -- p counts in what q keeps as many as q counts in what p keeps
   pub count_swapped : (xs : List X) → count_by p (filter q xs) ≡ count_by q (filter p xs)
   count_swapped [] = refl
   count_swapped (x ∷ xs) =
@@ -52,7 +52,7 @@ module _ {X : Type 0} (p q : X → Bool) where
       ]
 
 module _ {X : Type 0} (q : X → Bool) where
-  -- where those that pass stand before all that do not, they are the first
+  -- where those that pass stand before all others, the front of the list is what the test keeps
   pub take_parted : (xs : List X) → IsPartitionedBy q xs → take (length (filter q xs)) xs ≡ filter q xs
   take_parted [] parted = refl
   take_parted (x ∷ xs) parted =
@@ -80,13 +80,14 @@ module _ {X : Type 0} (q : X → Bool) where
       ]
 
 module _ {X : Type 0} (p q : X → Bool) (xs : List X) where
-  -- of those that stand before all others, what is counted
+  -- where those that pass q stand first, p counts among them what q counts of what p keeps
   pub counted_to_place : IsPartitionedBy q xs → count_by p (take (length (filter q xs)) xs) ≡ count_by q (filter p xs)
   counted_to_place split = ap (count_by p) (take_parted q xs split) ∙ count_swapped p q xs
 
-  -- where all are counted, that is how many they are
+  -- where p counts all elements of a list, p keeps the whole list
   pub kept_whole : count_by p xs ≡ length xs → filter p xs ≡ xs
   kept_whole all = filter_all p xs (all_pass p xs all)
 
+  -- where p counts all elements of a list, q keeps as many as q counts of what p keeps
   pub counted_if_all : count_by p xs ≡ length xs → length (filter q xs) ≡ count_by q (filter p xs)
   counted_if_all all = length-filter q xs ∙ ap (count_by q) (sym (kept_whole all))

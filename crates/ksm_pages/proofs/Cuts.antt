@@ -13,7 +13,7 @@ some_of (x ∷ xs) filled = omega arith
 
 -- a page alone comes in as a run between the runs before it and those behind it
 module _ (runs : List (List Named)) (at : ℕ) (named : Named) (parts : AreRuns runs) (ahead : All (low named.page) (pages_in (take at runs))) (behind : All (high named.page) (pages_in (drop at runs))) where
-  -- it stands among all pages at its place
+  -- a page that comes in as a run of its own stands among all pages at its place
   pub begun_pages : pages_in (insert runs at (named ∷ [])) ≡ with_named named (pages_in runs)
   begun_pages =
       let xs = pages_in (take at runs) in
@@ -22,7 +22,7 @@ module _ (runs : List (List Named)) (at : ℕ) (named : Named) (parts : AreRuns 
       ∙ sym (with_between (λ n. n.page) named.page xs [] ys ahead behind named)
       ∙ ap (with_named named) (sym (flat_map-append (λ run. run) (take at runs) (drop at runs)) ∙ ap pages_in (take-append-drop at runs))
 
-  -- and they stay runs
+  -- the runs stay runs where a page comes in as a run of its own
   pub begun_runs : AreRuns (insert runs at (named ∷ []))
   begun_runs = record {
     filled = All-append (λ r. r ≢ []) (take at runs) ((named ∷ []) ∷ drop at runs) (All-take (λ r. r ≢ []) at runs parts.filled)
@@ -34,14 +34,15 @@ module _ (runs : List (List Named)) (at : ℕ) (named : Named) (parts : AreRuns 
 
 -- a run is cut in two
 module _ (runs : List (List Named)) (at : ℕ) (parts : AreRuns runs) (within : at < length runs) (full : 256 ≤ length (get_or runs at [])) where
-  -- its first 128 pages, and those behind them
+  -- the first 128 pages of the full run
   abbrev pub first : List Named
   first = take 128 (get_or runs at [])
 
+  -- the pages of the full run behind its first 128
   abbrev pub second : List Named
   second = drop 128 (get_or runs at [])
 
-  -- the runs with the two in its stead
+  -- the runs with the full run cut in two
   abbrev pub cut_runs : List (List Named)
   cut_runs = take at runs ++ first ∷ second ∷ drop (at + 1) runs
 
@@ -54,7 +55,7 @@ module _ (runs : List (List Named)) (at : ℕ) (parts : AreRuns runs) (within : 
   second_long : length second ≡ 128
   second_long = let most = parts.short at [] within in omega (arith, length-drop 128 (get_or runs at []), most)
 
-  -- the pages are the same
+  -- a run that is cut in two leaves all pages as they are
   pub cut_pages : pages_in cut_runs ≡ pages_in runs
   cut_pages =
       let rest = pages_in (drop (at + 1) runs) in
@@ -62,7 +63,7 @@ module _ (runs : List (List Named)) (at : ℕ) (parts : AreRuns runs) (within : 
       ∙ ap (λ back. pages_in (take at runs) ++ back) (sym (append_assoc first second rest) ∙ ap (λ run. run ++ rest) (take-append-drop 128 (get_or runs at [])))
       ∙ sym (pages_cut runs at [] within)
 
-  -- and they stay runs
+  -- the runs stay runs where one of them is cut in two
   pub cut_are_runs : AreRuns cut_runs
   cut_are_runs = record {
     filled = All-append (λ r. r ≢ []) (take at runs) (first ∷ second ∷ drop (at + 1) runs) (All-take (λ r. r ≢ []) at runs parts.filled)
@@ -86,24 +87,25 @@ module _ (runs : List (List Named)) (at : ℕ) (parts : AreRuns runs) (within : 
   second_at : get_or cut_runs (at + 1) [] ≡ second
   second_at = ap (λ rs. get_or rs (at + 1) []) as_two ∙ get_or_at (take at runs ++ first ∷ []) second (drop (at + 1) runs) [] (at + 1) front_two
 
-  -- each of the two has room
+  -- the first part of the run that is cut is one of the runs, and has room for a page
   pub first_room : (at < length cut_runs) × (length (get_or cut_runs at []) < 256)
   first_room =
       (omega (arith, front, length-append (take at runs) (first ∷ second ∷ drop (at + 1) runs)), omega (arith, ap length first_at, first_long))
 
+  -- the second part of the run that is cut is one of the runs, and has room for a page
   pub second_room : (at + 1 < length cut_runs) × (length (get_or cut_runs (at + 1) []) < 256)
   second_room =
       (omega (arith, front, length-append (take at runs) (first ∷ second ∷ drop (at + 1) runs)), omega (arith, ap length second_at, second_long))
 
   module _ (page : GuestPage) (place : IsRunOf page runs at) where
-    -- a page before the second is in the first now
+    -- where the second part begins behind the page whose run is cut, the first part is the run of that page
     pub into_first : begins_behind page (get_or cut_runs (at + 1) []) ≡ true → IsRunOf page cut_runs at
     into_first begins = record {
       ahead = subst (λ rs. All (low page) (pages_in rs)) (sym (take_at (take at runs) (first ∷ second ∷ drop (at + 1) runs) at front)) place.ahead;
       behind = behind_run page cut_runs cut_are_runs (at + 1) (λ lt. begins);
     }
 
-    -- a page that is not is in the second
+    -- where the second part does not begin behind the page whose run is cut, that part is the run of the page
     pub into_second : begins_behind page (get_or cut_runs (at + 1) []) ≡ false → IsRunOf page cut_runs (at + 1)
     into_second from_it =
         let three : cut_runs ≡ (take at runs ++ (first ∷ second ∷ [])) ++ drop (at + 1) runs = sym (append_assoc (take at runs) (first ∷ second ∷ []) (drop (at + 1) runs)) in
@@ -116,14 +118,14 @@ module _ (runs : List (List Named)) (at : ℕ) (parts : AreRuns runs) (within : 
 
 -- the page is taken out of its run
 module _ (page : GuestPage) (runs : List (List Named)) (at : ℕ) (d : List Named) (parts : AreRuns runs) (place : IsRunOf page runs at) (within : at < length runs) where
-  -- the other pages of its run
+  -- the pages of a page's run without that page
   abbrev pub left : List Named
   left = without_named page (get_or runs at d)
 
   left_rises : AreAscending (pages_in (set runs at left))
   left_rises = subst AreAscending (sym (remove_in_run page runs at d place within)) (without_rises (λ n. n.page) page (pages_in runs) parts.ascending)
 
-  -- a run with other pages stays
+  -- the runs stay runs without a page whose run has other pages
   pub left_are_runs : 0 < length left → AreRuns (set runs at left)
   left_are_runs some =
       let most = parts.short at d within in
@@ -133,7 +135,7 @@ module _ (page : GuestPage) (runs : List (List Named)) (at : ℕ) (d : List Name
   gone : remove (set runs at left) at ≡ take at runs ++ drop (at + 1) runs
   gone = ap₂ (λ front back. front ++ back) (take-set runs at left) (ap (λ n. drop n (set runs at left)) (sym (add-one at)) ∙ drop-set-lt (at + 1) runs at left (omega arith))
 
-  -- a run with no other goes
+  -- where the run of a page has no other page, taking that run out takes the page out of all pages
   pub gone_pages : length left ≡ 0 → pages_in (remove (set runs at left) at) ≡ without_named page (pages_in runs)
   gone_pages none =
       ap pages_in gone
@@ -142,7 +144,7 @@ module _ (page : GuestPage) (runs : List (List Named)) (at : ℕ) (d : List Name
       ∙ sym (pages_set runs at left within)
       ∙ remove_in_run page runs at d place within
 
-  -- and the others stay runs
+  -- where the run of a page has no other page, the runs without that run are runs
   pub gone_are_runs : length left ≡ 0 → AreRuns (remove (set runs at left) at)
   gone_are_runs none = record {
     filled = subst (All (λ r. r ≢ [])) (sym gone) (All-append (λ r. r ≢ []) (take at runs) (drop (at + 1) runs) (All-take (λ r. r ≢ []) at runs parts.filled) (All-drop (λ r. r ≢ []) (at + 1) runs parts.filled));
@@ -150,7 +152,7 @@ module _ (page : GuestPage) (runs : List (List Named)) (at : ℕ) (d : List Name
     ascending = subst AreAscending (sym (gone_pages none)) (without_rises (λ n. n.page) page (pages_in runs) parts.ascending);
   }
 
--- the page is marked in its run
+-- the runs stay runs where a page is marked in its run
 pub marked_are_runs : (page : GuestPage) (runs : List (List Named)) (at : ℕ) (d : List Named) (mergeable : Bool) → AreRuns runs → IsRunOf page runs at → at < length runs → AreRuns (set runs at (marked page mergeable (get_or runs at d)))
 marked_are_runs page runs at d mergeable parts place within =
     let run = marked page mergeable (get_or runs at d) in
@@ -160,7 +162,7 @@ marked_are_runs page runs at d mergeable parts place within =
     let rise = write_rises (λ n. n.page) page (λ (n : Named). record n { mergeable = mergeable }) (λ n. refl) (pages_in runs) parts.ascending in
     runs_set runs at run parts (filled_by run (omega (arith, same, some))) (omega (arith, same, most)) (subst AreAscending (sym (mark_in_run page runs at d place within mergeable)) rise)
 
--- the page is put into its run, which has room
+-- the runs stay runs where a new page is put into its run, which has room
 pub put_are_runs : (runs : List (List Named)) (at : ℕ) (d : List Named) (named : Named) → AreRuns runs → IsRunOf named.page runs at → at < length runs → length (get_or runs at d) < 256 → find (is_of named.page) (pages_in runs) ≡ None
     → AreRuns (set runs at (with_named named (get_or runs at d)))
 put_are_runs runs at d named parts place within room absent =

@@ -42,7 +42,7 @@ all_elsewhere place (d ∷ ds) none =
     let rest = all_elsewhere place ds (grind (arith, nat_tests, none)) in
     grind (arith, here, rest)
 
--- what a search finds is found among those that are kept, if it is
+-- what a search finds among all dups it finds among those that are kept, where the dup found is kept
 pub find_kept : (test keep : DupRow → Bool) (ds : List DupRow) (o : Option DupRow) → find test ds ≡ o
     → ((e : DupRow) → o ≡ Some e → keep e ≡ true) → find test (filter keep ds) ≡ o
 find_kept test keep [] o is kept = is

@@ -60,7 +60,7 @@ module _ (s : Inside) (are : AreLawful s) {p : PagesValue} (seen_as : view_of s 
       ∙ frame_by (of_dup s) s.rows.held h.row.page
       ∙ ap (seat (of_dup s)) (nothing_held h.row.page s.rows.held away)
 
-  -- its row is neither merged nor does it wait
+  -- a page that comes with a row neither merged nor waiting leaves the pages lawful, and is seen with that row
   pub entered : merged_state h.row.state ≡ false → waiting_state h.row.state ≡ false → (rows : RowsView)
       → rows.held ≡ with_held h s.rows.held
       → Comes s rows s.dups (record (seen p) {
@@ -94,7 +94,7 @@ module _ (s : Inside) (are : AreLawful s) {p : PagesValue} (seen_as : view_of s 
             }) seen_as;
       }
 
--- it lies where it is said to lie
+-- where a page comes to lie on a frame, that frame may be named as the one on which the page lies now
 pub but_there : (new old : PagesView) (rows : List Row) (page : GuestPage) (o : Option ℕ)
     → new ≡ record old { rows = rows; frame = lies_on page o old.frame; restless = new.restless }
     → (new ≡ record old { rows = rows; frame = new.frame; restless = new.restless }) × (new.frame ≡ lies_on page (new.frame page) old.frame)
@@ -108,17 +108,17 @@ but_there new old rows page o is =
 
 -- ---------------------------------------------------------------- results
 
--- what follows where a result is Ok
+-- whatever follows from the promise for Ok may be promised for Ok instead
 pub ok_then : {T E P Q : Type 0} (r : Result T E) → OnOk r P → (P → Q) → OnOk r Q
 ok_then (Ok x) holds so = so holds
 ok_then (Err e) holds so = tt
 
--- what follows where it is an error
+-- whatever follows from the promise for an error may be promised for an error instead
 pub err_then : {T E P Q : Type 0} (r : Result T E) → OnErr r P → (P → Q) → OnErr r Q
 err_then (Ok x) holds so = tt
 err_then (Err e) holds so = so holds
 
--- what follows either way
+-- what follows from the promise for Ok, and also from the promise for an error, follows
 pub either_way : {T E P O Q : Type 0} (r : Result T E) → OnOk r P → OnErr r O → (P → Q) → (O → Q) → Q
 either_way (Ok x) holds fails so too = so holds
 either_way (Err e) holds fails so too = too fails

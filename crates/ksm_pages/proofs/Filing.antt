@@ -15,11 +15,11 @@ full x o none some = true≢false (ap is_some (sym some ∙ none))
 pub differ_by : (m n : ℕ) → (m == n) ≡ false → m ≢ n
 differ_by m n told same = true≢false (sym ((Decides-eqb m n).1 same) ∙ told)
 
--- the order names an entry as it stands
+-- a name of the order says what the entry under the name's key says
 abbrev pub Stands : Slab Entry → Named → Type 0
 Stands slab n = option_map (named_of n.key) (get slab n.key) ≡ Some n
 
--- what stands under a key, as the order names it
+-- where a name says what stands under its key, an entry of the name's page stands under that key
 pub under_named : (slab : Slab Entry) (n : Named) → Stands slab n → IsUnder slab n.page n.key
 under_named slab n told = go (get slab n.key) refl told
   where
@@ -31,7 +31,7 @@ under_named slab n told = go (get slab n.key) refl told
 pub page_under : (pass : ℕ) (slab : Slab Entry) (n : Named) → Stands slab n → (held_under pass (get slab n.key)).row.page ≡ n.page
 page_under pass slab n told = let u = under_named slab n told in ap (λ o. (held_under pass o).row.page) u.stands ∙ u.of_page
 
--- and a scan visits it exactly where the order says so
+-- a scan visits the row under a key exactly where the order says so of its page
 pub flag_under : (pass : ℕ) (slab : Slab Entry) (n : Named) → Stands slab n → (held_under pass (get slab n.key)).row.mergeable ≡ n.mergeable
 flag_under pass slab n told =
     let u = under_named slab n told in
@@ -48,7 +48,7 @@ filed_by slab order stand named n =
     go None is none = absurd (full n None refl none)
     go (Some e) is some = subst (λ (m : Named). find (is_of m.page) order ≡ Some m) (same_Some (named_of n.key e) n some) (named n.key e is)
 
--- what is so of the entry that a slab was given, and was of the others, is so of all
+-- what holds of the entry that a slab was given, and of all others that stood, holds of all that stand now
 pub all_filled : {slab later : Slab Entry} {key : ℕ} {e : Entry} → Fills slab later key (Some e) → (P : ℕ → Entry → Type 0) → P key e
     → ((k : ℕ) (f : Entry) → get slab k ≡ Some f → k ≢ key → P k f) → (k : ℕ) (f : Entry) → get later k ≡ Some f → P k f
 all_filled {slab} {later} {key} {e} fills P new others k f stands = elim (cases_Bool (k == key)) [
@@ -59,7 +59,7 @@ all_filled {slab} {later} {key} {e} fills P new others k f stands = elim (cases_
 ]
 
 module _ (slab : Slab Entry) (order : List Named) (filed : AreFiled slab order) where
-  -- an entry is named in the order
+  -- an entry that stands under a key is found in the order, by its page, under that key
   pub named_under : (key : ℕ) (e : Entry) → get slab key ≡ Some e → find (is_of e.page) order ≡ Some (named_of key e)
   named_under key e stands = (filed (named_of key e)).1 (ap (option_map (named_of key)) stands)
 
@@ -81,7 +81,7 @@ module _ (slab : Slab Entry) (order : List Named) (filed : AreFiled slab order) 
           let u = under_named slab n ((filed n).0 (ap (λ p. find (is_of p) order) of_it ∙ is)) in
           record { entry = u.entry; stands = ap (get slab) (sym at) ∙ u.stands; of_page = u.of_page ∙ of_it }
 
-  -- and a page whose entry stands under a key has that key
+  -- a page whose entry stands under a key has that key in the order
   pub key_under : (page : GuestPage) (key : ℕ) → IsUnder slab page key → key_in order page ≡ Some key
   key_under page key u =
       ap (λ p. option_map (λ (n : Named). n.key) (find (is_of p) order)) (sym u.of_page)
@@ -96,10 +96,11 @@ module _ (slab : Slab Entry) (order : List Named) (rise : AreAscending order) (f
     abbrev held_by : Named → Held
     held_by n = held_under pass (get slab n.key)
 
-    -- the row of a page is what stands under its key
+    -- what is held of a page is what stands under the key that the order names for the page
     pub held_found : (page : GuestPage) → held_at page (held_in pass slab order) ≡ option_map held_by (find (is_of page) order)
     held_found page = find_mapped held_by (holds page) (is_of page) order (λ k d lt. ap (λ p. same_page p page) (page_under pass slab (get_or order k d) (all_stand k d lt)))
 
+    -- what is held of a page is what its entry says
     pub held_there : (page : GuestPage) (key : ℕ) (e : Entry) → get slab key ≡ Some e → e.page ≡ page → held_at page (held_in pass slab order) ≡ Some (held_of pass e)
     held_there page key e stands of_page =
         held_found page
@@ -107,6 +108,7 @@ module _ (slab : Slab Entry) (order : List Named) (rise : AreAscending order) (f
         ∙ ap (option_map held_by) (named_under slab order filed key e stands)
         ∙ ap (λ o. Some (held_under pass o)) stands
 
+    -- a page that has no key in the order has no row
     pub held_nowhere : (page : GuestPage) → key_in order page ≡ None → held_at page (held_in pass slab order) ≡ None
     held_nowhere page told = held_found page ∙ go (find (is_of page) order) told
       where
@@ -114,7 +116,7 @@ module _ (slab : Slab Entry) (order : List Named) (rise : AreAscending order) (f
         go None none = refl
         go (Some n) none = absurd (full n.key (Some n.key) none refl)
 
-    -- and back
+    -- a page that has no row has no name in the order
     pub key_nowhere : (page : GuestPage) → held_at page (held_in pass slab order) ≡ None → find (is_of page) order ≡ None
     key_nowhere page told = go (find (is_of page) order) (sym (held_found page) ∙ told)
       where
@@ -150,7 +152,7 @@ module _ (slab : Slab Entry) (order : List Named) (rise : AreAscending order) (f
         sym u.of_page ∙ ap (λ (x : Entry). x.page) (sym same)
 
     module _ (later : Slab Entry) (e' : Entry) (fills : Fills slab later key (Some e')) (same : e'.page ≡ e.page) where
-      -- the row of its page is changed, and no other
+      -- where one entry is written anew, the row of its page is changed, and no other
       pub written : (pass : ℕ) (f : Held → Held) → held_of pass e' ≡ f (held_of pass e) → held_in pass later order ≡ change_held e.page f (held_in pass slab order)
       written pass f is = sym (map_mapped (λ h. if holds e.page h then f h else h) before after order (λ k d lt. at (get_or order k d) (all_stand k d lt)))
         where
@@ -190,7 +192,7 @@ module _ (slab : Slab Entry) (order : List Named) (rise : AreAscending order) (f
         | inr other ↦ ap (option_map (named_of k)) (fills.others k (differ_by k key other))
       ]
 
-      -- pages are named as their entries say
+      -- where one entry is written anew and its mergeable flag stays, pages are named as their entries say
       pub filed_kept : e'.mergeable ≡ e.mergeable → AreFiled later order
       filed_kept flag n = (λ h. named_later flag n.key ∙ (filed n).0 h, λ h. (filed n).1 (sym (named_later flag n.key) ∙ h))
 
@@ -206,7 +208,7 @@ module _ (slab : Slab Entry) (order : List Named) (rise : AreAscending order) (f
             | inr not_it ↦ ap (λ b. is_of page (cond b (record n { mergeable = e'.mergeable }) n)) not_it
           ]
 
-      -- also where the order is told whether a scan visits the page
+      -- where one entry is written anew and its page marked with its flag, pages are named as their entries say
       pub filed_marked : AreFiled later (marked e.page e'.mergeable order)
       filed_marked =
           filed_by later (marked e.page e'.mergeable order) (All-map (Stands later) mark order (λ k d lt. stands_later (get_or order k d) (all_stand k d lt)))
@@ -253,7 +255,7 @@ module _ (slab : Slab Entry) (order : List Named) (rise : AreAscending order) (f
           let passes = filter_passes (λ m. not (is_of e.page m)) order k d lt in
           (stands, λ at. true≢false (sym passes ∙ ap not (ap (λ p. same_page p e.page) (same_entry n stands at) ∙ same_page_refl e.page)))
 
-      -- the row of its page is gone, and no other
+      -- where one entry is gone with the name of its page, the row of that page is gone, and no other
       pub taken : (pass : ℕ) → held_in pass later (without_named e.page order) ≡ without_held e.page (held_in pass slab order)
       taken pass =
           map_alike after before (without_named e.page order) stay
@@ -268,7 +270,7 @@ module _ (slab : Slab Entry) (order : List Named) (rise : AreAscending order) (f
           stay : All (λ n. after n ≡ before n) (without_named e.page order)
           stay k d lt = ap (held_under pass) (fills.others (get_or (without_named e.page order) k d).key (away k d lt).1)
 
-      -- the others are named as their entries say
+      -- where one entry is gone with the name of its page, the other pages are named as their entries say
       pub filed_taken : AreFiled later (without_named e.page order)
       filed_taken =
           filed_by later (without_named e.page order)
@@ -285,6 +287,7 @@ module _ (slab : Slab Entry) (order : List Named) (rise : AreAscending order) (f
     taken_key : (n : Named) → Stands slab n → n.key ≢ key
     taken_key n stands at = let u = under_named slab n stands in full u.entry (get slab n.key) (ap (get slab) at ∙ vacant) u.stands
 
+    -- where an entry came under a vacant key with a name, the rows have its row at the place of its page
     pub put : (pass : ℕ) → held_in pass later (with_named (named_of key e) order) ≡ with_held (held_of pass e) (held_in pass slab order)
     put pass =
         map-append after (filter (λ n. comes_before n.page e.page) order) (named_of key e ∷ filter (λ n. comes_before e.page n.page) order)
@@ -305,7 +308,7 @@ module _ (slab : Slab Entry) (order : List Named) (rise : AreAscending order) (f
             ap (held_under pass) (fills.others n.key (taken_key n stands)))
             ∙ sym (filter_mapped before (λ h. test h.row.page) (λ n. test n.page) order (λ k d lt. ap test (page_under pass slab (get_or order k d) (all_stand k d lt))))
 
-    -- all are named as their entries say
+    -- where an entry came under a vacant key with a name, all pages are named as their entries say
     pub filed_put : AreFiled later (with_named (named_of key e) order)
     filed_put =
         filed_by later (with_named (named_of key e) order)

@@ -9,7 +9,7 @@ module _ {X : Type 0} (key : X → GuestPage) where
   abbrev is_of_page : GuestPage → X → Bool
   is_of_page page y = same_page (key y) page
 
-  -- each element is what a search for its page finds
+  -- in a list in order, a search for the page of an element finds that element
   pub each_found : (xs : List X) → AllPairs Before xs → All (λ x. find (is_of_page (key x)) xs ≡ Some x) xs
   each_found [] rise = λ k d lt. absurd (omega arith)
   each_found (x ∷ xs) rise =
@@ -30,7 +30,7 @@ module _ {X : Type 0} (key : X → GuestPage) where
     abbrev is_it : X → Bool
     is_it y = same_page (key y) page
 
-    -- with one more of the page, a search for it finds that
+    -- in a list with one more element of the page, a search for the page finds that element
     pub find_put : (x : X) (xs : List X) → key x ≡ page → find is_it (filter low xs ++ x ∷ filter high xs) ≡ Some x
     find_put x xs at =
         let none = find_nothing is_it (filter low xs) (λ k d lt. pages_ordered.apart (key (get_or (filter low xs) k d)) page (filter_passes low xs k d lt)) in
@@ -38,17 +38,17 @@ module _ {X : Type 0} (key : X → GuestPage) where
         ∙ ap (λ found. option_or found (find is_it (x ∷ filter high xs))) none
         ∙ ap (λ b. cond b (Some x) (find is_it (filter high xs))) (ap (λ p. same_page p page) at ∙ same_page_refl page)
 
-    -- and a search for another page finds what it did
+    -- with one more element of a page, a search for another page finds what it found before
     pub find_put_other : (other : GuestPage) (x : X) (xs : List X) → key x ≡ page → AllPairs Before xs → find is_it xs ≡ None → same_page page other ≡ false → find (is_of_page other) (filter low xs ++ x ∷ filter high xs) ≡ find (is_of_page other) xs
     find_put_other other x xs at rise absent differ =
         find_over (is_of_page other) (filter low xs) (filter high xs) x (ap (λ p. same_page p other) at ∙ differ)
         ∙ ap (find (is_of_page other)) (sym (absent_parts key page xs rise absent))
 
-    -- without those of the page, a search for it finds nothing
+    -- without the elements of the page, a search for the page finds nothing
     pub find_gone : (xs : List X) → find is_it (filter (λ y. not (is_it y)) xs) ≡ None
     find_gone xs = find_nothing is_it (filter (λ y. not (is_it y)) xs) (λ k d lt. not-true (is_it (get_or (filter (λ y. not (is_it y)) xs) k d)) (filter_passes (λ y. not (is_it y)) xs k d lt))
 
-    -- and a search for another page finds what it did
+    -- without the elements of a page, a search for another page finds what it found before
     pub find_gone_other : (other : GuestPage) (xs : List X) → same_page page other ≡ false → find (is_of_page other) (filter (λ y. not (is_it y)) xs) ≡ find (is_of_page other) xs
     find_gone_other other [] differ = refl
     find_gone_other other (y ∷ ys) differ =
@@ -61,14 +61,14 @@ module _ {X : Type 0} (key : X → GuestPage) where
         ]
 
     module _ (p : X → Bool) (xs : List X) (x : X) (rise : AllPairs Before xs) (found : find is_it xs ≡ Some x) where
-      -- one that is found is counted if it passes
+      -- an element that a search for its page finds is counted where it passes
       pub counted_once : one_if (p x) ≤ count_by p xs
       counted_once = omega (arith, found_counted key page p x xs rise found, byte_of (p x))
 
-      -- a change of those of the page changes what is counted by one
+      -- a change of the element of a page moves the count by what that element counted and counts now
       pub count_one_changed : (f : X → X) → count_by p (map (λ y. if is_it y then f y else y) xs) + one_if (p x) ≡ count_by p xs + one_if (p (f x))
       count_one_changed f = omega (arith, counted_once, changed_count key page p x xs rise found f, byte_of (p x), byte_of (p (f x)))
 
-      -- without the one of the page, it is counted no more
+      -- without the element of the page the count is less by what that element counted
       pub count_one_gone : count_by p (filter (λ y. not (is_it y)) xs) + one_if (p x) ≡ count_by p xs
       count_one_gone = omega (arith, counted_once, removed_count key page p x xs rise found, byte_of (p x))

@@ -5,7 +5,7 @@ use Rattle.ksm_pages.specs.Held.{frame_of}
 use Rattle.ksm_pages.proofs.Filing.{all_stand, named_under, one_key, under_named}
 use Rattle.ksm_pages.proofs.Listings.{with_has}
 
--- what is so of a Private row and of one that waits is so of any with a frame of its own
+-- what holds of Private and of Waiting holds of the state of any page with a frame of its own
 pub own_either : (P : PageState → Type 0) → P Private → P Waiting → (b : Bool) → P (own_state b)
 own_either P rests waits false = rests
 own_either P rests waits true = waits
@@ -68,11 +68,11 @@ first_found p (y ∷ ys) n rise found =
 
 module _ (slab : Slab Entry) (order : List Named) (rise : AreAscending order) (filed : AreFiled slab order) where
   module _ (last : Option GuestPage) (n : Named) (found : find (λ m. after_cursor last m.page) order ≡ Some n) where
-    -- the next page stands under its key
+    -- the next page behind the cursor has an entry under the key that the order names
     pub next_stands : IsUnder slab n.page n.key
     next_stands = under_named slab n (find_all (λ m. after_cursor last m.page) (λ m. option_map (named_of m.key) (get slab m.key) ≡ Some m) order n found (all_stand slab order rise filed))
 
-    -- and fewer are behind it
+    -- behind the next page there are fewer pages than behind the cursor
     pub fewer_behind : length (filter (λ m. comes_before n.page m.page) order) < length (filter (λ m. after_cursor last m.page) order)
     fewer_behind =
         filter_fewer (λ m. after_cursor last m.page) (λ m. comes_before n.page m.page) order n found (before_irrefl n.page)
@@ -96,7 +96,7 @@ module _ (slab : Slab Entry) (order : List Named) (rise : AreAscending order) (f
     ]
 
     module _ (old new : Listing) (listed : AreListedUpTo slab last old) where
-      -- the page is listed too
+      -- where the next page is added, the pages up to that page are listed that a visit may change
       pub one_added : IsAddedTo n.page old new → AreListedUpTo slab (Some n.page) new
       one_added added known key e stands may not_behind = elim added [
         | inl is ↦
@@ -108,7 +108,7 @@ module _ (slab : Slab Entry) (order : List Named) (rise : AreAscending order) (f
         | inr is ↦ absurd (true≢false (sym known ∙ ap (λ (l : Listing). l.known) is))
       ]
 
-      -- or needs not be
+      -- where no visit changes the next page, the list has all up to that page that a visit may change
       pub one_passed : (e : Entry) → get slab n.key ≡ Some e → is_restless e ≡ false → new ≡ old → AreListedUpTo slab (Some n.page) new
       one_passed e here calm is known key f stands may not_behind = elim (passed key f stands not_behind) [
         | inl same ↦
@@ -119,13 +119,13 @@ module _ (slab : Slab Entry) (order : List Named) (rise : AreAscending order) (f
         | inr before ↦ ap (λ (l : Listing). has_item f.page l.pages) is ∙ listed (ap (λ (l : Listing). l.known) (sym is) ∙ known) key f stands may before
       ]
 
-  -- at the end all are listed
+  -- where no page is behind the cursor, all pages are listed that a visit may change
   pub all_passed : (last : Option GuestPage) → find (λ m. after_cursor last m.page) order ≡ None → (l : Listing) → AreListedUpTo slab last l → l.known ≡ true → AreListed slab l.pages
   all_passed last none l listed known key e stands may =
       listed known key e stands may
       (find_all (is_of e.page) (λ m. after_cursor last m.page ≡ false) order (named_of key e) (named_under slab order filed key e stands) (find_none (λ m. after_cursor last m.page) order none))
 
-  -- as rows
+  -- where the pages of all entries that a visit may change are listed, so are the pages of all such rows
   pub rows_listed : (pass : ℕ) (pages : List GuestPage) → AreListed slab pages → AreAllListed (rows_of (held_in pass slab order)) pages
   rows_listed pass pages listed =
       All-map (λ r. may_change r ≡ true → has_item r.page pages ≡ true) (λ (h : Held). h.row) (held_in pass slab order)
@@ -148,7 +148,7 @@ module _ (slab : Slab Entry) (order : List Named) (rise : AreAscending order) (f
           ap (λ o. has_item (held_under pass o).row.page pages) u.stands
           ∙ listed n.key e u.stands (restless_too e.kind e.number e.mergeable may_e)
 
-  -- rows with frames of their own have them
+  -- a row has a frame of its own exactly where it is not shared
   pub rows_framed : (pass : ℕ) → All (λ h. is_some h.frame ≡ not (shared_state h.row.state)) (held_in pass slab order)
   rows_framed pass =
       All-map (λ (h : Held). is_some h.frame ≡ not (shared_state h.row.state)) (λ n. held_under pass (get slab n.key)) order

@@ -14,7 +14,7 @@ own_not_merged Waiting e = refl
 own_not_merged (Merged d) e = absurd (true≢false e)
 own_not_merged Zero e = refl
 
--- it leaves no dup
+-- a page with a frame of its own leaves no dup, so letting it out changes none
 pub let_out_alone : (state : PageState) (page : GuestPage) (dups : List Dup) → shared_state state ≡ false → let_out state page dups ≡ dups
 let_out_alone Private page dups alone = refl
 let_out_alone Waiting page dups alone = refl
@@ -47,7 +47,7 @@ found_room rows dups number (Some d) tied is room =
     (number_found number dups d is ∙ sym room.2) in
     (refl, omega (arith, counted, same, room.3))
 
--- a dup with room is there
+-- a dup with room for an item is found by its number
 pub known_room : (rows : List Row) (dups : List Dup) (number : ℕ) → AreTied rows dups → HasRoom rows (dup_rows dups) number
     → is_some (dup_of number dups) ≡ true
 known_room rows dups number tied room = (found_room rows dups number (dup_of number dups) tied refl room).0
@@ -80,7 +80,7 @@ item_lies s are number k d lt merged =
     ∙ item_seat (of_dup s) number r merged (held_at r.page s.rows.held)
     (sym (found_rows r.page s.rows.held) ∙ each_at_page (rows_of s.rows.held) are.order k d lt)
 
--- a page with a frame of its own lies there
+-- a page with a frame of its own lies on that frame
 pub own_seat : (of : ℕ → Option ℕ) (pass : ℕ) (e : Entry) → shared_state (held_of pass e).row.state ≡ false
     → seat of (Some (held_of pass e)) ≡ Some e.at
 own_seat of pass e alone = ap (λ k. frame_seen of (state_of k e.number pass) (own_frame k e.at)) (own_kind e.kind e.number pass alone)
@@ -104,7 +104,7 @@ module _ (s : Inside) (are : AreLawful s) (page : GuestPage) (h : Held) (found :
   joined_next : later.next ≡ s.dups.next
   joined_next = ap (λ (d : DupsState). d.next) out ∙ ap (λ (d : DupsState). d.next) into
 
-  -- they are lawful
+  -- the pages are lawful once a page with a frame of its own joined a dup
   pub lawful_joined : (rows : RowsView) → rows.held ≡ change_held page (mapped (Merged number) None) s.rows.held
       → AreKept s.shape s.knobs (rows_of rows.held) later s.frames.items
   lawful_joined rows turned =
@@ -122,7 +122,7 @@ module _ (s : Inside) (are : AreLawful s) (page : GuestPage) (h : Held) (found :
       (ap (λ q. row_at q before) at ∙ row_there s are page h found) refl
       (subst (λ w. IsStopped s.knobs h.row w later.waiting) (ap (λ (d : DupsState). d.waiting) into) stopped)))
 
-  -- the page lies where the items of the dup do, and else all is seen as it was
+  -- once a page joined a dup, it lies where the dup's items do, and else all is seen as it was
   pub told_joined : (rows : RowsView) → rows ≡ record s.rows { held = change_held page (mapped (Merged number) None) s.rows.held }
       → (p : PagesValue) → view_of s ≡ p
       → let now = seen (view_of (record s { rows = rows; dups = later })) in

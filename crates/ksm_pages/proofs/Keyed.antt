@@ -7,7 +7,7 @@ by_found : {X P : Type 0} (found : Option X) → (found ≡ None → P) → ((x 
 by_found None none some = none refl
 by_found (Some x) none some = some x refl
 
--- what is not something is nothing
+-- an option that is not full is empty
 pub none_of : {X : Type 0} (found : Option X) → is_some found ≡ false → found ≡ None
 none_of None none = refl
 none_of (Some x) none = absurd (true≢false none)
@@ -16,19 +16,19 @@ or_none : {X : Type 0} (found : Option X) → option_or found None ≡ found
 or_none None = refl
 or_none (Some x) = refl
 
--- what is counted for a passes and a no
+-- a test as a number is 1 where it passes and 0 where it does not
 pub byte_of : (b : Bool) → from_bool b ≡ cond b 1 0
 byte_of true = refl
 byte_of false = refl
 
--- how many pass once one is taken out
+-- once an element is taken out, the count is less by what that element counted
 pub count_removed : {X : Type 0} (p : X → Bool) (xs : List X) (i : ℕ) (d : X) (many gone : ℕ) → i < length xs → many ≡ count_by p xs → gone ≡ from_bool (p (get_or xs i d)) → many - gone ≡ count_by p (remove xs i)
 count_removed p xs i d many gone within counted taken =
     let less : count_by p (remove xs i) + cond (p (get_or xs i d)) 1 0 ≡ count_by p xs = sum_by-remove (λ x. cond (p x) 1 0) xs i d within in
     let one : gone ≡ cond (p (get_or xs i d)) 1 0 = taken ∙ byte_of _ in
     omega (arith, less, counted, one)
 
--- how many pass once one is changed
+-- once an element is changed, the count is less by what the old one counted, and more by the new
 pub count_changed : {X : Type 0} (p : X → Bool) (xs : List X) (i : ℕ) (y d : X) (many gone come : ℕ) → i < length xs → many ≡ count_by p xs → gone ≡ from_bool (p (get_or xs i d)) → come ≡ from_bool (p y) → many - gone + come ≡ count_by p (set xs i y)
 count_changed p xs i y d many gone come within counted taken put =
     let less : count_by p (remove xs i) + cond (p (get_or xs i d)) 1 0 ≡ count_by p xs = sum_by-remove (λ x. cond (p x) 1 0) xs i d within in
@@ -52,7 +52,7 @@ module _ {X : Type 0} (key : X → GuestPage) where
     abbrev is_it : X → Bool
     is_it y = same_page (key y) page
 
-    -- what a search for the first that is not before the page asks of the list
+    -- in a list in order, those before the page stand before all others
     pub parted : (xs : List X) → AllPairs Before xs → IsPartitionedBy low xs
     parted xs rise i j d le lt later =
         elim (cases_lt i j) [
@@ -60,7 +60,7 @@ module _ {X : Type 0} (key : X → GuestPage) where
           | inr no_less ↦ let e : j ≡ i = omega arith in rw (← e) later
         ]
 
-    -- what a search for the first that comes behind the page asks of it
+    -- in a list in order, those not behind the page stand before all others
     pub parted_behind : (xs : List X) → AllPairs Before xs → IsPartitionedBy (λ y. not (high y)) xs
     parted_behind xs rise i j d le lt later =
         elim (cases_lt i j) [
@@ -71,7 +71,7 @@ module _ {X : Type 0} (key : X → GuestPage) where
           | inr no_less ↦ let e : j ≡ i = omega arith in rw (← e) later
         ]
 
-    -- where the last of a list in order comes before the page, all of them do
+    -- where the last of a list in order comes before the page, as many come before the page as the list has
     pub all_counted : (xs : List X) (d : X) → AllPairs Before xs → 0 < length xs → low (get_or xs (length xs - 1) d) ≡ true → length (filter low xs) ≡ length xs
     all_counted xs d rise some last =
         sym (point_is_count low xs (length xs) (omega arith)
@@ -94,9 +94,11 @@ module _ {X : Type 0} (key : X → GuestPage) where
     none_low : (ys : List X) → All (λ z. high z ≡ true) ys → All (λ z. low z ≡ false) ys
     none_low ys behind k d lt = pages_ordered.asym page (key (get_or ys k d)) (behind k d lt)
 
+    -- where all of a list come behind the page, none of them is the page
     pub none_same : (ys : List X) → All (λ z. high z ≡ true) ys → All (λ z. is_it z ≡ false) ys
     none_same ys behind k d lt = pages_ordered.apart_back page (key (get_or ys k d)) (behind k d lt)
 
+    -- where the first element of a list in order is behind the page, so are all others
     pub behind_rest : (y : X) (ys : List X) → AllPairs Before (y ∷ ys) → high y ≡ true → All (λ z. high z ≡ true) ys
     behind_rest y ys rise here k d lt = pages_ordered.trans page (key y) (key (get_or ys k d)) here (rise 0 (suc k) d (omega arith) (omega arith))
 
@@ -104,6 +106,7 @@ module _ {X : Type 0} (key : X → GuestPage) where
     behind_it y ys rise equal k d lt =
         ap (λ p. comes_before p (key (get_or ys k d))) (sym (pages_ordered.same_eq (key y) page equal)) ∙ rise 0 (suc k) d (omega arith) (omega arith)
 
+    -- a change of the page leaves a list as it is that does not have the page
     pub kept_all : (f : X → X) (ys : List X) → All (λ z. is_it z ≡ false) ys → map (λ y. if is_it y then f y else y) ys ≡ ys
     kept_all f [] none = refl
     kept_all f (y ∷ ys) none =
@@ -115,7 +118,7 @@ module _ {X : Type 0} (key : X → GuestPage) where
     none_same_low xs ahead k d lt = pages_ordered.apart (key (get_or xs k d)) page (ahead k d lt)
 
     module _ (xs run ys : List X) (ahead : All (λ z. low z ≡ true) xs) (behind : All (λ z. high z ≡ true) ys) where
-      -- the page is found in the run
+      -- in a list cut in three around a page's run, a search for the page finds what it finds in the run
       pub find_between : find is_it (xs ++ (run ++ ys)) ≡ find is_it run
       find_between =
           find-append is_it xs (run ++ ys)
@@ -124,7 +127,7 @@ module _ {X : Type 0} (key : X → GuestPage) where
           ∙ ap (option_or (find is_it run)) (find_nothing is_it ys (none_same ys behind))
           ∙ or_none (find is_it run)
 
-      -- it is taken out of the run
+      -- in a list cut in three around a page's run, the page is taken out by taking it out of the run
       pub without_between : filter (λ y. not (is_it y)) (xs ++ (run ++ ys)) ≡ xs ++ (filter (λ y. not (is_it y)) run ++ ys)
       without_between =
           let other = λ (y : X). not (is_it y) in
@@ -133,7 +136,7 @@ module _ {X : Type 0} (key : X → GuestPage) where
           filter-append other xs (run ++ ys)
           ∙ ap₂ (λ front back. front ++ back) e (filter-append other run ys ∙ ap (λ back. filter other run ++ back) f)
 
-      -- it is changed in the run
+      -- in a list cut in three around a page's run, the page is changed by changing it in the run
       pub changed_between : (f : X → X) → map (λ y. if is_it y then f y else y) (xs ++ (run ++ ys)) ≡ xs ++ (map (λ y. if is_it y then f y else y) run ++ ys)
       changed_between f =
           let change = λ (y : X). if is_it y then f y else y in
@@ -157,14 +160,14 @@ module _ {X : Type 0} (key : X → GuestPage) where
           let h = filter-append high run ys in
           grind (arith, e, f, g, h)
 
-      -- it is put into the run
+      -- in a list cut in three around a page's run, the page is put in by putting it into the run
       pub with_between : (x : X) → filter low (xs ++ (run ++ ys)) ++ x ∷ filter high (xs ++ (run ++ ys)) ≡ xs ++ ((filter low run ++ x ∷ filter high run) ++ ys)
       with_between x =
           ap₂ (λ front back. front ++ x ∷ back) only_low only_high
           ∙ append_assoc xs (filter low run) (x ∷ (filter high run ++ ys))
           ∙ ap (λ back. xs ++ back) (sym (append_assoc (filter low run) (x ∷ filter high run) ys))
 
-    -- the first behind the page stands behind those that do not come behind it
+    -- in a list in order, the first behind the page stands behind those that do not come behind the page
     pub found_behind : (xs : List X) → AllPairs Before xs → find high xs ≡ slice_get xs (length (filter (λ y. not (high y)) xs))
     found_behind [] rise = refl
     found_behind (y ∷ ys) rise =
@@ -210,13 +213,14 @@ module _ {X : Type 0} (key : X → GuestPage) where
               ]
         ]
 
+    -- a list in order without the page is what comes before the page, and what comes behind
     pub absent_parts : (xs : List X) → AllPairs Before xs → find is_it xs ≡ None → xs ≡ filter low xs ++ filter high xs
     absent_parts xs rise absent = parts xs rise ∙ ap (λ o. filter low xs ++ (one o ++ filter high xs)) absent
 
     found_parts : (xs : List X) (x : X) → AllPairs Before xs → find is_it xs ≡ Some x → xs ≡ filter low xs ++ x ∷ filter high xs
     found_parts xs x rise found = parts xs rise ∙ ap (λ o. filter low xs ++ (one o ++ filter high xs)) found
 
-    -- a page that is not there goes in behind those before it
+    -- an insert behind those before a page that is not there puts the page at its place
     pub insert_at : (x : X) (xs : List X) → key x ≡ page → AllPairs Before xs → find is_it xs ≡ None → insert xs (length (filter low xs)) x ≡ filter low xs ++ x ∷ filter high xs
     insert_at x xs at rise absent =
         let n = length (filter low xs) in
@@ -225,7 +229,7 @@ module _ {X : Type 0} (key : X → GuestPage) where
         ∙ insert-append_right (filter low xs) (filter high xs) n n x refl (omega arith)
         ∙ ap (λ i. filter low xs ++ insert (filter high xs) i x) none
 
-    -- where a page is found
+    -- a page that is found stands behind those before it
     pub found_place : (xs : List X) (x : X) → AllPairs Before xs → find is_it xs ≡ Some x → (length (filter low xs) < length xs) × ((is_it (get_or xs (length (filter low xs)) x) ≡ true) × (get_or xs (length (filter low xs)) x ≡ x))
     found_place xs x rise found =
         let split = found_parts xs x rise found in
@@ -243,21 +247,23 @@ module _ {X : Type 0} (key : X → GuestPage) where
         ∙ ap (λ i. is_it (get_or (filter high xs) i d)) none
         ∙ none_same (filter high xs) (filter_passes high xs) 0 d some
 
-    -- what stands behind those before it is the page, or the page is not there
+    -- where the element behind those before the page is of the page, a search for the page finds it
     pub found_at : (xs : List X) (d : X) → AllPairs Before xs → length (filter low xs) < length xs → is_it (get_or xs (length (filter low xs)) d) ≡ true → find is_it xs ≡ Some (get_or xs (length (filter low xs)) d)
     found_at xs d rise within here =
         by_found (find is_it xs) (λ none. absurd (true≢false (sym here ∙ absent_differs xs d rise within none)))
         (λ x found. found ∙ ap Some (sym (get_or_default xs (length (filter low xs)) d x within ∙ (found_place xs x rise found).1.1)))
 
+    -- where an element stands behind those before the page, the page is found exactly if that element is of the page
     pub found_by : (xs : List X) (d : X) → AllPairs Before xs → length (filter low xs) < length xs → is_some (find is_it xs) ≡ is_it (get_or xs (length (filter low xs)) d)
     found_by xs d rise within =
         by_found (find is_it xs) (λ none. ap is_some none ∙ sym (absent_differs xs d rise within none))
         (λ x found. ap is_some found ∙ sym (ap is_it (get_or_default xs (length (filter low xs)) d x within) ∙ (found_place xs x rise found).1.0))
 
+    -- where all of a list come before the page, the page is not found
     pub absent_past : (xs : List X) → AllPairs Before xs → length xs ≤ length (filter low xs) → find is_it xs ≡ None
     absent_past xs rise past = by_found (find is_it xs) (λ none. none) (λ x found. let at = (found_place xs x rise found).0 in absurd (omega (arith, at, past)))
 
-    -- a page that is there is taken away by a removal behind those before it
+    -- a removal behind those before a page that is there takes the page away
     pub remove_at : (xs : List X) (d : X) → AllPairs Before xs → length (filter low xs) < length xs → is_it (get_or xs (length (filter low xs)) d) ≡ true → remove xs (length (filter low xs)) ≡ filter (λ y. not (is_it y)) xs
     remove_at xs d rise within here =
         let n = length (filter low xs) in
@@ -271,6 +277,7 @@ module _ {X : Type 0} (key : X → GuestPage) where
         ∙ sym (without_between (filter low xs) (x ∷ []) (filter high xs) (filter_passes low xs) (filter_passes high xs))
         ∙ ap (filter (λ y. not (is_it y))) (sym split)
 
+    -- a list that does not have the page is the same list without the page
     pub absent_kept : (xs : List X) → find is_it xs ≡ None → xs ≡ filter (λ y. not (is_it y)) xs
     absent_kept xs absent = sym (filter_all (λ y. not (is_it y)) xs (λ k d lt. ap not (find_none is_it xs absent k d lt)))
 
@@ -278,7 +285,7 @@ module _ {X : Type 0} (key : X → GuestPage) where
     pub absent_unchanged : (f : X → X) (xs : List X) → find is_it xs ≡ None → xs ≡ map (λ y. if is_it y then f y else y) xs
     absent_unchanged f xs absent = sym (kept_all f xs (find_none is_it xs absent))
 
-    -- a page that is there is changed by a write behind those before it
+    -- a write behind those before a page that is there changes the element of that page, and no other
     pub write_at : (f : X → X) (xs : List X) (d : X) → AllPairs Before xs → length (filter low xs) < length xs → is_it (get_or xs (length (filter low xs)) d) ≡ true → set xs (length (filter low xs)) (f (get_or xs (length (filter low xs)) d)) ≡ map (λ y. if is_it y then f y else y) xs
     write_at f xs d rise within here =
         let x = get_or xs (length (filter low xs)) d in
@@ -289,7 +296,7 @@ module _ {X : Type 0} (key : X → GuestPage) where
         ∙ sym (changed_between (filter low xs) (x ∷ []) (filter high xs) (filter_passes low xs) (filter_passes high xs) f)
         ∙ ap (map (λ y. if is_it y then f y else y)) (sym split)
 
-    -- both keep the order
+    -- a list in order stays in order with an element of the page at its place
     pub with_rises : (x : X) (xs : List X) → key x ≡ page → AllPairs Before xs → AllPairs Before (filter low xs ++ x ∷ filter high xs)
     with_rises x xs at rise =
         let below = filter low xs in
@@ -304,9 +311,11 @@ module _ {X : Type 0} (key : X → GuestPage) where
         pairs_append Before below (x ∷ above) (AllPairs-filter Before low xs rise)
         (AllPairs-cons Before x above all_above (AllPairs-filter Before high xs rise)) cross
 
+    -- a list in order stays in order without the page
     pub without_rises : (xs : List X) → AllPairs Before xs → AllPairs Before (filter (λ y. not (is_it y)) xs)
     without_rises xs rise = AllPairs-filter Before (λ y. not (is_it y)) xs rise
 
+    -- a list in order stays in order where the element of a page is changed, but for its page
     pub write_rises : (f : X → X) → ((y : X) → key (f y) ≡ key y) → (xs : List X) → AllPairs Before xs → AllPairs Before (map (λ y. if is_it y then f y else y) xs)
     write_rises f same xs rise =
         pairs_mapped Before Before (λ y. key (if is_it y then f y else y) ≡ key y) (λ y. if is_it y then f y else y) (λ a b p q less. ap₂ comes_before p q ∙ less) xs
@@ -317,7 +326,7 @@ module _ {X : Type 0} (key : X → GuestPage) where
 
     -- what is counted of a page that is found
     module _ (p : X → Bool) (x : X) (xs : List X) (rise : AllPairs Before xs) (found : find is_it xs ≡ Some x) where
-      -- it is one of them, if it passes
+      -- an element that is found counts as one where it passes
       pub found_counted : from_bool (p x) ≤ count_by p xs
       found_counted =
           let at = found_place xs x rise found in
@@ -325,20 +334,20 @@ module _ {X : Type 0} (key : X → GuestPage) where
           let one = byte_of (p x) ∙ ap (λ y. cond (p y) 1 0) (sym at.1.1) in
           omega (arith, less, one)
 
-      -- once it is taken out
+      -- without the element of the page the count is less by what that element counted
       pub removed_count : count_by p xs - from_bool (p x) ≡ count_by p (filter (λ y. not (is_it y)) xs)
       removed_count =
           let at = found_place xs x rise found in
           count_removed p xs (length (filter low xs)) x (count_by p xs) (from_bool (p x)) at.0 refl (ap (λ y. from_bool (p y)) (sym at.1.1))
           ∙ ap (count_by p) (remove_at xs x rise at.0 at.1.0)
 
-      -- there is one less
+      -- without the element of a page that is found, a list is one shorter
       pub removed_length : length (filter (λ y. not (is_it y)) xs) + 1 ≡ length xs
       removed_length =
           let at = found_place xs x rise found in
           ap (λ ys. length ys + 1) (sym (remove_at xs x rise at.0 at.1.0)) ∙ length-remove xs (length (filter low xs)) at.0
 
-      -- once it is changed
+      -- with the element of the page changed, the count loses what the old one counted and gets the new
       pub changed_count : (f : X → X) → count_by p xs - from_bool (p x) + from_bool (p (f x)) ≡ count_by p (map (λ y. if is_it y then f y else y) xs)
       changed_count f =
           let at = found_place xs x rise found in
@@ -346,13 +355,13 @@ module _ {X : Type 0} (key : X → GuestPage) where
           (ap (λ y. from_bool (p y)) (sym at.1.1)) (ap (λ y. from_bool (p (f y))) (sym at.1.1))
           ∙ ap (count_by p) (write_at f xs x rise at.0 at.1.0)
 
-    -- one page more
+    -- with an element of a page that was not there, a list is one longer
     pub length_with : (x : X) (xs : List X) → key x ≡ page → AllPairs Before xs → find is_it xs ≡ None → length (filter low xs ++ x ∷ filter high xs) ≡ length xs + 1
     length_with x xs at rise absent =
         let few : length (filter low xs) ≤ length xs = omega (arith, length-filter low xs, count_by-le-length low xs) in
         ap length (sym (insert_at x xs at rise absent)) ∙ length-insert xs (length (filter low xs)) x few
 
-    -- and what is counted with it
+    -- with an element of a page that was not there, the count is more by what that element counts
     pub count_with : (p : X → Bool) (x : X) (xs : List X) → key x ≡ page → AllPairs Before xs → find is_it xs ≡ None → count_by p (filter low xs ++ x ∷ filter high xs) ≡ count_by p xs + cond (p x) 1 0
     count_with p x xs at rise absent =
         ap (count_by p) (sym (insert_at x xs at rise absent)) ∙ sum_by-insert (λ y. cond (p y) 1 0) xs (length (filter low xs)) x

@@ -9,7 +9,7 @@ use Rattle.ksm_pages.proofs.Lodgings.{changed_to, frame_by, lodged_changed, lodg
 abbrev pub of_dup : Inside → ℕ → Option ℕ
 of_dup s = lodging (dup_rows s.dups.dups) s.frames.items
 
--- what tells the pages inside apart
+-- what is seen of the pages inside, as the value that tells pages apart
 abbrev pub view_of : Inside → PagesValue
 view_of s = record {
   shape = s.shape;
@@ -25,7 +25,7 @@ view_of s = record {
 abbrev pub AreLawful : Inside → Type 0
 AreLawful s = AreKept s.shape s.knobs (rows_of s.rows.held) s.dups s.frames.items
 
--- two changes of the row of a page, one after the other
+-- two changes of what is held of a page, one after the other, are one change
 pub held_twice : (page : GuestPage) (f g : Held → Held) → ((h : Held) → (f h).row.page ≡ h.row.page) → (held : List Held) → change_held page g (change_held page f held) ≡ change_held page (λ h. g (f h)) held
 held_twice page f g same held =
     map_mapped (λ h. if holds page h then g h else h) (λ h. if holds page h then f h else h) (λ h. if holds page h then g (f h) else h) held (λ k d lt. at _)
@@ -53,17 +53,19 @@ module _ (s : Inside) (p : PagesValue) (seen_as : view_of s ≡ p) (page : Guest
   rows_seen : rows_of s.rows.held ≡ p.rows
   rows_seen = ap (λ (v : PagesValue). v.rows) seen_as
 
+  -- the row of a page that is seen is the row of what is held of the page
   pub row_seen : row_at page p.rows ≡ option_map (λ (g : Held). g.row) (held_at page s.rows.held)
   row_seen = ap (row_at page) (sym rows_seen) ∙ row_found page s.rows.held
 
-  -- a page that has a row is found
+  -- a page that has a row among those seen is held
   pub known_there : held_at page s.rows.held ≡ None → IsKnown page p.rows → true ≡ false
   known_there gone known = sym known ∙ ap is_some row_seen ∙ ap (λ o. is_some (option_map (λ (g : Held). g.row) o)) gone
 
+  -- a page with a frame of its own is held
   pub alone_there : held_at page s.rows.held ≡ None → IsAlone page p.rows → true ≡ false
   alone_there gone alone = subst (λ o. MatchOption o (true ≡ false) (λ (r : Row). shared_state r.state ≡ false)) (row_seen ∙ ap (option_map (λ (g : Held). g.row)) gone) alone
 
-  -- a page with a frame of its own is found with such a row
+  -- what is held of a page with a frame of its own has a row that is not shared
   pub alone_found : (h : Held) → held_at page s.rows.held ≡ Some h → IsAlone page p.rows → shared_state h.row.state ≡ false
   alone_found h found alone = subst (λ o. MatchOption o (true ≡ false) (λ (r : Row). shared_state r.state ≡ false)) (row_seen ∙ ap (option_map (λ (g : Held). g.row)) found) alone
 
@@ -71,9 +73,11 @@ module _ (s : Inside) (are : AreLawful s) (page : GuestPage) (h : Held) (found :
   abbrev old : Row
   old = h.row
 
+  -- what is held of a page tells its row among the rows
   pub row_there : row_at page (rows_of s.rows.held) ≡ Some old
   row_there = row_found page s.rows.held ∙ ap (option_map (λ (g : Held). g.row)) found
 
+  -- the row that is held of a page is of that page
   pub of_page : old.page ≡ page
   of_page = same_page_eq old.page page (find_passes (λ r. same_page r.page page) (rows_of s.rows.held) old row_there)
 
@@ -83,17 +87,18 @@ module _ (s : Inside) (are : AreLawful s) (page : GuestPage) (h : Held) (found :
     lies = ap (seat (of_dup s)) (sym found) ∙ sym (frame_by (of_dup s) s.rows.held page) ∙ ap (λ (v : PagesValue). frame_of v.lodgings page) seen_as
 
   module _ (f : Held → Held) (g : Row → Row) (is : (x : Held) → (f x).row ≡ g x.row) (same : (r : Row) → (g r).page ≡ r.page) (rows : RowsView) (turned : rows.held ≡ change_held page f s.rows.held) where
-    -- the rows are those with the new one in the stead of the old one
+    -- once a page's row changed, the rows are those with the new row in place of the old one
     pub rows_turned : rows_of rows.held ≡ change_row page (λ _. g old) (rows_of s.rows.held)
     rows_turned = ap rows_of turned ∙ rows_changed page f g s.rows.held is ∙ changed_to page g (rows_of s.rows.held) old are.order row_there
 
+    -- a change of the row of one page alone leaves the page of every row
     pub keeps : (r : Row) → (if same_page r.page page then g r else r).page ≡ r.page
     keeps r = elim (cases_Bool (same_page r.page page)) [
       | inl yes_it ↦ ap (λ b. (cond b (g r) r).page) yes_it ∙ same r
       | inr not_it ↦ ap (λ b. (cond b (g r) r).page) not_it
     ]
 
-    -- the pages are lawful where dups and waiting pages are those of the new rows
+    -- once a page's row changed, the pages are lawful if the dups and waiting pages are those of the new rows
     pub lawful_turned : (later : DupsState) → later.places ≡ s.dups.places → AreTied (change_row page (λ _. g old) (rows_of s.rows.held)) later.dups
         → AreWaiting s.knobs (change_row page (λ _. g old) (rows_of s.rows.held)) later.waiting → AreKept s.shape s.knobs (rows_of rows.held) later s.frames.items
     lawful_turned later places tied waits =
@@ -110,7 +115,7 @@ module _ (s : Inside) (are : AreLawful s) (page : GuestPage) (h : Held) (found :
 
     module _ (p : PagesValue) (seen_as : view_of s ≡ p) (later : DupsState) (dups : dup_rows later.dups ≡ dup_rows s.dups.dups) (next : later.next ≡ s.dups.next)
         (to : Row → Row) (agree : g old ≡ to old) where
-      -- the page comes to lie where the new row says
+      -- once a page's row changed, the page is seen with the new row, on the frame that the new row says
       pub told : (frame : Option ℕ) → seat (of_dup s) (Some (f h)) ≡ frame
           → seen (view_of (record s { rows = rows; dups = later })) ≡ record (seen p) { rows = change_row page to p.rows; frame = lies_on page frame (frame_of p.lodgings); restless = rows.restless }
       told frame lodged =
@@ -123,7 +128,7 @@ module _ (s : Inside) (are : AreLawful s) (page : GuestPage) (h : Held) (found :
           (λ i. record (seen (view_of (record s { rows = rows; dups = later }))) { rows = new i; frame = lain i; dups = dups i; next = next i })
           ∙ ap (λ (v : PagesValue). record (seen v) { rows = change_row page to v.rows; frame = lies_on page frame (frame_of v.lodgings); restless = rows.restless }) seen_as
 
-      -- no page moves where the new row says the same
+      -- where the new row of a page says the old frame, the page is seen with the new row, and no page moves
       pub told_still : seat (of_dup s) (Some (f h)) ≡ seat (of_dup s) (Some h)
           → seen (view_of (record s { rows = rows; dups = later })) ≡ record (seen p) { rows = change_row page to p.rows; restless = rows.restless }
       told_still stays =
@@ -132,17 +137,18 @@ module _ (s : Inside) (are : AreLawful s) (page : GuestPage) (h : Held) (found :
 
   -- the page left its dup, or stopped waiting
   module _ (later : DupsState) (out : later ≡ record s.dups { dups = let_out old.state old.page s.dups.dups; waiting = later.waiting }) (stopped : IsStopped s.knobs old s.dups.waiting later.waiting) where
-    -- the dups are as they were, but for their items
+    -- once a page was let out, the dups are as they were, but for their items
     pub same_dups : dup_rows later.dups ≡ dup_rows s.dups.dups
     same_dups = ap (λ (d : DupsState). dup_rows d.dups) out ∙ rows_out old.state old.page s.dups.dups
 
+    -- once a page was let out, the number of the next dup is what it was
     pub same_next : later.next ≡ s.dups.next
     same_next = ap (λ (d : DupsState). d.next) out
 
     dups_out : later.dups ≡ let_out old.state page s.dups.dups
     dups_out = ap (λ (d : DupsState). d.dups) out ∙ ap (λ q. let_out old.state q s.dups.dups) of_page
 
-    -- its row is another, that is not merged and does not wait
+    -- once a page was let out and its new row is neither merged nor waiting, the pages are lawful
     pub lawful_left : (f : Held → Held) (g : Row → Row) → ((x : Held) → (f x).row ≡ g x.row) → ((r : Row) → (g r).page ≡ r.page) → (rows : RowsView) → rows.held ≡ change_held page f s.rows.held
         → merged_state (g old).state ≡ false → waiting_state (g old).state ≡ false → AreKept s.shape s.knobs (rows_of rows.held) later s.frames.items
     lawful_left f g is same rows turned alone still =
@@ -157,7 +163,7 @@ module _ (s : Inside) (are : AreLawful s) (page : GuestPage) (h : Held) (found :
       rows_gone : rows_of rows.held ≡ without_page page (rows_of s.rows.held)
       rows_gone = ap rows_of gone ∙ rows_without page s.rows.held
 
-      -- its row is gone
+      -- once a page was let out and its row is gone, the pages are lawful
       pub lawful_gone : AreKept s.shape s.knobs (rows_of rows.held) later s.frames.items
       lawful_gone =
           let before = rows_of s.rows.held in
@@ -171,6 +177,7 @@ module _ (s : Inside) (are : AreLawful s) (page : GuestPage) (h : Held) (found :
             room = are.room;
           }
 
+      -- once a page was let out and its row is gone, the page is seen without a row and lies on no frame
       pub told_gone : (p : PagesValue) → view_of s ≡ p
           → seen (view_of (record s { rows = rows; dups = later })) ≡ record (seen p) { rows = without_page page p.rows; frame = lies_on page None (frame_of p.lodgings); restless = rows.restless }
       told_gone p seen_as =

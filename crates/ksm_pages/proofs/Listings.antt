@@ -5,7 +5,7 @@ use Rattle.ksm_pages.proofs.Names.{any-filter_same, ap, ap₂, arith, Bool, case
 part_has : (test : GuestPage → Bool) (p : GuestPage) (pages : List GuestPage) → has_item p (filter test pages) ≡ (test p && has_item p pages)
 part_has test p pages = any-filter_same (λ q. same_page q p) test (test p) (λ q same. ap test (same_page_eq q p same)) pages
 
--- a list with one page more has it, and what it had
+-- a list with one page more has that page, and all pages that the list had
 pub with_has : (p q : GuestPage) (pages : List GuestPage) → (same_page q p ≡ true) ⊎ (has_item p pages ≡ true) → has_item p (with_item q pages) ≡ true
 with_has p q pages either =
     list_any-append (λ x. same_page x p) (filter (λ x. comes_before x q) pages) (q ∷ filter (λ x. comes_before q x) pages)

@@ -3,7 +3,7 @@ use Rattle.ksm_pages.proofs.Names.{All, ap, cases_Bool, change_held, change_row,
 use Rattle.ksm_pages.proofs.Alike.{find_mapped, map_alike}
 use Rattle.ksm_pages.proofs.Found.{find_gone, find_gone_other}
 
--- where the page of a row lies, if there is one
+-- where what is held of a page lies: on a frame, or on none where nothing is held
 abbrev pub seat : (ℕ → Option ℕ) → Option Held → Option ℕ
 seat of_dup None = None
 seat of_dup (Some h) = frame_seen of_dup h.row.state h.frame
@@ -11,7 +11,7 @@ seat of_dup (Some h) = frame_seen of_dup h.row.state h.frame
 abbrev lodging_by : (ℕ → Option ℕ) → Held → Lodging
 lodging_by of_dup h = record { page = h.row.page; frame = frame_seen of_dup h.row.state h.frame }
 
--- a page lies where its row says
+-- a page lies where what is held of it says
 pub frame_by : (of_dup : ℕ → Option ℕ) (held : List Held) (page : GuestPage) → frame_of (lodgings_of of_dup held) page ≡ seat of_dup (held_at page held)
 frame_by of_dup held page =
     ap (option_and_then (λ (l : Lodging). l.frame)) (find_mapped (lodging_by of_dup) (λ l. same_page l.page page) (holds page) held (λ k d lt. refl))
@@ -31,7 +31,7 @@ module _ (page : GuestPage) (f : Held → Held) (same : (h : Held) → (f h).row
     | inr not_it ↦ ap (λ b. holds p (cond b (f h) h)) not_it
   ]
 
-  -- the changed row of the page is found, and any other as it was
+  -- once a page's row is changed, a search finds the changed row, and any other as it was
   pub found_changed : (p : GuestPage) (held : List Held) → held_at p (change_held page f held) ≡ (if same_page p page then option_map f (held_at p held) else held_at p held)
   found_changed p held =
       find_mapped change (holds p) (holds p) held (λ k d lt. keeps p (get_or held k d))
@@ -88,7 +88,7 @@ lodged_gone page of_dup held = λ i p. at p i
               ∙ ap (λ b. cond b None (frame_of (lodgings_of of_dup held) p)) (sym not_it)
         ]
 
--- a change of the row of a page puts what becomes of it in its stead
+-- a change of the row of a page writes there what the change makes of the old row
 pub changed_to : (page : GuestPage) (g : Row → Row) (rows : List Row) (old : Row) → InPageOrder rows → row_at page rows ≡ Some old → change_row page g rows ≡ change_row page (λ _. g old) rows
 changed_to page g rows old rise found =
     map_alike (λ r. if same_page r.page page then g r else r) (λ r. if same_page r.page page then g old else r) rows (λ k d lt. at (get_or rows k d) (only k d lt))

@@ -25,7 +25,7 @@ module _ (knobs : Knobs) (rows : List Row) (w : List WaitingPage) (row : Row) (r
       go (Some page) at = looked_up (Some page) at
           ∙ ap (λ b. cond b None (row_at page rows)) (ap (λ (p : GuestPage). same_page p row.page) (sym (met_so (Some page) at)) ∙ own)
 
-  -- where it is another, that page waited before
+  -- where the page that waits with the row's bytes is another page, that page waited before
   pub met_other : same_page met row.page ≡ false → waits ≡ Some met
   met_other other = go waits refl
     where
@@ -34,7 +34,7 @@ module _ (knobs : Knobs) (rows : List Row) (w : List WaitingPage) (row : Row) (r
           (sym (ap (λ (p : GuestPage). same_page p row.page) (met_so None at) ∙ same_page_refl row.page) ∙ other))
       go (Some page) at = at ∙ ap Some (sym (met_so (Some page) at))
 
-  -- and its row is the partner
+  -- where the page that waits with the row's bytes is another page, its row is the partner
   pub met_partner : same_page met row.page ≡ false → MatchOption (partner knobs rows row) (true ≡ false) (λ r. met ≡ r.page)
   met_partner other =
       subst (λ o. MatchOption o (true ≡ false) (λ (r : Row). met ≡ r.page))
@@ -45,7 +45,7 @@ module _ (knobs : Knobs) (rows : List Row) (w : List WaitingPage) (row : Row) (r
           ∙ look_up_found knobs rows w (tree_of knobs row) row.bytes met are (met_other other))
       go (Some r) there = sym (same_page_eq r.page met (find_passes (λ (r : Row). same_page r.page met) rows r there))
 
-  -- the waiting pages are those of the rows, once the row waits
+  -- once a row waits that met no other page, the waiting pages are those of the rows
   pub met_waits : row_at row.page rows ≡ Some row → same_page met row.page ≡ true → (new : List WaitingPage)
       → IsAdded (tree_of knobs row) row.bytes met w new → (is_some waits ≡ true → new ≡ w)
       → AreWaiting knobs (change_row row.page (λ _. record row { state = Waiting }) rows) new

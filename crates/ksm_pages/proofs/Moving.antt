@@ -5,7 +5,7 @@ use Rattle.ksm_pages.proofs.Filing.{differ_by}
 use Rattle.ksm_pages.proofs.Lodgings.{frame_by, seat}
 use Rattle.ksm_pages.proofs.Paired.{set_away, set_there}
 
--- the place of a dup is below all places
+-- a place where a dup stands is below the bound of all places
 pub any_below : (place n : ℕ) (dups : List DupRow) → All (λ d. d.place < n) dups → list_any (λ d. d.place == place) dups ≡ true → place < n
 any_below place n [] below there = cc
 any_below place n (d ∷ dups) below there = elim (cases_Bool (d.place == place)) [

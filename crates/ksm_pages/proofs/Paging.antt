@@ -16,18 +16,18 @@ use Rattle.ksm_pages.proofs.Lodgings.{frame_by, seat}
 
 -- ---------------------------------------------------------------- options
 
--- an option that is mapped twice
+-- two maps of an option, one after the other, are one map
 pub mapped_twice : {X Y Z : Type 0} (f : Y → Z) (g : X → Y) (o : Option X) → option_map f (option_map g o) ≡ option_map (λ x. f (g x)) o
 mapped_twice f g None = refl
 mapped_twice f g (Some x) = refl
 
 -- ---------------------------------------------------------------- rows
 
--- a page has a row where what is kept of one is found
+-- a page has a row among the rows exactly where something is held of it
 pub row_known : (page : GuestPage) (held : List Held) → is_some (held_at page held) ≡ is_some (row_at page (rows_of held))
 row_known page held = sym (some_mapped (λ (h : Held). h.row) (held_at page held)) ∙ ap is_some (sym (row_found page held))
 
--- a row is merged or Zero where it has no frame of its own
+-- a row is shared exactly where it has no frame of its own
 pub shared_by : (b : Bool) (kind : Kind) (number pass at : ℕ) → not b ≡ is_some (frame_of kind at)
     → b ≡ shared_state (state_of kind number pass)
 shared_by b kind number pass at is =
@@ -37,7 +37,7 @@ shared_by b kind number pass at is =
 pub lies_own : (of_dup : ℕ → Option ℕ) (number pass at : ℕ) → Some at ≡ frame_seen of_dup (state_of kinds.Own number pass) (Some at)
 lies_own of_dup number pass at = own_either (λ state. Some at ≡ frame_seen of_dup state (Some at)) refl refl (number == pass)
 
--- where no row waits, the knobs do not matter
+-- where no row waits, the waiting pages are right for any knobs
 pub knobs_free : (knobs tuned : Knobs) (rows : List Row) (w : List WaitingPage) → AreWaiting knobs rows w → All (λ r. waiting_state r.state ≡ false) rows → AreWaiting tuned rows w
 knobs_free knobs tuned rows w are still t b q = are t b q ∙ go (row_at q rows) refl
   where
@@ -49,7 +49,7 @@ knobs_free knobs tuned rows w are still t b q = are t b q ∙ go (row_at q rows)
 
 -- ---------------------------------------------------------------- dups
 
--- the place of the dup with a number
+-- the dup with a number stands at the place that the dup row with that number tells
 pub place_numbered : (number : ℕ) (dups : List Dup) → option_map (λ d. d.row.place) (dup_of number dups) ≡ option_map (λ d. d.place) (dup_numbered number (dup_rows dups))
 place_numbered number dups =
     sym (mapped_twice (λ (d : DupRow). d.place) (λ (d : Dup). d.row) (dup_of number dups))
@@ -73,7 +73,7 @@ any_at place (d ∷ dups) =
       | inr away ↦ grind (arith, away, rest)
     ]
 
--- the first stale dup by its items is the first by the rows
+-- the first stale dup by its items stands at the place of the first stale dup by the rows
 pub stale_at : (rows : List Row) (dups : List Dup) → AreTied rows dups → option_map (λ d. d.row.place) (find is_stale dups) ≡ option_map (λ (r : DupRow). r.place) (find (is_stale_row rows) (dup_rows dups))
 stale_at rows dups tied =
     sym (mapped_twice (λ (d : DupRow). d.place) (λ (d : Dup). d.row) (find is_stale dups))
@@ -81,21 +81,22 @@ stale_at rows dups tied =
 
 -- ---------------------------------------------------------------- frames
 
--- what is kept at the place of a dup
+-- the frame of a dup that there may be is read at its place, whether the place is taken first or not
 pub kept_at_place : (frames : List ℕ) (o : Option DupRow) → option_and_then (slice_get frames) (option_map (λ d. d.place) o) ≡ option_and_then (λ d. slice_get frames d.place) o
 kept_at_place frames None = refl
 kept_at_place frames (Some d) = refl
 
 -- ---------------------------------------------------------------- the row of a page
 
--- what is kept of a page tells its row
+-- what is held of a page tells its row
 pub row_told : (page : GuestPage) (held : List Held) (h : Held) → held_at page held ≡ Some h → row_at page (rows_of held) ≡ Some h.row
 row_told page held h is = row_found page held ∙ ap (option_map (λ (g : Held). g.row)) is
 
--- and where nothing is kept of it, it has none
+-- where nothing is held of a page, it has no row
 pub row_gone : (page : GuestPage) (held : List Held) → held_at page held ≡ None → row_at page (rows_of held) ≡ None
 row_gone page held is = row_found page held ∙ ap (option_map (λ (g : Held). g.row)) is
 
+-- an option that is told not to be full is empty
 pub none_known : {X : Type 0} (o : Option X) → false ≡ is_some o → o ≡ None
 none_known None is = refl
 none_known (Some x) is = absurd (true≢false (sym is))
@@ -108,7 +109,7 @@ lies_nowhere of_dup held page gone = frame_by of_dup held page ∙ go (held_at p
     go None is = refl
     go (Some h) is = absurd (grind (arith, is))
 
--- pages that are listed, as the callers say it
+-- where the pages of all rows that a visit may change are listed, each such row's page is in the list
 pub listed_pages : (rows : List Row) (pages : List GuestPage) → AreAllListed rows pages → All (λ r. is_restless r ≡ true → Contains pages r.page) rows
 listed_pages rows pages all k d lt may = Contains-from_any {eq = λ q p. same_page p q} (λ p q same. sym (same_page_eq q p same)) (get_or rows k d).page pages (all k d lt may)
 
@@ -170,7 +171,7 @@ module _ (rows : List Row) (dups : List Dup) (place : ℕ) (tied : AreTied rows 
 abbrev page_of : Row → GuestPage
 page_of r = r.page
 
--- visits that come to a page are visits of rows that come to it
+-- visits that come to a page in a list of rows' pages come to the row of that page
 pub comes : (rows : List Row) (visits : ℕ) (to : Ahead) → Reaches (map page_of rows) visits to → ComesTo rows visits to
 comes rows visits (At page) is = (subst (λ n. visits < n) (length-map rows page_of) is.0, sym (slice_get-map page_of rows (visits - 1)) ∙ is.1)
 comes rows visits (End made) is = (is.0 ∙ length-map rows page_of, is.1)
@@ -182,7 +183,7 @@ passed cursor page rows = filter_mapped page_of (λ p. comes_before p page) (λ 
 one_less : (n : ℕ) → suc n - 1 ≡ n
 one_less n = omega arith
 
--- the last of the pages is that of the last row
+-- the last of the pages, or the cursor, is the page of the last row, or the cursor
 pub last_is : (cursor : Option GuestPage) (rows : List Row) → last_or cursor (map page_of rows) ≡ last_page cursor rows
 last_is cursor [] = refl
 last_is cursor (r ∷ []) = refl

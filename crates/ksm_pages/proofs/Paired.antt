@@ -14,13 +14,13 @@ use Rattle.ksm_pages.proofs.Visiting.{lawful_numbered, seen_numbered}
 
 -- ---------------------------------------------------------------- what is kept at one place
 
--- what is written is kept there
+-- a number written at a place is found there
 pub set_there : (xs : List ℕ) (i x : ℕ) → i < length xs → slice_get (set xs i x) i ≡ Some x
 set_there [] i x lt = absurd (omega (arith, lt))
 set_there (y ∷ ys) zero x lt = refl
 set_there (y ∷ ys) (suc i) x lt = set_there ys i x (omega (arith, lt))
 
--- and nothing else changes
+-- a number written at a place leaves all other places as they are
 pub set_away : (xs : List ℕ) (i j x : ℕ) → j ≢ i → slice_get (set xs i x) j ≡ slice_get xs j
 set_away [] i j x away = refl
 set_away (y ∷ ys) zero zero x away = absurd (away refl)
@@ -39,7 +39,7 @@ module _ (dups : List DupRow) (dup : DupRow) (frames : List ℕ) (frame : ℕ) w
       ∙ ap (option_and_then (slice_get (set frames dup.place frame))) (place_new dup dups fresh)
       ∙ set_there frames dup.place frame inside
 
-  -- and a dup that stands elsewhere keeps its own
+  -- a dup that stands elsewhere keeps its frame where one is written for a new dup
   pub lodged_kept : InPlaceOrder dups → (n : ℕ) → (n == dup.number) ≡ false
       → ((e : DupRow) → dup_numbered n dups ≡ Some e → (e.place == dup.place) ≡ false) → of_now n ≡ lodging dups frames n
   lodged_kept rise n other away =
@@ -89,10 +89,11 @@ module _ (s : Inside) (p : PagesValue) (seen_as : view_of s ≡ p) (place : ℕ)
       → IsOfBoth (MayPair (seen p) place) (option_map (λ h. h.row) o) (row_at second p.rows)
   may_first o is = subst (λ r. IsOfBoth (MayPair (seen p) place) r (row_at second p.rows)) (row_is first o is) may
 
-  -- both pages have rows
+  -- the first of two pages that may pair is held
   pub first_there : held_at first s.rows.held ≡ None → true ≡ false
   first_there gone = may_first None gone
 
+  -- the second of two pages that may pair is held
   pub second_there : held_at second s.rows.held ≡ None → true ≡ false
   second_there gone = go (held_at first s.rows.held) refl
     where
@@ -113,12 +114,12 @@ with_pair row first second d =
     let items = with_item second (first ∷ []) in
     record d { dups = with_new (record { row = row; items = items }) d.dups; next = d.next + 1 }
 
--- two pages with frames of their own come to be mapped from that of a dup
+-- what is held once two pages are merged into the dup with a number
 abbrev pub both_merged : ℕ → GuestPage → GuestPage → List Held → List Held
 both_merged number first second held =
     change_held second (mapped (Merged number) None) (change_held first (mapped (Merged number) None) held)
 
--- the entries of two pages, which may become the items of a new dup
+-- two pages whose entries are known may become the items of a new dup at the place
 pub record CanPair (s : Inside) (p : PagesValue) (place : ℕ) (first second : GuestPage) (pass : ℕ) (one other : Entry) : Type 0 where
   pub kept : AreLawful s
   pub seen_as : view_of s ≡ p
@@ -126,7 +127,7 @@ pub record CanPair (s : Inside) (p : PagesValue) (place : ℕ) (first second : G
   pub also : held_at second s.rows.held ≡ Some (held_of pass other)
   pub may : MayPair (seen (view_of s)) place (held_of pass one).row (held_of pass other).row
 
--- groups get numbers for that, and else the pages stay as they were
+-- two pages that may pair still may, with their entries, once groups got numbers
 pub can_pair : (s : Inside) → AreLawful s → {p : PagesValue} → view_of s ≡ p → (place : ℕ) (first second : GuestPage)
     → IsOfBoth (MayPair (seen p) place) (row_at first p.rows) (row_at second p.rows) → (pass : ℕ) (one other : Entry)
     → held_at first s.rows.held ≡ Some (held_of pass one) → held_at second s.rows.held ≡ Some (held_of pass other)
@@ -165,21 +166,22 @@ module _ {s : Inside} {p : PagesValue} {place : ℕ} {first second : GuestPage} 
   at_second : second ≡ b.row.page
   at_second = sym (of_page s are second b it.also)
 
-  -- no dup with items stands at the place
+  -- where two pages can pair at a place, no dup with items stands there
   pub is_free : find (λ d. stands_at place d && is_live d) s.dups.dups ≡ None
   is_free = none_live place before s.dups.dups are.tied may.vacant
 
-  -- the pages differ
+  -- two pages that can pair differ
   pub are_apart : same_page first second ≡ false
   are_apart = ap₂ same_page at_first at_second ∙ may.apart
 
   own_first : seat (of_dup s) (Some a) ≡ Some one.at
   own_first = own_seat (of_dup s) pass one may.first_alone
 
-  -- both lie on frames of their own
+  -- the first of two pages that can pair lies on the frame of its own
   pub lay_first : frame_of p.lodgings first ≡ Some one.at
   lay_first = sym (lies s are first a it.found p it.seen_as) ∙ own_first
 
+  -- the second of two pages that can pair lies on the frame of its own
   pub lay_second : frame_of p.lodgings second ≡ Some other.at
   lay_second = sym (lies s are second b it.also p it.seen_as) ∙ own_seat (of_dup s) pass other may.second_alone
 
@@ -255,7 +257,7 @@ module _ {s : Inside} {p : PagesValue} {place : ℕ} {first second : GuestPage} 
         (row_found b.row.page half ∙ ap (option_map (λ (h : Held). h.row)) found_second)
         ∙ ap (change_row b.row.page (λ _. item b.row)) (half_rows ∙ changed_to a.row.page item before a.row are.order may.first_is)
 
-    -- the pages are lawful
+    -- the pages are lawful once two of them became the items of a new dup
     pub lawful_paired : AreKept s.shape s.knobs (rows_of rows.held) later (set s.frames.items place frame)
     lawful_paired = record {
       small = are.small;
@@ -324,7 +326,7 @@ module _ {s : Inside} {p : PagesValue} {place : ℕ} {first second : GuestPage} 
         let listed = ap (λ (r : RowsView). r.restless) turned in
         λ i. record (seen (view_of s)) { rows = changed i; frame = now_lie i; dups = dups i; next = next i; restless = listed i }
 
-    -- what is seen of the pages
+    -- once two pages became the items of a new dup, the pages are seen as paired on the first one's frame
     pub told_paired : let now = seen (view_of (record s { rows = rows; dups = later; frames = with_frame s.frames place frame })) in
         IsOfBoth (λ r t. now ≡ paired place r t (seen p)) (row_at first p.rows) (row_at second p.rows)
     told_paired =

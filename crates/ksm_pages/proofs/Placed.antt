@@ -8,9 +8,11 @@ use Rattle.ksm_pages.proofs.Keyed.{changed_between, find_between, with_between, 
 abbrev before : Named → Named → Type 0
 before m n = comes_before m.page n.page ≡ true
 
+-- a named page comes before the page
 abbrev pub low : GuestPage → Named → Type 0
 low page n = comes_before n.page page ≡ true
 
+-- a named page comes behind the page
 abbrev pub high : GuestPage → Named → Type 0
 high page n = comes_before page n.page ≡ true
 
@@ -21,7 +23,7 @@ pages_cut runs at d within =
     ∙ flat_map-append (λ run. run) (take at runs) (drop at runs)
     ∙ ap (λ rest. pages_in (take at runs) ++ pages_in rest) (drop_more runs at d within)
 
--- the same where another run stands in its place
+-- with another run in its place, all pages are those before the old run, the new run's, and those behind
 pub pages_set : (runs : List (List Named)) (at : ℕ) (run : List Named) → at < length runs → pages_in (set runs at run) ≡ pages_in (take at runs) ++ (run ++ pages_in (drop (at + 1) runs))
 pages_set runs at run within =
     ap pages_in (set_split runs at run within)
@@ -57,7 +59,7 @@ behind_run page runs parts at begins =
       | inr past ↦ subst (λ rs. All (high page) (pages_in rs)) (sym (drop_all at runs past)) (All-nil (high page))
     ]
 
--- where the pages of a run come before a page, so do all up to the end of that run
+-- where all before a run come before a page, and all of the run do, so do all up to the run's end
 pub ahead_through : (page : GuestPage) (runs : List (List Named)) (at : ℕ) (d : List Named) → at < length runs → All (low page) (pages_in (take at runs))
     → list_all (λ n. comes_before n.page page) (get_or runs at d) ≡ true → All (low page) (pages_in (take (at + 1) runs))
 ahead_through page runs at d within before ends =
@@ -68,7 +70,7 @@ ahead_through page runs at d within before ends =
     subst (All (low page)) (sym cut)
     (All-append (low page) (pages_in (take at runs)) run before (AllPass-from_list_all (λ n. comes_before n.page page) run ends))
 
--- the last run that does not begin behind a page is its run, or else the first
+-- the last run that does not begin behind a page, or else the first run, is the run of the page
 pub placed_at : (page : GuestPage) (runs : List (List Named)) → AreRuns runs → (n : ℕ) → n ≤ length runs
     → AllWithin (λ run. not (begins_behind page run) ≡ true) runs 0 n → AllWithin (λ run. not (begins_behind page run) ≡ false) runs n (length runs) → IsRunOf page runs (n - 1)
 placed_at page runs parts n within below above = record {
@@ -84,13 +86,13 @@ first_of_run : (run rest : List Named) → run ≢ [] → slice_get (run ++ rest
 first_of_run [] rest filled = absurd (filled refl)
 first_of_run (n ∷ ns) rest filled = refl
 
--- the first page of a run is the first of all from that run on
+-- the first page of a run is the first of all pages from that run on
 pub first_from_run : (runs : List (List Named)) (at : ℕ) (d : List Named) → AreRuns runs → at < length runs → slice_get (pages_in (drop at runs)) 0 ≡ slice_get (get_or runs at d) 0
 first_from_run runs at d parts within =
     ap (λ rs. slice_get (pages_in rs) 0) (drop_more runs at d within)
     ∙ first_of_run (get_or runs at d) (pages_in (drop (at + 1) runs)) (parts.filled at d within)
 
--- where all pass, the first is found
+-- where all elements pass, a search finds the first
 pub find_first : {X : Type 0} (p : X → Bool) (xs : List X) → All (λ x. p x ≡ true) xs → find p xs ≡ slice_get xs 0
 find_first p [] all = refl
 find_first p (x ∷ xs) all = let here : p x ≡ true = all 0 x (omega arith) in grind (arith, here)
@@ -104,7 +106,7 @@ none_found p (x ∷ xs) none =
     grind (arith, here, rest)
 
 module _ (page : GuestPage) (runs : List (List Named)) (at : ℕ) (d : List Named) (place : IsRunOf page runs at) (within : at < length runs) where
-  -- a page is found in its run
+  -- a search for a page among all pages finds what it finds in the run of the page
   pub find_in_run : find (is_of page) (pages_in runs) ≡ find (is_of page) (get_or runs at d)
   find_in_run =
       ap (find (is_of page)) (pages_cut runs at d within)
@@ -123,25 +125,25 @@ module _ (page : GuestPage) (runs : List (List Named)) (at : ℕ) (d : List Name
       ∙ find-append behind run ys
       ∙ ap (option_or (find behind run)) (find_first behind ys place.behind)
 
-  -- so it is what was found there, or else that one
+  -- the first of all pages behind the page is the first in its run, or else the first of the runs behind
   pub after_is : (found : Option Named) → found ≡ find (λ n. comes_before page n.page) (get_or runs at d) → option_or found (slice_get (pages_in (drop (at + 1) runs)) 0) ≡ find (λ n. comes_before page n.page) (pages_in runs)
   after_is found is = ap (λ f. option_or f (slice_get (pages_in (drop (at + 1) runs)) 0)) is ∙ sym after_in_run
 
-  -- it is marked in its run
+  -- a page is marked among all pages where it is marked in its run
   pub mark_in_run : (mergeable : Bool) → pages_in (set runs at (marked page mergeable (get_or runs at d))) ≡ marked page mergeable (pages_in runs)
   mark_in_run mergeable =
       pages_set runs at (marked page mergeable (get_or runs at d)) within
       ∙ sym (changed_between (λ n. n.page) page (pages_in (take at runs)) (get_or runs at d) (pages_in (drop (at + 1) runs)) place.ahead place.behind (λ (n : Named). record n { mergeable = mergeable }))
       ∙ ap (marked page mergeable) (sym (pages_cut runs at d within))
 
-  -- it is taken out of its run
+  -- a page is taken out of all pages where it is taken out of its run
   pub remove_in_run : pages_in (set runs at (without_named page (get_or runs at d))) ≡ without_named page (pages_in runs)
   remove_in_run =
       pages_set runs at (without_named page (get_or runs at d)) within
       ∙ sym (without_between (λ n. n.page) page (pages_in (take at runs)) (get_or runs at d) (pages_in (drop (at + 1) runs)) place.ahead place.behind)
       ∙ ap (without_named page) (sym (pages_cut runs at d within))
 
-  -- it is put into its run
+  -- a page is put among all pages where it is put into its run
   pub put_in_run : (named : Named) → named.page ≡ page → pages_in (set runs at (with_named named (get_or runs at d))) ≡ with_named named (pages_in runs)
   put_in_run named is =
       let ahead = subst (λ p. All (low p) (pages_in (take at runs))) (sym is) place.ahead in
@@ -150,7 +152,7 @@ module _ (page : GuestPage) (runs : List (List Named)) (at : ℕ) (d : List Name
       ∙ sym (with_between (λ n. n.page) named.page (pages_in (take at runs)) (get_or runs at d) (pages_in (drop (at + 1) runs)) ahead behind named)
       ∙ ap (with_named named) (sym (pages_cut runs at d within))
 
--- the runs stay runs where one of them is changed
+-- the runs stay runs where one becomes another that is filled, short and in order
 pub runs_set : (runs : List (List Named)) (at : ℕ) (run : List Named) → AreRuns runs → run ≢ [] → length run ≤ 256 → AreAscending (pages_in (set runs at run)) → AreRuns (set runs at run)
 runs_set runs at run parts filled short rise = record {
   filled = All-set (λ r. r ≢ []) runs at run filled parts.filled;

@@ -4,7 +4,7 @@ use Rattle.ksm_pages.specs.Ordered.{last_or as last_named}
 use Rattle.ksm_pages.proofs.Alike.{count_mapped, filter_mapped, find_mapped, map_mapped}
 use Rattle.ksm_pages.proofs.Filing.{all_stand, flag_under, held_found, page_under}
 
--- an option that is mapped is full where it was
+-- an option is full once it is mapped exactly where it was full
 pub some_mapped : {X Y : Type 0} (f : X → Y) (o : Option X) → is_some (option_map f o) ≡ is_some o
 some_mapped f None = refl
 some_mapped f (Some x) = refl
@@ -12,11 +12,12 @@ some_mapped f (Some x) = refl
 abbrev page_of : Named → GuestPage
 page_of n = n.page
 
--- visits that come to a page of the order come to that page
+-- visits that come to a name of the order reach the page of that name
 pub reached : (ahead : List Named) (visits : ℕ) (to : Ahead) → ComesTo ahead visits to → Reaches (map page_of ahead) visits to
 reached ahead visits (At page) comes = (subst (λ n. visits < n) (sym (length-map ahead page_of)) comes.0, slice_get-map page_of ahead (visits - 1) ∙ comes.1)
 reached ahead visits (End made) comes = (comes.0 ∙ sym (length-map ahead page_of), comes.1)
 
+-- the last page of named pages, or the cursor, is the last of their pages, or the cursor
 pub last_mapped : (cursor : Option GuestPage) (named : List Named) → last_named cursor named ≡ last_or cursor (map page_of named)
 last_mapped cursor named =
     ap (λ o. option_or o cursor) (sym (slice_get-map page_of named (length named - 1)))
@@ -36,14 +37,14 @@ module _ (pass : ℕ) (slab : Slab Entry) (order : List Named) (rise : AreAscend
   rows_by : rows_of (held_in pass slab order) ≡ map row_by order
   rows_by = map_mapped (λ (h : Held). h.row) (λ n. held_under pass (get slab n.key)) row_by order (λ k d lt. refl)
 
-  -- a page has a row where it has a key
+  -- a page has a row exactly where it has a key in the order
   pub known_by : (page : GuestPage) → is_some (held_at page (held_in pass slab order)) ≡ is_some (key_in order page)
   known_by page =
       ap is_some (held_found slab order rise filed pass page)
       ∙ some_mapped (λ (n : Named). held_under pass (get slab n.key)) (find (λ n. same_page n.page page) order)
       ∙ sym (some_mapped (λ (n : Named). n.key) (find (λ n. same_page n.page page) order))
 
-  -- the first page that passes
+  -- the first page that passes a test is the same in the rows and in the order
   pub page_found : (test : GuestPage → Bool) → option_map (λ r. r.page) (find (λ r. test r.page) (rows_of (held_in pass slab order))) ≡ option_map page_of (find (λ n. test n.page) order)
   page_found test =
       ap (λ rows. option_map (λ (r : Row). r.page) (find (λ r. test r.page) rows)) rows_by
@@ -54,18 +55,18 @@ module _ (pass : ℕ) (slab : Slab Entry) (order : List Named) (rise : AreAscend
       go None is = refl
       go (Some n) is = ap Some (find_all (λ m. test m.page) (λ m. (row_by m).page ≡ m.page) order n is all_pages)
 
-  -- how many rows a scan visits
+  -- as many rows are mergeable as pages are named so in the order
   pub flags_counted : count_by (λ r. r.mergeable) (rows_of (held_in pass slab order)) ≡ count_by (λ n. n.mergeable) order
   flags_counted = ap (count_by (λ r. r.mergeable)) rows_by ∙ count_mapped row_by (λ r. r.mergeable) (λ n. n.mergeable) order all_flags
 
-  -- the pages that a scan visits behind a cursor
+  -- the pages that a scan has behind a cursor are the same in the rows and in the order
   pub ahead_by : (cursor : Option GuestPage) → pages_ahead cursor (rows_of (held_in pass slab order)) ≡ map page_of (ahead_of cursor order)
   ahead_by cursor =
       ap (pages_ahead cursor) rows_by
       ∙ ap (map (λ (r : Row). r.page)) (filter_mapped row_by (λ r. r.mergeable && after_cursor cursor r.page) (λ n. n.mergeable && after_cursor cursor n.page) order (λ k d lt. ap₂ (λ b p. b && after_cursor cursor p) (all_flags k d lt) (all_pages k d lt)))
       ∙ map_mapped (λ (r : Row). r.page) row_by page_of (ahead_of cursor order) (All-filter (λ n. n.mergeable && after_cursor cursor n.page) (λ n. (row_by n).page ≡ n.page) order all_pages)
 
-  -- and before a page
+  -- the pages that a scan has behind a cursor and before a page are the same in the rows and in the order
   pub between_by : (cursor : Option GuestPage) (page : GuestPage) → filter (λ p. comes_before p page) (pages_ahead cursor (rows_of (held_in pass slab order))) ≡ map page_of (passed_to cursor page order)
   between_by cursor page =
       ap (filter (λ p. comes_before p page)) (ahead_by cursor)

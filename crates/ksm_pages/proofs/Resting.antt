@@ -10,13 +10,13 @@ rests Waiting alone = refl
 rests (Merged n) alone = absurd (true≢false alone)
 rests Zero alone = absurd (true≢false alone)
 
--- a store settles the row, and writes its bytes
+-- a store to a row with a frame of its own settles the row and writes its bytes
 pub stored_settled : (bytes : List ℕ) (r : Row) → shared_state r.state ≡ false
     → record (settled r) { bytes = bytes; unchanged = r.unchanged && bytes_eq r.bytes bytes } ≡ stored bytes r
 stored_settled bytes r alone =
     λ i. record r { bytes = bytes; unchanged = r.unchanged && bytes_eq r.bytes bytes; state = rests r.state alone i }
 
--- a row that is let go
+-- a row with a frame of its own is let go where it is settled, and neither unchanged nor mergeable
 pub went : (r : Row) → shared_state r.state ≡ false → record (settled r) { unchanged = false; mergeable = false } ≡ let_go r
 went r alone = λ i. record r { mergeable = false; unchanged = false; state = rests r.state alone i }
 
@@ -28,14 +28,14 @@ lies_settled of_dup Waiting own = refl
 lies_settled of_dup (Merged n) own = refl
 lies_settled of_dup Zero own = refl
 
--- settled twice is settled
+-- a state that is settled twice is the state settled once
 pub settled_again : (state : PageState) → settled_state (settled_state state) ≡ settled_state state
 settled_again Private = refl
 settled_again Waiting = refl
 settled_again (Merged n) = refl
 settled_again Zero = refl
 
--- what is settled does not wait
+-- a settled state is not Waiting
 pub settled_still : (state : PageState) → waiting_state (settled_state state) ≡ false
 settled_still Private = refl
 settled_still Waiting = refl
@@ -48,11 +48,11 @@ settled_same number Waiting = refl
 settled_same number (Merged n) = refl
 settled_same number Zero = refl
 
--- two states that are settled to one are of the same dup
+-- two states that settle to one are merged into the same dups
 pub item_alike : (number : ℕ) (a b : PageState) → settled_state a ≡ settled_state b → merged_into number a ≡ merged_into number b
 item_alike number a b like = sym (settled_same number a) ∙ ap (merged_into number) like ∙ settled_same number b
 
--- and a page in them lies on the same frame
+-- a page in two states that settle to one lies on the same frame
 pub lies_alike : (of_dup : ℕ → Option ℕ) (a b : PageState) (own : Option ℕ) → settled_state a ≡ settled_state b
     → frame_seen of_dup a own ≡ frame_seen of_dup b own
 lies_alike of_dup a b own like = sym (lies_settled of_dup a own) ∙ ap (λ st. frame_seen of_dup st own) like ∙ lies_settled of_dup b own
@@ -64,7 +64,7 @@ all_unshared rows alone =
     map_alike (λ r. record (settled r) { unchanged = false }) unshared rows
     (λ k d lt. ap (λ state. record (get_or rows k d) { unchanged = false; state = state }) (rests (get_or rows k d).state (alone k d lt)))
 
--- a Private page does not wait
+-- a Private state is not Waiting
 pub private_still : (state : PageState) → private_state state ≡ true → waiting_state state ≡ false
 private_still Private is = refl
 private_still Waiting is = absurd (true≢false (sym is))
@@ -72,7 +72,7 @@ private_still (Merged n) is = refl
 private_still Zero is = refl
 
 module _ (s : Inside) (p : PagesValue) (seen_as : view_of s ≡ p) (page : GuestPage) where
-  -- the row of a page that has one
+  -- a page that is known has a row that is held
   pub known_row : IsKnown page p.rows → (h : Held) × (held_at page s.rows.held ≡ Some h)
   known_row known = go (held_at page s.rows.held) refl
     where

@@ -6,7 +6,7 @@ use Rattle.ksm_pages.proofs.Filing.{all_stand, under_named}
 use Rattle.ksm_pages.proofs.Gathering.{own_either}
 use Rattle.ksm_pages.proofs.Writing.{left_fits, rest_of, rests_apart}
 
--- where each call of a closure keeps and changes a value, the slots are changed so
+-- where each call of a retain keeps its value and changes it by g, all full slots are changed by g
 pub retained_all : {T F : Type 0} (step : F → ℕ → MutBor T → Bool → MutBor T → F → Type 0) (g : T → T) → ((f : F) (k : ℕ) (old : T) (keep : Bool) (new : T) (next : F) → CalledAt step f k old keep new next → (keep ≡ true) × (new ≡ g old))
     → (f : F) (key : ℕ) (slots kept : List (Option T)) → RetainsFrom step f key slots kept → kept ≡ map (option_map g) slots
 retained_all step g says f key [] kept r = r
@@ -17,13 +17,13 @@ retained_all step g says f key (Some old ∷ rest) kept (keep, new, next, called
     ∙ ap (λ b. cond b (Some new) None ∷ later) told.0
     ∙ ap₂ (λ x xs. Some x ∷ xs) told.1 (retained_all step g says next (key + 1) rest later r)
 
--- what stands at a place of slots that are all changed
+-- what stands at a place of slots that are all changed is what stood there, changed
 pub slot_mapped : {T : Type 0} (g : T → T) (slots : List (Option T)) (k : ℕ) → get_or (map (option_map g) slots) k None ≡ option_map g (get_or slots k None)
 slot_mapped g [] k = refl
 slot_mapped g (s ∷ rest) zero = refl
 slot_mapped g (s ∷ rest) (suc k) = slot_mapped g rest k
 
--- once an entry's pass is another, its row waits no more
+-- an entry's state is settled where the number of an own page is not the pass, and any other number stays
 pub state_settled : (kind : Kind) (number left pass after : ℕ) → (kind ≡ kinds.Own → left ≢ after) → (kind ≢ kinds.Own → left ≡ number) → state_of kind left after ≡ settled_state (state_of kind number pass)
 state_settled kinds.Own number left pass after own other = rests_apart left after (own refl) ∙ sym (own_either (λ state. settled_state state ≡ Private) refl refl (number == pass))
 state_settled kinds.Merged number left pass after own other = ap Merged (other (λ is. cc))
@@ -79,11 +79,11 @@ module _ (slab : Slab Entry) (order : List Named) (restless : Listing) (tally : 
       go None = refl
       go (Some e) = ap₂ (λ p b. Some (record { page = p; key = k; mergeable = b })) (same e) (flag e)
 
-  -- pages are named as their entries say
+  -- once each entry is changed, but for its page, flag and kind, pages are named as their entries say
   pub all_filed : AreFiled later order
   all_filed n = (λ h. named_all n.key ∙ (are.filed n).0 h, λ h. (are.filed n).1 (sym (named_all n.key) ∙ h))
 
-  -- an entry is one that was changed
+  -- what holds for each changed entry holds for all that stand once each entry is changed
   pub all_from : (P : Entry → Type 0) → ((k : ℕ) (e : Entry) → get slab k ≡ Some e → P (g e)) → (k : ℕ) (e : Entry) → get later k ≡ Some e → P e
   all_from P holds k e stands = go (get slab k) refl (sym (all k) ∙ stands)
     where
@@ -91,7 +91,7 @@ module _ (slab : Slab Entry) (order : List Named) (restless : Listing) (tally : 
       go None is none = cc
       go (Some d) is some = subst P (same_Some (g d) e some) (holds k d is)
 
-  -- the pages that a visit may change are listed still
+  -- once each entry is changed, the pages that a visit may change are listed still
   pub all_listed : restless.known ≡ true → AreListed later restless.pages
   all_listed known =
       all_from (λ e. is_restless e ≡ true → has_item e.page restless.pages ≡ true)
@@ -100,7 +100,7 @@ module _ (slab : Slab Entry) (order : List Named) (restless : Listing) (tally : 
       restless_same : (e : Entry) → is_restless (g e) ≡ is_restless e
       restless_same e = ap₂ (λ m k. is_restless (record e { mergeable = m; kind = k })) (flag e) (kind e)
 
-  -- what is seen of the rows
+  -- once each entry is changed so that its row is changed by f, all rows are changed by f
   pub all_seen : (f : Held → Held) → ((k : ℕ) (e : Entry) → get slab k ≡ Some e → held_of after (g e) ≡ f (held_of pass e)) → held_in after later order ≡ map f (held_in pass slab order)
   all_seen f is =
       sym (map_mapped f (λ n. held_under pass (get slab n.key)) (λ n. held_under after (get later n.key)) order (λ k d lt. at (get_or order k d) (all_stand slab order are.ascending are.filed k d lt)))
@@ -113,7 +113,7 @@ module _ (slab : Slab Entry) (order : List Named) (restless : Listing) (tally : 
           ∙ sym (ap (λ o. held_under after (option_map g o)) u.stands)
           ∙ ap (held_under after) (sym (all n.key))
 
-  -- they are rows still, of which none waits any more
+  -- once each entry is changed so that its row is settled, the rows are lawful, and none waits
   pub all_settled : ((k : ℕ) (e : Entry) → get slab k ≡ Some e → held_of after (g e) ≡ on_row settled (held_of pass e)) → ((k : ℕ) (e : Entry) → get slab k ≡ Some e → (g e).kind ≡ kinds.Own → (g e).number ≤ after) → 1 ≤ after
       → IsRows later order restless (record tally { waiting = 0 }) after
   all_settled is fits counting = record {
@@ -144,9 +144,11 @@ module _ (slab : Slab Entry) (order : List Named) (restless : Listing) (tally : 
       ap (λ st. in_state st (held_of pass e))
       (state_settled e.kind e.number e.number pass (pass + 1) (λ own same. let fits = are.begun k e stands own in absurd (omega (arith, fits, same))) (λ other. refl))
 
+  -- in the next pass each row is seen settled
   pub next_seen : held_in (pass + 1) slab order ≡ map (on_row settled) (held_in pass slab order)
   next_seen = all_seen slab order restless tally pass are slab (pass + 1) (λ e. e) itself (λ e. refl) (λ e. refl) (λ e. refl) (on_row settled) settled_next
 
+  -- in the next pass the rows are lawful, with none that waits
   pub next_rows : IsRows slab order restless (record tally { waiting = 0 }) (pass + 1)
   next_rows =
       all_settled slab order restless tally pass are slab (pass + 1) (λ e. e) itself (λ e. refl) (λ e. refl) (λ e. refl) settled_next
@@ -161,9 +163,11 @@ module _ (slab : Slab Entry) (order : List Named) (restless : Listing) (tally : 
     settled_anew : (k : ℕ) (e : Entry) → get slab k ≡ Some e → held_of 1 (forgotten e) ≡ on_row settled (held_of pass e)
     settled_anew k e stands = ap (λ st. in_state st (held_of pass e)) (rest_of e.kind e.number pass 1 (omega arith))
 
+    -- once each entry forgot its pass, each row is seen settled in pass 1
     pub anew_seen : held_in 1 later order ≡ map (on_row settled) (held_in pass slab order)
     anew_seen = all_seen slab order restless tally pass are later 1 forgotten forgot (λ e. refl) (λ e. refl) (λ e. refl) (on_row settled) settled_anew
 
+    -- once each entry forgot its pass, the rows are lawful in pass 1, with none that waits
     pub anew_rows : IsRows later order restless (record tally { waiting = 0 }) 1
     anew_rows =
         all_settled slab order restless tally pass are later 1 forgotten forgot (λ e. refl) (λ e. refl) (λ e. refl) settled_anew
@@ -178,9 +182,11 @@ module _ (slab : Slab Entry) (order : List Named) (restless : Listing) (tally : 
     made_plain : (k : ℕ) → get later k ≡ option_map plain (get slab k)
     made_plain k = ap (λ xs. get_or xs k None) slots ∙ slot_mapped plain slab.slots k
 
+    -- once no entry is unchanged any more, each row is seen as not unchanged, and else as it was
     pub plain_seen : held_in pass later order ≡ map (on_row (λ r. record r { unchanged = false })) (held_in pass slab order)
     plain_seen = all_seen slab order restless tally pass are later pass plain made_plain (λ e. refl) (λ e. refl) (λ e. refl) (on_row (λ r. record r { unchanged = false })) (λ k e stands. refl)
 
+    -- once no entry is unchanged any more, the rows are lawful as before
     pub plain_rows : IsRows later order restless tally pass
     plain_rows = record {
       ascending = are.ascending;

@@ -4,6 +4,7 @@ use Rattle.ksm_rmap.specs.Items.{AreAscending}
 use Rattle.ksm_pages.proofs.Alike.{filter_mapped, map_mapped, pairs_mapped}
 use Rattle.ksm_pages.proofs.Keyed.{with_rises}
 
+-- the page of a spot
 abbrev pub page_of : Spot → GuestPage
 page_of s = s.page
 
@@ -11,14 +12,15 @@ page_of s = s.page
 pub pages_rise : (spots : List Spot) → AreInOrder spots → AreAscending (pages_of spots)
 pages_rise spots rise = pairs_mapped (λ s t. comes_before s.page t.page ≡ true) (λ p q. comes_before p q ≡ true) (λ s. s ≡ s) page_of (λ s t e f less. less) spots (λ k d lt. refl) rise
 
--- the pages of those that pass
+-- the pages of spots that pass a test are the pages of those spots whose page passes
 pub pages_kept : (test : GuestPage → Bool) (spots : List Spot) → filter test (pages_of spots) ≡ pages_of (filter (λ s. test s.page) spots)
 pages_kept test spots = filter_mapped page_of test (λ s. test s.page) spots (λ k d lt. refl)
 
+-- as many spots have a page that passes a test as their pages pass
 pub many_kept : (test : GuestPage → Bool) (spots : List Spot) → length (filter (λ s. test s.page) spots) ≡ length (filter test (pages_of spots))
 many_kept test spots = sym (length-map (filter (λ (s : Spot). test s.page) spots) page_of) ∙ ap length (sym (pages_kept test spots))
 
--- a page is listed where a spot of it is found
+-- a page is among the pages of spots exactly where a search finds a spot of that page
 pub listed_found : (page : GuestPage) (spots : List Spot) → has_item page (pages_of spots) ≡ is_some (find (λ s. same_page s.page page) spots)
 listed_found page [] = refl
 listed_found page (s ∷ ss) =
@@ -35,12 +37,13 @@ module _ (spot : Spot) (spots : List Spot) (rise : AreInOrder spots) where
   abbrev put_in : List Spot
   put_in = filter before spots ++ spot ∷ filter (λ s. comes_before spot.page s.page) spots
 
-  -- a spot whose page is not there is put in at its place
+  -- with a spot put in at its place, the pages are those with the page of that spot
   pub put_pages : pages_of put_in ≡ with_item spot.page (pages_of spots)
   put_pages =
       map-append page_of (filter before spots) (spot ∷ filter (λ s. comes_before spot.page s.page) spots)
       ∙ ap₂ (λ front back. front ++ spot.page ∷ back) (sym (pages_kept (λ p. comes_before p spot.page) spots)) (sym (pages_kept (comes_before spot.page) spots))
 
+  -- spots in order stay in order with a spot put in at its place
   pub put_rises : AreInOrder put_in
   put_rises = with_rises page_of spot.page spot spots refl rise
 
@@ -56,7 +59,7 @@ module _ (spot : Spot) (spots : List Spot) (rise : AreInOrder spots) where
         | inr differ ↦ ap (λ b. (cond b spot s).page) differ
       ]
 
-  -- a spot whose page is there is written in its stead
+  -- with a spot written over the one of its page, the pages are those with the page of that spot
   pub written_pages : has_item spot.page (pages_of spots) ≡ true → pages_of written ≡ with_item spot.page (pages_of spots)
   written_pages has = same_pages ∙ with_found comes_before same_page pages_ordered spot.page (pages_of spots) (pages_rise spots rise) has
 
@@ -70,6 +73,7 @@ calm_of entries s useless = go (get entries s.key) refl useless
         let parts = and_parts (same_page e.page s.page) (not (is_restless e)) both in
         record { key = s.key; entry = e; stands = is; of_page = same_page_eq e.page s.page parts.0; calm = not-true (is_restless e) parts.1 }
 
+-- a page of the spots stays once useless spots are swept out, or no visit changes its row
 pub swept : (entries : Slab Entry) (spots : List Spot) (page : GuestPage) → has_item page (pages_of spots) ≡ true
     → (has_item page (pages_of (filter (λ s. not (is_useless s (get entries s.key))) spots)) ≡ true) ⊎ IsCalm entries page
 swept entries spots page has = go (find it spots) refl (sym (listed_found page spots) ∙ has)

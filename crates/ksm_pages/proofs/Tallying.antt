@@ -27,6 +27,7 @@ module _ (rows : List Row) (rise : InPageOrder rows) (page : GuestPage) (old : R
     has : (p : Row → Bool) (n : ℕ) → n ≡ count_by p rows → one_if (p old) ≤ n
     has p n is = let c = counted_once page_of page p rows old rise found in omega (arith, c, is)
 
+    -- a tally of the rows can take one row from its state to another
     pub can_move : length rows < 2 ^ 64 → CanMove old.state new.state tally
     can_move few = record {
       merged = has (λ r. merged_state r.state) tally.merged are.merged;
@@ -40,6 +41,7 @@ module _ (rows : List Row) (rise : InPageOrder rows) (page : GuestPage) (old : R
     meets : (p : Row → Bool) (n m : ℕ) → n ≡ count_by p rows → m + one_if (p old) ≡ n + one_if (p new) → m ≡ count_by p changed
     meets p n m is moved = let c = counts p in omega (arith, c, is, moved)
 
+    -- a tally moved from a row's old state to its new one counts the rows with that row changed
     pub tally_changed : IsMoved old.state new.state tally later → IsTally changed later
     tally_changed moved = record {
       merged = meets (λ r. merged_state r.state) tally.merged later.merged are.merged moved.merged;
@@ -51,6 +53,7 @@ module _ (rows : List Row) (rise : InPageOrder rows) (page : GuestPage) (old : R
   left : (p : Row → Bool) (n m : ℕ) → n ≡ count_by p rows → m + one_if (p old) ≡ n + 0 → m ≡ count_by p (without_page page rows)
   left p n m is moved = let c = count_one_gone page_of page p rows old rise found in omega (arith, c, is, moved)
 
+  -- a tally moved from a row's state to Private counts the rows without that row
   pub tally_gone : IsMoved old.state Private tally later → IsTally (without_page page rows) later
   tally_gone moved = record {
     merged = left (λ r. merged_state r.state) tally.merged later.merged are.merged moved.merged;
@@ -58,7 +61,7 @@ module _ (rows : List Row) (rise : InPageOrder rows) (page : GuestPage) (old : R
     zero = left (λ r. zero_state r.state) tally.zero later.zero are.zero moved.zero;
   }
 
--- a Private row came, which is not counted
+-- a Private row that comes leaves the tally as it is
 pub tally_put : (rows : List Row) (row : Row) (tally : Tally) → InPageOrder rows → row_at row.page rows ≡ None → row.state ≡ Private → IsTally rows tally → IsTally (with_row row rows) tally
 tally_put rows row tally rise absent alone are =
     let more : (p : Row → Bool) → count_by p (with_row row rows) ≡ count_by p rows + one_if (p row) = λ p. count_with page_of row.page p row rows refl rise absent in

@@ -6,16 +6,16 @@ use Rattle.ksm_pages.proofs.Leaving.{AreLawful, alone_found, held_twice, lawful_
 use Rattle.ksm_pages.proofs.Lodgings.{seat}
 use Rattle.ksm_pages.proofs.Resting.{item_alike, known_row, lies_alike, lies_settled, rests, settled_again, settled_still}
 
--- the pages with other rows and dups are lawful, and this is seen of them
+-- the pages with other rows and dups are lawful, and are seen as the new view says
 pub record Comes (s : Inside) (rows : RowsView) (later : DupsState) (new : PagesView) : Type 0 where
   pub lawful : AreKept s.shape s.knobs (rows_of rows.held) later s.frames.items
   pub told_as : seen (view_of (record s { rows = rows; dups = later })) ≡ new
 
--- where two values are equal, so are the rows that they keep
+-- equal values of the rows hold the same
 pub held_as : {old new : RowsView} → new ≡ old → new.held ≡ old.held
 held_as same = ap (λ (r : RowsView). r.held) same
 
--- two changes of the row of a page, one after the other
+-- two changes of the row of a page, one after the other, are one change
 pub and_then : (page : GuestPage) (f g : Row → Row) → ((r : Row) → (f r).page ≡ r.page) → (old : List Held) {first second : List Held}
     → first ≡ change_held page (on_row f) old → second ≡ change_held page (on_row g) first
     → second ≡ change_held page (on_row (λ r. g (f r))) old
@@ -24,7 +24,7 @@ and_then page f g same old first second =
 
 -- ---------------------------------------------------------------- a page that leaves what it is in
 
--- a page has a row, and left what it was in
+-- a page has a row, and is let out of its dup or of the pages that wait
 pub record HasLeft (s : Inside) (p : PagesValue) (page : GuestPage) (later : DupsState) (frames : List ℕ) (lone : Option ℕ) : Type 0 where
   pub lawful : AreLawful s
   pub seen_as : view_of s ≡ p
@@ -33,19 +33,19 @@ pub record HasLeft (s : Inside) (p : PagesValue) (page : GuestPage) (later : Dup
   pub left : IsLeft s.knobs frames s.dups later lone held
 
 module _ {s : Inside} {p : PagesValue} {page : GuestPage} {later : DupsState} {frames : List ℕ} {lone : Option ℕ} where
-  -- its row is found
+  -- a page whose row is held, and which was let out, has left
   abbrev pub found_left : AreLawful s → view_of s ≡ p → {h : Held} → held_at page s.rows.held ≡ Some h
       → IsLeft s.knobs frames s.dups later lone h → HasLeft s p page later frames lone
   found_left are seen_as {h = h} found left = record { lawful = are; seen_as = seen_as; held = h; found = found; left = left }
 
-  -- that it has is known
+  -- a page that is known, and which was let out, has left
   pub known_left : AreLawful s → view_of s ≡ p → IsKnown page p.rows
       → MatchOption (held_at page s.rows.held) ⊤ (IsLeft s.knobs frames s.dups later lone) → HasLeft s p page later frames lone
   known_left are seen_as known left =
       let there = known_row s p seen_as page known in
       found_left are seen_as there.1 (subst (λ o. MatchOption o ⊤ (IsLeft s.knobs frames s.dups later lone)) there.1 left)
 
-  -- it has one with a frame of its own
+  -- a page with a frame of its own, which was let out, has left
   pub alone_left : AreLawful s → view_of s ≡ p → IsAlone page p.rows
       → MatchOption (held_at page s.rows.held) ⊤ (IsLeft s.knobs frames s.dups later lone) → HasLeft s p page later frames lone
   alone_left are seen_as alone = known_left are seen_as (go (row_at page p.rows) alone)
@@ -55,7 +55,7 @@ module _ {s : Inside} {p : PagesValue} {page : GuestPage} {later : DupsState} {f
       go (Some r) is = refl
 
   module _ (it : HasLeft s p page later frames lone) where
-    -- it lay on the frame that is told
+    -- a page that has left lay on the frame that is told
     pub lay : frames ≡ s.frames.items → lone ≡ frame_of p.lodgings page
     lay same =
         it.left.frame
@@ -69,7 +69,7 @@ module _ {s : Inside} {p : PagesValue} {page : GuestPage} {later : DupsState} {f
     next_same = same_next s it.lawful page it.held it.found later it.left.dups it.left.waiting
 
     module _ (rows : RowsView) {restless : Listing} (listed : rows.restless ≡ restless) where
-      -- it is in another state, with another frame of its own
+      -- a page that has left comes to another state and lies where that state and its frame say
       pub moved : (state : PageState) (own : Option ℕ) → merged_state state ≡ false → waiting_state state ≡ false
           → rows.held ≡ change_held page (mapped state own) s.rows.held
           → Comes s rows later (record (seen p) {
@@ -93,7 +93,7 @@ module _ {s : Inside} {p : PagesValue} {page : GuestPage} {later : DupsState} {f
                 }) listed;
           }
 
-      -- it is Private, on the frame of its own that it had
+      -- a page that has left comes to be Private, on the frame of its own that it had
       pub rested : (g to : Row → Row) → ((r : Row) → (g r).page ≡ r.page) → ((r : Row) → (to r).state ≡ Private) → IsAlone page p.rows
           → (shared_state it.held.row.state ≡ false → g it.held.row ≡ to it.held.row)
           → rows.held ≡ change_held page (on_row g) s.rows.held
@@ -112,7 +112,7 @@ module _ {s : Inside} {p : PagesValue} {page : GuestPage} {later : DupsState} {f
                 ∙ ap (λ (l : Listing). record (seen p) { rows = change_row page to p.rows; restless = l }) listed;
           }
 
-    -- it is gone
+    -- a page that has left and whose row is gone is seen no more, and lies on no frame
     pub parted : (rows : RowsView) → rows.held ≡ without_held page s.rows.held
         → Comes s rows later (record (seen p) {
           rows = without_page page p.rows;
@@ -130,7 +130,7 @@ module _ (s : Inside) (are : AreLawful s) {p : PagesValue} (seen_as : view_of s 
   abbrev before : List Row
   before = rows_of s.rows.held
 
-  -- the rows changed, but for their pages and their dups, and the pages that wait with them
+  -- where rows change, but for pages and dups, and the right pages wait, all rows are seen changed so
   pub still : (f : Row → Row) → ((r : Row) → (f r).page ≡ r.page) → ((r : Row) → settled_state (f r).state ≡ settled_state r.state)
       → (rows : RowsView) → rows.held ≡ map (on_row f) s.rows.held
       → {restless : Listing} → rows.restless ≡ restless → (later : DupsState) → later ≡ record s.dups { waiting = later.waiting }
@@ -178,7 +178,7 @@ module _ (s : Inside) (are : AreLawful s) {p : PagesValue} (seen_as : view_of s 
           ap₂ (λ page frame. record { page = page; frame = frame }) (pages h.row)
           (lies_alike (of_dup s) (f h.row).state h.row.state h.frame (like h.row))))
 
-  -- no row waits any more
+  -- where every row is settled by a change and no page waits any more, all rows are seen changed so
   pub rest_all : (f : Row → Row) → ((r : Row) → (f r).page ≡ r.page) → ((r : Row) → (f r).state ≡ settled_state r.state) → (rows : RowsView)
       → rows.held ≡ map (on_row f) s.rows.held
       → {restless : Listing} → rows.restless ≡ restless → (later : DupsState) → later ≡ record s.dups { waiting = [] }
@@ -190,7 +190,7 @@ module _ (s : Inside) (are : AreLawful s) {p : PagesValue} (seen_as : view_of s 
       (none_waiting s.knobs (map f before) (All-map (λ r. waiting_state r.state ≡ false) f before
       (λ k d lt. ap waiting_state (states (get_or before k d)) ∙ settled_still (get_or before k d).state))))
 
-  -- the row of a page changed, but for its page and its state, and waits where it did
+  -- where a row changes, but for its page, state and where it waits, only that row is seen changed
   pub stays : (page : GuestPage) (g : Row → Row) → ((r : Row) → (g r).page ≡ r.page) → ((r : Row) → (g r).state ≡ r.state)
       → ((r : Row) → row_at page p.rows ≡ Some r → (t : ℕ) (b : List ℕ)
       → waits_there s.knobs t b (Some (g r)) ≡ waits_there s.knobs t b (Some r))

@@ -19,7 +19,7 @@ module _ (s : Inside) (later : DupsState) (kept : later ≡ record s.dups { numb
       subst (λ (d : DupsState). AreKept s.shape s.knobs (rows_of s.rows.held) d s.frames.items) (sym kept)
       (record { small = are.small; order = are.order; tied = are.tied; places = are.places; waits = are.waits; room = are.room })
 
-  -- and are not seen
+  -- groups that got other numbers leave what is seen of the pages as it was
   pub seen_numbered : view_of (record s { dups = later }) ≡ view_of s
   seen_numbered = ap (λ (d : DupsState). view_of (record s { dups = d })) kept
 
@@ -78,7 +78,7 @@ is_alone s are page e found restless =
     (sym (row_there s are page (held_of s.rows.pass e) found))
     (not_shared e.mergeable (shared_state (held_of s.rows.pass e).row.state) (restless_as s.rows.pass e ∙ restless))
 
--- a row that a visit may change is seen as one
+-- an entry that a visit may change is seen as a row that a visit may change
 pub is_seen_restless : (s : Inside) {p : PagesValue} → view_of s ≡ p → (page : GuestPage) (e : Entry) → held_at page s.rows.held ≡ Some (held_of s.rows.pass e)
     → is_restless_entry e ≡ true → MatchOption (row_at page p.rows) (true ≡ false) (λ r. is_restless r ≡ true)
 is_seen_restless s {p} seen_as page e found restless =
@@ -87,7 +87,7 @@ is_seen_restless s {p} seen_as page e found restless =
 
 -- ---------------------------------------------------------------- a row whose group has a number
 
--- a visit may change the row of a page, and its group has a number
+-- a visit may change the row of a page, and the row's group has a number
 pub record IsAsked (s : Inside) (p : PagesValue) (page : GuestPage) (e : Entry) (group : ℕ) : Type 0 where
   pub lawful : AreLawful s
   pub seen_as : view_of s ≡ p
@@ -95,7 +95,7 @@ pub record IsAsked (s : Inside) (p : PagesValue) (page : GuestPage) (e : Entry) 
   pub restless : is_restless_entry e ≡ true
   pub numbered : number_of (tree_of s.knobs (held_of s.rows.pass e).row) e.bytes s.dups.numbers ≡ Some group
 
--- groups get numbers for that, and else the pages stay as they were
+-- once groups got numbers, a page whose row a visit may change is asked with its group
 pub asked : (s : Inside) → AreLawful s → {p : PagesValue} → view_of s ≡ p → {page : GuestPage} (e : Entry)
     → held_at page s.rows.held ≡ Some (held_of s.rows.pass e)
     → is_restless_entry e ≡ true → {later : DupsState} → later ≡ record s.dups { numbers = later.numbers }
@@ -146,7 +146,7 @@ module _ {s : Inside} {p : PagesValue} {page : GuestPage} {e : Entry} {group : �
       ap (λ (v : PagesValue). best_dup v.knobs v.rows v.dups row) (sym it.seen_as)
       ∙ sym (best_found before s.knobs row s.dups.dups (tied_counted before s.dups.dups it.lawful.tied))
 
-  -- the best dup is found where there is one
+  -- where the group of an asked row has a best dup, the visit finds that dup
   pub finds_dup : (b : Best) → IsOfGroup (λ tree bytes. Some b ≡ option_map found_at (best tree bytes))
       → Finds (seen p) (seen (view_of s)) page (finds.Dup b)
   finds_dup b is =
@@ -168,7 +168,7 @@ module _ {s : Inside} {p : PagesValue} {page : GuestPage} {e : Entry} {group : �
         go None no_it = refl
         go (Some d) that = absurd (none-some (found_at d) that)
 
-    -- a row that was not unchanged is so from then on
+    -- without a best dup, a row that was not unchanged is found changed, and is unchanged from then on
     pub finds_changed : e.unchanged ≡ false → (new : PagesView)
         → new ≡ visited page (λ r. record r { unchanged = true; state = Private }) (seen (view_of s))
         → Finds (seen p) new page finds.Changed
@@ -181,7 +181,7 @@ module _ {s : Inside} {p : PagesValue} {page : GuestPage} {e : Entry} {group : �
       zero_as : is_for_zero p.knobs row ≡ (s.knobs.use_zero_pages == 1 && all_zero e.bytes)
       zero_as = ap (λ (v : PagesValue). is_for_zero v.knobs row) (sym it.seen_as)
 
-      -- a row of zeroes is to become Zero
+      -- without a best dup, an unchanged row of zeroes is found to become Zero, if zero pages are used
       pub finds_zero : (s.knobs.use_zero_pages == 1 && all_zero e.bytes) ≡ true → Finds (seen p) (seen (view_of s)) page finds.Zero
       finds_zero zeroes = finds_at (seen (view_of s)) finds.Zero (may, no_best, stayed, zero_as ∙ zeroes, ap seen it.seen_as)
 
@@ -197,7 +197,7 @@ module _ {s : Inside} {p : PagesValue} {page : GuestPage} {e : Entry} {group : �
         same_again : is_some waits ≡ true → later ≡ s.dups
         same_again = again (tree_of s.knobs row) row.bytes it.numbered
 
-        -- another page that waits is the partner
+        -- a row that stays, without a dup and not for Zero, finds another page that waits with its bytes as partner
         pub finds_partner : same_page met page ≡ false
             → Finds (seen p) (seen (view_of (record s { dups = later }))) page (finds.Partner met)
         finds_partner apart =
@@ -239,7 +239,7 @@ module _ {s : Inside} {p : PagesValue} {page : GuestPage} {e : Entry} {group : �
               (let_out_alone row.state page s.dups.dups alone ∙ ap (λ (d : DupsState). d.dups) (sym kept))
               (tied_left before page row it.lawful.order there (to row) s.dups.dups refl it.lawful.tied)) now_waits
 
-          -- a row without a partner waits
+          -- a row that stays, without a dup, not for Zero and without a partner, is found to wait
           pub finds_waits : Finds (seen p) (seen (view_of (record s { rows = rows; dups = later }))) page finds.Waits
           finds_waits =
               let met_none = met_own s.knobs before s.dups.waiting row it.lawful.order it.lawful.waits met met_is same_own in

@@ -18,7 +18,7 @@ view_of s = record { held = held_in s.pass s.entries s.order; restless = s.restl
 abbrev pub AreRows : Inside → Type 0
 AreRows s = IsRows s.entries s.order s.restless s.tally s.pass
 
--- both are not so at once
+-- a test and false never hold together, so anything follows
 pub never : {P : Type 0} (b : Bool) → (b && false) ≡ true → P
 never true both = absurd (true≢false (sym both))
 never false both = absurd (true≢false (sym both))
@@ -29,31 +29,32 @@ own_kind kinds.Own number pass alone = refl
 own_kind kinds.Merged number pass alone = absurd (true≢false alone)
 own_kind kinds.Zero number pass alone = absurd (true≢false alone)
 
--- and waits where its number is that of the pass
+-- a row with a frame of its own waits where its number is that of the pass
 pub waits_now : (kind : Kind) (pass : ℕ) → kind ≡ kinds.Own → state_of kind pass pass ≡ Waiting
 waits_now kind pass own = ap (λ k. state_of k pass pass) own ∙ ap own_state ((Decides-eqb pass pass).1 refl)
 
--- but not where its number is another, as 0 is
+-- a row with a frame of its own is Private where its number is not that of the pass
 pub rests_apart : (number pass : ℕ) → number ≢ pass → state_of kinds.Own number pass ≡ Private
 rests_apart number pass apart = ap own_state (ne_eqb number pass apart)
 
+-- a row with a frame of its own and number 0 is Private in any pass from 1 on
 pub rests_now : (pass : ℕ) → 1 ≤ pass → state_of kinds.Own 0 pass ≡ Private
 rests_now pass counting = rests_apart 0 pass (λ same. absurd (omega (arith, same)))
 
--- an entry that has forgotten its pass is settled in any
+-- an entry that has forgotten its pass is settled in any pass from 1 on
 pub rest_of : (kind : Kind) (number pass after : ℕ) → 1 ≤ after
     → state_of kind (number_left kind number) after ≡ settled_state (state_of kind number pass)
 rest_of kinds.Own number pass after counting = rests_now after counting ∙ sym (own_either (λ state. settled_state state ≡ Private) refl refl (number == pass))
 rest_of kinds.Merged number pass after counting = refl
 rest_of kinds.Zero number pass after counting = refl
 
--- and its number is not beyond the pass
+-- an entry with a frame of its own that has forgotten its pass has a number not beyond any pass
 pub left_fits : (kind : Kind) (number pass : ℕ) → kind ≡ kinds.Own → number_left kind number ≤ pass
 left_fits kinds.Own number pass own = omega arith
 left_fits kinds.Merged number pass own = cc
 left_fits kinds.Zero number pass own = cc
 
--- no change of a page without a row is seen
+-- a change of a page without a row leaves what is seen of the rows as it is
 pub nothing : (s : Inside) → AreRows s → (page : GuestPage) → None ≡ key_in s.order page → (f : Held → Held) (v : RowsView) → view_of s ≡ v → v ≡ record v { held = change_held page f v.held }
 nothing s are page told f v is =
     let absent = held_nowhere s.entries s.order are.ascending are.filed s.pass page (sym told) in
@@ -77,21 +78,21 @@ module _ (s : Inside) (are : AreRows s) where
     of_page : e.page ≡ page
     of_page = ap (λ (x : Entry). x.page) (same_Some e there.entry (sym stood ∙ there.stands)) ∙ there.of_page
 
-    -- which has a row
+    -- a page with an entry under its key has the row that the entry says
     pub row_there : held_at page held ≡ Some (held_of s.pass e)
     row_there = held_there s.entries s.order are.ascending are.filed s.pass page key e stood of_page
 
     found_row : row_at page (rows_of held) ≡ Some (held_of s.pass e).row
     found_row = row_found page held ∙ ap (option_map (λ (h : Held). h.row)) row_there
 
-    -- with a frame of its own, where it is not shared
+    -- the entry of a page whose row is not shared is of the kind with frames of their own
     pub own_there : (v : RowsView) → view_of s ≡ v → IfSome (held_at page v.held) (λ h. shared_state h.row.state ≡ false)
         → e.kind ≡ kinds.Own
     own_there v seen_as alone =
         own_kind e.kind e.number s.pass
         (subst (λ o. IfSome o (λ (h : Held). shared_state h.row.state ≡ false)) (ap (λ (w : RowsView). held_at page w.held) (sym seen_as) ∙ row_there) alone)
 
-    -- the tally can count it in another state
+    -- the tally can take the row of an entry from its state to any other
     pub can_be : {from : PageState} → from ≡ state_of e.kind e.number s.pass → (state : PageState) → length s.order < 2 ^ 64
         → CanMove from state s.tally
     can_be is state few =
@@ -134,7 +135,7 @@ module _ (s : Inside) (are : AreRows s) where
       listed_still pages others own =
           all_filled fills (λ k x. is_restless x ≡ true → has_item x.page pages ≡ true) (λ may. ap (λ p. has_item p pages) (same ∙ of_page) ∙ own may) others
 
-      -- where the page is listed from now on, it may be any
+      -- where a page is added to the list, the list is right for any new entry of that page
       pub listed_now : (now : Listing) → IsAddedTo page s.restless now → now.known ≡ true → AreListed later now.pages
       listed_now now added known = elim added [
         | inl is ↦
@@ -145,7 +146,7 @@ module _ (s : Inside) (are : AreRows s) where
         | inr is ↦ absurd (true≢false (sym known ∙ ap (λ (l : Listing). l.known) is))
       ]
 
-      -- where the page is not listed any more, no visit may change it
+      -- where a page is not listed any more, the list is right for a new entry that no visit changes
       pub listed_less : (now : Listing) → now ≡ record s.restless { pages = without_item page s.restless.pages } → is_restless e' ≡ false
           → now.known ≡ true → AreListed later now.pages
       listed_less now is calm known =
@@ -154,7 +155,7 @@ module _ (s : Inside) (are : AreRows s) where
           (λ k f stands apart may. without_has f.page page s.restless.pages (other_page k f stands apart) (are.listed (listed_known s.restless now _ is known) k f stands may))
           (λ may. absurd (true≢false (sym may ∙ calm))))
 
-      -- the rows are lawful still, where a scan visits the page as before
+      -- rows with an entry written anew are lawful where its flag stays, the list is right and the tally moved
       pub still : e'.mergeable ≡ e.mergeable → (e'.kind ≡ kinds.Own → e'.number ≤ s.pass) → (now : Listing)
           → (now.known ≡ true → AreListed later now.pages)
           → {from to : PageState} {tally : Tally} → from ≡ state_of e.kind e.number s.pass → to ≡ state_of e'.kind e'.number s.pass
@@ -168,7 +169,7 @@ module _ (s : Inside) (are : AreRows s) where
         counting = are.counting;
       }
 
-      -- also where no visit may change the row that could not before, and the list stays
+      -- rows with an entry written anew are lawful under the old list where no visit may change what none could before
       pub kept : e'.mergeable ≡ e.mergeable → (e'.kind ≡ kinds.Own → e'.number ≤ s.pass) → (is_restless e' ≡ true → is_restless e ≡ true)
           → (now : Listing) → now ≡ s.restless
           → {from to : PageState} {tally : Tally} → from ≡ state_of e.kind e.number s.pass → to ≡ state_of e'.kind e'.number s.pass
@@ -188,12 +189,12 @@ module _ (s : Inside) (are : AreRows s) where
         unmoved : (state : PageState) → IsMoved state state s.tally s.tally
         unmoved state = record { merged = refl; waiting = refl; zero = refl }
 
-        -- also where the row stays in its state
+        -- rows with an entry written anew are lawful under the old list and tally where its flag and state stay
         pub untouched : e'.mergeable ≡ e.mergeable → IsRows later s.order s.restless s.tally s.pass
         untouched flag =
             kept flag fits_still (λ may. sym (ap₂ (λ m k. m && is_own k) flag kind) ∙ may) s.restless refl refl same_state (unmoved _)
 
-        -- and the order is told whether a scan visits the page
+        -- rows with an entry written anew are lawful where the order marks its page so, and its state stays
         pub still_marked : (now : Listing) → (now.known ≡ true → AreListed later now.pages)
             → IsRows later (marked page e'.mergeable s.order) now s.tally s.pass
         still_marked now listed = record {
@@ -208,13 +209,14 @@ module _ (s : Inside) (are : AreRows s) where
           counting = are.counting;
         }
 
-      -- what is seen of them
+      -- with an entry written anew whose row is changed by f, the rows are seen with f at that page, and the new list
       pub viewed : (f : Held → Held) → held_of s.pass e' ≡ f (held_of s.pass e) → (now : Listing) (v : RowsView) → view_of s ≡ v
           → record { held = held_in s.pass later s.order; restless = now; pass = s.pass } ≡ record v { held = change_held page f v.held; restless = now }
       viewed f is now v seen_as =
           ap (λ held. record { held = held; restless = now; pass = s.pass }) (held_later f is)
           ∙ ap (λ (w : RowsView). record w { held = change_held page f w.held; restless = now }) seen_as
 
+      -- with an entry written anew whose row is changed by f, the rows are seen with f at that page
       pub viewed_same : (f : Held → Held) → held_of s.pass e' ≡ f (held_of s.pass e) → (now : Listing) → now ≡ s.restless → (v : RowsView)
           → view_of s ≡ v
           → record { held = held_in s.pass later s.order; restless = now; pass = s.pass } ≡ record v { held = change_held page f v.held }
@@ -222,7 +224,7 @@ module _ (s : Inside) (are : AreRows s) where
           viewed f is now v seen_as
           ∙ ap (λ l. record v { held = change_held page f v.held; restless = l }) (same_list ∙ ap (λ (w : RowsView). w.restless) seen_as)
 
-      -- nor where a scan is told whether it visits the page
+      -- with an entry written anew and its page marked, the rows are seen with f at that page, and the new list
       pub viewed_marked : (f : Held → Held) → held_of s.pass e' ≡ f (held_of s.pass e) → (m : Bool) (now : Listing) (v : RowsView)
           → view_of s ≡ v
           → record { held = held_in s.pass later (marked page m s.order); restless = now; pass = s.pass } ≡ record v { held = change_held page f v.held; restless = now }
@@ -263,7 +265,7 @@ module _ (s : Inside) (are : AreRows s) where
       held_gone =
           subst (λ p. held_in s.pass later (without_named p s.order) ≡ without_held p held) of_page (taken s.entries s.order are.ascending are.filed key e stood later fills s.pass)
 
-      -- they are rows still
+      -- rows are lawful once a page's entry is gone, with its name, its place in the list and its count
       pub still_gone : (now : Listing) → now ≡ record s.restless { pages = without_item page s.restless.pages }
           → {from : PageState} {tally : Tally} → from ≡ state_of e.kind e.number s.pass
           → IsMoved from Private s.tally tally → IsRows later (without_named page s.order) now tally s.pass
@@ -279,12 +281,13 @@ module _ (s : Inside) (are : AreRows s) where
         counting = are.counting;
       }
 
+      -- once the entry of a page is gone with the page's name, the rows are seen without that page
       pub viewed_gone : (now : Listing) (v : RowsView) → view_of s ≡ v
           → record { held = held_in s.pass later (without_named page s.order); restless = now; pass = s.pass } ≡ record v { held = without_held page v.held; restless = now }
       viewed_gone now v seen_as =
           ap (λ held. record { held = held; restless = now; pass = s.pass }) held_gone ∙ ap (λ (w : RowsView). record w { held = without_held page w.held; restless = now }) seen_as
 
--- no row of a page without one goes
+-- where a page has no row, the rows without that page are seen as before
 pub nothing_gone : (s : Inside) → AreRows s → (page : GuestPage) → None ≡ key_in s.order page → (v : RowsView) → view_of s ≡ v → v ≡ record v { held = without_held page v.held }
 nothing_gone s are page told v is =
     let absent = held_nowhere s.entries s.order are.ascending are.filed s.pass page (sym told) in
@@ -298,10 +301,12 @@ with_room s are room is =
     subst (λ slab. IsRows slab s.order s.restless s.tally s.pass) (sym is)
     (record { ascending = are.ascending; filed = are.filed; listed = are.listed; counted = are.counted; begun = are.begun; counting = are.counting })
 
+-- a slab with more room is seen to have the same rows
 pub seen_with_room : (s : Inside) (v : RowsView) → view_of s ≡ v → (room : Slab Entry)
     → room ≡ record s.entries { capacity = room.capacity } → view_of (record s { entries = room }) ≡ v
 seen_with_room s v seen_as room is = ap (λ slab. view_of (record s { entries = slab })) is ∙ seen_as
 
+-- a page that is seen without a row has no name in the order
 pub no_name : (s : Inside) → AreRows s → (page : GuestPage) (v : RowsView) → view_of s ≡ v → held_at page v.held ≡ None → find (is_of page) s.order ≡ None
 no_name s are page v seen_as absent = key_nowhere s.entries s.order are.ascending are.filed s.pass page (ap (λ (w : RowsView). held_at page w.held) seen_as ∙ absent)
 
@@ -320,7 +325,7 @@ module _ (s : Inside) (are : AreRows s) (v : RowsView) (seen_as : view_of s ≡ 
   held_put : held_in s.pass later (with_named (named_of key e) s.order) ≡ with_held (held_of s.pass e) before
   held_put = put s.entries s.order are.ascending are.filed key e later vacant not_named fills s.pass
 
-  -- they are rows still
+  -- rows are lawful once a Private entry came under a vacant key, with a name and a place in the list
   pub still_put : state_of e.kind e.number s.pass ≡ Private → e.number ≤ s.pass → (now : Listing) → IsAddedTo e.page s.restless now → IsRows later (with_named (named_of key e) s.order) now s.tally s.pass
   still_put alone fits now added = record {
     ascending = with_rises (λ (n : Named). n.page) e.page (named_of key e) s.order refl are.ascending;
@@ -338,16 +343,17 @@ module _ (s : Inside) (are : AreRows s) (v : RowsView) (seen_as : view_of s ≡ 
     counting = are.counting;
   }
 
+  -- once an entry came under a vacant key with a name, the rows are seen with its row, and the new list
   pub viewed_put : (now : Listing) → record { held = held_in s.pass later (with_named (named_of key e) s.order); restless = now; pass = s.pass } ≡ record v { held = with_held (held_of s.pass e) v.held; restless = now }
   viewed_put now =
       ap (λ held. record { held = held; restless = now; pass = s.pass }) held_put
       ∙ ap (λ (w : RowsView). record w { held = with_held (held_of s.pass e) w.held; restless = now }) seen_as
 
--- rows are rows still where their pages are listed otherwise
+-- rows are lawful under another list that has all pages that a visit may change
 pub relisted : (s : Inside) → AreRows s → (now : Listing) → (now.known ≡ true → AreListed s.entries now.pages) → IsRows s.entries s.order now s.tally s.pass
 relisted s are now listed = record { ascending = are.ascending; filed = are.filed; listed = listed; counted = are.counted; begun = are.begun; counting = are.counting }
 
--- where pages whose rows no visit changes are listed no more
+-- rows are lawful under a list that lost only pages whose rows no visit changes
 pub swept_rows : (s : Inside) → AreRows s → (now : Listing) → now.known ≡ s.restless.known
     → ((page : GuestPage) → has_item page s.restless.pages ≡ true → (has_item page now.pages ≡ true) ⊎ IsCalm s.entries page) → IsRows s.entries s.order now s.tally s.pass
 swept_rows s are now known kept = relisted s are now listed

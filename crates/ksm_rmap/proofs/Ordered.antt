@@ -12,14 +12,22 @@ use Rattle.ksm_base.proofs.RowCounts.{filter_all}
 
 -- a strict order, with the test that tells equal elements
 pub record IsOrder {X : Type 0} (before same : X → X → Bool) : Type 0 where
+  -- what comes before an element comes before all that the element comes before
   pub trans : (x y z : X) → before x y ≡ true → before y z ≡ true → before x z ≡ true
+  -- an element that comes before another is not the same
   pub apart : (x y : X) → before x y ≡ true → same x y ≡ false
+  -- an element that comes behind another is not the same
   pub apart_back : (x y : X) → before x y ≡ true → same y x ≡ false
+  -- of two elements only one comes before the other
   pub asym : (x y : X) → before x y ≡ true → before y x ≡ false
+  -- of two elements that are not the same one comes before the other
   pub total : (x y : X) → same x y ≡ false → before x y ≡ false → before y x ≡ true
+  -- an element is the same as itself
   pub same_refl : (x : X) → same x x ≡ true
+  -- elements that test as the same are equal
   pub same_eq : (x y : X) → same x y ≡ true → x ≡ y
 
+-- where every element fails a test, there is none that passes
 pub any_none : {X : Type 0} (p : X → Bool) (xs : List X) → All (λ x. p x ≡ false) xs → list_any p xs ≡ false
 any_none p [] none = refl
 any_none p (x ∷ xs) none =
@@ -27,7 +35,7 @@ any_none p (x ∷ xs) none =
     let rest = any_none p xs (All-tail (λ y. p y ≡ false) x xs none) in
     grind (arith, here, rest)
 
--- a point with what passes below it and nothing that passes from it on is how many pass
+-- where all elements below a point pass and none from the point on, the point is how many pass
 pub point_is_count : {X : Type 0} (p : X → Bool) (xs : List X) (i : ℕ) → i ≤ length xs → AllWithin (λ x. p x ≡ true) xs 0 i → AllWithin (λ x. p x ≡ false) xs i (length xs) → i ≡ length (filter p xs)
 point_is_count p [] i within below above = omega arith
 point_is_count p (x ∷ xs) zero within below above =
@@ -48,7 +56,7 @@ module _ {X : Type 0} (before same : X → X → Bool) (order : IsOrder before s
   abbrev is_x : X → Bool
   is_x y = same y x
 
-  -- what a search for the first element that is not before x asks of the list
+  -- in a list in order, the elements before x stand before all others
   pub parted : (xs : List X) → AllPairs (λ y z. before y z ≡ true) xs → IsPartitionedBy low xs
   parted xs rise i j d le lt later =
       elim (cases_lt i j) [
@@ -75,7 +83,7 @@ module _ {X : Type 0} (before same : X → X → Bool) (order : IsOrder before s
   behind_x : (y : X) (ys : List X) → AllPairs (λ a b. before a b ≡ true) (y ∷ ys) → same y x ≡ true → All (λ z. high z ≡ true) ys
   behind_x y ys rise equal k d lt = rw (← order.same_eq y x equal) (rise 0 (suc k) d (omega arith) (omega arith))
 
-  -- an element that is not there goes in behind those before it
+  -- an insert behind those before x, where x is not there, puts x at its place
   pub insert_at : (xs : List X) → AllPairs (λ a b. before a b ≡ true) xs → list_any is_x xs ≡ false → insert xs (length (filter low xs)) x ≡ filter low xs ++ x ∷ filter high xs
   insert_at [] rise absent = refl
   insert_at (y ∷ ys) rise absent =
@@ -133,7 +141,7 @@ module _ {X : Type 0} (before same : X → X → Bool) (order : IsOrder before s
             absurd (omega (arith, few, h))
       ]
 
-  -- an element that is there is taken away by a removal behind those before it
+  -- a removal behind those before x, where x stands there, takes x out of the list
   pub remove_at : (xs : List X) (d : X) → AllPairs (λ a b. before a b ≡ true) xs → length (filter low xs) < length xs → is_x (get_or xs (length (filter low xs)) d) ≡ true → remove xs (length (filter low xs)) ≡ filter (λ y. not (is_x y)) xs
   remove_at [] d rise within found = absurd (omega arith)
   remove_at (y ∷ ys) d rise within found =
@@ -166,7 +174,7 @@ module _ {X : Type 0} (before same : X → X → Bool) (order : IsOrder before s
       let rest = absent_kept ys absent_rest in
       grind (arith, here, rest)
 
-  -- an element that is there is not put in twice
+  -- a list in order that has x is the list with x put in at its place
   pub with_found : (xs : List X) → AllPairs (λ a b. before a b ≡ true) xs → list_any is_x xs ≡ true → xs ≡ filter low xs ++ x ∷ filter high xs
   with_found [] rise found = absurd (true≢false (sym found))
   with_found (y ∷ ys) rise found =

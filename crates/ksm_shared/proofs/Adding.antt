@@ -9,9 +9,11 @@ use Rattle.ksm_base.specs.Journal.{Entry}
 use Rattle.ksm_shared.specs.Published.{HasLength, Adds}
 use Rattle.ksm_shared.proofs.Beginnings.{prefix_whole}
 
+-- the entries that a log shows: none
 abbrev pub shown : List Entry → List Entry
 shown log = []
 
+-- what a move from one list of entries to another asks: nothing
 abbrev pub moved : List Entry → List Entry → ℕ → Type 0
 moved xs ys n = Unit {0}
 

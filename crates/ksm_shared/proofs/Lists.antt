@@ -9,7 +9,7 @@ use Rattle.ksm_shared.specs.declared.seen.Caller.{Caller}
 use Rattle.ksm_shared.specs.declared.seen.View.{View}
 use Rattle.ksm_shared.specs.Seen.{entries, entries_by, Begins, CallersFit, times, total, OwnersBelow, caller, owned, added}
 
--- a total, where one view is replaced, differs by what the two count
+-- a total, where one view is replaced, differs by what the two views count
 pub total_set : (f : View → ℕ) (views : List View) (i : ℕ) (v w : View) → get_elem? views i ≡ some v → total f (set views i w) + f v ≡ total f views + f w
 total_set f [] i v w e = absurd (some-ne-none v (sym e))
 total_set f (x ∷ xs) zero v w e = let s : f x ≡ f v = ap f (some-injective x v e) in omega arith
@@ -39,7 +39,7 @@ pub total_zero : (f : View → ℕ) (views : List View) → ((i : ℕ) (v : View
 total_zero f [] h = refl
 total_zero f (x ∷ xs) h = let a = h zero x refl in let b = total_zero f xs (λ i v e. h (suc i) v e) in omega arith
 
--- a caller's entries in two logs are those of both together
+-- a caller's entries in two logs in a row are those in the first, then those in the second
 pub entries_by_append : (number : ℕ) (xs ys : List Owned) → entries_by number (xs ++ ys) ≡ entries_by number xs ++ entries_by number ys
 entries_by_append number [] ys = refl
 entries_by_append number (o ∷ os) ys =
@@ -47,6 +47,7 @@ entries_by_append number (o ∷ os) ys =
     elim (o.owner == number) as (λ (b : Bool). (if b then (o.entry ∷ entries_by number (os ++ ys)) else entries_by number (os ++ ys)) ≡ (if b then (o.entry ∷ entries_by number os) else entries_by number os) ++ entries_by number ys)
     [ true ↦ ap (λ (l : List Entry). o.entry ∷ l) ih | false ↦ ih ]
 
+-- an entry of another owner is none of a caller's entries
 pub entries_by_other : (number : ℕ) (o : Owned) → o.owner ≢ number → entries_by number (o ∷ []) ≡ []
 entries_by_other number o ne = subst (λ (b : Bool). (if b then (o.entry ∷ []) else []) ≡ []) (sym (ne_eqb o.owner number ne)) refl
 
@@ -54,7 +55,7 @@ entries_by_other number o ne = subst (λ (b : Bool). (if b then (o.entry ∷ [])
 pub entries_by_own : (number : ℕ) (e : Entry) → entries_by number (owned number e ∷ []) ≡ e ∷ []
 entries_by_own number e = subst (λ (b : Bool). (if b then (e ∷ []) else []) ≡ e ∷ []) (sym (eq-eqb number number refl)) refl
 
--- the entries of two logs are those of both together
+-- the entries of two logs in a row are those of the first, then those of the second
 pub entries_append : (xs ys : List Owned) → entries (xs ++ ys) ≡ entries xs ++ entries ys
 entries_append [] ys = refl
 entries_append (o ∷ os) ys = ap (λ (l : List Entry). o.entry ∷ l) (entries_append os ys)
@@ -69,7 +70,7 @@ pub times_map : (number : ℕ) (log : List Owned) (cs : List Caller) → times n
 times_map number log [] = refl
 times_map number log (g ∷ cs) = let ih = times_map number log cs in omega arith
 
--- a caller occurs in a list that begins with it
+-- a caller occurs in a list that begins with that caller
 pub times_head : (number : ℕ) (g : Caller) (cs : List Caller) → g.number ≡ number → 0 < times number (g ∷ cs)
 times_head number g cs e = subst (λ (b : Bool). 0 < (if b then 1 else 0) + times number cs) (sym (eq-eqb g.number number e)) (omega arith)
 
@@ -86,6 +87,7 @@ pub begins_grow : (number : ℕ) (seen log more : List Owned) → entries_by num
 begins_grow number seen log more none b =
     (b.0 ++ more, ap (λ (l : List Owned). l ++ more) b.1 ∙ append_assoc seen b.0 more, entries_by_append number b.0 more ∙ ap (λ (l : List Entry). l ++ entries_by number more) b.2 ∙ none)
 
+-- what a caller has seen begins the journal where the caller has seen all of the journal
 pub begins_all : (number : ℕ) (log : List Owned) → Begins number log log
 begins_all number log = ([], sym (append-nil log), refl)
 
@@ -107,7 +109,7 @@ pub callers_append : (log : List Owned) (count : ℕ) (cs ds : List Caller) → 
 callers_append log count [] ds a b = b
 callers_append log count (g ∷ cs) ds a b = (a.0, callers_append log count cs ds a.1 b)
 
--- callers that are shown the whole journal fit it
+-- callers that are shown the whole journal fit that journal
 pub callers_fresh : (log now : List Owned) (count : ℕ) (cs : List Caller) → CallersFit log count cs → CallersFit now count (map (λ g. caller g.number now) cs)
 callers_fresh log now count [] fits = tt
 callers_fresh log now count (g ∷ cs) fits = ((fits.0.0, begins_all g.number now), callers_fresh log now count cs fits.1)

@@ -35,6 +35,7 @@ begins = record { book = 0; log = []; count = 0; fits = one; once = λ number. o
     one zero v e = subst (Fits 0 [] 0 0) (some-injective _ _ e) ((λ _. (refl, refl, refl)), tt)
     one (suc by) v e = absurd (some-ne-none v (sym e))
 
+-- in views that keep the rule, the shares joined to the book's seat fit the journal that the seat knows
 pub knows : (views : List View) (id : ℕ) (v : View) → v.is_book ≡ true → IsKept views → get_elem? views id ≡ some v → Knows v
 knows views id v kp h at =
     let mine = h.fits id v at in
@@ -44,6 +45,7 @@ knows views id v kp h at =
       owners = subst (λ (p : List Owned × ℕ). OwnersBelow p.1 p.0) (λ i. (sym m.1 i, sym m.2 i)) h.owners;
     }
 
+-- views keep the rule where the book's seat adds an entry, or none
 pub writes_views : (views : List View) (id : ℕ) (v : View) (e : Option Entry) → v.is_book ≡ true → IsKept views → get_elem? views id ≡ some v → IsKept (set views id (after v e))
 writes_views views id v e kp h at =
     let mine = h.fits id v at in

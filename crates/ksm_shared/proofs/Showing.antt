@@ -40,7 +40,7 @@ turns parts seat v x y up same views k at =
       (row, (moved seat v at).0, refl),
     )
 
--- a row that is one of two rows of these parts is one of them
+-- a row that is one of two rows of some parts is a row of those parts
 pub either_row : (parts : PartsId) (x y z : ShownRow) → (z ≡ x) ⊎ (z ≡ y) → IsRowOf parts x → IsRowOf parts y → IsRowOf parts z
 either_row parts x y z e p q = ⊎_elim (λ (t : z ≡ x). subst (IsRowOf parts) (sym t) p) (λ (t : z ≡ y). subst (IsRowOf parts) (sym t) q) e
 

@@ -26,7 +26,7 @@ book_seat m log count e = subst (λ (x : Me'). x ≡ (book_view x.0.log x.0.shar
 share_seat : (m : Me') (number : ℕ) (seen : List Owned) → m ≡ (share_view number seen, []) → IsShareSeat m
 share_seat m number seen e = subst (λ (x : Me'). x ≡ (share_view (first x.0.callers).number (first x.0.callers).seen, [])) (sym e) refl
 
--- a write by the two seats together is the share's command
+-- a write by the book's seat and a share's seat together is the share's command
 pub wrote : (bm sm jm xm b2 s2 : Me') (e : Option Entry) (slots found : ℕ) → IsShareSeat sm
     → jm ≡ (joined_view bm.0.log bm.0.shares (first sm.0.callers).number (first sm.0.callers).seen, [])
     → Writes (step slots 0 0 0 (some e)) jm found xm
@@ -59,7 +59,7 @@ wrote bm sm jm xm b2 s2 e slots found s j w cut given =
 pub looked : (jm xm : Me') (slots found : ℕ) → Looks (step slots 0 0 0 none) jm found xm → Writes (step slots 0 0 0 (some None)) jm found xm
 looked jm xm slots found l e is = (l.0 ∙ ap (λ (x : Option Entry). after jm.0 x) (some-injective None e is), l.1, l.2)
 
--- the shares that the book's seat took in fit its journal, and it is as before once they are let go
+-- shares that the book's seat took in fit its journal, and the seat is as before once the shares are let go
 pub let_go : (bm jm xm b2 : Me') (cs : List Caller) (slots found : ℕ) → IsBookSeat bm → jm ≡ (view_of true bm.0.log bm.0.shares cs, []) → Writes (step slots 0 0 0 (some None)) jm found xm
     → b2 ≡ (view_of xm.0.is_book xm.0.log xm.0.shares [], xm.1) → (b2 ≡ bm) × Knows (view_of true bm.0.log bm.0.shares cs)
 let_go bm jm xm b2 cs slots found b j w cut =

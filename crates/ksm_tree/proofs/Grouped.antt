@@ -95,17 +95,18 @@ module _ (t : ℕ) (b : List ℕ) where
   abbrev pub size : List DupRow → ℕ
   size rows = count_by of_it rows
 
-  -- the group has as many places as dups
+  -- a group has as many places as dups
   pub places_size : (rows : List DupRow) → length (group_places t b rows) ≡ size rows
   places_size rows = length-map (filter of_it rows) (λ r. r.place) ∙ length-filter of_it rows
 
-  -- what the other groups make of the totals
+  -- how many dups of other groups are in chains
   abbrev pub dups_apart : List DupRow → ℕ
   dups_apart rows = count_by (λ d. not (of_it d) && in_chain rows d) rows
 
   abbrev leads : List DupRow → DupRow → Bool
   leads rows d = in_chain rows d && leads_group rows d
 
+  -- how many chains the other groups have
   abbrev pub chains_apart : List DupRow → ℕ
   chains_apart rows = count_by (λ d. not (of_it d) && leads rows d) rows
 
@@ -141,7 +142,7 @@ module _ (t : ℕ) (b : List ℕ) where
             grind (arith, nat_tests, outside, more, also, alike, rest)
       ]
 
-  -- the totals are what the group makes of them, and what the others do
+  -- the dups in chains are those of a group, if it is a chain, and those of the other groups
   pub dups_parted : (rows : List DupRow) → count_by (in_chain rows) rows ≡ chained_of (size rows) + dups_apart rows
   dups_parted rows =
       let parts = count_parts of_it (in_chain rows) rows in
@@ -153,6 +154,7 @@ module _ (t : ℕ) (b : List ℕ) where
       let all = count_where of_it (nat_lt 1 (size rows)) rows in
       omega (arith, parts, own, all)
 
+  -- the chains are that of a group, if it is one, and those of the other groups
   pub chains_parted : (rows : List DupRow) → InPlaceOrder rows → count_by (leads rows) rows ≡ chains_of (size rows) + chains_apart rows
   chains_parted rows rise =
       let parts = count_parts of_it (leads rows) rows in
@@ -299,7 +301,7 @@ module _ (old r : DupRow) (less rows new : List DupRow) (there : IsMore old less
         dups = omega (arith, from.dups, to.dups, are.dups, d1, d2, d3, d4, dk, dm, same_d1, same_d2);
       }
 
-  -- between the two the totals tell of the group of the one that goes
+  -- after a dup came and before another went, the totals tell of a group of any size that they told of
   pub totals_between : (t u : Totals) → IsRegrouped (length (group_places r.tree r.bytes rows)) (length (group_places r.tree r.bytes new)) t u → (n : ℕ) → t.chains ≤ 1024 → t.dups ≤ 1024 → Tells n t → Tells n u
   totals_between t u first n few small tells =
       let from : IsRegrouped (size r.tree r.bytes rows) (size r.tree r.bytes new) t u = rw (← places_size r.tree r.bytes rows, ← places_size r.tree r.bytes new) first in

@@ -23,15 +23,15 @@ row_placed q dups = ap (option_map (λ r. r.place)) (sym (row_found (has_number 
 
 -- where the dup with a number stands at a place
 module _ (q p : ℕ) (dups : List Dup) (rise : InPlaceOrder (rows_of dups)) (is : Some p ≡ option_map (λ d. d.row.place) (dup_of q dups)) where
-  -- it is the one that is found there
+  -- where the place of a number is told, a search by the number finds the dup at that place
   pub placed_found : dup_of q dups ≡ dup_at p dups
   placed_found = number_place_found q p dups rise (row_placed q dups ∙ sym is)
 
-  -- to change the items of the number is to change those of the dup there
+  -- where the place of a number is told, a change of the number's items is a change of those at the place
   pub placed_changed : (f : List GuestPage → List GuestPage) → change_items q f dups ≡ change_at p f dups
   placed_changed f = number_place_changed q p f dups rise (row_placed q dups ∙ sym is)
 
-  -- a dup is found there
+  -- where the place of a number is told, a dup is found at that place
   pub placed_there : is_some (dup_at p dups) ≡ true
   placed_there = ap is_some (sym placed_found) ∙ dup_some (dup_of q dups) (sym is)
 
@@ -41,10 +41,11 @@ placed_inside q p s next index seen view is = is ∙ sym (ap (λ v. option_map (
 
 -- where no dup has a number
 module _ (q : ℕ) (dups : List Dup) (none : None ≡ option_map (λ d. d.row.place) (dup_of q dups)) where
+  -- where no place of a number is told, no dup has that number
   pub unplaced_found : dup_of q dups ≡ None
   unplaced_found = no_place (dup_of q dups) none
 
-  -- a change of its items changes no dup
+  -- where no place of a number is told, a change of the number's items changes no dup
   pub unplaced_changed : (f : List GuestPage → List GuestPage) → dups ≡ change_items q f dups
   unplaced_changed f = unchanged_items q f dups unplaced_found
 
@@ -72,22 +73,24 @@ module _ (s : SlotsState) (next : ℕ) (index : Index) (h : AreIndexed s next in
 -- the group under the number of a tree and bytes is of these, and has the places of their dups
 module _ (s : SlotsState) (next : ℕ) (index : Index) (h : AreIndexed s next index) (tree : ℕ) (bytes : List ℕ) where
   module _ (number : ℕ) (g : Group) (is : number_of tree bytes index.groups.numbers.entries ≡ Some number) (at : Some g ≡ get index.groups.groups number) where
+    -- the group under the number of a tree and bytes lists the places of the dups of that tree and bytes
     pub group_here : g.places.list.items ≡ group_places tree bytes (rows_of s.dups)
     group_here = sym (ap (under [] (λ n. places_in (get index.groups.groups n))) is ∙ ap places_in (sym at)) ∙ h.grouped tree bytes
 
+    -- the group under the number of a tree and bytes has that tree and those bytes as its content
     pub content_here : g.content ≡ content_of tree bytes
     content_here = same_Some g.content (content_of tree bytes) (ap content_in at ∙ (index.groups.lawful.numbered (content_of tree bytes) number).0 is)
 
-  -- a content without a number has no dup
+  -- a tree and bytes without a number have no dup
   pub group_absent : number_of tree bytes index.groups.numbers.entries ≡ None → [] ≡ group_places tree bytes (rows_of s.dups)
   group_absent none = sym (ap (under [] (λ n. places_in (get index.groups.groups n))) none) ∙ h.grouped tree bytes
 
--- the totals tell of each group
+-- the totals tell of the group of each tree and bytes
 pub told : (s : SlotsState) (next : ℕ) (index : Index) → AreIndexed s next index → (t : ℕ) (b : List ℕ) → Tells (length (places_of t b index)) index.groups.totals
 told s next index h t b =
     rw (h.grouped t b) (totals_tell t b s.places (rows_of s.dups) index.groups.totals h.few h.lawful.places_below h.lawful.in_place_order h.counted)
 
--- the row of the dup at a place
+-- the row found at a place is the row of the dup found there
 pub row_at_place : (p : ℕ) (dups : List Dup) (d : Option Dup) → dup_at p dups ≡ d → find (λ r. r.place == p) (rows_of dups) ≡ option_map (λ e. e.row) d
 row_at_place p dups d is = sym (row_found (stands_at p) (λ r. r.place == p) (λ e. refl) dups) ∙ ap (option_map (λ e. e.row)) is
 
@@ -101,12 +104,12 @@ not_in_group p t b dups d rise found outside =
     ])
     (rows_of dups) (only_one p (rows_of dups) d.row rise (row_at_place p dups (Some d) found))
 
--- what is so in each of two cases is so by the test between them
+-- what is one value where a test passes and another where it fails is the choice between both by the test
 pub cond_if : {X : Type 0} (s : Bool) (x y z : X) → (s ≡ true → z ≡ x) → (s ≡ false → z ≡ y) → z ≡ (if s then x else y)
 cond_if true x y z yes_case no_case = yes_case refl
 cond_if false x y z yes_case no_case = no_case refl
 
--- a dup goes from its place and from the index
+-- where a dup goes from its place and from the index, the index stays right
 pub gone_indexed : (s : SlotsState) (next : ℕ) (index new : Index) (p : ℕ) (d : Dup) → AreIndexed s next index → dup_at p s.dups ≡ Some d → d.row.place ≡ p → ((q : ℕ) → place_of q new ≡ (if q == d.row.number then None else place_of q index)) → ((t : ℕ) (b : List ℕ) → places_of t b new ≡ (if t == d.row.tree && bytes_eq b d.row.bytes then without d.row.place (places_of t b index) else places_of t b index))
     → IsRegrouped (length (places_of d.row.tree d.row.bytes index)) (length (places_of d.row.tree d.row.bytes new)) index.groups.totals new.groups.totals → AreIndexed (record { places = s.places; dups = without_place p s.dups }) next new
 gone_indexed s next index new p d h found at numbers groups regrouped =
@@ -161,7 +164,7 @@ none_there p test (d ∷ dups) none there =
       | inr away ↦ none_there p test dups (none ∙ grind (arith, away)) (grind (arith, away, there))
     ]
 
--- the dup at a place, where it passes a test
+-- the dup found at a place, if it passes a test
 abbrev pub passing : (Dup → Bool) → Option Dup → Option Dup
 passing test None = None
 passing test (Some d) = if test d then Some d else None

@@ -103,6 +103,7 @@ module _ (may : Dup → Bool) where
             ap (λ acc. walked acc dups) stays ∙ walk_from b dups first ∙ passed_by b d dups first (grind (arith, fails))
       ]
 
+  -- a walk that keeps the better of two dups ends at the first that may be joined and to which none is better
   pub walk_top : (dups : List Dup) → walked None dups ≡ find (top dups) dups
   walk_top [] = refl
   walk_top (d ∷ dups) =
@@ -116,7 +117,7 @@ module _ (may : Dup → Bool) where
             ∙ sym (ap (λ m. cond (m && list_all (rival d) (d ∷ dups)) (Some d) (find (top (d ∷ dups)) dups)) fails)
       ]
 
--- each dup is what is found at its place
+-- in dups in order, each dup is what is found at its place
 pub found_self : (dups : List Dup) → InPlaceOrder (rows_of dups) → All (λ d. dup_at d.row.place dups ≡ Some d) dups
 found_self [] rise = λ k d lt. absurd (omega arith)
 found_self (d ∷ dups) rise =
@@ -139,12 +140,12 @@ abbrev pub joined : ℕ → Option Dup → Option Dup → Option Dup
 joined limit acc None = acc
 joined limit acc (Some d) = if has_room limit d then Some (better acc d) else acc
 
--- the best dup of those at places from here on
+-- the best dup of the one so far and those of a group at the places of a list
 abbrev pub folded : ℕ → List ℕ → ℕ → List Dup → Option Dup → List ℕ → Option Dup
 folded t b limit dups acc [] = acc
 folded t b limit dups acc (p ∷ places) = folded t b limit dups (joined limit acc (of_group t b (dup_at p dups))) places
 
--- how many items a dup must have to be joined where another was found
+-- how many items a dup must have to be joined where a best dup so far was found, or none
 abbrev pub least_of : Option Dup → ℕ
 least_of None = 1
 least_of (Some d) = length d.items
@@ -157,7 +158,7 @@ above_least items least limit above fits least_fits limit_fits is within = omega
 pub out_of_room : (items least limit above : ℕ) → items < 2 ^ 32 → least < 2 ^ 32 → limit < 2 ^ 32 → above ≡ (items + (2 ^ 32 - least)) % 2 ^ 32 → limit - least ≤ above → (nat_lt items least || nat_le limit items) ≡ true
 out_of_room items least limit above fits least_fits limit_fits is outside = grind (arith, nat_tests)
 
--- one step of the walk: over a dup with too few items or too many, and to one with room
+-- a dup with fewer items than the least, or with the limit or more, leaves the best so far
 pub stepped_over : (limit : ℕ) (acc slot : Option Dup) → (nat_lt (length (items_in slot)) (least_of acc) || nat_le limit (length (items_in slot))) ≡ true → joined limit acc slot ≡ acc
 stepped_over limit acc None outside = refl
 stepped_over limit None (Some d) outside = grind (arith, nat_tests, outside)
@@ -184,7 +185,7 @@ stepped_to t b limit acc (Some d) items least has is one above below =
       | inr outside ↦ rw outside refl
     ]
 
--- what is taken stands there
+-- a dup taken from a slot is the dup in that slot
 pub taken_so : (t : ℕ) (b : List ℕ) (rival slot : Option Dup) (d : Dup) → Some d ≡ unless_behind rival (of_group t b slot) → Some d ≡ slot
 taken_so t b rival None d is = is
 taken_so t b rival (Some e) d is =
@@ -196,7 +197,7 @@ taken_so t b rival (Some e) d is =
       | inr outside ↦ absurd (none-some d (sym (is ∙ (grind (arith, outside)))))
     ]
 
--- one place looked at is one step of the fold
+-- one place looked at is one step of the fold over places
 pub stepped : (t : ℕ) (b : List ℕ) (limit : ℕ) (dups : List Dup) (acc next : Option Dup) (places : List ℕ) (i : ℕ) → i < length places → joined limit acc (of_group t b (dup_at (get_or places i 0) dups)) ≡ next → folded t b limit dups next (drop (i + 1) places) ≡ folded t b limit dups acc (drop i places)
 stepped t b limit dups acc next places i within is =
     let rest : drop i places ≡ get_or places i 0 ∷ drop (i + 1) places = rw (add-one, drop-cons places i 0) in

@@ -192,7 +192,7 @@ module _ (s : SlotsState) (next : ℕ) (index new : Index) (dup : Dup) (h : AreI
         grouped = λ t b. grouped t b ∙ ap (group_places t b) (sym (rows_new dup s.dups));
       }
 
--- what callers see once a dup is made
+-- once a dup is made, callers see that dup among the others, and the next number one higher
 pub seen_made : (s : SlotsState) (next : ℕ) (index new : Index) (dup : ℕ → Dup) (old : DupsState) → dups_seen s next index ≡ old → SameWaits index.groups new.groups
     → dups_seen (record { places = s.places; dups = with_new (dup next) s.dups }) (next + 1) new ≡ record old { dups = with_new (dup old.next) old.dups; next = old.next + 1 }
 seen_made s next index new dup old view same =

@@ -11,16 +11,17 @@ same_content p q same =
 pub full : {X : Type 0} (x : X) (slot : Option X) → slot ≡ None → slot ≡ Some x → ⊥
 full x slot none some = true≢false (ap is_some (sym some ∙ none))
 
+-- the number of a content, if it has one
 abbrev pub its_number : Content → Numbers → Option ℕ
 its_number content numbers = number_of content.tree content.bytes numbers
 
--- under a number stands this from now on, and under each other one what stood there
+-- under one number stands the given content or none from now on, and under each other number what stood there
 pub record Stands (kept later : ℕ → Option Content) (number : ℕ) (slot : Option Content) : Type 0 where
   pub changed : later number ≡ slot
   pub others : (other : ℕ) → other ≢ number → later other ≡ kept other
 
 module _ (old new : BTreeMap Content ℕ) (kept later : ℕ → Option Content) (k : Content) (are : AreNumbered old.entries kept) where
-  -- a content that had no number got one, under which nothing stood
+  -- the numbers are right once a content that had none got one, under which nothing stood
   pub entered : (key : ℕ) → its_number k old.entries ≡ None → kept key ≡ None → Updates content_order old new k (Some key) → Stands kept later key (Some k) → AreNumbered new.entries later
   entered key none vacant updates fills q n = (forward, backward)
     where
@@ -53,7 +54,7 @@ module _ (old new : BTreeMap Content ℕ) (kept later : ℕ → Option Content) 
             ]
       ]
 
-  -- the content under a number lost it
+  -- the numbers are right once a content lost its number, and nothing stands under that
   pub forgotten : (number : ℕ) → kept number ≡ Some k → Updates content_order old new k None → Stands kept later number None → AreNumbered new.entries later
   forgotten number stood updates fills q n = (forward, backward)
     where

@@ -21,7 +21,7 @@ none_at k p slots below placed i d lt = let h = placed_above k slots placed i d 
 all_above : (k p : ℕ) (slots : List (Option Dup)) → p < k → ArePlaced k slots → All (λ d. nat_lt p d.row.place ≡ true) (present slots)
 all_above k p slots below placed i d lt = let h = placed_above k slots placed i d lt in grind (arith, nat_tests, h)
 
--- what stands at a place is what its slot holds
+-- the dup found at a place is what the slot of that place holds
 pub slot_found : (k p i : ℕ) (slots : List (Option Dup)) → p ≡ k + i → ArePlaced k slots → dup_at p (present slots) ≡ get_or slots i None
 slot_found k p i [] is placed = refl
 slot_found k p zero (None ∷ slots) is placed = find_nothing (stands_at p) (present slots) (none_at (suc k) p slots (omega arith) placed)
@@ -32,7 +32,7 @@ slot_found k p (suc i) (Some d ∷ slots) is placed =
     let rest = slot_found (suc k) p i slots (omega arith) placed.1 in
     grind (arith, nat_tests, h, rest)
 
--- a dup put into its slot
+-- a dup put into its slot is seen among the dups, in place of one that stood there
 pub slot_put : (k p i : ℕ) (slots : List (Option Dup)) (dup : Dup) → p ≡ k + i → dup.row.place ≡ p → i < length slots → ArePlaced k slots → present (set slots i (Some dup)) ≡ with_new dup (present slots)
 slot_put k p i [] dup is at within placed = absurd (omega arith)
 slot_put k p zero (None ∷ slots) dup is at within placed =
@@ -50,7 +50,7 @@ slot_put k p (suc i) (Some d ∷ slots) dup is at within placed =
     let rest = slot_put (suc k) p i slots dup (omega arith) at (omega arith) placed.1 in
     grind (arith, nat_tests, h, rest)
 
--- a slot that is emptied takes its dup out of those that are seen
+-- a slot that is emptied takes the dup of its place out of those that are seen
 pub slot_emptied : (k p i : ℕ) (slots : List (Option Dup)) → p ≡ k + i → ArePlaced k slots → present (set slots i None) ≡ without_place p (present slots)
 slot_emptied k p i [] is placed = refl
 slot_emptied k p zero (None ∷ slots) is placed =
@@ -72,7 +72,7 @@ change_none p f (d ∷ dups) none =
     let rest = change_none p f dups (λ i e lt. none (suc i) e (omega arith)) in
     grind (arith, here, rest)
 
--- the items of a slot's dup changed
+-- a change of the items of a slot's dup is seen as that change of the dup at its place
 pub slot_changed : (k p i : ℕ) (slots : List (Option Dup)) (dup : Dup) (f : List GuestPage → List GuestPage) → p ≡ k + i → get_or slots i None ≡ Some dup → ArePlaced k slots → present (set slots i (Some (record dup { items = f dup.items }))) ≡ change_at p f (present slots)
 slot_changed k p i [] dup f is here placed = absurd (none-some dup here)
 slot_changed k p zero (None ∷ slots) dup f is here placed = absurd (none-some dup here)
@@ -87,7 +87,7 @@ slot_changed k p (suc i) (Some d ∷ slots) dup f is here placed =
     let rest = slot_changed (suc k) p i slots dup f (omega arith) here placed.1 in
     grind (arith, nat_tests, h, rest)
 
--- a slot that takes a dup of its place, or none
+-- dups stand at the places of their slots once a dup is put into the slot of its place
 pub placed_put : (k p i : ℕ) (slots : List (Option Dup)) (dup : Dup) → p ≡ k + i → dup.row.place ≡ p → ArePlaced k slots → ArePlaced k (set slots i (Some dup))
 placed_put k p i [] dup is at placed = tt
 placed_put k p zero (None ∷ slots) dup is at placed = (omega arith, placed)
@@ -95,6 +95,7 @@ placed_put k p (suc i) (None ∷ slots) dup is at placed = placed_put (suc k) p 
 placed_put k p zero (Some d ∷ slots) dup is at placed = (omega arith, placed.1)
 placed_put k p (suc i) (Some d ∷ slots) dup is at placed = (placed.0, placed_put (suc k) p i slots dup (omega arith) at placed.1)
 
+-- dups stand at the places of their slots once one slot is emptied
 pub placed_emptied : (k i : ℕ) (slots : List (Option Dup)) → ArePlaced k slots → ArePlaced k (set slots i None)
 placed_emptied k i [] placed = tt
 placed_emptied k zero (None ∷ slots) placed = placed
@@ -148,7 +149,7 @@ module _ (test : Option Dup → Bool) where
         | false ↦ tail
       ]
 
-  -- the places that pass, each by its distance from the highest one
+  -- the places of slots that pass a test, each by its distance from the highest place
   abbrev pub mirrored_where : List (Option Dup) → List ℕ
   mirrored_where slots = places_where test 0 (reverse slots)
 
@@ -169,6 +170,7 @@ module _ (test : Option Dup → Bool) where
   mirrored_fails s slots fails =
       ap last_of (mirrored_more s slots ∙ ap (λ b. mirrored_where slots ++ (if b then length slots ∷ [] else [])) fails ∙ append-nil (mirrored_where slots))
 
+  -- the last of the distances is below the number of slots
   pub mirrored_within : (m : ℕ) (slots : List (Option Dup)) → last_of (mirrored_where slots) ≡ Some m → m < length slots
   mirrored_within m [] is = absurd (none-some m is)
   mirrored_within m (s ∷ slots) is = elim (cases_Bool (test s)) [
@@ -176,7 +178,7 @@ module _ (test : Option Dup → Bool) where
     | inr fails ↦ let rest = mirrored_within m slots (sym (mirrored_fails s slots fails) ∙ is) in omega (arith, rest)
   ]
 
-  -- the last of the distances is that of the first place
+  -- the last of the distances is that of the first place that passes
   pub mirrored_first : (k p m : ℕ) (slots : List (Option Dup)) → p + m + 1 ≡ k + length slots → last_of (mirrored_where slots) ≡ Some m → slice_get (places_where test k slots) 0 ≡ Some p
   mirrored_first k p m [] at is = absurd (none-some m is)
   mirrored_first k p m (s ∷ slots) at is = elim (cases_Bool (test s)) [
@@ -187,6 +189,7 @@ module _ (test : Option Dup → Bool) where
     | inr fails ↦ rw fails (mirrored_first (suc k) p m slots (omega (arith, at)) (sym (mirrored_fails s slots fails) ∙ is))
   ]
 
+  -- where there is no distance, no place passes
   pub mirrored_none : (k : ℕ) (slots : List (Option Dup)) → last_of (mirrored_where slots) ≡ None → slice_get (places_where test k slots) 0 ≡ None
   mirrored_none k [] none = refl
   mirrored_none k (s ∷ slots) none = elim (cases_Bool (test s)) [
@@ -194,12 +197,13 @@ module _ (test : Option Dup → Bool) where
     | inr fails ↦ rw fails (mirrored_none (suc k) slots (sym (mirrored_fails s slots fails) ∙ none))
   ]
 
-  -- what a change of the slot i does at its distance m from the highest
+  -- a slot that comes to pass adds its distance to the distances
   pub mirrored_with : (i m : ℕ) (slots : List (Option Dup)) (s : Option Dup) → m + i + 1 ≡ length slots → test s ≡ true → mirrored_where (set slots i s) ≡ with_place m (mirrored_where slots)
   mirrored_with i m slots s is passes =
       ap (places_where test 0) (reverse_set slots i m s is)
       ∙ where_with test 0 m m (reverse slots) s (omega arith) (omega (arith, is, length-reverse slots)) passes
 
+  -- a slot that comes to fail takes its distance out of the distances
   pub mirrored_without : (i m : ℕ) (slots : List (Option Dup)) (s : Option Dup) → m + i + 1 ≡ length slots → test s ≡ false → mirrored_where (set slots i s) ≡ without m (mirrored_where slots)
   mirrored_without i m slots s is fails =
       ap (places_where test 0) (reverse_set slots i m s is)
@@ -332,7 +336,7 @@ filled_within p [] filled = absurd (false≢true filled)
 filled_within zero (s ∷ slots) filled = omega arith
 filled_within (suc p) (s ∷ slots) filled = let rest = filled_within p slots filled in omega (arith, rest)
 
--- each slot has its count
+-- each place that has a slot has a count
 pub count_within : (p : ℕ) (slots : List (Option Dup)) (counts : List ℕ) → counts ≡ map count_in slots → p < length slots → p < length counts
 count_within p slots counts counted within =
     let many = ap length counted ∙ length-map slots count_in in
@@ -352,6 +356,7 @@ known_within p slots placed known =
     let here : is_some (get_or slots p None) ≡ true = rw (← slot_found 0 p p slots (omega arith) placed) known in
     filled_within p slots here
 
+-- what is read from a slot of a place is the dup found at that place
 pub read_dup : (p : ℕ) (slots : List (Option Dup)) (r : Option Dup) → ArePlaced 0 slots → p < length slots → r ≡ get_or slots p r → dup_at p (present slots) ≡ r
 read_dup p slots r placed within read =
     slot_found 0 p p slots (omega arith) placed ∙ get_or_default slots p None r within ∙ sym read
@@ -377,7 +382,7 @@ filled_place k p (suc i) (None ∷ slots) d is filled placed = filled_place (suc
 filled_place k p zero (Some e ∷ slots) d is filled placed = ap (λ x. x.row.place) (sym (same_Some e d filled)) ∙ placed.0 ∙ omega arith
 filled_place k p (suc i) (Some e ∷ slots) d is filled placed = filled_place (suc k) p i slots d (omega arith) filled placed.1
 
--- the items of a slot's dup change: the counts and the stale places are those given
+-- the slots are right once the items of one dup changed, with the count and the stale places that follow
 pub slots_changed : (p : ℕ) (slots : List (Option Dup)) (counts counts' : List ℕ) (empty stale stale' : SmallVec ℕ) (d e : Dup) → p < length slots → AreSlots slots counts empty stale → get_or slots p None ≡ Some d → e.row ≡ d.row → counts' ≡ map count_in (set slots p (Some e)) → stale'.items ≡ places_where is_stale_slot 0 (set slots p (Some e)) → stale'.capacity ≡ stale.capacity → AreSlots (set slots p (Some e)) counts' empty stale'
 slots_changed p slots counts counts' empty stale stale' d e within h filled same_row counted stales room_stale =
     let at : e.row.place ≡ p = ap (λ r. r.place) same_row ∙ filled_place 0 p p slots d (omega arith) filled h.placed in
@@ -399,7 +404,7 @@ full_slot p slots placed known =
     let here = slot_found 0 p p slots (omega arith) placed in
     sym (empty_is (get_or slots p None)) ∙ ap not (ap is_some (sym here) ∙ known)
 
--- the dup that a look into a slot found
+-- a dup read from the slot of a place where a dup is found is the one in that slot
 pub slot_read : (p : ℕ) (slots : List (Option Dup)) (r : Option Dup) (d : Dup) → ArePlaced 0 slots → is_some (dup_at p (present slots)) ≡ true → r ≡ get_or slots p r → r ≡ Some d → get_or slots p None ≡ Some d
 slot_read p slots r d placed known read is =
     get_or_default slots p None r (known_within p slots placed known) ∙ sym read ∙ is
@@ -421,13 +426,13 @@ pub was_live : (page : GuestPage) (pages : List GuestPage) → (length (with_ite
 was_live page [] more = absurd (more refl)
 was_live page (p ∷ pages) more = grind (arith, nat_tests)
 
--- what is known of the dup at a place once its slot was read
+-- a place has a slot, in which a dup stands with the items that are seen at that place
 pub record HoldsDup (p : ℕ) (slots : List (Option Dup)) (s : SlotsState) (d : Dup) : Type 0 where
   pub within : p < length slots
   pub filled : get_or slots p None ≡ Some d
   pub items : items_in (dup_at p s.dups) ≡ d.items
 
--- what is read from such a slot is the dup of its place
+-- a dup read from the slot of a place where a dup is seen is the dup of that place
 pub holds_dup : (p : ℕ) (slots : List (Option Dup)) (s : SlotsState) (r : Option Dup) (d : Dup) → slots_seen slots ≡ s → ArePlaced 0 slots → is_some (dup_at p s.dups) ≡ true → r ≡ get_or slots p r → r ≡ Some d → HoldsDup p slots s d
 holds_dup p slots s r d view placed known read is =
     let known_here : is_some (dup_at p (present slots)) ≡ true = rw (ap (λ t. t.dups) view) known in
@@ -438,7 +443,7 @@ holds_dup p slots s r d view placed known read is =
       items = ap (λ t. items_in (dup_at p t.dups)) (sym view) ∙ ap items_in (slot_found 0 p p slots (omega arith) placed ∙ filled);
     }
 
--- the slots are right once the dup of one got an item, whether it was stale or had items before
+-- the slots are right once the dup of one slot got an item, whether it was stale or had items before
 pub slots_grown : (p n : ℕ) (slots : List (Option Dup)) (counts : List ℕ) (empty stale stale' : SmallVec ℕ) (d : Dup) (page : GuestPage) → p < length slots → AreSlots slots counts empty stale → get_or slots p None ≡ Some d → n ≡ length (with_item page d.items) → stale'.items ≡ without p stale.items → stale'.capacity ≡ stale.capacity → AreSlots (set slots p (Some (record d { items = with_item page d.items }))) (set counts p n) empty stale'
 slots_grown p n slots counts empty stale stale' d page within h filled is left room =
     let e : Dup = record d { items = with_item page d.items } in

@@ -2,7 +2,7 @@
 use Rattle.ksm_tree.proofs.Names.{[], add-one, ap, ArePlaced, AreSlots, arith, count_in, Dup, is_empty_slot, is_stale_slot, length, List, map, nat_tests, None, Option, places_where, present, range_with_len, refl, replicate, replicate-append-replicate, reverse, slots_seen, SmallVec, suc, sym, with_place, zero, ℕ, ◌++◌, ◌+◌, ◌<◌, ◌∙◌, ◌∷◌, ◌≡◌, ◌≤◌}
 use mathlib.Core.List.{reverse-cons}
 
--- n empty slots
+-- a list of n empty slots
 abbrev pub none_of : ℕ → List (Option Dup)
 none_of n = replicate n None
 
@@ -18,6 +18,7 @@ range_next k p (suc n) is =
 pub range_more : (k p n : ℕ) → p ≡ k + n → with_place p (range_with_len k n) ≡ range_with_len k (n + 1)
 range_more k p n is = rw (add-one n) (range_next k p n is)
 
+-- no dup is present in empty slots
 pub none_present : (n : ℕ) → present (none_of n) ≡ []
 none_present zero = refl
 none_present (suc n) = none_present n
@@ -51,7 +52,7 @@ none_counted : (n : ℕ) → replicate n 0 ≡ map count_in (none_of n)
 none_counted zero = refl
 none_counted (suc n) = ap (λ counts. 0 ∷ counts) (none_counted n)
 
--- empty slots agree with their counts and places
+-- empty slots are right with counts of 0, all places empty, none stale, and room in both lists
 pub none_slots : (n : ℕ) (counts : List ℕ) (empty stale : SmallVec ℕ) → n ≤ 1024 → counts ≡ replicate n 0 → empty.items ≡ range_with_len 0 n → stale.items ≡ [] → n ≤ empty.capacity → n ≤ stale.capacity → AreSlots (none_of n) counts empty stale
 none_slots n counts empty stale few counted empties stales empty_room stale_room =
     record {

@@ -38,7 +38,7 @@ pub counts_begun : (limit n : ℕ) (places : SmallVec ℕ) → places.items ≡ 
 counts_begun limit n places none room =
     record { opens = none ∙ sym (none_open limit 0 (replicate n 0) (all_none n)); room = rw length_zeroes room }
 
--- by the limit 0 none is open
+-- by the limit 0 a place is open with no count, so any two counts are alike
 pub never_open : (limit n m : ℕ) → limit ≡ 0 → is_open limit n ≡ is_open limit m
 never_open limit n m none = grind (arith, nat_tests, none)
 
@@ -57,7 +57,7 @@ pub counts_closed : (limit p n : ℕ) (counts : List ℕ) (places places' : Smal
 counts_closed limit p n counts places places' within closes left room h =
     record { opens = left ∙ ap (without p) h.opens ∙ sym (where_without (is_open limit) 0 p p counts n (omega arith) within closes); room = rw (length-set, room) h.room }
 
--- there is room among the open places for one more
+-- where one place is not open, there is room among the open places for one more
 pub opens_with_room : (limit p : ℕ) (counts : List ℕ) (places : SmallVec ℕ) → p < length counts → is_open limit (get_or counts p 0) ≡ false → AreCounts limit counts places → length places.items + 1 ≤ places.capacity
 opens_with_room limit p counts places within closed h =
     let room = where_room (is_open limit) 0 0 p counts within closed in

@@ -1,7 +1,7 @@
 -- Dup rows in the order of their places: what a new row and a row that goes change of what is found.
 use Rattle.ksm_tree.proofs.Names.{[], All, All-append, All-cons, All-filter, All-head, All-tail, All-weaker, AllPairs-cons, AllPairs-filter, ap, arith, Bool, cases_Bool, cases_lt, cond, DupRow, false, false≢true, filter, filter-append, filter_none, filter_passes, find, find-append, find_all, find_nothing, find_over, get_or, group_places, if◌then◌else◌, in_group, inl, InPlaceOrder, inr, List, ltb-true, map, map-append, nat_lt, nat_tests, ne_eqb, None, none-some, not, option_map, option_or, pairs_append, pairs_cross, pairs_head, pairs_tail, refl, row_place, same_Some, Some, suc, sym, true, with_dup, with_place, without, ℕ, ◌&&◌, ◌++◌, ◌<◌, ◌==◌, ◌∙◌, ◌∷◌, ◌≡◌}
 
--- one dup's place is before the other's
+-- one dup's place is before the other's, and their numbers differ
 abbrev pub Comes : DupRow → DupRow → Type 0
 Comes d e = (d.place < e.place) × ((d.number == e.number) ≡ false)
 
@@ -32,7 +32,7 @@ module _ (p : ℕ) where
         | inr no_greater ↦ grind (arith, nat_tests, no_greater, rest)
       ]
 
-  -- where no row of a group stands at the place, its places stay without it
+  -- where no row of a group stands at the place, the places of the group stay without that place
   pub group_unlike : (t : ℕ) (b : List ℕ) (rows : List DupRow) → All (λ r. (r.place == p && in_group t b r) ≡ false) rows → without p (group_places t b rows) ≡ group_places t b rows
   group_unlike t b [] none = refl
   group_unlike t b (r ∷ rows) none =
@@ -43,7 +43,7 @@ module _ (p : ℕ) where
         | inr outside ↦ grind (arith, outside, rest)
       ]
 
--- the places of a group's rows at some places are those of its places
+-- the places of those rows of a group whose place passes a test are the group's places that pass
 pub group_at : (test : ℕ → Bool) (t : ℕ) (b : List ℕ) (rows : List DupRow) → group_places t b (filter (λ r. test r.place) rows) ≡ filter test (group_places t b rows)
 group_at test t b [] = refl
 group_at test t b (r ∷ rows) =
@@ -74,7 +74,7 @@ group_joined t b row rows inside =
     let first : group_places t b (row ∷ higher) ≡ row.place ∷ group_places t b higher = grind (arith, inside) in
     front ∙ (λ i. low i ++ (first ∙ ap (λ ps. row.place ∷ ps) high) i)
 
--- a new dup of another group takes its place out of a group, if that had it
+-- a new dup of another group takes its place out of a group, if the group had that place
 pub group_passed : (t : ℕ) (b : List ℕ) (row : DupRow) (rows : List DupRow) → InPlaceOrder rows → in_group t b row ≡ false → group_places t b (with_dup row rows) ≡ without row.place (group_places t b rows)
 group_passed t b row rows rise outside =
     let lower = filter (below row.place) rows in
@@ -111,7 +111,7 @@ place_kept q row rows rise other =
 abbrev pub IsOne : ℕ → DupRow → DupRow → Type 0
 IsOne p e r = ((r.place == p) ≡ (r.number == e.number)) × ((r.place == p) ≡ true → r ≡ e)
 
--- one dup alone stands at a place
+-- the row found at a place is the only row there, and the only one of its number
 pub only_one : (p : ℕ) (rows : List DupRow) (e : DupRow) → InPlaceOrder rows → find (λ r. r.place == p) rows ≡ Some e → All (IsOne p e) rows
 only_one p [] e rise found = absurd (none-some e found)
 only_one p (r ∷ rows) e rise found =
@@ -135,7 +135,7 @@ only_one p (r ∷ rows) e rise found =
 abbrev pub IsThat : ℕ → DupRow → DupRow → Type 0
 IsThat q e r = (r.number == q) ≡ (r.place == e.place)
 
--- one dup alone has a number
+-- the row found by a number is the only row of that number, and the only one at its place
 pub only_number : (q : ℕ) (rows : List DupRow) (e : DupRow) → InPlaceOrder rows → find (numbered q) rows ≡ Some e → All (IsThat q e) rows
 only_number q [] e rise found = absurd (none-some e found)
 only_number q (r ∷ rows) e rise found =
@@ -183,7 +183,7 @@ stayed p q e (r ∷ rows) other only =
       ]
     ]
 
--- a dup that goes takes the place of its number alone
+-- once the dup at a place goes, its number has no place, and each other number has the place it had
 pub place_gone : (p q : ℕ) (rows : List DupRow) (e : DupRow) → InPlaceOrder rows → find (λ r. r.place == p) rows ≡ Some e → row_place q (filter (elsewhere p) rows) ≡ (if q == e.number then None else row_place q rows)
 place_gone p q rows e rise found =
     let only = only_one p rows e rise found in
@@ -211,7 +211,7 @@ rows_with row rows rise fresh =
     pairs_append Comes lower (row ∷ higher) (AllPairs-filter Comes (below row.place) rows rise)
     (AllPairs-cons Comes row higher behind (AllPairs-filter Comes (above row.place) rows rise)) cross
 
--- what holds of each row and of a new one holds of each with it
+-- what holds of each row and of a new one holds of each row once the new one is among the rows
 pub all_with : (P : DupRow → Type 0) (row : DupRow) (rows : List DupRow) → All P rows → P row → All P (with_dup row rows)
 all_with P row rows each one =
     All-append P (filter (below row.place) rows) (row ∷ filter (above row.place) rows)

@@ -9,7 +9,7 @@ cond_same : {X : Type 0} (s : Bool) (x : X) → (if s then x else x) ≡ x
 cond_same true x = refl
 cond_same false x = refl
 
--- the same stands under each number
+-- where the same stands under each number as before, the same stands under an optional number
 pub same_under : {X : Type 0} (none : X) (old new : ℕ → X) → ((n : ℕ) → new n ≡ old n) → (o : Option ℕ) → under none new o ≡ under none old o
 same_under none old new same None = refl
 same_under none old new same (Some n) = same n
@@ -28,6 +28,7 @@ are_one t u b c same =
 
 -- where what stands under the number of a content has changed, it has changed at that content alone
 module _ {X : Type 0} (none : X) (numbers : Numbers) (stands : ℕ → Option Content) (are : AreNumbered numbers stands) (old : ℕ → X) (tree : ℕ) (bytes : List ℕ) (change : X → X) where
+  -- a change of what stands under a content's number changes what stands under that content alone
   pub under_moved : (new : ℕ → X) (number : ℕ) → number_of tree bytes numbers ≡ Some number → ((n : ℕ) → new n ≡ (if n == number then change (old n) else old n))
       → (t : ℕ) (b : List ℕ) → under none new (number_of t b numbers) ≡ (if t == tree && bytes_eq b bytes then change (under none old (number_of t b numbers)) else under none old (number_of t b numbers))
   under_moved new number is moved t b = by (number_of t b numbers) refl
@@ -54,7 +55,7 @@ module _ {X : Type 0} (none : X) (numbers : Numbers) (stands : ℕ → Option Co
             moved n ∙ rw (differ, apart) refl
       ]
 
-  -- a content that has no number has nothing that could change
+  -- where a content has no number and the change of nothing is nothing, no content changes
   pub under_absent : number_of tree bytes numbers ≡ None → none ≡ change none
       → (t : ℕ) (b : List ℕ) → under none old (number_of t b numbers) ≡ (if t == tree && bytes_eq b bytes then change (under none old (number_of t b numbers)) else under none old (number_of t b numbers))
   under_absent absent stays t b = elim (cases_Bool (t == tree && bytes_eq b bytes)) [
@@ -66,7 +67,7 @@ module _ {X : Type 0} (none : X) (numbers : Numbers) (stands : ℕ → Option Co
 
 -- ---------------------------------------------------------------- the list of the pages that wait
 
--- two lists whose elements give the same give the same lists
+-- two lists whose elements give the same under two maps give the same lists
 pub given_same : {X Y : Type 0} (f g : Option X → Option Y) → f None ≡ None → g None ≡ None → (xs ys : List (Option X)) → ((n : ℕ) → f (get_or xs n None) ≡ g (get_or ys n None)) → filter_map f xs ≡ filter_map g ys
 given_same f g f_none g_none [] [] same = refl
 given_same f g f_none g_none [] (y ∷ ys) same =
@@ -116,7 +117,7 @@ module _ (t : ℕ) (b : List ℕ) (pass : ℕ) where
       ] in
       grind (arith, rest, other)
 
--- the page that waits for a content is that of its group
+-- the page that waits for a tree and bytes is the one that waits in their group
 pub waiting_found : (numbers : Numbers) (groups : Slab Group) (pass : ℕ) → AreGroups numbers groups pass → (t : ℕ) (b : List ℕ)
     → waiting_page t b (filter_map (waits_in pass) groups.slots) ≡ under None (λ n. page_in pass (get groups n)) (number_of t b numbers)
 waiting_found numbers groups pass are t b = by (number_of t b numbers) refl
@@ -127,45 +128,49 @@ waiting_found numbers groups pass are t b = by (number_of t b numbers) refl
         one_waits t b pass groups.slots n ((are.numbered (content_of t b) n).0 found)
         (λ m is. same_Some m n (sym ((are.numbered (content_of t b) m).1 is) ∙ found))
 
--- the page that waits under the number of a content
+-- the page that waits for a tree and bytes is the one in the group under their number
 pub waits_here : (g : Groups) (t : ℕ) (b : List ℕ) (n : ℕ) (slot : Option Group) → number_of t b g.numbers.entries ≡ Some n → slot ≡ get g.groups n → waiting_page t b (waiting_in g) ≡ page_in g.pass slot
 waits_here g t b n slot is at =
     waiting_found g.numbers.entries g.groups g.pass g.lawful t b ∙ ap (under None (λ n. page_in g.pass (get g.groups n))) is ∙ ap (page_in g.pass) (sym at)
 
--- no page waits for a content that has no number
+-- no page waits for a tree and bytes that have no number
 pub none_here : (g : Groups) (t : ℕ) (b : List ℕ) → number_of t b g.numbers.entries ≡ None → waiting_page t b (waiting_in g) ≡ None
 none_here g t b none = waiting_found g.numbers.entries g.groups g.pass g.lawful t b ∙ ap (under None (λ n. page_in g.pass (get g.groups n))) none
 
--- a content that has a number stands under it
+-- under the number of a tree and bytes a group stands
 pub stands_under : (g : Groups) (t : ℕ) (b : List ℕ) (n : ℕ) → number_of t b g.numbers.entries ≡ Some n → None ≡ get g.groups n → ⊥
 stands_under g t b n is none = full (content_of t b) (content_in (get g.groups n)) (ap content_in (sym none)) ((g.lawful.numbered (content_of t b) n).0 is)
 
--- the group under a guess is that of a tree and bytes
+-- a guess that leads to the group of a tree and bytes is the number of that tree and bytes
 pub guessed : (g : Groups) (guess : ℕ) (group : Group) (tree : ℕ) (bytes : List ℕ) → Some group ≡ get g.groups guess → group.content.tree ≡ tree → true ≡ bytes_eq group.content.bytes bytes → Some guess ≡ number_of tree bytes g.numbers.entries
 guessed g guess group tree bytes stands same_tree same_bytes =
     let bytes_is = (bytes_eq-Decides group.content.bytes bytes).0 (sym same_bytes) in
     let is : group.content ≡ content_of tree bytes = (λ i. content_of (same_tree i) (bytes_is i)) in
     sym ((g.lawful.numbered (content_of tree bytes) guess).1 (ap content_in (sym stands) ∙ ap Some is))
 
+-- the page of a group whose pass is the present one waits
 pub page_waits : (g : Group) (pass : ℕ) → g.pass ≡ pass → page_in pass (Some g) ≡ Some g.page
 page_waits g pass same = rw ((Decides-eqb g.pass pass).1 same) refl
 
+-- in a group whose pass is not the present one nothing waits
 pub waits_still : (g : Group) (pass : ℕ) → g.pass ≢ pass → waits_in pass (Some g) ≡ None
 waits_still g pass apart = elim (cases_Bool (g.pass == pass)) [
   | inl same ↦ absurd (apart ((Decides-eqb g.pass pass).0 same))
   | inr other ↦ rw other refl
 ]
 
+-- in a group whose pass is not the present one no page waits
 pub page_still : (g : Group) (pass : ℕ) → g.pass ≢ pass → page_in pass (Some g) ≡ None
 page_still g pass apart = ap (option_map (λ w. w.page)) (waits_still g pass apart)
 
+-- the page of a group waits exactly where the group's pass is the present one
 pub page_so : (g : Group) (pass : ℕ) → page_in pass (Some g) ≡ then_some (g.pass == pass) g.page
 page_so g pass = elim (cases_Bool (g.pass == pass)) [
   | inl same ↦ rw same refl
   | inr other ↦ rw other refl
 ]
 
--- where no group's pass is this one, none waits
+-- where no group's pass is the present one, no page waits
 pub none_waiting : (pass : ℕ) (groups : Slab Group) → ((n : ℕ) → ForSome (get groups n) (λ g. g.pass ≢ pass)) → filter_map (waits_in pass) groups.slots ≡ []
 none_waiting pass groups apart = given_same (waits_in pass) (waits_in pass) refl refl groups.slots [] (λ n. by (get groups n) (apart n))
   where
@@ -194,7 +199,7 @@ module _ (numbers : Numbers) (pass : ℕ) (old : Slab Group) (are : AreGroups nu
   written_same : {X : Type 0} (at : Option Group → X) → at (Some now) ≡ at (Some was) → (n : ℕ) → at (get new n) ≡ at (get old n)
   written_same at is n = written_moved at (λ x. x) is n ∙ cond_same (n == number) (at (get old n))
 
-  -- each group has its number still
+  -- the groups keep their numbers where one of them is written anew with its content
   pub rewritten : now.pass ≤ pass → AreGroups numbers new pass
   rewritten within = record {
     numbered = λ content_now n. subst (λ o. (its_number content_now numbers ≡ Some n) ↔ (o ≡ Some content_now)) (sym (written_same content_in (ap Some content) n)) (are.numbered content_now n);
@@ -205,13 +210,13 @@ module _ (numbers : Numbers) (pass : ℕ) (old : Slab Group) (are : AreGroups nu
     begun = are.begun;
   }
 
-  -- the chains change with the places
+  -- a group written anew with changed places changes the chain of its content, and no other
   pub rechained : (change : List ℕ → List ℕ) → now.places.list.items ≡ change was.places.list.items → (tree : ℕ) (bytes : List ℕ) → number_of tree bytes numbers ≡ Some number → (t : ℕ) (b : List ℕ)
       → under [] (λ n. places_in (get new n)) (number_of t b numbers) ≡ (if t == tree && bytes_eq b bytes then change (under [] (λ n. places_in (get old n)) (number_of t b numbers)) else under [] (λ n. places_in (get old n)) (number_of t b numbers))
   rechained change is tree bytes named =
       under_moved [] numbers (λ n. content_in (get old n)) are.numbered (λ n. places_in (get old n)) tree bytes change (λ n. places_in (get new n)) number named (written_moved places_in change is)
 
-  -- what waits changes with the page
+  -- a group written anew tells what waits for its content, and what waits elsewhere stays
   pub repaged : now.pass ≤ pass → (tree : ℕ) (bytes : List ℕ) → number_of tree bytes numbers ≡ Some number → (t : ℕ) (b : List ℕ)
       → waiting_page t b (filter_map (waits_in pass) new.slots) ≡ (if t == tree && bytes_eq b bytes then page_in pass (Some now) else waiting_page t b (filter_map (waits_in pass) old.slots))
   repaged within tree bytes named t b =
@@ -220,7 +225,7 @@ module _ (numbers : Numbers) (pass : ℕ) (old : Slab Group) (are : AreGroups nu
       (written_moved (page_in pass) (λ _. page_in pass (Some now)) refl) t b
       ∙ ap (λ o. if t == tree && bytes_eq b bytes then page_in pass (Some now) else o) (sym (waiting_found numbers old pass are t b))
 
-  -- what waits stays with the page
+  -- where a group written anew has what waited in it, all that waits is as it was
   pub same_waiting : waits_in pass (Some now) ≡ waits_in pass (Some was) → filter_map (waits_in pass) new.slots ≡ filter_map (waits_in pass) old.slots
   same_waiting is = given_same (waits_in pass) (waits_in pass) refl refl new.slots old.slots (written_same (waits_in pass) is)
 
@@ -243,11 +248,11 @@ module _ (numbers_old numbers_new : BTreeMap Content ℕ) (pass : ℕ) (old new 
     | inr other ↦ ap at (fills.others n (λ same. true≢false (sym ((Decides-eqb n number).1 same) ∙ other)))
   ]
 
-  -- what waits is as it was
+  -- where a group in which nothing waits comes or goes, all that waits is as it was
   pub idle_waiting : filter_map (waits_in pass) new.slots ≡ filter_map (waits_in pass) old.slots
   idle_waiting = given_same (waits_in pass) (waits_in pass) refl refl new.slots old.slots (idle_same (waits_in pass) (now.1 ∙ sym was.1))
 
-  -- the chains are as they were
+  -- where a group without places comes or goes, the chains are as they were
   pub idle_chains : under [] (λ n. places_in (get new n)) named ≡ under [] (λ n. places_in (get old n)) (its_number k numbers_old.entries)
       → (t : ℕ) (b : List ℕ) → under [] (λ n. places_in (get new n)) (number_of t b numbers_new.entries) ≡ under [] (λ n. places_in (get old n)) (number_of t b numbers_old.entries)
   idle_chains here t b =
@@ -272,7 +277,7 @@ module _ (numbers_old numbers_new : BTreeMap Content ℕ) (pass : ℕ) (old new 
     | inr other ↦ subst (λ o. ForSome o (λ g. g.pass ≤ pass)) (sym (fills.others n (λ same. true≢false (sym ((Decides-eqb n number).1 same) ∙ other)))) (are.passes n)
   ]
 
-  -- each group has its number still, once one came
+  -- the groups are right once one came with a content that had no number
   pub came_groups : (g : Group) → slot ≡ Some g → g.content ≡ k → g.pass ≤ pass → named ≡ Some number → its_number k numbers_old.entries ≡ None → get old number ≡ None → AreGroups numbers_new.entries new pass
   came_groups g is content within name none vacant = record {
     numbered = entered numbers_old numbers_new (λ n. content_in (get old n)) (λ n. content_in (get new n)) k are.numbered number none (ap content_in vacant)
@@ -281,7 +286,7 @@ module _ (numbers_old numbers_new : BTreeMap Content ℕ) (pass : ℕ) (old new 
     begun = are.begun;
   }
 
-  -- and once one went
+  -- the groups are right once one went and its content lost its number
   pub gone_groups : (g : Group) → Some g ≡ get old number → g.content ≡ k → slot ≡ None → named ≡ None → AreGroups numbers_new.entries new pass
   gone_groups g stood content is name = record {
     numbered = forgotten numbers_old numbers_new (λ n. content_in (get old n)) (λ n. content_in (get new n)) k are.numbered number (ap content_in (sym stood) ∙ ap Some content)
@@ -302,12 +307,15 @@ module _ (g : Groups) (kept later : Slab Group) (numbers : BTreeMap Content ℕ)
   now_idle : IsIdle g.pass (Some fresh)
   now_idle = (empty, waits_still fresh g.pass (λ same. let begun = g.lawful.begun in omega (arith, begun, idle, same)))
 
+  -- the groups are right once a fresh group entered
   pub enter_groups : AreGroups numbers.entries later g.pass
   enter_groups = came_groups g.numbers numbers g.pass kept later are_kept k number (Some number) (Some fresh) updates fills was_idle now_idle fresh refl content (omega (arith, idle)) refl none vacant
 
+  -- once a fresh group entered, what waits is as it was
   pub enter_waiting : filter_map (waits_in g.pass) later.slots ≡ waiting_in g
   enter_waiting = idle_waiting g.numbers numbers g.pass kept later are_kept k number (Some number) (Some fresh) updates fills was_idle now_idle ∙ ap (λ s. filter_map (waits_in g.pass) s.slots) room
 
+  -- once a fresh group entered, the chains are as they were
   pub enter_chains : (t : ℕ) (b : List ℕ) → under [] (λ n. places_in (get later n)) (number_of t b numbers.entries) ≡ chain_in t b g
   enter_chains t b =
       idle_chains g.numbers numbers g.pass kept later are_kept k number (Some number) (Some fresh) updates fills was_idle now_idle

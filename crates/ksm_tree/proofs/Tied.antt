@@ -8,7 +8,7 @@ irreflexive p = grind (arith, nat_tests)
 abbrev pub pages_that : (Row → Bool) → List Row → List GuestPage
 pages_that test rows = map (λ r. r.page) (filter test rows)
 
--- the pages that pass in two lists are those of both together
+-- the pages of two lists in a row that pass a test are those of the first, then those of the second
 pub pages_append : (test : Row → Bool) (xs ys : List Row) → pages_that test (xs ++ ys) ≡ pages_that test xs ++ pages_that test ys
 pages_append test [] ys = refl
 pages_append test (x ∷ xs) ys =
@@ -35,11 +35,11 @@ pages_chosen test by (r ∷ rows) =
     ]
 
 module _ (page : GuestPage) where
-  -- a row whose page comes before this one
+  -- a row whose page comes before the page
   abbrev pub ahead : Row → Bool
   ahead r = comes_before r.page page
 
-  -- a row whose page comes after this one
+  -- a row whose page comes after the page
   abbrev pub behind : Row → Bool
   behind r = comes_before page r.page
 
@@ -89,7 +89,7 @@ module _ (page : GuestPage) where
             ]
       ]
 
-  -- in the order of pages, the rows of other pages are those ahead of this one, then those behind it
+  -- in the order of pages, the rows of pages other than one are those ahead of that page, then those behind
   pub without_splits : (rows : List Row) → InPageOrder rows → without_page page rows ≡ filter ahead rows ++ filter behind rows
   without_splits [] rise = refl
   without_splits (r ∷ rows) rise =
@@ -159,7 +159,7 @@ items_kept (r ∷ rows) d f same =
       | inr fails ↦ grind (arith, also, fails, rest)
     ]
 
--- where the items are those pages, they are as many as the rows
+-- where each dup's items are the pages of the rows merged into the dup, there are as many items as such rows
 pub tied_counted : (rows : List Row) (dups : List Dup) → AreTied rows dups → AreCounted rows dups
 tied_counted rows dups tied =
     All-weaker (λ d. d.items ≡ items_of rows d.row) (λ d. length d.items ≡ item_count rows d.row)

@@ -64,7 +64,7 @@ module _ (rows : List Row) (page : GuestPage) (old : Row) (rise : InPageOrder ro
       out_of old.state refl (change_row page (λ _. row) rows) dups
       (λ d. items_left rows d rise page row (ap is_some found) (not_an_item d.number row.state alone)) tied
 
-  -- rows and dups stay tied where a page becomes an item
+  -- rows and dups stay tied where a row that was not merged is merged, and its page becomes an item
   pub tied_joined : (row : Row) (number : ℕ) (dups : List Dup) → merged_state old.state ≡ false → row.page ≡ page → row.state ≡ Merged number → AreTied rows dups → AreTied (change_row page (λ _. row) rows) (change_items number (with_item page) dups)
   tied_joined row number dups alone at is tied =
       let new = change_row page (λ _. row) rows in
@@ -93,11 +93,11 @@ tied_count rows dups number d tied found =
     ap (λ o. length (items_in o)) found
     ∙ find_all (has_number number) (λ e. length e.items ≡ item_count rows e.row) dups d found (tied_counted rows dups tied)
 
--- a dup found by its number has it
+-- a dup found by a number has that number
 pub number_found : (number : ℕ) (dups : List Dup) (d : Dup) → dup_of number dups ≡ Some d → d.row.number ≡ number
 number_found number dups d found = eqb-true d.row.number number (find_passes (has_number number) dups d found)
 
--- a change that keeps each page finds the same pages
+-- a change that keeps the page of each row finds a row at a page exactly where one was
 pub row_stays : (page : GuestPage) (f : Row → Row) (rows : List Row) → ((r : Row) → (f r).page ≡ r.page) → is_some (row_at page (map f rows)) ≡ is_some (row_at page rows)
 row_stays page f [] same = refl
 row_stays page f (r ∷ rows) same =

@@ -9,7 +9,7 @@ use Rattle.ksm_tree.proofs.Keys.{eq_bytes}
 same_alike : (p q x : GuestPage) → same_page p q ≡ true → same_page p x ≡ same_page q x
 same_alike p q x same = ap (λ (r : GuestPage). same_page r x) (same_page_eq p q same)
 
--- other pages have the rows that they had
+-- a write of the row of one page leaves the rows of other pages as they were
 pub at_others : (row : Row) (q : GuestPage) (rows : List Row) → same_page row.page q ≡ false → row_at q (change_row row.page (λ _. row) rows) ≡ row_at q rows
 at_others row q [] other = refl
 at_others row q (r ∷ rs) other =
@@ -84,6 +84,7 @@ at_inserted row rows q =
       ]
     ]
 
+-- a change that keeps each row's page finds at a page the changed row that was found there
 pub at_mapped : (f : Row → Row) (q : GuestPage) (rows : List Row) → All (λ r. (f r).page ≡ r.page) rows → row_at q (map f rows) ≡ option_map f (row_at q rows)
 at_mapped f q [] keeps = refl
 at_mapped f q (r ∷ rs) keeps =
@@ -108,12 +109,12 @@ only_one : (o : Option GuestPage) (p q : GuestPage) → names p o ≡ true → s
 only_one None p q here other = absurd (false≢true here)
 only_one (Some w) p q here other = same_alike w p q here ∙ other
 
--- the page told as waiting waits in that tree with that content
+-- a page that a look-up of a tree and bytes finds has a row that waits there
 pub look_up_found : (knobs : Knobs) (rows : List Row) (w : List WaitingPage) (t : ℕ) (b : List ℕ) (page : GuestPage) → AreWaiting knobs rows w
     → waiting_page t b w ≡ Some page → waits_there knobs t b (row_at page rows) ≡ true
 look_up_found knobs rows w t b page are is = sym (are t b page) ∙ ap (names page) is ∙ same_page_refl page
 
--- what waits for a row's content is its own page where it waits
+-- a look-up of a row's tree and bytes finds the row's own page exactly where the row waits
 pub own_found : (knobs : Knobs) (rows : List Row) (w : List WaitingPage) (row : Row) → row_at row.page rows ≡ Some row → AreWaiting knobs rows w
     → names row.page (waiting_page (tree_of knobs row) row.bytes w) ≡ waiting_state row.state
 own_found knobs rows w row found are =

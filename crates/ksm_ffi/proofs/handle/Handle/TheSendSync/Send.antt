@@ -23,6 +23,7 @@ owned_keyless a null_ptr (Some x) = λ e. absurd e
 owned_keyless a (block_ptr b o) None = λ e. absurd e
 owned_keyless a (block_ptr b o) (Some x) = (lies R thing (block_ptr b o) x, heap.frees.frees a (raw (lone R.mir)) (block_ptr b o))
 
+-- a handle may be sent to another thread
 pub send : IsSend the_row
 send =
     let all : AllSend (fields the_type) = (search sendable, (global.the_field_send, tt)) in
