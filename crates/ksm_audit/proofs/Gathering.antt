@@ -39,10 +39,6 @@ fills_more ls l before rows h p row e = ⊎_elim
     (h p row t.1))
     (get_set rows l.place p l.row row e)
 
--- no lines leave the rows as they are
-pub fills_none : (rows : List Row) → Fills [] rows rows
-fills_none rows p row e = inr (refl, e)
-
 not_past : (count x : ℕ) → ((count ≤ x) → ⊥) → x < count
 not_past count x never = omega (arith, never)
 
@@ -98,17 +94,6 @@ pub record Gathered (all jobs : List Job) (before now : List PassView) (m : Sat)
   -- the seat holds nothing
   pub held : m.1 ≡ []
 
--- a seat that drew nothing and holds nothing stands as before the first worker is taken back
-pub gathers_none : (all : List Job) (before : List PassView) (m : Sat) → m.0.drawn ≡ [] → m.1 ≡ [] → Gathered all all before before m
-gathers_none all before m nothing held = record {
-  done = [];
-  parted = sym (append-nil all);
-  passes = sym (append-nil before);
-  drawn = λ x. ap (times x) nothing;
-  below = All-nil (λ (j : Job). j.seat.me.0.next ≤ m.0.next);
-  held = held;
-}
-
 -- one more job gathered adds its pass and its draws
 pub gathers_more : (all jobs rest : List Job) (j : Job) (before passes after : List PassView) (v : PassView) (m n : Sat) → Gathered all jobs before passes m → jobs ≡ rest ++ j ∷ []
     → j.pass ≡ Some v → after ≡ passes ++ v ∷ [] → n ≡ (both m.0 j.seat.me.0, m.1) → Gathered all rest before after n
@@ -121,10 +106,6 @@ gathers_more all jobs rest j before passes after v m n g is has more joined = re
       All-cons (λ (i : Job). i.seat.me.0.next ≤ n.0.next) j g.done (omega arith) (λ k d lt. let o = g.below k d lt in omega arith));
   held = ap (λ (s : Sat). s.1) joined ∙ g.held;
 }
-
--- where no worker is left, all workers were taken back
-pub gathered_all : (all jobs : List Job) (before now : List PassView) (m : Sat) (g : Gathered all jobs before now m) → jobs ≡ [] → all ≡ g.done
-gathered_all all jobs before now m g none = g.parted ∙ ap (λ (l : List Job). l ++ g.done) none
 
 -- the passes are those that are left and those that the jobs have, once one job more has the last one
 pub loaded_on : (all passes rest : List PassView) (jobs more : List Job) (j : Job) (v : PassView) → all ≡ passes ++ loaded jobs → passes ≡ rest ++ v ∷ [] → more ≡ jobs ++ j ∷ [] → j.pass ≡ Some v → all ≡ rest ++ loaded more

@@ -92,10 +92,6 @@ lookups_more sh [] place row log here are is = (here, [], ap (λ (l : ReaderLog)
 lookups_more sh (l ∷ ls) place row log here are is =
     (are.0, are.1 ++ here, ap (λ (x : ReaderLog). x ++ here) are.2 ∙ append_assoc are.0 are.1 here, are.3, lookups_more sh ls place row are.1 here are.4 is)
 
--- a pass that stays as it is made no lookups
-pub made_nothing : (v : PassView) → Made v [] v
-made_nothing v = (refl, ([], sym (append-nil v.log), refl))
-
 -- a pass that made some lookups and then one visit made the lookups with the line of that visit
 pub made_more : (v w x : PassView) (ls : List Line) (place : ℕ) (row : Row) → Made v ls w → Visits w place row x → Made v (ls ++ line place row ∷ []) x
 made_more v w x ls place row made visit =

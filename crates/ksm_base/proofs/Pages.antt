@@ -8,10 +8,6 @@ use Rattle.ksm_base.specs.Rows.{comes_before, same_page}
 pub same_page_refl : (p : GuestPage) → same_page p p ≡ true
 same_page_refl p = grind (arith, nat_tests)
 
--- of two pages of which one comes before the other, one at most is a third page
-pub apart_first : (p q x : GuestPage) → comes_before p q ≡ true → same_page q x ≡ true → same_page p x ≡ false
-apart_first p q x before same = grind (arith, nat_tests)
-
 -- what is the first of two ordered pages is not the second
 pub apart_second : (p q x : GuestPage) → comes_before p q ≡ true → same_page p x ≡ true → same_page q x ≡ false
 apart_second p q x before same = grind (arith, nat_tests)

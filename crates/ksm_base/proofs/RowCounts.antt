@@ -51,14 +51,6 @@ module _ (p : Row → Bool) where
             rw (behind, before, here) (omega (arith, rest))
       ]
 
-  -- a change of a page's row that counts as before leaves the count as it is
-  pub count_change_same : (page : GuestPage) (f : Row → Row) (rows : List Row) (row : Row) → InPageOrder rows → row_at page rows ≡ Some row
-      → p (f row) ≡ p row → count_by p (change_row page f rows) ≡ count_by p rows
-  count_change_same page f rows row rise found same =
-      let exact = count_change_row page f rows row rise found in
-      let alike : one_if (p (f row)) ≡ one_if (p row) = ap one_if same in
-      omega (arith, exact, alike)
-
   -- where a page's row goes, the count is less by what that row counted
   pub count_without_page : (page : GuestPage) (rows : List Row) (row : Row) → InPageOrder rows → row_at page rows ≡ Some row
       → count_by p (without_page page rows) + one_if (p row) ≡ count_by p rows

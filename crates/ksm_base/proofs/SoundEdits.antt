@@ -276,15 +276,6 @@ sound_without_stale b s =
       limit = All-filter live (λ d. item_count b.rows d ≤ b.knobs.max_page_sharing) b.dups s.limit;
     }
 
--- where no dup has items, no row is merged
-pub none_merged : (b : BookState) → IsSound b → shared_count b.rows b.dups ≡ 0 → All (λ r. (number : ℕ) → r.state ≡ Merged number → ⊥) b.rows
-none_merged b s none k d lt number merged =
-    let r = get_or b.rows k d in
-    let item : (dup : DupRow) × IsDupOf b.knobs b.dups r number dup = s.items k d lt number merged in
-    let lives = dup_has_items b.rows item.0 k d lt (item_of_dup b.knobs b.dups r number item.0 merged item.1) in
-    let stale = find_all (λ d. d.number == number) (λ d. has_items b.rows d ≡ false) b.dups item.0 item.1.stands (none_counted (has_items b.rows) b.dups none) in
-    both_ways (has_items b.rows item.0) stale lives
-
 -- where the count of shared dups is 0, no dup has items
 pub no_dup_lives : (b : BookState) → shared_count b.rows b.dups ≡ 0 → filter (has_items b.rows) b.dups ≡ []
 no_dup_lives b none = filter_none (has_items b.rows) b.dups (none_counted (has_items b.rows) b.dups none)

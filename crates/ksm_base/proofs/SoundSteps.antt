@@ -96,7 +96,3 @@ pub sound_replay : (b : BookState) (entries : List Entry) → AreAnswers b entri
 sound_replay b [] answers s = s
 sound_replay b ((c, Ok reply) ∷ es) answers s = sound_replay (after b c (Ok reply)) es answers.1 (sound_after b c (Ok reply) s answers.0)
 sound_replay b ((c, Err fault) ∷ es) answers s = sound_replay b es answers.1 s
-
--- the state at the end of each legal journal is sound
-pub sound_legal : (shape : Shape) (journal : List Entry) (b : BookState) → IsShape shape → IsLegal shape journal b → IsSound b
-sound_legal shape journal b small legal = subst IsSound (sym legal.leads) (sound_replay (opening shape) journal legal.answers (sound_opening shape small))

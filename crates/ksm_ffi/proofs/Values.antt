@@ -29,12 +29,6 @@ use Rattle.ksm_ffi.specs.contracts.loose.Loose as loose
 abbrev pub both : Val → Val → Val
 both v w = vstruct (vcons v (vcons w vnil))
 
--- the test of two fields holds where the tests of both hold
-pub both_tt : (x y : Bool) → T x → T y → T (x && (y && true))
-both_tt true true s t = tt
-both_tt true false s t = absurd t
-both_tt false y s t = absurd s
-
 module _ (R Z : RattleType) (L : Laws Z) (g : Ghosts Z.Denot) where
   -- the type of a `Loose` whose value is of type R and whose allocator is of type Z
   abbrev pub Loose : RattleType

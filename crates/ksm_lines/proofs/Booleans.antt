@@ -10,11 +10,6 @@ pub is_chosen : {A : Type 0} (b : Bool) (n i : A) → chosen b n ≡ Some i → 
 is_chosen true n i e = (refl, cc)
 is_chosen false n i e = absurd cc
 
--- where a choice gives no value, the test failed
-pub not_chosen : {A : Type 0} (b : Bool) (n : A) → chosen b n ≡ None → b ≡ false
-not_chosen true n e = absurd cc
-not_chosen false n e = refl
-
 -- where both tests pass, the first does
 pub first_true : (a b : Bool) → (a && b) ≡ true → a ≡ true
 first_true true b e = refl

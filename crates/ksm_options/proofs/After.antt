@@ -58,10 +58,6 @@ defaults_pass rows = (no_defaults rules refl rows).1
 abbrev pub required_fault : Bool → Bool → Kinds
 required_fault nodes frames = cond (not nodes || (not frames || false)) (kind.MissingRequiredArgument ∷ []) []
 
--- the last check finds the fault of a required option that the rows do not have
-pub check_is : (rows : List Row) → check_fault shape rows false ≡ required_fault (is_given (name_of Nodes) rows) (is_given (name_of Frames) rows)
-check_is rows = refl
-
 -- where no required option is missing, both are given
 pub both_given : (a b : Bool) → required_fault a b ≡ [] → (a ≡ true) × (b ≡ true)
 both_given true true e = (refl, refl)

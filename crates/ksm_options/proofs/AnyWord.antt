@@ -28,10 +28,6 @@ abbrev pick : Bool → Bool → Bool → Bool → Bool → Bool → Option Rule
 pick a b c d e f = cond (a || false) (arg_by_long rules (name_of Nodes)) (cond (b || false) (arg_by_long rules (name_of Frames)) (cond (c || false) (arg_by_long rules (name_of Passes))
     (cond (d || false) (arg_by_long rules (name_of Tries)) (cond (e || false) (arg_by_long rules (name_of LastGeneration)) (cond (f || false) (arg_by_long rules (codes "help")) None)))))
 
-pick_is : (name : Text) → arg_by_long rules name ≡ pick (bytes_eq (codes "nodes") name) (bytes_eq (codes "frames") name) (bytes_eq (codes "passes") name) (bytes_eq (codes "tries") name)
-    (bytes_eq (codes "last-generation") name) (bytes_eq (codes "help") name)
-pick_is name = refl
-
 long_settles : (s : Setting) (v : Option Text) (h : Held) → long_fault rules false (arg_by_long rules (name_of s)) v h ≡ [] → settle_fault rules false h ≡ []
 long_settles Nodes (Some v) h e = first_none _ _ e
 long_settles Frames (Some v) h e = first_none _ _ e
