@@ -1,5 +1,5 @@
 -- The sets of the free and of the dying frames follow the keeper's steps.
-use Rattle.ksm_book.proofs.Names.{ap, AreSets, blank, Bool, cases_eq, cond, count_in, did, dying_kind, false, frame_at, frames_of, free_kind, Freeze, frozen, get_or-set_other, has, inl, inr, IsSetOf, KeeperStep, KeeperView, Kind, Ledger, ledger_after, length, List, lowered, Marks, Note, Raise, raised, Reap, reaped, refl, Shape, Sub, subst, sym, true, with_frame, ℕ, ◌*◌, ◌<◌, ◌==◌, ◌∙◌, ◌≡◌, ◌≢◌, ◌≤◌}
+use Rattle.ksm_book.proofs.Names.{ap, AreSets, arith, blank, Bool, cases_eq, cases_lt, cond, count_in, did, Dying, dying_kind, false, frame_at, frames_of, Free, free_kind, Freeze, frozen, get_or-set_other, get_or-set_same, get_or_past, has, inl, inr, IsSetOf, KeeperStep, KeeperView, Kind, Ledger, ledger_after, length, length-set, List, lowered, Marks, ne_eqb, Note, Raise, raised, Reap, reaped, refl, set, Shape, Sub, subst, sym, true, with_frame, ℕ, ◌*◌, ◌-◌, ◌<◌, ◌==◌, ◌∙◌, ◌≡◌, ◌≢◌, ◌≤◌}
 
 -- ---------------------------------------------------------------- one frame's note is changed
 
@@ -41,6 +41,10 @@ module _ (asked : Kind → Bool) (v w : KeeperView) (words : List ℕ) (table : 
     ];
   }
 
+  -- the set is right still where each frame's kind is among those asked for exactly if it was
+  set_stays : ((f : ℕ) → asked (frame_at w.ledger f).kind ≡ asked (frame_at v.ledger f).kind) → IsSetOf asked w words
+  set_stays same = record { room = room_kept; marked = λ f lt. are.marked f (known f lt) ∙ sym (same f) }
+
 -- where a step has turned a frame, and it was marked by its kind, the sets are those of the free and the dying frames
 pub sets_marked : (v w : KeeperView) (e : KeeperStep) (found frame : ℕ) (free dying free' dying' : List ℕ) → w ≡ did v e found → TurnsOn e frame → AreSets v free dying
     → Marks free free' frame (free_kind (frame_at w.ledger frame).kind) → Marks dying dying' frame (dying_kind (frame_at w.ledger frame).kind) → AreSets w free' dying'
@@ -50,4 +54,52 @@ sets_marked v w e found frame free dying free' dying' is on are f d =
     record {
       free = set_marked free_kind v w free table are.free free' frame others f;
       dying = set_marked dying_kind v w dying table are.dying dying' frame others d;
+    }
+
+-- a new note of a frame is among those asked for exactly if the old one was: then so is each frame
+same_kinds : (asked : Kind → Bool) (k : Ledger) (f : ℕ) (note : Note) → asked note.kind ≡ asked (frame_at k f).kind
+    → (g : ℕ) → asked (frame_at (with_frame k f note) g).kind ≡ asked (frame_at k g).kind
+same_kinds asked k f note same g = elim (cases_eq g f) [
+  | inl here ↦ ap (λ i. asked (frame_at (with_frame k f note) i).kind) here ∙ at_frame ∙ ap (λ i. asked (frame_at k i).kind) (sym here)
+  | inr differs ↦ ap (λ (n : Note). asked n.kind) (get_or-set_other k.frames f g note blank differs)
+]
+  where
+    at_frame : asked (frame_at (with_frame k f note) f).kind ≡ asked (frame_at k f).kind
+    at_frame = elim (cases_lt f (length k.frames)) [
+      | inl within ↦ ap (λ (n : Note). asked n.kind) (get_or-set_same k.frames f note blank within) ∙ same
+      | inr beyond ↦ ap (λ (n : Note). asked n.kind)
+          (get_or_past (set k.frames f note) f blank (omega (arith, beyond, length-set k.frames f note)) ∙ sym (get_or_past k.frames f blank beyond))
+    ]
+
+-- a frame that has lost a reference of the keeper, and has one left, is of the kind that it was
+kind_left : (k : Ledger) (f : ℕ) → (frame_at (with_frame k f (lowered (frame_at k f))) f).base ≢ 0 → (lowered (frame_at k f)).kind ≡ (frame_at k f).kind
+kind_left k f left = elim (cases_lt f (length k.frames)) [
+  | inl within ↦
+      let stands = ap (λ (n : Note). n.base) (get_or-set_same k.frames f (lowered (frame_at k f)) blank within) in
+      ap (λ b. cond b Dying (frame_at k f).kind) (ne_eqb (frame_at k f).base 1 (λ one. left (stands ∙ ap (λ n. n - 1) one)))
+  | inr beyond ↦ absurd (left (ap (λ (n : Note). n.base) (get_or_past (set k.frames f (lowered (frame_at k f))) f blank (omega (arith, beyond, length-set k.frames f (lowered (frame_at k f)))))))
+]
+
+-- where a free frame was raised, and marked by its kind among the free ones, the sets are those of the free and the dying frames
+pub sets_raised : (v w : KeeperView) (found frame : ℕ) (free dying free' : List ℕ) → w ≡ did v (Raise frame) found → (frame_at v.ledger frame).kind ≡ Free
+    → AreSets v free dying → Marks free free' frame (free_kind (frame_at w.ledger frame).kind) → AreSets w free' dying
+sets_raised v w found frame free dying free' is may are marks =
+    let table = ap (λ (z : KeeperView). z.table) is in
+    let others : (g : ℕ) → g ≢ frame → frame_at w.ledger g ≡ frame_at v.ledger g = λ g ne. ap (λ (z : KeeperView). frame_at z.ledger g) is ∙ other_after v.table.shape v.ledger (Raise frame) found g frame refl ne in
+    record {
+      free = set_marked free_kind v w free table are.free free' frame others marks;
+      dying = set_stays dying_kind v w dying table are.dying (λ g. ap (λ (z : KeeperView). dying_kind (frame_at z.ledger g).kind) is ∙ same_kinds dying_kind v.ledger frame (raised (frame_at v.ledger frame)) (ap dying_kind (sym may)) g);
+    }
+
+-- where a frame has lost a reference of the keeper, and has one left, the sets stay those of the free and the dying frames
+pub sets_lowered : (v w : KeeperView) (found frame : ℕ) (free dying : List ℕ) → w ≡ did v (Sub frame) found → (frame_at w.ledger frame).base ≢ 0
+    → AreSets v free dying → AreSets w free dying
+sets_lowered v w found frame free dying is left are =
+    let table = ap (λ (z : KeeperView). z.table) is in
+    let kept = kind_left v.ledger frame (subst (λ (z : KeeperView). (frame_at z.ledger frame).base ≢ 0) is left) in
+    let same : (asked : Kind → Bool) (g : ℕ) → asked (frame_at w.ledger g).kind ≡ asked (frame_at v.ledger g).kind = λ asked g.
+        ap (λ (z : KeeperView). asked (frame_at z.ledger g).kind) is ∙ same_kinds asked v.ledger frame (lowered (frame_at v.ledger frame)) (ap asked kept) g in
+    record {
+      free = set_stays free_kind v w free table are.free (same free_kind);
+      dying = set_stays dying_kind v w dying table are.dying (same dying_kind);
     }

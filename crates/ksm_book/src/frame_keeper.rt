@@ -51,6 +51,20 @@ fn all_and_none(alloc: Global, count: u32) -> Result<(FrameSet, FrameSet), Fault
     Ok((all, none))
 }
 
+#[inline(always)]
+fn is_free(kind: Kind) -> bool
+    ensures { result ≡ free_kind kind }
+{
+    matches!(kind, Kind::Free)
+}
+
+#[inline(always)]
+fn is_dying(kind: Kind) -> bool
+    ensures { result ≡ dying_kind kind }
+{
+    matches!(kind, Kind::Dying)
+}
+
 // Marks a frame in both sets by the kind that it has.
 fn sort(keeper: &Keeper, free: &mut FrameSet, dying: &mut FrameSet, frame: u32)
     requires inside { frame < frames_of keeper.now.table.shape }
@@ -60,8 +74,8 @@ fn sort(keeper: &Keeper, free: &mut FrameSet, dying: &mut FrameSet, frame: u32)
     ensures dying { Marks dying.old dying.new frame (dying_kind (frame_at keeper.now.ledger frame).kind) }
 {
     let kind = keeper.kind(frame);
-    free.mark(frame, matches!(kind, Kind::Free));
-    dying.mark(frame, matches!(kind, Kind::Dying));
+    free.mark(frame, is_free(kind));
+    dying.mark(frame, is_dying(kind));
 }
 
 impl FrameKeeper {
@@ -120,7 +134,8 @@ impl FrameKeeper {
         self.keeper.base(frame)
     }
 
-    // The calls that follow hand a step to the keeper, and mark the frame in both sets by the kind that it has then.
+    // The calls that follow hand a step to the keeper. Where that may turn the kind of the frame, it is marked in the sets
+    // that it may have left or entered.
 
     pub fn add(&mut self, table: &FrameTable, frame: u32)
         requires own { self.old.table ≡ table.now }
@@ -136,7 +151,10 @@ impl FrameKeeper {
         ensures { Did self.old (Sub frame) self.new }
     {
         self.keeper.sub(table, frame);
-        sort(&self.keeper, &mut self.free, &mut self.dying, frame);
+        // With a reference left, it is of the kind that it was.
+        if self.keeper.base(frame) == 0 {
+            sort(&self.keeper, &mut self.free, &mut self.dying, frame);
+        }
     }
 
     pub fn reap(&mut self, table: &FrameTable, frame: u32) -> bool
@@ -155,7 +173,9 @@ impl FrameKeeper {
         ensures { Did self.old (Raise frame) self.new }
     {
         self.keeper.raise(table, frame);
-        sort(&self.keeper, &mut self.free, &mut self.dying, frame);
+        // It was free, and not dying.
+        let kind = self.keeper.kind(frame);
+        self.free.mark(frame, is_free(kind));
     }
 
     pub fn put(&mut self, table: &FrameTable, frame: u32, i: usize, word: u64)
