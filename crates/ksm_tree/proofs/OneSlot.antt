@@ -1,5 +1,5 @@
 -- What a change of one slot does to the dups and to the places whose slots pass a test.
-use Rattle.ksm_tree.proofs.Names.{[], absent_kept, All, All-cons, All-weaker, ap, append-nil, ArePlaced, AreSlots, arith, Bool, cases_Bool, change_at, comes_before, count_in, Dup, dup_at, empty_from, empty_place, false, false≢true, filter, filter_all, filter_none, find, find_nothing, get_or, get_or-map, get_or-reverse, get_or_default, get_or_push, GuestPage, has_item, if◌then◌else◌, inl, inr, is_empty_slot, is_live, is_some, is_stale, is_stale_slot, items_in, length, length-append, length-map, length-reverse, length-set, List, map, map-set, map-set_same, nat_lt, nat_tests, None, none-some, not, Option, option_map, pages_ordered, places_where, present, refl, reverse, rows_of, same_page, same_Some, set, set-append_left, set-append_right, set-get_or, slice_get, slice_get-get_or, slots_seen, SlotsState, SmallVec, Some, stands_at, suc, sym, true, with_item, with_new, with_place, without, without_item, without_place, zero, ℕ, ◌++◌, ◌+◌, ◌-◌, ◌<◌, ◌==◌, ◌∙◌, ◌∷◌, ◌≡◌, ◌≤◌}
+use Rattle.ksm_tree.proofs.Names.{[], absent_kept, All, All-cons, All-weaker, ap, append-nil, ArePlaced, AreSlots, arith, Bool, cases_Bool, change_at, comes_before, count_in, Dup, dup_at, empty_from, empty_place, false, false≢true, filter, filter_all, filter_none, find, find_nothing, get_or, get_or-map, get_or-reverse, get_or_default, get_or_push, GuestPage, has_item, inl, inr, is_empty_slot, is_live, is_some, is_stale, is_stale_slot, items_in, length, length-append, length-map, length-reverse, length-set, List, map, map-set, map-set_same, nat_lt, nat_tests, None, none-some, none_found, not, Option, option_map, pages_ordered, places_where, present, refl, reverse, rows_of, same_page, same_Some, set, set-append_left, set-append_right, set-get_or, slice_get, slice_get-get_or, slots_seen, SlotsState, SmallVec, Some, stands_at, suc, sym, true, with_item, with_new, with_place, without, without_item, without_place, zero, ℕ, if◌then◌else◌, ◌++◌, ◌+◌, ◌-◌, ◌<◌, ◌==◌, ◌∙◌, ◌∷◌, ◌≡◌, ◌≤◌}
 use mathlib.Core.List.{reverse-cons}
 use Rattle.ksm_tree.proofs.Where.{where_with, where_without, where_same, where_room}
 
@@ -477,7 +477,7 @@ had_item page d found = items_not_none page d.items found
 pub slots_unlike : (p : ℕ) (slots : List (Option Dup)) (counts : List ℕ) (empty stale : SmallVec ℕ) (d : Dup) (page : GuestPage) → p < length slots → AreSlots slots counts empty stale → get_or slots p None ≡ Some d → false ≡ has_item page d.items → AreSlots (set slots p (Some (record d { items = without_item page d.items }))) counts empty stale
 slots_unlike p slots counts empty stale d page within h filled absent =
     let e : Dup = record d { items = without_item page d.items } in
-    let kept = sym (absent_kept comes_before same_page pages_ordered page d.items (sym absent)) in
+    let kept = sym (absent_kept pages_ordered (λ q. q) page d.items (none_found (λ q. same_page q page) d.items (sym absent))) in
     let same : is_stale e ≡ is_stale d = ap (λ ps. length ps == 0) kept in
     slots_changed p slots counts counts empty stale stale d e within h filled refl
     (h.counted ∙ sym (map-set_same count_in slots p (Some e) None (ap length kept ∙ sym (ap count_in filled))))

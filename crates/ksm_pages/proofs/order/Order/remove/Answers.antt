@@ -1,5 +1,6 @@
-use Rattle.ksm_pages.proofs.Names.{ap, arith, count_by, find, from_bool, is_of, length, Named, None, pages_in, Some, sym, ◌∙◌, ◌≡◌}
-use Rattle.ksm_pages.proofs.Keyed.{absent_kept, found_counted, removed_count, removed_length}
+use Rattle.ksm_pages.proofs.Names.{ap, arith, count_by, find, from_bool, is_of, length, Named, None, pages_in, pages_ordered, Some, sym, ◌∙◌, ◌≡◌}
+use Rattle.ksm_pages.proofs.Keyed.{found_counted, removed_count, removed_length}
+use Rattle.ksm_rmap.proofs.Ordered.{absent_kept}
 use Rattle.ksm_pages.proofs.order.Order.remove.Goals as goal
 
 pub overflow_sub-self-in-Some : goal.overflow_sub-self-in-Some
@@ -30,7 +31,7 @@ pub invariant_of-self-in_default : goal.invariant_of-self-in_default
 invariant_of-self-in_default c =
     let all = pages_in c.self.inside.runs.items in
     let absent : find (is_of c.args.page) all ≡ None = sym c.remove.ensures.was ∙ c.in_default.is in
-    let same : all ≡ pages_in c.remove.new.runs.items = absent_kept (λ n. n.page) c.args.page all absent ∙ sym c.remove.ensures.removed in
+    let same : all ≡ pages_in c.remove.new.runs.items = absent_kept pages_ordered (λ n. n.page) c.args.page all absent ∙ sym c.remove.ensures.removed in
     record {
       parts = c.remove.ensures.runs;
       long = c.self.invariant.long ∙ ap length same;

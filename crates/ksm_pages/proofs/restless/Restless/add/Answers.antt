@@ -1,5 +1,6 @@
-use Rattle.ksm_pages.proofs.Names.{ap, AreInOrder, comes_before, filter, find, get_or, has_item, if◌then◌else◌, inl, insert, is_some, length, Listing, map, None, pages_of, refl, same_page, set, Spot, subst, sym, true, with_item, ◌++◌, ◌<◌, ◌∙◌, ◌∷◌, ◌≡◌}
-use Rattle.ksm_pages.proofs.Keyed.{insert_at, none_of, write_at}
+use Rattle.ksm_pages.proofs.Names.{ap, AreInOrder, comes_before, filter, find, get_or, has_item, if◌then◌else◌, inl, insert, is_some, length, Listing, map, None, pages_of, pages_ordered, refl, same_page, set, Spot, subst, sym, true, with_item, ◌++◌, ◌<◌, ◌∙◌, ◌∷◌, ◌≡◌}
+use Rattle.ksm_pages.proofs.Keyed.{write_at}
+use Rattle.ksm_rmap.proofs.Ordered.{insert_at, none_of}
 use Rattle.ksm_pages.proofs.Spots.{listed_found, page_of, put_pages, put_rises, written_pages}
 use Rattle.ksm_pages.proofs.restless.Restless.add.Goals as goal
 use Rattle.ksm_pages.proofs.restless.Restless.add.Goals.{In-Ok}
@@ -30,7 +31,7 @@ put c =
     none_of (find (λ s. same_page s.page spot.page) spots) (ap (λ ss. is_some (find (λ (s : Spot). same_page s.page spot.page) ss)) (sym c.as_slice-2.ensures.value) ∙ sym c.if-found.ensures.found) in
     c.in-Ok.ensures.items
     ∙ ap (λ i. insert spots i spot) place
-    ∙ insert_at page_of spot.page spot spots refl c.self.invariant absent
+    ∙ insert_at pages_ordered page_of spot.page spot spots refl c.self.invariant absent
 
 pub invariant_of-self-in-Ok : goal.invariant_of-self-in-Ok
 invariant_of-self-in-Ok c = subst AreInOrder (sym (put c)) (put_rises c.args.spot c.self.inside.spots.items c.self.invariant)

@@ -1,5 +1,5 @@
-use Rattle.ksm_pages.proofs.Names.{ap, comes_before, false, filter, find, get_or, is_of, length, Named, refl, same_page, Some, sym, true, ◌<◌, ◌∙◌, ◌≡◌}
-use Rattle.ksm_pages.proofs.Keyed.{found_at}
+use Rattle.ksm_pages.proofs.Names.{ap, comes_before, false, filter, find, get_or, is_of, length, Named, pages_ordered, refl, same_page, Some, sym, true, ◌<◌, ◌∙◌, ◌≡◌}
+use Rattle.ksm_rmap.proofs.Ordered.{found_at}
 use Rattle.ksm_pages.proofs.run.Run.find.Goals as goal
 
 pub returns-then-found : goal.returns-then-found
@@ -14,5 +14,5 @@ returns-then-found c =
     let here : same_page (get_or pages at d).page page ≡ true = rw (← seen) (c.if-found.ensures.here refl d) in
     ap (λ ps. Some (get_or ps at d)) seen
     ∙ ap (λ n. Some (get_or pages n d)) place
-    ∙ sym (found_at (λ (n : Named). n.page) page pages d c.self.invariant.ascending (rw (← place) within) (rw (← place) here))
+    ∙ sym (found_at pages_ordered (λ (n : Named). n.page) page pages d c.self.invariant.ascending (rw (← place) within) (rw (← place) here))
     ∙ ap (find (is_of page)) c.self.view_is

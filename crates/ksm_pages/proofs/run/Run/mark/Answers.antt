@@ -1,5 +1,6 @@
-use Rattle.ksm_pages.proofs.Names.{ap, AreAscending, Bool, comes_before, filter, find, from_bool, get_or, GuestPage, is_of, is_some, length, List, marked, Named, refl, same_page, set, Some, sym, true, ℕ, ◌<◌, ◌∙◌, ◌≡◌}
-use Rattle.ksm_pages.proofs.Keyed.{absent_unchanged, count_changed, found_at, none_of, write_at, write_rises}
+use Rattle.ksm_pages.proofs.Names.{ap, AreAscending, Bool, comes_before, filter, find, from_bool, get_or, GuestPage, is_of, is_some, length, List, marked, Named, pages_ordered, refl, same_page, set, Some, sym, true, ℕ, ◌<◌, ◌∙◌, ◌≡◌}
+use Rattle.ksm_pages.proofs.Keyed.{absent_unchanged, count_changed, write_at, write_rises}
+use Rattle.ksm_rmap.proofs.Ordered.{found_at, none_of}
 use Rattle.ksm_pages.proofs.run.Run.mark.Goals as goal
 
 -- the page is changed where it stands
@@ -50,5 +51,5 @@ returns-then-found-clause-was c =
     let here : same_page (get_or pages at named).page c.args.page ≡ true = rw (← c.as_slice-2.ensures.value) (c.if-found.ensures.here refl named) in
     ap Some c.index-named.ensures
     ∙ ap (λ n. Some (get_or pages n named)) place
-    ∙ sym (found_at (λ (n : Named). n.page) c.args.page pages named c.self.invariant.ascending (rw (← place) within) (rw (← place) here))
+    ∙ sym (found_at pages_ordered (λ (n : Named). n.page) c.args.page pages named c.self.invariant.ascending (rw (← place) within) (rw (← place) here))
     ∙ ap (find (is_of c.args.page)) c.self.view_is
