@@ -1,17 +1,20 @@
-use Rattle.ksm_tree.proofs.Names.{ap, list_any, refl, sym, with_found, with_rises, ◌==◌, ◌∙◌}
+use Rattle.ksm_tree.proofs.Names.{ap, list_any, refl, sym, with_found, with_place, with_rises, ◌==◌, ◌∙◌, ◌≡◌}
 use Rattle.ksm_tree.proofs.Numbers.{places_ordered, at_ok, put_in}
 use Rattle.ksm_tree.proofs.places.Places.insert.Goals as goal
+use Rattle.ksm_tree.proofs.places.Places.insert.Goals.{After-insert-there_is_room}
+
+inserted : (c : After-insert-there_is_room) → c.insert-there_is_room.new.self.items ≡ with_place c.args.place c.args.self.now.list.items
+inserted c =
+    at_ok _ (c.insert-there_is_room.ensures.succeeds c.requires) c.insert-there_is_room.ensures.ok
+    ∙ put_in _ _ _ c.as_slice-places.ensures c.args.self.now.ascending _ c.place_in-at.ensures.count c.if-not-stands_at.ensures.found
 
 pub invariant_of-self : goal.invariant_of-self
 invariant_of-self c =
-    let inserted = at_ok _ (c.insert-there_is_room.ensures.succeeds c.requires) c.insert-there_is_room.ensures.ok
-    ∙ put_in _ _ _ c.as_slice-places.ensures c.args.self.now.ascending _ c.place_in-at.ensures.count c.if-not-stands_at.ensures.found in
-    record { ascending = rw inserted (with_rises places_ordered (λ p. p) c.args.place c.args.place c.args.self.now.list.items refl c.args.self.now.ascending) }
+    let is = inserted (goal.at.invariant_of-self c).After-insert-there_is_room in
+    record { ascending = rw is (with_rises places_ordered (λ p. p) c.args.place c.args.place c.args.self.now.list.items refl c.args.self.now.ascending) }
 
 pub returns-then-not-stands_at-clause-with : goal.returns-then-not-stands_at-clause-with
-returns-then-not-stands_at-clause-with c =
-    at_ok _ (c.insert-there_is_room.ensures.succeeds c.requires) c.insert-there_is_room.ensures.ok
-    ∙ put_in _ _ _ c.as_slice-places.ensures c.args.self.now.ascending _ c.place_in-at.ensures.count c.if-not-stands_at.ensures.found
+returns-then-not-stands_at-clause-with c = inserted (goal.at.returns-then-not-stands_at-clause-with c).After-insert-there_is_room
 
 pub returns-else-not-stands_at-clause-with : goal.returns-else-not-stands_at-clause-with
 returns-else-not-stands_at-clause-with c =

@@ -1,17 +1,20 @@
-use Rattle.ksm_tree.proofs.Names.{absent_kept, ap, list_any, none_found, refl, sym, without_rises, ◌==◌, ◌∙◌}
+use Rattle.ksm_tree.proofs.Names.{absent_kept, ap, list_any, none_found, refl, sym, without, without_rises, ◌==◌, ◌∙◌, ◌≡◌}
 use Rattle.ksm_tree.proofs.Numbers.{places_ordered, taken_out}
 use Rattle.ksm_tree.proofs.places.Places.remove.Goals as goal
+use Rattle.ksm_tree.proofs.places.Places.remove.Goals.{After-remove}
+
+taken : (c : After-remove) → c.remove.new.self.items ≡ without c.args.place c.args.self.now.list.items
+taken c =
+    c.remove.ensures.items ∙ taken_out _ _ _ c.as_slice-places.ensures c.args.self.now.ascending _ c.place_in-at.ensures.count
+    (c.if-stands_at.ensures.within refl) (c.if-stands_at.ensures.here refl 0)
 
 pub invariant_of-self : goal.invariant_of-self
 invariant_of-self c =
-    let taken = c.remove.ensures.items ∙ taken_out _ _ _ c.as_slice-places.ensures c.args.self.now.ascending _ c.place_in-at.ensures.count
-    (c.if-stands_at.ensures.within refl) (c.if-stands_at.ensures.here refl 0) in
-    record { ascending = rw taken (without_rises places_ordered (λ p. p) c.args.place c.args.self.now.list.items c.args.self.now.ascending) }
+    let is = taken (goal.at.invariant_of-self c).After-remove in
+    record { ascending = rw is (without_rises places_ordered (λ p. p) c.args.place c.args.self.now.list.items c.args.self.now.ascending) }
 
 pub returns-then-stands_at-clause-without : goal.returns-then-stands_at-clause-without
-returns-then-stands_at-clause-without c =
-    c.remove.ensures.items ∙ taken_out _ _ _ c.as_slice-places.ensures c.args.self.now.ascending _ c.place_in-at.ensures.count
-    (c.if-stands_at.ensures.within refl) (c.if-stands_at.ensures.here refl 0)
+returns-then-stands_at-clause-without c = taken (goal.at.returns-then-stands_at-clause-without c).After-remove
 
 pub returns-else-stands_at-clause-without : goal.returns-else-stands_at-clause-without
 returns-else-stands_at-clause-without c =
