@@ -169,7 +169,7 @@ pub put_are_runs : (runs : List (List Named)) (at : ℕ) (d : List Named) (named
 put_are_runs runs at d named parts place within room absent =
     let run = get_or runs at d in
     let absent_here : find (is_of named.page) run ≡ None = sym (find_in_run named.page runs at d place within) ∙ absent in
-    let more = length_with (λ n. n.page) named.page named run refl (run_rises runs at d parts.ascending within) absent_here in
+    let more = length_with (λ n. n.page) named.page named run (run_rises runs at d parts.ascending within) absent_here in
     runs_set runs at (with_named named run) parts (filled_by (with_named named run) (omega (arith, more))) (omega (arith, more, room))
     (subst AreAscending (sym (put_in_run named.page runs at d place within named refl))
     (with_rises pages_ordered (λ n. n.page) named.page named (pages_in runs) refl parts.ascending))

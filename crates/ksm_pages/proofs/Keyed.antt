@@ -123,14 +123,15 @@ module _ {X : Type 0} (key : X → GuestPage) where
     absent_unchanged f xs absent = sym (kept_all f xs (find_none is_it xs absent))
 
     -- a write behind those before a page that is there changes the element of that page, and no other
-    pub write_at : (f : X → X) (xs : List X) (d : X) → AllPairs Before xs → place xs < length xs → is_it (get_or xs (place xs) d) ≡ true
-        → set xs (place xs) (f (get_or xs (place xs) d)) ≡ map (λ y. if is_it y then f y else y) xs
-    write_at f xs d rise within here =
-        let x = get_or xs (place xs) d in
-        let split = found_parts pages_ordered key page xs x rise (found_at pages_ordered key page xs d rise within here) in
-        ap (λ ys. set ys (place xs) (f x)) split
+    pub write_at : (f : X → X) (xs : List X) → AllPairs Before xs → {s t : List X} → s ≡ xs → t ≡ xs → {n : ℕ} → n ≡ place s → (d : X) → n < length t
+        → is_it (get_or t n d) ≡ true → set xs n (f (get_or xs n d)) ≡ map (λ y. if is_it y then f y else y) xs
+    write_at f xs rise {s} {t} read again {n} count d within here =
+        let x = get_or xs n d in
+        let split = found_parts pages_ordered key page xs x rise (found_at pages_ordered key page xs rise read again count d within here) in
+        ap (λ i. set xs i (f x)) (count ∙ ap place read)
+        ∙ ap (λ ys. set ys (place xs) (f x)) split
         ∙ set-append_seam (filter low xs) x (filter high xs) (f x)
-        ∙ ap (λ b. filter low xs ++ cond b (f x) x ∷ filter high xs) (sym here)
+        ∙ ap (λ b. filter low xs ++ cond b (f x) x ∷ filter high xs) (sym here ∙ ap (λ ys. is_it (get_or ys n d)) again)
         ∙ sym (changed_between (filter low xs) (x ∷ []) (filter high xs) (filter_passes low xs) (filter_passes high xs) f)
         ∙ ap (map (λ y. if is_it y then f y else y)) (sym split)
 
@@ -158,13 +159,13 @@ module _ {X : Type 0} (key : X → GuestPage) where
       removed_count =
           let at = found_place pages_ordered key page xs x rise found in
           count_removed p xs (place xs) x (count_by p xs) (from_bool (p x)) at.0 refl (ap (λ y. from_bool (p y)) (sym at.1.1))
-          ∙ ap (count_by p) (remove_at pages_ordered key page xs x rise at.0 at.1.0)
+          ∙ ap (count_by p) (remove_at pages_ordered key page xs rise refl refl refl x at.0 at.1.0)
 
       -- without the element of a page that is found, a list is one shorter
       pub removed_length : length (filter (λ y. not (is_it y)) xs) + 1 ≡ length xs
       removed_length =
           let at = found_place pages_ordered key page xs x rise found in
-          ap (λ ys. length ys + 1) (sym (remove_at pages_ordered key page xs x rise at.0 at.1.0)) ∙ length-remove xs (place xs) at.0
+          ap (λ ys. length ys + 1) (sym (remove_at pages_ordered key page xs rise refl refl refl x at.0 at.1.0)) ∙ length-remove xs (place xs) at.0
 
       -- with the element of the page changed, the count loses what the old one counted and gets the new
       pub changed_count : (f : X → X) → count_by p xs - from_bool (p x) + from_bool (p (f x)) ≡ count_by p (map (λ y. if is_it y then f y else y) xs)
@@ -172,15 +173,16 @@ module _ {X : Type 0} (key : X → GuestPage) where
           let at = found_place pages_ordered key page xs x rise found in
           count_changed p xs (place xs) (f (get_or xs (place xs) x)) x (count_by p xs) (from_bool (p x)) (from_bool (p (f x))) at.0 refl
           (ap (λ y. from_bool (p y)) (sym at.1.1)) (ap (λ y. from_bool (p (f y))) (sym at.1.1))
-          ∙ ap (count_by p) (write_at f xs x rise at.0 at.1.0)
+          ∙ ap (count_by p) (write_at f xs rise refl refl refl x at.0 at.1.0)
 
     -- with an element of a page that was not there, a list is one longer
-    pub length_with : (x : X) (xs : List X) → key x ≡ page → AllPairs Before xs → find is_it xs ≡ None → length (filter low xs ++ x ∷ filter high xs) ≡ length xs + 1
-    length_with x xs at rise absent =
+    pub length_with : (x : X) (xs : List X) → AllPairs Before xs → find is_it xs ≡ None → length (filter low xs ++ x ∷ filter high xs) ≡ length xs + 1
+    length_with x xs rise absent =
         let few : place xs ≤ length xs = omega (arith, length-filter low xs, count_by-le-length low xs) in
-        ap length (sym (insert_at pages_ordered key page x xs at rise absent)) ∙ length-insert xs (place xs) x few
+        ap length (sym (insert_at pages_ordered key page xs rise refl refl refl x absent)) ∙ length-insert xs (place xs) x few
 
     -- with an element of a page that was not there, the count is more by what that element counts
-    pub count_with : (p : X → Bool) (x : X) (xs : List X) → key x ≡ page → AllPairs Before xs → find is_it xs ≡ None → count_by p (filter low xs ++ x ∷ filter high xs) ≡ count_by p xs + cond (p x) 1 0
-    count_with p x xs at rise absent =
-        ap (count_by p) (sym (insert_at pages_ordered key page x xs at rise absent)) ∙ sum_by-insert (λ y. cond (p y) 1 0) xs (place xs) x
+    pub count_with : (p : X → Bool) (x : X) (xs : List X) → AllPairs Before xs → find is_it xs ≡ None
+        → count_by p (filter low xs ++ x ∷ filter high xs) ≡ count_by p xs + cond (p x) 1 0
+    count_with p x xs rise absent =
+        ap (count_by p) (sym (insert_at pages_ordered key page xs rise refl refl refl x absent)) ∙ sum_by-insert (λ y. cond (p y) 1 0) xs (place xs) x

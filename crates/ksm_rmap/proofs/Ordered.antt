@@ -181,15 +181,6 @@ module _ {X K : Type 0} {before same : K → K → Bool} (order : IsOrder before
     pub found_parts : (xs : List X) (x : X) → AllPairs Before xs → find is_it xs ≡ Some x → xs ≡ filter low xs ++ x ∷ filter high xs
     found_parts xs x rise found = parts xs rise ∙ ap (λ o. filter low xs ++ (one o ++ filter high xs)) found
 
-    -- an insert behind those before a key that is not there puts the key at its place
-    pub insert_at : (x : X) (xs : List X) → key x ≡ q → AllPairs Before xs → find is_it xs ≡ None → insert xs (place xs) x ≡ filter low xs ++ x ∷ filter high xs
-    insert_at x xs at rise absent =
-        let n = place xs in
-        let none : n - n ≡ 0 = omega arith in
-        ap (λ ys. insert ys n x) (absent_parts xs rise absent)
-        ∙ insert-append_right (filter low xs) (filter high xs) n n x refl (omega arith)
-        ∙ ap (λ i. filter low xs ++ insert (filter high xs) i x) none
-
     -- a key that is found stands behind those before it
     pub found_place : (xs : List X) (x : X) → AllPairs Before xs → find is_it xs ≡ Some x
         → (place xs < length xs) × ((is_it (get_or xs (place xs) x) ≡ true) × (get_or xs (place xs) x ≡ x))
@@ -209,37 +200,55 @@ module _ {X K : Type 0} {before same : K → K → Bool} (order : IsOrder before
         ∙ ap (λ i. is_it (get_or (filter high xs) i d)) none
         ∙ none_same (filter high xs) (filter_passes high xs) 0 d some
 
-    -- where the element behind those before the key is of the key, a search for the key finds it
-    pub found_at : (xs : List X) (d : X) → AllPairs Before xs → place xs < length xs → is_it (get_or xs (place xs) d) ≡ true
-        → find is_it xs ≡ Some (get_or xs (place xs) d)
-    found_at xs d rise within here =
-        by_found (find is_it xs) (λ none. absurd (true≢false (sym here ∙ absent_differs xs d rise within none)))
-        (λ x found. found ∙ ap Some (sym (get_or_default xs (place xs) d x within ∙ (found_place xs x rise found).1.1)))
+    -- what a search for the key tells that ended at n: in a list that is read as xs, so many come before the key, and the list is read again
+    module _ (xs : List X) (rise : AllPairs Before xs) {s t : List X} (read : s ≡ xs) (again : t ≡ xs) {n : ℕ} (count : n ≡ place s) where
+      counted : n ≡ place xs
+      counted = count ∙ ap place read
 
-    -- where an element stands behind those before the key, the key is found exactly if that element is of the key
-    pub found_by : (xs : List X) (d : X) → AllPairs Before xs → place xs < length xs → is_some (find is_it xs) ≡ is_it (get_or xs (place xs) d)
-    found_by xs d rise within =
-        by_found (find is_it xs) (λ none. ap is_some none ∙ sym (absent_differs xs d rise within none))
-        (λ x found. ap is_some found ∙ sym (ap is_it (get_or_default xs (place xs) d x within) ∙ (found_place xs x rise found).1.0))
+      within_place : n < length t → place xs < length xs
+      within_place within = omega (arith, within, counted, ap length again)
 
-    -- where all of a list come before the key, the key is not found
-    pub absent_past : (xs : List X) → AllPairs Before xs → length xs ≤ place xs → find is_it xs ≡ None
-    absent_past xs rise past = by_found (find is_it xs) (λ none. none) (λ x found. let at = (found_place xs x rise found).0 in absurd (omega (arith, at, past)))
+      -- where an element stands behind those before the key, the key is found exactly if that element is of the key
+      pub found_by : (d : X) → n < length t → is_some (find is_it xs) ≡ is_it (get_or xs n d)
+      found_by d within =
+          by_found (find is_it xs)
+          (λ none. ap is_some none ∙ sym (ap (λ i. is_it (get_or xs i d)) counted ∙ absent_differs xs d rise (within_place within) none))
+          (λ x found. ap is_some found ∙ sym (ap (λ i. is_it (get_or xs i d)) counted ∙ ap is_it (get_or_default xs (place xs) d x (within_place within))
+          ∙ (found_place xs x rise found).1.0))
 
-    -- a removal behind those before a key that is there takes the key away
-    pub remove_at : (xs : List X) (d : X) → AllPairs Before xs → place xs < length xs → is_it (get_or xs (place xs) d) ≡ true
-        → remove xs (place xs) ≡ filter (λ y. not (is_it y)) xs
-    remove_at xs d rise within here =
-        let n = place xs in
-        let x = get_or xs n d in
-        let split = found_parts xs x rise (found_at xs d rise within here) in
-        let none : n - n ≡ 0 = omega arith in
-        ap (λ ys. remove ys n) split
-        ∙ remove-append_right (filter low xs) (x ∷ filter high xs) n n refl (omega arith)
-        ∙ ap (λ i. filter low xs ++ remove (x ∷ filter high xs) i) none
-        ∙ ap (λ b. filter low xs ++ (cond (not b) (x ∷ []) [] ++ filter high xs)) (sym here)
-        ∙ sym (without_between (filter low xs) (x ∷ []) (filter high xs) (filter_passes low xs) (filter_passes high xs))
-        ∙ ap (filter (λ y. not (is_it y))) (sym split)
+      -- where the element behind those before the key is of the key, a search for the key finds it
+      pub found_at : (d : X) → n < length t → is_it (get_or t n d) ≡ true → find is_it xs ≡ Some (get_or xs n d)
+      found_at d within here =
+          by_found (find is_it xs)
+          (λ none. absurd (true≢false (sym here ∙ ap (λ ys. is_it (get_or ys n d)) again ∙ sym (found_by d within) ∙ ap is_some none)))
+          (λ x found. found ∙ ap Some (sym (ap (λ i. get_or xs i d) counted ∙ get_or_default xs (place xs) d x (within_place within) ∙ (found_place xs x rise found).1.1)))
+
+      -- where all of a list come before the key, the key is not found
+      pub absent_past : length t ≤ n → find is_it xs ≡ None
+      absent_past past =
+          by_found (find is_it xs) (λ none. none)
+          (λ x found. let at = (found_place xs x rise found).0 in absurd (omega (arith, at, past, counted, ap length again)))
+
+      -- an insert behind those before a key that is not there puts the key at its place
+      pub insert_at : (x : X) → find is_it t ≡ None → insert xs n x ≡ filter low xs ++ x ∷ filter high xs
+      insert_at x absent =
+          let none : n - place xs ≡ 0 = omega (arith, counted) in
+          ap (λ ys. insert ys n x) (absent_parts xs rise (ap (find is_it) (sym again) ∙ absent))
+          ∙ insert-append_right (filter low xs) (filter high xs) (place xs) n x refl (omega (arith, counted))
+          ∙ ap (λ i. filter low xs ++ insert (filter high xs) i x) none
+
+      -- a removal behind those before a key that is there takes the key away
+      pub remove_at : (d : X) → n < length t → is_it (get_or t n d) ≡ true → remove xs n ≡ filter (λ y. not (is_it y)) xs
+      remove_at d within here =
+          let x = get_or xs n d in
+          let split = found_parts xs x rise (found_at d within here) in
+          let none : n - place xs ≡ 0 = omega (arith, counted) in
+          ap (λ ys. remove ys n) split
+          ∙ remove-append_right (filter low xs) (x ∷ filter high xs) (place xs) n refl (omega (arith, counted))
+          ∙ ap (λ i. filter low xs ++ remove (x ∷ filter high xs) i) none
+          ∙ ap (λ b. filter low xs ++ (cond (not b) (x ∷ []) [] ++ filter high xs)) (sym here ∙ ap (λ ys. is_it (get_or ys n d)) again)
+          ∙ sym (without_between (filter low xs) (x ∷ []) (filter high xs) (filter_passes low xs) (filter_passes high xs))
+          ∙ ap (filter (λ y. not (is_it y))) (sym split)
 
     -- a list that does not have the key is the same list without the key
     pub absent_kept : (xs : List X) → find is_it xs ≡ None → xs ≡ filter (λ y. not (is_it y)) xs

@@ -1,4 +1,4 @@
-use Rattle.ksm_pages.proofs.Names.{ap, comes_before, filter, find, get_or, is_some, length, Listing, None, not, pages_of, pages_ordered, refl, remove, same_page, Spot, sym, true, without_item, ◌<◌, ◌∙◌, ◌≡◌}
+use Rattle.ksm_pages.proofs.Names.{ap, filter, find, is_some, Listing, None, not, pages_of, pages_ordered, refl, same_page, Spot, sym, without_item, ◌∙◌, ◌≡◌}
 use Rattle.ksm_rmap.proofs.Ordered.{absent_kept, none_of, remove_at, without_rises}
 use Rattle.ksm_pages.proofs.Spots.{page_of, pages_kept}
 use Rattle.ksm_pages.proofs.restless.Restless.remove.Goals as goal
@@ -6,16 +6,10 @@ use Rattle.ksm_pages.proofs.restless.Restless.remove.Goals as goal
 -- the spots that are left
 left : (c : goal.After-remove) → c.remove.new.self.items ≡ filter (λ s. not (same_page s.page c.args.page)) c.self.inside.spots.items
 left c =
-    let page = c.args.page in
-    let spots = c.self.inside.spots.items in
     let d = c.remove.result in
-    let seen = c.as_slice-2.ensures.value in
-    let place = c.place_of-at.ensures.count ∙ ap (λ ss. length (filter (λ s. comes_before s.page page) ss)) c.as_slice.ensures.value in
-    let within : c.place_of-at.result < length spots = rw (← seen) (c.if-found.ensures.within refl) in
-    let here : same_page (get_or spots c.place_of-at.result d).page page ≡ true = rw (← seen) (c.if-found.ensures.here refl d) in
     c.remove.ensures.items
-    ∙ ap (remove spots) place
-    ∙ remove_at pages_ordered page_of page spots d c.self.invariant (rw (← place) within) (rw (← place) here)
+    ∙ remove_at pages_ordered page_of c.args.page c.self.inside.spots.items c.self.invariant c.as_slice.ensures.value c.as_slice-2.ensures.value c.place_of-at.ensures.count
+    d (c.if-found.ensures.within refl) (c.if-found.ensures.here refl d)
 
 pub invariant_of-self : goal.invariant_of-self
 invariant_of-self c = rw (left c) (without_rises pages_ordered page_of c.args.page c.self.inside.spots.items c.self.invariant)

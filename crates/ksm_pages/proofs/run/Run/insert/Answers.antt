@@ -1,4 +1,4 @@
-use Rattle.ksm_pages.proofs.Names.{ap, arith, comes_before, cond, count_by, filter, insert, length, Named, pages_ordered, refl, sum_by-insert, with_named, ◌∙◌, ◌≡◌}
+use Rattle.ksm_pages.proofs.Names.{ap, arith, cond, count_by, Named, pages_ordered, refl, sum_by-insert, with_named, ◌∙◌, ◌≡◌}
 use Rattle.ksm_rmap.proofs.Ordered.{insert_at, with_rises}
 use Rattle.ksm_pages.proofs.run.Run.insert.Goals as goal
 
@@ -6,10 +6,9 @@ use Rattle.ksm_pages.proofs.run.Run.insert.Goals as goal
 added : (c : goal.After-self-1) → c.insert.new.self.items ≡ with_named c.args.named c.self.inside.pages.items
 added c =
     let pages = c.self.inside.pages.items in
-    let named = c.args.named in
     c.in_ok-insert.ensures.items
-    ∙ ap (λ n. insert pages n named) (c.place_of-at.ensures.count ∙ ap (λ ps. length (filter (λ n. comes_before n.page named.page) ps)) c.as_slice.ensures.value)
-    ∙ insert_at pages_ordered (λ n. n.page) named.page named pages refl c.self.invariant.ascending (rw c.self.view_is c.requires.absent)
+    ∙ insert_at pages_ordered (λ n. n.page) c.args.named.page pages c.self.invariant.ascending c.as_slice.ensures.value refl c.place_of-at.ensures.count c.args.named
+    (rw c.self.view_is c.requires.absent)
 
 pub invariant_of-self-2 : goal.invariant_of-self-2
 invariant_of-self-2 c = record {

@@ -1,12 +1,15 @@
-use Rattle.ksm_tree.proofs.Names.{ap, list_any, refl, sym, with_found, with_place, with_rises, ◌==◌, ◌∙◌, ◌≡◌}
-use Rattle.ksm_tree.proofs.Numbers.{places_ordered, at_ok, put_in}
+use Rattle.ksm_tree.proofs.Names.{ap, insert_at, list_any, none_found, refl, sym, with_found, with_place, with_rises, ◌==◌, ◌∙◌, ◌≡◌}
+use Rattle.ksm_tree.proofs.Numbers.{places_ordered, at_ok}
 use Rattle.ksm_tree.proofs.places.Places.insert.Goals as goal
 use Rattle.ksm_tree.proofs.places.Places.insert.Goals.{After-insert-there_is_room}
 
 inserted : (c : After-insert-there_is_room) → c.insert-there_is_room.new.self.items ≡ with_place c.args.place c.args.self.now.list.items
 inserted c =
+    let places = c.args.self.now.list.items in
+    let absent = none_found (λ p. p == c.args.place) c.as_slice-places.result.now (sym c.if-not-stands_at.ensures.found) in
     at_ok _ (c.insert-there_is_room.ensures.succeeds c.requires) c.insert-there_is_room.ensures.ok
-    ∙ put_in _ _ _ c.as_slice-places.ensures c.args.self.now.ascending _ c.place_in-at.ensures.count c.if-not-stands_at.ensures.found
+    ∙ insert_at places_ordered (λ p. p) c.args.place places c.args.self.now.ascending c.as_slice-places.ensures c.as_slice-places.ensures c.place_in-at.ensures.count
+    c.args.place absent
 
 pub invariant_of-self : goal.invariant_of-self
 invariant_of-self c =

@@ -1,11 +1,13 @@
-use Rattle.ksm_tree.proofs.Names.{absent_kept, ap, list_any, none_found, refl, sym, without, without_rises, ◌==◌, ◌∙◌, ◌≡◌}
-use Rattle.ksm_tree.proofs.Numbers.{places_ordered, taken_out}
+use Rattle.ksm_tree.proofs.Names.{absent_kept, ap, list_any, none_found, refl, remove_at, sym, without, without_rises, ◌==◌, ◌∙◌, ◌≡◌}
+use Rattle.ksm_tree.proofs.Numbers.{places_ordered}
 use Rattle.ksm_tree.proofs.places.Places.remove.Goals as goal
 use Rattle.ksm_tree.proofs.places.Places.remove.Goals.{After-remove}
 
 taken : (c : After-remove) → c.remove.new.self.items ≡ without c.args.place c.args.self.now.list.items
 taken c =
-    c.remove.ensures.items ∙ taken_out _ _ _ c.as_slice-places.ensures c.args.self.now.ascending _ c.place_in-at.ensures.count
+    let seen = c.as_slice-places.ensures in
+    c.remove.ensures.items
+    ∙ remove_at places_ordered (λ p. p) c.args.place c.args.self.now.list.items c.args.self.now.ascending seen seen c.place_in-at.ensures.count 0
     (c.if-stands_at.ensures.within refl) (c.if-stands_at.ensures.here refl 0)
 
 pub invariant_of-self : goal.invariant_of-self
