@@ -96,11 +96,6 @@ row_told page held h is = row_found page held ∙ ap (option_map (λ (g : Held).
 pub row_gone : (page : GuestPage) (held : List Held) → held_at page held ≡ None → row_at page (rows_of held) ≡ None
 row_gone page held is = row_found page held ∙ ap (option_map (λ (g : Held). g.row)) is
 
--- an option that is told not to be full is empty
-pub none_known : {X : Type 0} (o : Option X) → false ≡ is_some o → o ≡ None
-none_known None is = refl
-none_known (Some x) is = absurd (true≢false (sym is))
-
 -- a page without a row lies on no frame
 pub lies_nowhere : (of_dup : ℕ → Option ℕ) (held : List Held) (page : GuestPage) → row_at page (rows_of held) ≡ None → lies_at (lodgings_of of_dup held) page ≡ None
 lies_nowhere of_dup held page gone = frame_by of_dup held page ∙ go (held_at page held) (sym (row_found page held) ∙ gone)

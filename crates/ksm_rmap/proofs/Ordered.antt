@@ -8,10 +8,10 @@ use Rattle.std.proofs.Math.Seq.{get_or-append_seam}
 use Rattle.std.proofs.lemmas.Bool.{cases_Bool, cases_lt}
 use Rattle.std.proofs.lemmas.List.{get_or-append_right, get_or_default}
 use Rattle.std.proofs.lemmas.List.Edits.{insert-append_right, remove-append_right}
-use Rattle.std.proofs.lemmas.List.Elements.{All-cons, All-weaker, filter-append, filter_passes}
-use Rattle.std.proofs.lemmas.List.Kept.{AllPairs-cons, AllPairs-filter}
+use Rattle.std.proofs.lemmas.List.Elements.{filter-append, filter_passes}
+use Rattle.std.proofs.lemmas.List.Kept.{AllPairs-filter}
 use Rattle.ksm_base.proofs.Edits.{find_none, find_nothing, find_passes}
-use Rattle.ksm_base.proofs.Orders.{pairs_tail, pairs_append, filter_none}
+use Rattle.ksm_base.proofs.Orders.{pairs_tail, pairs_with, filter_none}
 use Rattle.ksm_base.proofs.RowCounts.{filter_all}
 
 -- a strict order, with the test that tells equal elements
@@ -257,17 +257,10 @@ module _ {X K : Type 0} {before same : K → K → Bool} (order : IsOrder before
     -- a list in order stays in order with an element of the key at its place
     pub with_rises : (x : X) (xs : List X) → key x ≡ q → AllPairs Before xs → AllPairs Before (filter low xs ++ x ∷ filter high xs)
     with_rises x xs at rise =
-        let below = filter low xs in
-        let above = filter high xs in
-        let behind : (z : X) → high z ≡ true → Before x z = λ z h. ap (λ p. before p (key z)) at ∙ h in
-        let all_above : All (Before x) above = All-weaker (λ z. high z ≡ true) (Before x) behind above (filter_passes high xs) in
-        let ahead : (y : X) → low y ≡ true → Before y x = λ y l. ap (before (key y)) at ∙ l in
-        let cross : All (λ y. All (Before y) (x ∷ above)) below =
-        All-weaker (λ y. low y ≡ true) (λ y. All (Before y) (x ∷ above))
-        (λ y l. All-cons (Before y) x above (ahead y l) (All-weaker (λ z. high z ≡ true) (Before y) (λ z h. order.trans (key y) q (key z) l h) above (filter_passes high xs)))
-        below (filter_passes low xs) in
-        pairs_append Before below (x ∷ above) (AllPairs-filter Before low xs rise)
-        (AllPairs-cons Before x above all_above (AllPairs-filter Before high xs rise)) cross
+        pairs_with Before low high x xs rise
+        (λ k d lt. ap (before (key (get_or (filter low xs) k d))) at ∙ filter_passes low xs k d lt)
+        (λ k d lt. ap (λ p. before p (key (get_or (filter high xs) k d))) at ∙ filter_passes high xs k d lt)
+        (λ k d lt j e le. order.trans _ q _ (filter_passes low xs k d lt) (filter_passes high xs j e le))
 
     -- a list in order stays in order without the key
     pub without_rises : (xs : List X) → AllPairs Before xs → AllPairs Before (filter (λ y. not (is_it y)) xs)
