@@ -5,22 +5,18 @@ use Rattle.ksm_pages.proofs.order.Order.remove.Goals as goal
 
 pub overflow_sub-self-in-Some : goal.overflow_sub-self-in-Some
 overflow_sub-self-in-Some c =
-    let items = c.self.inside.runs.items in
-    let all = pages_in items in
-    let rise = c.self.invariant.parts.ascending in
+    let all = pages_in c.self.inside.runs.items in
     let found : find (is_of c.args.page) all ≡ Some c.in-Some.gone = sym c.remove.ensures.was ∙ c.in-Some.is in
     let gone : c.from.result ≡ from_bool c.in-Some.gone.mergeable = c.from.ensures in
-    omega (arith, gone, c.self.invariant.counted, found_counted (λ n. n.page) c.args.page (λ (n : Named). n.mergeable) c.in-Some.gone all rise found)
+    omega (arith, gone, c.self.invariant.counted, found_counted (λ n. n.page) c.args.page (λ (n : Named). n.mergeable) c.in-Some.gone all c.self.invariant.parts.ascending found)
 
 pub invariant_of-self : goal.invariant_of-self
 invariant_of-self c =
-    let items = c.self.inside.runs.items in
-    let all = pages_in items in
-    let rise = c.self.invariant.parts.ascending in
+    let all = pages_in c.self.inside.runs.items in
     let found : find (is_of c.args.page) all ≡ Some c.in-Some.gone = sym c.remove.ensures.was ∙ c.in-Some.is in
     let gone : c.from.result ≡ from_bool c.in-Some.gone.mergeable = c.from.ensures in
-    let exact = removed_count (λ n. n.page) c.args.page (λ (n : Named). n.mergeable) c.in-Some.gone all rise found in
-    let shorter = removed_length (λ n. n.page) c.args.page (λ (n : Named). n.mergeable) c.in-Some.gone all rise found in
+    let exact = removed_count (λ n. n.page) c.args.page (λ (n : Named). n.mergeable) c.in-Some.gone all c.self.invariant.parts.ascending found in
+    let shorter = removed_length (λ n. n.page) c.args.page (λ (n : Named). n.mergeable) c.in-Some.gone all c.self.invariant.parts.ascending found in
     record {
       parts = c.remove.ensures.runs;
       long = let new = ap length c.remove.ensures.removed in omega (arith, new, shorter, c.self.invariant.long);
