@@ -11,12 +11,6 @@ insert-requires c = record {
       ∙ c.requires.absent;
 }
 
-pub returns-in_err-insert-clause-runs : goal.returns-in_err-insert-clause-runs
-returns-in_err-insert-clause-runs c =
-    let runs = c.args.runs.now.items in
-    let same = ap (set runs c.args.at) (c.in_err-insert.ensures.kept ∙ c.index_mut.ensures.value) ∙ set-get_or runs c.args.at c.index_mut.result.now in
-    subst AreRuns (sym same) c.requires.runs
-
 pub returns-clause-runs : goal.returns-clause-runs
 returns-clause-runs c =
     let runs = c.args.runs.now.items in
