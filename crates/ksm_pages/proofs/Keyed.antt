@@ -1,7 +1,7 @@
 -- Lists in the order of their pages: where a page stands or would stand, and what an insert, a removal or a write there leaves.
 use Rattle.ksm_pages.proofs.Names.{[], All, AllPairs, ap, append-nil, append_assoc, ap₂, arith, Bool, both_ways, cases_Bool, cases_lt, comes_before, cond, count_by, count_by-le-length, false, filter, filter-append, filter_all, filter_none, filter_passes, find, find-append, find_none, find_nothing, from_bool, get_or, GuestPage, if◌then◌else◌, inl, inr, IsPartitionedBy, length, length-filter, length-insert, length-remove, List, map, map-append, None, not, not-true, Option, option_or, pages_ordered, pairs_tail, refl, remove, same_page, set, set-append_seam, slice_get, Some, suc, sum_by-insert, sum_by-remove, sum_by-set, sym, true, ℕ, ◌++◌, ◌+◌, ◌-◌, ◌<◌, ◌∙◌, ◌∷◌, ◌≡◌, ◌≤◌}
 use Rattle.ksm_rmap.proofs.Ordered.{behind_rest, found_at, found_parts, found_place, insert_at, none_same, none_same_low, remove_at}
-use Rattle.ksm_pages.proofs.Alike.{pairs_mapped}
+use Rattle.ksm_tree.proofs.Alike.{pairs_mapped}
 
 or_none : {X : Type 0} (found : Option X) → option_or found None ≡ found
 or_none None = refl

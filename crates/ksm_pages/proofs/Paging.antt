@@ -7,7 +7,7 @@ use Rattle.ksm_tree.proofs.Changes.{row_found as dup_row_found}
 use Rattle.ksm_pages.specs.declared.row.Kind.TheVariants as kinds
 use Rattle.ksm_pages.specs.Held.{frame_of}
 use Rattle.ksm_pages.specs.Paged.{ComesTo, frame_of as lies_at, is_restless}
-use Rattle.ksm_pages.proofs.Alike.{filter_mapped}
+use Rattle.ksm_tree.proofs.Alike.{filter_mapped}
 use Rattle.ksm_pages.proofs.Changing.{row_found}
 use Rattle.ksm_pages.proofs.Found.{each_found}
 use Rattle.ksm_pages.proofs.Gathering.{framed, own_either}

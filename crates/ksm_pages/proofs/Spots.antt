@@ -1,7 +1,7 @@
 -- Spots in the order of their pages: the pages of them, once one was put in, written or taken away.
 use Rattle.ksm_pages.proofs.Names.{[], and_parts, ap, ap₂, AreInOrder, arith, Bool, cases_Bool, comes_before, cond, Entry, filter, find, find_filter, find_passes, get, get_or, GuestPage, has_item, if◌then◌else◌, inl, inr, is_restless, is_some, is_useless, IsCalm, length, length-map, List, map, map-append, None, not, not-true, Option, pages_of, pages_ordered, refl, same_page, same_page_eq, Slab, Some, Spot, subst, sym, true, true≢false, with_found, with_item, ◌++◌, ◌∙◌, ◌∷◌, ◌≡◌, ◌⊎◌}
 use Rattle.ksm_rmap.specs.Items.{AreAscending}
-use Rattle.ksm_pages.proofs.Alike.{filter_mapped, map_mapped, pairs_mapped}
+use Rattle.ksm_tree.proofs.Alike.{filter_mapped, map_mapped, pairs_mapped}
 use Rattle.ksm_rmap.proofs.Ordered.{with_rises}
 
 -- the page of a spot

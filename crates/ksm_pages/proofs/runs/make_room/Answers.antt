@@ -1,4 +1,4 @@
-use Rattle.ksm_pages.proofs.Names.{[], ap, AreRuns, begins_behind, false, get_or, get_or_default, IsRunOf, length, pages_in, subst, sym, true, ◌+◌, ◌<◌, ◌∙◌, ◌≡◌}
+use Rattle.ksm_pages.proofs.Names.{[], ap, AreRuns, begins_behind, get_or, get_or_default, IsRunOf, length, pages_in, subst, sym, ◌+◌, ◌<◌, ◌∙◌, ◌≡◌}
 use Rattle.ksm_pages.proofs.Cuts.{cut_are_runs, cut_pages, cut_runs, first_room, into_first, into_second, second_room}
 use Rattle.ksm_pages.proofs.runs.make_room.Goals as goal
 use Rattle.ksm_pages.proofs.runs.make_room.Goals.{After-begins_behind-behind}

@@ -1,4 +1,4 @@
-use Rattle.ksm_pages.proofs.Names.{[], ap, AreRuns, find, get_or_default, is_of, length, pages_in, refl, set, set-get_or, subst, sym, with_named, ◌<◌, ◌∙◌}
+use Rattle.ksm_pages.proofs.Names.{[], ap, AreRuns, find, get_or_default, is_of, length, pages_in, refl, set, subst, sym, with_named, ◌<◌, ◌∙◌}
 use Rattle.ksm_pages.proofs.Cuts.{put_are_runs}
 use Rattle.ksm_pages.proofs.Placed.{find_in_run, put_in_run}
 use Rattle.ksm_pages.proofs.runs.put_in.Goals as goal

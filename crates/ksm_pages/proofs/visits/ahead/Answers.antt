@@ -1,4 +1,4 @@
-use Rattle.ksm_pages.proofs.Names.{[], ahead_of, ap, arith, At, comes_before, ComesTo, drop, End, filter, get_or, length, length-filter, min, Named, not, pages_in, Some, subst, sym, take_rest, visited, ◌++◌, ◌+◌, ◌-◌, ◌<◌, ◌^◌, ◌∙◌, ◌≡◌}
+use Rattle.ksm_pages.proofs.Names.{[], ahead_of, ap, arith, comes_before, ComesTo, drop, filter, get_or, length, length-filter, min, Named, not, pages_in, Some, subst, sym, take_rest, visited, ◌++◌, ◌+◌, ◌-◌, ◌<◌, ◌^◌, ◌∙◌, ◌≡◌}
 use Rattle.ksm_pages.proofs.Coming.{count_rest, less_by, passed_comes, visited_from}
 use Rattle.ksm_pages.proofs.visits.ahead.Goals as goal
 use Rattle.ksm_pages.proofs.visits.ahead.Goals.{After-ahead_from}

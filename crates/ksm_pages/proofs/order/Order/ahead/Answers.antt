@@ -1,4 +1,4 @@
-use Rattle.ksm_pages.proofs.Names.{ahead_of, ap, arith, count_by, length, length-filter, Named, pages_in, sym, visited, ◌∙◌}
+use Rattle.ksm_pages.proofs.Names.{ahead_of, ap, length, length-filter, Named, pages_in, sym, visited, ◌∙◌}
 use Rattle.ksm_pages.proofs.Coming.{ahead_of_none}
 use Rattle.ksm_pages.proofs.order.Order.ahead.Goals as goal
 

@@ -1,4 +1,4 @@
-use Rattle.ksm_pages.proofs.Names.{ap, Bool, comes_before, count_by, filter, length, Named, pages_ordered, sym, take, visited, ◌∙◌, ◌≡◌}
+use Rattle.ksm_pages.proofs.Names.{ap, comes_before, length, Named, pages_ordered, sym, ◌∙◌}
 use Rattle.ksm_pages.proofs.Counts.{all_to_place, read_to_place}
 use Rattle.ksm_rmap.proofs.Ordered.{parted}
 use Rattle.ksm_pages.proofs.run.Run.visited_before.Goals as goal

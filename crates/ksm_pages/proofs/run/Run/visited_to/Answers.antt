@@ -1,4 +1,4 @@
-use Rattle.ksm_pages.proofs.Names.{ap, Bool, comes_before, count_by, filter, length, Named, not, sym, take, visited, ◌∙◌, ◌≡◌}
+use Rattle.ksm_pages.proofs.Names.{ap, comes_before, length, Named, not, sym, ◌∙◌}
 use Rattle.ksm_pages.proofs.Counts.{all_to_place, read_to_place}
 use Rattle.ksm_pages.proofs.Keyed.{parted_behind}
 use Rattle.ksm_pages.proofs.run.Run.visited_to.Goals as goal

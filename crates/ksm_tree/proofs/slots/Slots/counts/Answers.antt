@@ -1,4 +1,4 @@
-use Rattle.ksm_tree.proofs.Names.{ap, count_in, dup_at, get_or, items_in, length, length-map, ◌∙◌}
+use Rattle.ksm_tree.proofs.Names.{ap, dup_at, get_or, items_in, length, ◌∙◌}
 use Rattle.ksm_tree.proofs.OneSlot.{count_read}
 use Rattle.ksm_tree.proofs.slots.Slots.counts.Goals as goal
 
