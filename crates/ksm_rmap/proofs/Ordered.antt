@@ -200,7 +200,7 @@ module _ {X K : Type 0} {before same : K → K → Bool} (order : IsOrder before
         ∙ ap (λ i. is_it (get_or (filter high xs) i d)) none
         ∙ none_same (filter high xs) (filter_passes high xs) 0 d some
 
-    -- what a search for the key tells that ended at n: in a list that is read as xs, so many come before the key, and the list is read again
+    -- a search for the key in a list ended at n, behind so many that come before the key; s and t are that list as it was read, once and again
     module _ (xs : List X) (rise : AllPairs Before xs) {s t : List X} (read : s ≡ xs) (again : t ≡ xs) {n : ℕ} (count : n ≡ place s) where
       counted : n ≡ place xs
       counted = count ∙ ap place read
