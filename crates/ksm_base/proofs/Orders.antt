@@ -29,6 +29,13 @@ pairs_append R (x ∷ xs) ys first second cross =
     AllPairs-cons R x (xs ++ ys) (All-append (R x) xs ys (pairs_head R x xs first) (All-head (λ y. All (R y) ys) x xs cross))
     (pairs_append R xs ys (pairs_tail R x xs first) second (All-tail (λ y. All (R y) ys) x xs cross))
 
+-- an element put between those of a list in order that come before it and those that come behind it leaves a list in order
+pub pairs_with : {X : Type 0} (R : X → X → Type 0) (p q : X → Bool) (x : X) (xs : List X) → AllPairs R xs → All (λ y. R y x) (filter p xs)
+    → All (R x) (filter q xs) → All (λ y. All (R y) (filter q xs)) (filter p xs) → AllPairs R (filter p xs ++ x ∷ filter q xs)
+pairs_with R p q x xs rise ahead behind cross =
+    pairs_append R (filter p xs) (x ∷ filter q xs) (AllPairs-filter R p xs rise) (AllPairs-cons R x (filter q xs) behind (AllPairs-filter R q xs rise))
+    (λ k d lt. All-cons (R (get_or (filter p xs) k d)) x (filter q xs) (ahead k d lt) (cross k d lt))
+
 all_right : {X : Type 0} (P : X → Type 0) (xs ys : List X) → All P (xs ++ ys) → All P ys
 all_right P [] ys h = h
 all_right P (x ∷ xs) ys h = all_right P xs ys (All-tail P x (xs ++ ys) h)
@@ -73,12 +80,9 @@ ordered_with row rows rise =
     let first : Row → Bool = λ r. comes_before r.page row.page in
     let last : Row → Bool = λ r. comes_before row.page r.page in
     let behind : All (Before row) (filter last rows) = filter_passes last rows in
-    let cross : All (λ x. All (Before x) (row ∷ filter last rows)) (filter first rows) =
-    All-weaker (λ x. Before x row) (λ x. All (Before x) (row ∷ filter last rows))
-    (λ x h. All-cons (Before x) row (filter last rows) h (All-weaker (Before row) (Before x) (λ s later. before_trans x.page row.page s.page h later) (filter last rows) behind))
-    (filter first rows) (filter_passes first rows) in
-    pairs_append Before (filter first rows) (row ∷ filter last rows) (AllPairs-filter Before first rows rise)
-    (AllPairs-cons Before row (filter last rows) behind (AllPairs-filter Before last rows rise)) cross
+    pairs_with Before first last row rows rise (filter_passes first rows) behind
+    (λ k d lt. let x = get_or (filter first rows) k d in
+    All-weaker (Before row) (Before x) (λ s later. before_trans x.page row.page s.page (filter_passes first rows k d lt) later) (filter last rows) behind)
 
 -- where none of two in order is the same as the other, those that are the same are one
 pub one_of_each : {X : Type 0} (R : X → X → Type 0) (same : X → X → Bool) (xs : List X) → ((x y : X) → R x y → same x y ≡ false)
@@ -122,10 +126,12 @@ ordered_filter p dups rise = AllPairs-filter Lower p dups rise
 
 -- dups below a place, above it, and apart from it
 module _ (place : ℕ) where
-  abbrev below : DupRow → Bool
+  -- a dup below the place
+  abbrev pub below : DupRow → Bool
   below d = nat_lt d.place place
 
-  abbrev above : DupRow → Bool
+  -- a dup above the place
+  abbrev pub above : DupRow → Bool
   above d = nat_lt place d.place
 
   -- a dup that does not stand at the place
@@ -153,15 +159,12 @@ dups_with dup ds rise fresh =
     let higher = filter (above dup.place) ds in
     let fresh_lower = All-filter (below dup.place) F ds fresh in
     let fresh_higher = All-filter (above dup.place) F ds fresh in
-    let is_lower = filter_passes (below dup.place) ds in
-    let is_higher = filter_passes (above dup.place) ds in
-    let behind_dup : All (Lower dup) higher = λ k d lt. (ltb-true dup.place (get_or higher k d).place (is_higher k d lt), ne_eqb dup.number (get_or higher k d).number (λ e. omega (arith, fresh_higher k d lt, e))) in
-    let cross : All (λ x. All (Lower x) higher) lower = pairs_cross Lower lower higher (rw (← dups_parted dup.place ds rise) (AllPairs-filter Lower (elsewhere dup.place) ds rise)) in
-    pairs_append Lower lower (dup ∷ higher) (AllPairs-filter Lower (below dup.place) ds rise) (AllPairs-cons Lower dup higher behind_dup (AllPairs-filter Lower (above dup.place) ds rise))
-    (λ k d lt.
-    let x = get_or lower k d in
-    let first : x.place < dup.place = ltb-true x.place dup.place (is_lower k d lt) in
-    All-cons (Lower x) dup higher (first, ne_eqb x.number dup.number (λ e. omega (arith, fresh_lower k d lt, e))) (cross k d lt))
+    pairs_with Lower (below dup.place) (above dup.place) dup ds rise
+    (λ k d lt. let x = get_or lower k d in
+    (ltb-true x.place dup.place (filter_passes (below dup.place) ds k d lt), ne_eqb x.number dup.number (λ e. omega (arith, fresh_lower k d lt, e))))
+    (λ k d lt. let y = get_or higher k d in
+    (ltb-true dup.place y.place (filter_passes (above dup.place) ds k d lt), ne_eqb dup.number y.number (λ e. omega (arith, fresh_higher k d lt, e))))
+    (pairs_cross Lower lower higher (rw (← dups_parted dup.place ds rise) (AllPairs-filter Lower (elsewhere dup.place) ds rise)))
 
 -- what holds of a new dup and of the others holds once the dup is among them
 pub all_with_dup : (P : DupRow → Type 0) (dup : DupRow) (ds : List DupRow) → P dup → All P ds → All P (with_dup dup ds)

@@ -1,26 +1,13 @@
 -- What a sound book's counts and searches tell.
-use Rattle.std.proofs.Common.{◌≡◌, ℕ, ◌+◌, Bool, true, false, List, get_or, Some, None, inl, inr, refl, sym, ◌∙◌, arith}
-use Rattle.std.specs.Prelude.{◌==◌, nat_lt, All, not}
-use Rattle.std.proofs.lemmas.Bool.{cases_Bool, both_ways, eqb-true, eq-eqb}
-use Rattle.std.proofs.lemmas.Bool.Decides.{nat_tests}
-use Rattle.ksm_base.specs.declared.page.GuestPage.{GuestPage}
+use Rattle.std.proofs.Common.{◌≡◌, ℕ, ◌+◌, Bool, true, false, List, Some, refl, arith}
+use Rattle.std.specs.Prelude.{◌==◌}
+use Rattle.std.proofs.lemmas.Bool.{eq-eqb}
 use Rattle.ksm_base.specs.declared.row.PageState.{PageState}
 use Rattle.ksm_base.specs.declared.row.PageState.TheVariants.{Private, Waiting, Merged, Zero}
 use Rattle.ksm_base.specs.declared.row.Row.{Row}
 use Rattle.ksm_base.specs.declared.row.DupRow.{DupRow}
-use Rattle.ksm_base.specs.declared.command.Command.TheVariants.{SetAcross, SetLimit}
-use Rattle.ksm_base.specs.declared.fault.Fault.TheVariants.{SharedPages, BadValue}
-use Rattle.ksm_base.specs.Rows.{same_page, row_at, InPageOrder, waiting_state, merged_state, merged_into, item_count, is_stale, has_items, change_row}
-use Rattle.ksm_base.specs.State.{BookState}
-use Rattle.ksm_base.specs.Visit.{waits_for, partner}
-use Rattle.ksm_base.specs.Counting.{shared_count}
-use Rattle.ksm_base.specs.Refusals.{is_within, changes_while_shared, refusal}
-use Rattle.ksm_base.specs.Sound.{IsSound}
-use Rattle.ksm_base.proofs.Edits.{find_none, find_passes, find_all, none_counted}
-use Rattle.ksm_base.proofs.Orders.{one_of_each_page}
+use Rattle.ksm_base.specs.Rows.{row_at, InPageOrder, merged_state, merged_into, item_count, change_row}
 use Rattle.ksm_base.proofs.RowCounts.{count_change_row}
-use Rattle.ksm_base.proofs.SoundPair.{waits_tells, tells_waits}
-use Rattle.ksm_base.proofs.SoundKnobs.{refused_none, none_shared}
 
 -- a row that is not merged is an item of no dup
 pub not_an_item : (number : ℕ) (state : PageState) → merged_state state ≡ false → merged_into number state ≡ false

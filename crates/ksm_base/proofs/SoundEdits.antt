@@ -1,7 +1,7 @@
 -- Edits that keep a book sound: rows that become private, a row more or less, stale dups dropped.
 use Rattle.std.proofs.Common.{◌≡◌, ℕ, ◌<◌, ◌≤◌, Bool, true, false, List, [], ◌∷◌, get_or, map, None, refl, sym, ◌∙◌, inl, inr, arith, Option, ◌^◌}
 use Rattle.std.specs.Prelude.{◌==◌, All, filter, if◌then◌else◌}
-use Rattle.std.proofs.lemmas.Bool.{cases_Bool, cond_both, both_ways, true≢false, false≢true, eqb-true, eq-eqb, lt-ltb}
+use Rattle.std.proofs.lemmas.Bool.{cases_Bool, cond_both, true≢false, false≢true, eqb-true, eq-eqb, lt-ltb}
 use Rattle.std.proofs.lemmas.List.Elements.{All-map, All-filter}
 use Rattle.std.proofs.lemmas.List.Kept.{AllPairs-filter}
 use Rattle.ksm_base.specs.declared.page.GuestPage.{GuestPage}
@@ -15,7 +15,7 @@ use Rattle.ksm_base.specs.State.{BookState, without_stale}
 use Rattle.ksm_base.specs.Visit.{waits_for, partner}
 use Rattle.ksm_base.specs.Counting.{shared_count}
 use Rattle.ksm_base.specs.Sound.{IsDupOf, IsSound}
-use Rattle.ksm_base.proofs.Edits.{find_none, find_nothing, find_passes, find_filter, count_more, count-append, counts_one, none_counted, find_all, count_filter_le, count_filters_le, count_map_le}
+use Rattle.ksm_base.proofs.Edits.{find_none, find_nothing, find_passes, find_filter, count_more, count-append, counts_one, none_counted, count_filter_le, count_filters_le, count_map_le}
 use Rattle.ksm_base.proofs.Orders.{ordered_map, ordered_with, ordered_filter, filter_none, all_with_row}
 use Rattle.ksm_base.proofs.Pages.{not_both}
 

@@ -1,5 +1,5 @@
 -- Every step keeps a book sound.
-use Rattle.std.proofs.Common.{◌≡◌, ℕ, ◌<◌, true, List, [], ◌∷◌, Some, None, Option, Ok, Err, refl, sym, subst, arith}
+use Rattle.std.proofs.Common.{◌≡◌, ℕ, ◌<◌, true, List, [], ◌∷◌, Some, None, Option, Ok, Err, refl, arith}
 use Rattle.std.specs.Prelude.{◌==◌, ◌&&◌, nat_le, slice_get, not}
 use Rattle.std.proofs.lemmas.Bool.{cond_both, leb-false}
 use Rattle.ksm_base.specs.declared.row.PageState.TheVariants.{Private}
@@ -18,7 +18,7 @@ use Rattle.ksm_base.specs.Visit.{visits}
 use Rattle.ksm_base.specs.Refusals.{refusal, is_of}
 use Rattle.ksm_base.specs.Answers.{Answer, IsAnswerUnless, shared_rows}
 use Rattle.ksm_base.specs.Apply.{IsAnswerOrMemory, effect, after, fresh_row, stored, moved, let_go, is_before}
-use Rattle.ksm_base.specs.Journal.{Entry, replay, AreAnswers, IsLegal}
+use Rattle.ksm_base.specs.Journal.{Entry, replay, AreAnswers}
 use Rattle.ksm_base.specs.Sound.{IsSound}
 use Rattle.ksm_base.proofs.SoundEdits.{IsCalmer, stays_calm, becomes_private, sound_filtered, sound_with_row, sound_changed, sound_without_stale}
 use Rattle.ksm_base.proofs.SoundScan.{sound_visits, sound_scan_stopped}

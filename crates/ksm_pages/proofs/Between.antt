@@ -1,6 +1,6 @@
 -- A list in order that is cut in three, what comes before a page, the run in which it is or would be, and what comes behind: only the run matters.
 use Rattle.ksm_pages.proofs.Names.{[], All, All-cons, All-tail, AllPairs, ap, AreAscending, arith, begins_behind, Bool, cases_Bool, comes_before, false, get_or, get_or-append_seam, get_or_append_left, GuestPage, inl, inr, IsPartitionedBy, length, length-append, List, Named, not, pages_in, pages_ordered, pairs_head, pairs_tail, refl, same_page, subst, suc, sym, true, true≢false, zero, ℕ, ◌++◌, ◌<◌, ◌∙◌, ◌∷◌, ◌≡◌, ◌≢◌}
-use Rattle.ksm_pages.proofs.Keyed.{behind_rest}
+use Rattle.ksm_rmap.proofs.Ordered.{behind_rest}
 
 module _ {X : Type 0} (key : X → GuestPage) (page : GuestPage) where
   abbrev Before : X → X → Type 0
@@ -14,7 +14,7 @@ module _ {X : Type 0} (key : X → GuestPage) (page : GuestPage) where
 
   -- where the first element of a list in order is behind the page, all elements are
   pub behind_first : (y : X) (ys : List X) → AllPairs Before (y ∷ ys) → high y ≡ true → All (λ z. high z ≡ true) (y ∷ ys)
-  behind_first y ys rise here = All-cons (λ z. high z ≡ true) y ys here (behind_rest key page y ys rise here)
+  behind_first y ys rise here = All-cons (λ z. high z ≡ true) y ys here (behind_rest pages_ordered key page y ys rise here)
 
   -- in a list in order, all that stand before an element not behind the page come before the page
   pub before_last : (xs : List X) (y : X) (ys : List X) → AllPairs Before (xs ++ y ∷ ys) → high y ≡ false → All (λ z. low z ≡ true) xs

@@ -1,6 +1,6 @@
 -- The rows of what is held, once that of one page came, went or changed.
 use Rattle.ksm_pages.proofs.Names.{[], ap, ap₂, arith, Bool, cases_Bool, change_held, change_row, comes_before, cond, Entry, filter, get, get_or, GuestPage, Held, held_at, held_in, held_under, holds, if◌then◌else◌, inl, inr, is_of, List, map-append, marked, Named, None, not, option_map, refl, Row, row_at, rows_of, same_page, Slab, Some, sym, with_held, with_row, without_held, without_page, ℕ, ◌++◌, ◌∙◌, ◌∷◌, ◌≡◌}
-use Rattle.ksm_pages.proofs.Alike.{filter_mapped, find_mapped, map_mapped}
+use Rattle.ksm_tree.proofs.Alike.{filter_mapped, find_mapped, map_mapped}
 
 -- where a change of what is held changes its row by g, the rows have g at the row of the page
 pub rows_changed : (page : GuestPage) (f : Held → Held) (g : Row → Row) (held : List Held) → ((h : Held) → (f h).row ≡ g h.row) → rows_of (change_held page f held) ≡ change_row page g (rows_of held)

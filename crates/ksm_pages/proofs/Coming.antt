@@ -1,8 +1,8 @@
 -- What so many visits come to, counted run by run.
-use Rattle.ksm_pages.proofs.Names.{[], after_cursor, ahead_of, All, All-filter, AllPairs-filter, ap, append_assoc, ap₂, AreAscending, AreRuns, arith, At, Bool, both_ways, cases_Bool, cases_lt, comes_before, ComesTo, cond_above, cond_below, count-append, count_by, count_by-le-length, count_none, drop, drop_more, End, false, filter, filter-append, filter_all, filter_none, flat_map-append, get_or, GuestPage, if◌then◌else◌, inl, inr, IsRunOf, le-ltb, length, length-append, length-filter, List, lt-ltb, ltb-false, ltb-true, min, Named, nat_lt, nil_from_length, None, none-some, not, Option, option_map, option_or, page_at, pages_in, pages_ordered, pairs_head, pairs_tail, passed_to, refl, slice_get_past, Some, subst, suc, sym, take, take-append-drop, take_all, true, visited, zero, ℕ, ◌++◌, ◌+◌, ◌-◌, ◌<◌, ◌^◌, ◌∙◌, ◌∷◌, ◌≡◌, ◌≢◌, ◌≤◌}
+use Rattle.ksm_pages.proofs.Names.{[], after_cursor, Ahead, ahead_of, All, All-filter, AllPairs-filter, ap, append_assoc, ap₂, AreAscending, AreRuns, arith, At, Bool, both_ways, cases_Bool, cases_lt, comes_before, ComesTo, cond_above, cond_below, count-append, count_by, count_by-le-length, count_none, drop, drop_more, End, false, filter, filter-append, filter_all, filter_none, flat_map-append, get_or, GuestPage, inl, inr, IsRunOf, le-ltb, length, length-append, length-filter, List, lt-ltb, ltb-false, ltb-true, min, Named, nat_lt, nil_from_length, None, none-some, not, Option, option_map, option_or, page_at, pages_in, pages_ordered, pairs_head, pairs_tail, passed_to, refl, slice_get_past, Some, subst, suc, sym, take, take-append-drop, take_all, true, visited, zero, ℕ, if◌then◌else◌, ◌++◌, ◌+◌, ◌-◌, ◌<◌, ◌^◌, ◌∙◌, ◌∷◌, ◌≡◌, ◌≢◌, ◌≤◌}
 use Rattle.ksm_pages.specs.Ordered.{last_or}
 use Rattle.ksm_pages.proofs.Counts.{filter_both, take_parted}
-use Rattle.ksm_pages.proofs.Keyed.{behind_rest, parted}
+use Rattle.ksm_rmap.proofs.Ordered.{behind_rest, parted}
 use Rattle.ksm_pages.proofs.Placed.{pages_cut, run_rises}
 
 abbrev before : Named → Named → Type 0
@@ -52,17 +52,19 @@ module _ (front run behind : List Named) (visits left : ℕ) (counted : visits �
   ends_at none = (omega (arith, length-append front (run ++ behind), length-append run behind), omega arith)
 
 -- where pages that were passed stand before those ahead, that many visits more come to the same
+-- what visits come to, with so many taken off those made
+abbrev pub less_by : ℕ → Ahead → Ahead
+less_by n (At page) = At page
+less_by n (End made) = End (made - n)
+
 module _ (passed ahead : List Named) (visits total : ℕ) (some : 1 ≤ visits) (few : length (passed ++ ahead) < 2 ^ 64) (sum : total ≡ min (visits + length passed) (2 ^ 64 - 1)) where
-  -- where the passed visits and so many more come to a page of all, so many come to that page ahead
-  pub passed_at : (page : GuestPage) → ComesTo (passed ++ ahead) total (At page) → ComesTo ahead visits (At page)
-  passed_at page comes =
+  -- what the passed visits and so many more come to of all is what so many come to ahead, with the passed ones taken off the visits made
+  pub passed_comes : (ahead_of_all : Ahead) → ComesTo (passed ++ ahead) total ahead_of_all → ComesTo ahead visits (less_by (length passed) ahead_of_all)
+  passed_comes (At page) comes =
       let both = length-append passed ahead in
       let exact : total ≡ visits + length passed = omega (arith, comes.0, few, sum) in
       (omega (arith, both, exact, comes.0), sym (page_behind passed ahead (total - 1) (visits - 1) (omega (arith, exact))) ∙ comes.1)
-
-  -- where the passed visits and so many more end the pass of all, so many end the pass ahead, less by those passed
-  pub passed_end : (made : ℕ) → ComesTo (passed ++ ahead) total (End made) → ComesTo ahead visits (End (made - length passed))
-  passed_end made comes =
+  passed_comes (End made) comes =
       let both = length-append passed ahead in
       (omega (arith, both, comes.0), omega (arith, sum, comes.1))
 
@@ -72,7 +74,7 @@ split_at_page page [] rise = refl
 split_at_page page (x ∷ xs) rise =
     elim (cases_Bool (comes_before page x.page)) [
       | inl first ↦
-          let behind = behind_rest (λ n. n.page) page x xs rise first in
+          let behind = behind_rest pages_ordered (λ n. n.page) page x xs rise first in
           let none : filter (λ n. not (comes_before page n.page)) xs ≡ [] = filter_none (λ n. not (comes_before page n.page)) xs (λ k d lt. ap not (behind k d lt)) in
           let all : filter (λ n. comes_before page n.page) xs ≡ xs = filter_all (λ n. comes_before page n.page) xs behind in
           grind (arith, first, none, all)
@@ -294,7 +296,7 @@ module _ (page : GuestPage) where
       → page_at (passed ++ ahead) (length (filter low (passed ++ ahead)) - 1) ≡ page_at (filter low ahead) (length (filter low ahead) - 1)
   last_low [] ahead rise more =
       let n = length (filter low ahead) in
-      sym (first_pages ahead n (omega arith)) ∙ ap (λ front. page_at front (n - 1)) (take_parted low ahead (parted (λ n. n.page) page ahead rise))
+      sym (first_pages ahead n (omega arith)) ∙ ap (λ front. page_at front (n - 1)) (take_parted low ahead (parted pages_ordered (λ n. n.page) page ahead rise))
   last_low (x ∷ xs) ahead rise more =
       elim (cases_Bool (low x)) [
         | inl passes ↦

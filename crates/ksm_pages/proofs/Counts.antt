@@ -81,7 +81,7 @@ module _ {X : Type 0} (q : X → Bool) where
 
 module _ {X : Type 0} (p q : X → Bool) (xs : List X) where
   -- where those that pass q stand first, p counts among them what q counts of what p keeps
-  pub counted_to_place : IsPartitionedBy q xs → count_by p (take (length (filter q xs)) xs) ≡ count_by q (filter p xs)
+  counted_to_place : IsPartitionedBy q xs → count_by p (take (length (filter q xs)) xs) ≡ count_by q (filter p xs)
   counted_to_place split = ap (count_by p) (take_parted q xs split) ∙ count_swapped p q xs
 
   -- where p counts all elements of a list, p keeps the whole list
@@ -89,5 +89,17 @@ module _ {X : Type 0} (p q : X → Bool) (xs : List X) where
   kept_whole all = filter_all p xs (all_pass p xs all)
 
   -- where p counts all elements of a list, q keeps as many as q counts of what p keeps
-  pub counted_if_all : count_by p xs ≡ length xs → length (filter q xs) ≡ count_by q (filter p xs)
+  counted_if_all : count_by p xs ≡ length xs → length (filter q xs) ≡ count_by q (filter p xs)
   counted_if_all all = length-filter q xs ∙ ap (count_by q) (sym (kept_whole all))
+
+-- where a list is read as xs, which is seen as ys, the place behind those that pass q tells how many that p keeps pass q
+module _ {X : Type 0} (p q : X → Bool) {s xs ys : List X} (read : s ≡ xs) (seen : xs ≡ ys) {n : ℕ} (count : n ≡ length (filter q s)) where
+  -- where p counts all elements, the place is that number
+  pub all_to_place : count_by p xs ≡ length xs → n ≡ count_by q (filter p ys)
+  all_to_place all = count ∙ ap (λ zs. length (filter q zs)) read ∙ counted_if_all p q xs all ∙ ap (λ zs. count_by q (filter p zs)) seen
+
+  -- where those that pass q stand first, p counts that number in front of the place
+  pub read_to_place : IsPartitionedBy q xs → count_by p (take n s) ≡ count_by q (filter p ys)
+  read_to_place split =
+      ap (λ k. count_by p (take k s)) count ∙ ap (λ zs. count_by p (take (length (filter q zs)) zs)) read
+      ∙ counted_to_place p q xs split ∙ ap (λ zs. count_by q (filter p zs)) seen

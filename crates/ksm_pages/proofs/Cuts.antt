@@ -1,6 +1,7 @@
 -- A run that comes in, is cut in two, or goes: what that is for all pages.
-use Rattle.ksm_pages.proofs.Names.{[], add-one, All, All-append, All-cons, All-drop, All-take, ap, append_assoc, ap₂, AreAscending, AreRuns, arith, begins_behind, Bool, count_by-le-length, drop, drop-set-lt, drop_at, false, find, flat_map-append, get_or, get_or_at, GuestPage, if◌then◌else◌, insert, is_of, IsRunOf, length, length-append, length-drop, length-filter, length-map, length-take-le, List, marked, Named, nil_from_length, None, not, pages_in, refl, remove, set, subst, sym, take, take-append-drop, take-set, take_at, true, with_named, without_named, ℕ, ◌++◌, ◌+◌, ◌<◌, ◌∙◌, ◌∷◌, ◌≡◌, ◌≢◌, ◌≤◌}
-use Rattle.ksm_pages.proofs.Keyed.{length_with, with_between, with_rises, without_rises, write_rises}
+use Rattle.ksm_pages.proofs.Names.{[], add-one, All, All-append, All-cons, All-drop, All-take, ap, append_assoc, ap₂, AreAscending, AreRuns, arith, begins_behind, Bool, count_by-le-length, drop, drop-set-lt, drop_at, false, find, flat_map-append, get_or, get_or_at, GuestPage, if◌then◌else◌, insert, is_of, IsRunOf, length, length-append, length-drop, length-filter, length-map, length-take-le, List, marked, Named, nil_from_length, None, not, pages_in, pages_ordered, refl, remove, set, subst, sym, take, take-append-drop, take-set, take_at, true, with_named, without_named, ℕ, ◌++◌, ◌+◌, ◌<◌, ◌∙◌, ◌∷◌, ◌≡◌, ◌≢◌, ◌≤◌}
+use Rattle.ksm_pages.proofs.Keyed.{length_with, with_between, write_rises}
+use Rattle.ksm_rmap.proofs.Ordered.{with_rises, without_rises}
 use Rattle.ksm_pages.proofs.Placed.{ahead_of_run, behind_run, find_in_run, high, low, mark_in_run, pages_cut, pages_set, put_in_run, remove_in_run, run_rises, runs_set}
 
 -- a list that is not empty
@@ -29,7 +30,7 @@ module _ (runs : List (List Named)) (at : ℕ) (named : Named) (parts : AreRuns 
         (All-cons (λ r. r ≢ []) (named ∷ []) (drop at runs) (filled_by (named ∷ []) (omega arith)) (All-drop (λ r. r ≢ []) at runs parts.filled));
     short = All-append (λ r. length r ≤ 256) (take at runs) ((named ∷ []) ∷ drop at runs) (All-take (λ r. length r ≤ 256) at runs parts.short)
         (All-cons (λ r. length r ≤ 256) (named ∷ []) (drop at runs) (omega arith) (All-drop (λ r. length r ≤ 256) at runs parts.short));
-    ascending = subst AreAscending (sym begun_pages) (with_rises (λ n. n.page) named.page named (pages_in runs) refl parts.ascending);
+    ascending = subst AreAscending (sym begun_pages) (with_rises pages_ordered (λ n. n.page) named.page named (pages_in runs) refl parts.ascending);
   }
 
 -- a run is cut in two
@@ -123,7 +124,7 @@ module _ (page : GuestPage) (runs : List (List Named)) (at : ℕ) (d : List Name
   left = without_named page (get_or runs at d)
 
   left_rises : AreAscending (pages_in (set runs at left))
-  left_rises = subst AreAscending (sym (remove_in_run page runs at d place within)) (without_rises (λ n. n.page) page (pages_in runs) parts.ascending)
+  left_rises = subst AreAscending (sym (remove_in_run page runs at d place within)) (without_rises pages_ordered (λ n. n.page) page (pages_in runs) parts.ascending)
 
   -- the runs stay runs without a page whose run has other pages
   pub left_are_runs : 0 < length left → AreRuns (set runs at left)
@@ -149,7 +150,7 @@ module _ (page : GuestPage) (runs : List (List Named)) (at : ℕ) (d : List Name
   gone_are_runs none = record {
     filled = subst (All (λ r. r ≢ [])) (sym gone) (All-append (λ r. r ≢ []) (take at runs) (drop (at + 1) runs) (All-take (λ r. r ≢ []) at runs parts.filled) (All-drop (λ r. r ≢ []) (at + 1) runs parts.filled));
     short = subst (All (λ r. length r ≤ 256)) (sym gone) (All-append (λ r. length r ≤ 256) (take at runs) (drop (at + 1) runs) (All-take (λ r. length r ≤ 256) at runs parts.short) (All-drop (λ r. length r ≤ 256) (at + 1) runs parts.short));
-    ascending = subst AreAscending (sym (gone_pages none)) (without_rises (λ n. n.page) page (pages_in runs) parts.ascending);
+    ascending = subst AreAscending (sym (gone_pages none)) (without_rises pages_ordered (λ n. n.page) page (pages_in runs) parts.ascending);
   }
 
 -- the runs stay runs where a page is marked in its run
@@ -168,6 +169,7 @@ pub put_are_runs : (runs : List (List Named)) (at : ℕ) (d : List Named) (named
 put_are_runs runs at d named parts place within room absent =
     let run = get_or runs at d in
     let absent_here : find (is_of named.page) run ≡ None = sym (find_in_run named.page runs at d place within) ∙ absent in
-    let more = length_with (λ n. n.page) named.page named run refl (run_rises runs at d parts.ascending within) absent_here in
+    let more = length_with (λ n. n.page) named.page named run (run_rises runs at d parts.ascending within) absent_here in
     runs_set runs at (with_named named run) parts (filled_by (with_named named run) (omega (arith, more))) (omega (arith, more, room))
-    (subst AreAscending (sym (put_in_run named.page runs at d place within named refl)) (with_rises (λ n. n.page) named.page named (pages_in runs) refl parts.ascending))
+    (subst AreAscending (sym (put_in_run named.page runs at d place within named refl))
+    (with_rises pages_ordered (λ n. n.page) named.page named (pages_in runs) refl parts.ascending))

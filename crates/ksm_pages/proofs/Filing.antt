@@ -1,15 +1,12 @@
 -- Entries under keys and the order of their pages: what is found, and what one entry that came, went or changed leaves.
-use Rattle.ksm_pages.proofs.Names.{All, All-append, All-cons, All-filter, All-map, ap, ap₂, AreAscending, AreFiled, Bool, cases_Bool, change_held, comes_before, cond, Decides-eqb, Entry, false, filter, filter_passes, find, find_all, find_passes, get, get_or, GuestPage, Held, held_at, held_in, held_of, held_under, holds, if◌then◌else◌, inl, InPageOrder, inr, is_of, is_some, IsUnder, key_in, List, map, map-append, marked, Named, named_of, None, not, Option, option_map, refl, rows_of, same_page, same_page_eq, same_page_refl, same_page_sym, same_Some, Slab, Some, subst, sym, true, true≢false, with_held, with_named, without_held, without_named, ℕ, ◌++◌, ◌==◌, ◌∙◌, ◌∷◌, ◌≡◌, ◌≢◌}
+use Rattle.ksm_pages.proofs.Names.{All, All-append, All-cons, All-filter, All-map, ap, ap₂, AreAscending, AreFiled, Bool, cases_Bool, change_held, comes_before, cond, Decides-eqb, Entry, false, filter, filter_passes, find, find_all, find_passes, get, get_or, GuestPage, Held, held_at, held_in, held_of, held_under, holds, if◌then◌else◌, inl, InPageOrder, inr, is_of, IsUnder, key_in, List, map, map-append, marked, Named, named_of, None, not, Option, option_map, refl, rows_of, same_page, same_page_eq, same_page_refl, same_page_sym, same_Some, Slab, Some, subst, sym, true, true≢false, with_held, with_named, without_held, without_named, ℕ, ◌++◌, ◌==◌, ◌∙◌, ◌∷◌, ◌≡◌, ◌≢◌}
 use Rattle.slab.specs.Slab.{Updates as Fills}
-use Rattle.ksm_pages.proofs.Alike.{filter_mapped, find_mapped, map_alike, map_mapped, pairs_mapped}
+use Rattle.ksm_tree.proofs.Numbering.{full}
+use Rattle.ksm_tree.proofs.Alike.{filter_mapped, find_mapped, map_alike, map_mapped, pairs_mapped}
 use Rattle.ksm_pages.proofs.Found.{each_found, find_gone_other, find_put, find_put_other}
 
 abbrev page_of : Named → GuestPage
 page_of n = n.page
-
--- an option is not both empty and full
-pub full : {X : Type 0} (x : X) (o : Option X) → o ≡ None → o ≡ Some x → ⊥
-full x o none some = true≢false (ap is_some (sym some ∙ none))
 
 -- numbers that are told apart differ
 pub differ_by : (m n : ℕ) → (m == n) ≡ false → m ≢ n

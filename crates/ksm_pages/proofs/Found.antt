@@ -1,6 +1,7 @@
 -- Lists in the order of their pages: what a search finds, and what is counted, once one came, went or changed.
 use Rattle.ksm_pages.proofs.Names.{[], All, All-cons, AllPairs, ap, arith, Bool, cases_Bool, comes_before, cond, count_by, false, filter, filter_passes, find, find-append, find_nothing, find_over, get_or, GuestPage, if◌then◌else◌, inl, inr, List, map, None, not, not-true, one_if, option_or, pages_ordered, pairs_head, pairs_tail, refl, same_page, same_page_eq, same_page_refl, Some, sym, true, ◌++◌, ◌+◌, ◌∙◌, ◌∷◌, ◌≡◌, ◌≤◌}
-use Rattle.ksm_pages.proofs.Keyed.{absent_parts, byte_of, changed_count, found_counted, removed_count}
+use Rattle.ksm_pages.proofs.Keyed.{byte_of, changed_count, found_counted, removed_count}
+use Rattle.ksm_rmap.proofs.Ordered.{absent_parts}
 
 module _ {X : Type 0} (key : X → GuestPage) where
   abbrev Before : X → X → Type 0
@@ -42,7 +43,7 @@ module _ {X : Type 0} (key : X → GuestPage) where
     pub find_put_other : (other : GuestPage) (x : X) (xs : List X) → key x ≡ page → AllPairs Before xs → find is_it xs ≡ None → same_page page other ≡ false → find (is_of_page other) (filter low xs ++ x ∷ filter high xs) ≡ find (is_of_page other) xs
     find_put_other other x xs at rise absent differ =
         find_over (is_of_page other) (filter low xs) (filter high xs) x (ap (λ p. same_page p other) at ∙ differ)
-        ∙ ap (find (is_of_page other)) (sym (absent_parts key page xs rise absent))
+        ∙ ap (find (is_of_page other)) (sym (absent_parts pages_ordered key page xs rise absent))
 
     -- without the elements of the page, a search for the page finds nothing
     pub find_gone : (xs : List X) → find is_it (filter (λ y. not (is_it y)) xs) ≡ None

@@ -5,7 +5,6 @@ pub mod Counts
 pub mod Cuts
 pub mod Keyed
 pub mod Placed
-pub mod Alike
 pub mod Found
 pub mod Tallying
 pub mod Filing

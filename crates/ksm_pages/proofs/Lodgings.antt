@@ -1,6 +1,6 @@
 -- Where the pages lie, once the row of one was changed, came or went, and the dups kept their frames.
 use Rattle.ksm_pages.proofs.Names.{All, ap, cases_Bool, change_held, change_row, cond, find_all, find_passes, frame_of, frame_seen, get_or, GuestPage, Held, held_at, holds, if◌then◌else◌, inl, InPageOrder, inr, lies_on, List, Lodging, lodgings_of, None, one_of_each_page, Option, option_and_then, option_map, refl, Row, row_at, same_page, same_page_eq, same_page_sym, Some, sym, true, without_held, ℕ, ◌∙◌, ◌≡◌}
-use Rattle.ksm_pages.proofs.Alike.{find_mapped, map_alike}
+use Rattle.ksm_tree.proofs.Alike.{find_mapped, map_alike}
 use Rattle.ksm_pages.proofs.Found.{find_gone, find_gone_other}
 
 -- where what is held of a page lies: on a frame, or on none where nothing is held

@@ -7,7 +7,7 @@ use Rattle.ksm_tree.proofs.Changes.{row_found as dup_row_found}
 use Rattle.ksm_pages.specs.declared.row.Kind.TheVariants as kinds
 use Rattle.ksm_pages.specs.Held.{frame_of}
 use Rattle.ksm_pages.specs.Paged.{ComesTo, frame_of as lies_at, is_restless}
-use Rattle.ksm_pages.proofs.Alike.{filter_mapped}
+use Rattle.ksm_tree.proofs.Alike.{filter_mapped}
 use Rattle.ksm_pages.proofs.Changing.{row_found}
 use Rattle.ksm_pages.proofs.Found.{each_found}
 use Rattle.ksm_pages.proofs.Gathering.{framed, own_either}
@@ -95,11 +95,6 @@ row_told page held h is = row_found page held ∙ ap (option_map (λ (g : Held).
 -- where nothing is held of a page, it has no row
 pub row_gone : (page : GuestPage) (held : List Held) → held_at page held ≡ None → row_at page (rows_of held) ≡ None
 row_gone page held is = row_found page held ∙ ap (option_map (λ (g : Held). g.row)) is
-
--- an option that is told not to be full is empty
-pub none_known : {X : Type 0} (o : Option X) → false ≡ is_some o → o ≡ None
-none_known None is = refl
-none_known (Some x) is = absurd (true≢false (sym is))
 
 -- a page without a row lies on no frame
 pub lies_nowhere : (of_dup : ℕ → Option ℕ) (held : List Held) (page : GuestPage) → row_at page (rows_of held) ≡ None → lies_at (lodgings_of of_dup held) page ≡ None

@@ -2,7 +2,7 @@
 use Rattle.ksm_pages.proofs.Names.{[], All, ap, ap₂, AreDups, AreKept, AreTied, AreWaiting, arith, at_others, cases_Bool, change_held, change_row, change_rows, cond, dup_numbered, DupRow, DupsState, elsewhere, Entry, false, find, find_all, frame_of, Frames, get_or, GuestPage, Held, held_at, held_of, inl, InPageOrder, InPlaceOrder, inr, Inside, is_live, IsStopped, length, length-set, let_out, lies_on, List, lodging, lodgings_of, mapped, MatchOption, MayPair, Merged, merged_into, None, not, Option, option_and_then, option_map, ordered_change, PagesValue, paired, place_kept, place_new, refl, Row, row_at, row_stopped, rows_new, rows_of, RowsView, same_page, same_page_eq, same_page_sym, seen, set, slice_get, Some, stands_at, subst, suc, sym, tied_made, tree_of, true, with_dup, with_item, with_new, zero, ℕ, ◌&&◌, ◌+◌, ◌<◌, ◌==◌, ◌||◌, ◌∙◌, ◌∷◌, ◌≡◌, ◌≢◌}
 use Rattle.std.specs.Vec.{with_item as with_frame}
 use Rattle.ksm_tree.specs.Dups.{rows_of as dup_rows}
-use Rattle.ksm_pages.proofs.Alike.{map_mapped}
+use Rattle.ksm_tree.proofs.Alike.{map_mapped}
 use Rattle.ksm_pages.proofs.Changing.{row_found, rows_changed}
 use Rattle.ksm_pages.proofs.Dropping.{find_kept, lodged_alike, none_live, not_vacant}
 use Rattle.ksm_pages.proofs.Filing.{differ_by}

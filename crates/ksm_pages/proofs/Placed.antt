@@ -3,7 +3,8 @@ use Rattle.std.proofs.lemmas.List.Sums.{AllPass-from_list_all}
 use Rattle.std.proofs.Math.Seq.{take-suc}
 use Rattle.ksm_pages.proofs.Names.{[], add-one, All, All-append, All-drop, All-nil, All-set, AllWithin, ap, append-nil, AreAscending, AreRuns, arith, begins_behind, Bool, cases_lt, comes_before, drop, drop_all, drop_more, false, find, find-append, flat_map-append, get_or, GuestPage, inl, inr, is_of, IsRunOf, length, List, list_all, marked, Named, None, not, not-false, not-true, Option, option_or, pages_in, pages_ordered, refl, set, set_split, slice_get, subst, suc, sym, take, take-append-drop, true, with_named, without_named, ℕ, ◌++◌, ◌+◌, ◌-◌, ◌<◌, ◌∙◌, ◌∷◌, ◌≡◌, ◌≢◌, ◌≤◌}
 use Rattle.ksm_pages.proofs.Between.{all_behind, before_last, pairs_first, pairs_second}
-use Rattle.ksm_pages.proofs.Keyed.{changed_between, find_between, with_between, without_between}
+use Rattle.ksm_pages.proofs.Keyed.{changed_between, find_between, with_between}
+use Rattle.ksm_rmap.proofs.Ordered.{without_between}
 
 abbrev before : Named → Named → Type 0
 before m n = comes_before m.page n.page ≡ true
@@ -140,7 +141,7 @@ module _ (page : GuestPage) (runs : List (List Named)) (at : ℕ) (d : List Name
   pub remove_in_run : pages_in (set runs at (without_named page (get_or runs at d))) ≡ without_named page (pages_in runs)
   remove_in_run =
       pages_set runs at (without_named page (get_or runs at d)) within
-      ∙ sym (without_between (λ n. n.page) page (pages_in (take at runs)) (get_or runs at d) (pages_in (drop (at + 1) runs)) place.ahead place.behind)
+      ∙ sym (without_between pages_ordered (λ n. n.page) page (pages_in (take at runs)) (get_or runs at d) (pages_in (drop (at + 1) runs)) place.ahead place.behind)
       ∙ ap (without_named page) (sym (pages_cut runs at d within))
 
   -- a page is put among all pages where it is put into its run

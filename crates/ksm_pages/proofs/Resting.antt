@@ -1,6 +1,6 @@
 -- Rows that wait no more, and the row of a page that has one.
 use Rattle.ksm_pages.proofs.Names.{All, ap, bytes_eq, false, frame_seen, get_or, GuestPage, Held, held_at, Inside, is_some, IsKnown, let_go, List, map, Merged, merged_into, None, Option, option_map, PageState, PagesValue, Private, private_state, refl, Row, settled, settled_state, shared_state, Some, stored, sym, true, true≢false, unshared, Waiting, waiting_state, Zero, ℕ, ◌&&◌, ◌∙◌, ◌≡◌}
-use Rattle.ksm_pages.proofs.Alike.{map_alike}
+use Rattle.ksm_tree.proofs.Alike.{map_alike}
 use Rattle.ksm_pages.proofs.Leaving.{row_seen, view_of}
 
 -- a row with a frame of its own is Private once it is settled

@@ -1,7 +1,7 @@
 -- The rows once each entry was changed, or the next pass began.
 use Rattle.ksm_pages.proofs.Names.{[], ap, ap₂, AreFiled, AreListed, arith, Bool, CalledAt, cond, count_by, count_none, Entry, false, forgotten, get, get_or, has_item, Held, held_in, held_of, held_under, is_restless, IsRows, IsTally, Kind, List, Listing, map, Merged, merged_state, MutBor, Named, named_of, None, on_row, Option, option_map, PageState, Private, refl, RetainsFrom, rows_of, same_Some, settled, settled_state, Slab, Some, state_of, subst, suc, sym, Tally, true, Waiting, waiting_state, Zero, zero, zero_state, ℕ, ◌+◌, ◌==◌, ◌∙◌, ◌∷◌, ◌≡◌, ◌≢◌, ◌≤◌}
 use Rattle.ksm_pages.specs.declared.row.Kind.TheVariants as kinds
-use Rattle.ksm_pages.proofs.Alike.{count_mapped, map_mapped}
+use Rattle.ksm_tree.proofs.Alike.{count_mapped, map_mapped}
 use Rattle.ksm_pages.proofs.Filing.{all_stand, under_named}
 use Rattle.ksm_pages.proofs.Gathering.{own_either}
 use Rattle.ksm_pages.proofs.Writing.{left_fits, rest_of, rests_apart}

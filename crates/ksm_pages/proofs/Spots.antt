@@ -1,8 +1,8 @@
 -- Spots in the order of their pages: the pages of them, once one was put in, written or taken away.
 use Rattle.ksm_pages.proofs.Names.{[], and_parts, ap, ap₂, AreInOrder, arith, Bool, cases_Bool, comes_before, cond, Entry, filter, find, find_filter, find_passes, get, get_or, GuestPage, has_item, if◌then◌else◌, inl, inr, is_restless, is_some, is_useless, IsCalm, length, length-map, List, map, map-append, None, not, not-true, Option, pages_of, pages_ordered, refl, same_page, same_page_eq, Slab, Some, Spot, subst, sym, true, true≢false, with_found, with_item, ◌++◌, ◌∙◌, ◌∷◌, ◌≡◌, ◌⊎◌}
 use Rattle.ksm_rmap.specs.Items.{AreAscending}
-use Rattle.ksm_pages.proofs.Alike.{filter_mapped, map_mapped, pairs_mapped}
-use Rattle.ksm_pages.proofs.Keyed.{with_rises}
+use Rattle.ksm_tree.proofs.Alike.{filter_mapped, map_mapped, pairs_mapped}
+use Rattle.ksm_rmap.proofs.Ordered.{with_rises}
 
 -- the page of a spot
 abbrev pub page_of : Spot → GuestPage
@@ -45,7 +45,7 @@ module _ (spot : Spot) (spots : List Spot) (rise : AreInOrder spots) where
 
   -- spots in order stay in order with a spot put in at its place
   pub put_rises : AreInOrder put_in
-  put_rises = with_rises page_of spot.page spot spots refl rise
+  put_rises = with_rises pages_ordered page_of spot.page spot spots refl rise
 
   abbrev written : List Spot
   written = map (λ s. if same_page s.page spot.page then spot else s) spots
@@ -61,7 +61,7 @@ module _ (spot : Spot) (spots : List Spot) (rise : AreInOrder spots) where
 
   -- with a spot written over the one of its page, the pages are those with the page of that spot
   pub written_pages : has_item spot.page (pages_of spots) ≡ true → pages_of written ≡ with_item spot.page (pages_of spots)
-  written_pages has = same_pages ∙ with_found comes_before same_page pages_ordered spot.page (pages_of spots) (pages_rise spots rise) has
+  written_pages has = same_pages ∙ with_found pages_ordered spot.page (pages_of spots) (pages_rise spots rise) has
 
 -- a page that is swept out of the list has a row that no visit changes
 calm_of : (entries : Slab Entry) (s : Spot) → is_useless s (get entries s.key) ≡ true → IsCalm entries s.page

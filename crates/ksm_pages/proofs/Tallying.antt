@@ -1,5 +1,5 @@
 -- The tally of rows once one came, went or changed.
-use Rattle.ksm_pages.proofs.Names.{ap, arith, Bool, CanMove, change_row, count_by, count_by-le-length, GuestPage, if◌then◌else◌, InPageOrder, IsMoved, IsTally, length, length-map, List, merged_state, None, one_if, Private, refl, Row, row_at, same_page, Some, Tally, waiting_state, with_row, without_page, zero_state, ℕ, ◌+◌, ◌<◌, ◌^◌, ◌≡◌, ◌≤◌}
+use Rattle.ksm_pages.proofs.Names.{ap, arith, Bool, CanMove, change_row, count_by, count_by-le-length, GuestPage, if◌then◌else◌, InPageOrder, IsMoved, IsTally, length, length-map, List, merged_state, None, one_if, Private, Row, row_at, same_page, Some, Tally, waiting_state, with_row, without_page, zero_state, ℕ, ◌+◌, ◌<◌, ◌^◌, ◌≡◌, ◌≤◌}
 use Rattle.ksm_pages.proofs.Found.{count_one_changed, count_one_gone, counted_once}
 use Rattle.ksm_pages.proofs.Keyed.{count_with}
 
@@ -64,7 +64,7 @@ module _ (rows : List Row) (rise : InPageOrder rows) (page : GuestPage) (old : R
 -- a Private row that comes leaves the tally as it is
 pub tally_put : (rows : List Row) (row : Row) (tally : Tally) → InPageOrder rows → row_at row.page rows ≡ None → row.state ≡ Private → IsTally rows tally → IsTally (with_row row rows) tally
 tally_put rows row tally rise absent alone are =
-    let more : (p : Row → Bool) → count_by p (with_row row rows) ≡ count_by p rows + one_if (p row) = λ p. count_with page_of row.page p row rows refl rise absent in
+    let more : (p : Row → Bool) → count_by p (with_row row rows) ≡ count_by p rows + one_if (p row) = λ p. count_with page_of row.page p row rows rise absent in
     record {
       merged = let m = more (λ r. merged_state r.state) in let n = ap (λ s. one_if (merged_state s)) alone in omega (arith, m, n, are.merged);
       waiting = let m = more (λ r. waiting_state r.state) in let n = ap (λ s. one_if (waiting_state s)) alone in omega (arith, m, n, are.waiting);

@@ -1,7 +1,7 @@
 -- The pages once a call changed the row of one page: they are lawful, and what is seen of them changed so.
 use Rattle.ksm_pages.proofs.Names.{[], All-map, ap, ap₂, AreKept, AreTied, AreWaiting, at_mapped, cases_Bool, change_held, change_row, cond, cond_both, DupsState, false, find_passes, frame_of, frame_seen, get_or, GuestPage, Held, held_at, holds, if◌then◌else◌, inl, InPageOrder, inr, Inside, is_some, IsAlone, IsKnown, IsLeft, lies_on, List, Listing, Lodging, lodging, lodgings_of, map, mapped, MatchOption, merged_state, None, none_waiting, on_row, Option, option_map, ordered_map, PageState, PagesValue, PagesView, Private, refl, Row, row_at, rows_of, RowsView, same_page, same_page_eq, seen, settled_state, shared_state, Some, subst, sym, tied_mapped, true, true≢false, waiting_state, waits_there, without_held, without_page, ℕ, ⊤, ◌∙◌, ◌≡◌}
 use Rattle.ksm_tree.specs.Dups.{rows_of as dup_rows}
-use Rattle.ksm_pages.proofs.Alike.{map_alike, map_mapped}
+use Rattle.ksm_tree.proofs.Alike.{map_alike, map_mapped}
 use Rattle.ksm_pages.proofs.Leaving.{AreLawful, alone_found, held_twice, lawful_gone, lawful_left, lies, of_dup, same_dups, same_next, told, told_gone, told_still, view_of}
 use Rattle.ksm_pages.proofs.Lodgings.{seat}
 use Rattle.ksm_pages.proofs.Resting.{item_alike, known_row, lies_alike, lies_settled, rests, settled_again, settled_still}

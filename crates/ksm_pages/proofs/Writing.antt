@@ -1,12 +1,14 @@
 -- What each change of one row, found under its key, leaves: rows still, and what is seen of them.
-use Rattle.ksm_pages.proofs.Names.{ap, ap₂, AreBegun, AreFiled, AreListed, arith, Bool, CanMove, change_held, Decides-eqb, Entry, false, find, forgotten, get, GuestPage, has_item, Held, held_at, held_in, held_of, held_under, IfSome, inl, InPageOrder, inr, is_of, is_own, is_restless, is_some, IsAddedTo, IsCalm, IsMoved, IsRows, IsTally, IsUnder, key_in, Kind, length, length-map, List, Listing, marked, Named, named_of, ne_eqb, None, number_left, on_row, option_map, own_state, PageState, Private, refl, Row, row_at, rows_of, RowsView, same_page, same_page_refl, same_Some, settled, settled_state, shared_state, Slab, Some, state_of, subst, sym, Tally, true, true≢false, Updates-with_value, Waiting, with_held, with_item, with_named, with_value, without_held, without_item, without_named, ℕ, ◌&&◌, ◌<◌, ◌==◌, ◌^◌, ◌∙◌, ◌≡◌, ◌≢◌, ◌≤◌, ◌⊎◌}
+use Rattle.ksm_pages.proofs.Names.{ap, ap₂, AreBegun, AreFiled, AreListed, arith, Bool, CanMove, change_held, Decides-eqb, Entry, false, find, forgotten, get, GuestPage, has_item, Held, held_at, held_in, held_of, held_under, IfSome, inl, InPageOrder, inr, is_of, is_own, is_restless, is_some, IsAddedTo, IsCalm, IsMoved, IsRows, IsTally, IsUnder, key_in, Kind, length, length-map, List, Listing, marked, Named, named_of, ne_eqb, None, number_left, on_row, option_map, own_state, pages_ordered, PageState, Private, refl, Row, row_at, rows_of, RowsView, same_page, same_page_refl, same_Some, settled, settled_state, shared_state, Slab, Some, state_of, subst, sym, Tally, true, true≢false, Updates-with_value, Waiting, with_held, with_item, with_named, with_value, without_held, without_item, without_named, ℕ, ◌&&◌, ◌<◌, ◌==◌, ◌^◌, ◌∙◌, ◌≡◌, ◌≢◌, ◌≤◌, ◌⊎◌}
 use Rattle.slab.specs.Slab.{Updates as Fills}
 use Rattle.ksm_pages.specs.declared.row.Kind.TheVariants as kinds
 use Rattle.ksm_pages.specs.declared.rows.Rows.TheInside.{Inside}
 use Rattle.ksm_pages.proofs.Changing.{held_unchanged, marked_same, row_found, rows_changed, rows_with, rows_without}
-use Rattle.ksm_pages.proofs.Filing.{all_filled, elsewhere, filed_kept, filed_marked, filed_put, filed_taken, full, held_nowhere, held_there, key_nowhere, one_key, put, rows_rise, taken, written}
+use Rattle.ksm_tree.proofs.Numbering.{full}
+use Rattle.ksm_pages.proofs.Filing.{all_filled, elsewhere, filed_kept, filed_marked, filed_put, filed_taken, held_nowhere, held_there, key_nowhere, one_key, put, rows_rise, taken, written}
 use Rattle.ksm_pages.proofs.Gathering.{own_either}
-use Rattle.ksm_pages.proofs.Keyed.{absent_kept, with_rises, without_rises, write_rises}
+use Rattle.ksm_pages.proofs.Keyed.{write_rises}
+use Rattle.ksm_rmap.proofs.Ordered.{absent_kept, with_rises, without_rises}
 use Rattle.ksm_pages.proofs.Listings.{with_has, without_has}
 use Rattle.ksm_pages.proofs.Tallying.{can_move, tally_changed, tally_gone, tally_put}
 
@@ -270,7 +272,7 @@ module _ (s : Inside) (are : AreRows s) where
           → {from : PageState} {tally : Tally} → from ≡ state_of e.kind e.number s.pass
           → IsMoved from Private s.tally tally → IsRows later (without_named page s.order) now tally s.pass
       still_gone now is {from} {tally} was moved = record {
-        ascending = without_rises (λ (n : Named). n.page) page s.order are.ascending;
+        ascending = without_rises pages_ordered (λ (n : Named). n.page) page s.order are.ascending;
         filed =
             subst (λ p. AreFiled later (without_named p s.order)) of_page (filed_taken s.entries s.order are.ascending are.filed key e stood later fills);
         listed = subst (λ (l : Listing). l.known ≡ true → AreListed later l.pages) (sym is)
@@ -292,7 +294,8 @@ pub nothing_gone : (s : Inside) → AreRows s → (page : GuestPage) → None �
 nothing_gone s are page told v is =
     let absent = held_nowhere s.entries s.order are.ascending are.filed s.pass page (sym told) in
     sym is
-    ∙ ap (λ held. record { held = held; restless = s.restless; pass = s.pass }) (absent_kept (λ (h : Held). h.row.page) page (held_in s.pass s.entries s.order) absent)
+    ∙ ap (λ held. record { held = held; restless = s.restless; pass = s.pass })
+    (absent_kept pages_ordered (λ (h : Held). h.row.page) page (held_in s.pass s.entries s.order) absent)
     ∙ ap (λ (w : RowsView). record w { held = without_held page w.held }) is
 
 -- a slab with more room has the same rows
@@ -328,7 +331,7 @@ module _ (s : Inside) (are : AreRows s) (v : RowsView) (seen_as : view_of s ≡ 
   -- rows are lawful once a Private entry came under a vacant key, with a name and a place in the list
   pub still_put : state_of e.kind e.number s.pass ≡ Private → e.number ≤ s.pass → (now : Listing) → IsAddedTo e.page s.restless now → IsRows later (with_named (named_of key e) s.order) now s.tally s.pass
   still_put alone fits now added = record {
-    ascending = with_rises (λ (n : Named). n.page) e.page (named_of key e) s.order refl are.ascending;
+    ascending = with_rises pages_ordered (λ (n : Named). n.page) e.page (named_of key e) s.order refl are.ascending;
     filed = filed_put s.entries s.order are.ascending are.filed key e later vacant not_named fills;
     listed = λ known. elim added [
       | inl is ↦

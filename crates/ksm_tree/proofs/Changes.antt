@@ -1,52 +1,35 @@
 -- Dups and their rows: what a dup that comes or goes and a change of items changes of the rows, and where a dup is found.
-use Rattle.ksm_tree.proofs.Names.{[], All, All-cons, All-head, All-tail, ap, arith, Bool, cases_Bool, change_at, change_items, Dup, dup_at, dup_of, DupRow, filter, find, get_or, GuestPage, has_number, if◌then◌else◌, inl, InPlaceOrder, inr, let_out, List, map, Merged, nat_lt, None, none-some, not, Option, option_map, PageState, Private, refl, row_place, rows_of, same_Some, Some, stands_at, sym, Waiting, with_dup, with_new, without_item, without_place, Zero, ℕ, ◌++◌, ◌==◌, ◌∙◌, ◌∷◌, ◌≡◌}
+use Rattle.ksm_tree.proofs.Names.{[], All, All-cons, All-head, All-tail, ap, arith, Bool, cases_Bool, change_at, change_items, cond_both, Dup, dup_at, dup_of, DupRow, filter, find, get_or, GuestPage, has_number, inl, InPlaceOrder, inr, let_out, List, map, map-append, Merged, nat_lt, None, none-some, not, Option, option_map, PageState, Private, refl, row_place, rows_of, same_Some, Some, stands_at, sym, Waiting, with_dup, with_new, without_item, without_place, Zero, ℕ, if◌then◌else◌, ◌++◌, ◌==◌, ◌∙◌, ◌∷◌, ◌≡◌}
+use Rattle.std.proofs.Common.{ap₂}
+use Rattle.ksm_tree.proofs.Alike.{filter_mapped, find_mapped, map_mapped}
 use Rattle.ksm_tree.proofs.Rows.{only_number}
-
--- the rows of a filtered list
-rows_filtered : (test : Dup → Bool) (by : DupRow → Bool) → ((d : Dup) → test d ≡ by d.row) → (dups : List Dup) → rows_of (filter test dups) ≡ filter by (rows_of dups)
-rows_filtered test by same [] = refl
-rows_filtered test by same (d ∷ dups) =
-    let rest = rows_filtered test by same dups in
-    let here = same d in
-    elim (cases_Bool (by d.row)) [
-      | inl passes ↦ grind (arith, here, passes, rest)
-      | inr fails ↦ grind (arith, here, fails, rest)
-    ]
-
-rows_append : (xs ys : List Dup) → rows_of (xs ++ ys) ≡ rows_of xs ++ rows_of ys
-rows_append [] ys = refl
-rows_append (x ∷ xs) ys = ap (λ rows. x.row ∷ rows) (rows_append xs ys)
 
 -- the row of a new dup is added to the rows
 pub rows_new : (dup : Dup) (dups : List Dup) → rows_of (with_new dup dups) ≡ with_dup dup.row (rows_of dups)
 rows_new dup dups =
     let p = dup.row.place in
-    rows_append (filter (λ d. nat_lt d.row.place p) dups) (dup ∷ filter (λ d. nat_lt p d.row.place) dups)
-    ∙ (λ i. rows_filtered (λ d. nat_lt d.row.place p) (λ r. nat_lt r.place p) (λ d. refl) dups i ++ dup.row ∷ rows_filtered (λ d. nat_lt p d.row.place) (λ r. nat_lt p r.place) (λ d. refl) dups i)
+    map-append (λ d. d.row) (filter (λ d. nat_lt d.row.place p) dups) (dup ∷ filter (λ d. nat_lt p d.row.place) dups)
+    ∙ ap₂ (λ front back. front ++ dup.row ∷ back) (filtered (λ r. nat_lt r.place p)) (filtered (λ r. nat_lt p r.place))
+  where
+    filtered : (by : DupRow → Bool) → rows_of (filter (λ d. by d.row) dups) ≡ filter by (rows_of dups)
+    filtered by = sym (filter_mapped (λ (d : Dup). d.row) by (λ d. by d.row) dups (λ k d lt. refl))
 
 -- a place that is dropped takes its row out of the rows
 pub rows_without : (p : ℕ) (dups : List Dup) → rows_of (without_place p dups) ≡ filter (λ r. not (r.place == p)) (rows_of dups)
-rows_without p dups = rows_filtered (λ d. not (stands_at p d)) (λ r. not (r.place == p)) (λ d. refl) dups
+rows_without p dups = sym (filter_mapped (λ (d : Dup). d.row) (λ r. not (r.place == p)) (λ d. not (stands_at p d)) dups (λ k d lt. refl))
+
+rows_same : (test : Dup → Bool) (f : List GuestPage → List GuestPage) (dups : List Dup) → rows_of (map (λ d. if test d then record d { items = f d.items } else d) dups) ≡ rows_of dups
+rows_same test f dups =
+    map_mapped (λ (d : Dup). d.row) (λ d. if test d then record d { items = f d.items } else d) (λ d. d.row) dups
+    (λ k e lt. let d = get_or dups k e in cond_both (test d) (record d { items = f d.items }) d (λ x. x.row ≡ d.row) (λ _. refl) (λ _. refl))
 
 -- other items at a place change no row
 pub rows_changed : (p : ℕ) (f : List GuestPage → List GuestPage) (dups : List Dup) → rows_of (change_at p f dups) ≡ rows_of dups
-rows_changed p f [] = refl
-rows_changed p f (d ∷ dups) =
-    let rest = rows_changed p f dups in
-    elim (cases_Bool (stands_at p d)) [
-      | inl here ↦ grind (arith, here, rest)
-      | inr away ↦ grind (arith, away, rest)
-    ]
+rows_changed p = rows_same (stands_at p)
 
 -- other items of a dup change no row
 pub rows_items : (number : ℕ) (f : List GuestPage → List GuestPage) (dups : List Dup) → rows_of (change_items number f dups) ≡ rows_of dups
-rows_items number f [] = refl
-rows_items number f (d ∷ dups) =
-    let rest = rows_items number f dups in
-    elim (cases_Bool (has_number number d)) [
-      | inl here ↦ grind (arith, here, rest)
-      | inr away ↦ grind (arith, away, rest)
-    ]
+rows_items number = rows_same (has_number number)
 
 -- a page let out of its dup changes no row
 pub rows_out : (state : PageState) (page : GuestPage) (dups : List Dup) → rows_of (let_out state page dups) ≡ rows_of dups
@@ -57,14 +40,7 @@ rows_out (Merged number) page dups = rows_items number (without_item page) dups
 
 -- a dup is found where its row is
 pub row_found : (test : Dup → Bool) (by : DupRow → Bool) → ((d : Dup) → test d ≡ by d.row) → (dups : List Dup) → option_map (λ d. d.row) (find test dups) ≡ find by (rows_of dups)
-row_found test by same [] = refl
-row_found test by same (d ∷ dups) =
-    let rest = row_found test by same dups in
-    let here = same d in
-    elim (cases_Bool (by d.row)) [
-      | inl passes ↦ grind (arith, here, passes, rest)
-      | inr fails ↦ grind (arith, here, fails, rest)
-    ]
+row_found test by same dups = sym (find_mapped (λ (d : Dup). d.row) by test dups (λ k d lt. sym (same (get_or dups k d))))
 
 -- the row of a number that has a place
 row_there : (p : ℕ) (r : Option DupRow) → option_map (λ s. s.place) r ≡ Some p → (e : DupRow) × (r ≡ Some e) × (e.place ≡ p)

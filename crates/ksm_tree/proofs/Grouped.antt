@@ -2,7 +2,7 @@
 use Rattle.ksm_tree.proofs.Names.{[], All, All-head, All-tail, All-weaker, and_parts, ap, AreTotals, arith, Bool, bytes_eq, bytes_eq-Decides, cases_Bool, chained_of, chains_of, count-append, count_by, count_by-le-length, count_more, count_none, DupRow, false, filter, filter_all, find, get_or, group_places, group_size, if◌then◌else◌, in_chain, in_group, inl, InPlaceOrder, inr, IsRegrouped, leads_group, length, length-filter, length-map, List, list_all, list_all-append, list_all-from_AllPass, nat_le, nat_lt, nat_tests, none-some, not, pairs_head, pairs_tail, refl, same_group, same_Some, Some, suc, sym, Tells, Totals, true, with_dup, ℕ, ◌&&◌, ◌++◌, ◌+◌, ◌<◌, ◌==◌, ◌||◌, ◌∙◌, ◌∷◌, ◌≡◌, ◌≤◌}
 use Rattle.ksm_tree.proofs.Counts.{count_alike}
 use Rattle.ksm_tree.proofs.Keys.{own_group, self_group}
-use Rattle.ksm_tree.proofs.Rows.{Comes, rows_parted}
+use Rattle.ksm_base.proofs.Orders.{dups_parted as rows_parted, Lower}
 
 -- ---------------------------------------------------------------- one row more
 
@@ -31,17 +31,17 @@ more_with r rows rise =
 pub more_there : (p : ℕ) (rows : List DupRow) (e : DupRow) → InPlaceOrder rows → find (λ r. r.place == p) rows ≡ Some e → IsMore e (filter (λ r. not (r.place == p)) rows) rows
 more_there p [] e rise found = absurd (none-some e found)
 more_there p (r ∷ rows) e rise found =
-    let first = pairs_head Comes r rows rise in
+    let first = pairs_head Lower r rows rise in
     elim (cases_Bool (r.place == p)) [
       | inl here ↦
           let same : r ≡ e = same_Some r e (grind (arith, here, found)) in
-          let kept = filter_all (λ s. not (s.place == p)) rows (All-weaker (Comes r) (λ s. not (s.place == p) ≡ true) (λ s h. let later = h.0 in grind (arith, nat_tests, here, later)) rows first) in
+          let kept = filter_all (λ s. not (s.place == p)) rows (All-weaker (Lower r) (λ s. not (s.place == p) ≡ true) (λ s h. let later = h.0 in grind (arith, nat_tests, here, later)) rows first) in
           record {
             counts = λ q. (let more = count_more q r rows in grind (arith, here, kept, same, more));
             all = λ q. grind (arith, here, kept, same);
           }
       | inr away ↦
-          let rest = more_there p rows e (pairs_tail Comes r rows rise) (grind (arith, away, found)) in
+          let rest = more_there p rows e (pairs_tail Lower r rows rise) (grind (arith, away, found)) in
           record {
             counts = λ q. (let one = rest.counts q in let more = count_more q r rows in let less = count_more q r (filter (λ s. not (s.place == p)) rows) in grind (arith, away, one, more, less));
             all = λ q. (let one = rest.all q in grind (arith, away, one));
@@ -117,19 +117,19 @@ module _ (t : ℕ) (b : List ℕ) where
   one_leads : (rows : List DupRow) → InPlaceOrder rows → count_by (λ d. of_it d && leads_group rows d) rows ≡ (if size rows == 0 then 0 else 1)
   one_leads [] rise = refl
   one_leads (r ∷ rows) rise =
-      let first = pairs_head Comes r rows rise in
+      let first = pairs_head Lower r rows rise in
       let more = count_more of_it r rows in
       let also = count_more (λ d. of_it d && leads_group (r ∷ rows) d) r rows in
       elim (cases_Bool (of_it r)) [
         | inl inside ↦
             let none = count_none (λ d. of_it d && leads_group (r ∷ rows) d) rows
-            (All-weaker (Comes r) (λ d. (of_it d && leads_group (r ∷ rows) d) ≡ false) (λ d h. let later = h.0 in
+            (All-weaker (Lower r) (λ d. (of_it d && leads_group (r ∷ rows) d) ≡ false) (λ d h. let later = h.0 in
             elim (cases_Bool (of_it d)) [
               | inl too ↦ let own : same_group d r ≡ true = group_own d r too ∙ inside in grind (arith, nat_tests, own, later)
               | inr apart ↦ grind (arith, apart)
             ]) rows first) in
             let behind = list_all-from_AllPass (λ e. not (same_group r e) || nat_le r.place e.place) rows
-            (All-weaker (Comes r) (λ e. (not (same_group r e) || nat_le r.place e.place) ≡ true) (λ e h. let later = h.0 in grind (arith, nat_tests, later)) rows first) in
+            (All-weaker (Lower r) (λ e. (not (same_group r e) || nat_le r.place e.place) ≡ true) (λ e h. let later = h.0 in grind (arith, nat_tests, later)) rows first) in
             let leader : leads_group (r ∷ rows) r ≡ true = grind (arith, nat_tests, behind) in
             grind (arith, nat_tests, inside, more, also, none, leader)
         | inr outside ↦
@@ -138,7 +138,7 @@ module _ (t : ℕ) (b : List ℕ) where
               | inl too ↦ let apart : same_group d r ≡ false = group_own d r too ∙ outside in grind (arith, too, apart)
               | inr apart ↦ grind (arith, apart)
             ]) in
-            let rest = one_leads rows (pairs_tail Comes r rows rise) in
+            let rest = one_leads rows (pairs_tail Lower r rows rise) in
             grind (arith, nat_tests, outside, more, also, alike, rest)
       ]
 
@@ -206,8 +206,8 @@ rows_fit k p [] least above below rise = omega arith
 rows_fit k p (r ∷ rows) least above below rise =
     let here = All-head (λ e. k ≤ e.place) r rows above in
     let under = All-head (λ e. e.place < p) r rows below in
-    let first = pairs_head Comes r rows rise in
-    let rest = rows_fit (suc r.place) p rows (omega (arith, under)) (All-weaker (Comes r) (λ e. suc r.place ≤ e.place) (λ e h. let later = h.0 in omega (arith, later)) rows first) (All-tail (λ e. e.place < p) r rows below) (pairs_tail Comes r rows rise) in
+    let first = pairs_head Lower r rows rise in
+    let rest = rows_fit (suc r.place) p rows (omega (arith, under)) (All-weaker (Lower r) (λ e. suc r.place ≤ e.place) (λ e h. let later = h.0 in omega (arith, later)) rows first) (All-tail (λ e. e.place < p) r rows below) (pairs_tail Lower r rows rise) in
     omega (arith, rest, here)
 
 -- there are at most 1,024 chains and 1,024 dups in them

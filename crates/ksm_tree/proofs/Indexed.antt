@@ -2,7 +2,8 @@
 use Rattle.ksm_tree.proofs.Names.{[], All, All-filter, All-weaker, AllPairs-filter, ap, AreIndexed, arith, Bool, bytes_eq, cases_Bool, change_at, change_items, content_in, content_of, Dup, dup_at, dup_of, dups_seen, DupsState, eqb-true, false, false≢true, filter, find, find_nothing, find_passes, get, get_or, Group, group_places, GuestPage, has_number, if◌then◌else◌, in_group, Index, inl, InPlaceOrder, inr, is_some, IsRegrouped, length, List, nat_tests, None, none-some, not, number_of, Option, option_map, pairs_head, pairs_tail, place_of, places_in, places_of, refl, row_place, rows_of, same_Some, SlotsState, Some, stands_at, sym, Tells, true, under, without, without_place, ℕ, ◌&&◌, ◌<◌, ◌==◌, ◌∙◌, ◌∷◌, ◌≡◌}
 use Rattle.ksm_tree.proofs.Grouped.{chains_kept, dups_kept, more_there, totals_moved, totals_tell}
 use Rattle.ksm_tree.proofs.Keys.{own_group, self_group}
-use Rattle.ksm_tree.proofs.Rows.{Comes, only_one, place_gone, group_at, group_unlike, IsOne}
+use Rattle.ksm_base.proofs.Orders.{Lower}
+use Rattle.ksm_tree.proofs.Rows.{only_one, place_gone, group_at, group_unlike, IsOne}
 use Rattle.ksm_tree.proofs.Changes.{agree_found, all_rows, rows_changed, rows_without, row_found, number_place_found, number_place_changed, unchanged_items}
 
 dup_some : {p : ℕ} (d : Option Dup) → option_map (λ e. e.row.place) d ≡ Some p → is_some d ≡ true
@@ -173,10 +174,10 @@ passing test (Some d) = if test d then Some d else None
 pub found_passing : (p : ℕ) (test : Dup → Bool) (dups : List Dup) → InPlaceOrder (rows_of dups) → find (λ d. stands_at p d && test d) dups ≡ passing test (dup_at p dups)
 found_passing p test [] rise = refl
 found_passing p test (d ∷ dups) rise =
-    let rest = found_passing p test dups (pairs_tail Comes d.row (rows_of dups) rise) in
+    let rest = found_passing p test dups (pairs_tail Lower d.row (rows_of dups) rise) in
     elim (cases_Bool (stands_at p d)) [
       | inl here ↦
-          let behind = all_rows (λ r. d.row.place < r.place) dups (All-weaker (Comes d.row) (λ r. d.row.place < r.place) (λ r h. h.0) (rows_of dups) (pairs_head Comes d.row (rows_of dups) rise)) in
+          let behind = all_rows (λ r. d.row.place < r.place) dups (All-weaker (Lower d.row) (λ r. d.row.place < r.place) (λ r h. h.0) (rows_of dups) (pairs_head Lower d.row (rows_of dups) rise)) in
           let none = find_nothing (λ e. stands_at p e && test e) dups (All-weaker (λ e. d.row.place < e.row.place) (λ e. (stands_at p e && test e) ≡ false) (λ e later. grind (arith, nat_tests, here, later)) dups behind) in
           elim (cases_Bool (test d)) [
             | inl passes ↦ grind (arith, here, passes)

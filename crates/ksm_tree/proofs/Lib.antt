@@ -1,4 +1,5 @@
 pub mod Names
+pub mod Alike
 pub mod Bridge
 pub mod Changes
 pub mod Counts

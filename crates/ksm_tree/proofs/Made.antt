@@ -4,7 +4,8 @@ use Rattle.ksm_tree.proofs.Changes.{rows_new}
 use Rattle.ksm_tree.proofs.Grouped.{IsMore, chains_kept, dups_kept, more_with, more_there, places_size, totals_apart, totals_between, totals_few, totals_moved, totals_same}
 use Rattle.ksm_tree.proofs.Keys.{own_bytes, own_group, own_tree, self_group}
 use Rattle.ksm_tree.proofs.Indexed.{row_at_place, not_in_group, cond_if, found_stands, told}
-use Rattle.ksm_tree.proofs.Rows.{rows_with, all_with, place_new, place_kept, place_gone, group_joined, group_passed, group_unlike}
+use Rattle.ksm_base.proofs.Orders.{all_with_dup, dups_with}
+use Rattle.ksm_tree.proofs.Rows.{place_new, place_kept, place_gone, group_joined, group_passed, group_unlike}
 
 -- the place of a number, and the places of a group, with a new row
 place_with : (q : ℕ) (row : DupRow) (rows : List DupRow) → InPlaceOrder rows → All (λ r. r.number < row.number) rows → row_place q (with_dup row rows) ≡ (if q == row.number then Some row.place else row_place q (filter (λ r. not (r.place == row.place)) rows))
@@ -27,9 +28,10 @@ module _ (s : SlotsState) (next : ℕ) (index new : Index) (dup : Dup) (h : AreI
       let rows = rows_of s.dups in
       let is = rows_new dup s.dups in
       record {
-        in_place_order = rw is (rows_with dup.row rows h.lawful.in_place_order fresh);
-        places_below = rw is (all_with (λ r. r.place < s.places) dup.row rows h.lawful.places_below within);
-        numbers_below = rw is (all_with (λ r. r.number < next + 1) dup.row rows (All-weaker (λ r. r.number < next) (λ r. r.number < next + 1) (λ r below. omega arith) rows h.lawful.numbers_below) (omega (arith, number)));
+        in_place_order = rw is (dups_with dup.row rows h.lawful.in_place_order fresh);
+        places_below = rw is (all_with_dup (λ r. r.place < s.places) dup.row rows within h.lawful.places_below);
+        numbers_below = rw is (all_with_dup (λ r. r.number < next + 1) dup.row rows (omega (arith, number))
+            (All-weaker (λ r. r.number < next) (λ r. r.number < next + 1) (λ r below. omega arith) rows h.lawful.numbers_below));
       }
 
   -- the index is right once a new dup stands at a place that was empty
@@ -49,7 +51,7 @@ module _ (s : SlotsState) (next : ℕ) (index new : Index) (dup : Dup) (h : AreI
       let b = dup.row.bytes in
       let more = subst (λ l. IsMore dup.row l (with_dup dup.row rows)) kept (more_with dup.row rows h.lawful.in_place_order) in
       let own = self_group dup.row in
-      let counted = totals_moved t b rows (with_dup dup.row rows) index.groups.totals new.groups.totals h.lawful.in_place_order (rows_with dup.row rows h.lawful.in_place_order fresh)
+      let counted = totals_moved t b rows (with_dup dup.row rows) index.groups.totals new.groups.totals h.lawful.in_place_order (dups_with dup.row rows h.lawful.in_place_order fresh)
       (dups_kept t b dup.row rows (with_dup dup.row rows) more own) (chains_kept t b dup.row rows (with_dup dup.row rows) more own) (rw (← h.grouped t b, ← grouped t b) regrouped) h.counted in
       record {
         few = h.few;
@@ -90,7 +92,7 @@ module _ (s : SlotsState) (next : ℕ) (index new : Index) (dup : Dup) (h : AreI
     there = more_there dup.row.place (rows_of s.dups) old.row h.lawful.in_place_order (row_at_place dup.row.place s.dups (Some old) (sym found));
     here = more_with dup.row (rows_of s.dups) h.lawful.in_place_order;
     less_rise = AllPairs-filter (λ a b. (a.place < b.place) × ((a.number == b.number) ≡ false)) (λ r. not (r.place == dup.row.place)) (rows_of s.dups) h.lawful.in_place_order;
-    new_rise = rows_with dup.row (rows_of s.dups) h.lawful.in_place_order fresh;
+    new_rise = dups_with dup.row (rows_of s.dups) h.lawful.in_place_order fresh;
   }
 
   -- the index between: the new dup is in, and the old one not yet out

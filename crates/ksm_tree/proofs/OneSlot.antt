@@ -1,5 +1,5 @@
 -- What a change of one slot does to the dups and to the places whose slots pass a test.
-use Rattle.ksm_tree.proofs.Names.{[], absent_kept, All, All-cons, All-weaker, ap, append-nil, ArePlaced, AreSlots, arith, Bool, cases_Bool, change_at, comes_before, count_in, Dup, dup_at, empty_from, empty_place, false, false≢true, filter, filter_all, filter_none, find, find_nothing, get_or, get_or-map, get_or-reverse, get_or_default, get_or_push, GuestPage, has_item, if◌then◌else◌, inl, inr, is_empty_slot, is_live, is_some, is_stale, is_stale_slot, items_in, length, length-append, length-map, length-reverse, length-set, List, map, map-set, map-set_same, nat_lt, nat_tests, None, none-some, not, Option, option_map, pages_ordered, places_where, present, refl, reverse, rows_of, same_page, same_Some, set, set-append_left, set-append_right, set-get_or, slice_get, slice_get-get_or, slots_seen, SlotsState, SmallVec, Some, stands_at, suc, sym, true, with_item, with_new, with_place, without, without_item, without_place, zero, ℕ, ◌++◌, ◌+◌, ◌-◌, ◌<◌, ◌==◌, ◌∙◌, ◌∷◌, ◌≡◌, ◌≤◌}
+use Rattle.ksm_tree.proofs.Names.{[], absent_kept, All, All-cons, All-weaker, ap, append-nil, ArePlaced, AreSlots, arith, Bool, cases_Bool, change_at, comes_before, count_in, Dup, dup_at, empty_from, empty_place, false, false≢true, filter, filter_all, filter_none, find, find_nothing, get_or, get_or-map, get_or-reverse, get_or_default, get_or_push, GuestPage, has_item, inl, inr, is_empty_slot, is_live, is_some, is_stale, is_stale_slot, items_in, length, length-append, length-map, length-reverse, length-set, List, map, map-set, map-set_same, nat_lt, nat_tests, None, none-some, none_found, not, Option, option_map, pages_ordered, places_where, present, refl, reverse, rows_of, same_page, same_Some, set, set-append_left, set-append_right, set-get_or, slice_get, slice_get-get_or, slots_seen, SlotsState, SmallVec, Some, stands_at, suc, sym, true, with_item, with_new, with_place, without, without_item, without_place, zero, ℕ, if◌then◌else◌, ◌++◌, ◌+◌, ◌-◌, ◌<◌, ◌==◌, ◌∙◌, ◌∷◌, ◌≡◌, ◌≤◌}
 use mathlib.Core.List.{reverse-cons}
 use Rattle.ksm_tree.proofs.Where.{where_with, where_without, where_same, where_room}
 
@@ -409,12 +409,6 @@ pub slot_read : (p : ℕ) (slots : List (Option Dup)) (r : Option Dup) (d : Dup)
 slot_read p slots r d placed known read is =
     get_or_default slots p None r (known_within p slots placed known) ∙ sym read ∙ is
 
--- a slot at which a dup is seen is not empty
-pub slot_not_none : (p : ℕ) (slots : List (Option Dup)) (r : Option Dup) → ArePlaced 0 slots → is_some (dup_at p (present slots)) ≡ true → r ≡ get_or slots p r → r ≡ None → ⊥
-slot_not_none p slots r placed known read is =
-    let here = read_dup p slots r placed (known_within p slots placed known) read ∙ is in
-    false≢true (ap is_some (sym here) ∙ known)
-
 -- a dup that got an item is not stale
 pub grown_not_stale : (page : GuestPage) (pages : List GuestPage) → (length (with_item page pages) == 0) ≡ false
 grown_not_stale page pages =
@@ -432,16 +426,26 @@ pub record HoldsDup (p : ℕ) (slots : List (Option Dup)) (s : SlotsState) (d : 
   pub filled : get_or slots p None ≡ Some d
   pub items : items_in (dup_at p s.dups) ≡ d.items
 
--- a dup read from the slot of a place where a dup is seen is the dup of that place
-pub holds_dup : (p : ℕ) (slots : List (Option Dup)) (s : SlotsState) (r : Option Dup) (d : Dup) → slots_seen slots ≡ s → ArePlaced 0 slots → is_some (dup_at p s.dups) ≡ true → r ≡ get_or slots p r → r ≡ Some d → HoldsDup p slots s d
-holds_dup p slots s r d view placed known read is =
-    let known_here : is_some (dup_at p (present slots)) ≡ true = rw (ap (λ t. t.dups) view) known in
-    let filled = slot_read p slots r d placed known_here read is in
-    record {
-      within = known_within p slots placed known_here;
-      filled = filled;
-      items = ap (λ t. items_in (dup_at p t.dups)) (sym view) ∙ ap items_in (slot_found 0 p p slots (omega arith) placed ∙ filled);
-    }
+module _ (p : ℕ) (slots : List (Option Dup)) (s : SlotsState) (view : slots_seen slots ≡ s) (placed : ArePlaced 0 slots) where
+  -- a place where a dup is seen has a slot
+  pub seen_within : is_some (dup_at p s.dups) ≡ true → p < length slots
+  seen_within known = known_within p slots placed (rw (ap (λ t. t.dups) view) known)
+
+  -- the slot of a place where a dup is seen is not empty
+  pub slot_not_none : (r : Option Dup) → is_some (dup_at p s.dups) ≡ true → r ≡ get_or slots p r → r ≡ None → ⊥
+  slot_not_none r known read is =
+      let here = ap (λ t. dup_at p t.dups) (sym view) ∙ read_dup p slots r placed (seen_within known) read ∙ is in
+      false≢true (ap is_some (sym here) ∙ known)
+
+  -- a dup read from the slot of a place where a dup is seen is the dup of that place
+  pub holds_dup : (r : Option Dup) (d : Dup) → is_some (dup_at p s.dups) ≡ true → r ≡ get_or slots p r → r ≡ Some d → HoldsDup p slots s d
+  holds_dup r d known read is =
+      let filled = slot_read p slots r d placed (rw (ap (λ t. t.dups) view) known) read is in
+      record {
+        within = seen_within known;
+        filled = filled;
+        items = ap (λ t. items_in (dup_at p t.dups)) (sym view) ∙ ap items_in (slot_found 0 p p slots (omega arith) placed ∙ filled);
+      }
 
 -- the slots are right once the dup of one slot got an item, whether it was stale or had items before
 pub slots_grown : (p n : ℕ) (slots : List (Option Dup)) (counts : List ℕ) (empty stale stale' : SmallVec ℕ) (d : Dup) (page : GuestPage) → p < length slots → AreSlots slots counts empty stale → get_or slots p None ≡ Some d → n ≡ length (with_item page d.items) → stale'.items ≡ without p stale.items → stale'.capacity ≡ stale.capacity → AreSlots (set slots p (Some (record d { items = with_item page d.items }))) (set counts p n) empty stale'
@@ -477,7 +481,7 @@ had_item page d found = items_not_none page d.items found
 pub slots_unlike : (p : ℕ) (slots : List (Option Dup)) (counts : List ℕ) (empty stale : SmallVec ℕ) (d : Dup) (page : GuestPage) → p < length slots → AreSlots slots counts empty stale → get_or slots p None ≡ Some d → false ≡ has_item page d.items → AreSlots (set slots p (Some (record d { items = without_item page d.items }))) counts empty stale
 slots_unlike p slots counts empty stale d page within h filled absent =
     let e : Dup = record d { items = without_item page d.items } in
-    let kept = sym (absent_kept comes_before same_page pages_ordered page d.items (sym absent)) in
+    let kept = sym (absent_kept pages_ordered (λ q. q) page d.items (none_found (λ q. same_page q page) d.items (sym absent))) in
     let same : is_stale e ≡ is_stale d = ap (λ ps. length ps == 0) kept in
     slots_changed p slots counts counts empty stale stale d e within h filled refl
     (h.counted ∙ sym (map-set_same count_in slots p (Some e) None (ap length kept ∙ sym (ap count_in filled))))

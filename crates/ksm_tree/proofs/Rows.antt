@@ -1,47 +1,20 @@
 -- Dup rows in the order of their places: what a new row and a row that goes change of what is found.
-use Rattle.ksm_tree.proofs.Names.{[], All, All-append, All-cons, All-filter, All-head, All-tail, All-weaker, AllPairs-cons, AllPairs-filter, ap, arith, Bool, cases_Bool, cases_lt, cond, DupRow, false, false≢true, filter, filter-append, filter_none, filter_passes, find, find-append, find_all, find_nothing, find_over, get_or, group_places, if◌then◌else◌, in_group, inl, InPlaceOrder, inr, List, ltb-true, map, map-append, nat_lt, nat_tests, ne_eqb, None, none-some, not, option_map, option_or, pairs_append, pairs_cross, pairs_head, pairs_tail, refl, row_place, same_Some, Some, suc, sym, true, with_dup, with_place, without, ℕ, ◌&&◌, ◌++◌, ◌<◌, ◌==◌, ◌∙◌, ◌∷◌, ◌≡◌}
-
--- one dup's place is before the other's, and their numbers differ
-abbrev pub Comes : DupRow → DupRow → Type 0
-Comes d e = (d.place < e.place) × ((d.number == e.number) ≡ false)
+use Rattle.ksm_tree.proofs.Names.{[], All, All-cons, All-filter, All-head, All-tail, All-weaker, ap, arith, Bool, cases_Bool, cond, DupRow, false, false≢true, filter, filter-append, find, find-append, find_all, find_nothing, find_over, group_places, if◌then◌else◌, in_group, inl, InPlaceOrder, inr, List, map, map-append, nat_lt, nat_tests, ne_eqb, None, none-some, not, option_map, option_or, pairs_head, pairs_tail, refl, row_place, same_Some, Some, sym, true, with_dup, with_place, without, ℕ, ◌&&◌, ◌++◌, ◌<◌, ◌==◌, ◌∙◌, ◌∷◌, ◌≡◌}
+use Rattle.ksm_base.proofs.Orders.{above, below, dups_parted, elsewhere, Lower}
 
 abbrev numbered : ℕ → DupRow → Bool
 numbered q r = r.number == q
 
--- the rows below a place, above it, and elsewhere
-module _ (p : ℕ) where
-  abbrev below : DupRow → Bool
-  below r = nat_lt r.place p
-
-  abbrev above : DupRow → Bool
-  above r = nat_lt p r.place
-
-  abbrev elsewhere : DupRow → Bool
-  elsewhere r = not (r.place == p)
-
-  -- in the order of places, the rows at other places are those below the place, then those above it
-  pub rows_parted : (rows : List DupRow) → InPlaceOrder rows → filter elsewhere rows ≡ filter below rows ++ filter above rows
-  rows_parted [] rise = refl
-  rows_parted (r ∷ rows) rise =
-      let rest = rows_parted rows (pairs_tail (λ a b. (a.place < b.place) × ((a.number == b.number) ≡ false)) r rows rise) in
-      elim (cases_lt p r.place) [
-        | inl greater ↦
-            let none : All (λ s. below s ≡ false) rows = λ k d lt. (let h = (rise 0 (suc k) d (omega arith) (omega arith)).0 in grind (arith, nat_tests, h, greater)) in
-            let e = filter_none below rows none in
-            grind (arith, nat_tests, greater, rest, e)
-        | inr no_greater ↦ grind (arith, nat_tests, no_greater, rest)
-      ]
-
-  -- where no row of a group stands at the place, the places of the group stay without that place
-  pub group_unlike : (t : ℕ) (b : List ℕ) (rows : List DupRow) → All (λ r. (r.place == p && in_group t b r) ≡ false) rows → without p (group_places t b rows) ≡ group_places t b rows
-  group_unlike t b [] none = refl
-  group_unlike t b (r ∷ rows) none =
-      let rest = group_unlike t b rows (All-tail (λ s. (s.place == p && in_group t b s) ≡ false) r rows none) in
-      let here = All-head (λ s. (s.place == p && in_group t b s) ≡ false) r rows none in
-      elim (cases_Bool (in_group t b r)) [
-        | inl inside ↦ let away : (r.place == p) ≡ false = grind (arith, inside, here) in grind (arith, inside, away, rest)
-        | inr outside ↦ grind (arith, outside, rest)
-      ]
+-- where no row of a group stands at the place, the places of the group stay without that place
+pub group_unlike : (p : ℕ) (t : ℕ) (b : List ℕ) (rows : List DupRow) → All (λ r. (r.place == p && in_group t b r) ≡ false) rows → without p (group_places t b rows) ≡ group_places t b rows
+group_unlike p t b [] none = refl
+group_unlike p t b (r ∷ rows) none =
+    let rest = group_unlike p t b rows (All-tail (λ s. (s.place == p && in_group t b s) ≡ false) r rows none) in
+    let here = All-head (λ s. (s.place == p && in_group t b s) ≡ false) r rows none in
+    elim (cases_Bool (in_group t b r)) [
+      | inl inside ↦ let away : (r.place == p) ≡ false = grind (arith, inside, here) in grind (arith, inside, away, rest)
+      | inr outside ↦ grind (arith, outside, rest)
+    ]
 
 -- the places of those rows of a group whose place passes a test are the group's places that pass
 pub group_at : (test : ℕ → Bool) (t : ℕ) (b : List ℕ) (rows : List DupRow) → group_places t b (filter (λ r. test r.place) rows) ≡ filter test (group_places t b rows)
@@ -83,7 +56,7 @@ group_passed t b row rows rise outside =
     group_append t b lower (row ∷ higher)
     ∙ (λ i. group_places t b lower ++ first i)
     ∙ sym (group_append t b lower higher)
-    ∙ ap (group_places t b) (sym (rows_parted row.place rows rise))
+    ∙ ap (group_places t b) (sym (dups_parted row.place rows rise))
     ∙ group_at (λ q. not (q == row.place)) t b rows
 
 -- the number of a new row has the place of the row
@@ -105,7 +78,7 @@ place_kept q row rows rise other =
     let lower = filter (below row.place) rows in
     let higher = filter (above row.place) rows in
     let fails : numbered q row ≡ false = grind (arith, nat_tests, other) in
-    ap (option_map (λ r. r.place)) (find_over (numbered q) lower higher row fails ∙ ap (find (numbered q)) (sym (rows_parted row.place rows rise)))
+    ap (option_map (λ r. r.place)) (find_over (numbered q) lower higher row fails ∙ ap (find (numbered q)) (sym (dups_parted row.place rows rise)))
 
 -- the row that stands at a place is the only one there, and the only one of its number
 abbrev pub IsOne : ℕ → DupRow → DupRow → Type 0
@@ -115,19 +88,19 @@ IsOne p e r = ((r.place == p) ≡ (r.number == e.number)) × ((r.place == p) ≡
 pub only_one : (p : ℕ) (rows : List DupRow) (e : DupRow) → InPlaceOrder rows → find (λ r. r.place == p) rows ≡ Some e → All (IsOne p e) rows
 only_one p [] e rise found = absurd (none-some e found)
 only_one p (r ∷ rows) e rise found =
-    let first = pairs_head Comes r rows rise in
+    let first = pairs_head Lower r rows rise in
     elim (cases_Bool (r.place == p)) [
       | inl here ↦
           let same : r ≡ e = same_Some r e (grind (arith, here, found)) in
           All-cons (IsOne p e) r rows (grind (arith, nat_tests, here, same), λ _. same)
-          (All-weaker (Comes r) (IsOne p e) (λ s h.
+          (All-weaker (Lower r) (IsOne p e) (λ s h.
           let away : (s.place == p) ≡ false = (let h_place = h.0 in grind (arith, nat_tests, here, h_place)) in
           let other : (s.number == e.number) ≡ false = (let h_number = h.1 in grind (arith, nat_tests, same, h_number)) in
           (away ∙ sym other, λ at. absurd (false≢true (sym away ∙ at)))) rows first)
       | inr away ↦
           let found_rest : find (λ s. s.place == p) rows ≡ Some e = grind (arith, away, found) in
-          let apart = find_all (λ s. s.place == p) (Comes r) rows e found_rest first in
-          let rest = only_one p rows e (pairs_tail Comes r rows rise) found_rest in
+          let apart = find_all (λ s. s.place == p) (Lower r) rows e found_rest first in
+          let rest = only_one p rows e (pairs_tail Lower r rows rise) found_rest in
           All-cons (IsOne p e) r rows (away ∙ sym apart.1, λ at. absurd (false≢true (sym away ∙ at))) rest
     ]
 
@@ -139,20 +112,20 @@ IsThat q e r = (r.number == q) ≡ (r.place == e.place)
 pub only_number : (q : ℕ) (rows : List DupRow) (e : DupRow) → InPlaceOrder rows → find (numbered q) rows ≡ Some e → All (IsThat q e) rows
 only_number q [] e rise found = absurd (none-some e found)
 only_number q (r ∷ rows) e rise found =
-    let first = pairs_head Comes r rows rise in
+    let first = pairs_head Lower r rows rise in
     elim (cases_Bool (r.number == q)) [
       | inl here ↦
           let same : r ≡ e = same_Some r e (grind (arith, here, found)) in
           All-cons (IsThat q e) r rows (grind (arith, nat_tests, here, same))
-          (All-weaker (Comes r) (IsThat q e) (λ s h.
+          (All-weaker (Lower r) (IsThat q e) (λ s h.
           let away : (s.place == e.place) ≡ false = (let h_place = h.0 in grind (arith, nat_tests, same, h_place)) in
           let other : (s.number == q) ≡ false = (let h_number = h.1 in grind (arith, nat_tests, here, h_number)) in
           other ∙ sym away) rows first)
       | inr other ↦
           let found_rest : find (numbered q) rows ≡ Some e = grind (arith, other, found) in
-          let apart = find_all (numbered q) (Comes r) rows e found_rest first in
+          let apart = find_all (numbered q) (Lower r) rows e found_rest first in
           let away : (r.place == e.place) ≡ false = (let h_place = apart.0 in grind (arith, nat_tests, h_place)) in
-          All-cons (IsThat q e) r rows (other ∙ sym away) (only_number q rows e (pairs_tail Comes r rows rise) found_rest)
+          All-cons (IsThat q e) r rows (other ∙ sym away) (only_number q rows e (pairs_tail Lower r rows rise) found_rest)
     ]
 
 -- the place of a number once the row at a place has gone
@@ -191,28 +164,3 @@ place_gone p q rows e rise found =
       | inl this ↦ rw this (gone p q e rows this only)
       | inr other ↦ rw other (stayed p q e rows other only)
     ]
-
--- rows stay in the order of their places with a new row
-pub rows_with : (row : DupRow) (rows : List DupRow) → InPlaceOrder rows → All (λ r. r.number < row.number) rows → InPlaceOrder (with_dup row rows)
-rows_with row rows rise fresh =
-    let F : DupRow → Type 0 = λ d. d.number < row.number in
-    let lower = filter (below row.place) rows in
-    let higher = filter (above row.place) rows in
-    let fresh_lower = All-filter (below row.place) F rows fresh in
-    let fresh_higher = All-filter (above row.place) F rows fresh in
-    let is_lower = filter_passes (below row.place) rows in
-    let is_higher = filter_passes (above row.place) rows in
-    let behind : All (Comes row) higher = λ k d lt. (ltb-true row.place (get_or higher k d).place (is_higher k d lt), ne_eqb row.number (get_or higher k d).number (λ e. omega (arith, fresh_higher k d lt, e))) in
-    let cross : All (λ x. All (Comes x) (row ∷ higher)) lower = λ k d lt.
-    let x = get_or lower k d in
-    let first : x.place < row.place = ltb-true x.place row.place (is_lower k d lt) in
-    All-cons (Comes x) row higher (first, ne_eqb x.number row.number (λ e. omega (arith, fresh_lower k d lt, e)))
-    (pairs_cross Comes lower higher (rw (← rows_parted row.place rows rise) (AllPairs-filter Comes (elsewhere row.place) rows rise)) k d lt) in
-    pairs_append Comes lower (row ∷ higher) (AllPairs-filter Comes (below row.place) rows rise)
-    (AllPairs-cons Comes row higher behind (AllPairs-filter Comes (above row.place) rows rise)) cross
-
--- what holds of each row and of a new one holds of each row once the new one is among the rows
-pub all_with : (P : DupRow → Type 0) (row : DupRow) (rows : List DupRow) → All P rows → P row → All P (with_dup row rows)
-all_with P row rows each one =
-    All-append P (filter (below row.place) rows) (row ∷ filter (above row.place) rows)
-    (All-filter (below row.place) P rows each) (All-cons P row (filter (above row.place) rows) one (All-filter (above row.place) P rows each))

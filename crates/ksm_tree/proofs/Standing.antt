@@ -181,53 +181,56 @@ none_waiting pass groups apart = given_same (waits_in pass) (waits_in pass) refl
 -- ---------------------------------------------------------------- one group is written
 
 -- under a number, where a group stood, one of the same content is written
-module _ (numbers : Numbers) (pass : ℕ) (old : Slab Group) (are : AreGroups numbers old pass) (number : ℕ) (was now : Group) (stood : get old number ≡ Some was) (content : now.content ≡ was.content) where
+module _ (g : Groups) (number : ℕ) (was now : Group) (stood : Some was ≡ get g.groups number) (content : now.content ≡ was.content) where
   abbrev new : Slab Group
-  new = with_value old number now
+  new = with_value g.groups number now
 
-  fills : Fills old new number (Some now)
-  fills = Updates-with_value old number now (ap is_some stood)
+  fills : Fills g.groups new number (Some now)
+  fills = Updates-with_value g.groups number now (sym (ap is_some stood))
 
-  written_moved : {X : Type 0} (at : Option Group → X) (change : X → X) → at (Some now) ≡ change (at (Some was)) → (n : ℕ) → at (get new n) ≡ (if n == number then change (at (get old n)) else at (get old n))
+  written_moved : {X : Type 0} (at : Option Group → X) (change : X → X) → at (Some now) ≡ change (at (Some was)) → (n : ℕ)
+      → at (get new n) ≡ (if n == number then change (at (get g.groups n)) else at (get g.groups n))
   written_moved at change is n = elim (cases_Bool (n == number)) [
     | inl same ↦
         let here = (Decides-eqb n number).0 same in
-        ap (λ n. at (get new n)) here ∙ ap at fills.changed ∙ is ∙ sym (rw same (ap (λ n. change (at (get old n))) here ∙ ap (λ o. change (at o)) stood))
+        ap (λ n. at (get new n)) here ∙ ap at fills.changed ∙ is ∙ sym (rw same (ap (λ n. change (at (get g.groups n))) here ∙ ap (λ o. change (at o)) (sym stood)))
     | inr differ ↦ ap at (fills.others n (λ same. true≢false (sym ((Decides-eqb n number).1 same) ∙ differ))) ∙ sym (rw differ refl)
   ]
 
-  written_same : {X : Type 0} (at : Option Group → X) → at (Some now) ≡ at (Some was) → (n : ℕ) → at (get new n) ≡ at (get old n)
-  written_same at is n = written_moved at (λ x. x) is n ∙ cond_same (n == number) (at (get old n))
+  written_same : {X : Type 0} (at : Option Group → X) → at (Some now) ≡ at (Some was) → (n : ℕ) → at (get new n) ≡ at (get g.groups n)
+  written_same at is n = written_moved at (λ x. x) is n ∙ cond_same (n == number) (at (get g.groups n))
 
   -- the groups keep their numbers where one of them is written anew with its content
-  pub rewritten : now.pass ≤ pass → AreGroups numbers new pass
+  pub rewritten : now.pass ≤ g.pass → AreGroups g.numbers.entries new g.pass
   rewritten within = record {
-    numbered = λ content_now n. subst (λ o. (its_number content_now numbers ≡ Some n) ↔ (o ≡ Some content_now)) (sym (written_same content_in (ap Some content) n)) (are.numbered content_now n);
+    numbered = λ content_now n. subst (λ o. (its_number content_now g.numbers.entries ≡ Some n) ↔ (o ≡ Some content_now))
+        (sym (written_same content_in (ap Some content) n)) (g.lawful.numbered content_now n);
     passes = λ n. elim (cases_Bool (n == number)) [
-      | inl same ↦ λ g is. subst (λ g. g.pass ≤ pass) (same_Some now g (sym fills.changed ∙ ap (get new) (sym ((Decides-eqb n number).0 same)) ∙ is)) within
-      | inr differ ↦ subst (λ o. ForSome o (λ g. g.pass ≤ pass)) (sym (fills.others n (λ same. true≢false (sym ((Decides-eqb n number).1 same) ∙ differ)))) (are.passes n)
+      | inl same ↦ λ h is. subst (λ h. h.pass ≤ g.pass) (same_Some now h (sym fills.changed ∙ ap (get new) (sym ((Decides-eqb n number).0 same)) ∙ is)) within
+      | inr differ ↦ subst (λ o. ForSome o (λ h. h.pass ≤ g.pass)) (sym (fills.others n (λ same. true≢false (sym ((Decides-eqb n number).1 same) ∙ differ)))) (g.lawful.passes n)
     ];
-    begun = are.begun;
+    begun = g.lawful.begun;
   }
 
   -- a group written anew with changed places changes the chain of its content, and no other
-  pub rechained : (change : List ℕ → List ℕ) → now.places.list.items ≡ change was.places.list.items → (tree : ℕ) (bytes : List ℕ) → number_of tree bytes numbers ≡ Some number → (t : ℕ) (b : List ℕ)
-      → under [] (λ n. places_in (get new n)) (number_of t b numbers) ≡ (if t == tree && bytes_eq b bytes then change (under [] (λ n. places_in (get old n)) (number_of t b numbers)) else under [] (λ n. places_in (get old n)) (number_of t b numbers))
+  pub rechained : (change : List ℕ → List ℕ) → now.places.list.items ≡ change was.places.list.items → (tree : ℕ) (bytes : List ℕ) → number_of tree bytes g.numbers.entries ≡ Some number
+      → (t : ℕ) (b : List ℕ) → under [] (λ n. places_in (get new n)) (number_of t b g.numbers.entries) ≡ (if t == tree && bytes_eq b bytes then change (chain_in t b g) else chain_in t b g)
   rechained change is tree bytes named =
-      under_moved [] numbers (λ n. content_in (get old n)) are.numbered (λ n. places_in (get old n)) tree bytes change (λ n. places_in (get new n)) number named (written_moved places_in change is)
+      under_moved [] g.numbers.entries (λ n. content_in (get g.groups n)) g.lawful.numbered (λ n. places_in (get g.groups n)) tree bytes change
+      (λ n. places_in (get new n)) number named (written_moved places_in change is)
 
   -- a group written anew tells what waits for its content, and what waits elsewhere stays
-  pub repaged : now.pass ≤ pass → (tree : ℕ) (bytes : List ℕ) → number_of tree bytes numbers ≡ Some number → (t : ℕ) (b : List ℕ)
-      → waiting_page t b (filter_map (waits_in pass) new.slots) ≡ (if t == tree && bytes_eq b bytes then page_in pass (Some now) else waiting_page t b (filter_map (waits_in pass) old.slots))
+  pub repaged : now.pass ≤ g.pass → (tree : ℕ) (bytes : List ℕ) → number_of tree bytes g.numbers.entries ≡ Some number
+      → (t : ℕ) (b : List ℕ) → waiting_page t b (filter_map (waits_in g.pass) new.slots) ≡ (if t == tree && bytes_eq b bytes then page_in g.pass (Some now) else waiting_page t b (waiting_in g))
   repaged within tree bytes named t b =
-      waiting_found numbers new pass (rewritten within) t b
-      ∙ under_moved None numbers (λ n. content_in (get old n)) are.numbered (λ n. page_in pass (get old n)) tree bytes (λ _. page_in pass (Some now)) (λ n. page_in pass (get new n)) number named
-      (written_moved (page_in pass) (λ _. page_in pass (Some now)) refl) t b
-      ∙ ap (λ o. if t == tree && bytes_eq b bytes then page_in pass (Some now) else o) (sym (waiting_found numbers old pass are t b))
+      waiting_found g.numbers.entries new g.pass (rewritten within) t b
+      ∙ under_moved None g.numbers.entries (λ n. content_in (get g.groups n)) g.lawful.numbered (λ n. page_in g.pass (get g.groups n)) tree bytes
+      (λ _. page_in g.pass (Some now)) (λ n. page_in g.pass (get new n)) number named (written_moved (page_in g.pass) (λ _. page_in g.pass (Some now)) refl) t b
+      ∙ ap (λ o. if t == tree && bytes_eq b bytes then page_in g.pass (Some now) else o) (sym (waiting_found g.numbers.entries g.groups g.pass g.lawful t b))
 
   -- where a group written anew has what waited in it, all that waits is as it was
-  pub same_waiting : waits_in pass (Some now) ≡ waits_in pass (Some was) → filter_map (waits_in pass) new.slots ≡ filter_map (waits_in pass) old.slots
-  same_waiting is = given_same (waits_in pass) (waits_in pass) refl refl new.slots old.slots (written_same (waits_in pass) is)
+  pub same_waiting : waits_in g.pass (Some now) ≡ waits_in g.pass (Some was) → filter_map (waits_in g.pass) new.slots ≡ waiting_in g
+  same_waiting is = given_same (waits_in g.pass) (waits_in g.pass) refl refl new.slots g.groups.slots (written_same (waits_in g.pass) is)
 
 -- a content without a number has no page that could stop to wait
 pub none_removed : (g : Groups) (tree : ℕ) (bytes : List ℕ) → number_of tree bytes g.numbers.entries ≡ None → (t : ℕ) (b : List ℕ) → waiting_page t b (waiting_in g) ≡ (if t == tree && bytes_eq b bytes then None else waiting_page t b (waiting_in g))
@@ -295,7 +298,12 @@ module _ (numbers_old numbers_new : BTreeMap Content ℕ) (pass : ℕ) (old new 
     begun = are.begun;
   }
 
--- a group in which nothing stands has come into the room that was made for it
+-- a group in which nothing stands has come: the groups are right, and the chains and all that waits are as they were
+pub record Entered (g : Groups) (later : Slab Group) (numbers : BTreeMap Content ℕ) : Type 0 where
+  pub lawful : AreGroups numbers.entries later g.pass
+  pub waiting : filter_map (waits_in g.pass) later.slots ≡ waiting_in g
+  pub chains : (t : ℕ) (b : List ℕ) → under [] (λ n. places_in (get later n)) (number_of t b numbers.entries) ≡ chain_in t b g
+
 module _ (g : Groups) (kept later : Slab Group) (numbers : BTreeMap Content ℕ) (k : Content) (number : ℕ) (fresh : Group) (room : kept ≡ record g.groups { capacity = kept.capacity }) (none : its_number k g.numbers.entries ≡ None)
     (vacant : get kept number ≡ None) (updates : Updates content_order g.numbers numbers k (Some number)) (fills : Fills kept later number (Some fresh)) (content : fresh.content ≡ k) (idle : fresh.pass ≡ 0) (empty : fresh.places.list.items ≡ []) where
   are_kept : AreGroups g.numbers.entries kept g.pass
@@ -307,17 +315,15 @@ module _ (g : Groups) (kept later : Slab Group) (numbers : BTreeMap Content ℕ)
   now_idle : IsIdle g.pass (Some fresh)
   now_idle = (empty, waits_still fresh g.pass (λ same. let begun = g.lawful.begun in omega (arith, begun, idle, same)))
 
-  -- the groups are right once a fresh group entered
-  pub enter_groups : AreGroups numbers.entries later g.pass
-  enter_groups = came_groups g.numbers numbers g.pass kept later are_kept k number (Some number) (Some fresh) updates fills was_idle now_idle fresh refl content (omega (arith, idle)) refl none vacant
-
-  -- once a fresh group entered, what waits is as it was
-  pub enter_waiting : filter_map (waits_in g.pass) later.slots ≡ waiting_in g
-  enter_waiting = idle_waiting g.numbers numbers g.pass kept later are_kept k number (Some number) (Some fresh) updates fills was_idle now_idle ∙ ap (λ s. filter_map (waits_in g.pass) s.slots) room
-
-  -- once a fresh group entered, the chains are as they were
-  pub enter_chains : (t : ℕ) (b : List ℕ) → under [] (λ n. places_in (get later n)) (number_of t b numbers.entries) ≡ chain_in t b g
-  enter_chains t b =
-      idle_chains g.numbers numbers g.pass kept later are_kept k number (Some number) (Some fresh) updates fills was_idle now_idle
-      (ap places_in fills.changed ∙ empty ∙ sym (ap (under [] (λ n. places_in (get kept n))) none)) t b
-      ∙ ap (λ s. under [] (λ n. places_in (get s n)) (number_of t b g.numbers.entries)) room
+  -- a group in which nothing stands comes into the room that was made for it
+  pub entered_fresh : Entered g later numbers
+  entered_fresh = record {
+    lawful = came_groups g.numbers numbers g.pass kept later are_kept k number (Some number) (Some fresh) updates fills was_idle now_idle fresh refl content
+        (omega (arith, idle)) refl none vacant;
+    waiting = idle_waiting g.numbers numbers g.pass kept later are_kept k number (Some number) (Some fresh) updates fills was_idle now_idle
+        ∙ ap (λ s. filter_map (waits_in g.pass) s.slots) room;
+    chains = λ t b.
+        idle_chains g.numbers numbers g.pass kept later are_kept k number (Some number) (Some fresh) updates fills was_idle now_idle
+        (ap places_in fills.changed ∙ empty ∙ sym (ap (under [] (λ n. places_in (get kept n))) none)) t b
+        ∙ ap (λ s. under [] (λ n. places_in (get s n)) (number_of t b g.numbers.entries)) room;
+  }

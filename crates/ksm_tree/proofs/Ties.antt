@@ -1,5 +1,5 @@
 -- The items of each dup stay the pages of the rows merged into it: the dups after a change of one row, and after a change of all.
-use Rattle.ksm_tree.proofs.Names.{[], absent_kept, All, All-append, All-cons, All-filter, All-head, All-map, All-tail, All-weaker, ap, AreTied, arith, cases_Bool, change_items, change_row, comes_before, cond_both, Dup, dup_of, DupRow, each_at_page, eqb-true, false, false≢true, filter, filter_all, filter_none, find_all, find_none, find_passes, get_or, GuestPage, has_item, has_number, if◌then◌else◌, inl, InPageOrder, inr, is_some, item_count, items_in, items_of, length, let_out, List, map, Merged, merged_into, merged_state, nat_lt, nat_tests, ne_eqb, None, not, not_an_item, Option, ordered_map, pages_ordered, PageState, Private, refl, Row, row_at, rows_of, same_page, same_Some, Some, stands_at, sym, true, Waiting, with_item, with_new, with_row, without_item, without_page, without_place, Zero, ℕ, ◌++◌, ◌<◌, ◌==◌, ◌∙◌, ◌∷◌, ◌≡◌}
+use Rattle.ksm_tree.proofs.Names.{[], absent_kept, All, All-append, All-cons, All-filter, All-head, All-map, All-tail, All-weaker, ap, AreTied, arith, cases_Bool, change_items, change_row, cond_both, Dup, dup_of, DupRow, each_at_page, eqb-true, false, false≢true, filter, filter_all, filter_none, find_all, find_none, find_passes, get_or, GuestPage, has_item, has_number, inl, InPageOrder, inr, is_some, item_count, items_in, items_of, length, let_out, List, map, Merged, merged_into, merged_state, nat_lt, nat_tests, ne_eqb, None, none_found, not, not_an_item, Option, ordered_map, pages_ordered, PageState, Private, refl, Row, row_at, rows_of, same_page, same_Some, Some, stands_at, sym, true, Waiting, with_item, with_new, with_row, without_item, without_page, without_place, Zero, ℕ, if◌then◌else◌, ◌++◌, ◌<◌, ◌==◌, ◌∙◌, ◌∷◌, ◌≡◌}
 use Rattle.ksm_tree.specs.Dups.{items_of as items_numbered}
 use Rattle.ksm_tree.proofs.Changes.{all_rows}
 use Rattle.ksm_tree.proofs.Tied.{ahead, behind, pages_that, pages_append, without_splits, items_dropped, items_joined, items_left, items_kept, tied_counted}
@@ -35,7 +35,7 @@ module _ (rows : List Row) (page : GuestPage) (old : Row) (rise : InPageOrder ro
       no_item page d rows (λ k e lt same. ap (λ r. merged_into d.number r.state) (only_row page rows old rise found k e lt same) ∙ fails)
 
   unlike : (d : DupRow) → merged_into d.number old.state ≡ false → items_of rows d ≡ without_item page (items_of rows d)
-  unlike d fails = absent_kept comes_before same_page pages_ordered page (items_of rows d) (not_item d fails)
+  unlike d fails = absent_kept pages_ordered (λ p. p) page (items_of rows d) (none_found (λ p. same_page p page) (items_of rows d) (not_item d fails))
 
   -- where the page is no item any more
   out_of : (state : PageState) → old.state ≡ state → (new : List Row) (dups : List Dup) → ((d : DupRow) → items_of new d ≡ without_item page (items_of rows d)) → AreTied rows dups → AreTied new (let_out state page dups)

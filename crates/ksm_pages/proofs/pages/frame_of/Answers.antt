@@ -17,8 +17,3 @@ returns-in-Merged c =
     let frames = c.args.frames.now in
     c.frame_at.ensures ∙ ap (option_and_then (slice_get frames)) c.place_of.ensures ∙ kept_at_place frames (dup_numbered e.number dups)
     ∙ ap (λ (kind : Kind). frame_seen (lodging dups frames) (state_of kind e.number c.args.pass) (frame_of kind e.at)) (sym c.in-Merged.is)
-
-pub returns-in-Zero : goal.returns-in-Zero
-returns-in-Zero c =
-    let e = c.args.entry.now in
-    ap (λ (kind : Kind). frame_seen (lodging (dup_rows c.args.dups.now.dups) c.args.frames.now) (state_of kind e.number c.args.pass) (frame_of kind e.at)) (sym c.in-Zero.is)

@@ -1,6 +1,16 @@
-use Rattle.ksm_pages.proofs.Names.{[], ap, AreRuns, begins_behind, false, get_or, get_or_default, IsRunOf, length, pages_in, subst, sym, true, ◌+◌, ◌<◌, ◌∙◌, ◌≡◌}
+use Rattle.ksm_pages.proofs.Names.{[], ap, AreRuns, begins_behind, get_or, get_or_default, IsRunOf, length, pages_in, subst, sym, ◌+◌, ◌<◌, ◌∙◌, ◌≡◌}
 use Rattle.ksm_pages.proofs.Cuts.{cut_are_runs, cut_pages, cut_runs, first_room, into_first, into_second, second_room}
 use Rattle.ksm_pages.proofs.runs.make_room.Goals as goal
+use Rattle.ksm_pages.proofs.runs.make_room.Goals.{After-begins_behind-behind}
+
+-- the second part begins behind the page as the test told
+begins : (c : After-begins_behind-behind)
+    → begins_behind c.args.page (get_or (cut_runs c.args.runs.now.items c.args.at c.requires.runs c.requires.within c.requires.full) (c.args.at + 1) []) ≡ c.begins_behind-behind.result
+begins c =
+    let at = c.args.at + 1 in
+    let long = second_room c.args.runs.now.items c.args.at c.requires.runs c.requires.within c.requires.full in
+    let there = c.index.ensures ∙ ap (λ rs. get_or rs at c.index.result.now) c.in_ok-cut.ensures.cut ∙ get_or_default _ at c.index.result.now [] long.0 in
+    ap (begins_behind c.args.page) (sym there) ∙ sym c.begins_behind-behind.ensures
 
 pub returns-then-behind-clause-runs : goal.returns-then-behind-clause-runs
 returns-then-behind-clause-runs c =
@@ -12,14 +22,8 @@ returns-then-behind-clause-pages c =
 
 pub returns-then-behind-clause-place : goal.returns-then-behind-clause-place
 returns-then-behind-clause-place c =
-    let runs = c.args.runs.now.items in
-    let at = c.args.at in
-    let cut = c.in_ok-cut.ensures.cut in
-    let two = cut_runs runs at c.requires.runs c.requires.within c.requires.full in
-    let long = second_room runs at c.requires.runs c.requires.within c.requires.full in
-    let there : c.index.result.now ≡ get_or two (at + 1) [] = c.index.ensures ∙ ap (λ rs. get_or rs (at + 1) c.index.result.now) cut ∙ get_or_default two (at + 1) c.index.result.now [] long.0 in
-    let begins : begins_behind c.args.page (get_or two (at + 1) []) ≡ true = ap (begins_behind c.args.page) (sym there) ∙ sym c.begins_behind-behind.ensures ∙ c.if-behind.true in
-    subst (λ rs. IsRunOf c.args.page rs at) (sym cut) (into_first runs at c.requires.runs c.requires.within c.requires.full c.args.page c.requires.place begins)
+    subst (λ rs. IsRunOf c.args.page rs c.args.at) (sym c.in_ok-cut.ensures.cut) (into_first c.args.runs.now.items c.args.at c.requires.runs c.requires.within c.requires.full
+    c.args.page c.requires.place (begins (goal.at.returns-then-behind-clause-place c).After-begins_behind-behind ∙ c.if-behind.true))
 
 pub returns-then-behind-clause-within : goal.returns-then-behind-clause-within
 returns-then-behind-clause-within c =
@@ -39,14 +43,8 @@ returns-else-behind-clause-pages c =
 
 pub returns-else-behind-clause-place : goal.returns-else-behind-clause-place
 returns-else-behind-clause-place c =
-    let runs = c.args.runs.now.items in
-    let at = c.args.at in
-    let cut = c.in_ok-cut.ensures.cut in
-    let two = cut_runs runs at c.requires.runs c.requires.within c.requires.full in
-    let long = second_room runs at c.requires.runs c.requires.within c.requires.full in
-    let there : c.index.result.now ≡ get_or two (at + 1) [] = c.index.ensures ∙ ap (λ rs. get_or rs (at + 1) c.index.result.now) cut ∙ get_or_default two (at + 1) c.index.result.now [] long.0 in
-    let begins : begins_behind c.args.page (get_or two (at + 1) []) ≡ false = ap (begins_behind c.args.page) (sym there) ∙ sym c.begins_behind-behind.ensures ∙ c.if-behind.false in
-    subst (λ rs. IsRunOf c.args.page rs (at + 1)) (sym cut) (into_second runs at c.requires.runs c.requires.within c.requires.full c.args.page c.requires.place begins)
+    subst (λ rs. IsRunOf c.args.page rs (c.args.at + 1)) (sym c.in_ok-cut.ensures.cut) (into_second c.args.runs.now.items c.args.at c.requires.runs c.requires.within c.requires.full
+    c.args.page c.requires.place (begins (goal.at.returns-else-behind-clause-place c).After-begins_behind-behind ∙ c.if-behind.false))
 
 pub returns-else-behind-clause-within : goal.returns-else-behind-clause-within
 returns-else-behind-clause-within c =

@@ -1,4 +1,4 @@
-use Rattle.ksm_pages.proofs.Names.{[], ap, AreRuns, find, get_or_default, is_of, length, pages_in, refl, set, set-get_or, subst, sym, with_named, ◌<◌, ◌∙◌}
+use Rattle.ksm_pages.proofs.Names.{[], ap, AreRuns, find, get_or_default, is_of, length, pages_in, refl, set, subst, sym, with_named, ◌<◌, ◌∙◌}
 use Rattle.ksm_pages.proofs.Cuts.{put_are_runs}
 use Rattle.ksm_pages.proofs.Placed.{find_in_run, put_in_run}
 use Rattle.ksm_pages.proofs.runs.put_in.Goals as goal
@@ -10,12 +10,6 @@ insert-requires c = record {
       ∙ sym (find_in_run c.args.named.page c.args.runs.now.items c.args.at c.index_mut.result.now c.requires.place c.requires.within)
       ∙ c.requires.absent;
 }
-
-pub returns-in_err-insert-clause-runs : goal.returns-in_err-insert-clause-runs
-returns-in_err-insert-clause-runs c =
-    let runs = c.args.runs.now.items in
-    let same = ap (set runs c.args.at) (c.in_err-insert.ensures.kept ∙ c.index_mut.ensures.value) ∙ set-get_or runs c.args.at c.index_mut.result.now in
-    subst AreRuns (sym same) c.requires.runs
 
 pub returns-clause-runs : goal.returns-clause-runs
 returns-clause-runs c =

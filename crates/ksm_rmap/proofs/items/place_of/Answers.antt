@@ -1,6 +1,6 @@
 use Rattle.std.proofs.Common.{rules}
 use Rattle.std.proofs.lemmas.List.Sorted.{IsPartitionPoint-from_clause}
-use Rattle.ksm_base.specs.Rows.{comes_before, same_page}
+use Rattle.ksm_base.specs.Rows.{comes_before}
 use Rattle.ksm_rmap.proofs.Ordered.{parted, point_is_count}
 use Rattle.ksm_rmap.proofs.Pages.{pages_ordered}
 use Rattle.ksm_rmap.proofs.items.place_of.Goals as goal
@@ -9,6 +9,6 @@ pub returns-clause-count : goal.returns-clause-count
 returns-clause-count c =
     let page = c.args.page in
     let pages = c.args.pages.now in
-    let split = parted comes_before same_page pages_ordered page pages c.requires in
+    let split = parted pages_ordered (λ p. p) page pages c.requires in
     let point = IsPartitionPoint-from_clause (λ p. comes_before p page) pages _ c.partition_point.ensures.partitioned split (λ a r q k. search rules) in
     point_is_count (λ p. comes_before p page) pages _ c.partition_point.ensures.bound point.0 point.1

@@ -1,21 +1,20 @@
-use Rattle.std.proofs.Common.{◌≡◌, ◌<◌, false, length, get_or, ◌∙◌, sym, ap, arith}
-use Rattle.std.specs.Prelude.{filter, nat_lt}
+use Rattle.std.proofs.Common.{is_some, refl, ◌∙◌, sym, ap}
 use Rattle.std.proofs.lemmas.Bool.{le-ltb}
 use Rattle.ksm_base.specs.declared.page.GuestPage.{GuestPage}
-use Rattle.ksm_base.specs.Rows.{comes_before, same_page}
-use Rattle.ksm_rmap.proofs.Ordered.{found_at, absent_past}
+use Rattle.ksm_base.specs.Rows.{same_page}
+use Rattle.ksm_rmap.proofs.Ordered.{absent_past, any_found, found_by}
 use Rattle.ksm_rmap.proofs.Pages.{pages_ordered}
 use Rattle.ksm_rmap.proofs.items.stands_at.Goals as goal
 
 pub returns-then-at-pages-clause-found : goal.returns-then-at-pages-clause-found
 returns-then-at-pages-clause-found c =
-    let page = c.args.page in
     let pages = c.args.pages.now in
     let d : GuestPage = record { guest = 0; page = 0 } in
-    let within : length (filter (λ p. comes_before p page) pages) < length pages = omega (arith, c.requires.place) in
-    c.eq.ensures ∙ ap (λ n. same_page (get_or pages n d) page) c.requires.place ∙ sym (found_at comes_before same_page pages_ordered page pages d c.requires.order within)
+    c.eq.ensures ∙ sym (any_found (λ p. same_page p c.args.page) pages
+    ∙ found_by pages_ordered (λ p. p) c.args.page pages c.requires.order refl refl c.requires.place d c.if-at-pages.true)
 
 pub returns-else-at-pages-clause-found : goal.returns-else-at-pages-clause-found
 returns-else-at-pages-clause-found c =
-    let past : nat_lt c.args.at (length c.args.pages.now) ≡ false = le-ltb _ _ (omega arith) in
-    past ∙ sym (absent_past comes_before same_page pages_ordered c.args.page c.args.pages.now c.requires.order (omega (arith, c.requires.place)))
+    let pages = c.args.pages.now in
+    let absent = absent_past pages_ordered (λ p. p) c.args.page pages c.requires.order refl refl c.requires.place c.if-at-pages.false in
+    le-ltb _ _ c.if-at-pages.false ∙ sym (any_found (λ p. same_page p c.args.page) pages ∙ ap is_some absent)

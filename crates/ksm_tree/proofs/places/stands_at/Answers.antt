@@ -1,16 +1,15 @@
-use Rattle.ksm_tree.proofs.Names.{absent_past, ap, arith, false, filter, get_or, le-ltb, length, nat_lt, sym, ◌<◌, ◌==◌, ◌∙◌, ◌≡◌}
-use Rattle.ksm_rmap.proofs.Ordered.{found_at}
+use Rattle.ksm_tree.proofs.Names.{absent_past, any_found, ap, found_by, is_some, le-ltb, refl, sym, ◌==◌, ◌∙◌}
 use Rattle.ksm_tree.proofs.Numbers.{places_ordered}
 use Rattle.ksm_tree.proofs.places.stands_at.Goals as goal
 
 pub returns-then-at-places-clause-found : goal.returns-then-at-places-clause-found
 returns-then-at-places-clause-found c =
-    let place = c.args.place in
     let places = c.args.places.now in
-    let within : length (filter (λ p. nat_lt p place) places) < length places = omega (arith, c.requires.index) in
-    ap (λ n. get_or places n 0 == place) c.requires.index ∙ sym (found_at nat_lt (λ p q. p == q) places_ordered place places 0 c.requires.order within)
+    sym (any_found (λ p. p == c.args.place) places
+    ∙ found_by places_ordered (λ p. p) c.args.place places c.requires.order refl refl c.requires.index 0 c.if-at-places.true)
 
 pub returns-else-at-places-clause-found : goal.returns-else-at-places-clause-found
 returns-else-at-places-clause-found c =
-    let past : nat_lt c.args.at (length c.args.places.now) ≡ false = le-ltb _ _ (omega arith) in
-    past ∙ sym (absent_past nat_lt (λ p q. p == q) places_ordered c.args.place c.args.places.now c.requires.order (omega (arith, c.requires.index)))
+    let places = c.args.places.now in
+    let absent = absent_past places_ordered (λ p. p) c.args.place places c.requires.order refl refl c.requires.index c.if-at-places.false in
+    le-ltb _ _ c.if-at-places.false ∙ sym (any_found (λ p. p == c.args.place) places ∙ ap is_some absent)

@@ -1,10 +1,6 @@
-use Rattle.ksm_pages.proofs.Names.{ahead_of, ap, arith, count_by, length, length-filter, Named, pages_in, sym, visited, ◌∙◌}
+use Rattle.ksm_pages.proofs.Names.{ahead_of, ap, length, length-filter, Named, pages_in, sym, visited, ◌∙◌}
 use Rattle.ksm_pages.proofs.Coming.{ahead_of_none}
 use Rattle.ksm_pages.proofs.order.Order.ahead.Goals as goal
-
-pub ahead-requires-clause-few : goal.ahead-requires-clause-few
-ahead-requires-clause-few c =
-    omega (arith, c.self.invariant.counted, ap (λ rs. count_by (λ (n : Named). n.mergeable) (pages_in rs)) c.as_slice.ensures.value)
 
 pub returns-in-None : goal.returns-in-None
 returns-in-None c =

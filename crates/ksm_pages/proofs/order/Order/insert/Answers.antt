@@ -1,4 +1,4 @@
-use Rattle.ksm_pages.proofs.Names.{ap, arith, count_by, find, is_of, length, Named, None, pages_in, refl, true, ◌+◌, ◌∙◌, ◌≡◌}
+use Rattle.ksm_pages.proofs.Names.{ap, arith, count_by, find, is_of, length, Named, None, pages_in, true, ◌+◌, ◌∙◌, ◌≡◌}
 use Rattle.ksm_pages.proofs.Keyed.{count_with, length_with}
 use Rattle.ksm_pages.proofs.order.Order.insert.Goals as goal
 
@@ -9,8 +9,8 @@ invariant_of-self-2 c =
     let named : Named = record { page = c.args.page; key = c.args.key; mergeable = true } in
     let absent : find (is_of c.args.page) all ≡ None = ap (find (is_of c.args.page)) c.self.view_is ∙ c.requires.absent in
     let one_more : c.in-Some.len ≡ c.self.inside.len + 1 = grind (arith, c.checked_add.ensures, c.in-Some.is) in
-    let longer = length_with (λ n. n.page) c.args.page named all refl rise absent in
-    let more = count_with (λ n. n.page) c.args.page (λ (n : Named). n.mergeable) named all refl rise absent in
+    let longer = length_with (λ n. n.page) c.args.page named all rise absent in
+    let more = count_with (λ n. n.page) c.args.page (λ (n : Named). n.mergeable) named all rise absent in
     record {
       parts = c.put.ensures.runs;
       long = let new = ap length c.in_ok-put.ensures.added in omega (arith, one_more, longer, new, c.self.invariant.long);

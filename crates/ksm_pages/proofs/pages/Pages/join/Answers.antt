@@ -1,7 +1,8 @@
-use Rattle.ksm_pages.proofs.Names.{ap, HasRoom, held_of, PagesValue, rows_of, RowsView, Some, subst, sym, tied_absent, true≢false, ◌∙◌}
+use Rattle.ksm_pages.proofs.Names.{ap, false, HasRoom, held_at, held_of, PagesValue, rows_of, RowsView, shared_state, Some, subst, sym, tied_absent, true≢false, ◌∙◌, ◌≡◌}
 use Rattle.ksm_pages.proofs.Joined.{fewer_room, known_room, lawful_joined, own_not_merged, own_seat, told_joined}
 use Rattle.ksm_pages.proofs.Leaving.{alone_found, alone_there, lies, of_dup, row_there}
 use Rattle.ksm_pages.proofs.pages.Pages.join.Goals as goal
+use Rattle.ksm_pages.proofs.pages.Pages.join.Goals.{After-left_by}
 
 pub join_at-requires-clause-known : goal.join_at-requires-clause-known
 join_at-requires-clause-known c =
@@ -27,42 +28,33 @@ pub unreachable-requires : goal.unreachable-requires
 unreachable-requires c = true≢false
     (alone_there c.self.inside c.args.self.now c.self.view_is c.args.spot.page c.in_default.ensures c.requires.alone)
 
+found : (c : After-left_by) → held_at c.args.spot.page c.self.inside.rows.held ≡ Some (held_of c.pass.result c.in-Some.entry.now)
+found c = c.in-Some.ensures ∙ ap (λ n. Some (held_of n c.in-Some.entry.now)) (sym c.pass.ensures)
+
+alone : (c : After-left_by) → shared_state (held_of c.pass.result c.in-Some.entry.now).row.state ≡ false
+alone c =
+    alone_found c.self.inside c.args.self.now c.self.view_is c.args.spot.page (held_of c.pass.result c.in-Some.entry.now) (found c) c.requires.alone
+
 pub invariant_of-self-2 : goal.invariant_of-self-2
 invariant_of-self-2 c =
-    let s = c.self.inside in
-    let page = c.args.spot.page in
-    let h = held_of c.pass.result c.in-Some.entry.now in
-    let found = c.in-Some.ensures ∙ ap (λ n. Some (held_of n c.in-Some.entry.now)) (sym c.pass.ensures) in
-    let alone = alone_found s c.args.self.now c.self.view_is page h found c.requires.alone in
-    lawful_joined s c.self.invariant page h found alone c.args.best.number c.join_at.new.self c.left_by.new.dups
-    c.in_ok-place.ensures.joined
-    c.left_by.ensures.dups c.left_by.ensures.waiting c.merge.new.self (ap (λ (r : RowsView). r.held) c.merge.ensures)
+    let b = (goal.at.invariant_of-self-2 c).After-left_by in
+    lawful_joined c.self.inside c.self.invariant c.args.spot.page (held_of c.pass.result c.in-Some.entry.now) (found b) (alone b) c.args.best.number c.join_at.new.self
+    c.left_by.new.dups c.in_ok-place.ensures.joined c.left_by.ensures.dups c.left_by.ensures.waiting c.merge.new.self (ap (λ (r : RowsView). r.held) c.merge.ensures)
 
 pub returns-clause-left : goal.returns-clause-left
 returns-clause-left c =
-    let s = c.self.inside in
-    let page = c.args.spot.page in
-    let h = held_of c.pass.result c.in-Some.entry.now in
-    let found = c.in-Some.ensures ∙ ap (λ n. Some (held_of n c.in-Some.entry.now)) (sym c.pass.ensures) in
-    let alone = alone_found s c.args.self.now c.self.view_is page h found c.requires.alone in
-    sym (lies s c.self.invariant page h found c.args.self.now c.self.view_is) ∙ own_seat (of_dup s) c.pass.result c.in-Some.entry.now alone
+    let b = (goal.at.returns-clause-left c).After-left_by in
+    sym (lies c.self.inside c.self.invariant c.args.spot.page (held_of c.pass.result c.in-Some.entry.now) (found b) c.args.self.now c.self.view_is)
+    ∙ own_seat (of_dup c.self.inside) c.pass.result c.in-Some.entry.now (alone b)
 
 pub returns-clause-joined : goal.returns-clause-joined
 returns-clause-joined c =
-    let s = c.self.inside in
-    let page = c.args.spot.page in
-    let h = held_of c.pass.result c.in-Some.entry.now in
-    let found = c.in-Some.ensures ∙ ap (λ n. Some (held_of n c.in-Some.entry.now)) (sym c.pass.ensures) in
-    let alone = alone_found s c.args.self.now c.self.view_is page h found c.requires.alone in
-    (told_joined s c.self.invariant page h found alone c.args.best.number c.join_at.new.self c.left_by.new.dups c.in_ok-place.ensures.joined
-    c.left_by.ensures.dups c.left_by.ensures.waiting c.merge.new.self c.merge.ensures c.args.self.now c.self.view_is).0
+    let b = (goal.at.returns-clause-joined c).After-left_by in
+    (told_joined c.self.inside c.self.invariant c.args.spot.page (held_of c.pass.result c.in-Some.entry.now) (found b) (alone b) c.args.best.number c.join_at.new.self
+    c.left_by.new.dups c.in_ok-place.ensures.joined c.left_by.ensures.dups c.left_by.ensures.waiting c.merge.new.self c.merge.ensures c.args.self.now c.self.view_is).0
 
 pub returns-clause-frame : goal.returns-clause-frame
 returns-clause-frame c =
-    let s = c.self.inside in
-    let page = c.args.spot.page in
-    let h = held_of c.pass.result c.in-Some.entry.now in
-    let found = c.in-Some.ensures ∙ ap (λ n. Some (held_of n c.in-Some.entry.now)) (sym c.pass.ensures) in
-    let alone = alone_found s c.args.self.now c.self.view_is page h found c.requires.alone in
-    (told_joined s c.self.invariant page h found alone c.args.best.number c.join_at.new.self c.left_by.new.dups c.in_ok-place.ensures.joined
-    c.left_by.ensures.dups c.left_by.ensures.waiting c.merge.new.self c.merge.ensures c.args.self.now c.self.view_is).1
+    let b = (goal.at.returns-clause-frame c).After-left_by in
+    (told_joined c.self.inside c.self.invariant c.args.spot.page (held_of c.pass.result c.in-Some.entry.now) (found b) (alone b) c.args.best.number c.join_at.new.self
+    c.left_by.new.dups c.in_ok-place.ensures.joined c.left_by.ensures.dups c.left_by.ensures.waiting c.merge.new.self c.merge.ensures c.args.self.now c.self.view_is).1

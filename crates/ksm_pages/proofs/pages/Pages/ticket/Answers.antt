@@ -4,7 +4,7 @@ use Rattle.ksm_tree.specs.Dups.{rows_of as dup_rows}
 use Rattle.ksm_pages.specs.declared.row.Kind.TheVariants.{Merged, Zero}
 use Rattle.ksm_pages.proofs.Asked.{placed_own, ticket_told}
 use Rattle.ksm_pages.proofs.Leaving.{row_seen}
-use Rattle.ksm_pages.proofs.Paging.{none_known}
+use Rattle.ksm_rmap.proofs.Ordered.{none_of}
 use Rattle.ksm_pages.proofs.pages.Pages.ticket.Goals as goal
 
 pub returns-in_err-spot : goal.returns-in_err-spot
@@ -12,7 +12,8 @@ returns-in_err-spot c =
     let page = c.args.page in
     c.from_residual.ensures
     ∙ sym (ap (option_and_then (λ (r : Row). place_of r.state c.args.self.now.dups))
-    (row_seen c.self.inside c.args.self.now c.self.view_is page ∙ ap (option_map (λ (h : Held). h.row)) (none_known (held_at page c.self.inside.rows.held) c.in_err-spot.ensures.known)))
+    (row_seen c.self.inside c.args.self.now c.self.view_is page
+    ∙ ap (option_map (λ (h : Held). h.row)) (none_of (held_at page c.self.inside.rows.held) (sym c.in_err-spot.ensures.known))))
 
 pub returns-in-Merged : goal.returns-in-Merged
 returns-in-Merged c =

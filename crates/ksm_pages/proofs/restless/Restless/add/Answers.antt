@@ -1,5 +1,6 @@
-use Rattle.ksm_pages.proofs.Names.{ap, AreInOrder, comes_before, filter, find, get_or, has_item, if◌then◌else◌, inl, insert, is_some, length, Listing, map, None, pages_of, refl, same_page, set, Spot, subst, sym, true, with_item, ◌++◌, ◌<◌, ◌∙◌, ◌∷◌, ◌≡◌}
-use Rattle.ksm_pages.proofs.Keyed.{insert_at, none_of, write_at}
+use Rattle.ksm_pages.proofs.Names.{ap, AreInOrder, comes_before, filter, find, has_item, if◌then◌else◌, inl, is_some, Listing, map, pages_of, pages_ordered, refl, same_page, set, Spot, subst, sym, true, with_item, ◌++◌, ◌∙◌, ◌∷◌, ◌≡◌}
+use Rattle.ksm_pages.proofs.Keyed.{write_at}
+use Rattle.ksm_rmap.proofs.Ordered.{insert_at, none_of}
 use Rattle.ksm_pages.proofs.Spots.{listed_found, page_of, put_pages, put_rises, written_pages}
 use Rattle.ksm_pages.proofs.restless.Restless.add.Goals as goal
 use Rattle.ksm_pages.proofs.restless.Restless.add.Goals.{In-Ok}
@@ -10,11 +11,9 @@ returns-then-found c =
     let spots = c.self.inside.spots.items in
     let d = c.index_mut.result.now in
     let seen = c.as_slice-2.ensures.value in
-    let place = c.place_of-at.ensures.count ∙ ap (λ ss. length (filter (λ s. comes_before s.page spot.page) ss)) c.as_slice.ensures.value in
-    let within : c.place_of-at.result < length spots = rw (← seen) (c.if-found.ensures.within refl) in
-    let here : same_page (get_or spots c.place_of-at.result d).page spot.page ≡ true = rw (← seen) (c.if-found.ensures.here refl d) in
     let is : set spots c.place_of-at.result spot ≡ map (λ s. if same_page s.page spot.page then spot else s) spots =
-    ap (λ i. set spots i spot) place ∙ write_at page_of spot.page (λ _. spot) spots d c.self.invariant (rw (← place) within) (rw (← place) here) in
+    write_at page_of spot.page (λ _. spot) spots c.self.invariant c.as_slice.ensures.value seen c.place_of-at.ensures.count d
+    (c.if-found.ensures.within refl) (c.if-found.ensures.here refl d) in
     let has : has_item spot.page (pages_of spots) ≡ true = listed_found spot.page spots ∙ ap (λ ss. is_some (find (λ (s : Spot). same_page s.page spot.page) ss)) (sym seen) ∙ sym c.if-found.ensures.found in
     inl (ap (λ ss. record { pages = pages_of ss; known = c.self.inside.known }) is
     ∙ ap (λ ps. record { pages = ps; known = c.self.inside.known }) (written_pages spot spots c.self.invariant has)
@@ -23,14 +22,9 @@ returns-then-found c =
 -- the spot is put in at its place
 put : (c : In-Ok) → c.insert.new.self.items ≡ filter (λ s. comes_before s.page c.args.spot.page) c.self.inside.spots.items ++ c.args.spot ∷ filter (λ s. comes_before c.args.spot.page s.page) c.self.inside.spots.items
 put c =
-    let spot = c.args.spot in
-    let spots = c.self.inside.spots.items in
-    let place = c.place_of-at.ensures.count ∙ ap (λ ss. length (filter (λ s. comes_before s.page spot.page) ss)) c.as_slice.ensures.value in
-    let absent : find (λ s. same_page s.page spot.page) spots ≡ None =
-    none_of (find (λ s. same_page s.page spot.page) spots) (ap (λ ss. is_some (find (λ (s : Spot). same_page s.page spot.page) ss)) (sym c.as_slice-2.ensures.value) ∙ sym c.if-found.ensures.found) in
     c.in-Ok.ensures.items
-    ∙ ap (λ i. insert spots i spot) place
-    ∙ insert_at page_of spot.page spot spots refl c.self.invariant absent
+    ∙ insert_at pages_ordered page_of c.args.spot.page c.self.inside.spots.items c.self.invariant c.as_slice.ensures.value c.as_slice-2.ensures.value c.place_of-at.ensures.count
+    c.args.spot (none_of _ (sym c.if-found.ensures.found))
 
 pub invariant_of-self-in-Ok : goal.invariant_of-self-in-Ok
 invariant_of-self-in-Ok c = subst AreInOrder (sym (put c)) (put_rises c.args.spot c.self.inside.spots.items c.self.invariant)

@@ -1,24 +1,18 @@
-use Rattle.ksm_pages.proofs.Names.{ap, comes_before, filter, find, get_or, is_some, length, Listing, None, not, pages_of, refl, remove, same_page, Spot, sym, true, without_item, ◌<◌, ◌∙◌, ◌≡◌}
-use Rattle.ksm_pages.proofs.Keyed.{absent_kept, none_of, remove_at, without_rises}
+use Rattle.ksm_pages.proofs.Names.{ap, filter, find, is_some, Listing, None, not, pages_of, pages_ordered, refl, same_page, Spot, sym, without_item, ◌∙◌, ◌≡◌}
+use Rattle.ksm_rmap.proofs.Ordered.{absent_kept, none_of, remove_at, without_rises}
 use Rattle.ksm_pages.proofs.Spots.{page_of, pages_kept}
 use Rattle.ksm_pages.proofs.restless.Restless.remove.Goals as goal
 
 -- the spots that are left
 left : (c : goal.After-remove) → c.remove.new.self.items ≡ filter (λ s. not (same_page s.page c.args.page)) c.self.inside.spots.items
 left c =
-    let page = c.args.page in
-    let spots = c.self.inside.spots.items in
     let d = c.remove.result in
-    let seen = c.as_slice-2.ensures.value in
-    let place = c.place_of-at.ensures.count ∙ ap (λ ss. length (filter (λ s. comes_before s.page page) ss)) c.as_slice.ensures.value in
-    let within : c.place_of-at.result < length spots = rw (← seen) (c.if-found.ensures.within refl) in
-    let here : same_page (get_or spots c.place_of-at.result d).page page ≡ true = rw (← seen) (c.if-found.ensures.here refl d) in
     c.remove.ensures.items
-    ∙ ap (remove spots) place
-    ∙ remove_at page_of page spots d c.self.invariant (rw (← place) within) (rw (← place) here)
+    ∙ remove_at pages_ordered page_of c.args.page c.self.inside.spots.items c.self.invariant c.as_slice.ensures.value c.as_slice-2.ensures.value c.place_of-at.ensures.count
+    d (c.if-found.ensures.within refl) (c.if-found.ensures.here refl d)
 
 pub invariant_of-self : goal.invariant_of-self
-invariant_of-self c = rw (left c) (without_rises page_of c.args.page c.self.inside.spots.items c.self.invariant)
+invariant_of-self c = rw (left c) (without_rises pages_ordered page_of c.args.page c.self.inside.spots.items c.self.invariant)
 
 pub returns-then-found : goal.returns-then-found
 returns-then-found c =
@@ -34,7 +28,8 @@ returns-else-found c =
     let spots = c.self.inside.spots.items in
     let absent : find (λ s. same_page s.page page) spots ≡ None =
     none_of (find (λ s. same_page s.page page) spots) (ap (λ ss. is_some (find (λ (s : Spot). same_page s.page page) ss)) (sym c.as_slice-2.ensures.value) ∙ sym c.stands_at-found.ensures.found ∙ c.if-found.false) in
-    let same : pages_of spots ≡ without_item page (pages_of spots) = ap pages_of (absent_kept page_of page spots absent) ∙ sym (pages_kept (λ p. not (same_page p page)) spots) in
+    let same : pages_of spots ≡ without_item page (pages_of spots) =
+    ap pages_of (absent_kept pages_ordered page_of page spots absent) ∙ sym (pages_kept (λ p. not (same_page p page)) spots) in
     sym c.self.view_is
     ∙ ap (λ ps. record { pages = ps; known = c.self.inside.known }) same
     ∙ ap (λ (l : Listing). record l { pages = without_item page l.pages }) c.self.view_is

@@ -1,5 +1,5 @@
 use Rattle.ksm_pages.proofs.Names.{ap, Entry, false, held_in, map, on_row, refl, RowsView, rules, settled, ◌∙◌}
-use Rattle.ksm_pages.proofs.Alike.{map_mapped}
+use Rattle.ksm_tree.proofs.Alike.{map_mapped}
 use Rattle.ksm_pages.proofs.Settling.{plain_rows, plain_seen, retained_all}
 use Rattle.ksm_pages.proofs.rows.Rows.unshare_all.Goals as goal
 

@@ -1,23 +1,19 @@
-use Rattle.ksm_pages.proofs.Names.{ap, comes_before, count_by, false, filter, find, from_bool, get_or, is_of, is_some, length, Named, refl, remove, same_page, Some, sym, true, without_named, ◌<◌, ◌∙◌, ◌≡◌}
-use Rattle.ksm_pages.proofs.Keyed.{count_removed, found_at, remove_at, absent_kept, none_of, without_rises}
+use Rattle.ksm_pages.proofs.Names.{ap, count_by, find, from_bool, is_of, is_some, length, Named, pages_ordered, refl, Some, sym, without_named, ◌<◌, ◌∙◌, ◌≡◌}
+use Rattle.ksm_pages.proofs.Keyed.{count_removed}
+use Rattle.ksm_rmap.proofs.Ordered.{absent_kept, found_at, none_of, remove_at, without_rises}
 use Rattle.ksm_pages.proofs.run.Run.remove.Goals as goal
 
 -- the page is taken out behind those before it
 removed : (c : goal.After-self-1) → c.remove-gone.new.self.items ≡ without_named c.args.page c.self.inside.pages.items
 removed c =
-    let pages = c.self.inside.pages.items in
-    let page = c.args.page in
-    let place = c.place_of-at.ensures.count ∙ ap (λ ps. length (filter (λ n. comes_before n.page page) ps)) c.as_slice.ensures.value in
-    let d : Named = record { page = page; key = 0; mergeable = false } in
-    let within : c.place_of-at.result < length pages = rw (← c.as_slice-2.ensures.value) (c.if-found.ensures.within refl) in
-    let here : same_page (get_or pages c.place_of-at.result d).page page ≡ true = rw (← c.as_slice-2.ensures.value) (c.if-found.ensures.here refl d) in
+    let gone = c.remove-gone.result in
     c.remove-gone.ensures.items
-    ∙ ap (remove pages) place
-    ∙ remove_at (λ n. n.page) page pages d c.self.invariant.ascending (rw (← place) within) (rw (← place) here)
+    ∙ remove_at pages_ordered (λ n. n.page) c.args.page c.self.inside.pages.items c.self.invariant.ascending c.as_slice.ensures.value c.as_slice-2.ensures.value
+    c.place_of-at.ensures.count gone (c.if-found.ensures.within refl) (c.if-found.ensures.here refl gone)
 
 pub invariant_of-self : goal.invariant_of-self
 invariant_of-self c = record {
-  ascending = rw (removed c) (without_rises (λ n. n.page) c.args.page c.self.inside.pages.items c.self.invariant.ascending);
+  ascending = rw (removed c) (without_rises pages_ordered (λ n. n.page) c.args.page c.self.inside.pages.items c.self.invariant.ascending);
   counted =
       let within : c.place_of-at.result < length c.self.inside.pages.items = rw (← c.as_slice-2.ensures.value) (c.if-found.ensures.within refl) in
       let gone = c.remove-gone.result in
@@ -32,17 +28,13 @@ returns-then-found-clause-removed c = rw (← c.self.view_is) (removed c)
 pub returns-else-found-clause-removed : goal.returns-else-found-clause-removed
 returns-else-found-clause-removed c =
     let seen = c.as_slice-2.ensures.value ∙ c.self.view_is in
-    absent_kept (λ n. n.page) c.args.page c.args.self.now (none_of (find (is_of c.args.page) c.args.self.now) (ap (λ ps. is_some (find (is_of c.args.page) ps)) (sym seen) ∙ sym c.if-found.ensures.found))
+    absent_kept pages_ordered (λ n. n.page) c.args.page c.args.self.now
+    (none_of (find (is_of c.args.page) c.args.self.now) (ap (λ ps. is_some (find (is_of c.args.page) ps)) (sym seen) ∙ sym c.if-found.ensures.found))
 
 pub returns-then-found-clause-was : goal.returns-then-found-clause-was
 returns-then-found-clause-was c =
-    let pages = c.self.inside.pages.items in
     let gone = c.remove-gone.result in
-    let at = c.place_of-at.result in
-    let place = c.place_of-at.ensures.count ∙ ap (λ ps. length (filter (λ n. comes_before n.page c.args.page) ps)) c.as_slice.ensures.value in
-    let within : at < length pages = rw (← c.as_slice-2.ensures.value) (c.if-found.ensures.within refl) in
-    let here : same_page (get_or pages at gone).page c.args.page ≡ true = rw (← c.as_slice-2.ensures.value) (c.if-found.ensures.here refl gone) in
-    ap Some c.remove-gone.ensures.value
-    ∙ ap (λ n. Some (get_or pages n gone)) place
-    ∙ sym (found_at (λ (n : Named). n.page) c.args.page pages gone c.self.invariant.ascending (rw (← place) within) (rw (← place) here))
-    ∙ ap (find (is_of c.args.page)) c.self.view_is
+    let found =
+    found_at pages_ordered (λ (n : Named). n.page) c.args.page c.self.inside.pages.items c.self.invariant.ascending c.as_slice.ensures.value c.as_slice-2.ensures.value
+    c.place_of-at.ensures.count gone (c.if-found.ensures.within refl) (c.if-found.ensures.here refl gone) in
+    ap Some c.remove-gone.ensures.value ∙ sym found ∙ ap (find (is_of c.args.page)) c.self.view_is

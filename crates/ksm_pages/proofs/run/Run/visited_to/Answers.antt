@@ -1,27 +1,16 @@
-use Rattle.ksm_pages.proofs.Names.{ap, Bool, comes_before, count_by, filter, length, Named, not, sym, take, visited, ◌∙◌, ◌≡◌}
-use Rattle.ksm_pages.proofs.Counts.{counted_if_all, counted_to_place}
+use Rattle.ksm_pages.proofs.Names.{ap, comes_before, length, Named, not, sym, ◌∙◌}
+use Rattle.ksm_pages.proofs.Counts.{all_to_place, read_to_place}
 use Rattle.ksm_pages.proofs.Keyed.{parted_behind}
 use Rattle.ksm_pages.proofs.run.Run.visited_to.Goals as goal
 
 pub returns-then-self-pages : goal.returns-then-self-pages
 returns-then-self-pages c =
-    let page = c.args.page in
-    let items = c.self.inside.pages.items in
     let seen = c.as_slice-pages.ensures.value in
-    let test : Named → Bool = λ n. not (comes_before page n.page) in
-    let all : count_by (λ (n : Named). n.mergeable) items ≡ length items = sym c.self.invariant.counted ∙ c.if-self-pages.true ∙ ap length seen in
-    c.place_behind-place.ensures.count
-    ∙ ap (λ ps. length (filter test ps)) seen
-    ∙ counted_if_all (λ (n : Named). n.mergeable) test items all
-    ∙ ap (λ ps. count_by test (visited ps)) c.self.view_is
+    all_to_place (λ (n : Named). n.mergeable) (λ n. not (comes_before c.args.page n.page)) seen c.self.view_is c.place_behind-place.ensures.count
+    (sym c.self.invariant.counted ∙ c.if-self-pages.true ∙ ap length seen)
 
 pub returns : goal.returns
 returns c =
-    let page = c.args.page in
-    let items = c.self.inside.pages.items in
-    let test : Named → Bool = λ n. not (comes_before page n.page) in
     c.count_visited.ensures
-    ∙ ap (λ k. count_by (λ (n : Named). n.mergeable) (take k c.as_slice-pages.result.now)) c.place_behind-place.ensures.count
-    ∙ ap (λ ps. count_by (λ (n : Named). n.mergeable) (take (length (filter test ps)) ps)) c.as_slice-pages.ensures.value
-    ∙ counted_to_place (λ (n : Named). n.mergeable) test items (parted_behind (λ n. n.page) page items c.self.invariant.ascending)
-    ∙ ap (λ ps. count_by test (visited ps)) c.self.view_is
+    ∙ read_to_place (λ (n : Named). n.mergeable) (λ n. not (comes_before c.args.page n.page)) c.as_slice-pages.ensures.value c.self.view_is c.place_behind-place.ensures.count
+    (parted_behind (λ n. n.page) c.args.page c.self.inside.pages.items c.self.invariant.ascending)

@@ -1,8 +1,7 @@
-use Rattle.std.proofs.Common.{◌≡◌, ◌∙◌, length, ap, arith}
-use Rattle.std.specs.Prelude.{filter, insert}
-use Rattle.ksm_base.specs.Rows.{comes_before, same_page}
+use Rattle.std.proofs.Common.{◌≡◌, ◌∙◌, length, refl, ap, arith}
+use Rattle.ksm_base.specs.Rows.{same_page}
 use Rattle.ksm_rmap.specs.Items.{with_item}
-use Rattle.ksm_rmap.proofs.Ordered.{insert_at, with_rises}
+use Rattle.ksm_rmap.proofs.Ordered.{insert_at, none_found, with_rises}
 use Rattle.ksm_rmap.proofs.Pages.{pages_ordered}
 use Rattle.ksm_rmap.proofs.items.Items.add.Goals as goal
 
@@ -10,14 +9,13 @@ use Rattle.ksm_rmap.proofs.items.Items.add.Goals as goal
 added : (c : goal.In_ok-insert) → c.insert.new.self.items ≡ with_item c.args.page c.self.inside.pages.items
 added c =
     let pages = c.self.inside.pages.items in
-    let page = c.args.page in
     c.in_ok-insert.ensures.ok
-    ∙ ap (λ n. insert pages n page) (c.place_of-at.ensures.count ∙ ap (λ ps. length (filter (λ p. comes_before p page) ps)) c.as_slice.ensures)
-    ∙ insert_at comes_before same_page pages_ordered page pages c.self.invariant.0 (rw c.self.view_is c.requires.absent)
+    ∙ insert_at pages_ordered (λ p. p) c.args.page pages c.self.invariant.0 c.as_slice.ensures refl c.place_of-at.ensures.count c.args.page
+    (none_found (λ p. same_page p c.args.page) pages (rw c.self.view_is c.requires.absent))
 
 pub invariant_of-self-2 : goal.invariant_of-self-2
 invariant_of-self-2 c =
-    let rises = with_rises comes_before same_page pages_ordered c.args.page c.self.inside.pages.items c.self.invariant.0 in
+    let rises = with_rises pages_ordered (λ p. p) c.args.page c.args.page c.self.inside.pages.items refl c.self.invariant.0 in
     let fewer = ap length c.self.view_is in
     (rw (added c) rises, omega (arith, c.in_ok-insert.ensures.len, fewer, c.requires.fewer))
 

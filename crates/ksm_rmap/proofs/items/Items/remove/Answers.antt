@@ -1,28 +1,22 @@
-use Rattle.std.proofs.Common.{◌≡◌, ◌∙◌, ◌<◌, true, refl, get_or, length, sym, ap, arith}
-use Rattle.std.specs.Prelude.{filter, remove}
+use Rattle.std.proofs.Common.{◌≡◌, ◌∙◌, refl, sym, ap, arith}
 use Rattle.ksm_base.specs.declared.page.GuestPage.{GuestPage}
-use Rattle.ksm_base.specs.Rows.{comes_before, same_page}
+use Rattle.ksm_base.specs.Rows.{same_page}
 use Rattle.ksm_rmap.specs.Items.{has_item, without_item}
-use Rattle.ksm_rmap.proofs.Ordered.{remove_at, absent_kept, without_rises}
+use Rattle.ksm_rmap.proofs.Ordered.{remove_at, absent_kept, none_found, without_rises}
 use Rattle.ksm_rmap.proofs.Pages.{pages_ordered}
 use Rattle.ksm_rmap.proofs.items.Items.remove.Goals as goal
 
 -- the page is taken out behind those before it
 removed : (c : goal.After-remove) → c.remove.new.self.items ≡ without_item c.args.page c.self.inside.pages.items
 removed c =
-    let pages = c.self.inside.pages.items in
-    let page = c.args.page in
-    let place = c.place_of-at.ensures.count ∙ ap (λ ps. length (filter (λ p. comes_before p page) ps)) c.as_slice.ensures in
     let d : GuestPage = record { guest = 0; page = 0 } in
-    let within : c.place_of-at.result < length pages = rw (← c.as_slice-2.ensures) (c.if-found.ensures.within refl) in
-    let here : same_page (get_or pages c.place_of-at.result d) page ≡ true = rw (← c.as_slice-2.ensures) (c.if-found.ensures.here refl d) in
     c.remove.ensures.items
-    ∙ ap (remove pages) place
-    ∙ remove_at comes_before same_page pages_ordered page pages d c.self.invariant.0 (rw (← place) within) (rw (← place) here)
+    ∙ remove_at pages_ordered (λ p. p) c.args.page c.self.inside.pages.items c.self.invariant.0 c.as_slice.ensures c.as_slice-2.ensures c.place_of-at.ensures.count d
+    (c.if-found.ensures.within refl) (c.if-found.ensures.here refl d)
 
 pub invariant_of-self : goal.invariant_of-self
 invariant_of-self c =
-    let rises = without_rises comes_before same_page pages_ordered c.args.page c.self.inside.pages.items c.self.invariant.0 in
+    let rises = without_rises pages_ordered (λ p. p) c.args.page c.self.inside.pages.items c.self.invariant.0 in
     (rw (removed c) rises, omega (arith, c.remove.ensures.len, c.self.invariant.1))
 
 pub returns-then-found-clause-removed : goal.returns-then-found-clause-removed
@@ -31,4 +25,5 @@ returns-then-found-clause-removed c = rw (← c.self.view_is) (removed c)
 pub returns-else-found-clause-removed : goal.returns-else-found-clause-removed
 returns-else-found-clause-removed c =
     let seen = c.as_slice-2.ensures ∙ c.self.view_is in
-    absent_kept comes_before same_page pages_ordered c.args.page c.args.self.now (ap (λ ps. has_item c.args.page ps) (sym seen) ∙ sym c.if-found.ensures.found)
+    absent_kept pages_ordered (λ p. p) c.args.page c.args.self.now
+    (none_found (λ p. same_page p c.args.page) c.args.self.now (ap (λ ps. has_item c.args.page ps) (sym seen) ∙ sym c.if-found.ensures.found))

@@ -1,7 +1,7 @@
-use Rattle.ksm_tree.proofs.Names.{All, ap, arith, drop_of_length-le, Dup, dup_at, found_at, get_or, if◌then◌else◌, InPlaceOrder, items_in, length, None, of_group, Option, option_copied, option_map, refl, rows_of, Some, sym, unless_behind, ◌%◌, ◌+◌, ◌-◌, ◌<◌, ◌==◌, ◌^◌, ◌∙◌, ◌≡◌, ◌≤◌}
+use Rattle.ksm_tree.proofs.Names.{All, ap, arith, best_of, drop_of_length-le, Dup, dup_at, found_at, get_or, if◌then◌else◌, InPlaceOrder, items_in, length, None, of_group, Option, option_copied, option_map, refl, rows_of, Some, sym, unless_behind, ◌%◌, ◌+◌, ◌-◌, ◌<◌, ◌==◌, ◌^◌, ◌∙◌, ◌≡◌, ◌≤◌}
 use Rattle.ksm_tree.proofs.Joining.{candidate_is, joined, folded, folded_best, above_least, or_else, out_of_room, stepped_over, stepped_to, passed_over_so, stepped, candidates_within, taken_so}
 use Rattle.ksm_tree.proofs.dups.Dups.best_in.Goals as goal
-use Rattle.ksm_tree.proofs.dups.Dups.best_in.Goals.{then-items-least+in-Some, then-items-least+in_default, else-items-least}
+use Rattle.ksm_tree.proofs.dups.Dups.best_in.Goals.{After-loop-place, then-items-least+in-Some, then-items-least+in_default, else-items-least}
 
 pub bounds-counts-place : goal.bounds-counts-place
 bounds-counts-place c =
@@ -59,32 +59,20 @@ loop-place-preserved c =
           rw (w.least-is, w.room-is, w.best-is) (was.0, was.1, was.2, stepped tree bytes limit dups best best places at within next ∙ was.3)
     ]
 
+-- over all places the loop comes to the best of them
+ended : (c : After-loop-place) → option_copied c.loop-place.best ≡ best_of c.args.tree c.args.bytes.now c.args.limit c.args.self.now.dups
+ended c =
+    let places = c.places_to_join-is_chain.result.0.now in
+    let over = drop_of_length-le places {i = c.loop-place.place-index} (omega arith) in
+    let rise : InPlaceOrder (rows_of c.args.self.now.dups) = rw (← c.self.view_is) c.self.invariant.lawful.in_place_order in
+    ap (folded c.args.tree c.args.bytes.now c.args.limit c.args.self.now.dups (option_copied c.loop-place.best)) (sym over)
+    ∙ c.loop-place.invariant.3
+    ∙ folded_best c.args.tree c.args.bytes.now c.args.limit c.args.self.now.dups places c.places_to_join-is_chain.result.1 rise
+    (rw c.requires at c.places_to_join-is_chain.ensures)
+
 pub returns-in-Some-best : goal.returns-in-Some-best
 returns-in-Some-best c =
-    let tree = c.args.tree in
-    let bytes = c.args.bytes.now in
-    let limit = c.args.limit in
-    let dups = c.args.self.now.dups in
-    let over = drop_of_length-le c.places_to_join-is_chain.result.0.now {i = c.loop-place.place-index} (omega arith) in
-    let rise : InPlaceOrder (rows_of dups) = rw (← c.self.view_is) c.self.invariant.lawful.in_place_order in
-    let ended =
-    ap (folded tree bytes limit dups (option_copied c.loop-place.best)) (sym over)
-    ∙ c.loop-place.invariant.3
-    ∙ folded_best tree bytes limit dups c.places_to_join-is_chain.result.0.now c.places_to_join-is_chain.result.1 rise (rw c.requires at c.places_to_join-is_chain.ensures) in
-    ap (λ b. option_map found_at (option_copied b)) (sym c.in-Some-best.is)
-    ∙ ap (option_map found_at) ended
+    ap (λ b. option_map found_at (option_copied b)) (sym c.in-Some-best.is) ∙ ap (option_map found_at) (ended (goal.at.returns-in-Some-best c).After-loop-place)
 
 pub returns-in-None : goal.returns-in-None
-returns-in-None c =
-    let tree = c.args.tree in
-    let bytes = c.args.bytes.now in
-    let limit = c.args.limit in
-    let dups = c.args.self.now.dups in
-    let over = drop_of_length-le c.places_to_join-is_chain.result.0.now {i = c.loop-place.place-index} (omega arith) in
-    let rise : InPlaceOrder (rows_of dups) = rw (← c.self.view_is) c.self.invariant.lawful.in_place_order in
-    let ended =
-    ap (folded tree bytes limit dups (option_copied c.loop-place.best)) (sym over)
-    ∙ c.loop-place.invariant.3
-    ∙ folded_best tree bytes limit dups c.places_to_join-is_chain.result.0.now c.places_to_join-is_chain.result.1 rise (rw c.requires at c.places_to_join-is_chain.ensures) in
-    ap (λ b. option_map found_at (option_copied b)) (sym c.in-None.is)
-    ∙ ap (option_map found_at) ended
+returns-in-None c = ap (λ b. option_map found_at (option_copied b)) (sym c.in-None.is) ∙ ap (option_map found_at) (ended (goal.at.returns-in-None c).After-loop-place)

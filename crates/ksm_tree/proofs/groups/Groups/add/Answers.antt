@@ -8,40 +8,29 @@ unreachable-requires-in_default-get_mut c = stands_under c.args.self.now c.args.
 pub invariant_of-self : goal.invariant_of-self
 invariant_of-self c =
     let s = c.args.self.now in
-    let was = c.in-Some-get_mut.group.now in
-    let now : Group = record was { places = c.reserve.new.self } in
-    let stood = sym c.in-Some-get_mut.ensures.value in
-    record { lawful = rewritten s.numbers.entries s.pass s.groups s.lawful c.in-Some.number was now stood refl (s.lawful.passes c.in-Some.number was stood) }
+    let now : Group = record c.in-Some-get_mut.group.now { places = c.reserve.new.self } in
+    let stood = c.in-Some-get_mut.ensures.value in
+    record { lawful = rewritten s c.in-Some.number _ now stood refl (s.lawful.passes c.in-Some.number _ (sym stood)) }
 
 pub returns-in_err-reserve-clause-waits : goal.returns-in_err-reserve-clause-waits
 returns-in_err-reserve-clause-waits c =
-    let s = c.args.self.now in
-    let was = c.in-Some-get_mut.group.now in
-    let now : Group = record was { places = c.reserve.new.self } in
-    let stood = sym c.in-Some-get_mut.ensures.value in
-    record { waiting = same_waiting s.numbers.entries s.pass s.groups s.lawful c.in-Some.number was now stood refl refl; numbers = refl }
+    let now : Group = record c.in-Some-get_mut.group.now { places = c.reserve.new.self } in
+    record { waiting = same_waiting c.args.self.now c.in-Some.number _ now c.in-Some-get_mut.ensures.value refl refl; numbers = refl }
 
 pub invariant_of-self-2 : goal.invariant_of-self-2
 invariant_of-self-2 c =
     let s = c.args.self.now in
-    let was = c.in-Some-get_mut.group.now in
-    let now : Group = record was { places = c.insert.new.self } in
-    let stood = sym c.in-Some-get_mut.ensures.value in
-    record { lawful = rewritten s.numbers.entries s.pass s.groups s.lawful c.in-Some.number was now stood refl (s.lawful.passes c.in-Some.number was stood) }
+    let now : Group = record c.in-Some-get_mut.group.now { places = c.insert.new.self } in
+    let stood = c.in-Some-get_mut.ensures.value in
+    record { lawful = rewritten s c.in-Some.number _ now stood refl (s.lawful.passes c.in-Some.number _ (sym stood)) }
 
 pub returns-clause-added : goal.returns-clause-added
 returns-clause-added c =
-    let s = c.args.self.now in
-    let was = c.in-Some-get_mut.group.now in
-    let now : Group = record was { places = c.insert.new.self } in
-    let stood = sym c.in-Some-get_mut.ensures.value in
-    rechained s.numbers.entries s.pass s.groups s.lawful c.in-Some.number was now stood refl
+    let now : Group = record c.in-Some-get_mut.group.now { places = c.insert.new.self } in
+    rechained c.args.self.now c.in-Some.number _ now c.in-Some-get_mut.ensures.value refl
     (with_place c.args.place) (c.insert.ensures.with ∙ ap (with_place c.args.place) c.reserve.ensures.kept) c.args.tree c.args.bytes.now (sym c.in-Some.ensures)
 
 pub returns-clause-waits : goal.returns-clause-waits
 returns-clause-waits c =
-    let s = c.args.self.now in
-    let was = c.in-Some-get_mut.group.now in
-    let now : Group = record was { places = c.insert.new.self } in
-    let stood = sym c.in-Some-get_mut.ensures.value in
-    record { waiting = same_waiting s.numbers.entries s.pass s.groups s.lawful c.in-Some.number was now stood refl refl; numbers = refl }
+    let now : Group = record c.in-Some-get_mut.group.now { places = c.insert.new.self } in
+    record { waiting = same_waiting c.args.self.now c.in-Some.number _ now c.in-Some-get_mut.ensures.value refl refl; numbers = refl }

@@ -1,8 +1,9 @@
 use Rattle.ksm_tree.proofs.Names.{ap, content_of, get, Group, refl, rules, Some, subst, sym, ◌∙◌, ◌≡◌}
 use Rattle.slab.specs.Slab.{Updates as Fills}
 use Rattle.ksm_tree.proofs.Numbers.{on_err}
-use Rattle.ksm_tree.proofs.Standing.{enter_chains, enter_groups, enter_waiting, none_here}
+use Rattle.ksm_tree.proofs.Standing.{Entered, entered_fresh, none_here}
 use Rattle.ksm_tree.proofs.groups.Groups.enter.Goals as goal
+use Rattle.ksm_tree.proofs.groups.Groups.enter.Goals.{After-insert_reserved}
 
 pub returns-in_err-reserve-clause-absent : goal.returns-in_err-reserve-clause-absent
 returns-in_err-reserve-clause-absent c = on_err _ (none_here c.args.self.now c.args.tree c.args.bytes.now c.requires)
@@ -13,32 +14,21 @@ returns-in_default-clause-absent c = none_here c.args.self.now c.args.tree c.arg
 pub returns-in_err-insert-clause-absent : goal.returns-in_err-insert-clause-absent
 returns-in_err-insert-clause-absent c = on_err _ (none_here c.args.self.now c.args.tree c.args.bytes.now c.requires)
 
-pub invariant_of-self-2 : goal.invariant_of-self-2
-invariant_of-self-2 c =
-    let s = c.args.self.now in
+entered : (c : After-insert_reserved) → Entered c.args.self.now c.insert_reserved.new.self c.insert.new.self
+entered c =
     let k = content_of c.args.tree c.args.bytes.now in
     let fresh : Group = record { content = k; page = record { guest = 0; page = 0 }; pass = 0; places = c.new.result } in
     let key : c.insert_reserved.result ≡ c.in-Ok.number = search rules in
     let vacant = ap (λ n. get c.reserve.new.self n) (sym key) ∙ c.insert_reserved.ensures.was_vacant in
     let fills = subst (λ n. Fills c.reserve.new.self c.insert_reserved.new.self n (Some fresh)) key c.insert_reserved.ensures.updates in
-    record { lawful = enter_groups s c.reserve.new.self c.insert_reserved.new.self c.insert.new.self k c.in-Ok.number fresh c.reserve.ensures.rest_kept c.requires vacant c.in_ok-insert.ensures.updates fills refl refl c.new.ensures.none }
+    entered_fresh c.args.self.now c.reserve.new.self c.insert_reserved.new.self c.insert.new.self k c.in-Ok.number fresh c.reserve.ensures.rest_kept c.requires vacant
+    c.in_ok-insert.ensures.updates fills refl refl c.new.ensures.none
+
+pub invariant_of-self-2 : goal.invariant_of-self-2
+invariant_of-self-2 c = record { lawful = (entered (goal.at.invariant_of-self-2 c).After-insert_reserved).lawful }
 
 pub returns-clause-chains : goal.returns-clause-chains
-returns-clause-chains c =
-    let s = c.args.self.now in
-    let k = content_of c.args.tree c.args.bytes.now in
-    let fresh : Group = record { content = k; page = record { guest = 0; page = 0 }; pass = 0; places = c.new.result } in
-    let key : c.insert_reserved.result ≡ c.in-Ok.number = search rules in
-    let vacant = ap (λ n. get c.reserve.new.self n) (sym key) ∙ c.insert_reserved.ensures.was_vacant in
-    let fills = subst (λ n. Fills c.reserve.new.self c.insert_reserved.new.self n (Some fresh)) key c.insert_reserved.ensures.updates in
-    record { chains = enter_chains s c.reserve.new.self c.insert_reserved.new.self c.insert.new.self k c.in-Ok.number fresh c.reserve.ensures.rest_kept c.requires vacant c.in_ok-insert.ensures.updates fills refl refl c.new.ensures.none; totals = refl }
+returns-clause-chains c = record { chains = (entered (goal.at.returns-clause-chains c).After-insert_reserved).chains; totals = refl }
 
 pub returns-clause-waiting : goal.returns-clause-waiting
-returns-clause-waiting c =
-    let s = c.args.self.now in
-    let k = content_of c.args.tree c.args.bytes.now in
-    let fresh : Group = record { content = k; page = record { guest = 0; page = 0 }; pass = 0; places = c.new.result } in
-    let key : c.insert_reserved.result ≡ c.in-Ok.number = search rules in
-    let vacant = ap (λ n. get c.reserve.new.self n) (sym key) ∙ c.insert_reserved.ensures.was_vacant in
-    let fills = subst (λ n. Fills c.reserve.new.self c.insert_reserved.new.self n (Some fresh)) key c.insert_reserved.ensures.updates in
-    enter_waiting s c.reserve.new.self c.insert_reserved.new.self c.insert.new.self k c.in-Ok.number fresh c.reserve.ensures.rest_kept c.requires vacant c.in_ok-insert.ensures.updates fills refl refl c.new.ensures.none
+returns-clause-waiting c = (entered (goal.at.returns-clause-waiting c).After-insert_reserved).waiting

@@ -12,15 +12,14 @@ pub returns-then-group-self-clause-added : goal.returns-then-group-self-clause-a
 returns-then-group-self-clause-added c t b is t' b' =
     let s = c.args.self.now in
     let was = c.in-Some.group.now in
-    let stood = sym c.in-Some.ensures.value in
-    repaged s.numbers.entries s.pass s.groups s.lawful c.args.number was was stood refl (s.lawful.passes c.args.number was stood) t b is t' b'
+    let stood = c.in-Some.ensures.value in
+    repaged s c.args.number was was stood refl (s.lawful.passes c.args.number was (sym stood)) t b is t' b'
     ∙ ap (λ o. if t' == t && bytes_eq b' b then o else waiting_page t' b' (waiting_in s)) (page_waits was s.pass c.if-group-self.true)
 
 pub invariant_of-self-in-Some : goal.invariant_of-self-in-Some
 invariant_of-self-in-Some c =
     let s = c.args.self.now in
-    let was = c.in-Some.group.now in
-    record { lawful = rewritten s.numbers.entries s.pass s.groups s.lawful c.args.number was (record was { page = c.args.page; pass = s.pass }) (sym c.in-Some.ensures.value) refl (omega arith) }
+    record { lawful = rewritten s c.args.number _ (record c.in-Some.group.now { page = c.args.page; pass = s.pass }) c.in-Some.ensures.value refl (omega arith) }
 
 pub returns-else-group-self-clause-met : goal.returns-else-group-self-clause-met
 returns-else-group-self-clause-met c t b is =
@@ -31,9 +30,8 @@ returns-else-group-self-clause-met c t b is =
 pub returns-else-group-self-clause-added : goal.returns-else-group-self-clause-added
 returns-else-group-self-clause-added c t b is t' b' =
     let s = c.args.self.now in
-    let was = c.in-Some.group.now in
-    let now : Group = record was { page = c.args.page; pass = s.pass } in
-    repaged s.numbers.entries s.pass s.groups s.lawful c.args.number was now (sym c.in-Some.ensures.value) refl (omega arith) t b is t' b'
+    let now : Group = record c.in-Some.group.now { page = c.args.page; pass = s.pass } in
+    repaged s c.args.number _ now c.in-Some.ensures.value refl (omega arith) t b is t' b'
     ∙ ap (λ o. if t' == t && bytes_eq b' b then o else waiting_page t' b' (waiting_in s)) (page_waits now s.pass refl)
 
 pub returns-else-group-self-clause-kept : goal.returns-else-group-self-clause-kept

@@ -4,17 +4,14 @@ use Rattle.ksm_tree.proofs.groups.Groups.stop_waiting.Goals as goal
 
 pub invariant_of-self : goal.invariant_of-self
 invariant_of-self c =
-    let s = c.args.self.now in
-    let was = c.in-Some-get_mut.group.now in
-    record { lawful = rewritten s.numbers.entries s.pass s.groups s.lawful c.in-Some.number was (record was { pass = 0 }) (sym c.in-Some-get_mut.ensures.value) refl (omega arith) }
+    record { lawful = rewritten c.args.self.now c.in-Some.number _ (record c.in-Some-get_mut.group.now { pass = 0 }) c.in-Some-get_mut.ensures.value refl (omega arith) }
 
 pub returns-in-Some-get_mut-clause-removed : goal.returns-in-Some-get_mut-clause-removed
 returns-in-Some-get_mut-clause-removed c t b =
     let s = c.args.self.now in
-    let was = c.in-Some-get_mut.group.now in
-    let now : Group = record was { pass = 0 } in
+    let now : Group = record c.in-Some-get_mut.group.now { pass = 0 } in
     let begun = s.lawful.begun in
-    repaged s.numbers.entries s.pass s.groups s.lawful c.in-Some.number was now (sym c.in-Some-get_mut.ensures.value) refl (omega arith) c.args.tree c.args.bytes.now (sym c.in-Some.ensures) t b
+    repaged s c.in-Some.number _ now c.in-Some-get_mut.ensures.value refl (omega arith) c.args.tree c.args.bytes.now (sym c.in-Some.ensures) t b
     ∙ ap (λ o. if t == c.args.tree && bytes_eq b c.args.bytes.now then o else waiting_page t b (waiting_in s)) (page_still now s.pass (λ e. omega (arith, begun, e)))
 
 pub returns-in_default-get_mut-clause-removed : goal.returns-in_default-get_mut-clause-removed

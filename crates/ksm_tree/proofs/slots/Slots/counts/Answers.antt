@@ -1,13 +1,6 @@
-use Rattle.ksm_tree.proofs.Names.{ap, count_in, dup_at, get_or, items_in, length, length-map, ◌∙◌}
+use Rattle.ksm_tree.proofs.Names.{ap, dup_at, get_or, items_in, length, ◌∙◌}
 use Rattle.ksm_tree.proofs.OneSlot.{count_read}
 use Rattle.ksm_tree.proofs.slots.Slots.counts.Goals as goal
-
-pub returns-clause-places : goal.returns-clause-places
-returns-clause-places c =
-    ap length c.each.ensures
-    ∙ ap length c.self.invariant.counted
-    ∙ length-map c.self.inside.dups.items count_in
-    ∙ ap (λ s. s.places) c.self.view_is
 
 pub returns-clause-each : goal.returns-clause-each
 returns-clause-each c place =

@@ -1,5 +1,6 @@
 -- A list that is made of another, element by element: what is searched, kept and counted in it.
-use Rattle.ksm_pages.proofs.Names.{[], All, All-head, All-map, All-tail, AllPairs, AllPairs-cons, ap, ap₂, arith, Bool, cases_Bool, cond, count_by, count_more, false, filter, find, get_or, inl, inr, List, map, option_map, pairs_head, pairs_tail, refl, Some, suc, sym, true, ◌+◌, ◌∙◌, ◌∷◌, ◌≡◌}
+use Rattle.ksm_tree.proofs.Names.{[], All, All-head, All-map, All-tail, AllPairs, AllPairs-cons, ap, arith, Bool, cases_Bool, cond, count_by, count_more, false, filter, find, get_or, inl, inr, List, map, option_map, pairs_head, pairs_tail, refl, Some, suc, sym, true, ◌+◌, ◌∙◌, ◌∷◌, ◌≡◌}
+use Rattle.std.proofs.Common.{ap₂}
 
 -- two changes that agree at each element of a list make one list of it
 pub map_alike : {X Y : Type 0} (f g : X → Y) (xs : List X) → All (λ x. f x ≡ g x) xs → map f xs ≡ map g xs
