@@ -1,16 +1,18 @@
 -- What a reader's buffer has of a line.
-use Rattle.std.proofs.Common.{◌≡◌, ◌≢◌, ◌==◌, ℕ, ◌+◌, ◌<◌, ◌≤◌, Bool, true, false, cond, List, [], ◌∷◌, ◌++◌, Option, None, Some, length, take, drop, get_or, refl, sym, ap, ◌∙◌, arith, zero-le, append_assoc, length-append, take-append-drop, take-take}
+use Rattle.std.proofs.Common.{◌≡◌, ◌≢◌, ◌==◌, ℕ, ◌+◌, ◌<◌, ◌≤◌, Bool, true, false, cond, List, [], ◌∷◌, ◌++◌, Option, None, Some, length, take, drop, get_or, refl, sym, subst, ap, ◌∙◌, arith, zero-le, append_assoc, length-append, take-append-drop, take-take}
 use Rattle.std.proofs.Transfers.{drop-appended}
 use Rattle.std.specs.Prelude.{if◌then◌else◌, IsTrue, ◌↔◌}
 use Rattle.std.specs.Bool.{then_some}
 use Rattle.ksm_script.specs.declared.input.LineEnd.TheVariants.{TooLong}
-use Rattle.ksm_script.specs.Takes.{Extends}
+use Rattle.ksm_script.specs.Takes.{Extends, Takes}
 use Rattle.std.specs.Io.KnownBytes.{Consumes, prepend_known}
 use Rattle.std.proofs.lemmas.Bool.{eq-eqb, eqb-true}
 use Rattle.std.proofs.lemmas.List.{take_more, get_or-take, get_or_default, length-take, take_min}
 use Rattle.std.proofs.lemmas.List.Elements.{All-append}
 use Rattle.memchr.specs.Find.{Nowhere, Passes, is_byte}
-use Rattle.ksm_script.specs.Input.{IsPlain}
+use Rattle.ksm_script.specs.Input.{EndsAs, IsPlain}
+use Rattle.ksm_script.specs.declared.input.LineEnd.{LineEnd}
+use Rattle.std.proofs.KnownBytes.{Consumes-trans}
 
 -- bytes that are taken from a buffer are read; with no capacity nothing is known
 pub taken_from : (n m : ℕ) (a b : Option (List ℕ)) (buffer rest bytes : List ℕ) → m ≡ n → b ≡ a → buffer ≡ bytes ++ rest
@@ -70,3 +72,16 @@ up_to_line buffer line rest n is =
     behind : (line rest : List ℕ) → drop (length line + 1) ((line ++ 10 ∷ []) ++ rest) ≡ rest
     behind line rest =
         ap (λ n. drop n ((line ++ 10 ∷ []) ++ rest)) (sym (length-append line (10 ∷ []))) ∙ drop-appended (line ++ 10 ∷ []) ((line ++ 10 ∷ []) ++ rest) rest refl
+
+-- a line goes on by what is taken of it
+pub goes_on : (a b c : Option (List ℕ)) (before line : List ℕ) (told : Option LineEnd) → told ≡ None → Consumes a b before → Takes told before line b c
+    → (length line ≤ 256) × Consumes a c line
+goes_on a b c before line told is p q =
+    let h : Takes None before line b c = subst (λ t. Takes t before line b c) is q in
+    (h.1.1, subst (Consumes a c) (sym h.1.0) (Consumes-trans a b c _ _ p h.2))
+
+-- a line ends by what is taken of it
+pub ends_so : (a b c : Option (List ℕ)) (before line : List ℕ) (told : Option LineEnd) (end : LineEnd) → told ≡ Some end → Consumes a b before
+    → Takes told before line b c → (bytes : List ℕ) × EndsAs end line bytes × Consumes a c bytes
+ends_so a b c before line told end is p q =
+    let h : Takes (Some end) before line b c = subst (λ t. Takes t before line b c) is q in (before ++ h.0, h.1, Consumes-trans a b c _ _ p h.2)

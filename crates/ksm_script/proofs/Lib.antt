@@ -1,6 +1,8 @@
+pub mod Auditing
 pub mod Blocks
 pub mod Hex
 pub mod Journaled
+pub mod Opened
 pub mod Parts
 pub mod Slots
 pub mod Turns

@@ -1,4 +1,4 @@
-use Rattle.std.proofs.Common.{◌≡◌, ◌≤◌, ◌+◌, ◌-◌, ◌++◌, ◌∷◌, [], length, take, drop, sym, ap, ap₂, ◌∙◌, arith, length-append}
+use Rattle.std.proofs.Common.{◌≡◌, ◌≤◌, ◌+◌, ◌-◌, ◌++◌, ◌∷◌, [], length, take, drop, refl, sym, ap, ap₂, ◌∙◌, arith, length-append}
 use Rattle.std.proofs.lemmas.List.{length-take}
 use Rattle.ksm_script.proofs.Blocks.{taken_from, up_to_line}
 use Rattle.ksm_script.proofs.input.take_page.Goals as goal
@@ -22,3 +22,9 @@ returns-clause-taken g c =
       taken_from _ _ _ _ _ _ _ c.consume.ensures.capacity (ap g.R.Read.remaining c.consume.ensures.inner)
           (sym c.buffer-buffer.ensures ∙ up_to_line buffer line rest n is ∙ ap (λ l. (line ++ 10 ∷ []) ++ l) left),
     )
+
+pub returns-in_err-line-clause-taken : goal.returns-in_err-line-clause-taken
+returns-in_err-line-clause-taken g c = rw c.from_residual.ensures tt
+
+pub returns-in_err-line-clause-none : goal.returns-in_err-line-clause-none
+returns-in_err-line-clause-none g c = rw c.from_residual.ensures refl

@@ -1,4 +1,7 @@
-use Rattle.std.proofs.Common.{arith}
+use Rattle.std.proofs.Common.{◌≡◌, List, length, sym, ap, subst, arith}
+use Rattle.std.specs.Prelude.{All}
+use Rattle.frame_table.specs.Named.{PassView}
+use Rattle.ksm_script.proofs.Auditing.{audited_all, refused_all}
 use Rattle.ksm_audit.proofs.Callers.{as_many_back, still_own}
 use Rattle.ksm_script.proofs.passes.audit_by.Goals as goal
 
@@ -7,3 +10,26 @@ returns-in-Ok-clause-own g c = still_own g.N.Naming.parts.frames c.args.idle.ite
 
 pub returns-in-Ok-clause-count : goal.returns-in-Ok-clause-count
 returns-in-Ok-clause-count g c = omega (arith, as_many_back c.args.idle.items c.in-Ok.back.items c.in-Ok.ensures.report.gain, c.in-Ok.back.ok.0, c.args.idle.ok.0)
+
+pub returns-in-Ok-clause-audited : goal.returns-in-Ok-clause-audited
+returns-in-Ok-clause-audited g c =
+    audited_all g.N.Naming.parts.frames _ c.args.idle.items _ _ c.if-is_empty.ensures (omega (arith, c.args.idle.ok.0)) c.requires.own c.in-Ok.ensures.report
+
+pub returns-in-Memory-clause-audited : goal.returns-in-Memory-clause-audited
+returns-in-Memory-clause-audited g c =
+    let back = rw c.in-Memory.is at c.in-Err.ensures.fault in
+    refused_all _ c.args.idle.items _ c.if-is_empty.ensures (omega (arith, c.args.idle.ok.0)) back
+
+pub returns-in-Memory-clause-own : goal.returns-in-Memory-clause-own
+returns-in-Memory-clause-own g c =
+    let back = rw c.in-Memory.is at c.in-Err.ensures.fault in
+    subst (All (λ (p : PassView). p.table ≡ g.N.Naming.parts.frames)) (sym back) c.requires.own
+
+pub returns-in-Memory-clause-count : goal.returns-in-Memory-clause-count
+returns-in-Memory-clause-count g c =
+    let back = rw c.in-Memory.is at c.in-Err.ensures.fault in
+    let long = ap (λ (l : List PassView). length l) back in
+    omega (arith, long, c.in-Memory.back.ok.0, c.args.idle.ok.0)
+
+pub returns-in-Memory-clause-room : goal.returns-in-Memory-clause-room
+returns-in-Memory-clause-room g c = rw c.in-Memory.is at c.in-Err.ensures.room

@@ -1,4 +1,5 @@
-use Rattle.std.proofs.Common.{rules, ◌≡◌, Bool, ap, ℕ, List, [], None, Some, subst, sym}
+use Rattle.std.proofs.Common.{rules, ◌≡◌, Bool, ap, ℕ, List, [], None, Some, Err, subst, sym}
+use Rattle.ksm_script.specs.declared.script.RunFault.TheVariants.{Write}
 use Rattle.std.proofs.lemmas.List.{append-nil}
 use Rattle.std.specs.Io.KnownBytes.{Consumes}
 use Rattle.ksm_script.proofs.Turns.{told_so, not_answered, not_empty, one_empty, one_more, one_broken, nothing_yet, broke, goes_behind, goes_to_end}
@@ -12,8 +13,9 @@ lines-preserved-then-take_empty g c = one_empty _ _ _ _ _ _ _ _ c.lines.invarian
 
 pub returns-in_err-answer_whole-clause-goes : goal.returns-in_err-answer_whole-clause-goes
 returns-in_err-answer_whole-clause-goes g c =
+    let told : c.from_residual.result ≡ Err Write = search rules in
     let so = not_empty g.M.TakesLines.remaining _ _ _ _ _ _ _ _ (c.take_empty.ensures.none c.if-take_empty.false) c.lines.invariant in
-    broke _ _ _ c.from_residual.result (search rules) (one_broken _ _ _ _ _ _ _ _ _ _ so c.in_err-answer_whole.ensures.fault.1)
+    broke _ _ _ c.from_residual.result told (one_broken _ _ _ _ _ _ _ _ _ _ so c.in_err-answer_whole.ensures.fault.1)
 
 pub lines-preserved-then-branch : goal.lines-preserved-then-branch
 lines-preserved-then-branch g c =
@@ -22,26 +24,26 @@ lines-preserved-then-branch g c =
 
 pub returns-in-Some-clause-goes : goal.returns-in-Some-clause-goes
 returns-in-Some-clause-goes g c =
+    let is : c.in_ok-ended.ended ≡ Some c.in-Some.end = search rules in
     let so = not_empty g.M.TakesLines.remaining _ _ _ _ _ _ _ _ (c.take_empty.ensures.none c.if-take_empty.false) c.lines.invariant in
     let still = not_answered g.M.TakesLines.remaining g.W.Write.contents _ _ _ _ _ _ _ _ _ _ _ c.in_ok-answer_whole.ensures.none c.if-branch.false so in
     let on = c.in_ok-ended.ensures _ _ _ still in
-    let is : c.in_ok-ended.ended ≡ Some c.in-Some.end = search rules in
     (goes_to_end _ _ _ _ _ _ _ _ _ is on).0
 
 pub returns-in-Some-clause-line : goal.returns-in-Some-clause-line
 returns-in-Some-clause-line g c =
+    let is : c.in_ok-ended.ended ≡ Some c.in-Some.end = search rules in
     let so = not_empty g.M.TakesLines.remaining _ _ _ _ _ _ _ _ (c.take_empty.ensures.none c.if-take_empty.false) c.lines.invariant in
     let still = not_answered g.M.TakesLines.remaining g.W.Write.contents _ _ _ _ _ _ _ _ _ _ _ c.in_ok-answer_whole.ensures.none c.if-branch.false so in
     let on = c.in_ok-ended.ensures _ _ _ still in
-    let is : c.in_ok-ended.ended ≡ Some c.in-Some.end = search rules in
     (goes_to_end _ _ _ _ _ _ _ _ _ is on).1
 
 pub lines-preserved : goal.lines-preserved
 lines-preserved g c =
+    let is : c.in_ok-ended.ended ≡ None = search rules in
     let so = not_empty g.M.TakesLines.remaining _ _ _ _ _ _ _ _ (c.take_empty.ensures.none c.if-take_empty.false) c.lines.invariant in
     let still = not_answered g.M.TakesLines.remaining g.W.Write.contents _ _ _ _ _ _ _ _ _ _ _ c.in_ok-answer_whole.ensures.none c.if-branch.false so in
     let on = c.in_ok-ended.ensures _ _ _ still in
-    let is : c.in_ok-ended.ended ≡ None = search rules in
     goes_behind _ _ _ _ _ _ _ _ is on
 
 pub returns-clause-goes : goal.returns-clause-goes

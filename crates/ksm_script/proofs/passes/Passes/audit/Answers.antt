@@ -10,7 +10,7 @@ use Rattle.ksm_script.proofs.passes.Passes.audit.Goals as goal
 pub audit_by-reply-requires-clause-own : goal.audit_by-reply-requires-clause-own
 audit_by-reply-requires-clause-own g c κs within =
     let t = g.N.Naming.parts.frames in
-    subst (All (λ (v : PassView). v.table ≡ t)) (sym c.take_idle.ensures.idle) (idle_own t (present c.self.inside.slots.items) (subst (All (λ (s : PassState). table_of s ≡ t)) (sym c.self.view_is) c.requires.own))
+    subst (All (λ (v : PassView). v.table ≡ t)) (sym {A = List PassView} c.take_idle.ensures.idle) (idle_own t (present c.self.inside.slots.items) (subst (All (λ (s : PassState). table_of s ≡ t)) (sym c.self.view_is) c.requires.own))
 
 pub put_idle-requires : goal.put_idle-requires
 put_idle-requires g c =
