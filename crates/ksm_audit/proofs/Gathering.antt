@@ -1,7 +1,7 @@
 -- What the workers found is put together, line by line and worker by worker.
 use Rattle.std.proofs.Common.{◌≡◌, ◌≢◌, ℕ, zero, suc, ◌+◌, ◌-◌, ◌<◌, ◌≤◌, ◌⊎◌, ⊎_elim, inl, inr, if◌then◌else◌, Bool, List, [], ◌∷◌, ◌++◌, length, get_or, set, slice_get, Option, Some, sym, refl, ap, ◌∙◌, subst, arith, append_assoc, append-nil, ne_eqb, eq-eqb}
 use Rattle.std.specs.Prelude.{option_to_list}
-use Rattle.std.proofs.lemmas.List.Elements.{All-cons, All-nil}
+use Rattle.std.proofs.lemmas.List.Elements.{All-cons}
 use Rattle.frame_core.proofs.Above.{get_set}
 use Rattle.frame_table.specs.Named.{PassView}
 use Rattle.ksm_audit.specs.declared.report.Row.{Row}

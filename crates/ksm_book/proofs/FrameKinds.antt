@@ -98,7 +98,7 @@ sets_lowered v w found frame free dying is left are =
     let table = ap (λ (z : KeeperView). z.table) is in
     let kept = kind_left v.ledger frame (subst (λ (z : KeeperView). (frame_at z.ledger frame).base ≢ 0) is left) in
     let same : (asked : Kind → Bool) (g : ℕ) → asked (frame_at w.ledger g).kind ≡ asked (frame_at v.ledger g).kind = λ asked g.
-        ap (λ (z : KeeperView). asked (frame_at z.ledger g).kind) is ∙ same_kinds asked v.ledger frame (lowered (frame_at v.ledger frame)) (ap asked kept) g in
+    ap (λ (z : KeeperView). asked (frame_at z.ledger g).kind) is ∙ same_kinds asked v.ledger frame (lowered (frame_at v.ledger frame)) (ap asked kept) g in
     record {
       free = set_stays free_kind v w free table are.free (same free_kind);
       dying = set_stays dying_kind v w dying table are.dying (same dying_kind);

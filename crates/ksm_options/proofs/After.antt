@@ -4,13 +4,12 @@ use Rattle.std.specs.List.{fold, list_all}
 use Rattle.clap.specs.Kinds.{Kinds, or_else}
 use Rattle.clap.specs.Faults.{check_fault, default_fault, defaults_fault, entered_fault, fault_of, given_default_fault, level_fault, settle_fault, walk_fault}
 use Rattle.clap.specs.Simple.{built, entered, matches_of}
-use Rattle.clap.specs.Takes.{is_given}
 use Rattle.clap.specs.Walk.{Row, Rule, Text, default_rows, finished, has_row, is_empty, nothing_held, reading_by, settled, settled_rows, walk_from, with_default}
 use Rattle.clap.specs.declared.error.kind.ErrorKind.TheVariants as kind
 use Rattle.clap.proofs.SimpleLemmas.{is_nil}
 use Rattle.clap.proofs.WalkLemmas.{both}
 use Rattle.ksm_options.specs.CommandLine.{ksmbook}
-use Rattle.ksm_options.specs.Settings.{Frames, Given, Nodes, has, name_of}
+use Rattle.ksm_options.specs.Settings.{Frames, Given, Nodes, has}
 use Rattle.ksm_options.specs.Told.{Tells}
 use Rattle.ksm_options.proofs.Rows.{given_is}
 use Rattle.ksm_options.proofs.Steps.{both_none, first_none, held, row_for, rules, second_none, shape}

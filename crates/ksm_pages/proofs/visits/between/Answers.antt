@@ -43,12 +43,13 @@ from_run c =
     let is = visited_from c.in-Some.last runs at c.requires.runs c.run_of-at.ensures.place c.run_of-at.ensures.within in
     let rise = AllPairs-filter (λ m n. comes_before m.page n.page ≡ true) (λ n. n.mergeable) (pages_in (drop at runs)) (runs_rest runs at c.requires.runs).ascending in
     let many : passed ≡ length front = c.visited_to-passed.ensures ∙ sym (length-filter (λ n. not (comes_before c.in-Some.last n.page)) (visited (get_or runs at []))) in
-    let both = before_page page (Some c.in-Some.last) (pages_in runs) (visited (pages_in (drop at runs))) front passed is rise many in
-    (c.ahead_before-2.ensures.count ∙ ap (λ rs. count_by low (visited (pages_in rs)) - passed) (take_rest runs at)
-    ∙ both.0 ∙ ap (λ cursor. length (passed_to cursor page (pages_in runs))) (sym c.in-Some.is),
-    c.ahead_before-2.ensures.last
-    ∙ ap (λ rs. if nat_lt passed (count_by low (visited (pages_in rs))) then page_at (visited (pages_in rs)) (count_by low (visited (pages_in rs)) - 1) else Some c.in-Some.last) (take_rest runs at)
-    ∙ both.1 ∙ ap (λ cursor. last_or cursor (passed_to cursor page (pages_in runs))) (sym c.in-Some.is))
+    let both = before_page page (Some c.in-Some.last) (pages_in runs) (visited (pages_in (drop at runs))) front passed is rise many in (
+      c.ahead_before-2.ensures.count ∙ ap (λ rs. count_by low (visited (pages_in rs)) - passed) (take_rest runs at)
+          ∙ both.0 ∙ ap (λ cursor. length (passed_to cursor page (pages_in runs))) (sym c.in-Some.is),
+      c.ahead_before-2.ensures.last
+          ∙ ap (λ rs. if nat_lt passed (count_by low (visited (pages_in rs))) then page_at (visited (pages_in rs)) (count_by low (visited (pages_in rs)) - 1) else Some c.in-Some.last) (take_rest runs at)
+          ∙ both.1 ∙ ap (λ cursor. last_or cursor (passed_to cursor page (pages_in runs))) (sym c.in-Some.is),
+    )
 
 pub returns-clause-count : goal.returns-clause-count
 returns-clause-count c = (from_run (goal.at.returns-clause-count c).After-ahead_before-2).0

@@ -1,4 +1,4 @@
-use Rattle.ksm_book.proofs.Names.{refl, Sub, sym, ◌∙◌}
+use Rattle.ksm_book.proofs.Names.{refl, Sub, ◌∙◌}
 use Rattle.ksm_book.proofs.FrameKinds.{sets_lowered, sets_marked}
 use Rattle.ksm_book.proofs.frame_keeper.FrameKeeper.sub.Goals as goal
 

@@ -34,8 +34,11 @@ pub insert-requires : goal.insert-requires
 insert-requires c =
     let s = c.self.inside in
     let here = here (goal.at.insert-requires c).In-Some in
-    omega (arith, stale_has_room c.args.place s.dups.items s.counts s.empty.list s.stale.list c.in-Some.dup c.args.page here.within c.self.invariant here.filled
-    c.if-not-remove.ensures.found)
+    omega (
+      arith,
+      stale_has_room c.args.place s.dups.items s.counts s.empty.list s.stale.list c.in-Some.dup c.args.page here.within c.self.invariant here.filled
+          c.if-not-remove.ensures.found,
+    )
 
 pub invariant_of-self : goal.invariant_of-self
 invariant_of-self c =
