@@ -16,6 +16,7 @@ use ksm_pages::{Pages, Spot};
 
 /// A page gets a frame of a node with these bytes, and leaves the one that it had, if it had one. Its row is one with a
 /// frame of its own then; home and bytes of the row are the caller's to change. Refused where no frame is free.
+#[inline(always)]
 pub fn resettle(
     pages: &mut Pages,
     keeper: &mut FrameKeeper,

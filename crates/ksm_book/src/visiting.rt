@@ -12,7 +12,7 @@ use crate::frames::{clear, release_if};
 use crate::state::State;
 use frame_table::FrameTable;
 use ksm_base::{Fault, GuestPage};
-use ksm_pages::{Find, Held, Spot};
+use ksm_pages::{Find, Glance, Held, Spot};
 use ksm_tree::Best;
 
 /// What became of a page that was visited.
@@ -31,8 +31,8 @@ pub enum Visited {
 impl State {
     /// Visits a page, if its row is one that a visit may change. Where memory is refused, nothing changes.
     ///
-    /// Of a page that waited in the last pass mostly one call tells all. Any other is visited in a function of its own,
-    /// so that what it needs is not laid out before.
+    /// Of a page that waited in the last pass, or is merged by now, mostly a glance tells all. Any other is visited in a
+    /// function of its own, so that what it needs is not laid out before.
     #[inline(always)]
     pub fn visit(&mut self, table: &FrameTable, spot: Spot) -> Result<Visited, Fault>
         requires own { self.old.keeper.table ≡ table.now }
@@ -43,10 +43,11 @@ impl State {
         ensures refused { OnErr result (Comes self.old self.new (λ s. s)) }
         ensures refused_row { OnErr result (restless_at spot.page self.new.state.rows ≡ true) }
     {
-        if self.pages.waits_again(spot) {
-            return Ok(Visited::Same);
+        match self.pages.glance(spot) {
+            Glance::Gone => Ok(Visited::Gone),
+            Glance::Waits => Ok(Visited::Same),
+            Glance::Nothing => self.visit_any(table, spot),
         }
-        self.visit_any(table, spot)
     }
 
     // The same for any page.

@@ -17,7 +17,7 @@ mod visits;
 pub use ahead::Ahead;
 pub use named::Named;
 pub use order::Order;
-pub use pages::{Find, Held, Pages};
+pub use pages::{Find, Glance, Held, Pages};
 pub use restless::Restless;
 pub use row::Spot;
 pub use rows::Rows;

@@ -3,7 +3,7 @@
 //!
 //! A page is named by a `Spot`, whose key is a guess that no contract reads; a change is told by the page.
 
-ghost use Rattle.std.specs.Prelude.{◌≡◌, ◌<◌, ◌≤◌, ◌⊎◌, ⊤, not, [], true, false, None, Some, Err, All, count_by, filter, find, length, map, is_some, ◌==◌, ◌&&◌, option_map, option_and_then, MatchOption, IfOk, IfErr, IfSome, IsTrue, OnOk, OnErr, slice_get};
+ghost use Rattle.std.specs.Prelude.{◌≡◌, ℕ, ◌<◌, ◌≤◌, ◌⊎◌, ⊤, not, [], true, false, None, Some, Err, All, count_by, filter, find, length, map, is_some, ◌==◌, ◌&&◌, option_map, option_and_then, MatchOption, IfOk, IfErr, IfSome, IsTrue, OnOk, OnErr, slice_get};
 ghost use Rattle.std.specs.List.{list_any};
 ghost use Rattle.ksm_base.specs.declared.fault.Fault.TheVariants.{Memory};
 ghost use Rattle.ksm_base.specs.declared.row.PageState.TheVariants.{Merged, Private, Zero};
@@ -14,6 +14,7 @@ ghost use Rattle.ksm_base.specs.Rows.{InPageOrder, all_zero as has_only_zeroes, 
 ghost use Rattle.ksm_base.specs.State.{default_knobs, place_count};
 ghost use Rattle.ksm_base.specs.Values.{IsShape};
 ghost use Rattle.ksm_base.specs.Visit.{after_cursor, new_place as a_new_place};
+ghost use Rattle.ksm_base.specs.declared.knobs.Knobs.{Knobs};
 ghost use Rattle.ksm_base.specs.declared.row.Row.{Row};
 ghost use Rattle.ksm_base.specs.Rows.{dup_numbered};
 ghost use Rattle.ksm_base.specs.State.{tree_of};
@@ -23,7 +24,7 @@ ghost use Rattle.ksm_tree.specs.Dups.{rows_of as dup_rows};
 ghost use Rattle.ksm_tree.specs.Waits.{IsStopped};
 ghost use Rattle.ksm_pages.specs.Held.{held_at, held_of};
 ghost use Rattle.ksm_pages.specs.Left.{IsLeft};
-ghost use Rattle.ksm_pages.specs.declared.pages.Find.TheVariants.{Waits};
+ghost use Rattle.ksm_pages.specs.declared.pages.Find.TheVariants as finds;
 ghost use Rattle.ksm_pages.specs.Paged.{frame_seen, lodging, AreListed, ComesTo, Finds, HasRoom, IsAlone, IsHeld, IsKnown, IsVacant, MayPair, elsewhere, is_restless, items_on, lies_on, nowhere, is_next, of_guest, last_page, on_its_own, paired as are_paired, rows_ahead, rows_between, seen, visited};
 
 use crate::ahead::Ahead;
@@ -59,6 +60,17 @@ pub enum Find {
     Waits,
     /// The page is to make a dup with this one, which waits.
     Partner(GuestPage),
+}
+
+/// What a first look at a page tells.
+#[derive(Clone, Copy, Debug)]
+pub enum Glance {
+    /// A visit may not change its row.
+    Gone,
+    /// The page waits, from now on.
+    Waits,
+    /// Neither.
+    Nothing,
 }
 
 /// The rows, the dups with their frames, the pages that wait, and the knobs, which say what tree a row is in.
@@ -136,6 +148,16 @@ fn frame_of(dups: &Dups, frames: &[u32], entry: &Entry, pass: u64) -> Option<u32
     }
 }
 
+/// Takes the page of a row out of the dup with a number, into which it is merged. Gives the frame on which it lay.
+#[inline(always)]
+fn left_dup(dups: &mut Dups, frames: &[u32], entry: &Entry, number: u64) -> Option<u32>
+    ensures { (knobs : Knobs) (pass : ℕ) → (held_of pass entry.now).row.state ≡ Merged number
+        → IsLeft knobs frames.now dups.old dups.new result (held_of pass entry.now) }
+{
+    let place = dups.leave_at(entry.at, number, entry.page);
+    frame_at(frames, place)
+}
+
 /// Takes the page of a row out of its dup, if it is merged, and out of the waiting pages, if it waits. Gives the frame
 /// on which it lay, if it did on one. Mostly the row is Private, and is in nothing.
 #[inline(always)]
@@ -160,10 +182,7 @@ fn left_by_any(
     ensures { IsLeft knobs.now frames.now dups.old dups.new result (held_of pass entry.now) }
 {
     match entry.state(pass) {
-        PageState::Merged(number) => {
-            let place = dups.leave_at(entry.at, number, entry.page);
-            frame_at(frames, place)
-        }
+        PageState::Merged(number) => left_dup(dups, frames, entry, number),
         PageState::Waiting => {
             dups.stop_waiting(entry.group, tree_in(knobs, entry.home), &entry.bytes);
             Some(entry.at)
@@ -179,7 +198,12 @@ fn leave(dups: &mut Dups, frames: &[u32], knobs: &Knobs, rows: &Rows, spot: Spot
     ensures { MatchOption (held_at spot.page rows.now.held) ⊤ (IsLeft knobs.now frames.now dups.old dups.new result) }
 {
     let entry = rows.find(spot)?;
-    left_by(dups, frames, knobs, entry, rows.pass())
+    let pass = rows.pass();
+    // Mostly the page is merged.
+    match entry.state(pass) {
+        PageState::Merged(number) => left_dup(dups, frames, entry, number),
+        _ => left_by_any(dups, frames, knobs, entry, pass),
+    }
 }
 
 /// Whether each word is zero.
@@ -445,6 +469,7 @@ impl Pages {
 
     /// The page gets a frame of its own in the stead of what it had: a merged one leaves its dup, one that waits does so
     /// no more. Gives the frame where it lay, if it had one.
+    #[inline(always)]
     pub fn resettle(&mut self, spot: Spot, frame: u32) -> Option<u32>
         requires { IsKnown spot.page self.old.rows }
         ensures left { result ≡ (seen self.old).frame spot.page }
@@ -475,13 +500,14 @@ impl Pages {
         let Some(entry) = self.rows.find(spot) else {
             return;
         };
-        left_by(
-            &mut self.dups,
-            &self.frames,
-            &self.knobs,
-            entry,
-            self.rows.pass(),
-        );
+        // Mostly the row is Private, and is in nothing: then nothing is written between the search and the store.
+        let pass = self.rows.pass();
+        if let PageState::Private = entry.state(pass) {
+            self.rows.store(spot, bytes);
+            return;
+        }
+        left_by_any(&mut self.dups, &self.frames, &self.knobs, entry, pass);
+        self.rows.stop_waiting(spot);
         self.rows.store(spot, bytes);
     }
 
@@ -547,28 +573,33 @@ impl Pages {
         }
     }
 
-    /// Whether a visit of a page finds that it waits, where its row and its group lie where that was guessed and
-    /// nothing stands in the group, as it is with nearly all visits of pages that waited in the last pass. Then it
-    /// waits from now on. Else nothing changes, and `visit` tells.
+    /// A first look at a page that is visited: whether a visit may change its row, where that lies where it was guessed,
+    /// and of a page that was unchanged whether it waits, where its group is the one that was guessed. Then it waits from
+    /// now on. Where a look tells nothing, nothing changes, and `visit` tells.
     #[inline(always)]
-    pub fn waits_again(&mut self, spot: Spot) -> bool
-        ensures waits { IsTrue result → Finds (seen self.old) (seen self.new) spot.page Waits }
-        ensures denied { result ≡ false → self.new ≡ self.old }
+    pub fn glance(&mut self, spot: Spot) -> Glance
+        ensures gone { result ≡ Glance.Gone → Finds (seen self.old) (seen self.new) spot.page finds.Gone }
+        ensures waits { result ≡ Glance.Waits → Finds (seen self.old) (seen self.new) spot.page finds.Waits }
+        ensures nothing { result ≡ Glance.Nothing → self.new ≡ self.old }
     {
         let Some(entry) = self.rows.at(spot) else {
-            return false;
+            return Glance::Nothing;
         };
-        if !entry.is_restless() || !entry.unchanged || is_for_zero(&self.knobs, &entry.bytes) {
-            return false;
+        if !entry.is_restless() {
+            return Glance::Gone;
+        }
+        if !entry.unchanged || is_for_zero(&self.knobs, &entry.bytes) {
+            return Glance::Nothing;
         }
         let tree = tree_in(&self.knobs, entry.home);
         let group = entry.group;
-        if !self.dups.is_empty_group(group, tree, &entry.bytes) {
-            return false;
+        let limit = self.knobs.max_page_sharing;
+        if !self.dups.is_closed_group(group, tree, &entry.bytes, limit) {
+            return Glance::Nothing;
         }
         self.rows.wait(spot);
         self.dups.meet(group, spot.page);
-        true
+        Glance::Waits
     }
 
     /// What a visit of a page finds, and what it changes by that alone. Refused for memory alone, it changes nothing.

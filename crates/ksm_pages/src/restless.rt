@@ -135,6 +135,7 @@ impl Restless {
     }
 
     /// The page of a spot is listed. Where memory for it is refused, the list stays as it is, and is no longer known.
+    #[inline(always)]
     pub fn add(&mut self, spot: Spot)
         ensures { IsAddedTo spot.page self.old self.new }
     {

@@ -276,6 +276,7 @@ impl Rows {
     // ------------------------------------------------------------ how a page is mapped
 
     /// The page of a row gets a frame of its own in the stead of what it had, and is Private.
+    #[inline(always)]
     pub fn settle_on(&mut self, spot: Spot, frame: u32)
         ensures { self.new ≡ record self.old { held = change_held spot.page (mapped Private (Some frame)) self.old.held; restless = self.new.restless } }
     {
@@ -300,6 +301,7 @@ impl Rows {
     }
 
     /// The page of a row is mapped from the frame of the dup with a number, at a place that is a guess.
+    #[inline(always)]
     pub fn merge(&mut self, spot: Spot, number: u64, place: u32)
         ensures { self.new ≡ record self.old { held = change_held spot.page (mapped (Merged number) None) self.old.held } }
     {
@@ -369,22 +371,15 @@ impl Rows {
 
     // ------------------------------------------------------------ what else a row says
 
-    /// The row has these bytes, and waits no more. Where its bytes were others, it is not unchanged.
+    /// The row has these bytes. Where its bytes were others, it is not unchanged.
     #[inline(always)]
     pub fn store(&mut self, spot: Spot, bytes: &PageBytes)
-        ensures { self.new ≡ record self.old { held = change_held spot.page (on_row (λ r. record (settled r) { bytes = bytes.now; unchanged = r.unchanged && bytes_eq r.bytes bytes.now })) self.old.held } }
+        ensures { self.new ≡ record self.old { held = change_held spot.page (on_row (λ r. record r { bytes = bytes.now; unchanged = r.unchanged && bytes_eq r.bytes bytes.now })) self.old.held } }
     {
         let Some(key) = key_of(&self.entries, &self.order, spot) else {
             return;
         };
-        // Called for its contract alone: the number of pages fits 64 bits.
-        let _ = self.order.len();
-        let entry = &mut self.entries[key];
-        let old = entry.state(self.pass);
-        entry.take_bytes(bytes);
-        entry.forget_pass();
-        let new = entry.state(self.pass);
-        self.tally = self.tally.moved(old, new);
+        self.entries[key].take_bytes(bytes);
     }
 
     /// The row waits no more, and is unchanged. The number of the group in which it was found is remembered.

@@ -155,15 +155,19 @@ impl Dups {
         }
     }
 
-    /// Whether the group with a number is that of a tree and bytes, and nothing stands in it.
+    /// Whether the group with a number is that of a tree and bytes, no page waits there, and none of its dups may be
+    /// joined.
     #[inline(always)]
-    pub fn is_empty_group(&self, group: u32, tree: u32, bytes: &PageBytes) -> bool
+    pub fn is_closed_group(&self, group: u32, tree: u32, bytes: &PageBytes, limit: u32) -> bool
         ensures numbered { IsTrue result → number_of tree bytes.now self.now.numbers ≡ Some group }
-        ensures best { IsTrue result → (t limit : ℕ) (b : List ℕ) → number_of t b self.now.numbers ≡ Some group → best_of t b limit self.now.dups ≡ None }
-        ensures waiting { IsTrue result → (t : ℕ) (b : List ℕ) → number_of t b self.now.numbers ≡ Some group → waiting_page t b self.now.waiting ≡ None }
+        ensures best { IsTrue result → (t : ℕ) (b : List ℕ) → number_of t b self.now.numbers ≡ Some group
+            → best_of t b limit self.now.dups ≡ None }
+        ensures waiting { IsTrue result → (t : ℕ) (b : List ℕ) → number_of t b self.now.numbers ≡ Some group
+            → waiting_page t b self.now.waiting ≡ None }
     {
-        // Whether anything stands in it is told by two words, its content by the bytes of a page: so that comes last.
-        self.index.groups.is_idle(group as usize) && self.index.groups.is_of(group, tree, bytes)
+        self.index.groups.is_of(group, tree, bytes)
+            && self.index.groups.waiting(group).is_none()
+            && self.best_of(group, limit).is_none()
     }
 
     /// The page that waits in the group with a number from now on: the one that did, or else this one.

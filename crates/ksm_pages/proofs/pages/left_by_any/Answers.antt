@@ -1,21 +1,8 @@
-use Rattle.ksm_pages.proofs.Names.{ap, bytes_eq, dup_numbered, frame_seen, held_of, if◌then◌else◌, lodging, None, option_and_then, refl, rules, slice_get, sym, waiting_page, waiting_state, ◌&&◌, ◌==◌, ◌∙◌}
-use Rattle.ksm_tree.specs.Dups.{rows_of as dup_rows}
-use Rattle.ksm_pages.proofs.Paging.{kept_at_place, place_numbered}
+use Rattle.ksm_pages.proofs.Names.{bytes_eq, held_of, if◌then◌else◌, None, refl, rules, sym, waiting_page, waiting_state, ◌&&◌, ◌==◌, ◌∙◌}
 use Rattle.ksm_pages.proofs.pages.left_by_any.Goals as goal
 
 pub returns-in-Merged : goal.returns-in-Merged
-returns-in-Merged c = record {
-  dups = search rules;
-  waiting = search rules;
-  frame =
-      let dups = c.args.dups.now.dups in
-      let frames = c.args.frames.now in
-      c.frame_at.ensures
-      ∙ ap (option_and_then (slice_get frames)) (c.leave_at-place.ensures.place ∙ place_numbered c.in-Merged.number dups)
-      ∙ kept_at_place frames (dup_numbered c.in-Merged.number (dup_rows dups))
-      ∙ ap (λ s. frame_seen (lodging (dup_rows dups) frames) s (held_of c.args.pass c.args.entry.now).frame)
-      (sym (sym c.state.ensures ∙ c.in-Merged.is));
-}
+returns-in-Merged c = c.left_dup.ensures c.args.knobs.now c.args.pass (sym c.in-Merged.ensures)
 
 pub returns-in-Waiting : goal.returns-in-Waiting
 returns-in-Waiting c = record {
