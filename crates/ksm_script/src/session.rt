@@ -29,7 +29,7 @@ use crate::script::RunFault;
 use frame_table::ClosedTable;
 use ksm_base::{Command, Fault, GuestPage, PageBytes, Reply};
 use ksm_lines::{Line, PageLine, ShortLine, Shown};
-use ksm_shared::{Answer, Ksm, Naming, Parts, Share};
+use ksm_shared::{Ksm, Naming, Parts, Share};
 use std::alloc::Global;
 use std::io::Write;
 use std::marker::Model;
@@ -401,7 +401,7 @@ impl<N: Naming> Session<N> {
     fn apply<R: Wait>(&mut self, rt: &R, command: Command) -> Result<Reply, Fault>
         ensures answers { Commands command self.old.state (Some (reply_to result)) self.new.state }
     {
-        result_of(self.ksm.command(rt, &mut self.share, command))
+        self.ksm.carry_out(rt, &mut self.share, command)
     }
 
     #[inline(always)]
@@ -411,14 +411,6 @@ impl<N: Naming> Session<N> {
     {
         LineReply::Counters(self.ksm.counters(rt, &mut self.share))
     }
-}
-
-/// What the book answered. The rest of the answer is let go here, where nothing else is to be proved.
-#[inline(always)]
-fn result_of<N: Naming>(answer: Answer<N>) -> Result<Reply, Fault>
-    ensures { result ≡ answer.result }
-{
-    answer.result()
 }
 
 /// Hands over `ok`. It stands apart: within the reading of a line LLVM takes the writing for a rare case, and doesn't

@@ -23,7 +23,7 @@ use crate::reader::{CounterReader, Row};
 use crate::share::Share;
 use frame_table::{ClosedTable, Found, FoundEqual, FrameTable, Pass};
 use ksm_base::laws::a_journal_goes_on;
-use ksm_base::{Command, Counters, Fault, GuestPage, Knobs, PageBytes};
+use ksm_base::{Command, Counters, Fault, GuestPage, Knobs, PageBytes, Reply};
 use std::alloc::Global;
 use std::marker::Model;
 use std::sync::{Mutex, MutexGuard, Wait};
@@ -97,6 +97,24 @@ impl<N: Naming> Ksm<N> {
         let answer = merge.command(rt, &self.frames, share, command);
         MutexGuard::unlock(merge);
         answer
+    }
+
+    /// Makes a command as `command` does, and answers what the book answered, with no row. Readers are shown the counters after it all the same.
+    pub fn carry_out<R: Wait>(
+        &self,
+        rt: &R,
+        share: &mut Share<N>,
+        command: Command,
+    ) -> Result<Reply, Fault>
+        ensures seen { SeesOn N.parts share.old share.new (made_by share.old.number command result) }
+        ensures part { part_of share.new ≡ part_of share.old ++ made command result }
+        ensures alone { StepsAlone N.parts share.old share.new command result }
+    {
+        a_journal_goes_on();
+        let mut merge = self.merge.lock(rt);
+        let result = merge.carry_out(rt, &self.frames, share, command);
+        MutexGuard::unlock(merge);
+        result
     }
 
     /// The bytes of a page, loaded from the words of its frame; none where it has no row. They are those stored last by the journal that the

@@ -70,6 +70,32 @@ impl<N: Naming> Merge<N> {
         ensures published { self.new.shown ≡ entries self.new.log }
         ensures shown { result.shown ≡ entries self.new.log }
     {
+        let result = self.carry_out(rt, frames, share, command);
+        Answer {
+            result,
+            row: self.publisher.newest(),
+            of: PhantomData,
+        }
+    }
+
+    /// Makes a command as `command` does, and answers what the book answered. Readers are shown the counters after it all the same.
+    #[inline(always)]
+    pub fn carry_out<R: Wait>(
+        &mut self,
+        rt: &R,
+        frames: &FrameTable,
+        share: &mut Share<N>,
+        command: Command,
+    ) -> Result<Reply, Fault>
+        requires own { frames.now ≡ N.parts.frames }
+        ensures carried { CarriedOut (unjournaled self.old.book) (unjournaled self.new.book) command result }
+        ensures journal { self.new.book.journal ≡ journal_after self.old.book.journal command result }
+        ensures log { self.new.log ≡ self.old.log ++ made_by share.old.number command result }
+        ensures share { share.new ≡ caller share.old.number self.new.log }
+        ensures seen { SeesOn N.parts share.old share.new (made_by share.old.number command result) }
+        ensures part { part_of share.new ≡ part_of share.old ++ made command result }
+        ensures published { self.new.shown ≡ entries self.new.log }
+    {
         let result = self.book.apply(frames, command);
         self.book.lies_lawfully();
         let said = said(command, result);
@@ -77,11 +103,7 @@ impl<N: Naming> Merge<N> {
         write(&table.shared, &mut self.seat, &mut share.seat, &said);
         let counters = self.book.counters();
         self.publisher.follow(rt, &said, counters);
-        Answer {
-            result,
-            row: self.publisher.newest(),
-            of: PhantomData,
-        }
+        result
     }
 
     /// Shows the share the whole journal, and adds no entry.

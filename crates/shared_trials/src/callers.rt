@@ -24,12 +24,12 @@ fn work<N: Naming>(
     mut share: Share<N>,
     guest: u16,
 ) -> (Share<N>, bool) {
-    let mut right = ksm.command(rt, &mut share, register(guest, 0, 0)).result() == DONE;
+    let mut right = ksm.carry_out(rt, &mut share, register(guest, 0, 0)) == DONE;
     for j in 1..101u8 {
         let command = store(guest, 0, byte_of(guest, j));
-        right &= ksm.command(rt, &mut share, command).result() == DONE;
+        right &= ksm.carry_out(rt, &mut share, command) == DONE;
     }
-    let missing = ksm.command(rt, &mut share, store(guest, 9, 1)).result();
+    let missing = ksm.carry_out(rt, &mut share, store(guest, 9, 1));
     (share, right && missing == Err(Fault::UnknownPage))
 }
 

@@ -3,10 +3,10 @@ use Rattle.ksm_shared.specs.declared.seen.Caller.{Caller}
 use Rattle.ksm_shared.specs.Seen.{entries, first}
 use Rattle.ksm_shared.specs.Locked.{SeesOn, made_by}
 use Rattle.ksm_shared.proofs.Extended.{answers_seen, book_seat_is, counters_seen, follows_book, follows_on, new_journal, new_log, new_owners, part_grows, sees_on, shown_all}
-use Rattle.ksm_shared.proofs.merge.Merge.command.Given.{Over}
-use Rattle.ksm_shared.proofs.merge.Merge.command.Goals as goal
+use Rattle.ksm_shared.proofs.merge.Merge.carry_out.Given.{Over}
+use Rattle.ksm_shared.proofs.merge.Merge.carry_out.Goals as goal
 
-module _ (g : Over) (c : goal.After-newest g) where
+module _ (g : Over) (c : goal.After-follow g) where
   abbrev number : ℕ
   number = (first c.share.inside.seat.me.0.callers).number
 
@@ -38,9 +38,6 @@ follow-requires-clause-counters g c =
 
 pub returns-clause-published : goal.returns-clause-published
 returns-clause-published g c = follows g c
-
-pub returns-clause-shown : goal.returns-clause-shown
-returns-clause-shown g c = c.newest.ensures.shown ∙ follows g c
 
 pub invariant_of-self : goal.invariant_of-self
 invariant_of-self g c =
