@@ -23,8 +23,8 @@ pub use Rattle.ksm_tree.specs.Choosing.{ArePlacesToJoin, best_of, choice_of, cho
 pub use Rattle.ksm_tree.specs.Counts.{AreCounts, is_open, places_where}
 pub use Rattle.ksm_tree.specs.Dups.{AreDups, change_items, dup_at, dup_of, DupsState, has_number, is_live, is_stale, items_in, places_open, rows_of, stands_at, with_new, without_place}
 pub use Rattle.ksm_tree.specs.Grouping.{AreGroups, content_in, IsIdle, places_in, waits_in}
-pub use Rattle.ksm_tree.specs.Groups.{chain_in, IsMoved, SameChains, SameWaits, under, waiting_in}
-pub use Rattle.ksm_tree.specs.Index.{AreIndexed, dups_seen, group_places, in_group, place_of, places_of, row_place}
+pub use Rattle.ksm_tree.specs.Groups.{chain_in, IsCounted, IsCountedAnew, IsMoved, SameChains, SameWaits, under, waiting_in}
+pub use Rattle.ksm_tree.specs.Index.{AreIndexed, dups_seen, group_places, in_group, IsEntered, place_of, places_of, row_place}
 pub use Rattle.ksm_tree.specs.Numbered.{AreNumbered, content_of, content_order, number_of, Numbers}
 pub use Rattle.ksm_tree.specs.Places.{with_place, without}
 pub use Rattle.ksm_tree.specs.Slots.{ArePlaced, AreSlots, change_at, count_in, is_empty_slot, is_stale_slot, present, slots_seen, SlotsState}

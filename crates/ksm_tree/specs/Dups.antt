@@ -1,8 +1,8 @@
 -- Dups with their items, in the order of their places (mm/ksm: stable nodes, chains).
-use Rattle.std.specs.Prelude.{ℕ, ◌<◌, Bool, not, ◌==◌, nat_lt, List, [], ◌∷◌, ◌++◌, length, map, filter, find, Option, Some, None, All, if◌then◌else◌}
+use Rattle.std.specs.Prelude.{◌≡◌, ℕ, ◌+◌, ◌^◌, ◌<◌, Bool, false, not, ◌&&◌, ◌==◌, nat_lt, List, [], ◌∷◌, ◌++◌, length, map, filter, find, Option, Some, None, All, if◌then◌else◌}
 use Rattle.ksm_base.specs.declared.page.GuestPage.{GuestPage}
 use Rattle.ksm_base.specs.declared.row.DupRow.{DupRow}
-use Rattle.ksm_base.specs.Rows.{InPlaceOrder}
+use Rattle.ksm_base.specs.Rows.{InPlaceOrder, same_page}
 use Rattle.ksm_tree.specs.declared.dup.Dup.{Dup}
 use Rattle.ksm_tree.specs.Counts.{is_open}
 use Rattle.ksm_tree.specs.Numbered.{Numbers}
@@ -69,3 +69,10 @@ pub record AreDups (s : DupsState) : Type 0 where
   pub in_place_order : InPlaceOrder (rows_of s.dups)
   pub places_below : All (λ r. r.place < s.places) (rows_of s.dups)
   pub numbers_below : All (λ r. r.number < s.next) (rows_of s.dups)
+
+-- two pages may become a new dup at a place: no dup with items stands there, the pages differ, and there is a number for it (own)
+pub record MayBecomeDup (s : DupsState) (place : ℕ) (first second : GuestPage) : Type 0 where
+  pub below : place < s.places
+  pub free : find (λ d. stands_at place d && is_live d) s.dups ≡ None
+  pub apart : same_page first second ≡ false
+  pub number : s.next + 1 < 2 ^ 64

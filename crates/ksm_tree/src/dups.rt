@@ -15,7 +15,7 @@ ghost use Rattle.ksm_base.specs.Counting.{in_chain, leads_group};
 ghost use Rattle.ksm_base.specs.Rows.{same_page};
 ghost use Rattle.ksm_rmap.specs.Items.{has_item, with_item, without_item};
 ghost use Rattle.ksm_tree.specs.Choosing.{ArePlacesToJoin, best_of, found_at, of_group, choice_of, is_behind, unless_behind};
-ghost use Rattle.ksm_tree.specs.Dups.{AreDups, change_items, dup_at, dup_of, is_live, is_stale, items_in, items_of, rows_of, stands_at, with_new, without_place};
+ghost use Rattle.ksm_tree.specs.Dups.{AreDups, MayBecomeDup, change_items, dup_at, dup_of, is_live, is_stale, items_in, items_of, rows_of, stands_at, with_new, without_place};
 ghost use Rattle.ksm_tree.specs.Index.{group_places};
 ghost use Rattle.ksm_tree.specs.Numbered.{number_of};
 ghost use Rattle.ksm_tree.specs.Waits.{IsAdded, IsRemoved, waiting_page};
@@ -233,7 +233,6 @@ impl Dups {
         }) }
         ensures kept { OnErr result (self.new ≡ record self.old { numbers = self.new.numbers }) }
         ensures memory { IfErr result (λ fault. fault ≡ Fault.Memory) }
-        ensures lawful { AreDups self.old }
     {
         let group = self.group(NO_NUMBER, tree, bytes)?;
         self.found(group, place, tree, bytes, first, second)
@@ -250,10 +249,7 @@ impl Dups {
         second: GuestPage,
     ) -> Result<u64, Fault>
         requires known { is_some (number_of tree bytes.now self.old.numbers) ≡ true }
-        requires place { place < self.old.places }
-        requires free { find (λ d. stands_at place d && is_live d) self.old.dups ≡ None }
-        requires apart { same_page first second ≡ false }
-        requires number { self.old.next + 1 < 2 ^ 64 }
+        requires may { MayBecomeDup self.old place first second }
         ensures number { IfOk result (λ number. number ≡ self.old.next) }
         ensures made { OnOk result (self.new ≡ record self.old {
           dups = with_new (record { row = record { number = self.old.next; place = place; tree = tree; bytes = bytes.now }; items = with_item second (first ∷ []) }) self.old.dups;

@@ -13,7 +13,6 @@ ghost use Rattle.slab.specs.Slab.{get};
 ghost use Rattle.ksm_tree.specs.Grouping.{AreGroups, IsIdle};
 ghost use Rattle.ksm_tree.specs.Numbered.{number_of};
 ghost use Rattle.ksm_tree.specs.Places.{with_place, without};
-ghost use Rattle.ksm_tree.specs.Totals.{IsRegrouped, Tells};
 ghost use Rattle.ksm_tree.specs.Waits.{IsAdded, IsRemoved, waiting_page};
 
 use crate::content::{Content, SLOTS, slot_of};
@@ -55,7 +54,7 @@ pub struct Groups {
 }
 
 impl Groups {
-    ghost use Rattle.ksm_tree.specs.Groups.{SameChains, SameWaits, IsMoved, chain_in, waiting_in};
+    ghost use Rattle.ksm_tree.specs.Groups.{IsCounted, IsCountedAnew, IsMoved, SameChains, SameWaits, chain_in, waiting_in};
 
     /// No groups.
     pub fn new(alloc: Global) -> Groups
@@ -233,9 +232,9 @@ impl Groups {
     /// `Memory`, and then nothing changes.
     pub fn add(&mut self, guess: u32, tree: u32, bytes: &PageBytes, place: u32) -> Result<(), Fault>
         requires known { is_some (number_of tree bytes.now self.old.numbers.entries) ≡ true }
-        requires told { Tells (length (chain_in tree bytes.now self.old)) self.old.totals }
+        requires counted { IsCounted tree bytes.now self.old }
         ensures added { OnOk result (IsMoved tree bytes.now (with_place place) self.old self.new) }
-        ensures totals { OnOk result (IsRegrouped (length (chain_in tree bytes.now self.old)) (length (chain_in tree bytes.now self.new)) self.old.totals self.new.totals) }
+        ensures totals { OnOk result (IsCountedAnew tree bytes.now self.old self.new) }
         ensures waits { SameWaits self.old self.new }
         ensures kept { OnErr result (SameChains self.old self.new) }
         ensures memory { IfErr result (λ fault. fault ≡ Fault.Memory) }
@@ -255,9 +254,9 @@ impl Groups {
 
     /// A place leaves the group of a tree and bytes. The guess is tried first.
     pub fn remove(&mut self, guess: u32, tree: u32, bytes: &PageBytes, place: u32)
-        requires { Tells (length (chain_in tree bytes.now self.old)) self.old.totals }
+        requires { IsCounted tree bytes.now self.old }
         ensures removed { IsMoved tree bytes.now (without place) self.old self.new }
-        ensures totals { IsRegrouped (length (chain_in tree bytes.now self.old)) (length (chain_in tree bytes.now self.new)) self.old.totals self.new.totals }
+        ensures totals { IsCountedAnew tree bytes.now self.old self.new }
         ensures waits { SameWaits self.old self.new }
     {
         let Some(number) = self.number(guess, tree, bytes) else {
