@@ -1,5 +1,5 @@
 -- What a change of one group makes of the chains and of the pages that wait.
-use Rattle.ksm_tree.proofs.Names.{[], and_parts, ap, AreGroups, AreNumbered, arith, Bool, BTreeMap, bytes_eq, bytes_eq-Decides, cases_Bool, chain_in, cond, Content, content_in, content_of, content_order, Decides-eqb, false, filter_map, ForSome, get, get_or, Group, Groups, GuestPage, if◌then◌else◌, inl, inr, is_at, is_some, IsIdle, List, None, number_of, Numbers, Option, option_map, places_in, refl, same_Some, Slab, Some, subst, suc, sym, then_some, true, true≢false, under, Updates, Updates-with_value, waiting_in, waiting_page, waits_in, with_value, zero, ℕ, ◌&&◌, ◌==◌, ◌↔◌, ◌∙◌, ◌∷◌, ◌≡◌, ◌≢◌, ◌≤◌}
+use Rattle.ksm_tree.proofs.Names.{[], and_parts, ap, AreGroups, AreNumbered, arith, Bool, BTreeMap, bytes_eq, bytes_eq-Decides, cases_Bool, chain_in, cond, Content, content_in, content_of, content_order, Decides-eqb, false, filter_map, ForSome, get, get_or, Group, Groups, GuestPage, if◌then◌else◌, inl, inr, is_at, is_some, IsIdle, IsUnused, List, None, number_of, Numbers, Option, option_map, places_in, refl, same_Some, Slab, Some, subst, suc, sym, then_some, true, true≢false, under, Updates, Updates-with_value, waiting_in, waiting_page, waits_in, with_value, zero, ℕ, ◌&&◌, ◌==◌, ◌↔◌, ◌∙◌, ◌∷◌, ◌≡◌, ◌≢◌, ◌≤◌}
 use Rattle.slab.specs.Slab.{Updates as Fills}
 use Rattle.ksm_tree.proofs.Numbering.{Stands, entered, forgotten, full, its_number, same_content}
 
@@ -140,6 +140,11 @@ none_here g t b none = waiting_found g.numbers.entries g.groups g.pass g.lawful 
 -- under the number of a tree and bytes a group stands
 pub stands_under : (g : Groups) (t : ℕ) (b : List ℕ) (n : ℕ) → number_of t b g.numbers.entries ≡ Some n → None ≡ get g.groups n → ⊥
 stands_under g t b n is none = full (content_of t b) (content_in (get g.groups n)) (ap content_in (sym none)) ((g.lawful.numbered (content_of t b) n).0 is)
+
+-- a group that stands under a number has it
+pub not_unused : (g : Groups) (n : ℕ) (group : Group) → Some group ≡ get g.groups n → IsUnused n g.numbers.entries → ⊥
+not_unused g n group stands unused =
+    unused group.content.tree group.content.bytes ((g.lawful.numbered group.content n).1 (ap content_in (sym stands)))
 
 -- a guess that leads to the group of a tree and bytes is the number of that tree and bytes
 pub guessed : (g : Groups) (guess : ℕ) (group : Group) (tree : ℕ) (bytes : List ℕ) → Some group ≡ get g.groups guess → group.content.tree ≡ tree → true ≡ bytes_eq group.content.bytes bytes → Some guess ≡ number_of tree bytes g.numbers.entries

@@ -17,7 +17,7 @@ ghost use Rattle.ksm_rmap.specs.Items.{has_item, with_item, without_item};
 ghost use Rattle.ksm_tree.specs.Choosing.{ArePlacesToJoin, best_of, found_at, of_group, choice_of, is_behind, unless_behind};
 ghost use Rattle.ksm_tree.specs.Dups.{AreDups, MayBecomeDup, change_items, dup_at, dup_of, is_live, is_stale, items_in, items_of, rows_of, stands_at, with_new, without_place};
 ghost use Rattle.ksm_tree.specs.Index.{group_places};
-ghost use Rattle.ksm_tree.specs.Numbered.{number_of};
+ghost use Rattle.ksm_tree.specs.Numbered.{IsUnused, number_of};
 ghost use Rattle.ksm_tree.specs.Waits.{IsAdded, IsRemoved, waiting_page};
 
 use crate::choice::Choice;
@@ -166,7 +166,8 @@ impl Dups {
         self.index.groups.is_idle(group as usize) && self.index.groups.is_of(group, tree, bytes)
     }
 
-    /// The page that waits in the group with a number from now on: the one that did, or else this one.
+    /// The page that waits in the group with a number from now on: the one that did, or else this one. Where no group
+    /// has the number, nothing changes.
     #[inline(always)]
     pub fn meet(&mut self, group: u32, page: GuestPage) -> GuestPage
         ensures met { (tree : ℕ) (bytes : List ℕ) → number_of tree bytes self.old.numbers ≡ Some group
@@ -175,6 +176,8 @@ impl Dups {
             → IsAdded tree bytes result self.old.waiting self.new.waiting }
         ensures again { (tree : ℕ) (bytes : List ℕ) → number_of tree bytes self.old.numbers ≡ Some group
             → is_some (waiting_page tree bytes self.old.waiting) ≡ true → self.new ≡ self.old }
+        ensures alone { IsUnused group self.old.numbers → result ≡ page }
+        ensures none { IsUnused group self.old.numbers → self.new ≡ self.old }
         ensures kept { self.new ≡ record self.old { waiting = self.new.waiting } }
     {
         self.index.groups.meet(group, page)

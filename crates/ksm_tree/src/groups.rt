@@ -11,7 +11,7 @@ ghost use Rattle.std.specs.Prelude.{◌≡◌, ◌≢◌, ℕ, ◌<◌, List, []
 ghost use Rattle.std.specs.Option.{ForSome, unwrap_or};
 ghost use Rattle.slab.specs.Slab.{get};
 ghost use Rattle.ksm_tree.specs.Grouping.{AreGroups, IsIdle};
-ghost use Rattle.ksm_tree.specs.Numbered.{number_of};
+ghost use Rattle.ksm_tree.specs.Numbered.{IsUnused, number_of};
 ghost use Rattle.ksm_tree.specs.Places.{with_place, without};
 ghost use Rattle.ksm_tree.specs.Waits.{IsAdded, IsRemoved, waiting_page};
 
@@ -288,6 +288,8 @@ impl Groups {
             → IsAdded t b result (waiting_in self.old) (waiting_in self.new) }
         ensures kept { (t : ℕ) (b : List ℕ) → number_of t b self.old.numbers.entries ≡ Some number
             → is_some (waiting_page t b (waiting_in self.old)) ≡ true → waiting_in self.new ≡ waiting_in self.old }
+        ensures alone { IsUnused number self.old.numbers.entries → result ≡ page }
+        ensures none { IsUnused number self.old.numbers.entries → waiting_in self.new ≡ waiting_in self.old }
         ensures chains { SameChains self.old self.new }
         ensures numbers { self.new.numbers.entries ≡ self.old.numbers.entries }
     {
