@@ -22,7 +22,8 @@ number_of tree bytes numbers = lookup (is_at (content_order (content_of tree byt
 
 -- a content has a number exactly where it stands under it
 abbrev pub AreNumbered : Numbers → (ℕ → Option Content) → Type 0
-AreNumbered numbers stands = (content : Content) (number : ℕ) → (number_of content.tree content.bytes numbers ≡ Some number) ↔ (stands number ≡ Some content)
+AreNumbered numbers stands = (content : Content) (number : ℕ)
+    → (number_of content.tree content.bytes numbers ≡ Some number) ↔ (stands number ≡ Some content)
 
 -- no content has the number
 abbrev pub IsUnused : ℕ → Numbers → Type 0

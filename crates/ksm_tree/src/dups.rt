@@ -3,19 +3,23 @@
 //! `Slots` has the dups by place, `Index` leads to the places. Each call changes both, and the invariant says that they
 //! agree: callers see one list, of the dups in the order of their places.
 //!
-//! A caller may remember the number of the group of a page, and the place of a dup. Both are guesses, compared before they
-//! are believed, so no call promises less where they are wrong.
+//! A caller may remember the number of the group of a page, and the place of a dup. Both are guesses, compared before
+//! they are believed, so no call promises less where they are wrong.
 //!
 //! A page that looks for a dup to join walks along its chain, which mostly has one dup. Of a long chain most dups are
 //! full. So while there is a long one, the open places of all contents are kept, and such a page walks along these if
 //! they are fewer.
-ghost use Rattle.std.specs.Prelude.{◌≡◌, ℕ, List, ◌+◌, ◌^◌, ◌<◌, ◌≤◌, [], ◌∷◌, ◌&&◌, not, true, false, None, Some, count_by, filter, find, length, is_some, option_copied, option_map, slice_get, if◌then◌else◌, IfErr, IfOk, IsTrue, OnErr, OnOk};
+ghost use Rattle.std.specs.Prelude.{◌≡◌, ℕ, List, ◌+◌, ◌^◌, ◌<◌, ◌≤◌, [], ◌∷◌, ◌&&◌, not, true, false};
+ghost use Rattle.std.specs.Prelude.{None, Some, count_by, filter, find, length, is_some, option_copied};
+ghost use Rattle.std.specs.Prelude.{option_map, slice_get, if◌then◌else◌, IfErr, IfOk, IsTrue, OnErr, OnOk};
 ghost use Rattle.std.specs.Option.{unwrap_or};
 ghost use Rattle.ksm_base.specs.Counting.{in_chain, leads_group};
 ghost use Rattle.ksm_base.specs.Rows.{same_page};
 ghost use Rattle.ksm_rmap.specs.Items.{has_item, with_item, without_item};
-ghost use Rattle.ksm_tree.specs.Choosing.{ArePlacesToJoin, best_of, found_at, of_group, choice_of, is_behind, unless_behind};
-ghost use Rattle.ksm_tree.specs.Dups.{AreDups, MayBecomeDup, change_items, dup_at, dup_of, is_live, is_stale, items_in, items_of, rows_of, stands_at, with_new, without_place};
+ghost use Rattle.ksm_tree.specs.Choosing.{ArePlacesToJoin, best_of, found_at, of_group};
+ghost use Rattle.ksm_tree.specs.Choosing.{choice_of, is_behind, unless_behind};
+ghost use Rattle.ksm_tree.specs.Dups.{AreDups, MayBecomeDup, change_items, dup_at, dup_of, is_live, is_stale};
+ghost use Rattle.ksm_tree.specs.Dups.{items_in, items_of, rows_of, stands_at, with_new, without_place};
 ghost use Rattle.ksm_tree.specs.Index.{group_places};
 ghost use Rattle.ksm_tree.specs.Numbered.{IsUnused, number_of};
 ghost use Rattle.ksm_tree.specs.Waits.{IsAdded, IsRemoved, waiting_page};
@@ -72,7 +76,13 @@ impl Dups {
     pub fn open(alloc: Global, places: u32) -> Result<Dups, Fault>
         requires least { 1 ≤ places }
         requires most { places ≤ 1024 }
-        ensures opened { IfOk result (λ dups. dups ≡ record { places = places; dups = []; next = 0; waiting = []; numbers = [] }) }
+        ensures opened { IfOk result (λ dups. dups ≡ record {
+          places = places;
+          dups = [];
+          next = 0;
+          waiting = [];
+          numbers = [];
+        }) }
         ensures memory { IfErr result (λ fault. fault ≡ Fault.Memory) }
     {
         Ok(Dups {
@@ -96,8 +106,8 @@ impl Dups {
         Some(best.number)
     }
 
-    /// The number of the group of a tree and bytes, which it gets if it has none: then groups in which nothing stands may
-    /// lose theirs. The guess is tried first. The one fault is `Memory`, and then it gets none.
+    /// The number of the group of a tree and bytes, which it gets if it has none: then groups in which nothing stands
+    /// may lose theirs. The guess is tried first. The one fault is `Memory`, and then it gets none.
     #[inline(always)]
     pub fn group(&mut self, guess: u32, tree: u32, bytes: &PageBytes) -> Result<u32, Fault>
         ensures numbered { IfOk result (λ number. number_of tree bytes.now self.new.numbers ≡ Some number) }
@@ -159,8 +169,10 @@ impl Dups {
     #[inline(always)]
     pub fn is_empty_group(&self, group: u32, tree: u32, bytes: &PageBytes) -> bool
         ensures numbered { IsTrue result → number_of tree bytes.now self.now.numbers ≡ Some group }
-        ensures best { IsTrue result → (t limit : ℕ) (b : List ℕ) → number_of t b self.now.numbers ≡ Some group → best_of t b limit self.now.dups ≡ None }
-        ensures waiting { IsTrue result → (t : ℕ) (b : List ℕ) → number_of t b self.now.numbers ≡ Some group → waiting_page t b self.now.waiting ≡ None }
+        ensures best { IsTrue result → (t limit : ℕ) (b : List ℕ) → number_of t b self.now.numbers ≡ Some group
+            → best_of t b limit self.now.dups ≡ None }
+        ensures waiting { IsTrue result → (t : ℕ) (b : List ℕ) → number_of t b self.now.numbers ≡ Some group
+            → waiting_page t b self.now.waiting ≡ None }
     {
         // Whether anything stands in it is told by two words, its content by the bytes of a page: so that comes last.
         self.index.groups.is_idle(group as usize) && self.index.groups.is_of(group, tree, bytes)
@@ -183,8 +195,8 @@ impl Dups {
         self.index.groups.meet(group, page)
     }
 
-    /// The page that waits in a tree with these bytes waits no more, if there is one. The guess of the group's number is
-    /// tried first.
+    /// The page that waits in a tree with these bytes waits no more, if there is one. The guess of the group's number
+    /// is tried first.
     #[inline(always)]
     pub fn stop_waiting(&mut self, guess: u32, tree: u32, bytes: &PageBytes)
         ensures removed { IsRemoved tree bytes.now self.old.waiting self.new.waiting }
@@ -230,7 +242,10 @@ impl Dups {
         requires number { self.old.next + 1 < 2 ^ 64 }
         ensures number { IfOk result (λ number. number ≡ self.old.next) }
         ensures made { OnOk result (self.new ≡ record self.old {
-          dups = with_new (record { row = record { number = self.old.next; place = place; tree = tree; bytes = bytes.now }; items = with_item second (first ∷ []) }) self.old.dups;
+          dups = with_new (record {
+            row = record { number = self.old.next; place = place; tree = tree; bytes = bytes.now };
+            items = with_item second (first ∷ []);
+          }) self.old.dups;
           next = self.old.next + 1;
           numbers = self.new.numbers;
         }) }
@@ -255,7 +270,10 @@ impl Dups {
         requires may { MayBecomeDup self.old place first second }
         ensures number { IfOk result (λ number. number ≡ self.old.next) }
         ensures made { OnOk result (self.new ≡ record self.old {
-          dups = with_new (record { row = record { number = self.old.next; place = place; tree = tree; bytes = bytes.now }; items = with_item second (first ∷ []) }) self.old.dups;
+          dups = with_new (record {
+            row = record { number = self.old.next; place = place; tree = tree; bytes = bytes.now };
+            items = with_item second (first ∷ []);
+          }) self.old.dups;
           next = self.old.next + 1;
         }) }
         ensures kept { OnErr result (self.new ≡ self.old) }
@@ -294,7 +312,9 @@ impl Dups {
         requires fewer { length (items_of dup self.old.dups) < 1024 }
         requires absent { has_item page (items_of dup self.old.dups) ≡ false }
         ensures place { IfOk result (λ place. Some place ≡ option_map (λ d. d.row.place) (dup_of dup self.old.dups)) }
-        ensures joined { OnOk result (self.new ≡ record self.old { dups = change_items dup (with_item page) self.old.dups }) }
+        ensures joined { OnOk result (self.new ≡ record self.old {
+          dups = change_items dup (with_item page) self.old.dups;
+        }) }
         ensures kept { OnErr result (self.new ≡ self.old) }
         ensures memory { IfErr result (λ fault. fault ≡ Fault.Memory) }
     {
@@ -308,7 +328,9 @@ impl Dups {
         requires fewer { length (items_of dup self.old.dups) < 1024 }
         requires absent { has_item page (items_of dup self.old.dups) ≡ false }
         ensures place { IfOk result (λ place. Some place ≡ option_map (λ d. d.row.place) (dup_of dup self.old.dups)) }
-        ensures joined { OnOk result (self.new ≡ record self.old { dups = change_items dup (with_item page) self.old.dups }) }
+        ensures joined { OnOk result (self.new ≡ record self.old {
+          dups = change_items dup (with_item page) self.old.dups;
+        }) }
         ensures kept { OnErr result (self.new ≡ self.old) }
         ensures memory { IfErr result (λ fault. fault ≡ Fault.Memory) }
     {
@@ -458,7 +480,8 @@ impl Dups {
 
     /// How many groups have two dups or more.
     pub fn count_chains(&self) -> usize
-        ensures { result ≡ count_by (λ d. in_chain (rows_of self.now.dups) d && leads_group (rows_of self.now.dups) d) (rows_of self.now.dups) }
+        ensures { let rows = rows_of self.now.dups in
+            result ≡ count_by (λ d. in_chain rows d && leads_group rows d) rows }
     {
         self.index.groups.totals.chains
     }
@@ -520,7 +543,9 @@ impl Dups {
         tree: u32,
         bytes: &PageBytes,
     ) -> Option<&Dup>
-        ensures { option_copied result ≡ unless_behind (option_copied rival.entry) (if is_chain then dup_at place self.now.dups else of_group tree bytes.now (dup_at place self.now.dups)) }
+        ensures { let dup = dup_at place self.now.dups in
+            option_copied result
+            ≡ unless_behind (option_copied rival.entry) (if is_chain then dup else of_group tree bytes.now dup) }
     {
         let dup = self.slots.at(place)?;
         if stands_behind(dup, rival) {

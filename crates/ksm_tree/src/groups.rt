@@ -1,13 +1,14 @@
 //! The groups by number: each tree and bytes once, with the places of its dups and the page that waits there.
 //!
-//! A group is found by its number in one step, where the caller remembers it, or, by `numbered`, `Guesses` do; else by a
-//! search in the order of the contents, so nobody can pick contents that are dear to find. What is remembered is a guess:
-//! it is compared before it is believed.
+//! A group is found by its number in one step, where the caller remembers it, or, by `numbered`, `Guesses` do; else by
+//! a search in the order of the contents, so nobody can pick contents that are dear to find. What is remembered is a
+//! guess: it is compared before it is believed.
 //!
 //! A group keeps its number when nothing stands in it any more, until there are 4,096 groups more than there were after
 //! the last sweep: then all such groups go. A page waits as long as the pass goes on whose number stands beside it, so
 //! when a pass begins none waits. How many groups are chains is kept beside them, so the counters of chains are read.
-ghost use Rattle.std.specs.Prelude.{◌≡◌, ◌≢◌, ℕ, ◌<◌, List, [], Some, None, IfErr, IfOk, IsTrue, OnOk, OnErr, is_some, length, true, option_copied};
+ghost use Rattle.std.specs.Prelude.{◌≡◌, ◌≢◌, ℕ, ◌<◌, List, [], Some, None, IfErr, IfOk};
+ghost use Rattle.std.specs.Prelude.{IsTrue, OnOk, OnErr, is_some, length, true, option_copied};
 ghost use Rattle.std.specs.Option.{ForSome, unwrap_or};
 ghost use Rattle.slab.specs.Slab.{get};
 ghost use Rattle.ksm_tree.specs.Grouping.{AreGroups, IsIdle};
@@ -30,8 +31,8 @@ pub const NO_NUMBER: u32 = u32::MAX;
 // So many groups may come until those in which nothing stands are dropped.
 const SPARE: usize = 4_096;
 
-/// A group: the places of its dups, in ascending order, and the page that waited there last, with the number of the pass
-/// in which it did. Where the page waits no more that number is 0.
+/// A group: the places of its dups, in ascending order, and the page that waited there last, with the number of the
+/// pass in which it did. Where the page waits no more that number is 0.
 #[derive(Drop)]
 pub struct Group {
     pub content: Content,
@@ -54,7 +55,8 @@ pub struct Groups {
 }
 
 impl Groups {
-    ghost use Rattle.ksm_tree.specs.Groups.{IsCounted, IsCountedAnew, IsMoved, SameChains, SameWaits, chain_in, waiting_in};
+    ghost use Rattle.ksm_tree.specs.Groups.{IsCounted, IsCountedAnew, IsMoved};
+    ghost use Rattle.ksm_tree.specs.Groups.{SameChains, SameWaits, chain_in, waiting_in};
 
     /// No groups.
     pub fn new(alloc: Global) -> Groups

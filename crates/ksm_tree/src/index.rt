@@ -1,5 +1,6 @@
 //! The index that finds dups by number and by content. It keeps places and no dups, so each dup lies in one slot only.
-ghost use Rattle.std.specs.Prelude.{◌≡◌, ℕ, List, [], ◌&&◌, ◌==◌, not, None, IfErr, OnErr, OnOk, bytes_eq, is_some, true, if◌then◌else◌};
+ghost use Rattle.std.specs.Prelude.{◌≡◌, ℕ, List, [], ◌&&◌, ◌==◌, not, None, IfErr};
+ghost use Rattle.std.specs.Prelude.{OnErr, OnOk, bytes_eq, is_some, true, if◌then◌else◌};
 ghost use Rattle.ksm_tree.specs.Groups.{IsCounted, IsCountedAnew, IsMoved, SameWaits, waiting_in};
 ghost use Rattle.ksm_tree.specs.Numbered.{number_of};
 ghost use Rattle.ksm_tree.specs.Places.{without};
@@ -40,8 +41,8 @@ impl Index {
         self.numbers.get(&number).copied()
     }
 
-    /// Enters a row whose number is new, and whose group has a number. The guess of that is tried first. The one fault is
-    /// `Memory`, and then nothing changes.
+    /// Enters a row whose number is new, and whose group has a number. The guess of that is tried first. The one fault
+    /// is `Memory`, and then nothing changes.
     pub fn add(&mut self, group: u32, row: &DupRow) -> Result<(), Fault>
         requires fresh { place_of row.now.number self.old ≡ None }
         requires known { is_some (number_of row.now.tree row.now.bytes self.old.groups.numbers.entries) ≡ true }
