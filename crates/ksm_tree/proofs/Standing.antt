@@ -105,10 +105,7 @@ module _ (t : ℕ) (b : List ℕ) (pass : ℕ) where
   one_waits (Some g ∷ slots) zero here only =
       let rest = none_waits slots (λ m is. let e = only (suc m) is in omega (arith, e)) in
       let same = are_one g.content.tree t g.content.bytes b (same_Some g.content (content_of t b) here) in
-      elim (cases_Bool (g.pass == pass)) [
-        | inl waits ↦ grind (arith, same, waits)
-        | inr still ↦ grind (arith, rest, still)
-      ]
+      grind (arith, same, rest)
   one_waits (Some g ∷ slots) (suc n) here only =
       let rest = one_waits slots n here (λ m is. let e = only (suc m) is in omega (arith, e)) in
       let other : (g.content.tree == t && bytes_eq g.content.bytes b) ≡ false = elim (cases_Bool (g.content.tree == t && bytes_eq g.content.bytes b)) [

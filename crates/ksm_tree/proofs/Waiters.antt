@@ -1,6 +1,7 @@
 -- The waiting pages beside the rows that wait: what a look-up tells, and what a change of rows does.
 use Rattle.ksm_tree.proofs.Names.{[], All, All-head, All-tail, ap, AreWaiting, arith, before_irrefl, Bool, bytes_eq, bytes_eq-Decides, cases_Bool, change_row, change_rows, comes_before, cond, cond_both, each_at_page, eq-eqb, false, false≢true, filter, find, find-append, find_all, find_nothing, get_or, GuestPage, if◌then◌else◌, inl, InPageOrder, inr, IsAdded, IsAlike, IsStopped, Knobs, List, map, names, nat_tests, None, not, not_both, one_before, Option, option_and_then, option_map, option_or, partner, refl, Row, row_at, same_page, same_page_eq, same_page_refl, same_page_sym, Some, subst, sym, tree_of, true, Waiting, waiting_page, waiting_state, WaitingPage, waits_there, with_row, without_page, ℕ, ◌&&◌, ◌==◌, ◌∙◌, ◌∷◌, ◌≡◌}
 use Rattle.ksm_base.specs.Visit.{waits_for}
+use Rattle.ksm_tree.proofs.Alike.{find_alike}
 use Rattle.ksm_tree.proofs.Keys.{eq_bytes}
 
 -- ---------------------------------------------------------------- the row of a page after a change
@@ -45,14 +46,8 @@ at_chosen by q (r ∷ rs) =
     let rest = at_chosen by q rs in
     let alike : same_page r.page q ≡ true → by r.page ≡ by q = λ same. ap by (same_page_eq r.page q same) in
     elim (cases_Bool (same_page r.page q)) [
-      | inl same ↦ let is = alike same in elim (cases_Bool (by r.page)) [
-        | inl kept ↦ grind (arith, same, is, kept, rest)
-        | inr gone ↦ grind (arith, same, is, gone, rest)
-      ]
-      | inr other ↦ elim (cases_Bool (by r.page)) [
-        | inl kept ↦ grind (arith, other, kept, rest)
-        | inr gone ↦ grind (arith, other, gone, rest)
-      ]
+      | inl same ↦ let is = alike same in grind (arith, same, is, rest)
+      | inr other ↦ grind (arith, other, rest)
     ]
 
 at_without : (page q : GuestPage) (rows : List Row) → row_at q (without_page page rows) ≡ (if same_page page q then None else row_at q rows)
@@ -90,19 +85,9 @@ at_mapped f q [] keeps = refl
 at_mapped f q (r ∷ rs) keeps =
     let rest = at_mapped f q rs (All-tail (λ s. (f s).page ≡ s.page) r rs keeps) in
     let here : same_page (f r).page q ≡ same_page r.page q = ap (λ (p : GuestPage). same_page p q) (All-head (λ s. (f s).page ≡ s.page) r rs keeps) in
-    elim (cases_Bool (same_page r.page q)) [
-      | inl same ↦ grind (arith, here, same)
-      | inr other ↦ grind (arith, here, other, rest)
-    ]
+    grind (arith, here, rest)
 
 -- ---------------------------------------------------------------- what a look-up tells
-
-find_alike : {X : Type 0} (p q : X → Bool) (xs : List X) → All (λ x. p x ≡ q x) xs → find p xs ≡ find q xs
-find_alike p q [] same = refl
-find_alike p q (x ∷ xs) same =
-    let here = All-head (λ y. p y ≡ q y) x xs same in
-    let rest = find_alike p q xs (All-tail (λ y. p y ≡ q y) x xs same) in
-    λ i. cond (here i) (Some x) (rest i)
 
 -- a page that is named is that page alone
 only_one : (o : Option GuestPage) (p q : GuestPage) → names p o ≡ true → same_page p q ≡ false → names q o ≡ false

@@ -1,5 +1,6 @@
 -- The places at which a test is passed: what a change at one place does to them.
 use Rattle.ksm_tree.proofs.Names.{[], add-one, All, All-cons, All-weaker, arith, Bool, false, filter_all, filter_none, get_or, if◌then◌else◌, length, List, nat_lt, nat_tests, not, places_where, refl, set, suc, take, true, with_place, without, zero, ℕ, ◌+◌, ◌<◌, ◌==◌, ◌∷◌, ◌≡◌, ◌≤◌}
+use Rattle.std.proofs.lemmas.List.{length-take}
 
 module _ {X : Type 0} (test : X → Bool) where
   where_above : (k : ℕ) (xs : List X) → All (λ p. k ≤ p) (places_where test k xs)
@@ -101,15 +102,9 @@ module _ {X : Type 0} (test : X → Bool) where
   pub where_not_next : (d : X) (k i : ℕ) (xs : List X) → i < length xs → test (get_or xs i d) ≡ false → places_where test k (take (i + 1) xs) ≡ places_where test k (take i xs)
   where_not_next d k i xs within fails = rw (add-one i) (where_no_more d k i xs within fails)
 
-  take_short : (n : ℕ) (xs : List X) → length (take n xs) ≤ n
-  take_short zero [] = grind arith
-  take_short zero (x ∷ xs) = grind arith
-  take_short (suc n) [] = grind arith
-  take_short (suc n) (x ∷ xs) = let rest = take_short n xs in grind (arith, rest)
-
   -- the places of the first i elements are fewer than the elements of the whole list
   pub where_first_room : (k i : ℕ) (xs : List X) → i < length xs → length (places_where test k (take i xs)) + 1 ≤ length xs
   where_first_room k i xs within =
       let places = where_short k (take i xs) in
-      let short = take_short i xs in
+      let short = length-take i xs in
       omega (arith, places, short, within)
