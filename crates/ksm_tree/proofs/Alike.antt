@@ -21,10 +21,7 @@ module _ {X Y : Type 0} (g : X → Y) (p : Y → Bool) (q : X → Bool) where
   find_mapped (x ∷ xs) same =
       let here = All-head (λ z. p (g z) ≡ q z) x xs same in
       let rest = find_mapped xs (All-tail (λ z. p (g z) ≡ q z) x xs same) in
-      elim (cases_Bool (q x)) [
-        | inl passes ↦ ap (λ b. cond b (Some (g x)) (find p (map g xs))) (here ∙ passes) ∙ ap (λ b. option_map g (cond b (Some x) (find q xs))) (sym passes)
-        | inr fails ↦ ap (λ b. cond b (Some (g x)) (find p (map g xs))) (here ∙ fails) ∙ rest ∙ ap (λ b. option_map g (cond b (Some x) (find q xs))) (sym fails)
-      ]
+      grind (arith, here, rest)
 
   -- where two tests agree across a map, those kept of the mapped list are the images of those kept before
   pub filter_mapped : (xs : List X) → All (λ x. p (g x) ≡ q x) xs → filter p (map g xs) ≡ map g (filter q xs)
@@ -32,10 +29,7 @@ module _ {X Y : Type 0} (g : X → Y) (p : Y → Bool) (q : X → Bool) where
   filter_mapped (x ∷ xs) same =
       let here = All-head (λ z. p (g z) ≡ q z) x xs same in
       let rest = filter_mapped xs (All-tail (λ z. p (g z) ≡ q z) x xs same) in
-      elim (cases_Bool (q x)) [
-        | inl passes ↦ let also : p (g x) ≡ true = here ∙ passes in grind (arith, passes, also, rest)
-        | inr fails ↦ let also : p (g x) ≡ false = here ∙ fails in grind (arith, fails, also, rest)
-      ]
+      grind (arith, here, rest)
 
   -- where two tests agree across a map, as many pass in the mapped list as before
   pub count_mapped : (xs : List X) → All (λ x. p (g x) ≡ q x) xs → count_by p (map g xs) ≡ count_by q xs

@@ -60,10 +60,7 @@ count_parts s p (r ∷ rows) =
     grind (arith, rest, all, first, second)
 
 count_where : (s : DupRow → Bool) (b : Bool) (rows : List DupRow) → count_by (λ d. s d && b) rows ≡ (if b then count_by s rows else 0)
-count_where s b [] = elim (cases_Bool b) [
-  | inl is ↦ rw is refl
-  | inr is ↦ rw is refl
-]
+count_where s b [] = grind arith
 count_where s b (r ∷ rows) =
     let rest = count_where s b rows in
     let all = count_more s r rows in

@@ -167,10 +167,7 @@ page_still g pass apart = ap (option_map (λ w. w.page)) (waits_still g pass apa
 
 -- the page of a group waits exactly where the group's pass is the present one
 pub page_so : (g : Group) (pass : ℕ) → page_in pass (Some g) ≡ then_some (g.pass == pass) g.page
-page_so g pass = elim (cases_Bool (g.pass == pass)) [
-  | inl same ↦ rw same refl
-  | inr other ↦ rw other refl
-]
+page_so g pass = grind arith
 
 -- where no group's pass is the present one, no page waits
 pub none_waiting : (pass : ℕ) (groups : Slab Group) → ((n : ℕ) → ForSome (get groups n) (λ g. g.pass ≢ pass)) → filter_map (waits_in pass) groups.slots ≡ []

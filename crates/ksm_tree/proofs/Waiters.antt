@@ -13,14 +13,7 @@ same_alike p q x same = ap (λ (r : GuestPage). same_page r x) (same_page_eq p q
 -- a write of the row of one page leaves the rows of other pages as they were
 pub at_others : (row : Row) (q : GuestPage) (rows : List Row) → same_page row.page q ≡ false → row_at q (change_row row.page (λ _. row) rows) ≡ row_at q rows
 at_others row q [] other = refl
-at_others row q (r ∷ rs) other =
-    let rest = at_others row q rs other in
-    elim (cases_Bool (same_page r.page row.page)) [
-      | inl here ↦
-          let also : same_page r.page q ≡ false = same_alike r.page row.page q here ∙ other in
-          grind (arith, here, other, also, rest)
-      | inr away ↦ grind (arith, away, rest)
-    ]
+at_others row q (r ∷ rs) other = let rest = at_others row q rs other in grind (arith, nat_tests, other, rest)
 
 at_page : (row old : Row) (rows : List Row) → row_at row.page rows ≡ Some old → row_at row.page (change_row row.page (λ _. row) rows) ≡ Some row
 at_page row old [] found = cc
@@ -52,11 +45,8 @@ at_chosen by q (r ∷ rs) =
 
 at_without : (page q : GuestPage) (rows : List Row) → row_at q (without_page page rows) ≡ (if same_page page q then None else row_at q rows)
 at_without page q rows =
-    at_chosen (λ p. not (same_page p page)) q rows
-    ∙ elim (cases_Bool (same_page page q)) [
-      | inl same ↦ let back = same_page_sym q page ∙ same in rw (same, back) refl
-      | inr other ↦ let back = same_page_sym q page ∙ other in rw (other, back) refl
-    ]
+    let back = same_page_sym q page in
+    at_chosen (λ p. not (same_page p page)) q rows ∙ grind (arith, back)
 
 or_nothing : (o : Option Row) → option_or o None ≡ o
 or_nothing None = refl
@@ -69,15 +59,7 @@ at_inserted row rows q =
     let behind = at_chosen (λ p. comes_before row.page p) q rows in
     find-append (λ r. same_page r.page q) (filter (λ r. comes_before r.page row.page) rows) (row ∷ filter (λ r. comes_before row.page r.page) rows)
     ∙ (λ i. option_or (ahead i) (if same_page row.page q then Some row else behind i))
-    ∙ elim (cases_Bool (same_page row.page q)) [
-      | inl same ↦
-          let no_less : comes_before q row.page ≡ false = subst (λ (p : GuestPage). comes_before p row.page ≡ false) (same_page_eq row.page q same) (before_irrefl row.page) in
-          rw (same, no_less) refl
-      | inr other ↦ elim (cases_Bool (comes_before q row.page)) [
-        | inl less ↦ let not_more = not_both q row.page less in rw (other, less, not_more) (or_nothing (row_at q rows))
-        | inr no_less ↦ let more = one_before q row.page (same_page_sym q row.page ∙ other) no_less in rw (other, no_less, more) refl
-      ]
-    ]
+    ∙ (let nothing = or_nothing (row_at q rows) in grind (arith, nat_tests, nothing))
 
 -- a change that keeps each row's page finds at a page the changed row that was found there
 pub at_mapped : (f : Row → Row) (q : GuestPage) (rows : List Row) → All (λ r. (f r).page ≡ r.page) rows → row_at q (map f rows) ≡ option_map f (row_at q rows)
@@ -155,16 +137,10 @@ module _ (knobs : Knobs) (rows : List Row) (w : List WaitingPage) (row : Row) (r
           ]
         where
           elsewhere : (q : GuestPage) → same_page page row.page ≡ true → (same_page page q && not (same_page q row.page)) ≡ false
-          elsewhere q own = elim (cases_Bool (same_page page q)) [
-            | inl same ↦ let also = sym (same_alike page q row.page same) ∙ own in rw (same, also) refl
-            | inr apart ↦ rw apart refl
-          ]
+          elsewhere q own = grind (arith, nat_tests, own)
 
           alone : (q : GuestPage) → same_page page row.page ≡ false → (same_page page q && not (same_page q row.page)) ≡ same_page q page
-          alone q other = elim (cases_Bool (same_page page q)) [
-            | inl same ↦ let also = sym (same_alike page q row.page same) ∙ other in let back = same_page_sym q page ∙ same in rw (same, also, back) refl
-            | inr apart ↦ let back = same_page_sym q page ∙ apart in rw (apart, back) refl
-          ]
+          alone q other = grind (arith, nat_tests, other)
 
 -- ---------------------------------------------------------------- one row
 
@@ -195,11 +171,8 @@ module _ (knobs : Knobs) (rows : List Row) (w : List WaitingPage) (are : AreWait
   module _ (new : List WaitingPage) (page : GuestPage) (old : Row) (found : row_at page rows ≡ Some old) (stopped : IsStopped knobs old w new) where
     stopped_here : (t : ℕ) (b : List ℕ) → names page (waiting_page t b new) ≡ false
     stopped_here t b =
-        let waits = waits_there knobs t b (Some old) in
-        ap (names page) (stopped t b) ∙ elim (cases_Bool waits) [
-          | inl gone ↦ rw gone refl
-          | inr never ↦ rw never (named page (Some old) found t b ∙ never)
-        ]
+        let own = named page (Some old) found t b in
+        ap (names page) (stopped t b) ∙ grind (arith, own)
 
     stopped_others : (t : ℕ) (b : List ℕ) (q : GuestPage) → same_page page q ≡ false → names q (waiting_page t b new) ≡ names q (waiting_page t b w)
     stopped_others t b q other =
