@@ -7,9 +7,6 @@ use Rattle.ksm_tree.proofs.Changes.{all_rows}
 worse_refl : (d : Dup) → is_no_worse d d ≡ true
 worse_refl d = grind (arith, nat_tests)
 
-worse_trans : (d e f : Dup) → is_no_worse d e ≡ true → is_no_worse e f ≡ true → is_no_worse d f ≡ true
-worse_trans d e f first second = grind (arith, nat_tests)
-
 worse_total : (d e : Dup) → is_no_worse d e ≡ false → is_no_worse e d ≡ true
 worse_total d e not_first = grind (arith, nat_tests)
 
@@ -31,15 +28,7 @@ module _ (may : Dup → Bool) where
 
   -- what a dup is no worse than, another is not that is no worse than that
   through : (e b d : Dup) → may b ≡ true → rival e b ≡ true → rival b d ≡ true → rival e d ≡ true
-  through e b d passes above r =
-      elim (cases_Bool (may d)) [
-        | inl also ↦
-            let h : is_no_worse e b ≡ true = grind (arith, passes, above) in
-            let g : is_no_worse b d ≡ true = grind (arith, also, r) in
-            let t = worse_trans e b d h g in
-            grind (arith, t)
-        | inr fails ↦ grind (arith, fails)
-      ]
+  through e b d passes above r = grind (arith, nat_tests, passes, above, r)
 
   -- of three tests in a row, one that another implies does not matter
   skip_second : (m a b all : Bool) → (a ≡ true → b ≡ true) → (m && (a && (b && all))) ≡ (m && (a && all))

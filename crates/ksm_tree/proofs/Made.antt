@@ -66,11 +66,7 @@ module _ (s : SlotsState) (next : ℕ) (index new : Index) (dup : Dup) (h : AreI
       }
 
   swap_tests : (q m n : ℕ) (x y z : Option ℕ) → (m == n) ≡ false → (if q == m then x else (if q == n then y else z)) ≡ (if q == n then y else (if q == m then x else z))
-  swap_tests q m n x y z apart =
-      elim (cases_Bool (q == m)) [
-        | inl this ↦ let other : (q == n) ≡ false = grind (arith, nat_tests, this, apart) in grind (arith, this, other)
-        | inr other ↦ grind (arith, other)
-      ]
+  swap_tests q m n x y z apart = grind (arith, nat_tests, apart)
 
   group_swap : (old_group new_group : Bool) (p : ℕ) (group : List ℕ) → (old_group ≡ false → without p group ≡ group) → (let mid : List ℕ = if new_group then with_place p group else group in if old_group && not new_group then without p mid else mid) ≡ (if new_group then with_place p group else without p group)
   group_swap true true p group unlike = refl

@@ -138,10 +138,7 @@ module _ (test : Option Dup → Bool) where
       let rest = where_append (suc k) xs ys in
       let at : suc k + length xs ≡ k + length (x ∷ xs) = omega arith in
       let tail : places_where test (suc k) (xs ++ ys) ≡ places_where test (suc k) xs ++ places_where test (k + length (x ∷ xs)) ys = rw (← at) rest in
-      elim (test x) as (λ b. (if b then k ∷ places_where test (suc k) (xs ++ ys) else places_where test (suc k) (xs ++ ys)) ≡ (if b then k ∷ places_where test (suc k) xs else places_where test (suc k) xs) ++ places_where test (k + length (x ∷ xs)) ys) [
-        | true ↦ ap (λ ps. k ∷ ps) tail
-        | false ↦ tail
-      ]
+      grind (arith, tail)
 
   -- the places of slots that pass a test, each by its distance from the highest place
   abbrev pub mirrored_where : List (Option Dup) → List ℕ

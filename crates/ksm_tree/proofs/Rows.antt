@@ -12,10 +12,7 @@ group_unlike p t b [] none = refl
 group_unlike p t b (r ∷ rows) none =
     let rest = group_unlike p t b rows (All-tail (λ s. (s.place == p && in_group t b s) ≡ false) r rows none) in
     let here = All-head (λ s. (s.place == p && in_group t b s) ≡ false) r rows none in
-    elim (cases_Bool (in_group t b r)) [
-      | inl inside ↦ let away : (r.place == p) ≡ false = grind (arith, inside, here) in grind (arith, inside, away, rest)
-      | inr outside ↦ grind (arith, outside, rest)
-    ]
+    grind (arith, here, rest)
 
 -- a new row of a group adds its place to the places of the group
 pub group_joined : (t : ℕ) (b : List ℕ) (row : DupRow) (rows : List DupRow) → in_group t b row ≡ true → group_places t b (with_dup row rows) ≡ with_place row.place (group_places t b rows)
@@ -115,24 +112,14 @@ gone p q e [] this only = refl
 gone p q e (r ∷ rows) this only =
     let rest = gone p q e rows this (All-tail (IsOne p e) r rows only) in
     let here = (All-head (IsOne p e) r rows only).0 in
-    elim (cases_Bool (r.place == p)) [
-      | inl at ↦ grind (arith, nat_tests, this, here, at, rest)
-      | inr away ↦
-          let other : (r.number == q) ≡ false = (let h = sym here ∙ away in grind (arith, nat_tests, this, h)) in
-          grind (arith, nat_tests, away, other, rest)
-    ]
+    grind (arith, nat_tests, this, here, rest)
 
 stayed : (p q : ℕ) (e : DupRow) (rows : List DupRow) → (q == e.number) ≡ false → All (IsOne p e) rows → row_place q (filter (elsewhere p) rows) ≡ row_place q rows
 stayed p q e [] other only = refl
 stayed p q e (r ∷ rows) other only =
     let rest = stayed p q e rows other (All-tail (IsOne p e) r rows only) in
     let here = (All-head (IsOne p e) r rows only).0 in
-    elim (cases_Bool (r.place == p)) [
-      | inl at ↦
-          let unlike : (r.number == q) ≡ false = (let h = sym here ∙ at in grind (arith, nat_tests, other, h)) in
-          grind (arith, nat_tests, at, unlike, rest)
-      | inr away ↦ grind (arith, away, rest)
-    ]
+    grind (arith, nat_tests, other, here, rest)
 
 -- once the dup at a place goes, its number has no place, and each other number has the place it had
 pub place_gone : (p q : ℕ) (rows : List DupRow) (e : DupRow) → InPlaceOrder rows → find (λ r. r.place == p) rows ≡ Some e → row_place q (filter (elsewhere p) rows) ≡ (if q == e.number then None else row_place q rows)

@@ -28,18 +28,12 @@ module _ {X : Type 0} (test : X → Bool) where
       let rest = places_where test (suc k) xs in
       let none = filter_none (λ q. nat_lt q p) rest (where_not_below (suc k) p xs (omega arith)) in
       let each = filter_all (λ q. nat_lt p q) rest (where_behind (suc k) p xs (omega arith)) in
-      elim (test y) as (λ b. (if test x then k ∷ rest else rest) ≡ with_place p (if b then k ∷ rest else rest)) [
-        | true ↦ grind (arith, nat_tests, none, each, passes)
-        | false ↦ grind (arith, nat_tests, none, each, passes)
-      ]
+      grind (arith, nat_tests, none, each, passes)
   where_with k p (suc i) (y ∷ xs) x is within passes =
       let rest = places_where test (suc k) xs in
       let new = places_where test (suc k) (set xs i x) in
       let so_far = where_with (suc k) p i xs x (omega arith) (omega arith) passes in
-      elim (test y) as (λ b. (if b then k ∷ new else new) ≡ with_place p (if b then k ∷ rest else rest)) [
-        | true ↦ grind (arith, nat_tests, so_far)
-        | false ↦ so_far
-      ]
+      grind (arith, nat_tests, so_far)
 
   -- the places of elements that pass have one less where an element comes to fail
   pub where_without : (k p i : ℕ) (xs : List X) (x : X) → p ≡ k + i → i < length xs → test x ≡ false → places_where test k (set xs i x) ≡ without p (places_where test k xs)
@@ -47,18 +41,12 @@ module _ {X : Type 0} (test : X → Bool) where
   where_without k p zero (y ∷ xs) x is within fails =
       let rest = places_where test (suc k) xs in
       let each = filter_all (λ q. not (q == p)) rest (where_apart (suc k) p xs (omega arith)) in
-      elim (test y) as (λ b. (if test x then k ∷ rest else rest) ≡ without p (if b then k ∷ rest else rest)) [
-        | true ↦ grind (arith, nat_tests, each, fails)
-        | false ↦ grind (arith, nat_tests, each, fails)
-      ]
+      grind (arith, nat_tests, each, fails)
   where_without k p (suc i) (y ∷ xs) x is within fails =
       let rest = places_where test (suc k) xs in
       let new = places_where test (suc k) (set xs i x) in
       let so_far = where_without (suc k) p i xs x (omega arith) (omega arith) fails in
-      elim (test y) as (λ b. (if b then k ∷ new else new) ≡ without p (if b then k ∷ rest else rest)) [
-        | true ↦ grind (arith, nat_tests, so_far)
-        | false ↦ so_far
-      ]
+      grind (arith, nat_tests, so_far)
 
   -- the places of elements that pass stay where an element passes as it did
   pub where_same : (d : X) (k i : ℕ) (xs : List X) (x : X) → test x ≡ test (get_or xs i d) → places_where test k (set xs i x) ≡ places_where test k xs
@@ -84,10 +72,7 @@ module _ {X : Type 0} (test : X → Bool) where
       let rest = places_where test (suc k) (take i xs) in
       let new = places_where test (suc k) (take (suc i) xs) in
       let so_far = where_more d (suc k) p i xs (omega arith) (omega arith) passes in
-      elim (test y) as (λ b. (if b then k ∷ new else new) ≡ with_place p (if b then k ∷ rest else rest)) [
-        | true ↦ grind (arith, nat_tests, so_far)
-        | false ↦ so_far
-      ]
+      grind (arith, nat_tests, so_far)
 
   where_no_more : (d : X) (k i : ℕ) (xs : List X) → i < length xs → test (get_or xs i d) ≡ false → places_where test k (take (suc i) xs) ≡ places_where test k (take i xs)
   where_no_more d k i [] within fails = absurd (omega arith)
