@@ -1,5 +1,5 @@
 -- The waiting pages beside the rows that wait: what a look-up tells, and what a change of rows does.
-use Rattle.ksm_tree.proofs.Names.{[], All, All-head, All-tail, ap, AreWaiting, arith, before_irrefl, Bool, bytes_eq, bytes_eq-Decides, cases_Bool, change_row, change_rows, comes_before, cond, cond_both, each_at_page, eq-eqb, false, false≢true, filter, find, find-append, find_all, find_nothing, get_or, GuestPage, if◌then◌else◌, inl, InPageOrder, inr, IsAdded, IsAlike, IsStopped, Knobs, List, map, names, nat_tests, None, not, not_both, one_before, Option, option_and_then, option_map, option_or, partner, refl, Row, row_at, same_page, same_page_eq, same_page_refl, same_page_sym, Some, subst, sym, tree_of, true, Waiting, waiting_page, waiting_state, WaitingPage, waits_there, with_row, without_page, ℕ, ◌&&◌, ◌==◌, ◌∙◌, ◌∷◌, ◌≡◌}
+use Rattle.ksm_tree.proofs.Names.{[], All, All-head, All-tail, ap, AreWaiting, arith, before_irrefl, Bool, bytes_eq, bytes_eq-Decides, cases_Bool, change_row, change_rows, comes_before, cond, cond_both, each_at_page, eq-eqb, false, false≢true, filter, find, find-append, find_all, find_nothing, get_or, GuestPage, if◌then◌else◌, inl, InPageOrder, inr, is_some, IsAdded, IsAlike, IsStopped, Knobs, List, map, names, nat_tests, None, not, not_both, one_before, Option, option_and_then, option_map, option_or, partner, refl, Row, row_at, same_page, same_page_eq, same_page_refl, same_page_sym, Some, subst, sym, tree_of, true, Waiting, waiting_page, waiting_state, WaitingPage, waits_there, with_row, without_page, ℕ, ◌&&◌, ◌==◌, ◌∙◌, ◌∷◌, ◌≡◌}
 use Rattle.ksm_base.specs.Visit.{waits_for}
 use Rattle.ksm_tree.proofs.Alike.{find_alike}
 use Rattle.ksm_tree.proofs.Keys.{eq_bytes}
@@ -15,20 +15,14 @@ pub at_others : (row : Row) (q : GuestPage) (rows : List Row) → same_page row.
 at_others row q [] other = refl
 at_others row q (r ∷ rs) other = let rest = at_others row q rs other in grind (arith, nat_tests, other, rest)
 
-at_page : (row old : Row) (rows : List Row) → row_at row.page rows ≡ Some old → row_at row.page (change_row row.page (λ _. row) rows) ≡ Some row
-at_page row old [] found = cc
-at_page row old (r ∷ rs) found =
-    elim (cases_Bool (same_page r.page row.page)) [
-      | inl here ↦ let own = same_page_refl row.page in grind (arith, here, own)
-      | inr away ↦
-          let rest = at_page row old rs (grind (arith, away, found)) in
-          grind (arith, away, rest)
-    ]
+at_page : (row : Row) (rows : List Row) → row_at row.page (change_row row.page (λ _. row) rows) ≡ (if is_some (row_at row.page rows) then Some row else None)
+at_page row [] = refl
+at_page row (r ∷ rs) = let own = same_page_refl row.page in let rest = at_page row rs in grind (arith, own, rest)
 
 at_changed : (row old : Row) (rows : List Row) → row_at row.page rows ≡ Some old → (q : GuestPage) → row_at q (change_row row.page (λ _. row) rows) ≡ (if same_page row.page q then Some row else row_at q rows)
 at_changed row old rows found q =
     elim (cases_Bool (same_page row.page q)) [
-      | inl same ↦ rw same (subst (λ (p : GuestPage). row_at p (change_row row.page (λ _. row) rows) ≡ Some row) (same_page_eq row.page q same) (at_page row old rows found))
+      | inl same ↦ rw same (subst (λ (p : GuestPage). row_at p (change_row row.page (λ _. row) rows) ≡ Some row) (same_page_eq row.page q same) (at_page row rows ∙ ap (λ o. if is_some o then Some row else None) found))
       | inr other ↦ rw other (at_others row q rows other)
     ]
 
