@@ -5,7 +5,7 @@ use Rattle.std.specs.Prelude.{cond, find, not, All, AllPairs, filter, insert, re
 use Rattle.std.specs.List.{AllWithin, list_any}
 use Rattle.std.specs.List.Sorted.{IsPartitionedBy}
 use Rattle.std.proofs.Math.Seq.{get_or-append_seam}
-use Rattle.std.proofs.lemmas.Bool.{cases_Bool, cases_lt}
+use Rattle.std.proofs.lemmas.Bool.{cases_Bool, cases_lt, false_from_ne_true}
 use Rattle.std.proofs.lemmas.List.{get_or-append_right, get_or_default}
 use Rattle.std.proofs.lemmas.List.Edits.{insert-append_right, remove-append_right}
 use Rattle.std.proofs.lemmas.List.Elements.{filter-append, filter_passes}
@@ -65,10 +65,7 @@ module _ {X K : Type 0} {before same : K → K → Bool} (order : IsOrder before
   Before a b = before (key a) (key b) ≡ true
 
   irreflexive : (p : K) → before p p ≡ false
-  irreflexive p = elim (cases_Bool (before p p)) [
-    | inl before_itself ↦ order.asym p p before_itself
-    | inr fine ↦ fine
-  ]
+  irreflexive p = false_from_ne_true (before p p) (λ before_itself. true≢false (sym before_itself ∙ order.asym p p before_itself))
 
   module _ (q : K) where
     abbrev low : X → Bool

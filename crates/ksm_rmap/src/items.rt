@@ -1,5 +1,6 @@
 //! The reverse map of one dup: a sorted list of pages, since most dups have few. Eight lie in the list itself.
-ghost use Rattle.std.specs.Prelude.{◌≡◌, ℕ, ◌<◌, ◌≤◌, List, [], true, false, length, Some, IfErr, IsTrue, OnOk, OnErr, filter, slice_get, slice_index_or};
+ghost use Rattle.std.specs.Prelude.{◌≡◌, ℕ, ◌<◌, ◌≤◌, List, [], true, false, length, Some, IfErr};
+ghost use Rattle.std.specs.Prelude.{IsTrue, OnOk, OnErr, filter, slice_get, slice_index_or};
 ghost use Rattle.ksm_base.specs.declared.page.GuestPage.{GuestPage};
 ghost use Rattle.ksm_base.specs.Rows.{comes_before, same_page};
 ghost use Rattle.ksm_rmap.specs.Items.{AreAscending, has_item, with_item, without_item};

@@ -1,6 +1,8 @@
 -- A list that is made of another, element by element: what is searched, kept and counted in it.
-use Rattle.ksm_tree.proofs.Names.{[], All, All-head, All-map, All-tail, AllPairs, AllPairs-cons, ap, arith, Bool, cases_Bool, cond, count_by, count_more, false, filter, find, get_or, inl, inr, List, map, option_map, pairs_head, pairs_tail, refl, Some, suc, sym, true, ◌+◌, ◌∙◌, ◌∷◌, ◌≡◌}
+use Rattle.ksm_tree.proofs.Names.{[], All, All-head, All-map, All-tail, AllPairs, AllPairs-cons, ap, arith, Bool, cases_Bool, cond, count_by, count_more, false, filter, filter-append, find, get_or, if◌then◌else◌, inl, inr, List, map, map-append, option_map, pairs_head, pairs_tail, refl, Some, suc, sym, true, ◌++◌, ◌+◌, ◌∙◌, ◌∷◌, ◌≡◌}
 use Rattle.std.proofs.Common.{ap₂}
+use Rattle.std.proofs.lemmas.Iterator.Adapters.{option_map_id}
+use Rattle.std.proofs.lemmas.List.{map-id}
 
 -- two changes that agree at each element of a list make one list of it
 pub map_alike : {X Y : Type 0} (f g : X → Y) (xs : List X) → All (λ x. f x ≡ g x) xs → map f xs ≡ map g xs
@@ -19,10 +21,7 @@ module _ {X Y : Type 0} (g : X → Y) (p : Y → Bool) (q : X → Bool) where
   find_mapped (x ∷ xs) same =
       let here = All-head (λ z. p (g z) ≡ q z) x xs same in
       let rest = find_mapped xs (All-tail (λ z. p (g z) ≡ q z) x xs same) in
-      elim (cases_Bool (q x)) [
-        | inl passes ↦ ap (λ b. cond b (Some (g x)) (find p (map g xs))) (here ∙ passes) ∙ ap (λ b. option_map g (cond b (Some x) (find q xs))) (sym passes)
-        | inr fails ↦ ap (λ b. cond b (Some (g x)) (find p (map g xs))) (here ∙ fails) ∙ rest ∙ ap (λ b. option_map g (cond b (Some x) (find q xs))) (sym fails)
-      ]
+      grind (arith, here, rest)
 
   -- where two tests agree across a map, those kept of the mapped list are the images of those kept before
   pub filter_mapped : (xs : List X) → All (λ x. p (g x) ≡ q x) xs → filter p (map g xs) ≡ map g (filter q xs)
@@ -30,10 +29,7 @@ module _ {X Y : Type 0} (g : X → Y) (p : Y → Bool) (q : X → Bool) where
   filter_mapped (x ∷ xs) same =
       let here = All-head (λ z. p (g z) ≡ q z) x xs same in
       let rest = filter_mapped xs (All-tail (λ z. p (g z) ≡ q z) x xs same) in
-      elim (cases_Bool (q x)) [
-        | inl passes ↦ let also : p (g x) ≡ true = here ∙ passes in grind (arith, passes, also, rest)
-        | inr fails ↦ let also : p (g x) ≡ false = here ∙ fails in grind (arith, fails, also, rest)
-      ]
+      grind (arith, here, rest)
 
   -- where two tests agree across a map, as many pass in the mapped list as before
   pub count_mapped : (xs : List X) → All (λ x. p (g x) ≡ q x) xs → count_by p (map g xs) ≡ count_by q xs
@@ -52,3 +48,29 @@ pairs_mapped S R P g step (x ∷ xs) all rise =
     AllPairs-cons R (g x) (map g xs)
     (All-map (R (g x)) g xs (λ k d lt. step x (get_or xs k d) (All-head P x xs all) (all (suc k) d (omega arith)) (pairs_head S x xs rise k d lt)))
     (pairs_mapped S R P g step xs (All-tail P x xs all) (pairs_tail S x xs rise))
+
+-- two tests that agree at each element of a list find the same element
+pub find_alike : {X : Type 0} (p q : X → Bool) (xs : List X) → All (λ x. p x ≡ q x) xs → find p xs ≡ find q xs
+find_alike p q xs same = ap (find p) (sym (map-id xs)) ∙ find_mapped (λ x. x) p q xs same ∙ option_map_id (find q xs)
+
+-- two tests that agree at each element of a list count alike
+pub count_alike : {X : Type 0} (p q : X → Bool) (xs : List X) → All (λ x. p x ≡ q x) xs → count_by p xs ≡ count_by q xs
+count_alike p q xs same = ap (count_by p) (sym (map-id xs)) ∙ count_mapped (λ x. x) p q xs same
+
+-- where no element passes a test, a change of those that pass changes nothing
+pub change_none : {X : Type 0} (test : X → Bool) (f : X → X) (xs : List X) → All (λ x. test x ≡ false) xs
+    → map (λ x. if test x then f x else x) xs ≡ xs
+change_none test f xs none =
+    map_alike (λ x. if test x then f x else x) (λ x. x) xs (λ k d lt. (λ i. if none k d lt i then f (get_or xs k d) else get_or xs k d))
+    ∙ map-id xs
+
+-- a choice by what a map makes may come before the choice of elements, or after the map
+pub chosen : {X Y : Type 0} (f : X → Y) (test : X → Bool) (by : Y → Bool) (xs : List X)
+    → map f (filter test (filter (λ x. by (f x)) xs)) ≡ filter by (map f (filter test xs))
+chosen f test by [] = refl
+chosen f test by (x ∷ xs) = let rest = chosen f test by xs in grind (arith, rest)
+
+-- what a map makes of those kept of two lists in a row is what it makes of those of the first, then of the second
+pub kept_append : {X Y : Type 0} (f : X → Y) (test : X → Bool) (xs ys : List X)
+    → map f (filter test (xs ++ ys)) ≡ map f (filter test xs) ++ map f (filter test ys)
+kept_append f test xs ys = ap (map f) (filter-append test xs ys) ∙ map-append f (filter test xs) (filter test ys)

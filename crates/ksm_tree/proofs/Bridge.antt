@@ -1,28 +1,15 @@
 -- Tests over dups with items are the book's tests over rows, where the items are counted.
 use Rattle.ksm_tree.proofs.Names.{[], All, All-head, All-tail, All-weaker, ap, AreCounted, arith, best_dup, best_of, Bool, bytes_eq, cases_Bool, Choice, choice_of, chosen, count_by, count_more, Dup, DupRow, DupsState, Empty, empty_from, false, filter, find, has_items, if◌then◌else◌, inl, inr, is_best, is_live, is_no_rival, is_no_worse, is_some, is_stale, item_count, Knobs, length, List, list_all, may_join, nat_le, nat_lt, nat_tests, new_place, None, not, Option, option_map, place_in, place_or, refl, Row, rows_of, same_Some, Some, Stale, stands_at, subst, sym, tree_of, true, ℕ, ◌&&◌, ◌<◌, ◌==◌, ◌||◌, ◌∙◌, ◌∷◌, ◌≡◌}
+use Rattle.ksm_tree.proofs.Alike.{count_mapped, filter_mapped, find_mapped}
 use Rattle.ksm_base.specs.Rows.{is_stale as is_stale_row}
 use Rattle.ksm_base.specs.Visit.{may_join as row_may_join, is_no_rival as is_no_rival_row, is_no_worse as is_no_worse_row, is_best as is_best_row}
 
 -- two tests that agree on each dup find one row, and leave the same rows
 found_alike : (test : Dup → Bool) (by : DupRow → Bool) (dups : List Dup) → All (λ d. test d ≡ by d.row) dups → option_map (λ d. d.row) (find test dups) ≡ find by (rows_of dups)
-found_alike test by [] same = refl
-found_alike test by (d ∷ dups) same =
-    let here = All-head (λ e. test e ≡ by e.row) d dups same in
-    let rest = found_alike test by dups (All-tail (λ e. test e ≡ by e.row) d dups same) in
-    elim (cases_Bool (by d.row)) [
-      | inl passes ↦ grind (arith, here, passes, rest)
-      | inr fails ↦ grind (arith, here, fails, rest)
-    ]
+found_alike test by dups same = sym (find_mapped (λ (d : Dup). d.row) by test dups (λ k d lt. sym (same k d lt)))
 
 left_alike : (test : Dup → Bool) (by : DupRow → Bool) (dups : List Dup) → All (λ d. test d ≡ by d.row) dups → rows_of (filter test dups) ≡ filter by (rows_of dups)
-left_alike test by [] same = refl
-left_alike test by (d ∷ dups) same =
-    let here = All-head (λ e. test e ≡ by e.row) d dups same in
-    let rest = left_alike test by dups (All-tail (λ e. test e ≡ by e.row) d dups same) in
-    elim (cases_Bool (by d.row)) [
-      | inl passes ↦ grind (arith, here, passes, rest)
-      | inr fails ↦ grind (arith, here, fails, rest)
-    ]
+left_alike test by dups same = sym (filter_mapped (λ (d : Dup). d.row) by test dups (λ k d lt. sym (same k d lt)))
 
 all_alike : (test : Dup → Bool) (by : DupRow → Bool) (dups : List Dup) → All (λ d. test d ≡ by d.row) dups → list_all test dups ≡ list_all by (rows_of dups)
 all_alike test by [] same = refl
@@ -32,13 +19,7 @@ all_alike test by (d ∷ dups) same =
     grind (arith, here, rest)
 
 count_alike : (test : Dup → Bool) (by : DupRow → Bool) (dups : List Dup) → All (λ d. test d ≡ by d.row) dups → count_by test dups ≡ count_by by (rows_of dups)
-count_alike test by [] same = refl
-count_alike test by (d ∷ dups) same =
-    let here = All-head (λ e. test e ≡ by e.row) d dups same in
-    let rest = count_alike test by dups (All-tail (λ e. test e ≡ by e.row) d dups same) in
-    let first = count_more test d dups in
-    let second = count_more by d.row (rows_of dups) in
-    grind (arith, first, second, here, rest)
+count_alike test by dups same = sym (count_mapped (λ (d : Dup). d.row) by test dups (λ k d lt. sym (same k d lt)))
 
 module _ (rows : List Row) where
   abbrev IsCounted : Dup → Type 0

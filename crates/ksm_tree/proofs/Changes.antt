@@ -1,7 +1,7 @@
 -- Dups and their rows: what a dup that comes or goes and a change of items changes of the rows, and where a dup is found.
-use Rattle.ksm_tree.proofs.Names.{[], All, All-cons, All-head, All-tail, ap, arith, Bool, cases_Bool, change_at, change_items, cond_both, Dup, dup_at, dup_of, DupRow, filter, find, get_or, GuestPage, has_number, inl, InPlaceOrder, inr, let_out, List, map, map-append, Merged, nat_lt, None, none-some, not, Option, option_map, PageState, Private, refl, row_place, rows_of, same_Some, Some, stands_at, sym, Waiting, with_dup, with_new, without_item, without_place, Zero, ℕ, if◌then◌else◌, ◌++◌, ◌==◌, ◌∙◌, ◌∷◌, ◌≡◌}
+use Rattle.ksm_tree.proofs.Names.{[], All, All-cons, All-head, All-tail, ap, arith, Bool, cases_Bool, change_at, change_items, cond_both, Dup, dup_at, dup_of, DupRow, filter, find, find_none, get_or, GuestPage, has_number, inl, InPlaceOrder, inr, let_out, List, map, map-append, Merged, nat_lt, None, none-some, not, Option, option_map, PageState, Private, refl, row_place, rows_of, same_Some, Some, stands_at, sym, Waiting, with_dup, with_new, without_item, without_place, Zero, ℕ, if◌then◌else◌, ◌++◌, ◌==◌, ◌∙◌, ◌∷◌, ◌≡◌}
 use Rattle.std.proofs.Common.{ap₂}
-use Rattle.ksm_tree.proofs.Alike.{filter_mapped, find_mapped, map_mapped}
+use Rattle.ksm_tree.proofs.Alike.{change_none, filter_mapped, find_alike, find_mapped, map_alike, map_mapped}
 use Rattle.ksm_tree.proofs.Rows.{only_number}
 
 -- the row of a new dup is added to the rows
@@ -47,20 +47,11 @@ row_there : (p : ℕ) (r : Option DupRow) → option_map (λ s. s.place) r ≡ S
 row_there p None is = absurd (none-some p is)
 row_there p (Some e) is = (e, refl, same_Some e.place p is)
 
--- two tests that agree on each dup find one dup and change one
-pub agree_found : (test by : Dup → Bool) (dups : List Dup) → All (λ d. test d ≡ by d) dups → find test dups ≡ find by dups
-agree_found test by [] same = refl
-agree_found test by (d ∷ dups) same =
-    let here = All-head (λ d. test d ≡ by d) d dups same in
-    let rest = agree_found test by dups (All-tail (λ d. test d ≡ by d) d dups same) in
-    grind (arith, here, rest)
-
+-- two tests that agree on each dup change one dup
 agree_changed : (test by : Dup → Bool) (f : List GuestPage → List GuestPage) (dups : List Dup) → All (λ d. test d ≡ by d) dups → map {B = Dup} (λ d. if test d then record d { items = f d.items } else d) dups ≡ map (λ d. if by d then record d { items = f d.items } else d) dups
-agree_changed test by f [] same = refl
-agree_changed test by f (d ∷ dups) same =
-    let here = All-head (λ d. test d ≡ by d) d dups same in
-    let rest = agree_changed test by f dups (All-tail (λ d. test d ≡ by d) d dups same) in
-    grind (arith, here, rest)
+agree_changed test by f dups same =
+    map_alike (λ d. if test d then record d { items = f d.items } else d) (λ d. if by d then record d { items = f d.items } else d) dups
+    (λ k e lt. let d : Dup = get_or dups k e in (λ i. if same k e lt i then record d { items = f d.items } else d))
 
 -- what holds of all rows holds of each dup's row
 pub all_rows : (P : DupRow → Type 0) (dups : List Dup) → All P (rows_of dups) → All (λ d. P d.row) dups
@@ -76,7 +67,7 @@ one_dup q p dups rise is =
 
 -- a dup found by its number is the one at its place
 pub number_place_found : (q p : ℕ) (dups : List Dup) → InPlaceOrder (rows_of dups) → row_place q (rows_of dups) ≡ Some p → dup_of q dups ≡ dup_at p dups
-number_place_found q p dups rise is = agree_found (has_number q) (stands_at p) dups (one_dup q p dups rise is)
+number_place_found q p dups rise is = find_alike (has_number q) (stands_at p) dups (one_dup q p dups rise is)
 
 -- items changed by a dup's number are those at its place
 pub number_place_changed : (q p : ℕ) (f : List GuestPage → List GuestPage) (dups : List Dup) → InPlaceOrder (rows_of dups) → row_place q (rows_of dups) ≡ Some p → change_items q f dups ≡ change_at p f dups
@@ -84,11 +75,4 @@ number_place_changed q p f dups rise is = agree_changed (has_number q) (stands_a
 
 -- to change the items of a number that no dup has changes nothing
 pub unchanged_items : (q : ℕ) (f : List GuestPage → List GuestPage) (dups : List Dup) → dup_of q dups ≡ None → dups ≡ change_items q f dups
-unchanged_items q f [] is = refl
-unchanged_items q f (d ∷ dups) is =
-    elim (cases_Bool (has_number q d)) [
-      | inl here ↦ absurd (none-some d (sym is ∙ grind (arith, here)))
-      | inr away ↦
-          let rest = unchanged_items q f dups (grind (arith, away, is)) in
-          grind (arith, away, rest)
-    ]
+unchanged_items q f dups is = sym (change_none (has_number q) (λ d. record d { items = f d.items }) dups (find_none (has_number q) dups is))

@@ -1,26 +1,13 @@
 -- Counts over the slots: empty ones, stale dups and dups with items.
 use Rattle.ksm_tree.proofs.Names.{[], All, All-head, All-tail, ap, AreSlots, arith, Bool, cases_Bool, cond, count_by, count_more, Dup, inl, inr, is_empty_slot, is_live, is_stale, is_stale_slot, IsPermutation-reverse, length, List, nat_tests, None, Option, places_where, present, refl, reverse, SmallVec, Some, suc, sum_by-IsPermutation, ℕ, ◌+◌, ◌∙◌, ◌∷◌, ◌≡◌}
 
--- tests that agree on each element count alike
-pub count_alike : {X : Type 0} (p q : X → Bool) (xs : List X) → All (λ x. p x ≡ q x) xs → count_by p xs ≡ count_by q xs
-count_alike p q [] same = refl
-count_alike p q (x ∷ xs) same =
-    let here = All-head (λ y. p y ≡ q y) x xs same in
-    let rest = count_alike p q xs (All-tail (λ y. p y ≡ q y) x xs same) in
-    let first = count_more p x xs in
-    let second = count_more q x xs in
-    grind (arith, first, second, here, rest)
-
 -- as many places as slots that pass
 where_count : (test : Option Dup → Bool) (k : ℕ) (slots : List (Option Dup)) → length (places_where test k slots) ≡ count_by test slots
 where_count test k [] = refl
 where_count test k (s ∷ slots) =
     let rest = where_count test (suc k) slots in
     let more = count_more test s slots in
-    elim (cases_Bool (test s)) [
-      | inl passes ↦ grind (arith, passes, more, rest)
-      | inr fails ↦ grind (arith, fails, more, rest)
-    ]
+    grind (arith, more, rest)
 
 stale_slots : (slots : List (Option Dup)) → count_by is_stale_slot slots ≡ count_by is_stale (present slots)
 stale_slots [] = refl
@@ -47,10 +34,7 @@ three_kinds (Some d ∷ slots) =
     let first = count_more is_empty_slot (Some d) slots in
     let second = count_more is_stale_slot (Some d) slots in
     let third = count_more is_live d (present slots) in
-    elim (cases_Bool (is_stale d)) [
-      | inl stale ↦ grind (arith, nat_tests, stale, first, second, third, rest)
-      | inr live ↦ grind (arith, nat_tests, live, first, second, third, rest)
-    ]
+    grind (arith, nat_tests, first, second, third, rest)
 
 module _ (slots : List (Option Dup)) (counts : List ℕ) (empty stale : SmallVec ℕ) (h : AreSlots slots counts empty stale) where
   -- the list of stale places is as long as there are stale dups

@@ -1,6 +1,6 @@
 -- The dups of one group, and all others: what each makes of the totals, and what a dup that comes or goes changes of them.
 use Rattle.ksm_tree.proofs.Names.{[], All, All-head, All-tail, All-weaker, and_parts, ap, AreTotals, arith, Bool, bytes_eq, bytes_eq-Decides, cases_Bool, chained_of, chains_of, count-append, count_by, count_by-le-length, count_more, count_none, DupRow, false, filter, filter_all, find, get_or, group_places, group_size, if◌then◌else◌, in_chain, in_group, inl, InPlaceOrder, inr, IsRegrouped, leads_group, length, length-filter, length-map, List, list_all, list_all-append, list_all-from_AllPass, nat_le, nat_lt, nat_tests, none-some, not, pairs_head, pairs_tail, refl, same_group, same_Some, Some, suc, sym, Tells, Totals, true, with_dup, ℕ, ◌&&◌, ◌++◌, ◌+◌, ◌<◌, ◌==◌, ◌||◌, ◌∙◌, ◌∷◌, ◌≡◌, ◌≤◌}
-use Rattle.ksm_tree.proofs.Counts.{count_alike}
+use Rattle.ksm_tree.proofs.Alike.{count_alike}
 use Rattle.ksm_tree.proofs.Keys.{own_group, self_group}
 use Rattle.ksm_base.proofs.Orders.{dups_parted as rows_parted, Lower}
 
@@ -60,10 +60,7 @@ count_parts s p (r ∷ rows) =
     grind (arith, rest, all, first, second)
 
 count_where : (s : DupRow → Bool) (b : Bool) (rows : List DupRow) → count_by (λ d. s d && b) rows ≡ (if b then count_by s rows else 0)
-count_where s b [] = elim (cases_Bool b) [
-  | inl is ↦ rw is refl
-  | inr is ↦ rw is refl
-]
+count_where s b [] = grind arith
 count_where s b (r ∷ rows) =
     let rest = count_where s b rows in
     let all = count_more s r rows in

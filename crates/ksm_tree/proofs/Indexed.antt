@@ -1,10 +1,11 @@
 -- The index over dups: what it finds, and how it stays with a change of items and with a dup that goes.
-use Rattle.ksm_tree.proofs.Names.{[], All, All-filter, All-weaker, AllPairs-filter, ap, AreIndexed, arith, Bool, bytes_eq, cases_Bool, change_at, change_items, content_in, content_of, Dup, dup_at, dup_of, dups_seen, DupsState, eqb-true, false, false≢true, filter, find, find_nothing, find_passes, get, get_or, Group, group_places, GuestPage, has_number, if◌then◌else◌, in_group, Index, inl, InPlaceOrder, inr, is_some, IsRegrouped, length, List, nat_tests, None, none-some, not, number_of, Option, option_map, pairs_head, pairs_tail, place_of, places_in, places_of, refl, row_place, rows_of, same_Some, SlotsState, Some, stands_at, sym, Tells, true, under, without, without_place, ℕ, ◌&&◌, ◌<◌, ◌==◌, ◌∙◌, ◌∷◌, ◌≡◌}
+use Rattle.ksm_tree.proofs.Names.{[], All, All-filter, All-weaker, AllPairs-filter, ap, AreIndexed, arith, Bool, bytes_eq, cases_Bool, change_at, change_items, content_in, content_of, Dup, dup_at, dup_of, DupRow, dups_seen, DupsState, eqb-true, false, false≢true, filter, find, find_nothing, find_passes, get, get_or, Group, group_places, GuestPage, has_number, if◌then◌else◌, in_group, Index, inl, InPlaceOrder, inr, is_some, IsRegrouped, length, List, nat_tests, None, none-some, not, number_of, Option, option_map, pairs_head, pairs_tail, place_of, places_in, places_of, refl, row_place, rows_of, same_Some, SlotsState, Some, stands_at, sym, Tells, true, under, without, without_place, ℕ, ◌&&◌, ◌<◌, ◌==◌, ◌∙◌, ◌∷◌, ◌≡◌}
+use Rattle.ksm_tree.proofs.Alike.{chosen, find_alike}
 use Rattle.ksm_tree.proofs.Grouped.{chains_kept, dups_kept, more_there, totals_moved, totals_tell}
 use Rattle.ksm_tree.proofs.Keys.{own_group, self_group}
 use Rattle.ksm_base.proofs.Orders.{Lower}
-use Rattle.ksm_tree.proofs.Rows.{only_one, place_gone, group_at, group_unlike, IsOne}
-use Rattle.ksm_tree.proofs.Changes.{agree_found, all_rows, rows_changed, rows_without, row_found, number_place_found, number_place_changed, unchanged_items}
+use Rattle.ksm_tree.proofs.Rows.{only_one, place_gone, group_unlike, IsOne}
+use Rattle.ksm_tree.proofs.Changes.{all_rows, rows_changed, rows_without, row_found, number_place_found, number_place_changed, unchanged_items}
 
 dup_some : {p : ℕ} (d : Option Dup) → option_map (λ e. e.row.place) d ≡ Some p → is_some d ≡ true
 dup_some {p} None is = absurd (none-some p is)
@@ -125,7 +126,7 @@ gone_indexed s next index new p d h found at numbers groups regrouped =
     ∙ (λ i. if sym (own_group t b d.row) i then without (at i) (h.grouped t b i) else h.grouped t b i)
     ∙ sym (cond_if (in_group t b d.row) (without p (group_places t b rows)) (group_places t b rows) (without p (group_places t b rows)) (λ _. refl)
     (λ outside. group_unlike p t b rows (not_in_group p t b s.dups d h.lawful.in_place_order found outside)))
-    ∙ sym (group_at (λ q. not (q == p)) t b rows) in
+    ∙ sym (chosen (λ (r : DupRow). r.place) (in_group t b) (λ q. not (q == p)) rows) in
     let more = more_there p rows d.row h.lawful.in_place_order (row_at_place p s.dups (Some d) found) in
     let own = self_group d.row in
     record {
@@ -154,7 +155,7 @@ pub stands_numbered : (p q : ℕ) (dups : List Dup) (d : Dup) → InPlaceOrder (
 stands_numbered p q dups d rise found is =
     let only = only_one p (rows_of dups) d.row rise (row_at_place p dups (Some d) found) in
     let one = all_rows (λ r. (r.place == p) ≡ (r.number == q)) dups (λ k e lt. (only k e lt).0 ∙ ap (λ n. (get_or (rows_of dups) k e).number == n) is) in
-    ap Some (sym (found_stands p dups d found)) ∙ ap (option_map (λ d. d.row.place)) (sym found ∙ agree_found (stands_at p) (has_number q) dups one)
+    ap Some (sym (found_stands p dups d found)) ∙ ap (option_map (λ d. d.row.place)) (sym found ∙ find_alike (stands_at p) (has_number q) dups one)
 
 -- where nothing stands, nothing that passes a test stands
 pub none_there : (p : ℕ) (test : Dup → Bool) (dups : List Dup) → None ≡ dup_at p dups → is_some (find (λ d. stands_at p d && test d) dups) ≡ true → ⊥
@@ -179,9 +180,6 @@ found_passing p test (d ∷ dups) rise =
       | inl here ↦
           let behind = all_rows (λ r. d.row.place < r.place) dups (All-weaker (Lower d.row) (λ r. d.row.place < r.place) (λ r h. h.0) (rows_of dups) (pairs_head Lower d.row (rows_of dups) rise)) in
           let none = find_nothing (λ e. stands_at p e && test e) dups (All-weaker (λ e. d.row.place < e.row.place) (λ e. (stands_at p e && test e) ≡ false) (λ e later. grind (arith, nat_tests, here, later)) dups behind) in
-          elim (cases_Bool (test d)) [
-            | inl passes ↦ grind (arith, here, passes)
-            | inr fails ↦ grind (arith, here, fails, none)
-          ]
+          grind (arith, here, none)
       | inr away ↦ grind (arith, away, rest)
     ]

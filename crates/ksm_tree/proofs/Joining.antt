@@ -1,13 +1,11 @@
 -- The best dup to join: a walk over a group, keeping the better of two, ends at the one that the definition chooses of all.
-use Rattle.ksm_tree.proofs.Names.{[], add-one, All, All-cons, All-head, All-tail, All-weaker, AllPass-from_list_all, and_parts, ap, ArePlacesToJoin, arith, best_of, Bool, cases_Bool, cond, drop, drop-cons, Dup, dup_at, DupRow, false, false≢true, filter, find, get_or, group_places, if◌then◌else◌, in_group, inl, InPlaceOrder, inr, is_behind, is_no_worse, is_open, items_in, length, List, list_all, list_all-from_AllPass, map, may_join, nat_le, nat_lt, nat_tests, None, none-some, not, of_group, Option, pairs_head, pairs_tail, places_open, refl, rows_of, Some, sym, true, unless_behind, ℕ, ◌%◌, ◌&&◌, ◌+◌, ◌-◌, ◌<◌, ◌==◌, ◌^◌, ◌||◌, ◌∙◌, ◌∷◌, ◌≡◌, ◌≤◌}
+use Rattle.ksm_tree.proofs.Names.{[], add-one, All, All-cons, All-filter, All-head, All-map, All-tail, All-weaker, AllPass-from_list_all, and_parts, ap, ArePlacesToJoin, arith, best_of, Bool, cases_Bool, cond, drop, drop-cons, Dup, dup_at, DupRow, false, false≢true, filter, find, get_or, group_places, if◌then◌else◌, in_group, inl, InPlaceOrder, inr, is_behind, is_no_worse, is_open, items_in, length, List, list_all, list_all-from_AllPass, map, may_join, nat_le, nat_lt, nat_tests, None, none-some, not, of_group, Option, pairs_head, pairs_tail, places_open, refl, rows_of, Some, sym, true, unless_behind, ℕ, ◌%◌, ◌&&◌, ◌+◌, ◌-◌, ◌<◌, ◌==◌, ◌^◌, ◌||◌, ◌∙◌, ◌∷◌, ◌≡◌, ◌≤◌}
+use Rattle.ksm_tree.proofs.Alike.{filter_mapped, map_mapped}
 use Rattle.ksm_tree.proofs.Changes.{all_rows}
 
 -- the order of dups to join
 worse_refl : (d : Dup) → is_no_worse d d ≡ true
 worse_refl d = grind (arith, nat_tests)
-
-worse_trans : (d e f : Dup) → is_no_worse d e ≡ true → is_no_worse e f ≡ true → is_no_worse d f ≡ true
-worse_trans d e f first second = grind (arith, nat_tests)
 
 worse_total : (d e : Dup) → is_no_worse d e ≡ false → is_no_worse e d ≡ true
 worse_total d e not_first = grind (arith, nat_tests)
@@ -30,15 +28,7 @@ module _ (may : Dup → Bool) where
 
   -- what a dup is no worse than, another is not that is no worse than that
   through : (e b d : Dup) → may b ≡ true → rival e b ≡ true → rival b d ≡ true → rival e d ≡ true
-  through e b d passes above r =
-      elim (cases_Bool (may d)) [
-        | inl also ↦
-            let h : is_no_worse e b ≡ true = grind (arith, passes, above) in
-            let g : is_no_worse b d ≡ true = grind (arith, also, r) in
-            let t = worse_trans e b d h g in
-            grind (arith, t)
-        | inr fails ↦ grind (arith, fails)
-      ]
+  through e b d passes above r = grind (arith, nat_tests, passes, above, r)
 
   -- of three tests in a row, one that another implies does not matter
   skip_second : (m a b all : Bool) → (a ≡ true → b ≡ true) → (m && (a && (b && all))) ≡ (m && (a && all))
@@ -214,25 +204,15 @@ passed_over_so t b limit acc (Some d) over =
 
 -- the places of a group lie below how many there are
 pub places_within : (t : ℕ) (b : List ℕ) (places : ℕ) (rows : List DupRow) → All (λ r. r.place < places) rows → All (λ p. p < places) (group_places t b rows)
-places_within t b places [] below = λ k d lt. absurd (omega arith)
-places_within t b places (r ∷ rows) below =
-    let here = All-head (λ e. e.place < places) r rows below in
-    let rest = places_within t b places rows (All-tail (λ e. e.place < places) r rows below) in
-    elim (cases_Bool (in_group t b r)) [
-      | inl inside ↦ rw inside (All-cons (λ p. p < places) r.place (group_places t b rows) here rest)
-      | inr outside ↦ rw outside rest
-    ]
+places_within t b places rows below =
+    All-map (λ p. p < places) (λ (r : DupRow). r.place) (filter (in_group t b) rows) (All-filter (in_group t b) (λ r. r.place < places) rows below)
 
 -- the places of the open dups are places of the table
 open_within : (limit places : ℕ) (dups : List Dup) → All (λ r. r.place < places) (rows_of dups) → All (λ p. p < places) (places_open limit dups)
-open_within limit places [] below = λ k d lt. absurd (omega arith)
-open_within limit places (d ∷ dups) below =
-    let here = All-head (λ e. e.place < places) d.row (rows_of dups) below in
-    let rest = open_within limit places dups (All-tail (λ e. e.place < places) d.row (rows_of dups) below) in
-    elim (cases_Bool (is_open limit (length d.items))) [
-      | inl inside ↦ rw inside (All-cons (λ p. p < places) d.row.place (places_open limit dups) here rest)
-      | inr outside ↦ rw outside rest
-    ]
+open_within limit places dups below =
+    let opens = λ (d : Dup). is_open limit (length d.items) in
+    All-map (λ p. p < places) (λ (d : Dup). d.row.place) (filter opens dups)
+    (All-filter opens (λ d. d.row.place < places) dups (all_rows (λ r. r.place < places) dups below))
 
 -- the places of dups to join are places of the tree
 pub candidates_within : (t : ℕ) (b : List ℕ) (limit places : ℕ) (dups : List Dup) (found : List ℕ) (is_chain : Bool) → All (λ r. r.place < places) (rows_of dups) → ArePlacesToJoin (group_places t b (rows_of dups)) limit dups found is_chain → All (λ p. p < places) found
@@ -287,13 +267,9 @@ module _ (t : ℕ) (b : List ℕ) (limit : ℕ) (test : Dup → Bool) (passes : 
       ]
 
 group_of_dups : (t : ℕ) (b : List ℕ) (dups : List Dup) → group_places t b (rows_of dups) ≡ map (λ d. d.row.place) (filter (λ d. in_group t b d.row) dups)
-group_of_dups t b [] = refl
-group_of_dups t b (d ∷ dups) =
-    let rest = group_of_dups t b dups in
-    elim (cases_Bool (in_group t b d.row)) [
-      | inl inside ↦ grind (arith, inside, rest)
-      | inr outside ↦ grind (arith, outside, rest)
-    ]
+group_of_dups t b dups =
+    ap (map (λ r. r.place)) (filter_mapped (λ (d : Dup). d.row) (in_group t b) (λ d. in_group t b d.row) dups (λ k d lt. refl))
+    ∙ map_mapped (λ (r : DupRow). r.place) (λ (d : Dup). d.row) (λ d. d.row.place) (filter (λ d. in_group t b d.row) dups) (λ k d lt. refl)
 
 -- the walk over the places to join ends at the best dup
 pub folded_best : (t : ℕ) (b : List ℕ) (limit : ℕ) (dups : List Dup) (found : List ℕ) (is_chain : Bool) → InPlaceOrder (rows_of dups) → ArePlacesToJoin (group_places t b (rows_of dups)) limit dups found is_chain → folded t b limit dups None found ≡ best_of t b limit dups

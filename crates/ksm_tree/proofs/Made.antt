@@ -1,5 +1,5 @@
 -- The index once a new dup has taken its place.
-use Rattle.ksm_tree.proofs.Names.{All, All-weaker, AllPairs-filter, ap, AreDups, AreIndexed, AreTotals, arith, Bool, bytes_eq, cases_Bool, Dup, dup_at, DupRow, dups_seen, DupsState, eqb-true, false, filter, filter_all, find_all, find_none, find_nothing, group_places, if◌then◌else◌, in_group, Index, inl, InPlaceOrder, inr, IsRegrouped, length, List, nat_tests, ne_eqb, None, not, Option, option_map, place_of, places_of, refl, row_place, rows_of, SameWaits, SlotsState, Some, subst, sym, Tells, true, with_dup, with_new, with_place, without, ℕ, ◌&&◌, ◌+◌, ◌<◌, ◌==◌, ◌∙◌, ◌≡◌}
+use Rattle.ksm_tree.proofs.Names.{All, All-weaker, AllPairs-filter, ap, AreDups, AreIndexed, AreTotals, arith, Bool, bytes_eq, cases_Bool, Dup, dup_at, DupRow, dups_seen, DupsState, eqb-true, false, filter, filter_all, find_all, find_none, find_nothing, group_places, if◌then◌else◌, in_group, Index, inl, InPlaceOrder, inr, IsCounted, IsCountedAnew, IsEntered, IsRegrouped, length, List, nat_tests, ne_eqb, None, not, Option, option_map, place_of, places_of, refl, row_place, rows_of, SameWaits, SlotsState, Some, subst, sym, true, with_dup, with_new, with_place, without, ℕ, ◌&&◌, ◌+◌, ◌<◌, ◌==◌, ◌∙◌, ◌≡◌}
 use Rattle.ksm_tree.proofs.Changes.{rows_new}
 use Rattle.ksm_tree.proofs.Grouped.{IsMore, chains_kept, dups_kept, more_with, more_there, places_size, totals_apart, totals_between, totals_few, totals_moved, totals_same}
 use Rattle.ksm_tree.proofs.Keys.{own_bytes, own_group, own_tree, self_group}
@@ -35,16 +35,16 @@ module _ (s : SlotsState) (next : ℕ) (index new : Index) (dup : Dup) (h : AreI
       }
 
   -- the index is right once a new dup stands at a place that was empty
-  pub fresh_indexed : None ≡ dup_at dup.row.place s.dups → ((q : ℕ) → place_of q new ≡ (if q == dup.row.number then Some dup.row.place else place_of q index)) → ((t : ℕ) (b : List ℕ) → places_of t b new ≡ (if t == dup.row.tree && bytes_eq b dup.row.bytes then with_place dup.row.place (places_of t b index) else places_of t b index))
-      → IsRegrouped (length (places_of dup.row.tree dup.row.bytes index)) (length (places_of dup.row.tree dup.row.bytes new)) index.groups.totals new.groups.totals → AreIndexed (record { places = s.places; dups = with_new dup s.dups }) (next + 1) new
-  fresh_indexed none numbers groups regrouped =
+  pub fresh_indexed : None ≡ dup_at dup.row.place s.dups → IsEntered dup.row index new
+      → AreIndexed (record { places = s.places; dups = with_new dup s.dups }) (next + 1) new
+  fresh_indexed none entered =
       let rows = rows_of s.dups in
       let p = dup.row.place in
       let apart = find_none (λ r. r.place == p) rows (row_at_place p s.dups None (sym none)) in
       let kept = filter_all (λ r. not (r.place == p)) rows (All-weaker (λ r. (r.place == p) ≡ false) (λ r. not (r.place == p) ≡ true) (λ r e. ap not e) rows apart) in
       let grouped : (t : ℕ) (b : List ℕ) → places_of t b new ≡ group_places t b (with_dup dup.row rows) = λ t b.
       let unlike = group_unlike p t b rows (All-weaker (λ r. (r.place == p) ≡ false) (λ r. (r.place == p && in_group t b r) ≡ false) (λ r e. grind (arith, e)) rows apart) in
-      groups t b
+      entered.groups t b
       ∙ (λ i. if sym (own_group t b dup.row) i then with_place p (h.grouped t b i) else (h.grouped t b ∙ sym unlike) i)
       ∙ sym (group_with t b dup.row rows h.lawful.in_place_order) in
       let t = dup.row.tree in
@@ -52,13 +52,13 @@ module _ (s : SlotsState) (next : ℕ) (index new : Index) (dup : Dup) (h : AreI
       let more = subst (λ l. IsMore dup.row l (with_dup dup.row rows)) kept (more_with dup.row rows h.lawful.in_place_order) in
       let own = self_group dup.row in
       let counted = totals_moved t b rows (with_dup dup.row rows) index.groups.totals new.groups.totals h.lawful.in_place_order (dups_with dup.row rows h.lawful.in_place_order fresh)
-      (dups_kept t b dup.row rows (with_dup dup.row rows) more own) (chains_kept t b dup.row rows (with_dup dup.row rows) more own) (rw (← h.grouped t b, ← grouped t b) regrouped) h.counted in
+      (dups_kept t b dup.row rows (with_dup dup.row rows) more own) (chains_kept t b dup.row rows (with_dup dup.row rows) more own) (rw (← h.grouped t b, ← grouped t b) entered.totals) h.counted in
       record {
         few = h.few;
         counted = subst (λ l. AreTotals l new.groups.totals) (sym (rows_new dup s.dups)) counted;
         lawful = lawful_new;
         numbered = λ q.
-            numbers q
+            entered.numbers q
             ∙ ap (λ v. if q == dup.row.number then Some p else v) (h.numbered q ∙ ap (row_place q) (sym kept))
             ∙ sym (place_with q dup.row rows h.lawful.in_place_order fresh)
             ∙ ap (row_place q) (sym (rows_new dup s.dups));
@@ -66,11 +66,7 @@ module _ (s : SlotsState) (next : ℕ) (index new : Index) (dup : Dup) (h : AreI
       }
 
   swap_tests : (q m n : ℕ) (x y z : Option ℕ) → (m == n) ≡ false → (if q == m then x else (if q == n then y else z)) ≡ (if q == n then y else (if q == m then x else z))
-  swap_tests q m n x y z apart =
-      elim (cases_Bool (q == m)) [
-        | inl this ↦ let other : (q == n) ≡ false = grind (arith, nat_tests, this, apart) in grind (arith, this, other)
-        | inr other ↦ grind (arith, other)
-      ]
+  swap_tests q m n x y z apart = grind (arith, nat_tests, apart)
 
   group_swap : (old_group new_group : Bool) (p : ℕ) (group : List ℕ) → (old_group ≡ false → without p group ≡ group) → (let mid : List ℕ = if new_group then with_place p group else group in if old_group && not new_group then without p mid else mid) ≡ (if new_group then with_place p group else without p group)
   group_swap true true p group unlike = refl
@@ -96,55 +92,50 @@ module _ (s : SlotsState) (next : ℕ) (index new : Index) (dup : Dup) (h : AreI
   }
 
   -- the index between: the new dup is in, and the old one not yet out
-  abbrev IsJoined : Index → Type 0
-  IsJoined mid = (t : ℕ) (b : List ℕ) → places_of t b mid ≡ (if t == dup.row.tree && bytes_eq b dup.row.bytes then with_place dup.row.place (places_of t b index) else places_of t b index)
-
-  joined_in : (mid : Index) → IsJoined mid → (t : ℕ) (b : List ℕ) → in_group t b dup.row ≡ true → places_of t b mid ≡ group_places t b (with_dup dup.row (rows_of s.dups))
-  joined_in mid groups t b inside =
-      groups t b
+  joined_in : (mid : Index) → IsEntered dup.row index mid → (t : ℕ) (b : List ℕ) → in_group t b dup.row ≡ true → places_of t b mid ≡ group_places t b (with_dup dup.row (rows_of s.dups))
+  joined_in mid entered t b inside =
+      entered.groups t b
       ∙ (λ i. if (sym (own_group t b dup.row) ∙ inside) i then with_place dup.row.place (h.grouped t b i) else h.grouped t b i)
       ∙ sym (group_joined t b dup.row (rows_of s.dups) inside)
 
-  joined_own : (mid : Index) → IsJoined mid → places_of dup.row.tree dup.row.bytes mid ≡ group_places dup.row.tree dup.row.bytes (with_dup dup.row (rows_of s.dups))
-  joined_own mid groups = joined_in mid groups dup.row.tree dup.row.bytes (self_group dup.row)
+  joined_own : (mid : Index) → IsEntered dup.row index mid → places_of dup.row.tree dup.row.bytes mid ≡ group_places dup.row.tree dup.row.bytes (with_dup dup.row (rows_of s.dups))
+  joined_own mid entered = joined_in mid entered dup.row.tree dup.row.bytes (self_group dup.row)
 
   -- the old one's group has as many places as before
-  left_size : (mid : Index) (old : Dup) → Swapped old → IsJoined mid → length (places_of old.row.tree old.row.bytes mid) ≡ length (places_of old.row.tree old.row.bytes index)
-  left_size mid old swap groups =
+  left_size : (mid : Index) (old : Dup) → Swapped old → IsEntered dup.row index mid → length (places_of old.row.tree old.row.bytes mid) ≡ length (places_of old.row.tree old.row.bytes index)
+  left_size mid old swap entered =
       let t = old.row.tree in
       let b = old.row.bytes in
       let own = self_group old.row in
       let was = ap length (h.grouped t b) ∙ places_size t b (rows_of s.dups) in
       elim (cases_Bool (in_group t b dup.row)) [
         | inl inside ↦
-            let now = ap length (joined_in mid groups t b inside) ∙ places_size t b (with_dup dup.row (rows_of s.dups)) in
+            let now = ap length (joined_in mid entered t b inside) ∙ places_size t b (with_dup dup.row (rows_of s.dups)) in
             let one = swap.there.counts (in_group t b) in
             let two = swap.here.counts (in_group t b) in
             grind (arith, was, now, one, two, own, inside)
-        | inr outside ↦ ap length (groups t b ∙ rw (sym (own_group t b dup.row) ∙ outside) refl)
+        | inr outside ↦ ap length (entered.groups t b ∙ rw (sym (own_group t b dup.row) ∙ outside) refl)
       ]
 
   -- once the new dup is entered beside the old one at its place, the totals are right for the group of the old one
-  pub told_between : (mid : Index) (old : Dup) → Some old ≡ dup_at dup.row.place s.dups → IsJoined mid
-      → IsRegrouped (length (places_of dup.row.tree dup.row.bytes index)) (length (places_of dup.row.tree dup.row.bytes mid)) index.groups.totals mid.groups.totals → Tells (length (places_of old.row.tree old.row.bytes mid)) mid.groups.totals
-  told_between mid old found groups regrouped =
+  pub told_between : (mid : Index) (old : Dup) → Some old ≡ dup_at dup.row.place s.dups → IsEntered dup.row index mid
+      → IsCounted old.row.tree old.row.bytes mid.groups
+  told_between mid old found entered =
       let r = dup.row in
       let rows = rows_of s.dups in
       let swap = swapped old found in
       let few = totals_few s.places rows index.groups.totals h.few h.lawful.places_below h.lawful.in_place_order h.counted in
-      rw (left_size mid old swap groups) (totals_between old.row r swap.less rows (with_dup r rows) swap.there swap.here h.lawful.in_place_order swap.less_rise swap.new_rise
-      index.groups.totals mid.groups.totals (rw (← h.grouped r.tree r.bytes, ← joined_own mid groups) regrouped) (length (places_of old.row.tree old.row.bytes index)) few.0 few.1 (told s next index h old.row.tree old.row.bytes))
+      rw (left_size mid old swap entered) (totals_between old.row r swap.less rows (with_dup r rows) swap.there swap.here h.lawful.in_place_order swap.less_rise swap.new_rise
+      index.groups.totals mid.groups.totals (rw (← h.grouped r.tree r.bytes, ← joined_own mid entered) entered.totals) (length (places_of old.row.tree old.row.bytes index)) few.0 few.1 (told s next index h old.row.tree old.row.bytes))
 
   -- the index is right once a new dup stands at the place of a dup that goes
   pub taken_indexed : (mid : Index) (old : Dup) → Some old ≡ dup_at dup.row.place s.dups
-      → ((q : ℕ) → place_of q mid ≡ (if q == dup.row.number then Some dup.row.place else place_of q index))
-      → ((t : ℕ) (b : List ℕ) → places_of t b mid ≡ (if t == dup.row.tree && bytes_eq b dup.row.bytes then with_place dup.row.place (places_of t b index) else places_of t b index))
+      → IsEntered dup.row index mid
       → ((q : ℕ) → place_of q new ≡ (if q == old.row.number then None else place_of q mid))
       → ((t : ℕ) (b : List ℕ) → places_of t b new ≡ (if (t == old.row.tree && bytes_eq b old.row.bytes) && not (t == dup.row.tree && bytes_eq b dup.row.bytes) then without old.row.place (places_of t b mid) else places_of t b mid))
-      → IsRegrouped (length (places_of dup.row.tree dup.row.bytes index)) (length (places_of dup.row.tree dup.row.bytes mid)) index.groups.totals mid.groups.totals
-      → IsRegrouped (length (places_of old.row.tree old.row.bytes mid)) (length (places_of old.row.tree old.row.bytes new)) mid.groups.totals new.groups.totals
+      → IsCountedAnew old.row.tree old.row.bytes mid.groups new.groups
       → AreIndexed (record { places = s.places; dups = with_new dup s.dups }) (next + 1) new
-  taken_indexed mid old found numbers groups left_numbers left_groups joined left =
+  taken_indexed mid old found entered left_numbers left_groups left =
       let rows = rows_of s.dups in
       let p = dup.row.place in
       let at = found_stands p s.dups old (sym found) in
@@ -157,14 +148,14 @@ module _ (s : SlotsState) (next : ℕ) (index new : Index) (dup : Dup) (h : AreI
       let new_group = in_group t b dup.row in
       left_groups t b
       ∙ (λ i.
-      let mid_group : List ℕ = (groups t b ∙ (λ j. if sym (own_group t b dup.row) j then with_place p (h.grouped t b j) else h.grouped t b j)) i in
+      let mid_group : List ℕ = (entered.groups t b ∙ (λ j. if sym (own_group t b dup.row) j then with_place p (h.grouped t b j) else h.grouped t b j)) i in
       if sym (own_group t b old.row) i && not (sym (own_group t b dup.row) i) then without (at i) mid_group else mid_group)
       ∙ group_swap old_group new_group p g (λ outside. group_unlike p t b rows (not_in_group p t b s.dups old h.lawful.in_place_order (sym found) outside))
       ∙ sym (group_with t b dup.row rows h.lawful.in_place_order) in
       let swap = swapped old found in
       let r = dup.row in
       let all = with_dup r rows in
-      let first : IsRegrouped (length (group_places r.tree r.bytes rows)) (length (places_of r.tree r.bytes mid)) index.groups.totals mid.groups.totals = rw (← h.grouped r.tree r.bytes) joined in
+      let first : IsRegrouped (length (group_places r.tree r.bytes rows)) (length (places_of r.tree r.bytes mid)) index.groups.totals mid.groups.totals = rw (← h.grouped r.tree r.bytes) entered.totals in
       let counted : AreTotals all new.groups.totals = elim (cases_Bool (in_group r.tree r.bytes old.row)) [
         | inl same ↦
             let tree : old.row.tree ≡ r.tree = own_tree r.tree r.bytes old.row same in
@@ -174,9 +165,9 @@ module _ (s : SlotsState) (next : ℕ) (index new : Index) (dup : Dup) (h : AreI
             (subst (λ x. IsRegrouped (length (places_of old.row.tree x mid)) (length (places_of old.row.tree x new)) mid.groups.totals new.groups.totals) bytes left)) in
             totals_same old.row r swap.less rows all swap.there swap.here h.lawful.in_place_order swap.less_rise swap.new_rise index.groups.totals mid.groups.totals new.groups.totals (length (places_of r.tree r.bytes mid)) same first second h.counted
         | inr other ↦
-            let at_r : length (places_of r.tree r.bytes mid) ≡ length (group_places r.tree r.bytes all) = ap length (joined_own mid groups) in
+            let at_r : length (places_of r.tree r.bytes mid) ≡ length (group_places r.tree r.bytes all) = ap length (joined_own mid entered) in
             let at_old : length (places_of old.row.tree old.row.bytes mid) ≡ length (group_places old.row.tree old.row.bytes rows) =
-            ap length (groups old.row.tree old.row.bytes ∙ rw other refl ∙ h.grouped old.row.tree old.row.bytes) in
+            ap length (entered.groups old.row.tree old.row.bytes ∙ rw other refl ∙ h.grouped old.row.tree old.row.bytes) in
             totals_apart old.row r swap.less rows all swap.there swap.here h.lawful.in_place_order swap.less_rise swap.new_rise index.groups.totals mid.groups.totals new.groups.totals other
             (rw (← at_r) first) (rw (← at_old, ← grouped old.row.tree old.row.bytes) left) h.counted
       ] in
@@ -186,7 +177,7 @@ module _ (s : SlotsState) (next : ℕ) (index new : Index) (dup : Dup) (h : AreI
         lawful = lawful_new;
         numbered = λ q.
             left_numbers q
-            ∙ ap (λ v. if q == old.row.number then None else v) (numbers q ∙ ap (λ v. if q == dup.row.number then Some p else v) (h.numbered q))
+            ∙ ap (λ v. if q == old.row.number then None else v) (entered.numbers q ∙ ap (λ v. if q == dup.row.number then Some p else v) (h.numbered q))
             ∙ swap_tests q old.row.number dup.row.number None (Some p) (row_place q rows) apart
             ∙ ap (λ v. if q == dup.row.number then Some p else v) (sym (place_gone p q rows old.row h.lawful.in_place_order row_found))
             ∙ sym (place_with q dup.row rows h.lawful.in_place_order fresh)

@@ -1,6 +1,6 @@
 -- The definitions, and the laws of the libraries and crates below, by their names, for proofs.
 pub use Rattle.ksm_base.proofs.Edits.{count-append, count_more, count_none, find_all, find_none, find_nothing, find_over, find_passes}
-pub use Rattle.ksm_base.proofs.Orders.{filter_none, ordered_map, pairs_append, pairs_cross, pairs_head, pairs_tail}
+pub use Rattle.ksm_base.proofs.Orders.{filter_none, ordered_map, pairs_head, pairs_tail}
 pub use Rattle.ksm_base.proofs.Pages.{before_irrefl, not_both, one_before, same_page_eq, same_page_refl, same_page_sym}
 pub use Rattle.ksm_base.proofs.RowCounts.{each_at_page, filter_all}
 pub use Rattle.ksm_base.proofs.SoundCounts.{not_an_item}
@@ -23,13 +23,13 @@ pub use Rattle.ksm_tree.specs.Choosing.{ArePlacesToJoin, best_of, choice_of, cho
 pub use Rattle.ksm_tree.specs.Counts.{AreCounts, is_open, places_where}
 pub use Rattle.ksm_tree.specs.Dups.{AreDups, change_items, dup_at, dup_of, DupsState, has_number, is_live, is_stale, items_in, places_open, rows_of, stands_at, with_new, without_place}
 pub use Rattle.ksm_tree.specs.Grouping.{AreGroups, content_in, IsIdle, places_in, waits_in}
-pub use Rattle.ksm_tree.specs.Groups.{chain_in, IsMoved, SameChains, SameWaits, under, waiting_in}
-pub use Rattle.ksm_tree.specs.Index.{AreIndexed, dups_seen, group_places, in_group, place_of, places_of, row_place}
-pub use Rattle.ksm_tree.specs.Numbered.{AreNumbered, content_of, content_order, number_of, Numbers}
+pub use Rattle.ksm_tree.specs.Groups.{chain_in, IsCounted, IsCountedAnew, SameChains, SameWaits, under, waiting_in}
+pub use Rattle.ksm_tree.specs.Index.{AreIndexed, dups_seen, group_places, in_group, IsEntered, place_of, places_of, row_place}
+pub use Rattle.ksm_tree.specs.Numbered.{AreNumbered, content_of, content_order, IsUnused, number_of, Numbers}
 pub use Rattle.ksm_tree.specs.Places.{with_place, without}
 pub use Rattle.ksm_tree.specs.Slots.{ArePlaced, AreSlots, change_at, count_in, is_empty_slot, is_stale_slot, present, slots_seen, SlotsState}
 pub use Rattle.ksm_tree.specs.Totals.{AreTotals, chained_of, chains_of, IsRegrouped, Tells}
-pub use Rattle.ksm_tree.specs.Waits.{AreWaiting, IsAdded, IsAlike, IsStopped, names, waiting_page, WaitingPage, waits_for, waits_there}
+pub use Rattle.ksm_tree.specs.Waits.{AreWaiting, IsAdded, IsAlike, IsStopped, names, waiting_page, WaitingPage, waits_there}
 pub use Rattle.ksm_tree.specs.declared.choice.Choice.{Choice}
 pub use Rattle.ksm_tree.specs.declared.choice.Choice.TheVariants.{Empty, Stale}
 pub use Rattle.ksm_tree.specs.declared.content.Content.{Content}
@@ -41,10 +41,10 @@ pub use Rattle.ksm_tree.specs.declared.totals.Totals.{Totals}
 pub use Rattle.slab.proofs.SlabLemmas.{Updates-with_value}
 pub use Rattle.slab.specs.Slab.{get, Slab, with_value}
 pub use Rattle.smallvec.specs.SmallVec.{SmallVec}
-pub use Rattle.std.proofs.Common.{[], add-one, ap, append_assoc, arith, Bool, count_by, drop, drop-cons, false, get_or, inl, inr, length, length-append, length-set, List, map, None, Option, refl, replicate, reverse, rules, set, Some, subst, suc, sym, take, true, true≢false, zero, ℕ, ◌++◌, ◌+◌, ◌-◌, ◌<◌, ◌↔◌, ◌∙◌, ◌∷◌, ◌≡◌, ◌≢◌, ◌≤◌}
+pub use Rattle.std.proofs.Common.{[], add-one, ap, arith, Bool, count_by, drop, drop-cons, false, get_or, inl, inr, length, length-append, length-set, List, map, None, Option, refl, replicate, reverse, rules, set, Some, subst, suc, sym, take, true, true≢false, zero, ℕ, ◌++◌, ◌+◌, ◌-◌, ◌<◌, ◌↔◌, ◌∙◌, ◌∷◌, ◌≡◌, ◌≢◌, ◌≤◌}
 pub use Rattle.std.proofs.Math.ListN.{drop_of_length-le, get_or-map}
 pub use Rattle.std.proofs.Math.Seq.{map-set_same}
-pub use Rattle.std.proofs.lemmas.Bool.{and_parts, cases_Bool, cases_lt, cond_both, eq-eqb, eqb-true, false≢true, le-ltb, ltb-true, ne_eqb}
+pub use Rattle.std.proofs.lemmas.Bool.{and_parts, cases_Bool, cond_both, eq-eqb, eqb-true, false≢true, le-ltb, ne_eqb}
 pub use Rattle.std.proofs.lemmas.Bool.Decides.{Decides-eqb, nat_tests}
 pub use Rattle.std.proofs.lemmas.List.{append-nil, map-append, get_or-reverse, get_or_default, get_or_push, length-map, length-reverse, map-set, replicate-append-replicate, set-append_left, set-append_right, set-get_or}
 pub use Rattle.std.proofs.lemmas.List.Elements.{All-append, All-cons, All-filter, All-head, All-map, All-tail, All-weaker, filter-append, filter_passes}
@@ -62,4 +62,4 @@ pub use Rattle.std.specs.Cmp.Lexicographic.{slice_cmp}
 pub use Rattle.std.specs.List.{list_all, list_any, range_with_len}
 pub use Rattle.std.specs.Option.{ForSome, option_and_then, option_or, unwrap_or}
 pub use Rattle.std.specs.Ordering.{nat_cmp}
-pub use Rattle.std.specs.Prelude.{All, AllPairs, bytes_eq, cond, Err, filter, filter_map, find, if◌then◌else◌, insert, is_some, IsOk, nat_le, nat_lt, not, Ok, OnErr, OnOk, option_copied, option_map, remove, Result, slice_get, ◌%◌, ◌&&◌, ◌==◌, ◌^◌, ◌||◌}
+pub use Rattle.std.specs.Prelude.{All, AllPairs, bytes_eq, cond, Err, filter, filter_map, find, if◌then◌else◌, is_some, IsOk, nat_le, nat_lt, not, Ok, OnErr, OnOk, option_copied, option_map, Result, slice_get, ◌%◌, ◌&&◌, ◌==◌, ◌^◌, ◌||◌}

@@ -1,5 +1,6 @@
 -- What one content more, and one less, makes of the numbers.
 use Rattle.ksm_tree.proofs.Names.{ap, AreNumbered, BTreeMap, cases_Bool, cond, Content, content_of, content_order, Decides-eqb, Equal-is, exact_bytes, exact_pairs, exact_unsigned, inl, inr, is_at, is_some, List, nat_cmp, None, number_of, Numbers, Option, same_Some, slice_cmp, Some, sym, true, true≢false, Updates, ℕ, ◌==◌, ◌∙◌, ◌≡◌, ◌≢◌}
+use Rattle.std.proofs.lemmas.Bool.{eqb-false}
 
 -- contents that the order does not tell apart are one
 pub same_content : (p q : Content) → is_at (content_order p) q ≡ true → p ≡ q
@@ -46,7 +47,7 @@ module _ (old new : BTreeMap Content ℕ) (kept later : ℕ → Option Content) 
             let e : k ≡ q = same_Some k q (sym fills.changed ∙ ap later (sym is) ∙ stands) in
             ap (λ c. its_number c new.entries) (sym e) ∙ updates.1 ∙ ap Some (sym is)
         | inr differ ↦
-            let apart : n ≢ key = λ same. true≢false (sym ((Decides-eqb n key).1 same) ∙ differ) in
+            let apart : n ≢ key = eqb-false n key differ in
             let before : its_number q old.entries ≡ Some n = (are q n).1 (sym (fills.others n apart) ∙ stands) in
             elim (cases_Bool (is_at (content_order k) q)) [
               | inl here ↦ absurd (full n (its_number q old.entries) (ap (λ c. its_number c old.entries) (sym (same_content k q here)) ∙ none) before)
@@ -77,7 +78,7 @@ module _ (old new : BTreeMap Content ℕ) (kept later : ℕ → Option Content) 
       backward stands = elim (cases_Bool (n == number)) [
         | inl same ↦ absurd (full q (later n) (ap later ((Decides-eqb n number).0 same) ∙ fills.changed) stands)
         | inr differ ↦
-            let apart : n ≢ number = λ same. true≢false (sym ((Decides-eqb n number).1 same) ∙ differ) in
+            let apart : n ≢ number = eqb-false n number differ in
             let before : its_number q old.entries ≡ Some n = (are q n).1 (sym (fills.others n apart) ∙ stands) in
             elim (cases_Bool (is_at (content_order k) q)) [
               | inl here ↦

@@ -1,6 +1,7 @@
 -- What a change of one slot does to the dups and to the places whose slots pass a test.
 use Rattle.ksm_tree.proofs.Names.{[], absent_kept, All, All-cons, All-weaker, ap, append-nil, ArePlaced, AreSlots, arith, Bool, cases_Bool, change_at, comes_before, count_in, Dup, dup_at, empty_from, empty_place, false, false≢true, filter, filter_all, filter_none, find, find_nothing, get_or, get_or-map, get_or-reverse, get_or_default, get_or_push, GuestPage, has_item, inl, inr, is_empty_slot, is_live, is_some, is_stale, is_stale_slot, items_in, length, length-append, length-map, length-reverse, length-set, List, map, map-set, map-set_same, nat_lt, nat_tests, None, none-some, none_found, not, Option, option_map, pages_ordered, places_where, present, refl, reverse, rows_of, same_page, same_Some, set, set-append_left, set-append_right, set-get_or, slice_get, slice_get-get_or, slots_seen, SlotsState, SmallVec, Some, stands_at, suc, sym, true, with_item, with_new, with_place, without, without_item, without_place, zero, ℕ, if◌then◌else◌, ◌++◌, ◌+◌, ◌-◌, ◌<◌, ◌==◌, ◌∙◌, ◌∷◌, ◌≡◌, ◌≤◌}
 use mathlib.Core.List.{reverse-cons}
+use Rattle.ksm_tree.proofs.Alike.{change_none}
 use Rattle.ksm_tree.proofs.Where.{where_with, where_without, where_same, where_room}
 
 -- the dups of slots from k on stand at k or behind it
@@ -65,13 +66,6 @@ slot_emptied k p (suc i) (Some d ∷ slots) is placed =
     let rest = slot_emptied (suc k) p i slots (omega arith) placed.1 in
     grind (arith, nat_tests, h, rest)
 
-change_none : (p : ℕ) (f : List GuestPage → List GuestPage) (dups : List Dup) → All (λ d. stands_at p d ≡ false) dups → change_at p f dups ≡ dups
-change_none p f [] none = refl
-change_none p f (d ∷ dups) none =
-    let here : stands_at p d ≡ false = none 0 d (omega arith) in
-    let rest = change_none p f dups (λ i e lt. none (suc i) e (omega arith)) in
-    grind (arith, here, rest)
-
 -- a change of the items of a slot's dup is seen as that change of the dup at its place
 pub slot_changed : (k p i : ℕ) (slots : List (Option Dup)) (dup : Dup) (f : List GuestPage → List GuestPage) → p ≡ k + i → get_or slots i None ≡ Some dup → ArePlaced k slots → present (set slots i (Some (record dup { items = f dup.items }))) ≡ change_at p f (present slots)
 slot_changed k p i [] dup f is here placed = absurd (none-some dup here)
@@ -79,7 +73,7 @@ slot_changed k p zero (None ∷ slots) dup f is here placed = absurd (none-some 
 slot_changed k p (suc i) (None ∷ slots) dup f is here placed = slot_changed (suc k) p i slots dup f (omega arith) here placed
 slot_changed k p zero (Some d ∷ slots) dup f is here placed =
     let h = placed.0 in
-    let none = change_none p f (present slots) (none_at (suc k) p slots (omega arith) placed.1) in
+    let none = change_none (stands_at p) (λ e. record e { items = f e.items }) (present slots) (none_at (suc k) p slots (omega arith) placed.1) in
     let same : d ≡ dup = same_Some d dup here in
     grind (arith, nat_tests, h, none, same)
 slot_changed k p (suc i) (Some d ∷ slots) dup f is here placed =
@@ -144,10 +138,7 @@ module _ (test : Option Dup → Bool) where
       let rest = where_append (suc k) xs ys in
       let at : suc k + length xs ≡ k + length (x ∷ xs) = omega arith in
       let tail : places_where test (suc k) (xs ++ ys) ≡ places_where test (suc k) xs ++ places_where test (k + length (x ∷ xs)) ys = rw (← at) rest in
-      elim (test x) as (λ b. (if b then k ∷ places_where test (suc k) (xs ++ ys) else places_where test (suc k) (xs ++ ys)) ≡ (if b then k ∷ places_where test (suc k) xs else places_where test (suc k) xs) ++ places_where test (k + length (x ∷ xs)) ys) [
-        | true ↦ ap (λ ps. k ∷ ps) tail
-        | false ↦ tail
-      ]
+      grind (arith, tail)
 
   -- the places of slots that pass a test, each by its distance from the highest place
   abbrev pub mirrored_where : List (Option Dup) → List ℕ

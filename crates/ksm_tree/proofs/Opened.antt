@@ -1,5 +1,6 @@
 -- Slots that are all empty.
 use Rattle.ksm_tree.proofs.Names.{[], add-one, ap, ArePlaced, AreSlots, arith, count_in, Dup, is_empty_slot, is_stale_slot, length, List, map, nat_tests, None, Option, places_where, present, range_with_len, refl, replicate, replicate-append-replicate, reverse, slots_seen, SmallVec, suc, sym, with_place, zero, ℕ, ◌++◌, ◌+◌, ◌<◌, ◌∙◌, ◌∷◌, ◌≡◌, ◌≤◌}
+use Rattle.std.proofs.lemmas.List.{length-replicate}
 use mathlib.Core.List.{reverse-cons}
 
 -- a list of n empty slots
@@ -40,13 +41,9 @@ none_empty : (k n : ℕ) → range_with_len k n ≡ places_where is_empty_slot k
 none_empty k zero = refl
 none_empty k (suc n) = let rest = none_empty (suc k) n in rw add-one (ap (λ ps. k ∷ ps) rest)
 
-length_none : (n : ℕ) → length (none_of n) ≡ n
-length_none zero = refl
-length_none (suc n) = ap suc (length_none n)
-
 -- in empty slots no dup is seen
 pub none_seen : (n : ℕ) → slots_seen (none_of n) ≡ record { places = n; dups = [] }
-none_seen n i = record { places = length_none n i; dups = none_present n i }
+none_seen n i = record { places = length-replicate {A = Option Dup} n None i; dups = none_present n i }
 
 none_counted : (n : ℕ) → replicate n 0 ≡ map count_in (none_of n)
 none_counted zero = refl
@@ -56,16 +53,11 @@ none_counted (suc n) = ap (λ counts. 0 ∷ counts) (none_counted n)
 pub none_slots : (n : ℕ) (counts : List ℕ) (empty stale : SmallVec ℕ) → n ≤ 1024 → counts ≡ replicate n 0 → empty.items ≡ range_with_len 0 n → stale.items ≡ [] → n ≤ empty.capacity → n ≤ stale.capacity → AreSlots (none_of n) counts empty stale
 none_slots n counts empty stale few counted empties stales empty_room stale_room =
     record {
-      few = rw length_none few;
+      few = rw length-replicate few;
       placed = none_placed 0 n;
       counted = counted ∙ none_counted n;
       empties = empties ∙ none_empty 0 n ∙ ap (places_where is_empty_slot 0) (none_reversed n);
       stales = stales ∙ none_stale 0 n;
-      empty_room = rw length_none empty_room;
-      stale_room = rw length_none stale_room;
+      empty_room = rw length-replicate empty_room;
+      stale_room = rw length-replicate stale_room;
     }
-
--- a range has as many numbers as its length
-pub length_range : (k n : ℕ) → length (range_with_len k n) ≡ n
-length_range k zero = refl
-length_range k (suc n) = ap suc (length_range (k + 1) n)

@@ -1,6 +1,7 @@
 -- The open places, as the counts change.
 use Rattle.ksm_tree.proofs.Names.{[], ap, AreCounts, ArePlaced, arith, Bool, cases_Bool, count_in, Dup, false, false≢true, get_or, inl, inr, is_open, length, length-set, List, list_all, map, nat_tests, None, Option, places_open, places_where, present, refl, replicate, set, SmallVec, Some, suc, sym, true, with_place, without, zero, ℕ, ◌+◌, ◌<◌, ◌==◌, ◌∙◌, ◌∷◌, ◌≡◌, ◌≤◌}
 use mathlib.Core.Bool.{beq}
+use Rattle.std.proofs.lemmas.List.{length-replicate}
 use Rattle.ksm_tree.proofs.Where.{where_with, where_without, where_same, where_room}
 
 -- two answers that test as alike are the same
@@ -17,26 +18,14 @@ differ false true apart opens = absurd (false≢true opens)
 differ a false apart opens = refl
 
 -- where no place has an item, none is open
-none_open : (limit k : ℕ) (counts : List ℕ) → list_all (λ n. n == 0) counts ≡ true → places_where (is_open limit) k counts ≡ []
-none_open limit k [] none = refl
-none_open limit k (n ∷ counts) none =
-    let here : (n == 0) ≡ true = grind (arith, none) in
-    let left : list_all (λ n. n == 0) counts ≡ true = grind (arith, none, here) in
-    let rest = none_open limit (suc k) counts left in
-    grind (arith, nat_tests, here, rest)
-
-length_zeroes : (n : ℕ) → length {A = ℕ} (replicate n 0) ≡ n
-length_zeroes zero = refl
-length_zeroes (suc n) = ap suc (length_zeroes n)
-
-all_none : (n : ℕ) → list_all (λ n. n == 0) (replicate n 0) ≡ true
-all_none zero = refl
-all_none (suc n) = all_none n
+none_open : (limit k n : ℕ) → places_where (is_open limit) k (replicate n 0) ≡ []
+none_open limit k zero = refl
+none_open limit k (suc n) = let rest = none_open limit (suc k) n in grind (arith, nat_tests, rest)
 
 -- counts of empty places have no open place
 pub counts_begun : (limit n : ℕ) (places : SmallVec ℕ) → places.items ≡ [] → n ≤ places.capacity → AreCounts limit (replicate n 0) places
 counts_begun limit n places none room =
-    record { opens = none ∙ sym (none_open limit 0 (replicate n 0) (all_none n)); room = rw length_zeroes room }
+    record { opens = none ∙ sym (none_open limit 0 n); room = rw length-replicate room }
 
 -- by the limit 0 a place is open with no count, so any two counts are alike
 pub never_open : (limit n m : ℕ) → limit ≡ 0 → is_open limit n ≡ is_open limit m
@@ -70,7 +59,4 @@ open_seen limit k (None ∷ slots) placed = open_seen limit (suc k) slots placed
 open_seen limit k (Some d ∷ slots) placed =
     let at = placed.0 in
     let rest = open_seen limit (suc k) slots placed.1 in
-    elim (cases_Bool (is_open limit (length d.items))) [
-      | inl opens ↦ grind (arith, opens, at, rest)
-      | inr closed ↦ grind (arith, closed, at, rest)
-    ]
+    grind (arith, at, rest)

@@ -1,5 +1,6 @@
 -- Dup rows in the order of their places: what a new row and a row that goes change of what is found.
 use Rattle.ksm_tree.proofs.Names.{[], All, All-cons, All-filter, All-head, All-tail, All-weaker, ap, arith, Bool, cases_Bool, cond, DupRow, false, false≢true, filter, filter-append, find, find-append, find_all, find_nothing, find_over, group_places, if◌then◌else◌, in_group, inl, InPlaceOrder, inr, List, map, map-append, nat_lt, nat_tests, ne_eqb, None, none-some, not, option_map, option_or, pairs_head, pairs_tail, refl, row_place, same_Some, Some, sym, true, with_dup, with_place, without, ℕ, ◌&&◌, ◌++◌, ◌<◌, ◌==◌, ◌∙◌, ◌∷◌, ◌≡◌}
+use Rattle.ksm_tree.proofs.Alike.{chosen, kept_append}
 use Rattle.ksm_base.proofs.Orders.{above, below, dups_parted, elsewhere, Lower}
 
 abbrev numbered : ℕ → DupRow → Bool
@@ -11,39 +12,16 @@ group_unlike p t b [] none = refl
 group_unlike p t b (r ∷ rows) none =
     let rest = group_unlike p t b rows (All-tail (λ s. (s.place == p && in_group t b s) ≡ false) r rows none) in
     let here = All-head (λ s. (s.place == p && in_group t b s) ≡ false) r rows none in
-    elim (cases_Bool (in_group t b r)) [
-      | inl inside ↦ let away : (r.place == p) ≡ false = grind (arith, inside, here) in grind (arith, inside, away, rest)
-      | inr outside ↦ grind (arith, outside, rest)
-    ]
-
--- the places of those rows of a group whose place passes a test are the group's places that pass
-pub group_at : (test : ℕ → Bool) (t : ℕ) (b : List ℕ) (rows : List DupRow) → group_places t b (filter (λ r. test r.place) rows) ≡ filter test (group_places t b rows)
-group_at test t b [] = refl
-group_at test t b (r ∷ rows) =
-    let rest = group_at test t b rows in
-    elim (cases_Bool (in_group t b r)) [
-      | inl inside ↦ elim (cases_Bool (test r.place)) [
-        | inl here ↦ grind (arith, inside, here, rest)
-        | inr away ↦ grind (arith, inside, away, rest)
-      ]
-      | inr outside ↦ elim (cases_Bool (test r.place)) [
-        | inl here ↦ grind (arith, outside, here, rest)
-        | inr away ↦ grind (arith, outside, away, rest)
-      ]
-    ]
-
--- a list of rows with one put in
-group_append : (t : ℕ) (b : List ℕ) (xs ys : List DupRow) → group_places t b (xs ++ ys) ≡ group_places t b xs ++ group_places t b ys
-group_append t b xs ys = ap (map (λ r. r.place)) (filter-append (in_group t b) xs ys) ∙ map-append (λ r. r.place) (filter (in_group t b) xs) (filter (in_group t b) ys)
+    grind (arith, here, rest)
 
 -- a new row of a group adds its place to the places of the group
 pub group_joined : (t : ℕ) (b : List ℕ) (row : DupRow) (rows : List DupRow) → in_group t b row ≡ true → group_places t b (with_dup row rows) ≡ with_place row.place (group_places t b rows)
 group_joined t b row rows inside =
     let lower = filter (below row.place) rows in
     let higher = filter (above row.place) rows in
-    let front = group_append t b lower (row ∷ higher) in
-    let low = group_at (λ q. nat_lt q row.place) t b rows in
-    let high = group_at (nat_lt row.place) t b rows in
+    let front = kept_append (λ (r : DupRow). r.place) (in_group t b) lower (row ∷ higher) in
+    let low = chosen (λ (r : DupRow). r.place) (in_group t b) (λ q. nat_lt q row.place) rows in
+    let high = chosen (λ (r : DupRow). r.place) (in_group t b) (nat_lt row.place) rows in
     let first : group_places t b (row ∷ higher) ≡ row.place ∷ group_places t b higher = grind (arith, inside) in
     front ∙ (λ i. low i ++ (first ∙ ap (λ ps. row.place ∷ ps) high) i)
 
@@ -53,11 +31,11 @@ group_passed t b row rows rise outside =
     let lower = filter (below row.place) rows in
     let higher = filter (above row.place) rows in
     let first : group_places t b (row ∷ higher) ≡ group_places t b higher = grind (arith, outside) in
-    group_append t b lower (row ∷ higher)
+    kept_append (λ (r : DupRow). r.place) (in_group t b) lower (row ∷ higher)
     ∙ (λ i. group_places t b lower ++ first i)
-    ∙ sym (group_append t b lower higher)
+    ∙ sym (kept_append (λ (r : DupRow). r.place) (in_group t b) lower higher)
     ∙ ap (group_places t b) (sym (dups_parted row.place rows rise))
-    ∙ group_at (λ q. not (q == row.place)) t b rows
+    ∙ chosen (λ (r : DupRow). r.place) (in_group t b) (λ q. not (q == row.place)) rows
 
 -- the number of a new row has the place of the row
 pub place_new : (row : DupRow) (rows : List DupRow) → All (λ r. r.number < row.number) rows → row_place row.number (with_dup row rows) ≡ Some row.place
@@ -134,27 +112,14 @@ gone p q e [] this only = refl
 gone p q e (r ∷ rows) this only =
     let rest = gone p q e rows this (All-tail (IsOne p e) r rows only) in
     let here = (All-head (IsOne p e) r rows only).0 in
-    elim (cases_Bool (r.place == p)) [
-      | inl at ↦ grind (arith, nat_tests, this, here, at, rest)
-      | inr away ↦
-          let other : (r.number == q) ≡ false = (let h = sym here ∙ away in grind (arith, nat_tests, this, h)) in
-          grind (arith, nat_tests, away, other, rest)
-    ]
+    grind (arith, nat_tests, this, here, rest)
 
 stayed : (p q : ℕ) (e : DupRow) (rows : List DupRow) → (q == e.number) ≡ false → All (IsOne p e) rows → row_place q (filter (elsewhere p) rows) ≡ row_place q rows
 stayed p q e [] other only = refl
 stayed p q e (r ∷ rows) other only =
     let rest = stayed p q e rows other (All-tail (IsOne p e) r rows only) in
     let here = (All-head (IsOne p e) r rows only).0 in
-    elim (cases_Bool (r.place == p)) [
-      | inl at ↦
-          let unlike : (r.number == q) ≡ false = (let h = sym here ∙ at in grind (arith, nat_tests, other, h)) in
-          grind (arith, nat_tests, at, unlike, rest)
-      | inr away ↦ elim (cases_Bool (r.number == q)) [
-        | inl that ↦ grind (arith, away, that)
-        | inr unlike ↦ grind (arith, away, unlike, rest)
-      ]
-    ]
+    grind (arith, nat_tests, other, here, rest)
 
 -- once the dup at a place goes, its number has no place, and each other number has the place it had
 pub place_gone : (p q : ℕ) (rows : List DupRow) (e : DupRow) → InPlaceOrder rows → find (λ r. r.place == p) rows ≡ Some e → row_place q (filter (elsewhere p) rows) ≡ (if q == e.number then None else row_place q rows)

@@ -1,6 +1,7 @@
 -- What a change of one group makes of the chains and of the pages that wait.
-use Rattle.ksm_tree.proofs.Names.{[], and_parts, ap, AreGroups, AreNumbered, arith, Bool, BTreeMap, bytes_eq, bytes_eq-Decides, cases_Bool, chain_in, cond, Content, content_in, content_of, content_order, Decides-eqb, false, filter_map, ForSome, get, get_or, Group, Groups, GuestPage, if◌then◌else◌, inl, inr, is_at, is_some, IsIdle, List, None, number_of, Numbers, Option, option_map, places_in, refl, same_Some, Slab, Some, subst, suc, sym, then_some, true, true≢false, under, Updates, Updates-with_value, waiting_in, waiting_page, waits_in, with_value, zero, ℕ, ◌&&◌, ◌==◌, ◌↔◌, ◌∙◌, ◌∷◌, ◌≡◌, ◌≢◌, ◌≤◌}
+use Rattle.ksm_tree.proofs.Names.{[], and_parts, ap, AreGroups, AreNumbered, arith, Bool, BTreeMap, bytes_eq, bytes_eq-Decides, cases_Bool, chain_in, cond, Content, content_in, content_of, content_order, Decides-eqb, false, filter_map, ForSome, get, get_or, Group, Groups, GuestPage, if◌then◌else◌, inl, inr, is_at, is_some, IsIdle, IsUnused, List, ne_eqb, None, number_of, Numbers, Option, option_map, places_in, refl, same_Some, Slab, Some, subst, suc, sym, then_some, true, true≢false, under, Updates, Updates-with_value, waiting_in, waiting_page, waits_in, with_value, zero, ℕ, ◌&&◌, ◌==◌, ◌↔◌, ◌∙◌, ◌∷◌, ◌≡◌, ◌≢◌, ◌≤◌}
 use Rattle.slab.specs.Slab.{Updates as Fills}
+use Rattle.std.proofs.lemmas.Bool.{eqb-false, false_from_ne_true}
 use Rattle.ksm_tree.proofs.Numbering.{Stands, entered, forgotten, full, its_number, same_content}
 
 -- ---------------------------------------------------------------- what stands under the number of each content
@@ -35,23 +36,18 @@ module _ {X : Type 0} (none : X) (numbers : Numbers) (stands : ℕ → Option Co
     where
       by : (o : Option ℕ) → number_of t b numbers ≡ o → under none new o ≡ (if t == tree && bytes_eq b bytes then change (under none old o) else under none old o)
       by None absent =
-          let apart : (t == tree && bytes_eq b bytes) ≡ false = elim (cases_Bool (t == tree && bytes_eq b bytes)) [
-            | inl same ↦ absurd (full number (number_of t b numbers) absent (ap (λ k. its_number k numbers) (is_one t tree b bytes same) ∙ is))
-            | inr differ ↦ differ
-          ] in
+          let apart : (t == tree && bytes_eq b bytes) ≡ false = false_from_ne_true _ (λ same.
+              full number (number_of t b numbers) absent (ap (λ k. its_number k numbers) (is_one t tree b bytes same) ∙ is)) in
           rw apart refl
       by (Some n) found = elim (cases_Bool (t == tree && bytes_eq b bytes)) [
         | inl same ↦
             let here : n ≡ number = same_Some n number (sym found ∙ ap (λ k. its_number k numbers) (is_one t tree b bytes same) ∙ is) in
             moved n ∙ rw (same, (Decides-eqb n number).1 here) refl
         | inr differ ↦
-            let apart : (n == number) ≡ false = elim (cases_Bool (n == number)) [
-              | inl same ↦
+            let apart : (n == number) ≡ false = false_from_ne_true _ (λ same.
                   let one : content_of t b ≡ content_of tree bytes =
                   same_Some (content_of t b) (content_of tree bytes) (sym ((are (content_of t b) n).0 found) ∙ ap stands ((Decides-eqb n number).0 same) ∙ (are (content_of tree bytes) number).0 is) in
-                  absurd (true≢false (sym (are_one t tree b bytes one) ∙ differ))
-              | inr other ↦ other
-            ] in
+                  true≢false (sym (are_one t tree b bytes one) ∙ differ)) in
             moved n ∙ rw (differ, apart) refl
       ]
 
@@ -90,10 +86,8 @@ module _ (t : ℕ) (b : List ℕ) (pass : ℕ) where
   none_waits (None ∷ slots) apart = none_waits slots (λ n. apart (suc n))
   none_waits (Some g ∷ slots) apart =
       let rest = none_waits slots (λ n. apart (suc n)) in
-      let other : (g.content.tree == t && bytes_eq g.content.bytes b) ≡ false = elim (cases_Bool (g.content.tree == t && bytes_eq g.content.bytes b)) [
-        | inl same ↦ absurd (apart 0 (ap Some (is_one g.content.tree t g.content.bytes b same)))
-        | inr differ ↦ differ
-      ] in
+      let other : (g.content.tree == t && bytes_eq g.content.bytes b) ≡ false = 
+          false_from_ne_true _ (λ same. apart 0 (ap Some (is_one g.content.tree t g.content.bytes b same))) in
       grind (arith, rest, other)
 
   -- where one group is, its page waits, if one does there
@@ -105,16 +99,11 @@ module _ (t : ℕ) (b : List ℕ) (pass : ℕ) where
   one_waits (Some g ∷ slots) zero here only =
       let rest = none_waits slots (λ m is. let e = only (suc m) is in omega (arith, e)) in
       let same = are_one g.content.tree t g.content.bytes b (same_Some g.content (content_of t b) here) in
-      elim (cases_Bool (g.pass == pass)) [
-        | inl waits ↦ grind (arith, same, waits)
-        | inr still ↦ grind (arith, rest, still)
-      ]
+      grind (arith, same, rest)
   one_waits (Some g ∷ slots) (suc n) here only =
       let rest = one_waits slots n here (λ m is. let e = only (suc m) is in omega (arith, e)) in
-      let other : (g.content.tree == t && bytes_eq g.content.bytes b) ≡ false = elim (cases_Bool (g.content.tree == t && bytes_eq g.content.bytes b)) [
-        | inl same ↦ (let e = only 0 (ap Some (is_one g.content.tree t g.content.bytes b same)) in absurd (omega (arith, e)))
-        | inr differ ↦ differ
-      ] in
+      let other : (g.content.tree == t && bytes_eq g.content.bytes b) ≡ false = 
+          false_from_ne_true _ (λ same. let e = only 0 (ap Some (is_one g.content.tree t g.content.bytes b same)) in omega (arith, e)) in
       grind (arith, rest, other)
 
 -- the page that waits for a tree and bytes is the one that waits in their group
@@ -141,6 +130,11 @@ none_here g t b none = waiting_found g.numbers.entries g.groups g.pass g.lawful 
 pub stands_under : (g : Groups) (t : ℕ) (b : List ℕ) (n : ℕ) → number_of t b g.numbers.entries ≡ Some n → None ≡ get g.groups n → ⊥
 stands_under g t b n is none = full (content_of t b) (content_in (get g.groups n)) (ap content_in (sym none)) ((g.lawful.numbered (content_of t b) n).0 is)
 
+-- a group that stands under a number has it
+pub not_unused : (g : Groups) (n : ℕ) (group : Group) → Some group ≡ get g.groups n → IsUnused n g.numbers.entries → ⊥
+not_unused g n group stands unused =
+    unused group.content.tree group.content.bytes ((g.lawful.numbered group.content n).1 (ap content_in (sym stands)))
+
 -- a guess that leads to the group of a tree and bytes is the number of that tree and bytes
 pub guessed : (g : Groups) (guess : ℕ) (group : Group) (tree : ℕ) (bytes : List ℕ) → Some group ≡ get g.groups guess → group.content.tree ≡ tree → true ≡ bytes_eq group.content.bytes bytes → Some guess ≡ number_of tree bytes g.numbers.entries
 guessed g guess group tree bytes stands same_tree same_bytes =
@@ -154,10 +148,7 @@ page_waits g pass same = rw ((Decides-eqb g.pass pass).1 same) refl
 
 -- in a group whose pass is not the present one nothing waits
 pub waits_still : (g : Group) (pass : ℕ) → g.pass ≢ pass → waits_in pass (Some g) ≡ None
-waits_still g pass apart = elim (cases_Bool (g.pass == pass)) [
-  | inl same ↦ absurd (apart ((Decides-eqb g.pass pass).0 same))
-  | inr other ↦ rw other refl
-]
+waits_still g pass apart = rw (ne_eqb g.pass pass apart) refl
 
 -- in a group whose pass is not the present one no page waits
 pub page_still : (g : Group) (pass : ℕ) → g.pass ≢ pass → page_in pass (Some g) ≡ None
@@ -165,10 +156,7 @@ page_still g pass apart = ap (option_map (λ w. w.page)) (waits_still g pass apa
 
 -- the page of a group waits exactly where the group's pass is the present one
 pub page_so : (g : Group) (pass : ℕ) → page_in pass (Some g) ≡ then_some (g.pass == pass) g.page
-page_so g pass = elim (cases_Bool (g.pass == pass)) [
-  | inl same ↦ rw same refl
-  | inr other ↦ rw other refl
-]
+page_so g pass = grind arith
 
 -- where no group's pass is the present one, no page waits
 pub none_waiting : (pass : ℕ) (groups : Slab Group) → ((n : ℕ) → ForSome (get groups n) (λ g. g.pass ≢ pass)) → filter_map (waits_in pass) groups.slots ≡ []
@@ -194,7 +182,7 @@ module _ (g : Groups) (number : ℕ) (was now : Group) (stood : Some was ≡ get
     | inl same ↦
         let here = (Decides-eqb n number).0 same in
         ap (λ n. at (get new n)) here ∙ ap at fills.changed ∙ is ∙ sym (rw same (ap (λ n. change (at (get g.groups n))) here ∙ ap (λ o. change (at o)) (sym stood)))
-    | inr differ ↦ ap at (fills.others n (λ same. true≢false (sym ((Decides-eqb n number).1 same) ∙ differ))) ∙ sym (rw differ refl)
+    | inr differ ↦ ap at (fills.others n (eqb-false n number differ)) ∙ sym (rw differ refl)
   ]
 
   written_same : {X : Type 0} (at : Option Group → X) → at (Some now) ≡ at (Some was) → (n : ℕ) → at (get new n) ≡ at (get g.groups n)
@@ -207,7 +195,7 @@ module _ (g : Groups) (number : ℕ) (was now : Group) (stood : Some was ≡ get
         (sym (written_same content_in (ap Some content) n)) (g.lawful.numbered content_now n);
     passes = λ n. elim (cases_Bool (n == number)) [
       | inl same ↦ λ h is. subst (λ h. h.pass ≤ g.pass) (same_Some now h (sym fills.changed ∙ ap (get new) (sym ((Decides-eqb n number).0 same)) ∙ is)) within
-      | inr differ ↦ subst (λ o. ForSome o (λ h. h.pass ≤ g.pass)) (sym (fills.others n (λ same. true≢false (sym ((Decides-eqb n number).1 same) ∙ differ)))) (g.lawful.passes n)
+      | inr differ ↦ subst (λ o. ForSome o (λ h. h.pass ≤ g.pass)) (sym (fills.others n (eqb-false n number differ))) (g.lawful.passes n)
     ];
     begun = g.lawful.begun;
   }
@@ -248,7 +236,7 @@ module _ (numbers_old numbers_new : BTreeMap Content ℕ) (pass : ℕ) (old new 
   idle_same : {X : Type 0} (at : Option Group → X) → at slot ≡ at (get old number) → (n : ℕ) → at (get new n) ≡ at (get old n)
   idle_same at same n = elim (cases_Bool (n == number)) [
     | inl here ↦ let is = (Decides-eqb n number).0 here in ap (λ n. at (get new n)) is ∙ ap at fills.changed ∙ same ∙ ap (λ n. at (get old n)) (sym is)
-    | inr other ↦ ap at (fills.others n (λ same. true≢false (sym ((Decides-eqb n number).1 same) ∙ other)))
+    | inr other ↦ ap at (fills.others n (eqb-false n number other))
   ]
 
   -- where a group in which nothing waits comes or goes, all that waits is as it was
@@ -277,7 +265,7 @@ module _ (numbers_old numbers_new : BTreeMap Content ℕ) (pass : ℕ) (old new 
   idle_passes : ForSome slot (λ g. g.pass ≤ pass) → (n : ℕ) → ForSome (get new n) (λ g. g.pass ≤ pass)
   idle_passes here n = elim (cases_Bool (n == number)) [
     | inl same ↦ subst (λ o. ForSome o (λ g. g.pass ≤ pass)) (sym (ap (get new) ((Decides-eqb n number).0 same) ∙ fills.changed)) here
-    | inr other ↦ subst (λ o. ForSome o (λ g. g.pass ≤ pass)) (sym (fills.others n (λ same. true≢false (sym ((Decides-eqb n number).1 same) ∙ other)))) (are.passes n)
+    | inr other ↦ subst (λ o. ForSome o (λ g. g.pass ≤ pass)) (sym (fills.others n (eqb-false n number other))) (are.passes n)
   ]
 
   -- the groups are right once one came with a content that had no number

@@ -1,8 +1,9 @@
 -- The items of each dup stay the pages of the rows merged into it: the dups after a change of one row, and after a change of all.
 use Rattle.ksm_tree.proofs.Names.{[], absent_kept, All, All-append, All-cons, All-filter, All-head, All-map, All-tail, All-weaker, ap, AreTied, arith, cases_Bool, change_items, change_row, cond_both, Dup, dup_of, DupRow, each_at_page, eqb-true, false, false≢true, filter, filter_all, filter_none, find_all, find_none, find_passes, get_or, GuestPage, has_item, has_number, inl, InPageOrder, inr, is_some, item_count, items_in, items_of, length, let_out, List, map, Merged, merged_into, merged_state, nat_lt, nat_tests, ne_eqb, None, none_found, not, not_an_item, Option, ordered_map, pages_ordered, PageState, Private, refl, Row, row_at, rows_of, same_page, same_Some, Some, stands_at, sym, true, Waiting, with_item, with_new, with_row, without_item, without_page, without_place, Zero, ℕ, if◌then◌else◌, ◌++◌, ◌<◌, ◌==◌, ◌∙◌, ◌∷◌, ◌≡◌}
 use Rattle.ksm_tree.specs.Dups.{items_of as items_numbered}
+use Rattle.ksm_tree.proofs.Alike.{kept_append}
 use Rattle.ksm_tree.proofs.Changes.{all_rows}
-use Rattle.ksm_tree.proofs.Tied.{ahead, behind, pages_that, pages_append, without_splits, items_dropped, items_joined, items_left, items_kept, tied_counted}
+use Rattle.ksm_tree.proofs.Tied.{ahead, behind, page_of, pages_that, without_splits, items_dropped, items_joined, items_left, items_kept, tied_counted}
 
 abbrev IsTied : List Row → Dup → Type 0
 IsTied rows d = d.items ≡ items_of rows d.row
@@ -103,10 +104,7 @@ row_stays page f [] same = refl
 row_stays page f (r ∷ rows) same =
     let here = same r in
     let rest = row_stays page f rows same in
-    elim (cases_Bool (same_page r.page page)) [
-      | inl this ↦ grind (arith, here, this, rest)
-      | inr other ↦ grind (arith, here, other, rest)
-    ]
+    grind (arith, here, rest)
 
 -- what holds of each dup and of a new one holds of each with it
 all_with_new : (P : Dup → Type 0) (dup : Dup) (dups : List Dup) → All P dups → P dup → All P (with_new dup dups)
@@ -177,9 +175,9 @@ tied_inserted rows row dups rise absent alone tied =
     let m = λ (r : Row). merged_into d.row.number r.state in
     let fails : m row ≡ false = not_an_item d.row.number row.state alone in
     let past : pages_that m (row ∷ filter (behind page) rows) ≡ pages_that m (filter (behind page) rows) = grind (arith, fails) in
-    e ∙ sym (pages_append m (filter (ahead page) rows) (row ∷ filter (behind page) rows)
+    e ∙ sym (kept_append page_of m (filter (ahead page) rows) (row ∷ filter (behind page) rows)
     ∙ ap (λ ps. pages_that m (filter (ahead page) rows) ++ ps) past
-    ∙ sym (pages_append m (filter (ahead page) rows) (filter (behind page) rows))
+    ∙ sym (kept_append page_of m (filter (ahead page) rows) (filter (behind page) rows))
     ∙ ap (pages_that m) (sym (without_splits page rows rise) ∙ same))) dups tied
 
 -- rows and dups stay tied where each row changes but for its page and its dup

@@ -1,6 +1,7 @@
 -- The waiting pages beside the rows that wait: what a look-up tells, and what a change of rows does.
-use Rattle.ksm_tree.proofs.Names.{[], All, All-head, All-tail, ap, AreWaiting, arith, before_irrefl, Bool, bytes_eq, bytes_eq-Decides, cases_Bool, change_row, change_rows, comes_before, cond, cond_both, each_at_page, eq-eqb, false, false≢true, filter, find, find-append, find_all, find_nothing, get_or, GuestPage, if◌then◌else◌, inl, InPageOrder, inr, IsAdded, IsAlike, IsStopped, Knobs, List, map, names, nat_tests, None, not, not_both, one_before, Option, option_and_then, option_map, option_or, partner, refl, Row, row_at, same_page, same_page_eq, same_page_refl, same_page_sym, Some, subst, sym, tree_of, true, Waiting, waiting_page, waiting_state, WaitingPage, waits_there, with_row, without_page, ℕ, ◌&&◌, ◌==◌, ◌∙◌, ◌∷◌, ◌≡◌}
+use Rattle.ksm_tree.proofs.Names.{[], All, All-head, All-tail, ap, AreWaiting, arith, before_irrefl, Bool, bytes_eq, bytes_eq-Decides, cases_Bool, change_row, change_rows, comes_before, cond, cond_both, each_at_page, eq-eqb, false, false≢true, filter, find, find-append, find_all, find_nothing, get_or, GuestPage, if◌then◌else◌, inl, InPageOrder, inr, is_some, IsAdded, IsAlike, IsStopped, Knobs, List, map, names, nat_tests, None, not, not_both, one_before, Option, option_and_then, option_map, option_or, partner, refl, Row, row_at, same_page, same_page_eq, same_page_refl, same_page_sym, Some, subst, sym, tree_of, true, Waiting, waiting_page, waiting_state, WaitingPage, waits_there, with_row, without_page, ℕ, ◌&&◌, ◌==◌, ◌∙◌, ◌∷◌, ◌≡◌}
 use Rattle.ksm_base.specs.Visit.{waits_for}
+use Rattle.ksm_tree.proofs.Alike.{find_alike}
 use Rattle.ksm_tree.proofs.Keys.{eq_bytes}
 
 -- ---------------------------------------------------------------- the row of a page after a change
@@ -12,29 +13,16 @@ same_alike p q x same = ap (λ (r : GuestPage). same_page r x) (same_page_eq p q
 -- a write of the row of one page leaves the rows of other pages as they were
 pub at_others : (row : Row) (q : GuestPage) (rows : List Row) → same_page row.page q ≡ false → row_at q (change_row row.page (λ _. row) rows) ≡ row_at q rows
 at_others row q [] other = refl
-at_others row q (r ∷ rs) other =
-    let rest = at_others row q rs other in
-    elim (cases_Bool (same_page r.page row.page)) [
-      | inl here ↦
-          let also : same_page r.page q ≡ false = same_alike r.page row.page q here ∙ other in
-          grind (arith, here, other, also, rest)
-      | inr away ↦ grind (arith, away, rest)
-    ]
+at_others row q (r ∷ rs) other = let rest = at_others row q rs other in grind (arith, nat_tests, other, rest)
 
-at_page : (row old : Row) (rows : List Row) → row_at row.page rows ≡ Some old → row_at row.page (change_row row.page (λ _. row) rows) ≡ Some row
-at_page row old [] found = cc
-at_page row old (r ∷ rs) found =
-    elim (cases_Bool (same_page r.page row.page)) [
-      | inl here ↦ let own = same_page_refl row.page in grind (arith, here, own)
-      | inr away ↦
-          let rest = at_page row old rs (grind (arith, away, found)) in
-          grind (arith, away, rest)
-    ]
+at_page : (row : Row) (rows : List Row) → row_at row.page (change_row row.page (λ _. row) rows) ≡ (if is_some (row_at row.page rows) then Some row else None)
+at_page row [] = refl
+at_page row (r ∷ rs) = let own = same_page_refl row.page in let rest = at_page row rs in grind (arith, own, rest)
 
 at_changed : (row old : Row) (rows : List Row) → row_at row.page rows ≡ Some old → (q : GuestPage) → row_at q (change_row row.page (λ _. row) rows) ≡ (if same_page row.page q then Some row else row_at q rows)
 at_changed row old rows found q =
     elim (cases_Bool (same_page row.page q)) [
-      | inl same ↦ rw same (subst (λ (p : GuestPage). row_at p (change_row row.page (λ _. row) rows) ≡ Some row) (same_page_eq row.page q same) (at_page row old rows found))
+      | inl same ↦ rw same (subst (λ (p : GuestPage). row_at p (change_row row.page (λ _. row) rows) ≡ Some row) (same_page_eq row.page q same) (at_page row rows ∙ ap (λ o. if is_some o then Some row else None) found))
       | inr other ↦ rw other (at_others row q rows other)
     ]
 
@@ -45,23 +33,14 @@ at_chosen by q (r ∷ rs) =
     let rest = at_chosen by q rs in
     let alike : same_page r.page q ≡ true → by r.page ≡ by q = λ same. ap by (same_page_eq r.page q same) in
     elim (cases_Bool (same_page r.page q)) [
-      | inl same ↦ let is = alike same in elim (cases_Bool (by r.page)) [
-        | inl kept ↦ grind (arith, same, is, kept, rest)
-        | inr gone ↦ grind (arith, same, is, gone, rest)
-      ]
-      | inr other ↦ elim (cases_Bool (by r.page)) [
-        | inl kept ↦ grind (arith, other, kept, rest)
-        | inr gone ↦ grind (arith, other, gone, rest)
-      ]
+      | inl same ↦ let is = alike same in grind (arith, same, is, rest)
+      | inr other ↦ grind (arith, other, rest)
     ]
 
 at_without : (page q : GuestPage) (rows : List Row) → row_at q (without_page page rows) ≡ (if same_page page q then None else row_at q rows)
 at_without page q rows =
-    at_chosen (λ p. not (same_page p page)) q rows
-    ∙ elim (cases_Bool (same_page page q)) [
-      | inl same ↦ let back = same_page_sym q page ∙ same in rw (same, back) refl
-      | inr other ↦ let back = same_page_sym q page ∙ other in rw (other, back) refl
-    ]
+    let back = same_page_sym q page in
+    at_chosen (λ p. not (same_page p page)) q rows ∙ grind (arith, back)
 
 or_nothing : (o : Option Row) → option_or o None ≡ o
 or_nothing None = refl
@@ -74,15 +53,7 @@ at_inserted row rows q =
     let behind = at_chosen (λ p. comes_before row.page p) q rows in
     find-append (λ r. same_page r.page q) (filter (λ r. comes_before r.page row.page) rows) (row ∷ filter (λ r. comes_before row.page r.page) rows)
     ∙ (λ i. option_or (ahead i) (if same_page row.page q then Some row else behind i))
-    ∙ elim (cases_Bool (same_page row.page q)) [
-      | inl same ↦
-          let no_less : comes_before q row.page ≡ false = subst (λ (p : GuestPage). comes_before p row.page ≡ false) (same_page_eq row.page q same) (before_irrefl row.page) in
-          rw (same, no_less) refl
-      | inr other ↦ elim (cases_Bool (comes_before q row.page)) [
-        | inl less ↦ let not_more = not_both q row.page less in rw (other, less, not_more) (or_nothing (row_at q rows))
-        | inr no_less ↦ let more = one_before q row.page (same_page_sym q row.page ∙ other) no_less in rw (other, no_less, more) refl
-      ]
-    ]
+    ∙ (let nothing = or_nothing (row_at q rows) in grind (arith, nat_tests, nothing))
 
 -- a change that keeps each row's page finds at a page the changed row that was found there
 pub at_mapped : (f : Row → Row) (q : GuestPage) (rows : List Row) → All (λ r. (f r).page ≡ r.page) rows → row_at q (map f rows) ≡ option_map f (row_at q rows)
@@ -90,19 +61,9 @@ at_mapped f q [] keeps = refl
 at_mapped f q (r ∷ rs) keeps =
     let rest = at_mapped f q rs (All-tail (λ s. (f s).page ≡ s.page) r rs keeps) in
     let here : same_page (f r).page q ≡ same_page r.page q = ap (λ (p : GuestPage). same_page p q) (All-head (λ s. (f s).page ≡ s.page) r rs keeps) in
-    elim (cases_Bool (same_page r.page q)) [
-      | inl same ↦ grind (arith, here, same)
-      | inr other ↦ grind (arith, here, other, rest)
-    ]
+    grind (arith, here, rest)
 
 -- ---------------------------------------------------------------- what a look-up tells
-
-find_alike : {X : Type 0} (p q : X → Bool) (xs : List X) → All (λ x. p x ≡ q x) xs → find p xs ≡ find q xs
-find_alike p q [] same = refl
-find_alike p q (x ∷ xs) same =
-    let here = All-head (λ y. p y ≡ q y) x xs same in
-    let rest = find_alike p q xs (All-tail (λ y. p y ≡ q y) x xs same) in
-    λ i. cond (here i) (Some x) (rest i)
 
 -- a page that is named is that page alone
 only_one : (o : Option GuestPage) (p q : GuestPage) → names p o ≡ true → same_page p q ≡ false → names q o ≡ false
@@ -170,16 +131,10 @@ module _ (knobs : Knobs) (rows : List Row) (w : List WaitingPage) (row : Row) (r
           ]
         where
           elsewhere : (q : GuestPage) → same_page page row.page ≡ true → (same_page page q && not (same_page q row.page)) ≡ false
-          elsewhere q own = elim (cases_Bool (same_page page q)) [
-            | inl same ↦ let also = sym (same_alike page q row.page same) ∙ own in rw (same, also) refl
-            | inr apart ↦ rw apart refl
-          ]
+          elsewhere q own = grind (arith, nat_tests, own)
 
           alone : (q : GuestPage) → same_page page row.page ≡ false → (same_page page q && not (same_page q row.page)) ≡ same_page q page
-          alone q other = elim (cases_Bool (same_page page q)) [
-            | inl same ↦ let also = sym (same_alike page q row.page same) ∙ other in let back = same_page_sym q page ∙ same in rw (same, also, back) refl
-            | inr apart ↦ let back = same_page_sym q page ∙ apart in rw (apart, back) refl
-          ]
+          alone q other = grind (arith, nat_tests, other)
 
 -- ---------------------------------------------------------------- one row
 
@@ -210,11 +165,8 @@ module _ (knobs : Knobs) (rows : List Row) (w : List WaitingPage) (are : AreWait
   module _ (new : List WaitingPage) (page : GuestPage) (old : Row) (found : row_at page rows ≡ Some old) (stopped : IsStopped knobs old w new) where
     stopped_here : (t : ℕ) (b : List ℕ) → names page (waiting_page t b new) ≡ false
     stopped_here t b =
-        let waits = waits_there knobs t b (Some old) in
-        ap (names page) (stopped t b) ∙ elim (cases_Bool waits) [
-          | inl gone ↦ rw gone refl
-          | inr never ↦ rw never (named page (Some old) found t b ∙ never)
-        ]
+        let own = named page (Some old) found t b in
+        ap (names page) (stopped t b) ∙ grind (arith, own)
 
     stopped_others : (t : ℕ) (b : List ℕ) (q : GuestPage) → same_page page q ≡ false → names q (waiting_page t b new) ≡ names q (waiting_page t b w)
     stopped_others t b q other =

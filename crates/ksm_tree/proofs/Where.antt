@@ -1,5 +1,6 @@
 -- The places at which a test is passed: what a change at one place does to them.
 use Rattle.ksm_tree.proofs.Names.{[], add-one, All, All-cons, All-weaker, arith, Bool, false, filter_all, filter_none, get_or, if◌then◌else◌, length, List, nat_lt, nat_tests, not, places_where, refl, set, suc, take, true, with_place, without, zero, ℕ, ◌+◌, ◌<◌, ◌==◌, ◌∷◌, ◌≡◌, ◌≤◌}
+use Rattle.std.proofs.lemmas.List.{length-take}
 
 module _ {X : Type 0} (test : X → Bool) where
   where_above : (k : ℕ) (xs : List X) → All (λ p. k ≤ p) (places_where test k xs)
@@ -27,18 +28,12 @@ module _ {X : Type 0} (test : X → Bool) where
       let rest = places_where test (suc k) xs in
       let none = filter_none (λ q. nat_lt q p) rest (where_not_below (suc k) p xs (omega arith)) in
       let each = filter_all (λ q. nat_lt p q) rest (where_behind (suc k) p xs (omega arith)) in
-      elim (test y) as (λ b. (if test x then k ∷ rest else rest) ≡ with_place p (if b then k ∷ rest else rest)) [
-        | true ↦ grind (arith, nat_tests, none, each, passes)
-        | false ↦ grind (arith, nat_tests, none, each, passes)
-      ]
+      grind (arith, nat_tests, none, each, passes)
   where_with k p (suc i) (y ∷ xs) x is within passes =
       let rest = places_where test (suc k) xs in
       let new = places_where test (suc k) (set xs i x) in
       let so_far = where_with (suc k) p i xs x (omega arith) (omega arith) passes in
-      elim (test y) as (λ b. (if b then k ∷ new else new) ≡ with_place p (if b then k ∷ rest else rest)) [
-        | true ↦ grind (arith, nat_tests, so_far)
-        | false ↦ so_far
-      ]
+      grind (arith, nat_tests, so_far)
 
   -- the places of elements that pass have one less where an element comes to fail
   pub where_without : (k p i : ℕ) (xs : List X) (x : X) → p ≡ k + i → i < length xs → test x ≡ false → places_where test k (set xs i x) ≡ without p (places_where test k xs)
@@ -46,18 +41,12 @@ module _ {X : Type 0} (test : X → Bool) where
   where_without k p zero (y ∷ xs) x is within fails =
       let rest = places_where test (suc k) xs in
       let each = filter_all (λ q. not (q == p)) rest (where_apart (suc k) p xs (omega arith)) in
-      elim (test y) as (λ b. (if test x then k ∷ rest else rest) ≡ without p (if b then k ∷ rest else rest)) [
-        | true ↦ grind (arith, nat_tests, each, fails)
-        | false ↦ grind (arith, nat_tests, each, fails)
-      ]
+      grind (arith, nat_tests, each, fails)
   where_without k p (suc i) (y ∷ xs) x is within fails =
       let rest = places_where test (suc k) xs in
       let new = places_where test (suc k) (set xs i x) in
       let so_far = where_without (suc k) p i xs x (omega arith) (omega arith) fails in
-      elim (test y) as (λ b. (if b then k ∷ new else new) ≡ without p (if b then k ∷ rest else rest)) [
-        | true ↦ grind (arith, nat_tests, so_far)
-        | false ↦ so_far
-      ]
+      grind (arith, nat_tests, so_far)
 
   -- the places of elements that pass stay where an element passes as it did
   pub where_same : (d : X) (k i : ℕ) (xs : List X) (x : X) → test x ≡ test (get_or xs i d) → places_where test k (set xs i x) ≡ places_where test k xs
@@ -83,10 +72,7 @@ module _ {X : Type 0} (test : X → Bool) where
       let rest = places_where test (suc k) (take i xs) in
       let new = places_where test (suc k) (take (suc i) xs) in
       let so_far = where_more d (suc k) p i xs (omega arith) (omega arith) passes in
-      elim (test y) as (λ b. (if b then k ∷ new else new) ≡ with_place p (if b then k ∷ rest else rest)) [
-        | true ↦ grind (arith, nat_tests, so_far)
-        | false ↦ so_far
-      ]
+      grind (arith, nat_tests, so_far)
 
   where_no_more : (d : X) (k i : ℕ) (xs : List X) → i < length xs → test (get_or xs i d) ≡ false → places_where test k (take (suc i) xs) ≡ places_where test k (take i xs)
   where_no_more d k i [] within fails = absurd (omega arith)
@@ -101,15 +87,9 @@ module _ {X : Type 0} (test : X → Bool) where
   pub where_not_next : (d : X) (k i : ℕ) (xs : List X) → i < length xs → test (get_or xs i d) ≡ false → places_where test k (take (i + 1) xs) ≡ places_where test k (take i xs)
   where_not_next d k i xs within fails = rw (add-one i) (where_no_more d k i xs within fails)
 
-  take_short : (n : ℕ) (xs : List X) → length (take n xs) ≤ n
-  take_short zero [] = grind arith
-  take_short zero (x ∷ xs) = grind arith
-  take_short (suc n) [] = grind arith
-  take_short (suc n) (x ∷ xs) = let rest = take_short n xs in grind (arith, rest)
-
   -- the places of the first i elements are fewer than the elements of the whole list
   pub where_first_room : (k i : ℕ) (xs : List X) → i < length xs → length (places_where test k (take i xs)) + 1 ≤ length xs
   where_first_room k i xs within =
       let places = where_short k (take i xs) in
-      let short = take_short i xs in
+      let short = length-take i xs in
       omega (arith, places, short, within)

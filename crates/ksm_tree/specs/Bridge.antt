@@ -5,7 +5,7 @@ use Rattle.ksm_base.specs.declared.row.PageState.{PageState}
 use Rattle.ksm_base.specs.declared.row.PageState.TheVariants.{Private, Waiting, Merged, Zero}
 use Rattle.ksm_base.specs.declared.row.Row.{Row}
 use Rattle.ksm_base.specs.Reading.{items_of}
-use Rattle.ksm_base.specs.Rows.{item_count}
+use Rattle.ksm_base.specs.Rows.{change_row, item_count}
 use Rattle.ksm_tree.specs.declared.choice.Choice.{Choice}
 use Rattle.ksm_tree.specs.declared.choice.Choice.TheVariants.{Empty, Stale}
 use Rattle.ksm_rmap.specs.Items.{without_item}
@@ -31,3 +31,7 @@ let_out Private page dups = dups
 let_out Waiting page dups = dups
 let_out Zero page dups = dups
 let_out (Merged number) page dups = change_items number (without_item page) dups
+
+-- the rows once one of them is merged into the dup with a number
+abbrev pub with_merged : ℕ → Row → List Row → List Row
+with_merged number row rows = change_row row.page (λ _. record row { state = Merged number }) rows

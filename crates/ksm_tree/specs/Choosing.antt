@@ -1,5 +1,7 @@
--- Which dup a page joins, and where a new dup goes: the book's own words, with the items of a dup in place of the rows merged into it.
-use Rattle.std.specs.Prelude.{◌≡◌, ℕ, Bool, true, false, not, ◌&&◌, ◌||◌, ◌==◌, nat_lt, nat_le, List, length, find, Option, Some, None, bytes_eq, if◌then◌else◌}
+-- Which dup a page joins, and where a new dup goes:
+-- the book's own words, with the items of a dup in place of the rows merged into it.
+use Rattle.std.specs.Prelude.{◌≡◌, ℕ, Bool, true, false, not, ◌&&◌, ◌||◌, ◌==◌, nat_lt, nat_le}
+use Rattle.std.specs.Prelude.{List, length, find, Option, Some, None, bytes_eq, if◌then◌else◌}
 use Rattle.std.specs.List.{list_all}
 use Rattle.ksm_base.specs.declared.row.DupRow.{DupRow}
 use Rattle.ksm_base.specs.Visit.{empty_from}
@@ -66,7 +68,8 @@ abbrev pub of_group : ℕ → List ℕ → Option Dup → Option Dup
 of_group tree bytes None = None
 of_group tree bytes (Some d) = if in_group tree bytes d.row then Some d else None
 
--- the places of a group, or those of all dups with an item and fewer than the limit: the best is at one of them, if there is one
+-- the places of a group, or those of all dups with an item and fewer than the limit:
+-- the best is at one of them, if there is one
 abbrev pub ArePlacesToJoin : List ℕ → ℕ → List Dup → List ℕ → Bool → Type 0
 ArePlacesToJoin chain limit dups places true = places ≡ chain
 ArePlacesToJoin chain limit dups places false = places ≡ places_open limit dups

@@ -1,14 +1,16 @@
 -- Dups with their items, in the order of their places (mm/ksm: stable nodes, chains).
-use Rattle.std.specs.Prelude.{ℕ, ◌<◌, Bool, not, ◌==◌, nat_lt, List, [], ◌∷◌, ◌++◌, length, map, filter, find, Option, Some, None, All, if◌then◌else◌}
+use Rattle.std.specs.Prelude.{◌≡◌, ℕ, ◌+◌, ◌^◌, ◌<◌, Bool, false, not, ◌&&◌, ◌==◌, nat_lt, List, [], ◌∷◌}
+use Rattle.std.specs.Prelude.{◌++◌, length, map, filter, find, Option, Some, None, All, if◌then◌else◌}
 use Rattle.ksm_base.specs.declared.page.GuestPage.{GuestPage}
 use Rattle.ksm_base.specs.declared.row.DupRow.{DupRow}
-use Rattle.ksm_base.specs.Rows.{InPlaceOrder}
+use Rattle.ksm_base.specs.Rows.{InPlaceOrder, same_page}
 use Rattle.ksm_tree.specs.declared.dup.Dup.{Dup}
 use Rattle.ksm_tree.specs.Counts.{is_open}
 use Rattle.ksm_tree.specs.Numbered.{Numbers}
 use Rattle.ksm_tree.specs.Waits.{WaitingPage}
 
--- how many places there are, the dups in the order of their places, the number of the dup that is made next, the pages that wait, and the contents that have a number
+-- how many places there are, the dups in the order of their places, the number of the dup that is made next,
+-- the pages that wait, and the contents that have a number
 pub record DupsState : Type 0 where
   pub places : ℕ
   pub dups : List Dup
@@ -54,7 +56,8 @@ items_of number dups = items_in (dup_of number dups)
 
 -- the dups with a new one at its place, in the stead of one that stood there
 abbrev pub with_new : Dup → List Dup → List Dup
-with_new dup dups = filter (λ d. nat_lt d.row.place dup.row.place) dups ++ dup ∷ filter (λ d. nat_lt dup.row.place d.row.place) dups
+with_new dup dups =
+    filter (λ d. nat_lt d.row.place dup.row.place) dups ++ dup ∷ filter (λ d. nat_lt dup.row.place d.row.place) dups
 
 -- the dups without the one at a place
 abbrev pub without_place : ℕ → List Dup → List Dup
@@ -64,8 +67,17 @@ without_place place dups = filter (λ d. not (stands_at place d)) dups
 abbrev pub change_items : ℕ → (List GuestPage → List GuestPage) → List Dup → List Dup
 change_items number change dups = map (λ d. if has_number number d then record d { items = change d.items } else d) dups
 
--- the dups stand in the order of their places, below how many there are; their numbers differ and are not still to be given
+-- the dups stand in the order of their places, below how many there are;
+-- their numbers differ and are not still to be given
 pub record AreDups (s : DupsState) : Type 0 where
   pub in_place_order : InPlaceOrder (rows_of s.dups)
   pub places_below : All (λ r. r.place < s.places) (rows_of s.dups)
   pub numbers_below : All (λ r. r.number < s.next) (rows_of s.dups)
+
+-- two pages may become a new dup at a place:
+-- no dup with items stands there, the pages differ, and there is a number for it (own)
+pub record MayBecomeDup (s : DupsState) (place : ℕ) (first second : GuestPage) : Type 0 where
+  pub below : place < s.places
+  pub free : find (λ d. stands_at place d && is_live d) s.dups ≡ None
+  pub apart : same_page first second ≡ false
+  pub number : s.next + 1 < 2 ^ 64

@@ -18,7 +18,8 @@ places_in (Some g) = g.places.list.items
 -- the page that waits in a group: it began to wait in the pass that goes on
 abbrev pub waits_in : ℕ → Option Group → Option WaitingPage
 waits_in pass None = None
-waits_in pass (Some g) = if g.pass == pass then Some (record { tree = g.content.tree; bytes = g.content.bytes; page = g.page }) else None
+waits_in pass (Some g) =
+    if g.pass == pass then Some (record { tree = g.content.tree; bytes = g.content.bytes; page = g.page }) else None
 
 -- nothing stands in a group, or there is none
 abbrev pub IsIdle : ℕ → Option Group → Type 0

@@ -1,9 +1,12 @@
--- The groups: the dups of one tree and one content (mm/ksm: a chain links the copies of one content), and the page that waits there.
-use Rattle.std.specs.Prelude.{◌≡◌, ℕ, ◌&&◌, ◌==◌, List, [], Option, Some, None, bytes_eq, filter_map, if◌then◌else◌}
+-- The groups: the dups of one tree and one content (mm/ksm: a chain links the copies of one content),
+-- and the page that waits there.
+use Rattle.std.specs.Prelude.{◌≡◌, ℕ, ◌&&◌, ◌==◌, List, [], Option, Some, None}
+use Rattle.std.specs.Prelude.{bytes_eq, filter_map, length, if◌then◌else◌}
 use Rattle.slab.specs.Slab.{get}
 use Rattle.ksm_tree.specs.declared.groups.Groups.{Groups}
 use Rattle.ksm_tree.specs.Grouping.{places_in, waits_in}
 use Rattle.ksm_tree.specs.Numbered.{number_of}
+use Rattle.ksm_tree.specs.Totals.{IsRegrouped, Tells}
 use Rattle.ksm_tree.specs.Waits.{WaitingPage}
 
 -- what stands under a number, where there is one
@@ -13,7 +16,8 @@ under none at (Some number) = at number
 
 -- the places of the group of a tree and bytes
 abbrev pub chain_in : ℕ → List ℕ → Groups → List ℕ
-chain_in tree bytes groups = under [] (λ number. places_in (get groups.groups number)) (number_of tree bytes groups.numbers.entries)
+chain_in tree bytes groups =
+    under [] (λ number. places_in (get groups.groups number)) (number_of tree bytes groups.numbers.entries)
 
 -- the pages that wait
 abbrev pub waiting_in : Groups → List WaitingPage
@@ -31,4 +35,14 @@ pub record SameWaits (old new : Groups) : Type 0 where
 
 -- the chains are as they were, but for a change of that of a tree and bytes
 abbrev pub IsMoved : ℕ → List ℕ → (List ℕ → List ℕ) → Groups → Groups → Type 0
-IsMoved tree bytes change old new = (t : ℕ) (b : List ℕ) → chain_in t b new ≡ (if t == tree && bytes_eq b bytes then change (chain_in t b old) else chain_in t b old)
+IsMoved tree bytes change old new = (t : ℕ) (b : List ℕ)
+    → chain_in t b new ≡ (if t == tree && bytes_eq b bytes then change (chain_in t b old) else chain_in t b old)
+
+-- the totals count the chain of a tree and bytes
+abbrev pub IsCounted : ℕ → List ℕ → Groups → Type 0
+IsCounted tree bytes groups = Tells (length (chain_in tree bytes groups)) groups.totals
+
+-- the totals count the chain of a tree and bytes with as many dups as it has then
+abbrev pub IsCountedAnew : ℕ → List ℕ → Groups → Groups → Type 0
+IsCountedAnew tree bytes old new =
+    IsRegrouped (length (chain_in tree bytes old)) (length (chain_in tree bytes new)) old.totals new.totals

@@ -1,10 +1,12 @@
 -- Where a dup of a number, and the dups of a tree and bytes, are found. (own)
-use Rattle.std.specs.Prelude.{◌≡◌, ℕ, ◌≤◌, Bool, ◌&&◌, ◌==◌, List, map, filter, find, option_map, Option, bytes_eq, nat_eq}
+use Rattle.std.specs.Prelude.{◌≡◌, ℕ, ◌≤◌, Bool, ◌&&◌, ◌==◌, List, map, filter, find}
+use Rattle.std.specs.Prelude.{option_map, Option, Some, bytes_eq, nat_eq, if◌then◌else◌}
 use Rattle.std.specs.HashMap.{get}
 use Rattle.ksm_base.specs.declared.row.DupRow.{DupRow}
 use Rattle.ksm_tree.specs.declared.index.Index.{Index}
 use Rattle.ksm_tree.specs.Dups.{DupsState, AreDups, rows_of}
-use Rattle.ksm_tree.specs.Groups.{chain_in, waiting_in}
+use Rattle.ksm_tree.specs.Groups.{chain_in, IsCountedAnew, IsMoved, SameChains, waiting_in}
+use Rattle.ksm_tree.specs.Places.{with_place}
 use Rattle.ksm_tree.specs.Slots.{SlotsState}
 use Rattle.ksm_tree.specs.Totals.{AreTotals}
 
@@ -27,7 +29,13 @@ abbrev pub group_places : ℕ → List ℕ → List DupRow → List ℕ
 group_places tree bytes rows = map (λ r. r.place) (filter (in_group tree bytes) rows)
 
 abbrev pub dups_seen : SlotsState → ℕ → Index → DupsState
-dups_seen s next index = record { places = s.places; dups = s.dups; next = next; waiting = waiting_in index.groups; numbers = index.groups.numbers.entries }
+dups_seen s next index = record {
+  places = s.places;
+  dups = s.dups;
+  next = next;
+  waiting = waiting_in index.groups;
+  numbers = index.groups.numbers.entries;
+}
 
 -- the dups are lawful, and the index finds and counts just them
 pub record AreIndexed (s : SlotsState) (next : ℕ) (index : Index) : Type 0 where
@@ -36,3 +44,15 @@ pub record AreIndexed (s : SlotsState) (next : ℕ) (index : Index) : Type 0 whe
   pub numbered : (number : ℕ) → place_of number index ≡ row_place number (rows_of s.dups)
   pub counted : AreTotals (rows_of s.dups) index.groups.totals
   pub grouped : (tree : ℕ) (bytes : List ℕ) → places_of tree bytes index ≡ group_places tree bytes (rows_of s.dups)
+
+-- a row is entered: its number leads to its place, which its group has then, and the totals count it
+pub record IsEntered (row : DupRow) (old new : Index) : Type 0 where
+  pub numbers : (number : ℕ)
+      → place_of number new ≡ (if number == row.number then Some row.place else place_of number old)
+  pub groups : IsMoved row.tree row.bytes (with_place row.place) old.groups new.groups
+  pub totals : IsCountedAnew row.tree row.bytes old.groups new.groups
+
+-- each number leads where it did, and the chains are as they were
+pub record LeadTheSame (old new : Index) : Type 0 where
+  pub numbers : (number : ℕ) → place_of number new ≡ place_of number old
+  pub groups : SameChains old.groups new.groups

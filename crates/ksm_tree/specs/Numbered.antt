@@ -1,5 +1,5 @@
 -- Contents, each with a number: a tree with the bytes of a page. (own)
-use Rattle.std.specs.Prelude.{◌≡◌, ◌↔◌, ℕ, List, Option, Some}
+use Rattle.std.specs.Prelude.{◌≡◌, ◌≢◌, ◌↔◌, ℕ, List, Option, Some}
 use Rattle.std.specs.declared.cmp.Ordering.{Ordering}
 use Rattle.std.specs.BTreeMap.{is_at}
 use Rattle.std.specs.Map.{lookup}
@@ -22,4 +22,9 @@ number_of tree bytes numbers = lookup (is_at (content_order (content_of tree byt
 
 -- a content has a number exactly where it stands under it
 abbrev pub AreNumbered : Numbers → (ℕ → Option Content) → Type 0
-AreNumbered numbers stands = (content : Content) (number : ℕ) → (number_of content.tree content.bytes numbers ≡ Some number) ↔ (stands number ≡ Some content)
+AreNumbered numbers stands = (content : Content) (number : ℕ)
+    → (number_of content.tree content.bytes numbers ≡ Some number) ↔ (stands number ≡ Some content)
+
+-- no content has the number
+abbrev pub IsUnused : ℕ → Numbers → Type 0
+IsUnused number numbers = (tree : ℕ) (bytes : List ℕ) → number_of tree bytes numbers ≢ Some number

@@ -1,5 +1,6 @@
 -- The dups by place: a slot for each place, and the places whose slots pass a test. (own)
-use Rattle.std.specs.Prelude.{◌≡◌, ℕ, suc, ◌≤◌, Bool, true, false, List, [], ◌∷◌, length, map, reverse, Option, Some, None, if◌then◌else◌}
+use Rattle.std.specs.Prelude.{◌≡◌, ℕ, suc, ◌≤◌, Bool, true, false, List, [], ◌∷◌}
+use Rattle.std.specs.Prelude.{length, map, reverse, Option, Some, None, if◌then◌else◌}
 use Rattle.smallvec.specs.SmallVec.{SmallVec}
 use Rattle.ksm_base.specs.declared.page.GuestPage.{GuestPage}
 use Rattle.ksm_tree.specs.declared.dup.Dup.{Dup}
@@ -42,7 +43,8 @@ ArePlaced k (Some d ∷ slots) = (d.row.place ≡ k) × ArePlaced (suc k) slots
 abbrev pub change_at : ℕ → (List GuestPage → List GuestPage) → List Dup → List Dup
 change_at place change dups = map (λ d. if stands_at place d then record d { items = change d.items } else d) dups
 
--- each count is of the items at its place; the places of the empty slots, each by its distance from the highest one, and those of the stale dups are known, and have room for all
+-- each count is of the items at its place; the places of the empty slots, each by its distance from the highest one,
+-- and those of the stale dups are known, and have room for all
 pub record AreSlots (slots : List (Option Dup)) (counts : List ℕ) (empty stale : SmallVec ℕ) : Type 0 where
   pub few : length slots ≤ 1024
   pub placed : ArePlaced 0 slots

@@ -3,21 +3,25 @@
 //! `Slots` has the dups by place, `Index` leads to the places. Each call changes both, and the invariant says that they
 //! agree: callers see one list, of the dups in the order of their places.
 //!
-//! A caller may remember the number of the group of a page, and the place of a dup. Both are guesses, compared before they
-//! are believed, so no call promises less where they are wrong.
+//! A caller may remember the number of the group of a page, and the place of a dup. Both are guesses, compared before
+//! they are believed, so no call promises less where they are wrong.
 //!
 //! A page that looks for a dup to join walks along its chain, which mostly has one dup. Of a long chain most dups are
 //! full. So while there is a long one, the open places of all contents are kept, and such a page walks along these if
 //! they are fewer.
-ghost use Rattle.std.specs.Prelude.{◌≡◌, ℕ, List, ◌+◌, ◌^◌, ◌<◌, ◌≤◌, [], ◌∷◌, ◌&&◌, not, true, false, None, Some, count_by, filter, find, length, is_some, option_copied, option_map, slice_get, if◌then◌else◌, IfErr, IfOk, IsTrue, OnErr, OnOk};
+ghost use Rattle.std.specs.Prelude.{◌≡◌, ℕ, List, ◌+◌, ◌^◌, ◌<◌, ◌≤◌, [], ◌∷◌, ◌&&◌, not, true, false};
+ghost use Rattle.std.specs.Prelude.{None, Some, count_by, filter, find, length, is_some, option_copied};
+ghost use Rattle.std.specs.Prelude.{option_map, slice_get, if◌then◌else◌, IfErr, IfOk, IsTrue, OnErr, OnOk};
 ghost use Rattle.std.specs.Option.{unwrap_or};
 ghost use Rattle.ksm_base.specs.Counting.{in_chain, leads_group};
 ghost use Rattle.ksm_base.specs.Rows.{same_page};
 ghost use Rattle.ksm_rmap.specs.Items.{has_item, with_item, without_item};
-ghost use Rattle.ksm_tree.specs.Choosing.{ArePlacesToJoin, best_of, found_at, of_group, choice_of, is_behind, unless_behind};
-ghost use Rattle.ksm_tree.specs.Dups.{AreDups, change_items, dup_at, dup_of, is_live, is_stale, items_in, items_of, rows_of, stands_at, with_new, without_place};
+ghost use Rattle.ksm_tree.specs.Choosing.{ArePlacesToJoin, best_of, found_at, of_group};
+ghost use Rattle.ksm_tree.specs.Choosing.{choice_of, is_behind, unless_behind};
+ghost use Rattle.ksm_tree.specs.Dups.{AreDups, MayBecomeDup, change_items, dup_at, dup_of, is_live, is_stale};
+ghost use Rattle.ksm_tree.specs.Dups.{items_in, items_of, rows_of, stands_at, with_new, without_place};
 ghost use Rattle.ksm_tree.specs.Index.{group_places};
-ghost use Rattle.ksm_tree.specs.Numbered.{number_of};
+ghost use Rattle.ksm_tree.specs.Numbered.{IsUnused, number_of};
 ghost use Rattle.ksm_tree.specs.Waits.{IsAdded, IsRemoved, waiting_page};
 
 use crate::choice::Choice;
@@ -72,7 +76,13 @@ impl Dups {
     pub fn open(alloc: Global, places: u32) -> Result<Dups, Fault>
         requires least { 1 ≤ places }
         requires most { places ≤ 1024 }
-        ensures opened { IfOk result (λ dups. dups ≡ record { places = places; dups = []; next = 0; waiting = []; numbers = [] }) }
+        ensures opened { IfOk result (λ dups. dups ≡ record {
+          places = places;
+          dups = [];
+          next = 0;
+          waiting = [];
+          numbers = [];
+        }) }
         ensures memory { IfErr result (λ fault. fault ≡ Fault.Memory) }
     {
         Ok(Dups {
@@ -96,8 +106,8 @@ impl Dups {
         Some(best.number)
     }
 
-    /// The number of the group of a tree and bytes, which it gets if it has none: then groups in which nothing stands may
-    /// lose theirs. The guess is tried first. The one fault is `Memory`, and then it gets none.
+    /// The number of the group of a tree and bytes, which it gets if it has none: then groups in which nothing stands
+    /// may lose theirs. The guess is tried first. The one fault is `Memory`, and then it gets none.
     #[inline(always)]
     pub fn group(&mut self, guess: u32, tree: u32, bytes: &PageBytes) -> Result<u32, Fault>
         ensures numbered { IfOk result (λ number. number_of tree bytes.now self.new.numbers ≡ Some number) }
@@ -170,7 +180,8 @@ impl Dups {
             && self.best_of(group, limit).is_none()
     }
 
-    /// The page that waits in the group with a number from now on: the one that did, or else this one.
+    /// The page that waits in the group with a number from now on: the one that did, or else this one. Where no group
+    /// has the number, nothing changes.
     #[inline(always)]
     pub fn meet(&mut self, group: u32, page: GuestPage) -> GuestPage
         ensures met { (tree : ℕ) (bytes : List ℕ) → number_of tree bytes self.old.numbers ≡ Some group
@@ -179,13 +190,15 @@ impl Dups {
             → IsAdded tree bytes result self.old.waiting self.new.waiting }
         ensures again { (tree : ℕ) (bytes : List ℕ) → number_of tree bytes self.old.numbers ≡ Some group
             → is_some (waiting_page tree bytes self.old.waiting) ≡ true → self.new ≡ self.old }
+        ensures alone { IsUnused group self.old.numbers → result ≡ page }
+        ensures none { IsUnused group self.old.numbers → self.new ≡ self.old }
         ensures kept { self.new ≡ record self.old { waiting = self.new.waiting } }
     {
         self.index.groups.meet(group, page)
     }
 
-    /// The page that waits in a tree with these bytes waits no more, if there is one. The guess of the group's number is
-    /// tried first.
+    /// The page that waits in a tree with these bytes waits no more, if there is one. The guess of the group's number
+    /// is tried first.
     #[inline(always)]
     pub fn stop_waiting(&mut self, guess: u32, tree: u32, bytes: &PageBytes)
         ensures removed { IsRemoved tree bytes.now self.old.waiting self.new.waiting }
@@ -231,13 +244,15 @@ impl Dups {
         requires number { self.old.next + 1 < 2 ^ 64 }
         ensures number { IfOk result (λ number. number ≡ self.old.next) }
         ensures made { OnOk result (self.new ≡ record self.old {
-          dups = with_new (record { row = record { number = self.old.next; place = place; tree = tree; bytes = bytes.now }; items = with_item second (first ∷ []) }) self.old.dups;
+          dups = with_new (record {
+            row = record { number = self.old.next; place = place; tree = tree; bytes = bytes.now };
+            items = with_item second (first ∷ []);
+          }) self.old.dups;
           next = self.old.next + 1;
           numbers = self.new.numbers;
         }) }
         ensures kept { OnErr result (self.new ≡ record self.old { numbers = self.new.numbers }) }
         ensures memory { IfErr result (λ fault. fault ≡ Fault.Memory) }
-        ensures lawful { AreDups self.old }
     {
         let group = self.group(NO_NUMBER, tree, bytes)?;
         self.found(group, place, tree, bytes, first, second)
@@ -254,13 +269,13 @@ impl Dups {
         second: GuestPage,
     ) -> Result<u64, Fault>
         requires known { is_some (number_of tree bytes.now self.old.numbers) ≡ true }
-        requires place { place < self.old.places }
-        requires free { find (λ d. stands_at place d && is_live d) self.old.dups ≡ None }
-        requires apart { same_page first second ≡ false }
-        requires number { self.old.next + 1 < 2 ^ 64 }
+        requires may { MayBecomeDup self.old place first second }
         ensures number { IfOk result (λ number. number ≡ self.old.next) }
         ensures made { OnOk result (self.new ≡ record self.old {
-          dups = with_new (record { row = record { number = self.old.next; place = place; tree = tree; bytes = bytes.now }; items = with_item second (first ∷ []) }) self.old.dups;
+          dups = with_new (record {
+            row = record { number = self.old.next; place = place; tree = tree; bytes = bytes.now };
+            items = with_item second (first ∷ []);
+          }) self.old.dups;
           next = self.old.next + 1;
         }) }
         ensures kept { OnErr result (self.new ≡ self.old) }
@@ -299,7 +314,9 @@ impl Dups {
         requires fewer { length (items_of dup self.old.dups) < 1024 }
         requires absent { has_item page (items_of dup self.old.dups) ≡ false }
         ensures place { IfOk result (λ place. Some place ≡ option_map (λ d. d.row.place) (dup_of dup self.old.dups)) }
-        ensures joined { OnOk result (self.new ≡ record self.old { dups = change_items dup (with_item page) self.old.dups }) }
+        ensures joined { OnOk result (self.new ≡ record self.old {
+          dups = change_items dup (with_item page) self.old.dups;
+        }) }
         ensures kept { OnErr result (self.new ≡ self.old) }
         ensures memory { IfErr result (λ fault. fault ≡ Fault.Memory) }
     {
@@ -313,7 +330,9 @@ impl Dups {
         requires fewer { length (items_of dup self.old.dups) < 1024 }
         requires absent { has_item page (items_of dup self.old.dups) ≡ false }
         ensures place { IfOk result (λ place. Some place ≡ option_map (λ d. d.row.place) (dup_of dup self.old.dups)) }
-        ensures joined { OnOk result (self.new ≡ record self.old { dups = change_items dup (with_item page) self.old.dups }) }
+        ensures joined { OnOk result (self.new ≡ record self.old {
+          dups = change_items dup (with_item page) self.old.dups;
+        }) }
         ensures kept { OnErr result (self.new ≡ self.old) }
         ensures memory { IfErr result (λ fault. fault ≡ Fault.Memory) }
     {
@@ -463,7 +482,8 @@ impl Dups {
 
     /// How many groups have two dups or more.
     pub fn count_chains(&self) -> usize
-        ensures { result ≡ count_by (λ d. in_chain (rows_of self.now.dups) d && leads_group (rows_of self.now.dups) d) (rows_of self.now.dups) }
+        ensures { let rows = rows_of self.now.dups in
+            result ≡ count_by (λ d. in_chain rows d && leads_group rows d) rows }
     {
         self.index.groups.totals.chains
     }
@@ -525,7 +545,9 @@ impl Dups {
         tree: u32,
         bytes: &PageBytes,
     ) -> Option<&Dup>
-        ensures { option_copied result ≡ unless_behind (option_copied rival.entry) (if is_chain then dup_at place self.now.dups else of_group tree bytes.now (dup_at place self.now.dups)) }
+        ensures { let dup = dup_at place self.now.dups in
+            option_copied result
+            ≡ unless_behind (option_copied rival.entry) (if is_chain then dup else of_group tree bytes.now dup) }
     {
         let dup = self.slots.at(place)?;
         if stands_behind(dup, rival) {

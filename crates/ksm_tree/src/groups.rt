@@ -1,19 +1,19 @@
 //! The groups by number: each tree and bytes once, with the places of its dups and the page that waits there.
 //!
-//! A group is found by its number in one step, where the caller remembers it, or, by `numbered`, `Guesses` do; else by a
-//! search in the order of the contents, so nobody can pick contents that are dear to find. What is remembered is a guess:
-//! it is compared before it is believed.
+//! A group is found by its number in one step, where the caller remembers it, or, by `numbered`, `Guesses` do; else by
+//! a search in the order of the contents, so nobody can pick contents that are dear to find. What is remembered is a
+//! guess: it is compared before it is believed.
 //!
 //! A group keeps its number when nothing stands in it any more, until there are 4,096 groups more than there were after
 //! the last sweep: then all such groups go. A page waits as long as the pass goes on whose number stands beside it, so
 //! when a pass begins none waits. How many groups are chains is kept beside them, so the counters of chains are read.
-ghost use Rattle.std.specs.Prelude.{◌≡◌, ◌≢◌, ℕ, ◌<◌, List, [], Some, None, IfErr, IfOk, IsTrue, OnOk, OnErr, is_some, length, true, option_copied};
+ghost use Rattle.std.specs.Prelude.{◌≡◌, ◌≢◌, ℕ, ◌<◌, List, [], Some, None, IfErr, IfOk};
+ghost use Rattle.std.specs.Prelude.{IsTrue, OnOk, OnErr, is_some, length, true, option_copied};
 ghost use Rattle.std.specs.Option.{ForSome, unwrap_or};
 ghost use Rattle.slab.specs.Slab.{get};
 ghost use Rattle.ksm_tree.specs.Grouping.{AreGroups, IsIdle};
-ghost use Rattle.ksm_tree.specs.Numbered.{number_of};
+ghost use Rattle.ksm_tree.specs.Numbered.{IsUnused, number_of};
 ghost use Rattle.ksm_tree.specs.Places.{with_place, without};
-ghost use Rattle.ksm_tree.specs.Totals.{IsRegrouped, Tells};
 ghost use Rattle.ksm_tree.specs.Waits.{IsAdded, IsRemoved, waiting_page};
 
 use crate::content::{Content, SLOTS, slot_of};
@@ -31,8 +31,8 @@ pub const NO_NUMBER: u32 = u32::MAX;
 // So many groups may come until those in which nothing stands are dropped.
 const SPARE: usize = 4_096;
 
-/// A group: the places of its dups, in ascending order, and the page that waited there last, with the number of the pass
-/// in which it did. Where the page waits no more that number is 0.
+/// A group: the places of its dups, in ascending order, and the page that waited there last, with the number of the
+/// pass in which it did. Where the page waits no more that number is 0.
 #[derive(Drop)]
 pub struct Group {
     pub content: Content,
@@ -55,7 +55,8 @@ pub struct Groups {
 }
 
 impl Groups {
-    ghost use Rattle.ksm_tree.specs.Groups.{SameChains, SameWaits, IsMoved, chain_in, waiting_in};
+    ghost use Rattle.ksm_tree.specs.Groups.{IsCounted, IsCountedAnew, IsMoved};
+    ghost use Rattle.ksm_tree.specs.Groups.{SameChains, SameWaits, chain_in, waiting_in};
 
     /// No groups.
     pub fn new(alloc: Global) -> Groups
@@ -233,9 +234,9 @@ impl Groups {
     /// `Memory`, and then nothing changes.
     pub fn add(&mut self, guess: u32, tree: u32, bytes: &PageBytes, place: u32) -> Result<(), Fault>
         requires known { is_some (number_of tree bytes.now self.old.numbers.entries) ≡ true }
-        requires told { Tells (length (chain_in tree bytes.now self.old)) self.old.totals }
+        requires counted { IsCounted tree bytes.now self.old }
         ensures added { OnOk result (IsMoved tree bytes.now (with_place place) self.old self.new) }
-        ensures totals { OnOk result (IsRegrouped (length (chain_in tree bytes.now self.old)) (length (chain_in tree bytes.now self.new)) self.old.totals self.new.totals) }
+        ensures totals { OnOk result (IsCountedAnew tree bytes.now self.old self.new) }
         ensures waits { SameWaits self.old self.new }
         ensures kept { OnErr result (SameChains self.old self.new) }
         ensures memory { IfErr result (λ fault. fault ≡ Fault.Memory) }
@@ -255,9 +256,9 @@ impl Groups {
 
     /// A place leaves the group of a tree and bytes. The guess is tried first.
     pub fn remove(&mut self, guess: u32, tree: u32, bytes: &PageBytes, place: u32)
-        requires { Tells (length (chain_in tree bytes.now self.old)) self.old.totals }
+        requires { IsCounted tree bytes.now self.old }
         ensures removed { IsMoved tree bytes.now (without place) self.old self.new }
-        ensures totals { IsRegrouped (length (chain_in tree bytes.now self.old)) (length (chain_in tree bytes.now self.new)) self.old.totals self.new.totals }
+        ensures totals { IsCountedAnew tree bytes.now self.old self.new }
         ensures waits { SameWaits self.old self.new }
     {
         let Some(number) = self.number(guess, tree, bytes) else {
@@ -289,6 +290,8 @@ impl Groups {
             → IsAdded t b result (waiting_in self.old) (waiting_in self.new) }
         ensures kept { (t : ℕ) (b : List ℕ) → number_of t b self.old.numbers.entries ≡ Some number
             → is_some (waiting_page t b (waiting_in self.old)) ≡ true → waiting_in self.new ≡ waiting_in self.old }
+        ensures alone { IsUnused number self.old.numbers.entries → result ≡ page }
+        ensures none { IsUnused number self.old.numbers.entries → waiting_in self.new ≡ waiting_in self.old }
         ensures chains { SameChains self.old self.new }
         ensures numbers { self.new.numbers.entries ≡ self.old.numbers.entries }
     {

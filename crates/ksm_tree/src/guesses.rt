@@ -1,8 +1,8 @@
-//! Numbers as guesses, each in a slot that is told by what it belongs to: the keys of pages' rows, as they came last, and
-//! the numbers of groups, as they were searched for last.
+//! Numbers as guesses, each in a slot that is told by what it belongs to: the keys of pages' rows, as they came last,
+//! and the numbers of groups, as they were searched for last.
 //!
-//! Many things have one slot, and a number may go to another thing: whoever takes one compares before it is believed. So
-//! whoever picks things of one slot gains that each is searched for, as it would be without this table.
+//! Many things have one slot, and a number may go to another thing: whoever takes one compares before it is believed.
+//! So whoever picks things of one slot gains that each is searched for, as it would be without this table.
 ghost use Rattle.std.specs.Prelude.{◌≡◌, []};
 ghost use Rattle.ksm_tree.specs.Guesses.{IsBegun, IsPut, guess_at};
 

@@ -1,9 +1,9 @@
 //! The index that finds dups by number and by content. It keeps places and no dups, so each dup lies in one slot only.
-ghost use Rattle.std.specs.Prelude.{◌≡◌, ℕ, List, [], ◌&&◌, ◌==◌, not, None, Some, IfErr, OnErr, OnOk, bytes_eq, is_some, length, true, if◌then◌else◌};
-ghost use Rattle.ksm_tree.specs.Groups.{SameWaits, waiting_in};
+ghost use Rattle.std.specs.Prelude.{◌≡◌, ℕ, List, [], ◌&&◌, ◌==◌, not, None, IfErr};
+ghost use Rattle.std.specs.Prelude.{OnErr, OnOk, bytes_eq, is_some, true, if◌then◌else◌};
+ghost use Rattle.ksm_tree.specs.Groups.{IsCounted, IsCountedAnew, IsMoved, SameWaits, waiting_in};
 ghost use Rattle.ksm_tree.specs.Numbered.{number_of};
-ghost use Rattle.ksm_tree.specs.Places.{with_place, without};
-ghost use Rattle.ksm_tree.specs.Totals.{IsRegrouped, Tells};
+ghost use Rattle.ksm_tree.specs.Places.{without};
 
 use crate::groups::Groups;
 use ksm_base::{DupRow, Fault};
@@ -18,7 +18,7 @@ pub struct Index {
 }
 
 impl Index {
-    ghost use Rattle.ksm_tree.specs.Index.{place_of, places_of};
+    ghost use Rattle.ksm_tree.specs.Index.{IsEntered, LeadTheSame, place_of, places_of};
 
     /// An index of no dups.
     pub fn new(alloc: Global) -> Index
@@ -41,21 +41,15 @@ impl Index {
         self.numbers.get(&number).copied()
     }
 
-    /// Enters a row whose number is new, and whose group has a number. The guess of that is tried first. The one fault is
-    /// `Memory`, and then nothing changes.
+    /// Enters a row whose number is new, and whose group has a number. The guess of that is tried first. The one fault
+    /// is `Memory`, and then nothing changes.
     pub fn add(&mut self, group: u32, row: &DupRow) -> Result<(), Fault>
         requires fresh { place_of row.now.number self.old ≡ None }
         requires known { is_some (number_of row.now.tree row.now.bytes self.old.groups.numbers.entries) ≡ true }
-        requires told { Tells (length (places_of row.now.tree row.now.bytes self.old)) self.old.groups.totals }
-        ensures numbers { OnOk result ((q : ℕ) → place_of q self.new ≡ (if q == row.now.number then Some row.now.place else place_of q self.old)) }
-        ensures groups { OnOk result ((t : ℕ) (b : List ℕ) → places_of t b self.new
-            ≡ (if t == row.now.tree && bytes_eq b row.now.bytes then with_place row.now.place (places_of t b self.old) else places_of t b self.old)) }
-        ensures totals { OnOk result (IsRegrouped (length (places_of row.now.tree row.now.bytes self.old)) (length (places_of row.now.tree row.now.bytes self.new))
-            self.old.groups.totals self.new.groups.totals) }
+        requires counted { IsCounted row.now.tree row.now.bytes self.old.groups }
+        ensures entered { OnOk result (IsEntered row.now self.old self.new) }
         ensures waits { SameWaits self.old.groups self.new.groups }
-        ensures kept_numbers { OnErr result ((q : ℕ) → place_of q self.new ≡ place_of q self.old) }
-        ensures kept_groups { OnErr result ((t : ℕ) (b : List ℕ) → places_of t b self.new ≡ places_of t b self.old) }
-        ensures kept_totals { OnErr result (self.new.groups.totals ≡ self.old.groups.totals) }
+        ensures kept { OnErr result (LeadTheSame self.old self.new) }
         ensures memory { IfErr result (λ fault. fault ≡ Fault.Memory) }
     {
         self.numbers.insert(row.number, row.place)?;
@@ -68,12 +62,10 @@ impl Index {
 
     /// Takes a row out of its group and its number out. The guess of the group's number is tried first.
     pub fn remove(&mut self, group: u32, row: &DupRow)
-        requires { Tells (length (places_of row.now.tree row.now.bytes self.old)) self.old.groups.totals }
+        requires { IsCounted row.now.tree row.now.bytes self.old.groups }
         ensures numbers { (q : ℕ) → place_of q self.new ≡ (if q == row.now.number then None else place_of q self.old) }
-        ensures groups { (t : ℕ) (b : List ℕ) → places_of t b self.new
-            ≡ (if t == row.now.tree && bytes_eq b row.now.bytes then without row.now.place (places_of t b self.old) else places_of t b self.old) }
-        ensures totals { IsRegrouped (length (places_of row.now.tree row.now.bytes self.old)) (length (places_of row.now.tree row.now.bytes self.new))
-            self.old.groups.totals self.new.groups.totals }
+        ensures groups { IsMoved row.now.tree row.now.bytes (without row.now.place) self.old.groups self.new.groups }
+        ensures totals { IsCountedAnew row.now.tree row.now.bytes self.old.groups self.new.groups }
         ensures waits { SameWaits self.old.groups self.new.groups }
     {
         self.numbers.remove(&row.number);
@@ -82,13 +74,12 @@ impl Index {
 
     /// Takes the row of a dup out whose place another one has taken. The guess of its group's number is tried first.
     pub fn replace(&mut self, group: u32, old: &DupRow, new: &DupRow)
-        requires { Tells (length (places_of old.now.tree old.now.bytes self.old)) self.old.groups.totals }
+        requires { IsCounted old.now.tree old.now.bytes self.old.groups }
         ensures numbers { (q : ℕ) → place_of q self.new ≡ (if q == old.now.number then None else place_of q self.old) }
         ensures groups { (t : ℕ) (b : List ℕ) → places_of t b self.new
             ≡ (if (t == old.now.tree && bytes_eq b old.now.bytes) && not (t == new.now.tree && bytes_eq b new.now.bytes)
             then without old.now.place (places_of t b self.old) else places_of t b self.old) }
-        ensures totals { IsRegrouped (length (places_of old.now.tree old.now.bytes self.old)) (length (places_of old.now.tree old.now.bytes self.new))
-            self.old.groups.totals self.new.groups.totals }
+        ensures totals { IsCountedAnew old.now.tree old.now.bytes self.old.groups self.new.groups }
         ensures waits { SameWaits self.old.groups self.new.groups }
     {
         if old.tree == new.tree && old.bytes == new.bytes {

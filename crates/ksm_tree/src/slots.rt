@@ -1,9 +1,12 @@
 //! The dups by their places, a slot for each: a place leads to its dup in one step, and room for all of them is taken
 //! once.
-ghost use Rattle.std.specs.Prelude.{◌≡◌, ℕ, ◌-◌, ◌<◌, ◌≤◌, [], true, false, None, Some, count_by, find, length, option_copied, option_map, is_some, slice_index_or, IfErr, IfOk, IfSome, OnErr, OnOk};
+ghost use Rattle.std.specs.Prelude.{◌≡◌, ℕ, ◌-◌, ◌<◌, ◌≤◌, [], true, false, None, Some};
+ghost use Rattle.std.specs.Prelude.{count_by, find, length, option_copied, option_map};
+ghost use Rattle.std.specs.Prelude.{is_some, slice_index_or, IfErr, IfOk, IfSome, OnErr, OnOk};
 ghost use Rattle.ksm_tree.specs.Choosing.{empty_place};
 ghost use Rattle.ksm_rmap.specs.Items.{has_item, with_item, without_item};
-ghost use Rattle.ksm_tree.specs.Dups.{dup_at, items_in, is_live, is_stale, places_open, rows_of, with_new, without_place};
+ghost use Rattle.ksm_tree.specs.Dups.{dup_at, items_in, is_live, is_stale};
+ghost use Rattle.ksm_tree.specs.Dups.{places_open, rows_of, with_new, without_place};
 ghost use Rattle.ksm_tree.specs.Slots.{change_at};
 
 use crate::dup::Dup;
@@ -69,7 +72,8 @@ impl Slots {
     /// How many items the dup at each place has: 0 where no dup stands.
     pub fn counts(&self) -> &[u32]
         ensures places { length result.now ≡ self.now.places }
-        ensures each { (place : ℕ) → slice_index_or result.now place 0 ≡ length (items_in (dup_at place self.now.dups)) }
+        ensures each { (place : ℕ)
+            → slice_index_or result.now place 0 ≡ length (items_in (dup_at place self.now.dups)) }
     {
         self.counts.each()
     }
@@ -152,7 +156,10 @@ impl Slots {
         requires known { is_some (dup_at place self.old.dups) ≡ true }
         requires fewer { length (items_in (dup_at place self.old.dups)) < 1024 }
         requires absent { has_item page (items_in (dup_at place self.old.dups)) ≡ false }
-        ensures added { OnOk result (self.new ≡ record { places = self.old.places; dups = change_at place (with_item page) self.old.dups }) }
+        ensures added { OnOk result (self.new ≡ record {
+          places = self.old.places;
+          dups = change_at place (with_item page) self.old.dups;
+        }) }
         ensures kept { OnErr result (self.new ≡ self.old) }
         ensures memory { IfErr result (λ fault. fault ≡ Fault.Memory) }
     {
@@ -173,7 +180,10 @@ impl Slots {
     /// A page is no item of the dup at a place any more.
     pub fn remove_item(&mut self, place: u32, page: GuestPage)
         requires { is_some (dup_at place self.old.dups) ≡ true }
-        ensures { self.new ≡ record { places = self.old.places; dups = change_at place (without_item page) self.old.dups } }
+        ensures { self.new ≡ record {
+          places = self.old.places;
+          dups = change_at place (without_item page) self.old.dups;
+        } }
     {
         match &mut self.dups[place as usize] {
             Some(dup) => {

@@ -10,8 +10,8 @@ use std::marker::Model;
 
 /// The pages that wait for an equal one: at most one of each tree and bytes (mm/ksm, the unstable tree).
 ///
-/// `find`, `find_or_add` and `remove` cost a search among the contents that are known, in a number of steps in the order
-/// of the logarithm of how many there are; nobody can pick contents that cost more. `clear` takes one step.
+/// `find`, `find_or_add` and `remove` cost a search among the contents that are known, in a number of steps in the
+/// order of the logarithm of how many there are; nobody can pick contents that cost more. `clear` takes one step.
 #[derive(Drop)]
 pub struct Waiting {
     alloc: Global,

@@ -9,6 +9,3 @@ returns-clause-mapped c knobs rows waiting change alike are = rows_mapped knobs 
 
 pub returns-clause-changed : goal.returns-clause-changed
 returns-clause-changed c knobs rows waiting test change alike are = rows_changed knobs rows waiting are test change alike
-
-pub returns-clause-tuned : goal.returns-clause-tuned
-returns-clause-tuned c knobs tuned rows waiting same are = knobs_tuned knobs rows waiting are tuned same

@@ -1,11 +1,5 @@
 use Rattle.ksm_tree.proofs.Waiters.{look_up_found, own_found, partner_found}
 use Rattle.ksm_tree.proofs.waiting_laws.look_up_finds_the_row.Goals as goal
 
-pub returns-clause-found : goal.returns-clause-found
-returns-clause-found c knobs rows waiting tree bytes page are is = look_up_found knobs rows waiting tree bytes page are is
-
-pub returns-clause-own : goal.returns-clause-own
-returns-clause-own c knobs rows waiting row found are = own_found knobs rows waiting row found are
-
 pub returns-clause-partner : goal.returns-clause-partner
 returns-clause-partner c knobs rows waiting row rise are = partner_found knobs rows waiting row rise are

@@ -22,11 +22,13 @@ begun c =
     c.self.inside.rows.pass c.in-Some-Some.one.now c.in-Some-Some.other.now c.in-Some-Some.ensures c.in-Some-Some.ensures'
     c.group.ensures.kept
 
-pub found-requires-clause-free : goal.found-requires-clause-free
-found-requires-clause-free c = is_free (begun c)
-
-pub found-requires-clause-apart : goal.found-requires-clause-apart
-found-requires-clause-apart c = are_apart (begun c)
+pub found-requires-clause-may : goal.found-requires-clause-may
+found-requires-clause-may c = record {
+  below = rw (begun c).kept.places (begun c).may.inside;
+  free = is_free (begun c);
+  apart = are_apart (begun c);
+  number = (begun c).may.number;
+}
 
 pairs : (c : goal.After-self-1)
     → CanPair (record c.self.inside { dups = c.group.new.self }) c.args.self.now c.args.place c.args.first.page c.args.second.page

@@ -8,6 +8,3 @@ returns-in-Some c =
     c.at.ensures
     ∙ ap (λ s. dup_at c.in-Some.place s.dups) c.self.view_is
     ∙ sym (placed_found c.args.number c.in-Some.place c.args.self.now.dups rise c.in-Some.ensures.place)
-
-pub returns-in-None : goal.returns-in-None
-returns-in-None c = sym (unplaced_found c.args.number c.args.self.now.dups c.in-None.ensures.place)

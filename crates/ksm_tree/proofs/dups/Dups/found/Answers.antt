@@ -7,15 +7,15 @@ use Rattle.ksm_tree.proofs.dups.Dups.found.Goals.{in-Some, in-None}
 pub add-requires-clause-fresh : goal.add-requires-clause-fresh
 add-requires-clause-fresh c = next_unused c.self.inside.slots c.self.inside.next c.self.inside.index c.self.invariant
 
-pub add-requires-clause-told : goal.add-requires-clause-told
-add-requires-clause-told c = told c.self.inside.slots c.self.inside.next c.self.inside.index c.self.invariant c.args.tree c.args.bytes.now
+pub add-requires-clause-counted : goal.add-requires-clause-counted
+add-requires-clause-counted c = told c.self.inside.slots c.self.inside.next c.self.inside.index c.self.invariant c.args.tree c.args.bytes.now
 
 pub replace-requires : goal.replace-requires
 replace-requires c =
     let s = c.self.inside.slots in
     let dup : Dup = record { row = record { number = c.self.inside.next; place = c.args.place; tree = c.args.tree; bytes = c.args.bytes.now }; items = c.in_ok-items.items } in
-    let within : c.args.place < s.places = omega (arith, ap (λ t. t.places) c.self.view_is, c.requires.place) in
-    told_between s c.self.inside.next c.self.inside.index c.add.new.self dup c.self.invariant refl within c.add.new.self c.in-Some.old.now c.in-Some.ensures c.in_ok-add.ensures.groups c.in_ok-add.ensures.totals
+    let within : c.args.place < s.places = omega (arith, ap (λ t. t.places) c.self.view_is, c.requires.may.below) in
+    told_between s c.self.inside.next c.self.inside.index c.add.new.self dup c.self.invariant refl within c.add.new.self c.in-Some.old.now c.in-Some.ensures c.in_ok-add.ensures.entered
 
 pub invariant_of-self-2 : goal.invariant_of-self-2
 invariant_of-self-2 c =
@@ -23,10 +23,10 @@ invariant_of-self-2 c =
     let next = c.self.inside.next in
     let index = c.self.inside.index in
     let dup : Dup = record { row = record { number = next; place = c.args.place; tree = c.args.tree; bytes = c.args.bytes.now }; items = c.in_ok-items.items } in
-    let within : c.args.place < s.places = omega (arith, ap (λ t. t.places) c.self.view_is, c.requires.place) in
+    let within : c.args.place < s.places = omega (arith, ap (λ t. t.places) c.self.view_is, c.requires.may.below) in
     elim c.match-old.branch [
-      | in-Some w ↦ rw (c.put.ensures, w.self-inside-is) (taken_indexed s next index w.replace.new.self dup c.self.invariant refl within c.add.new.self w.in-Some.old.now w.in-Some.ensures c.in_ok-add.ensures.numbers c.in_ok-add.ensures.groups w.replace.ensures.numbers w.replace.ensures.groups c.in_ok-add.ensures.totals w.replace.ensures.totals)
-      | in-None w ↦ rw (c.put.ensures, w.self-inside-is) (fresh_indexed s next index c.add.new.self dup c.self.invariant refl within w.in-None.ensures c.in_ok-add.ensures.numbers c.in_ok-add.ensures.groups c.in_ok-add.ensures.totals)
+      | in-Some w ↦ rw (c.put.ensures, w.self-inside-is) (taken_indexed s next index w.replace.new.self dup c.self.invariant refl within c.add.new.self w.in-Some.old.now w.in-Some.ensures c.in_ok-add.ensures.entered w.replace.ensures.numbers w.replace.ensures.groups w.replace.ensures.totals)
+      | in-None w ↦ rw (c.put.ensures, w.self-inside-is) (fresh_indexed s next index c.add.new.self dup c.self.invariant refl within w.in-None.ensures c.in_ok-add.ensures.entered)
     ]
 
 pub returns-clause-made : goal.returns-clause-made

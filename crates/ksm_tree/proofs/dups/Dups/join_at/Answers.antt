@@ -15,9 +15,6 @@ add_item-requires-clause-absent c =
     let found = placed_found c.args.dup c.in-Some.place c.self.inside.slots.dups c.self.invariant.lawful.in_place_order (placed_inside c.args.dup c.in-Some.place c.self.inside.slots c.self.inside.next c.self.inside.index c.args.self.now c.self.view_is c.in-Some.ensures) in
     rw (← found, ap (λ s. s.dups) c.self.view_is) c.requires.absent
 
-pub unreachable-requires : goal.unreachable-requires
-unreachable-requires c = false≢true (ap is_some (sym (unplaced_found c.args.dup c.args.self.now.dups c.in-None.ensures)) ∙ c.requires.known)
-
 pub invariant_of-self-in-Some : goal.invariant_of-self-in-Some
 invariant_of-self-in-Some c = rw c.in_ok-add_item-in-Some.ensures.added (stays_indexed c.self.inside.slots c.self.inside.next c.self.inside.index c.self.invariant c.in-Some.place (with_item c.args.page))
 

@@ -1,5 +1,5 @@
 use Rattle.ksm_tree.proofs.Names.{ap, arith, bytes_eq, false≢true, Group, if◌then◌else◌, is_some, refl, Some, sym, unwrap_or, waiting_in, waiting_page, ◌&&◌, ◌==◌, ◌∙◌}
-use Rattle.ksm_tree.proofs.Standing.{page_still, page_waits, repaged, rewritten, stands_under, waits_here}
+use Rattle.ksm_tree.proofs.Standing.{not_unused, page_still, page_waits, repaged, rewritten, stands_under, waits_here}
 use Rattle.ksm_tree.proofs.groups.Groups.meet.Goals as goal
 
 pub returns-then-group-self-clause-met : goal.returns-then-group-self-clause-met
@@ -45,3 +45,9 @@ returns-in-None-clause-met c t b is = absurd (stands_under c.args.self.now t b c
 
 pub returns-in-None-clause-added : goal.returns-in-None-clause-added
 returns-in-None-clause-added c t b is = absurd (stands_under c.args.self.now t b c.args.number is c.in-None.ensures.value)
+
+pub returns-then-group-self-clause-alone : goal.returns-then-group-self-clause-alone
+returns-then-group-self-clause-alone c unused = absurd (not_unused c.args.self.now c.args.number c.in-Some.group.now c.in-Some.ensures.value unused)
+
+pub returns-else-group-self-clause-none : goal.returns-else-group-self-clause-none
+returns-else-group-self-clause-none c unused = absurd (not_unused c.args.self.now c.args.number c.in-Some.group.now c.in-Some.ensures.value unused)

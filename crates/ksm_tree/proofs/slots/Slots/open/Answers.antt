@@ -1,10 +1,11 @@
 use Rattle.ksm_tree.proofs.Names.{[], ap, arith, length, None, replicate, replicate-append-replicate, slots_seen, sym, with_place, ◌++◌, ◌∙◌, ◌∷◌, ◌≡◌}
-use Rattle.ksm_tree.proofs.Opened.{none_of, none_slots, none_seen, range_more, length_range}
+use Rattle.ksm_tree.proofs.Opened.{none_of, none_slots, none_seen, range_more}
+use Rattle.std.proofs.lemmas.List.FromFn.{length-range_with_len}
 use Rattle.ksm_tree.proofs.slots.Slots.open.Goals as goal
 
 pub insert-requires : goal.insert-requires
 insert-requires c =
-    let many = length_range 0 c.loop-place.place in
+    let many = length-range_with_len 0 c.loop-place.place in
     omega (arith, ap length c.loop-place.invariant.1, many, c.loop-place.invariant.2, c.loop-place-test.true)
 
 pub loop-place-preserved : goal.loop-place-preserved
