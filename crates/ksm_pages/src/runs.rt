@@ -1,7 +1,9 @@
 //! The runs beside each other: which of them a page is in, or would be, and what a change of one run is for all pages.
-ghost use Rattle.std.specs.Prelude.{◌≡◌, ◌+◌, ◌-◌, ◌<◌, ◌≤◌, [], ◌∷◌, ◌++◌, None, true, All, IfErr, IfOk, OnErr, OnOk, drop, find, length, slice_get, slice_index_or, take};
+ghost use Rattle.std.specs.Prelude.{◌≡◌, ◌+◌, ◌-◌, ◌<◌, ◌≤◌, [], ◌∷◌, ◌++◌, None, true, All};
+ghost use Rattle.std.specs.Prelude.{IfErr, IfOk, OnErr, OnOk, drop, find, length, slice_get, slice_index_or, take};
 ghost use Rattle.ksm_base.specs.Rows.{comes_before};
-ghost use Rattle.ksm_pages.specs.Ordered.{AreRuns, HasRoomFor, IsRunOf, is_of, marked, pages_in, with_named, without_named};
+ghost use Rattle.ksm_pages.specs.Ordered.{AreRuns, HasRoomFor, IsRunOf, is_of, marked, pages_in};
+ghost use Rattle.ksm_pages.specs.Ordered.{with_named, without_named};
 
 use crate::named::Named;
 use crate::run::Run;
@@ -150,7 +152,8 @@ pub fn put(runs: &mut Vec<Run>, alloc: Global, named: Named) -> Result<(), Fault
         return put_behind(runs, alloc, at, named);
     }
     let is_full = runs[at].len() >= LONGEST_RUN;
-    // Pages that come in order fill their runs, and those of another guest begin one: so mostly none is missing in a run.
+    // Pages that come in order fill their runs, and those of another guest begin one: so mostly no page is missing in
+    // a run.
     let begins_one = is_full || !runs[at].begins_with(named.page.guest);
     if begins_one && runs[at].begins_behind(named.page) {
         return put_behind(runs, alloc, at, named);
