@@ -1,5 +1,6 @@
 use Rattle.ksm_pages.proofs.Names.{ap, fresh_row, Held, PagesValue, refl, row_at, RowsView, seen, Some, with_row, ◌∙◌}
-use Rattle.ksm_pages.proofs.Entering.{but_there, either_way, entered, err_then, lay_nowhere, nothing_held, ok_then}
+use Rattle.ksm_pages.proofs.Entering.{but_there, either_way, entered, err_then, lay_nowhere, ok_then}
+use Rattle.ksm_pages.proofs.Changing.{nothing_held}
 use Rattle.ksm_pages.proofs.Leaving.{view_of}
 use Rattle.ksm_pages.proofs.Turning.{held_as}
 use Rattle.ksm_pages.proofs.pages.Pages.insert.Goals as goal
