@@ -1,5 +1,6 @@
 -- The rows of what is held, once that of one page came, went or changed.
-use Rattle.ksm_pages.proofs.Names.{[], ap, ap₂, arith, Bool, change_held, change_row, comes_before, cond, Entry, filter, get, get_or, GuestPage, Held, held_at, held_in, held_under, holds, if◌then◌else◌, is_of, List, map-append, marked, Named, None, not, option_map, refl, Row, row_at, rows_of, same_page, Slab, Some, sym, with_held, with_row, without_held, without_page, ℕ, ◌++◌, ◌∙◌, ◌∷◌, ◌≡◌, Option, cond_both, false, true}
+use Rattle.ksm_pages.proofs.Names.{[], ap, ap₂, Bool, change_held, change_row, comes_before, cond, Entry, filter, get, get_or, GuestPage, Held, held_at, held_in, held_under, holds, if◌then◌else◌, is_of, List, map-append, marked, Named, None, not, option_map, refl, Row, row_at, rows_of, same_page, Slab, sym, with_held, with_row, without_held, without_page, ℕ, ◌++◌, ◌∙◌, ◌∷◌, ◌≡◌, Option, cond_both, false, true}
+use Rattle.ksm_pages.proofs.Options.{none_mapped}
 use Rattle.ksm_tree.proofs.Alike.{filter_mapped, find_mapped, map_mapped}
 
 -- where a change of what is held changes its row by g, the rows have g at the row of the page
@@ -23,11 +24,7 @@ row_told page held is = row_found page held ∙ ap (option_map (λ (h : Held). h
 
 -- nothing is held of a page without a row
 pub nothing_held : (page : GuestPage) (held : List Held) → row_at page (rows_of held) ≡ None → held_at page held ≡ None
-nothing_held page held absent = go (held_at page held) (sym (row_found page held) ∙ absent)
-  where
-    go : (o : Option Held) → option_map (λ (h : Held). h.row) o ≡ None → o ≡ None
-    go None is = refl
-    go (Some h) is = absurd (grind (arith, is))
+nothing_held page held absent = none_mapped (λ (h : Held). h.row) (held_at page held) (sym (row_found page held) ∙ absent)
 
 -- what is held without a page has the rows without the row of that page
 pub rows_without : (page : GuestPage) (held : List Held) → rows_of (without_held page held) ≡ without_page page (rows_of held)

@@ -4,7 +4,7 @@ use Rattle.ksm_tree.specs.Dups.{rows_of as dup_rows}
 use Rattle.ksm_pages.proofs.Changing.{row_found}
 use Rattle.ksm_pages.proofs.Found.{find_kept}
 use Rattle.ksm_pages.proofs.Lodgings.{frame_by, seat}
-use Rattle.ksm_pages.proofs.Reading.{some_mapped}
+use Rattle.ksm_pages.proofs.Options.{some_mapped}
 use Rattle.ksm_rmap.proofs.Ordered.{none_found}
 
 vacant_stale : (place : ℕ) (rows : List Row) (dups : List Dup) → AreTied rows dups → IsVacant place rows (dup_rows dups)

@@ -82,16 +82,6 @@ but_there new old rows page o is =
 
 -- ---------------------------------------------------------------- results
 
--- whatever follows from the promise for Ok may be promised for Ok instead
-pub ok_then : {T E P Q : Type 0} (r : Result T E) → OnOk r P → (P → Q) → OnOk r Q
-ok_then (Ok x) holds so = so holds
-ok_then (Err e) holds so = tt
-
--- whatever follows from the promise for an error may be promised for an error instead
-pub err_then : {T E P Q : Type 0} (r : Result T E) → OnErr r P → (P → Q) → OnErr r Q
-err_then (Ok x) holds so = tt
-err_then (Err e) holds so = so holds
-
 -- what follows from the promise for Ok, and also from the promise for an error, follows
 pub either_way : {T E P O Q : Type 0} (r : Result T E) → OnOk r P → OnErr r O → (P → Q) → (O → Q) → Q
 either_way (Ok x) holds fails so too = so holds

@@ -1,5 +1,6 @@
 -- Entries under keys and the order of their pages: what is found, and what one entry that came, went or changed leaves.
 use Rattle.ksm_pages.proofs.Names.{All, All-append, All-cons, All-filter, All-map, ap, ap₂, AreAscending, AreFiled, Bool, cases_Bool, change_held, comes_before, cond, Decides-eqb, Entry, false, filter, filter_passes, find, find_all, find_passes, get, get_or, GuestPage, Held, held_at, held_in, held_of, held_under, holds, if◌then◌else◌, inl, InPageOrder, inr, is_of, IsUnder, key_in, List, map, map-append, marked, Named, named_of, None, not, Option, option_map, refl, rows_of, same_page, same_page_eq, same_page_refl, same_page_sym, same_Some, Slab, Some, subst, sym, true, true≢false, with_held, with_named, without_held, without_named, ℕ, ◌++◌, ◌==◌, ◌∙◌, ◌∷◌, ◌≡◌, ◌≢◌}
+use Rattle.ksm_pages.proofs.Options.{none_mapped}
 use Rattle.slab.specs.Slab.{Updates as Fills}
 use Rattle.ksm_tree.proofs.Numbering.{full}
 use Rattle.ksm_tree.proofs.Alike.{filter_mapped, find_mapped, map_alike, map_mapped, pairs_mapped}
@@ -108,19 +109,12 @@ module _ (slab : Slab Entry) (order : List Named) (rise : AreAscending order) (f
 
     -- a page that has no key in the order has no row
     pub held_nowhere : (page : GuestPage) → key_in order page ≡ None → held_at page (held_in pass slab order) ≡ None
-    held_nowhere page told = held_found page ∙ go (find (is_of page) order) told
-      where
-        go : (o : Option Named) → option_map (λ n. n.key) o ≡ None → option_map (held_by pass slab) o ≡ None
-        go None none = refl
-        go (Some n) none = absurd (full n.key (Some n.key) none refl)
+    held_nowhere page told =
+        held_found page ∙ ap (option_map (held_by pass slab)) (none_mapped (λ n. n.key) (find (is_of page) order) told)
 
     -- a page that has no row has no name in the order
     pub key_nowhere : (page : GuestPage) → held_at page (held_in pass slab order) ≡ None → find (is_of page) order ≡ None
-    key_nowhere page told = go (find (is_of page) order) (sym (held_found page) ∙ told)
-      where
-        go : (o : Option Named) → option_map (held_by pass slab) o ≡ None → o ≡ None
-        go None none = refl
-        go (Some n) none = absurd (full (held_by pass slab n) (Some (held_by pass slab n)) none refl)
+    key_nowhere page told = none_mapped (held_by pass slab) (find (is_of page) order) (sym (held_found page) ∙ told)
 
     -- the rows are in the order of their pages
     pub rows_rise : InPageOrder (rows_of (held_in pass slab order))

@@ -1,11 +1,11 @@
 -- The pages once a page with a frame of its own joined a dup.
-use Rattle.ksm_pages.proofs.Names.{All, ap, AreKept, AreTied, AreWaiting, arith, both_ways, change_held, change_items, change_row, count_by, Dup, dup_numbered, dup_of, DupRow, DupsState, each_at_page, Entry, eq-eqb, eqb-true, false, find_none, frame_of, frame_seen, Frames, get_or, GuestPage, has_number, HasRoom, Held, held_at, held_of, Inside, is_some, IsStopped, item_count, items_in, length, let_out, lies_on, List, Listing, lodging, lodgings_of, mapped, Merged, merged_into, merged_state, None, none-some, number_found, Option, option_map, PageState, PagesValue, PagesView, Private, refl, Row, row_at, row_found, row_stopped, rows_items, rows_of, RowsView, same_Some, seen, shared_state, Some, state_of, subst, sym, tied_count, tied_joined, true, true≢false, Waiting, with_item, Zero, ℕ, ◌<◌, ◌==◌, ◌∙◌, ◌≡◌}
+use Rattle.ksm_pages.proofs.Names.{All, ap, AreKept, AreTied, AreWaiting, arith, both_ways, change_held, change_items, change_row, count_by, Dup, dup_numbered, dup_of, DupRow, DupsState, each_at_page, Entry, eq-eqb, eqb-true, false, find_none, frame_of, frame_seen, Frames, get_or, GuestPage, has_number, HasRoom, Held, held_at, held_of, Inside, is_some, IsStopped, item_count, items_in, length, let_out, lies_on, List, Listing, lodging, lodgings_of, mapped, Merged, merged_into, merged_state, None, none-some, number_found, Option, option_map, PageState, PagesValue, PagesView, Private, refl, Row, row_at, row_found, row_stopped, rows_items, rows_of, RowsView, same_Some, seen, shared_state, Some, state_of, subst, sym, tied_count, tied_joined, true, true≢false, Waiting, with_item, Zero, ℕ, ◌<◌, ◌==◌, ◌∙◌, ◌≡◌, InPageOrder}
 use Rattle.ksm_tree.specs.Dups.{items_of as items_numbered, rows_of as dup_rows}
 use Rattle.ksm_pages.specs.Held.{frame_of as own_frame}
 use Rattle.ksm_pages.proofs.Writing.{own_kind}
 use Rattle.ksm_pages.proofs.Changing.{row_found as found_rows}
 use Rattle.ksm_pages.proofs.Gathering.{own_either}
-use Rattle.ksm_pages.proofs.Reading.{some_mapped}
+use Rattle.ksm_pages.proofs.Options.{some_mapped}
 use Rattle.ksm_pages.proofs.Leaving.{AreLawful, lawful_turned, of_dup, of_page, row_there, told, view_of}
 use Rattle.ksm_pages.proofs.Lodgings.{frame_by, seat}
 
@@ -62,22 +62,18 @@ in_state of number Waiting own is = absurd (true≢false (sym is))
 in_state of number Zero own is = absurd (true≢false (sym is))
 in_state of number (Merged n) own is = ap of (eqb-true n number is)
 
--- a row merged into a dup lies where the dup's items do
-pub item_seat : (of : ℕ → Option ℕ) (number : ℕ) (r : Row) → merged_into number r.state ≡ true → (o : Option Held)
+item_seat : (of : ℕ → Option ℕ) (number : ℕ) (r : Row) → merged_into number r.state ≡ true → (o : Option Held)
     → option_map (λ (h : Held). h.row) o ≡ Some r → seat of o ≡ of number
 item_seat of number r merged None is = absurd (none-some r is)
 item_seat of number r merged (Some h) is =
     in_state of number h.row.state h.frame (ap (λ (x : Row). merged_into number x.state) (same_Some h.row r is) ∙ merged)
 
 -- an item of a dup lies where all its items do
-item_lies : (s : Inside) → AreLawful s → (number : ℕ)
-    → All (λ r. merged_into number r.state ≡ true → frame_of (lodgings_of (of_dup s) s.rows.held) r.page ≡ of_dup s number)
-    (rows_of s.rows.held)
-item_lies s are number k d lt merged =
-    let r = get_or (rows_of s.rows.held) k d in
-    frame_by (of_dup s) s.rows.held r.page
-    ∙ item_seat (of_dup s) number r merged (held_at r.page s.rows.held)
-    (sym (found_rows r.page s.rows.held) ∙ each_at_page (rows_of s.rows.held) are.order k d lt)
+pub item_lies : (of : ℕ → Option ℕ) (held : List Held) → InPageOrder (rows_of held) → (number : ℕ)
+    → All (λ r. merged_into number r.state ≡ true → frame_of (lodgings_of of held) r.page ≡ of number) (rows_of held)
+item_lies of held rise number k d lt merged =
+    let r = get_or (rows_of held) k d in
+    frame_by of held r.page ∙ item_seat of number r merged (held_at r.page held) (sym (found_rows r.page held) ∙ each_at_page (rows_of held) rise k d lt)
 
 -- a page with a frame of its own lies on that frame
 pub own_seat : (of : ℕ → Option ℕ) (pass : ℕ) (e : Entry) → shared_state (held_of pass e).row.state ≡ false
@@ -136,7 +132,7 @@ module _ (s : Inside) (are : AreLawful s) (page : GuestPage) (h : Held) (found :
       (λ (v : PagesView). v.frame) whole in
       let lain = subst (λ (v : PagesValue). All
       (λ r. merged_into number r.state ≡ true → frame_of v.lodgings r.page ≡ of_dup s number) v.rows) seen_as
-      (item_lies s are number) in (
+      (item_lies (of_dup s) s.rows.held are.order number) in (
         whole ∙ (λ i. record (seen p) { rows = change_row page item p.rows; frame = sym frame i }),
         λ k r lt merged. frame ∙ ap (λ o. lies_on page o (frame_of p.lodgings)) (sym (lain k r lt merged)),
       )

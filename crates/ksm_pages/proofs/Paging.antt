@@ -10,18 +10,10 @@ use Rattle.ksm_pages.specs.Paged.{ComesTo, frame_of as lies_at, is_restless}
 use Rattle.ksm_tree.proofs.Alike.{filter_mapped}
 use Rattle.ksm_rmap.proofs.Ordered.{any_found}
 use Rattle.ksm_pages.proofs.Changing.{nothing_held, row_found}
-use Rattle.ksm_pages.proofs.Found.{each_found}
 use Rattle.ksm_pages.proofs.Gathering.{framed, own_either}
-use Rattle.ksm_pages.proofs.Joined.{item_seat}
-use Rattle.ksm_pages.proofs.Reading.{some_mapped}
+use Rattle.ksm_pages.proofs.Joined.{item_lies}
+use Rattle.ksm_pages.proofs.Options.{some_mapped, mapped_twice}
 use Rattle.ksm_pages.proofs.Lodgings.{frame_by, seat}
-
--- ---------------------------------------------------------------- options
-
--- two maps of an option, one after the other, are one map
-pub mapped_twice : {X Y Z : Type 0} (f : Y → Z) (g : X → Y) (o : Option X) → option_map f (option_map g o) ≡ option_map (λ x. f (g x)) o
-mapped_twice f g None = refl
-mapped_twice f g (Some x) = refl
 
 -- ---------------------------------------------------------------- rows
 
@@ -104,14 +96,12 @@ pub items_lodge : (held : List Held) (s : DupsState) (frames : List ℕ) → InP
 items_lodge held s frames rise lawful as_many place frame is k e lt at i f lt_row merged =
     let of_dup = lodging (dup_rows s.dups) frames in
     let d = get_or (dup_rows s.dups) k e in
-    let r = get_or (rows_of held) i f in
-    let there : row_at r.page (rows_of held) ≡ Some r = each_found (λ (x : Row). x.page) (rows_of held) rise i f lt_row in
     let lodges : of_dup d.number ≡ Some frame =
     ap (option_and_then (λ (x : DupRow). slice_get frames x.place)) (each_has_number (dup_rows s.dups) lawful.in_place_order k e lt)
     ∙ ap (slice_get frames) at
     ∙ within place (let below = lawful.places_below k e lt in omega (arith, below, at, as_many))
     ∙ ap Some (sym is) in
-    frame_by of_dup held r.page ∙ item_seat of_dup d.number r merged (held_at r.page held) (sym (row_found r.page held) ∙ there) ∙ lodges
+    item_lies of_dup held rise d.number i f lt_row merged ∙ lodges
   where
     within : (p : ℕ) → p < length frames → slice_get frames p ≡ Some (unwrap_or (slice_get frames p) 0)
     within p lt = slice_get-get_or frames p 0 lt ∙ ap Some (sym (unwrap_or-slice_get frames p 0))

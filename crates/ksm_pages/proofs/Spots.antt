@@ -3,7 +3,7 @@ use Rattle.ksm_pages.proofs.Names.{and_parts, ap, ap₂, AreInOrder, Bool, cases
 use Rattle.ksm_rmap.specs.Items.{AreAscending}
 use Rattle.ksm_tree.proofs.Alike.{filter_mapped, find_mapped, map_mapped, pairs_mapped}
 use Rattle.ksm_rmap.proofs.Ordered.{any_found, with_rises}
-use Rattle.ksm_pages.proofs.Reading.{some_mapped}
+use Rattle.ksm_pages.proofs.Options.{some_mapped}
 
 -- the page of a spot
 abbrev pub page_of : Spot → GuestPage

@@ -1,5 +1,6 @@
 -- What a visit finds of a row that it may change, and the pages once the row waits.
-use Rattle.ksm_pages.proofs.Names.{all_zero, ap, AreKept, AreTied, AreWaiting, Best, best_dup, best_found, best_of, Bool, change_held, change_row, Dup, DupRow, DupsState, Entry, false, Find, Finds, FindsAt, found_at, GuestPage, Held, held_at, held_of, Inside, is_for_zero, IsAdded, IsAlone, List, Listing, MatchOption, None, none-some, not, number_of, on_row, Option, option_map, PagesValue, PagesView, partner, Private, refl, Row, row_at, rows_of, RowsView, same_page, same_Some, seen, shared_state, Some, subst, sym, tied_counted, tied_left, tree_of, true, true≢false, unwrap_or, Waiting, waiting_page, ℕ, ◌&&◌, ◌==◌, ◌∙◌, ◌≡◌}
+use Rattle.ksm_pages.proofs.Names.{all_zero, ap, AreKept, AreTied, AreWaiting, Best, best_dup, best_found, best_of, Bool, change_held, change_row, Dup, DupRow, DupsState, Entry, false, Find, Finds, FindsAt, found_at, GuestPage, Held, held_at, held_of, Inside, is_for_zero, IsAdded, IsAlone, List, Listing, MatchOption, None, none-some, not, number_of, on_row, Option, option_map, PagesValue, PagesView, partner, Private, refl, Row, row_at, rows_of, RowsView, same_page, same_Some, seen, shared_state, Some, subst, sym, tied_counted, tied_left, tree_of, true, unwrap_or, Waiting, waiting_page, ℕ, ◌&&◌, ◌==◌, ◌∙◌, ◌≡◌, and_parts, not-true}
+use Rattle.ksm_pages.proofs.Options.{none_mapped}
 use Rattle.std.specs.Option.{is_some}
 use Rattle.ksm_tree.specs.Dups.{rows_of as dup_rows}
 use Rattle.ksm_pages.specs.declared.pages.Find.TheVariants as finds
@@ -27,9 +28,7 @@ module _ (s : Inside) (later : DupsState) (kept : later ≡ record s.dups { numb
 -- ---------------------------------------------------------------- one row
 
 not_shared : (a b : Bool) → (a && not b) ≡ true → b ≡ false
-not_shared a false is = refl
-not_shared true true is = absurd (true≢false (sym is))
-not_shared false true is = absurd (true≢false (sym is))
+not_shared a b is = not-true b (and_parts a (not b) is).1
 
 -- a page without a row is found gone
 pub finds_none : (s : Inside) (p : PagesValue) → view_of s ≡ p → (page : GuestPage) → held_at page s.rows.held ≡ None
@@ -143,11 +142,8 @@ module _ {s : Inside} {p : PagesValue} {page : GuestPage} {e : Entry} {group : �
 
   module _ (none : IsOfGroup (λ tree bytes. None ≡ option_map found_at (best tree bytes))) where
     no_best : best_dup p.knobs p.rows p.dups row ≡ None
-    no_best = best_is ∙ go (best (tree_of s.knobs row) row.bytes) (none (tree_of s.knobs row) row.bytes it.numbered)
-      where
-        go : (o : Option Dup) → None ≡ option_map found_at o → option_map (λ d. d.row) o ≡ None
-        go None no_it = refl
-        go (Some d) that = absurd (none-some (found_at d) that)
+    no_best = best_is ∙ ap (option_map (λ d. d.row))
+        (none_mapped found_at (best (tree_of s.knobs row) row.bytes) (sym (none (tree_of s.knobs row) row.bytes it.numbered)))
 
     -- without a best dup, a row that was not unchanged is found changed, and is unchanged from then on
     pub finds_changed : e.unchanged ≡ false → (new : PagesView)
