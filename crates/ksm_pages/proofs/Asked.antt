@@ -1,5 +1,6 @@
 -- What is asked of the pages: the place of a page's dup, and the first page after a cursor.
-use Rattle.ksm_pages.proofs.Names.{[], after_cursor, All-cons, ap, arith, Bool, cases_Bool, comes_before, DupRow, each_at_page, Entry, eq-eqb, false, find, find_all, find_none, find_nothing, find_passes, get_or, GuestPage, Held, held_at, held_of, inl, InPageOrder, inr, Inside, is_next, IsHeld, Kind, List, nat_tests, None, none-some, of_guest, Option, option_map, PagesValue, pairs_head, pairs_tail, place_of, refl, Row, row_at, rows_of, same_Some, seen, Some, state_of, subst, sym, true, true≢false, ℕ, ◌&&◌, ◌==◌, ◌∙◌, ◌∷◌, ◌≡◌, ◌≤◌}
+use Rattle.ksm_pages.proofs.Names.{[], after_cursor, All-cons, ap, arith, Bool, cases_Bool, comes_before, DupRow, each_at_page, Entry, eq-eqb, false, find, find_all, find_none, find_nothing, find_passes, get_or, GuestPage, held_at, held_of, inl, InPageOrder, inr, Inside, is_next, IsHeld, Kind, List, nat_tests, None, none-some, of_guest, Option, option_map, PagesValue, pairs_head, pairs_tail, place_of, refl, Row, row_at, rows_of, same_Some, seen, Some, state_of, subst, sym, true, true≢false, ℕ, ◌&&◌, ◌==◌, ◌∙◌, ◌∷◌, ◌≡◌, ◌≤◌}
+use Rattle.ksm_pages.proofs.Options.{none_mapped}
 use Rattle.std.specs.Prelude.{IfSome, MatchOption, option_and_then}
 use Rattle.ksm_tree.specs.Dups.{rows_of as dup_rows}
 use Rattle.ksm_pages.specs.declared.pages.Held.{Held as Told}
@@ -19,7 +20,7 @@ pub ticket_told : (s : Inside) (p : PagesValue) → view_of s ≡ p → (page kn
     → place_of (state_of kind e.number s.rows.pass) (dup_rows s.dups.dups) ≡ option_and_then (λ r. place_of r.state p.dups) (row_at page p.rows)
 ticket_told s p seen_as page known at e found kind is =
     ap (λ k. place_of (state_of k e.number s.rows.pass) (dup_rows s.dups.dups)) (sym is)
-    ∙ ap (option_and_then (λ (r : Row). place_of r.state (dup_rows s.dups.dups))) (sym (row_seen s p seen_as known ∙ ap (option_map (λ (h : Held). h.row)) found) ∙ ap (λ q. row_at q p.rows) at)
+    ∙ ap (option_and_then (λ (r : Row). place_of r.state (dup_rows s.dups.dups))) (sym (row_seen s p seen_as known found) ∙ ap (λ q. row_at q p.rows) at)
     ∙ ap (λ (v : PagesValue). option_and_then (λ (r : Row). place_of r.state v.dups) (row_at page p.rows)) seen_as
 
 -- ---------------------------------------------------------------- the first page after a cursor
@@ -82,11 +83,7 @@ module _ (s : Inside) (are : AreLawful s) (p : PagesValue) (seen_as : view_of s 
   pub next_none : None ≡ option_map (λ (r : Row). r.page) (find behind (rows_of s.rows.held)) → (told : Option Told) → told ≡ None
       → IsNext told
   next_none none told is =
-      subst IsNext (sym is) (find_nothing next p.rows (λ k d lt. not_next (get_or p.rows k d) (find_none behind p.rows (go (find behind p.rows) (none ∙ first_page)) k d lt)))
-    where
-      go : (o : Option Row) → None ≡ option_map (λ (r : Row). r.page) o → o ≡ None
-      go None is = refl
-      go (Some r) is = absurd (none-some r.page is)
+      subst IsNext (sym is) (find_nothing next p.rows (λ k d lt. not_next (get_or p.rows k d) (find_none behind p.rows (none_mapped (λ (r : Row). r.page) (find behind p.rows) (sym (none ∙ first_page))) k d lt)))
 
   module _ (page : GuestPage) (first : Some page ≡ option_map (λ (r : Row). r.page) (find behind (rows_of s.rows.held))) where
     there : (r : Row) × (find behind p.rows ≡ Some r) × (page ≡ r.page)

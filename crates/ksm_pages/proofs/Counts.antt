@@ -1,43 +1,20 @@
 -- What is counted in a list, and kept of it, by two tests.
-use Rattle.ksm_pages.proofs.Names.{[], All, All-cons, ap, arith, Bool, both_ways, cases_Bool, count-append, count_by, count_by-le-length, count_more, drop, filter, filter_all, filter_none, get_or, inl, inr, IsPartitionedBy, length, length-filter, List, list_all, nat_tests, refl, suc, sym, take, take-append-drop, true, ℕ, ◌&&◌, ◌+◌, ◌==◌, ◌∙◌, ◌∷◌, ◌≡◌, ◌≤◌}
+use Rattle.ksm_pages.proofs.Names.{[], All, ap, arith, Bool, both_ways, cases_Bool, count-append, count_by, count_by-le-length, drop, filter, filter_all, filter_none, get_or, inl, inr, IsPartitionedBy, length, length-filter, List, list_all, nat_tests, refl, suc, sym, take, take-append-drop, true, ℕ, ◌&&◌, ◌+◌, ◌==◌, ◌∙◌, ◌∷◌, ◌≡◌, ◌≤◌, length-filter_both, none_counted, not, not-false}
+use Rattle.std.proofs.Math.Bool.{and_comm}
 
 module _ {X : Type 0} (p : X → Bool) where
   -- where as many are counted as there are, each passes
   pub all_pass : (xs : List X) → count_by p xs ≡ length xs → All (λ x. p x ≡ true) xs
-  all_pass [] all = λ k d lt. absurd (omega arith)
-  all_pass (x ∷ xs) all =
-      let more = count_more p x xs in
-      let most = count_by-le-length p xs in
-      let here : p x ≡ true = elim (cases_Bool (p x)) [
-        | inl passes ↦ passes
-        | inr other ↦ absurd (grind (arith, more, most, other, all))
-      ] in
-      let rest : count_by p xs ≡ length xs = grind (arith, more, here, all) in
-      All-cons (λ y. p y ≡ true) x xs here (all_pass xs rest)
+  all_pass xs all k d lt =
+      let fails : X → Bool = λ x. not (p x) in
+      let none : count_by fails xs ≡ 0 = omega (arith, all, length-filter p xs, length-filter fails xs, length-filter_both p fails (λ x. refl) xs) in
+      not-false (p (get_or xs k d)) (none_counted fails xs none k d lt)
 
   -- the count in the first n elements and the count in the rest add up to the count in all
   pub count_parts : (n : ℕ) (xs : List X) → count_by p (take n xs) + count_by p (drop n xs) ≡ count_by p xs
   count_parts n xs = sym (count-append p (take n xs) (drop n xs)) ∙ ap (count_by p) (take-append-drop n xs)
 
 module _ {X : Type 0} (p q : X → Bool) where
-  -- p counts in what q keeps as many as q counts in what p keeps
-  pub count_swapped : (xs : List X) → count_by p (filter q xs) ≡ count_by q (filter p xs)
-  count_swapped [] = refl
-  count_swapped (x ∷ xs) =
-      let rest = count_swapped xs in
-      let first = count_more p x (filter q xs) in
-      let second = count_more q x (filter p xs) in
-      elim (cases_Bool (p x)) [
-        | inl passes ↦ elim (cases_Bool (q x)) [
-          | inl both ↦ grind (arith, passes, rest, first, second, both)
-          | inr one ↦ grind (arith, passes, rest, first, second, one)
-        ]
-        | inr other ↦ elim (cases_Bool (q x)) [
-          | inl one ↦ grind (arith, other, rest, first, second, one)
-          | inr none ↦ grind (arith, other, rest, first, second, none)
-        ]
-      ]
-
   -- two tests one after the other keep what passes both
   pub filter_both : (xs : List X) → filter q (filter p xs) ≡ filter (λ x. p x && q x) xs
   filter_both [] = refl
@@ -50,6 +27,13 @@ module _ {X : Type 0} (p q : X → Bool) where
         ]
         | inr other ↦ grind (arith, other, rest)
       ]
+
+-- p counts in what q keeps as many as q counts in what p keeps
+pub count_swapped : {X : Type 0} (p q : X → Bool) (xs : List X) → count_by p (filter q xs) ≡ count_by q (filter p xs)
+count_swapped p q xs =
+    sym (length-filter p (filter q xs))
+    ∙ ap length (filter_both q p xs ∙ ap (λ test. filter test xs) (λ i x. and_comm (q x) (p x) i) ∙ sym (filter_both p q xs))
+    ∙ length-filter q (filter p xs)
 
 module _ {X : Type 0} (q : X → Bool) where
   -- where those that pass stand before all others, the front of the list is what the test keeps

@@ -1,5 +1,5 @@
 -- A run that comes in, is cut in two, or goes: what that is for all pages.
-use Rattle.ksm_pages.proofs.Names.{[], add-one, All, All-append, All-cons, All-drop, All-take, ap, append_assoc, ap₂, AreAscending, AreRuns, arith, begins_behind, Bool, count_by-le-length, drop, drop-set-lt, drop_at, false, find, flat_map-append, get_or, get_or_at, GuestPage, if◌then◌else◌, insert, is_of, IsRunOf, length, length-append, length-drop, length-filter, length-map, length-take-le, List, marked, Named, nil_from_length, None, not, pages_in, pages_ordered, refl, remove, set, subst, sym, take, take-append-drop, take-set, take_at, true, with_named, without_named, ℕ, ◌++◌, ◌+◌, ◌<◌, ◌∙◌, ◌∷◌, ◌≡◌, ◌≢◌, ◌≤◌}
+use Rattle.ksm_pages.proofs.Names.{[], add-one, All, All-append, All-cons, All-drop, All-take, ap, append_assoc, ap₂, AreAscending, AreRuns, arith, begins_behind, Bool, count_by-le-length, drop, drop-set-lt, drop_at, false, find, flat_map-append, get_or, get_or_at, GuestPage, HasRoomFor, if◌then◌else◌, insert, is_of, IsRunOf, length, length-append, length-drop, length-filter, length-map, length-take-le, List, marked, Named, nil_from_length, None, not, pages_in, pages_ordered, refl, remove, set, subst, sym, take, take-append-drop, take-set, take_at, true, with_named, without_named, ℕ, ◌++◌, ◌+◌, ◌<◌, ◌∙◌, ◌∷◌, ◌≡◌, ◌≢◌, ◌≤◌}
 use Rattle.ksm_pages.proofs.Keyed.{length_with, with_between, write_rises}
 use Rattle.ksm_rmap.proofs.Ordered.{with_rises, without_rises}
 use Rattle.ksm_pages.proofs.Placed.{ahead_of_run, behind_run, find_in_run, high, low, mark_in_run, pages_cut, pages_set, put_in_run, remove_in_run, run_rises, runs_set}
@@ -88,33 +88,35 @@ module _ (runs : List (List Named)) (at : ℕ) (parts : AreRuns runs) (within : 
   second_at : get_or cut_runs (at + 1) [] ≡ second
   second_at = ap (λ rs. get_or rs (at + 1) []) as_two ∙ get_or_at (take at runs ++ first ∷ []) second (drop (at + 1) runs) [] (at + 1) front_two
 
-  -- the first part of the run that is cut is one of the runs, and has room for a page
-  pub first_room : (at < length cut_runs) × (length (get_or cut_runs at []) < 256)
-  first_room =
-      (omega (arith, front, length-append (take at runs) (first ∷ second ∷ drop (at + 1) runs)), omega (arith, ap length first_at, first_long))
-
-  -- the second part of the run that is cut is one of the runs, and has room for a page
-  pub second_room : (at + 1 < length cut_runs) × (length (get_or cut_runs (at + 1) []) < 256)
-  second_room =
-      (omega (arith, front, length-append (take at runs) (first ∷ second ∷ drop (at + 1) runs)), omega (arith, ap length second_at, second_long))
+  -- the second part of the run that is cut is one of the runs
+  pub second_within : at + 1 < length cut_runs
+  second_within = omega (arith, front, length-append (take at runs) (first ∷ second ∷ drop (at + 1) runs))
 
   module _ (page : GuestPage) (place : IsRunOf page runs at) where
-    -- where the second part begins behind the page whose run is cut, the first part is the run of that page
-    pub into_first : begins_behind page (get_or cut_runs (at + 1) []) ≡ true → IsRunOf page cut_runs at
+    -- where the second part begins behind the page whose run is cut, the first part has room for that page
+    pub into_first : begins_behind page (get_or cut_runs (at + 1) []) ≡ true → HasRoomFor page cut_runs at
     into_first begins = record {
-      ahead = subst (λ rs. All (low page) (pages_in rs)) (sym (take_at (take at runs) (first ∷ second ∷ drop (at + 1) runs) at front)) place.ahead;
-      behind = behind_run page cut_runs cut_are_runs (at + 1) (λ lt. begins);
+      place = record {
+        ahead = subst (λ rs. All (low page) (pages_in rs)) (sym (take_at (take at runs) (first ∷ second ∷ drop (at + 1) runs) at front)) place.ahead;
+        behind = behind_run page cut_runs cut_are_runs (at + 1) (λ lt. begins);
+      };
+      within = omega (arith, second_within);
+      room = omega (arith, ap length first_at, first_long);
     }
 
-    -- where the second part does not begin behind the page whose run is cut, that part is the run of the page
-    pub into_second : begins_behind page (get_or cut_runs (at + 1) []) ≡ false → IsRunOf page cut_runs (at + 1)
+    -- where the second part does not begin behind the page whose run is cut, that part has room for the page
+    pub into_second : begins_behind page (get_or cut_runs (at + 1) []) ≡ false → HasRoomFor page cut_runs (at + 1)
     into_second from_it =
         let three : cut_runs ≡ (take at runs ++ (first ∷ second ∷ [])) ++ drop (at + 1) runs = sym (append_assoc (take at runs) (first ∷ second ∷ []) (drop (at + 1) runs)) in
         let front_three : length (take at runs ++ (first ∷ second ∷ [])) ≡ at + 1 + 1 = length-append (take at runs) (first ∷ second ∷ []) ∙ omega (arith, front) in
         let rest : drop (at + 1 + 1) cut_runs ≡ drop (at + 1) runs = ap (drop (at + 1 + 1)) three ∙ drop_at (take at runs ++ (first ∷ second ∷ [])) (drop (at + 1) runs) (at + 1 + 1) front_three in
         record {
-          ahead = ahead_of_run page cut_runs cut_are_runs (at + 1) second_room.0 from_it;
-          behind = subst (λ rs. All (high page) (pages_in rs)) (sym rest) place.behind;
+          place = record {
+            ahead = ahead_of_run page cut_runs cut_are_runs (at + 1) second_within from_it;
+            behind = subst (λ rs. All (high page) (pages_in rs)) (sym rest) place.behind;
+          };
+          within = second_within;
+          room = omega (arith, ap length second_at, second_long);
         }
 
 -- the page is taken out of its run

@@ -1,8 +1,11 @@
 -- The pages once the stale dup at a place went.
-use Rattle.ksm_pages.proofs.Names.{[], All, All-head, All-tail, all_rows, ap, AreTied, arith, Bool, cases_Bool, Dup, dup_at, dup_numbered, DupRow, elsewhere, eq-eqb, eqb-true, false, filter, find, find_all, find_nothing, find_passes, frame_of, frame_seen, get_or, GuestPage, Held, held_at, inl, inr, is_live, is_some, is_stale, IsVacant, item_count, length, List, list_any, lodging, lodgings_of, Merged, merged_into, nat_lt, nat_tests, None, none_counted, not, Option, option_and_then, option_map, PageState, Private, refl, Row, row_at, rows_of, same_page, slice_get, Some, stands_at, sym, tied_counted, true, true≢false, Waiting, Zero, ℕ, ◌&&◌, ◌==◌, ◌∙◌, ◌∷◌, ◌≡◌}
+use Rattle.ksm_pages.proofs.Names.{[], All, All-head, All-tail, all_rows, ap, AreTied, arith, Bool, cases_Bool, Dup, dup_at, dup_numbered, DupRow, elsewhere, eq-eqb, eqb-true, false, filter, find, find_all, find_nothing, find_passes, frame_of, frame_seen, get_or, GuestPage, Held, held_at, inl, inr, is_live, is_some, is_stale, IsVacant, item_count, length, List, list_any, lodging, lodgings_of, Merged, merged_into, nat_lt, nat_tests, None, none_counted, not, Option, option_and_then, option_map, PageState, Private, refl, Row, row_at, rows_of, same_page, slice_get, Some, stands_at, sym, tied_counted, true, true≢false, Waiting, Zero, ℕ, ◌&&◌, ◌==◌, ◌∙◌, ◌∷◌, ◌≡◌, filter_all, find_none}
 use Rattle.ksm_tree.specs.Dups.{rows_of as dup_rows}
 use Rattle.ksm_pages.proofs.Changing.{row_found}
+use Rattle.ksm_pages.proofs.Found.{find_kept}
 use Rattle.ksm_pages.proofs.Lodgings.{frame_by, seat}
+use Rattle.ksm_pages.proofs.Options.{some_mapped}
+use Rattle.ksm_rmap.proofs.Ordered.{none_found}
 
 vacant_stale : (place : ℕ) (rows : List Row) (dups : List Dup) → AreTied rows dups → IsVacant place rows (dup_rows dups)
     → All (λ d. stands_at place d ≡ true → is_stale d ≡ true) dups
@@ -23,42 +26,18 @@ found_stale place (d ∷ dups) stale =
       | inr away ↦ grind (arith, away, rest)
     ]
 
-number_known : (o : Option Dup) → is_some (option_map (λ d. d.row.number) o) ≡ is_some o
-number_known None = refl
-number_known (Some d) = refl
-
 -- the dup at a vacant place is stale
 pub stale_there : (place : ℕ) (rows : List Row) (dups : List Dup) → AreTied rows dups → IsVacant place rows (dup_rows dups)
     → is_some (option_map (λ d. d.row.number) (dup_at place dups)) ≡ true
     → is_some (find (λ d. stands_at place d && is_stale d) dups) ≡ true
 stale_there place rows dups tied vacant there = ap is_some (found_stale place dups (vacant_stale place rows dups tied vacant))
-    ∙ sym (number_known (dup_at place dups)) ∙ there
+    ∙ sym (some_mapped (λ (d : Dup). d.row.number) (dup_at place dups)) ∙ there
 
 -- where no dup stands at a place, all stand elsewhere
 pub all_elsewhere : (place : ℕ) (ds : List DupRow) → list_any (λ d. d.place == place) ds ≡ false → filter (elsewhere place) ds ≡ ds
-all_elsewhere place [] none = refl
-all_elsewhere place (d ∷ ds) none =
-    let here : (d.place == place) ≡ false = grind (arith, nat_tests, none) in
-    let rest = all_elsewhere place ds (grind (arith, nat_tests, none)) in
-    grind (arith, here, rest)
-
--- what a search finds among all dups it finds among those that are kept, where the dup found is kept
-pub find_kept : (test keep : DupRow → Bool) (ds : List DupRow) (o : Option DupRow) → find test ds ≡ o
-    → ((e : DupRow) → o ≡ Some e → keep e ≡ true) → find test (filter keep ds) ≡ o
-find_kept test keep [] o is kept = is
-find_kept test keep (d ∷ ds) o is kept =
-    elim (cases_Bool (test d)) [
-      | inl passes ↦
-          let here : o ≡ Some d = grind (arith, passes, is) in
-          let stays = kept d here in
-          grind (arith, passes, stays, here)
-      | inr fails ↦
-          let rest = find_kept test keep ds o (grind (arith, fails, is)) kept in
-          elim (cases_Bool (keep d)) [
-            | inl stays ↦ grind (arith, fails, stays, rest)
-            | inr goes ↦ grind (arith, goes, rest)
-          ]
-    ]
+all_elsewhere place ds none =
+    let at : DupRow → Bool = λ d. d.place == place in
+    filter_all (elsewhere place) ds (λ k e lt. ap not (find_none at ds (none_found at ds none) k e lt))
 
 -- no dup with items stands at a vacant place
 pub none_live : (place : ℕ) (rows : List Row) (dups : List Dup) → AreTied rows dups → IsVacant place rows (dup_rows dups)

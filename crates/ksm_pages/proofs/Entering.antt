@@ -1,52 +1,26 @@
 -- The pages once one came with a row and a frame of its own.
-use Rattle.ksm_pages.proofs.Names.{[], AllPairs, AllPairs-cons, ap, AreTied, AreWaiting, arith, cases_Bool, comes_before, cond, Err, false, frame_of, Frames, get_or-map, GuestPage, Held, held_at, if◌then◌else◌, inl, InPageOrder, inr, Inside, length-map, lies_on, List, lodgings_of, merged_state, None, Ok, OnErr, OnOk, Option, option_map, ordered_with, PagesValue, PagesView, pairs_head, pairs_tail, refl, Result, Row, row_at, row_inserted, rows_of, RowsView, same_page, same_page_eq, same_page_refl, same_page_sym, seen, Some, subst, sym, tied_inserted, true, waiting_state, with_held, with_row, ℕ, ◌<◌, ◌∙◌, ◌∷◌, ◌≡◌}
-use Rattle.ksm_pages.proofs.Changing.{row_found, rows_with}
+use Rattle.ksm_pages.proofs.Names.{AllPairs, ap, AreTied, AreWaiting, arith, comes_before, cond, Err, false, frame_of, Frames, GuestPage, Held, held_at, InPageOrder, Inside, length-map, lies_on, List, lodgings_of, merged_state, None, Ok, OnErr, OnOk, Option, ordered_with, PagesValue, PagesView, refl, Result, Row, row_at, row_inserted, rows_of, RowsView, same_page_refl, seen, Some, subst, sym, tied_inserted, true, waiting_state, with_held, with_row, ℕ, ◌∙◌, ◌≡◌, ap₂, holds}
+use Rattle.std.proofs.Math.ListN.{get_or-map}
+use Rattle.ksm_pages.proofs.Changing.{nothing_held, rows_with}
 use Rattle.ksm_pages.proofs.Found.{find_put, find_put_other}
 use Rattle.ksm_pages.proofs.Leaving.{AreLawful, of_dup, view_of}
-use Rattle.ksm_pages.proofs.Lodgings.{frame_by, seat}
+use Rattle.ksm_pages.proofs.Lodgings.{frame_by, lodged_one, seat}
 use Rattle.ksm_pages.proofs.Turning.{Comes}
 
 -- what is kept of rows in order is in order
 held_rise : (held : List Held) → InPageOrder (rows_of held) → AllPairs (λ h g. comes_before h.row.page g.row.page ≡ true) held
-held_rise [] rise = λ i j d less lt. absurd (omega arith)
-held_rise (h ∷ hs) rise =
-    let R = λ (r s : Row). comes_before r.page s.page ≡ true in
-    AllPairs-cons (λ h g. comes_before h.row.page g.row.page ≡ true) h hs
-    (λ k d lt. subst (λ (r : Row). comes_before h.row.page r.page ≡ true) (get_or-map (λ (g : Held). g.row) hs k d d.row lt)
-    (pairs_head R h.row (rows_of hs) rise k d.row (subst (λ n. k < n) (sym (length-map hs (λ (g : Held). g.row))) lt)))
-    (held_rise hs (pairs_tail R h.row (rows_of hs) rise))
-
--- nothing is kept of a page without a row
-pub nothing_held : (page : GuestPage) (held : List Held) → row_at page (rows_of held) ≡ None → held_at page held ≡ None
-nothing_held page held absent = go (held_at page held) (sym (row_found page held) ∙ absent)
-  where
-    go : (o : Option Held) → option_map (λ (h : Held). h.row) o ≡ None → o ≡ None
-    go None is = refl
-    go (Some h) is = absurd (grind (arith, is))
+held_rise held rise i j d less lt =
+    let row : Held → Row = λ h. h.row in
+    ap₂ (λ (r s : Row). comes_before r.page s.page) (sym (get_or-map row held i d)) (sym (get_or-map row held j d))
+    ∙ rise i j d.row less (omega (arith, lt, length-map held row))
 
 -- the page comes to lie where its row says, and no other page moves
 lodged_put : (of_dup : ℕ → Option ℕ) (held : List Held) (h : Held) → InPageOrder (rows_of held) → held_at h.row.page held ≡ None
     → frame_of (lodgings_of of_dup (with_held h held)) ≡ lies_on h.row.page (seat of_dup (Some h)) (frame_of (lodgings_of of_dup held))
-lodged_put of_dup held h rise absent = λ i p. at p i
-  where
-    page : GuestPage
-    page = h.row.page
-
-    at : (p : GuestPage) → frame_of (lodgings_of of_dup (with_held h held)) p
-        ≡ (if same_page p page then seat of_dup (Some h) else frame_of (lodgings_of of_dup held) p)
-    at p =
-        frame_by of_dup (with_held h held) p
-        ∙ elim (cases_Bool (same_page p page)) [
-          | inl yes_it ↦
-              ap (λ q. seat of_dup (held_at q (with_held h held))) (same_page_eq p page yes_it)
-              ∙ ap (seat of_dup) (find_put (λ (g : Held). g.row.page) page h held refl)
-              ∙ ap (λ b. cond b (seat of_dup (Some h)) (frame_of (lodgings_of of_dup held) p)) (sym yes_it)
-          | inr not_it ↦
-              ap (seat of_dup) (find_put_other (λ (g : Held). g.row.page) page p h held refl (held_rise held rise) absent
-              (same_page_sym page p ∙ not_it))
-              ∙ sym (frame_by of_dup held p)
-              ∙ ap (λ b. cond b (seat of_dup (Some h)) (frame_of (lodgings_of of_dup held) p)) (sym not_it)
-        ]
+lodged_put of_dup held h rise absent =
+    let page_of : Held → GuestPage = λ g. g.row.page in
+    lodged_one of_dup h.row.page held (with_held h held) (find_put page_of h.row.page h held refl)
+    (λ p apart. find_put_other page_of h.row.page p h held refl (held_rise held rise) absent apart)
 
 module _ (s : Inside) (are : AreLawful s) {p : PagesValue} (seen_as : view_of s ≡ p) (h : Held)
     (absent : row_at h.row.page p.rows ≡ None) where
@@ -107,16 +81,6 @@ but_there new old rows page o is =
     )
 
 -- ---------------------------------------------------------------- results
-
--- whatever follows from the promise for Ok may be promised for Ok instead
-pub ok_then : {T E P Q : Type 0} (r : Result T E) → OnOk r P → (P → Q) → OnOk r Q
-ok_then (Ok x) holds so = so holds
-ok_then (Err e) holds so = tt
-
--- whatever follows from the promise for an error may be promised for an error instead
-pub err_then : {T E P Q : Type 0} (r : Result T E) → OnErr r P → (P → Q) → OnErr r Q
-err_then (Ok x) holds so = tt
-err_then (Err e) holds so = so holds
 
 -- what follows from the promise for Ok, and also from the promise for an error, follows
 pub either_way : {T E P O Q : Type 0} (r : Result T E) → OnOk r P → OnErr r O → (P → Q) → (O → Q) → Q

@@ -1,12 +1,17 @@
 -- Entries under keys and the order of their pages: what is found, and what one entry that came, went or changed leaves.
 use Rattle.ksm_pages.proofs.Names.{All, All-append, All-cons, All-filter, All-map, ap, ap₂, AreAscending, AreFiled, Bool, cases_Bool, change_held, comes_before, cond, Decides-eqb, Entry, false, filter, filter_passes, find, find_all, find_passes, get, get_or, GuestPage, Held, held_at, held_in, held_of, held_under, holds, if◌then◌else◌, inl, InPageOrder, inr, is_of, IsUnder, key_in, List, map, map-append, marked, Named, named_of, None, not, Option, option_map, refl, rows_of, same_page, same_page_eq, same_page_refl, same_page_sym, same_Some, Slab, Some, subst, sym, true, true≢false, with_held, with_named, without_held, without_named, ℕ, ◌++◌, ◌==◌, ◌∙◌, ◌∷◌, ◌≡◌, ◌≢◌}
+use Rattle.ksm_pages.proofs.Options.{none_mapped}
 use Rattle.slab.specs.Slab.{Updates as Fills}
 use Rattle.ksm_tree.proofs.Numbering.{full}
 use Rattle.ksm_tree.proofs.Alike.{filter_mapped, find_mapped, map_alike, map_mapped, pairs_mapped}
-use Rattle.ksm_pages.proofs.Found.{each_found, find_gone_other, find_put, find_put_other}
+use Rattle.ksm_pages.proofs.Found.{each_found, find_change, find_gone_other, find_put, find_put_other}
 
 abbrev page_of : Named → GuestPage
 page_of n = n.page
+
+-- the row that a slab has under the key of a name
+abbrev pub held_by : ℕ → Slab Entry → Named → Held
+held_by pass slab n = held_under pass (get slab n.key)
 
 -- numbers that are told apart differ
 pub differ_by : (m n : ℕ) → (m == n) ≡ false → m ≢ n
@@ -90,42 +95,32 @@ module _ (slab : Slab Entry) (order : List Named) (rise : AreAscending order) (f
   all_stand k d lt = (filed (get_or order k d)).0 (each_found page_of order rise k d lt)
 
   module _ (pass : ℕ) where
-    abbrev held_by : Named → Held
-    held_by n = held_under pass (get slab n.key)
-
     -- what is held of a page is what stands under the key that the order names for the page
-    pub held_found : (page : GuestPage) → held_at page (held_in pass slab order) ≡ option_map held_by (find (is_of page) order)
-    held_found page = find_mapped held_by (holds page) (is_of page) order (λ k d lt. ap (λ p. same_page p page) (page_under pass slab (get_or order k d) (all_stand k d lt)))
+    pub held_found : (page : GuestPage) → held_at page (held_in pass slab order) ≡ option_map (held_by pass slab) (find (is_of page) order)
+    held_found page = find_mapped (held_by pass slab) (holds page) (is_of page) order (λ k d lt. ap (λ p. same_page p page) (page_under pass slab (get_or order k d) (all_stand k d lt)))
 
     -- what is held of a page is what its entry says
     pub held_there : (page : GuestPage) (key : ℕ) (e : Entry) → get slab key ≡ Some e → e.page ≡ page → held_at page (held_in pass slab order) ≡ Some (held_of pass e)
     held_there page key e stands of_page =
         held_found page
-        ∙ ap (λ p. option_map held_by (find (is_of p) order)) (sym of_page)
-        ∙ ap (option_map held_by) (named_under slab order filed key e stands)
+        ∙ ap (λ p. option_map (held_by pass slab) (find (is_of p) order)) (sym of_page)
+        ∙ ap (option_map (held_by pass slab)) (named_under slab order filed key e stands)
         ∙ ap (λ o. Some (held_under pass o)) stands
 
     -- a page that has no key in the order has no row
     pub held_nowhere : (page : GuestPage) → key_in order page ≡ None → held_at page (held_in pass slab order) ≡ None
-    held_nowhere page told = held_found page ∙ go (find (is_of page) order) told
-      where
-        go : (o : Option Named) → option_map (λ n. n.key) o ≡ None → option_map held_by o ≡ None
-        go None none = refl
-        go (Some n) none = absurd (full n.key (Some n.key) none refl)
+    held_nowhere page told =
+        held_found page ∙ ap (option_map (held_by pass slab)) (none_mapped (λ n. n.key) (find (is_of page) order) told)
 
     -- a page that has no row has no name in the order
     pub key_nowhere : (page : GuestPage) → held_at page (held_in pass slab order) ≡ None → find (is_of page) order ≡ None
-    key_nowhere page told = go (find (is_of page) order) (sym (held_found page) ∙ told)
-      where
-        go : (o : Option Named) → option_map held_by o ≡ None → o ≡ None
-        go None none = refl
-        go (Some n) none = absurd (full (held_by n) (Some (held_by n)) none refl)
+    key_nowhere page told = none_mapped (held_by pass slab) (find (is_of page) order) (sym (held_found page) ∙ told)
 
     -- the rows are in the order of their pages
     pub rows_rise : InPageOrder (rows_of (held_in pass slab order))
     rows_rise =
         pairs_mapped (λ h g. comes_before h.row.page g.row.page ≡ true) (λ r s. comes_before r.page s.page ≡ true) (λ h. h ≡ h) (λ h. h.row) (λ h g p q less. less) (held_in pass slab order) (λ k d lt. refl)
-        (pairs_mapped (λ m n. comes_before m.page n.page ≡ true) (λ h g. comes_before h.row.page g.row.page ≡ true) (λ n. (held_by n).row.page ≡ n.page) held_by
+        (pairs_mapped (λ m n. comes_before m.page n.page ≡ true) (λ h g. comes_before h.row.page g.row.page ≡ true) (λ n. (held_by pass slab n).row.page ≡ n.page) (held_by pass slab)
         (λ m n p q less. ap₂ comes_before p q ∙ less) order (λ k d lt. page_under pass slab (get_or order k d) (all_stand k d lt)) rise)
 
   -- ---------------------------------------------------------------- one entry changed
@@ -151,28 +146,22 @@ module _ (slab : Slab Entry) (order : List Named) (rise : AreAscending order) (f
     module _ (later : Slab Entry) (e' : Entry) (fills : Fills slab later key (Some e')) (same : e'.page ≡ e.page) where
       -- where one entry is written anew, the row of its page is changed, and no other
       pub written : (pass : ℕ) (f : Held → Held) → held_of pass e' ≡ f (held_of pass e) → held_in pass later order ≡ change_held e.page f (held_in pass slab order)
-      written pass f is = sym (map_mapped (λ h. if holds e.page h then f h else h) before after order (λ k d lt. at (get_or order k d) (all_stand k d lt)))
+      written pass f is = sym (map_mapped (λ h. if holds e.page h then f h else h) (held_by pass slab) (held_by pass later) order (λ k d lt. at (get_or order k d) (all_stand k d lt)))
         where
-          before : Named → Held
-          before n = held_under pass (get slab n.key)
-
-          after : Named → Held
-          after n = held_under pass (get later n.key)
-
-          at : (n : Named) → Stands slab n → (if holds e.page (before n) then f (before n) else before n) ≡ after n
+          at : (n : Named) → Stands slab n → (if holds e.page (held_by pass slab n) then f (held_by pass slab n) else held_by pass slab n) ≡ held_by pass later n
           at n stands = elim (cases_Bool (n.key == key)) [
             | inl here ↦
                 let is_key : n.key ≡ key = (Decides-eqb n.key key).0 here in
-                let was : before n ≡ held_of pass e = ap (λ k. held_under pass (get slab k)) is_key ∙ ap (held_under pass) stood in
-                let now : after n ≡ held_of pass e' = ap (λ k. held_under pass (get later k)) is_key ∙ ap (held_under pass) fills.changed in
+                let was : held_by pass slab n ≡ held_of pass e = ap (λ k. held_under pass (get slab k)) is_key ∙ ap (held_under pass) stood in
+                let now : held_by pass later n ≡ held_of pass e' = ap (λ k. held_under pass (get later k)) is_key ∙ ap (held_under pass) fills.changed in
                 ap (λ (h : Held). if holds e.page h then f h else h) was
                 ∙ ap (λ b. cond b (f (held_of pass e)) (held_of pass e)) (same_page_refl e.page)
                 ∙ sym is
                 ∙ sym now
             | inr other ↦
                 let apart : n.key ≢ key = differ_by n.key key other in
-                let no : holds e.page (before n) ≡ false = ap (λ p. same_page p e.page) (page_under pass slab n stands) ∙ named_elsewhere n stands apart in
-                ap (λ b. cond b (f (before n)) (before n)) no ∙ ap (held_under pass) (sym (fills.others n.key apart))
+                let no : holds e.page (held_by pass slab n) ≡ false = ap (λ p. same_page p e.page) (page_under pass slab n stands) ∙ named_elsewhere n stands apart in
+                ap (λ b. cond b (f (held_by pass slab n)) (held_by pass slab n)) no ∙ ap (held_under pass) (sym (fills.others n.key apart))
           ]
 
       -- how the order names what stands under a key
@@ -197,13 +186,7 @@ module _ (slab : Slab Entry) (order : List Named) (rise : AreAscending order) (f
       mark n = if is_of e.page n then record n { mergeable = e'.mergeable } else n
 
       find_marked : (page : GuestPage) → find (is_of page) (marked e.page e'.mergeable order) ≡ option_map mark (find (is_of page) order)
-      find_marked page = find_mapped mark (is_of page) (is_of page) order (λ k d lt. keeps (get_or order k d))
-        where
-          keeps : (n : Named) → is_of page (mark n) ≡ is_of page n
-          keeps n = elim (cases_Bool (is_of e.page n)) [
-            | inl yes_it ↦ ap (λ b. is_of page (cond b (record n { mergeable = e'.mergeable }) n)) yes_it
-            | inr not_it ↦ ap (λ b. is_of page (cond b (record n { mergeable = e'.mergeable }) n)) not_it
-          ]
+      find_marked page = find_change page_of e.page (λ n. record n { mergeable = e'.mergeable }) (λ n. refl) page order
 
       -- where one entry is written anew and its page marked with its flag, pages are named as their entries say
       pub filed_marked : AreFiled later (marked e.page e'.mergeable order)
@@ -255,17 +238,9 @@ module _ (slab : Slab Entry) (order : List Named) (rise : AreAscending order) (f
       -- where one entry is gone with the name of its page, the row of that page is gone, and no other
       pub taken : (pass : ℕ) → held_in pass later (without_named e.page order) ≡ without_held e.page (held_in pass slab order)
       taken pass =
-          map_alike after before (without_named e.page order) stay
-          ∙ sym (filter_mapped before (λ h. not (holds e.page h)) (λ n. not (is_of e.page n)) order (λ k d lt. ap (λ p. not (same_page p e.page)) (page_under pass slab (get_or order k d) (all_stand k d lt))))
-        where
-          before : Named → Held
-          before n = held_under pass (get slab n.key)
-
-          after : Named → Held
-          after n = held_under pass (get later n.key)
-
-          stay : All (λ n. after n ≡ before n) (without_named e.page order)
-          stay k d lt = ap (held_under pass) (fills.others (get_or (without_named e.page order) k d).key (away k d lt).1)
+          map_alike (held_by pass later) (held_by pass slab) (without_named e.page order)
+          (λ k d lt. ap (held_under pass) (fills.others (get_or (without_named e.page order) k d).key (away k d lt).1))
+          ∙ sym (filter_mapped (held_by pass slab) (λ h. not (holds e.page h)) (λ n. not (is_of e.page n)) order (λ k d lt. ap (λ p. not (same_page p e.page)) (page_under pass slab (get_or order k d) (all_stand k d lt))))
 
       -- where one entry is gone with the name of its page, the other pages are named as their entries say
       pub filed_taken : AreFiled later (without_named e.page order)
@@ -287,23 +262,17 @@ module _ (slab : Slab Entry) (order : List Named) (rise : AreAscending order) (f
     -- where an entry came under a vacant key with a name, the rows have its row at the place of its page
     pub put : (pass : ℕ) → held_in pass later (with_named (named_of key e) order) ≡ with_held (held_of pass e) (held_in pass slab order)
     put pass =
-        map-append after (filter (λ n. comes_before n.page e.page) order) (named_of key e ∷ filter (λ n. comes_before e.page n.page) order)
+        map-append (held_by pass later) (filter (λ n. comes_before n.page e.page) order) (named_of key e ∷ filter (λ n. comes_before e.page n.page) order)
         ∙ ap₂ (λ front back. front ++ back) (part (λ p. comes_before p e.page)) (ap₂ (λ h hs. h ∷ hs) (ap (held_under pass) fills.changed) (part (comes_before e.page)))
       where
-        before : Named → Held
-        before n = held_under pass (get slab n.key)
-
-        after : Named → Held
-        after n = held_under pass (get later n.key)
-
-        part : (test : GuestPage → Bool) → map after (filter (λ n. test n.page) order) ≡ filter (λ h. test h.row.page) (map before order)
+        part : (test : GuestPage → Bool) → map (held_by pass later) (filter (λ n. test n.page) order) ≡ filter (λ h. test h.row.page) (held_in pass slab order)
         part test =
-            map_alike after before (filter (λ n. test n.page) order)
+            map_alike (held_by pass later) (held_by pass slab) (filter (λ n. test n.page) order)
             (λ k d lt.
             let n = get_or (filter (λ (m : Named). test m.page) order) k d in
             let stands = All-filter (λ (m : Named). test m.page) (Stands slab) order all_stand k d lt in
             ap (held_under pass) (fills.others n.key (taken_key n stands)))
-            ∙ sym (filter_mapped before (λ h. test h.row.page) (λ n. test n.page) order (λ k d lt. ap test (page_under pass slab (get_or order k d) (all_stand k d lt))))
+            ∙ sym (filter_mapped (held_by pass slab) (λ h. test h.row.page) (λ n. test n.page) order (λ k d lt. ap test (page_under pass slab (get_or order k d) (all_stand k d lt))))
 
     -- where an entry came under a vacant key with a name, all pages are named as their entries say
     pub filed_put : AreFiled later (with_named (named_of key e) order)

@@ -1,7 +1,25 @@
--- Lists in the order of their pages: what a search finds, and what is counted, once one came, went or changed.
-use Rattle.ksm_pages.proofs.Names.{[], All, All-cons, AllPairs, ap, arith, Bool, cases_Bool, comes_before, cond, count_by, false, filter, filter_passes, find, find-append, find_nothing, find_over, get_or, GuestPage, if◌then◌else◌, inl, inr, List, map, None, not, not-true, one_if, option_or, pages_ordered, pairs_head, pairs_tail, refl, same_page, same_page_eq, same_page_refl, Some, sym, true, ◌++◌, ◌+◌, ◌∙◌, ◌∷◌, ◌≡◌, ◌≤◌}
-use Rattle.ksm_pages.proofs.Keyed.{byte_of, changed_count, found_counted, removed_count}
+-- Lists in the order of their pages: what a search finds once one came, went or changed.
+use Rattle.ksm_pages.proofs.Names.{[], All, All-cons, AllPairs, ap, arith, Bool, cases_Bool, comes_before, cond, false, filter, filter_passes, find, find-append, find_nothing, find_over, get_or, GuestPage, if◌then◌else◌, inl, inr, List, map, None, not, not-true, option_or, pages_ordered, pairs_head, pairs_tail, refl, same_page, same_page_eq, same_page_refl, Some, sym, true, ◌++◌, ◌∙◌, ◌∷◌, ◌≡◌, Option, cond_both, find_passes, option_map, same_page_sym}
 use Rattle.ksm_rmap.proofs.Ordered.{absent_parts}
+use Rattle.ksm_tree.proofs.Alike.{find_mapped}
+
+-- what a search finds among all it finds among those that are kept, where the one found is kept
+pub find_kept : {X : Type 0} (test keep : X → Bool) (xs : List X) (o : Option X) → find test xs ≡ o
+    → ((x : X) → o ≡ Some x → keep x ≡ true) → find test (filter keep xs) ≡ o
+find_kept test keep [] o is kept = is
+find_kept test keep (x ∷ xs) o is kept =
+    elim (cases_Bool (test x)) [
+      | inl passes ↦
+          let here : o ≡ Some x = grind (arith, passes, is) in
+          let stays = kept x here in
+          grind (arith, passes, stays, here)
+      | inr fails ↦
+          let rest = find_kept test keep xs o (grind (arith, fails, is)) kept in
+          elim (cases_Bool (keep x)) [
+            | inl stays ↦ grind (arith, fails, stays, rest)
+            | inr goes ↦ grind (arith, goes, rest)
+          ]
+    ]
 
 module _ {X : Type 0} (key : X → GuestPage) where
   abbrev Before : X → X → Type 0
@@ -49,27 +67,37 @@ module _ {X : Type 0} (key : X → GuestPage) where
     pub find_gone : (xs : List X) → find is_it (filter (λ y. not (is_it y)) xs) ≡ None
     find_gone xs = find_nothing is_it (filter (λ y. not (is_it y)) xs) (λ k d lt. not-true (is_it (get_or (filter (λ y. not (is_it y)) xs) k d)) (filter_passes (λ y. not (is_it y)) xs k d lt))
 
+    -- an element that a search for another page finds is not of the page
+    not_it : (other : GuestPage) (xs : List X) → same_page page other ≡ false → (y : X) → find (is_of_page other) xs ≡ Some y → is_it y ≡ false
+    not_it other xs differ y is =
+        ap (λ p. same_page p page) (same_page_eq (key y) other (find_passes (is_of_page other) xs y is)) ∙ same_page_sym other page ∙ differ
+
     -- without the elements of a page, a search for another page finds what it found before
     pub find_gone_other : (other : GuestPage) (xs : List X) → same_page page other ≡ false → find (is_of_page other) (filter (λ y. not (is_it y)) xs) ≡ find (is_of_page other) xs
-    find_gone_other other [] differ = refl
-    find_gone_other other (y ∷ ys) differ =
-        let rest = find_gone_other other ys differ in
-        elim (cases_Bool (is_it y)) [
-          | inl equal ↦
-              let no : is_of_page other y ≡ false = ap (λ p. same_page p other) (same_page_eq (key y) page equal) ∙ differ in
-              grind (arith, equal, no, rest)
-          | inr here ↦ grind (arith, here, rest)
-        ]
+    find_gone_other other xs differ =
+        find_kept (is_of_page other) (λ y. not (is_it y)) xs (find (is_of_page other) xs) refl (λ y is. ap not (not_it other xs differ y is))
 
-    module _ (p : X → Bool) (xs : List X) (x : X) (rise : AllPairs Before xs) (found : find is_it xs ≡ Some x) where
-      -- an element that a search for its page finds is counted where it passes
-      pub counted_once : one_if (p x) ≤ count_by p xs
-      counted_once = omega (arith, found_counted key page p x xs rise found, byte_of (p x))
+    -- the element of the page is changed, but for its page
+    module _ (f : X → X) (same : (y : X) → key (f y) ≡ key y) where
+      abbrev change : X → X
+      change y = if is_it y then f y else y
 
-      -- a change of the element of a page moves the count by what that element counted and counts now
-      pub count_one_changed : (f : X → X) → count_by p (map (λ y. if is_it y then f y else y) xs) + one_if (p x) ≡ count_by p xs + one_if (p (f x))
-      count_one_changed f = omega (arith, counted_once, changed_count key page p x xs rise found f, byte_of (p x), byte_of (p (f x)))
+      -- a search finds what it found, changed
+      pub find_change : (other : GuestPage) (xs : List X) → find (is_of_page other) (map change xs) ≡ option_map change (find (is_of_page other) xs)
+      find_change other xs =
+          find_mapped change (is_of_page other) (is_of_page other) xs
+          (λ k d lt. let y = get_or xs k d in
+          cond_both (is_it y) (f y) y (λ z. same_page (key z) other ≡ same_page (key y) other) (λ _. ap (λ p. same_page p other) (same y)) (λ _. refl))
 
-      -- without the element of the page the count is less by what that element counted
-      pub count_one_gone : count_by p (filter (λ y. not (is_it y)) xs) + one_if (p x) ≡ count_by p xs
-      count_one_gone = omega (arith, counted_once, removed_count key page p x xs rise found, byte_of (p x))
+      -- a search for the page finds the changed element
+      pub find_changed : (xs : List X) (x : X) → find is_it xs ≡ Some x → find is_it (map change xs) ≡ Some (f x)
+      find_changed xs x found =
+          find_change page xs ∙ ap (option_map change) found ∙ ap (λ b. Some (cond b (f x) x)) (find_passes is_it xs x found)
+
+      -- a search for another page finds what it found before
+      pub find_changed_other : (other : GuestPage) (xs : List X) → same_page page other ≡ false → find (is_of_page other) (map change xs) ≡ find (is_of_page other) xs
+      find_changed_other other xs differ = find_change other xs ∙ go (find (is_of_page other) xs) refl
+        where
+          go : (o : Option X) → find (is_of_page other) xs ≡ o → option_map change o ≡ o
+          go None is = refl
+          go (Some y) is = ap (λ b. Some (cond b (f y) y)) (not_it other xs differ y is)

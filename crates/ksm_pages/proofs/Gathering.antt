@@ -1,5 +1,5 @@
 -- A walk along the order that lists the pages that a visit may change.
-use Rattle.ksm_pages.proofs.Names.{[], after_cursor, All, All-cons, All-map, ap, AreAllListed, AreAscending, AreFiled, AreListed, arith, before_irrefl, before_trans, Bool, cases_Bool, comes_before, Entry, false, filter, find, find_all, find_none, find_passes, get, get_or, GuestPage, has_item, Held, held_in, held_under, inl, inr, is_of, is_own, is_restless, is_some, IsAddedTo, IsUnder, Kind, length, List, Listing, may_change, Named, named_of, None, not, Option, option_map, own_state, PageState, pairs_head, pairs_tail, Private, refl, rows_of, same_page, same_page_refl, same_Some, shared_state, Slab, Some, state_of, sym, true, true≢false, Waiting, ℕ, ◌&&◌, ◌<◌, ◌==◌, ◌∙◌, ◌∷◌, ◌≡◌, ◌≤◌, ◌⊎◌}
+use Rattle.ksm_pages.proofs.Names.{[], after_cursor, All, All-cons, All-map, ap, AreAllListed, AreAscending, AreFiled, AreListed, arith, before_irrefl, before_trans, Bool, cases_Bool, comes_before, Entry, false, filter, find, find_all, find_none, find_passes, get, get_or, GuestPage, has_item, Held, held_in, held_under, inl, inr, is_of, is_own, is_restless, is_some, IsAddedTo, IsUnder, Kind, length, List, Listing, may_change, Named, named_of, None, not, Option, option_map, own_state, PageState, pairs_head, pairs_tail, Private, refl, rows_of, same_page, same_page_refl, same_Some, shared_state, Slab, Some, state_of, sym, true, true≢false, Waiting, ℕ, ◌&&◌, ◌<◌, ◌==◌, ◌∙◌, ◌∷◌, ◌≡◌, ◌≤◌, ◌⊎◌, held_of}
 use Rattle.ksm_pages.specs.declared.row.Kind.TheVariants as kinds
 use Rattle.ksm_pages.specs.Held.{frame_of}
 use Rattle.ksm_pages.proofs.Filing.{all_stand, named_under, one_key, under_named}
@@ -15,6 +15,15 @@ pub framed : (kind : Kind) (number pass at : ℕ) → is_some (frame_of kind at)
 framed kinds.Own number pass at = own_either (λ state. true ≡ not (shared_state state)) refl refl (number == pass)
 framed kinds.Merged number pass at = refl
 framed kinds.Zero number pass at = refl
+
+own_by : (kind : Kind) (number pass : ℕ) → not (shared_state (state_of kind number pass)) ≡ is_own kind
+own_by kinds.Own number pass = own_either (λ state. not (shared_state state) ≡ true) refl refl (number == pass)
+own_by kinds.Merged number pass = refl
+own_by kinds.Zero number pass = refl
+
+-- a visit may change a row exactly where it may change its entry
+pub restless_as : (pass : ℕ) (e : Entry) → may_change (held_of pass e).row ≡ is_restless e
+restless_as pass e = ap (λ b. e.mergeable && b) (own_by e.kind e.number pass)
 
 -- of the pages up to a cursor those that a visit may change are listed
 abbrev pub AreListedUpTo : Slab Entry → Option GuestPage → Listing → Type 0
@@ -132,21 +141,13 @@ module _ (slab : Slab Entry) (order : List Named) (rise : AreAscending order) (f
       (All-map (λ (h : Held). may_change h.row ≡ true → has_item h.row.page pages ≡ true) (λ n. held_under pass (get slab n.key)) order
       (λ k d lt. at (get_or order k d) (all_stand slab order rise filed k d lt)))
     where
-      restless_too : (kind : Kind) (number : ℕ) (m : Bool) → (m && not (shared_state (state_of kind number pass))) ≡ true → (m && is_own kind) ≡ true
-      restless_too kinds.Own number m may = elim (cases_Bool m) [
-        | inl is ↦ let e = is in grind (arith, e)
-        | inr is ↦ let e = is in grind (arith, e, may)
-      ]
-      restless_too kinds.Merged number m may = may
-      restless_too kinds.Zero number m may = may
-
       at : (n : Named) → option_map (named_of n.key) (get slab n.key) ≡ Some n → may_change (held_under pass (get slab n.key)).row ≡ true → has_item (held_under pass (get slab n.key)).row.page pages ≡ true
       at n stands may =
           let u = under_named slab n stands in
           let e = u.entry in
           let may_e = ap (λ o. may_change (held_under pass o).row) (sym u.stands) ∙ may in
           ap (λ o. has_item (held_under pass o).row.page pages) u.stands
-          ∙ listed n.key e u.stands (restless_too e.kind e.number e.mergeable may_e)
+          ∙ listed n.key e u.stands (sym (restless_as pass e) ∙ may_e)
 
   -- a row has a frame of its own exactly where it is not shared
   pub rows_framed : (pass : ℕ) → All (λ h. is_some h.frame ≡ not (shared_state h.row.state)) (held_in pass slab order)

@@ -1,9 +1,11 @@
 -- The pages once a page with a frame of its own joined a dup.
-use Rattle.ksm_pages.proofs.Names.{All, ap, AreKept, AreTied, AreWaiting, arith, Bool, both_ways, change_held, change_items, change_row, count_by, Dup, dup_numbered, dup_of, DupRow, DupsState, each_at_page, Entry, eq-eqb, eqb-true, false, find_none, frame_of, frame_seen, Frames, get_or, GuestPage, has_number, HasRoom, Held, held_at, held_of, Inside, is_some, IsStopped, item_count, items_in, length, let_out, lies_on, List, Listing, lodging, lodgings_of, mapped, Merged, merged_into, merged_state, None, none-some, number_found, Option, option_map, own_state, PageState, PagesValue, PagesView, Private, refl, Row, row_at, row_found, row_stopped, rows_items, rows_of, RowsView, same_Some, seen, shared_state, Some, state_of, subst, sym, tied_count, tied_joined, true, true≢false, Waiting, with_item, Zero, ℕ, ◌<◌, ◌==◌, ◌∙◌, ◌≡◌}
+use Rattle.ksm_pages.proofs.Names.{All, ap, AreKept, AreTied, AreWaiting, arith, both_ways, change_held, change_items, change_row, count_by, Dup, dup_numbered, dup_of, DupRow, DupsState, each_at_page, Entry, eq-eqb, eqb-true, false, find_none, frame_of, frame_seen, Frames, get_or, GuestPage, has_number, HasRoom, Held, held_at, held_of, Inside, is_some, IsStopped, item_count, items_in, length, let_out, lies_on, List, Listing, lodging, lodgings_of, mapped, Merged, merged_into, merged_state, None, none-some, number_found, Option, option_map, PageState, PagesValue, PagesView, Private, refl, Row, row_at, row_found, row_stopped, rows_items, rows_of, RowsView, same_Some, seen, shared_state, Some, state_of, subst, sym, tied_count, tied_joined, true, true≢false, Waiting, with_item, Zero, ℕ, ◌<◌, ◌==◌, ◌∙◌, ◌≡◌, InPageOrder}
 use Rattle.ksm_tree.specs.Dups.{items_of as items_numbered, rows_of as dup_rows}
 use Rattle.ksm_pages.specs.Held.{frame_of as own_frame}
 use Rattle.ksm_pages.proofs.Writing.{own_kind}
 use Rattle.ksm_pages.proofs.Changing.{row_found as found_rows}
+use Rattle.ksm_pages.proofs.Gathering.{own_either}
+use Rattle.ksm_pages.proofs.Options.{some_mapped}
 use Rattle.ksm_pages.proofs.Leaving.{AreLawful, lawful_turned, of_dup, of_page, row_there, told, view_of}
 use Rattle.ksm_pages.proofs.Lodgings.{frame_by, seat}
 
@@ -21,10 +23,6 @@ let_out_alone Waiting page dups alone = refl
 let_out_alone Zero page dups alone = refl
 let_out_alone (Merged n) page dups alone = absurd (true≢false alone)
 
-same_known : (o : Option Dup) → is_some (option_map (λ d. d.row) o) ≡ is_some o
-same_known None = refl
-same_known (Some d) = refl
-
 known_at : (number : ℕ) (ds : List DupRow) (o : Option DupRow) → dup_numbered number ds ≡ o → (k : ℕ) (d : DupRow) → k < length ds
     → (get_or ds k d).number ≡ number → is_some o ≡ true
 known_at number ds None is k d lt at =
@@ -34,7 +32,7 @@ known_at number ds (Some e) is k d lt at = refl
 
 has_known : (rows : List Row) (dups : List Dup) (number : ℕ) → HasRoom rows (dup_rows dups) number → is_some (dup_of number dups) ≡ true
 has_known rows dups number room =
-    sym (same_known (dup_of number dups)) ∙ ap is_some (row_found (has_number number) (λ r. r.number == number) (λ d. refl) dups)
+    sym (some_mapped (λ (d : Dup). d.row) (dup_of number dups)) ∙ ap is_some (row_found (has_number number) (λ r. r.number == number) (λ d. refl) dups)
     ∙ known_at number (dup_rows dups) (dup_numbered number (dup_rows dups)) refl room.1.0 room.0 room.1.1
     (ap (λ (d : DupRow). d.number) room.1.2 ∙ room.2)
 
@@ -71,24 +69,17 @@ item_seat of number r merged (Some h) is =
     in_state of number h.row.state h.frame (ap (λ (x : Row). merged_into number x.state) (same_Some h.row r is) ∙ merged)
 
 -- an item of a dup lies where all its items do
-item_lies : (s : Inside) → AreLawful s → (number : ℕ)
-    → All (λ r. merged_into number r.state ≡ true → frame_of (lodgings_of (of_dup s) s.rows.held) r.page ≡ of_dup s number)
-    (rows_of s.rows.held)
-item_lies s are number k d lt merged =
-    let r = get_or (rows_of s.rows.held) k d in
-    frame_by (of_dup s) s.rows.held r.page
-    ∙ item_seat (of_dup s) number r merged (held_at r.page s.rows.held)
-    (sym (found_rows r.page s.rows.held) ∙ each_at_page (rows_of s.rows.held) are.order k d lt)
+pub item_lies : (of : ℕ → Option ℕ) (held : List Held) → InPageOrder (rows_of held) → (number : ℕ)
+    → All (λ r. merged_into number r.state ≡ true → frame_of (lodgings_of of held) r.page ≡ of number) (rows_of held)
+item_lies of held rise number k d lt merged =
+    let r = get_or (rows_of held) k d in
+    frame_by of held r.page ∙ item_seat of number r merged (held_at r.page held) (sym (found_rows r.page held) ∙ each_at_page (rows_of held) rise k d lt)
 
 -- a page with a frame of its own lies on that frame
 pub own_seat : (of : ℕ → Option ℕ) (pass : ℕ) (e : Entry) → shared_state (held_of pass e).row.state ≡ false
     → seat of (Some (held_of pass e)) ≡ Some e.at
 own_seat of pass e alone = ap (λ k. frame_seen of (state_of k e.number pass) (own_frame k e.at)) (own_kind e.kind e.number pass alone)
-    ∙ at (e.number == pass)
-  where
-    at : (b : Bool) → frame_seen of (own_state b) (Some e.at) ≡ Some e.at
-    at true = refl
-    at false = refl
+    ∙ own_either (λ state. frame_seen of state (Some e.at) ≡ Some e.at) refl refl (e.number == pass)
 
 module _ (s : Inside) (are : AreLawful s) (page : GuestPage) (h : Held) (found : held_at page s.rows.held ≡ Some h)
     (alone : shared_state h.row.state ≡ false) (number : ℕ)
@@ -141,7 +132,7 @@ module _ (s : Inside) (are : AreLawful s) (page : GuestPage) (h : Held) (found :
       (λ (v : PagesView). v.frame) whole in
       let lain = subst (λ (v : PagesValue). All
       (λ r. merged_into number r.state ≡ true → frame_of v.lodgings r.page ≡ of_dup s number) v.rows) seen_as
-      (item_lies s are number) in (
+      (item_lies (of_dup s) s.rows.held are.order number) in (
         whole ∙ (λ i. record (seen p) { rows = change_row page item p.rows; frame = sym frame i }),
         λ k r lt merged. frame ∙ ap (λ o. lies_on page o (frame_of p.lodgings)) (sym (lain k r lt merged)),
       )

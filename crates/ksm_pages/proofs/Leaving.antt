@@ -1,8 +1,9 @@
 -- The pages once the row of one page changed, or went: they are lawful still, and what is seen of them is changed so.
-use Rattle.ksm_pages.proofs.Names.{ap, ap₂, AreKept, AreTied, AreWaiting, cases_Bool, change_held, change_row, cond, DupsState, false, find_passes, frame_of, Frames, GuestPage, Held, held_at, holds, if◌then◌else◌, inl, InPageOrder, inr, Inside, is_some, IsAlone, IsKnown, IsStopped, let_out, lies_on, List, lodging, lodgings_of, MatchOption, merged_state, None, Option, option_map, ordered_map, ordered_without, PagesValue, Row, row_at, row_dropped, row_stopped, rows_of, rows_out, RowsView, same_page, same_page_eq, seen, shared_state, Some, subst, sym, tied_dropped, tied_left, true, waiting_state, without_held, without_page, ℕ, ◌∙◌, ◌≡◌}
+use Rattle.ksm_pages.proofs.Names.{ap, ap₂, AreKept, AreTied, AreWaiting, change_held, change_row, cond, DupsState, false, find_passes, frame_of, Frames, GuestPage, Held, held_at, holds, if◌then◌else◌, InPageOrder, Inside, is_some, IsAlone, IsKnown, IsStopped, let_out, lies_on, List, lodging, lodgings_of, MatchOption, merged_state, None, Option, option_map, ordered_map, ordered_without, PagesValue, Row, row_at, row_dropped, row_stopped, rows_of, rows_out, RowsView, same_page, same_page_eq, seen, shared_state, Some, subst, sym, tied_dropped, tied_left, true, waiting_state, without_held, without_page, ℕ, ◌∙◌, ◌≡◌, cond_both, refl}
 use Rattle.ksm_tree.specs.Dups.{rows_of as dup_rows}
 use Rattle.ksm_tree.proofs.Alike.{map_mapped}
-use Rattle.ksm_pages.proofs.Changing.{row_found, rows_changed, rows_without}
+use Rattle.ksm_tree.proofs.Indexed.{cond_if}
+use Rattle.ksm_pages.proofs.Changing.{row_told, rows_changed, rows_without}
 use Rattle.ksm_pages.proofs.Lodgings.{changed_to, frame_by, lodged_changed, lodged_gone, seat}
 
 -- where the items of each dup lie
@@ -31,43 +32,38 @@ held_twice page f g same held =
     map_mapped (λ h. if holds page h then g h else h) (λ h. if holds page h then f h else h) (λ h. if holds page h then g (f h) else h) held (λ k d lt. at _)
   where
     at : (h : Held) → (λ (x : Held). if holds page x then g x else x) (if holds page h then f h else h) ≡ (if holds page h then g (f h) else h)
-    at h = elim (cases_Bool (holds page h)) [
-      | inl yes_it ↦
-          let still : holds page (f h) ≡ true = ap (λ q. same_page q page) (same h) ∙ yes_it in
-          ap (λ b. (λ (x : Held). cond (holds page x) (g x) x) (cond b (f h) h)) yes_it ∙ ap (λ b. cond b (g (f h)) (f h)) still ∙ ap (λ b. cond b (g (f h)) h) (sym yes_it)
-      | inr not_it ↦
-          ap (λ b. (λ (x : Held). cond (holds page x) (g x) x) (cond b (f h) h)) not_it ∙ ap (λ b. cond b (g h) h) not_it ∙ ap (λ b. cond b (g (f h)) h) (sym not_it)
-    ]
+    at h =
+        let then_g : Held → Held = λ x. cond (holds page x) (g x) x in
+        cond_if (holds page h) (g (f h)) h (then_g (cond (holds page h) (f h) h))
+        (λ yes_it. ap (λ b. then_g (cond b (f h) h)) yes_it ∙ ap (λ b. cond b (g (f h)) (f h)) (ap (λ q. same_page q page) (same h) ∙ yes_it))
+        (λ not_it. ap (λ b. then_g (cond b (f h) h)) not_it ∙ ap (λ b. cond b (g h) h) not_it)
 
 -- a page that comes to lie where it lay does not move
 pub lies_same : (page : GuestPage) (frames : Frames) → lies_on page (frames page) frames ≡ frames
 lies_same page frames = λ i p. at p i
   where
     at : (p : GuestPage) → (if same_page p page then frames page else frames p) ≡ frames p
-    at p = elim (cases_Bool (same_page p page)) [
-      | inl yes_it ↦ ap (λ b. cond b (frames page) (frames p)) yes_it ∙ ap frames (sym (same_page_eq p page yes_it))
-      | inr not_it ↦ ap (λ b. cond b (frames page) (frames p)) not_it
-    ]
+    at p = cond_both (same_page p page) (frames page) (frames p) (λ o. o ≡ frames p) (λ yes_it. ap frames (sym (same_page_eq p page yes_it))) (λ _. refl)
 
 module _ (s : Inside) (p : PagesValue) (seen_as : view_of s ≡ p) (page : GuestPage) where
   rows_seen : rows_of s.rows.held ≡ p.rows
   rows_seen = ap (λ (v : PagesValue). v.rows) seen_as
 
   -- the row of a page that is seen is the row of what is held of the page
-  pub row_seen : row_at page p.rows ≡ option_map (λ (g : Held). g.row) (held_at page s.rows.held)
-  row_seen = ap (row_at page) (sym rows_seen) ∙ row_found page s.rows.held
+  pub row_seen : {o : Option Held} → held_at page s.rows.held ≡ o → row_at page p.rows ≡ option_map (λ g. g.row) o
+  row_seen is = ap (row_at page) (sym rows_seen) ∙ row_told page s.rows.held is
 
   -- a page that has a row among those seen is held
   pub known_there : held_at page s.rows.held ≡ None → IsKnown page p.rows → true ≡ false
-  known_there gone known = sym known ∙ ap is_some row_seen ∙ ap (λ o. is_some (option_map (λ (g : Held). g.row) o)) gone
+  known_there gone known = sym known ∙ ap is_some (row_seen gone)
 
   -- a page with a frame of its own is held
   pub alone_there : held_at page s.rows.held ≡ None → IsAlone page p.rows → true ≡ false
-  alone_there gone alone = subst (λ o. MatchOption o (true ≡ false) (λ (r : Row). shared_state r.state ≡ false)) (row_seen ∙ ap (option_map (λ (g : Held). g.row)) gone) alone
+  alone_there gone alone = subst (λ o. MatchOption o (true ≡ false) (λ (r : Row). shared_state r.state ≡ false)) (row_seen gone) alone
 
   -- what is held of a page with a frame of its own has a row that is not shared
   pub alone_found : (h : Held) → held_at page s.rows.held ≡ Some h → IsAlone page p.rows → shared_state h.row.state ≡ false
-  alone_found h found alone = subst (λ o. MatchOption o (true ≡ false) (λ (r : Row). shared_state r.state ≡ false)) (row_seen ∙ ap (option_map (λ (g : Held). g.row)) found) alone
+  alone_found h found alone = subst (λ o. MatchOption o (true ≡ false) (λ (r : Row). shared_state r.state ≡ false)) (row_seen found) alone
 
 module _ (s : Inside) (are : AreLawful s) (page : GuestPage) (h : Held) (found : held_at page s.rows.held ≡ Some h) where
   abbrev old : Row
@@ -75,7 +71,7 @@ module _ (s : Inside) (are : AreLawful s) (page : GuestPage) (h : Held) (found :
 
   -- what is held of a page tells its row among the rows
   pub row_there : row_at page (rows_of s.rows.held) ≡ Some old
-  row_there = row_found page s.rows.held ∙ ap (option_map (λ (g : Held). g.row)) found
+  row_there = row_told page s.rows.held found
 
   -- the row that is held of a page is of that page
   pub of_page : old.page ≡ page
@@ -93,10 +89,7 @@ module _ (s : Inside) (are : AreLawful s) (page : GuestPage) (h : Held) (found :
 
     -- a change of the row of one page alone leaves the page of every row
     pub keeps : (r : Row) → (if same_page r.page page then g r else r).page ≡ r.page
-    keeps r = elim (cases_Bool (same_page r.page page)) [
-      | inl yes_it ↦ ap (λ b. (cond b (g r) r).page) yes_it ∙ same r
-      | inr not_it ↦ ap (λ b. (cond b (g r) r).page) not_it
-    ]
+    keeps r = cond_both (same_page r.page page) (g r) r (λ x. x.page ≡ r.page) (λ _. same r) (λ _. refl)
 
     -- once a page's row changed, the pages are lawful if the dups and waiting pages are those of the new rows
     pub lawful_turned : (later : DupsState) → later.places ≡ s.dups.places → AreTied (change_row page (λ _. g old) (rows_of s.rows.held)) later.dups

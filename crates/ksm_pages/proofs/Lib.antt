@@ -1,4 +1,5 @@
 pub mod Names
+pub mod Options
 pub mod Between
 pub mod Coming
 pub mod Counts

@@ -1,5 +1,6 @@
 -- The pages once the items of a dup went to another frame.
-use Rattle.ksm_pages.proofs.Names.{[], All, All-head, All-tail, ap, arith, cases_Bool, cond, dup_numbered, DupRow, each_has_number, eq-eqb, eqb-true, false, find_all, find_passes, frame_of, frame_seen, get_or, Held, held_at, if◌then◌else◌, inl, InPlaceOrder, inr, is_item, items_on, length, List, list_any, lodging, lodgings_of, Merged, merged_into, None, one_of_each_place, Option, option_and_then, option_map, PageState, Private, refl, rows_of, set, slice_get, Some, subst, sym, true, Waiting, Zero, ℕ, ◌<◌, ◌==◌, ◌∙◌, ◌∷◌, ◌≡◌}
+use Rattle.ksm_pages.proofs.Names.{[], All, All-head, All-tail, ap, arith, cases_Bool, dup_numbered, DupRow, each_has_number, eq-eqb, eqb-true, false, find_all, find_passes, frame_of, frame_seen, get_or, Held, held_at, if◌then◌else◌, inl, InPlaceOrder, inr, is_item, items_on, length, List, list_any, lodging, lodgings_of, Merged, merged_into, None, one_of_each_place, Option, option_and_then, option_map, PageState, Private, refl, rows_of, set, slice_get, Some, subst, sym, true, Waiting, Zero, ℕ, ◌<◌, ◌==◌, ◌∙◌, ◌∷◌, ◌≡◌}
+use Rattle.ksm_tree.proofs.Indexed.{cond_if}
 use Rattle.ksm_pages.proofs.Changing.{row_found}
 use Rattle.ksm_pages.proofs.Filing.{differ_by}
 use Rattle.ksm_pages.proofs.Lodgings.{frame_by, seat}
@@ -50,10 +51,7 @@ module _ (dups : List DupRow) (rise : InPlaceOrder dups) (frames : List ℕ) (pl
         at_state Private own = refl
         at_state Waiting own = refl
         at_state Zero own = refl
-        at_state (Merged n) own = elim (cases_Bool (n == d.number)) [
-          | inl same ↦ ap of_now (eqb-true n d.number same) ∙ moved ∙ ap (λ b. cond b (Some frame) (of n)) (sym same)
-          | inr other ↦ stayed n other ∙ ap (λ b. cond b (Some frame) (of n)) (sym other)
-        ]
+        at_state (Merged n) own = cond_if (n == d.number) (Some frame) (of n) (of_now n) (λ same. ap of_now (eqb-true n d.number same) ∙ moved) (stayed n)
 
     lie_now : (held : List Held)
         → frame_of (lodgings_of of_now held) ≡ items_on d.number frame (rows_of held) (frame_of (lodgings_of of held))

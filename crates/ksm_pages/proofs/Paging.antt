@@ -1,5 +1,5 @@
 -- What is read of the pages: rows and dups found by their pages, places and numbers.
-use Rattle.ksm_pages.proofs.Names.{[], Ahead, All, ap, AreAllListed, AreDups, AreTied, AreWaiting, arith, At, Bool, cases_Bool, comes_before, cond, Contains, Contains-from_any, Dup, dup_at, dup_numbered, dup_of, DupRow, DupsState, each_has_number, End, eqb-true, false, filter, find, find_all, found_passing, frame_seen, get_or, GuestPage, has_items, has_number, Held, held_at, inl, InPageOrder, InPlaceOrder, inr, is_live, is_some, is_stale, items_in, items_of, Kind, Knobs, last_or, last_page, length, length-map, List, list_any, live_placed, lodging, lodgings_of, map, Merged, merged_into, None, not, not-not, Option, option_and_then, option_map, option_or, pages_ahead, PageState, passing, Private, Reaches, refl, Row, row_at, rows_ahead, rows_between, rows_of, same_page, same_page_eq, same_Some, shared_state, slice_get, slice_get-get_or, slice_get-map, Some, stale_alike, stands_at, stands_numbered, state_of, subst, suc, sym, tied_counted, true, true≢false, unwrap_or-slice_get, Waiting, waiting_state, WaitingPage, waits_there, Zero, ℕ, ◌&&◌, ◌-◌, ◌<◌, ◌==◌, ◌∙◌, ◌∷◌, ◌≡◌}
+use Rattle.ksm_pages.proofs.Names.{[], Ahead, All, ap, AreAllListed, AreDups, AreTied, AreWaiting, arith, At, Bool, cases_Bool, comes_before, cond, Contains, Contains-from_any, Dup, dup_at, dup_numbered, dup_of, DupRow, DupsState, each_has_number, End, false, filter, find, find_all, found_passing, frame_seen, get_or, GuestPage, has_items, has_number, Held, held_at, inl, InPageOrder, InPlaceOrder, inr, is_live, is_some, is_stale, items_in, items_of, Kind, Knobs, last_or, last_page, length, length-map, List, list_any, live_placed, lodging, lodgings_of, map, merged_into, None, not, not-not, Option, option_and_then, option_map, option_or, pages_ahead, passing, Reaches, refl, Row, row_at, rows_ahead, rows_between, rows_of, same_page, same_page_eq, same_Some, shared_state, slice_get, slice_get-get_or, slice_get-map, Some, stale_alike, stands_at, stands_numbered, state_of, subst, suc, sym, tied_counted, true, unwrap_or-slice_get, waiting_state, WaitingPage, waits_there, ℕ, ◌&&◌, ◌-◌, ◌<◌, ◌==◌, ◌∙◌, ◌∷◌, ◌≡◌}
 use Rattle.std.proofs.Common.{unwrap_or}
 use Rattle.ksm_base.specs.Rows.{is_stale as is_stale_row}
 use Rattle.ksm_tree.specs.Dups.{rows_of as dup_rows}
@@ -8,18 +8,12 @@ use Rattle.ksm_pages.specs.declared.row.Kind.TheVariants as kinds
 use Rattle.ksm_pages.specs.Held.{frame_of}
 use Rattle.ksm_pages.specs.Paged.{ComesTo, frame_of as lies_at, is_restless}
 use Rattle.ksm_tree.proofs.Alike.{filter_mapped}
-use Rattle.ksm_pages.proofs.Changing.{row_found}
-use Rattle.ksm_pages.proofs.Found.{each_found}
+use Rattle.ksm_rmap.proofs.Ordered.{any_found}
+use Rattle.ksm_pages.proofs.Changing.{nothing_held, row_found}
 use Rattle.ksm_pages.proofs.Gathering.{framed, own_either}
-use Rattle.ksm_pages.proofs.Reading.{some_mapped}
+use Rattle.ksm_pages.proofs.Joined.{item_lies}
+use Rattle.ksm_pages.proofs.Options.{some_mapped, mapped_twice}
 use Rattle.ksm_pages.proofs.Lodgings.{frame_by, seat}
-
--- ---------------------------------------------------------------- options
-
--- two maps of an option, one after the other, are one map
-pub mapped_twice : {X Y Z : Type 0} (f : Y → Z) (g : X → Y) (o : Option X) → option_map f (option_map g o) ≡ option_map (λ x. f (g x)) o
-mapped_twice f g None = refl
-mapped_twice f g (Some x) = refl
 
 -- ---------------------------------------------------------------- rows
 
@@ -65,13 +59,11 @@ place_guessed guess number dups rise is = go (dup_at guess dups) refl is ∙ pla
 
 -- a dup is found at a place exactly where a row stands there
 pub any_at : (place : ℕ) (dups : List Dup) → is_some (option_map (λ d. d.row.number) (dup_at place dups)) ≡ list_any (λ d. d.place == place) (dup_rows dups)
-any_at place [] = refl
-any_at place (d ∷ dups) =
-    let rest = any_at place dups in
-    elim (cases_Bool (d.row.place == place)) [
-      | inl here ↦ grind (arith, here, rest)
-      | inr away ↦ grind (arith, away, rest)
-    ]
+any_at place dups =
+    some_mapped (λ (d : Dup). d.row.number) (dup_at place dups)
+    ∙ sym (some_mapped (λ (d : Dup). d.row) (dup_at place dups))
+    ∙ ap is_some (dup_row_found (stands_at place) (λ r. r.place == place) (λ d. refl) dups)
+    ∙ sym (any_found (λ (r : DupRow). r.place == place) (dup_rows dups))
 
 -- the first stale dup by its items stands at the place of the first stale dup by the rows
 pub stale_at : (rows : List Row) (dups : List Dup) → AreTied rows dups → option_map (λ d. d.row.place) (find is_stale dups) ≡ option_map (λ (r : DupRow). r.place) (find (is_stale_row rows) (dup_rows dups))
@@ -88,21 +80,9 @@ kept_at_place frames (Some d) = refl
 
 -- ---------------------------------------------------------------- the row of a page
 
--- what is held of a page tells its row
-pub row_told : (page : GuestPage) (held : List Held) (h : Held) → held_at page held ≡ Some h → row_at page (rows_of held) ≡ Some h.row
-row_told page held h is = row_found page held ∙ ap (option_map (λ (g : Held). g.row)) is
-
--- where nothing is held of a page, it has no row
-pub row_gone : (page : GuestPage) (held : List Held) → held_at page held ≡ None → row_at page (rows_of held) ≡ None
-row_gone page held is = row_found page held ∙ ap (option_map (λ (g : Held). g.row)) is
-
 -- a page without a row lies on no frame
 pub lies_nowhere : (of_dup : ℕ → Option ℕ) (held : List Held) (page : GuestPage) → row_at page (rows_of held) ≡ None → lies_at (lodgings_of of_dup held) page ≡ None
-lies_nowhere of_dup held page gone = frame_by of_dup held page ∙ go (held_at page held) (sym (row_found page held) ∙ gone)
-  where
-    go : (o : Option Held) → option_map (λ (g : Held). g.row) o ≡ None → seat of_dup o ≡ None
-    go None is = refl
-    go (Some h) is = absurd (grind (arith, is))
+lies_nowhere of_dup held page gone = frame_by of_dup held page ∙ ap (seat of_dup) (nothing_held page held gone)
 
 -- where the pages of all rows that a visit may change are listed, each such row's page is in the list
 pub listed_pages : (rows : List Row) (pages : List GuestPage) → AreAllListed rows pages → All (λ r. is_restless r ≡ true → Contains pages r.page) rows
@@ -110,33 +90,21 @@ listed_pages rows pages all k d lt may = Contains-from_any {eq = λ q p. same_pa
 
 -- ---------------------------------------------------------------- the dups at their places
 
-merged_is : (number : ℕ) (state : PageState) → merged_into number state ≡ true → state ≡ Merged number
-merged_is number Private no_it = absurd (true≢false (sym no_it))
-merged_is number Waiting no_it = absurd (true≢false (sym no_it))
-merged_is number (Merged n) is = ap Merged (eqb-true n number is)
-merged_is number Zero no_it = absurd (true≢false (sym no_it))
-
 -- the items of a dup lie on the frame that is kept at its place
 pub items_lodge : (held : List Held) (s : DupsState) (frames : List ℕ) → InPageOrder (rows_of held) → AreDups s → s.places ≡ length frames → (place : ℕ) (frame : ℕ) → frame ≡ unwrap_or (slice_get frames place) 0
     → All (λ d. d.place ≡ place → All (λ r. merged_into d.number r.state ≡ true → lies_at (lodgings_of (lodging (dup_rows s.dups) frames) held) r.page ≡ Some frame) (rows_of held)) (dup_rows s.dups)
 items_lodge held s frames rise lawful as_many place frame is k e lt at i f lt_row merged =
     let of_dup = lodging (dup_rows s.dups) frames in
     let d = get_or (dup_rows s.dups) k e in
-    let r = get_or (rows_of held) i f in
-    let there : row_at r.page (rows_of held) ≡ Some r = each_found (λ (x : Row). x.page) (rows_of held) rise i f lt_row in
     let lodges : of_dup d.number ≡ Some frame =
     ap (option_and_then (λ (x : DupRow). slice_get frames x.place)) (each_has_number (dup_rows s.dups) lawful.in_place_order k e lt)
     ∙ ap (slice_get frames) at
     ∙ within place (let below = lawful.places_below k e lt in omega (arith, below, at, as_many))
     ∙ ap Some (sym is) in
-    frame_by of_dup held r.page ∙ go of_dup d.number r merged (held_at r.page held) (sym (row_found r.page held) ∙ there) ∙ lodges
+    item_lies of_dup held rise d.number i f lt_row merged ∙ lodges
   where
     within : (p : ℕ) → p < length frames → slice_get frames p ≡ Some (unwrap_or (slice_get frames p) 0)
     within p lt = slice_get-get_or frames p 0 lt ∙ ap Some (sym (unwrap_or-slice_get frames p 0))
-
-    go : (of_dup : ℕ → Option ℕ) (number : ℕ) (r : Row) → merged_into number r.state ≡ true → (o : Option Held) → option_map (λ (g : Held). g.row) o ≡ Some r → seat of_dup o ≡ of_dup number
-    go of_dup number r merged None no_it = absurd (grind (arith, no_it))
-    go of_dup number r merged (Some h) is = ap (λ state. frame_seen of_dup state h.frame) (ap (λ (x : Row). x.state) (same_Some h.row r is) ∙ merged_is number r.state merged)
 
 module _ (rows : List Row) (dups : List Dup) (place : ℕ) (tied : AreTied rows dups) where
   -- no dup with items stands at a place where none is found

@@ -1,14 +1,15 @@
 -- The pages once two of them became the items of a new dup.
-use Rattle.ksm_pages.proofs.Names.{[], All, ap, ap₂, AreDups, AreKept, AreTied, AreWaiting, arith, at_others, cases_Bool, change_held, change_row, change_rows, cond, dup_numbered, DupRow, DupsState, elsewhere, Entry, false, find, find_all, frame_of, Frames, get_or, GuestPage, Held, held_at, held_of, inl, InPageOrder, InPlaceOrder, inr, Inside, is_live, IsStopped, length, length-set, let_out, lies_on, List, lodging, lodgings_of, mapped, MatchOption, MayPair, Merged, merged_into, None, not, Option, option_and_then, option_map, ordered_change, PagesValue, paired, place_kept, place_new, refl, Row, row_at, row_stopped, rows_new, rows_of, RowsView, same_page, same_page_eq, same_page_sym, seen, set, slice_get, Some, stands_at, subst, suc, sym, tied_made, tree_of, true, with_dup, with_item, with_new, zero, ℕ, ◌&&◌, ◌+◌, ◌<◌, ◌==◌, ◌||◌, ◌∙◌, ◌∷◌, ◌≡◌, ◌≢◌}
+use Rattle.ksm_pages.proofs.Names.{[], All, ap, ap₂, AreDups, AreKept, AreTied, AreWaiting, arith, at_others, cases_Bool, change_held, change_row, change_rows, cond, dup_numbered, DupRow, DupsState, elsewhere, Entry, false, find, find_all, frame_of, Frames, get_or, GuestPage, Held, held_at, held_of, inl, InPageOrder, InPlaceOrder, inr, Inside, is_live, IsStopped, length, length-set, let_out, lies_on, List, lodging, lodgings_of, mapped, MatchOption, MayPair, Merged, merged_into, None, not, Option, option_and_then, option_map, ordered_change, PagesValue, paired, place_kept, place_new, refl, Row, row_at, row_stopped, rows_new, rows_of, RowsView, same_page, same_page_eq, seen, set, slice_get, Some, stands_at, subst, suc, sym, tied_made, tree_of, true, with_dup, with_item, with_new, zero, ℕ, ◌&&◌, ◌+◌, ◌<◌, ◌==◌, ◌||◌, ◌∙◌, ◌∷◌, ◌≡◌, ◌≢◌, get_or-set_same, slice_get-get_or}
 use Rattle.std.specs.Vec.{with_item as with_frame}
 use Rattle.ksm_tree.specs.Dups.{rows_of as dup_rows}
 use Rattle.ksm_tree.proofs.Alike.{map_mapped}
-use Rattle.ksm_pages.proofs.Changing.{row_found, rows_changed}
-use Rattle.ksm_pages.proofs.Dropping.{find_kept, lodged_alike, none_live, not_vacant}
+use Rattle.ksm_pages.proofs.Changing.{row_told, rows_changed}
+use Rattle.ksm_pages.proofs.Dropping.{lodged_alike, none_live, not_vacant}
 use Rattle.ksm_pages.proofs.Filing.{differ_by}
+use Rattle.ksm_pages.proofs.Found.{find_changed_other, find_kept}
 use Rattle.ksm_pages.proofs.Joined.{let_out_alone, own_not_merged, own_seat}
 use Rattle.ksm_pages.proofs.Leaving.{AreLawful, lies, lies_same, of_dup, of_page, row_seen, view_of}
-use Rattle.ksm_pages.proofs.Lodgings.{changed_to, found_changed, frame_by, lodged_changed, seat}
+use Rattle.ksm_pages.proofs.Lodgings.{changed_to, frame_by, lodged_changed, seat}
 use Rattle.ksm_pages.proofs.Paging.{kept_at_place}
 use Rattle.ksm_pages.proofs.Visiting.{lawful_numbered, seen_numbered}
 
@@ -16,9 +17,8 @@ use Rattle.ksm_pages.proofs.Visiting.{lawful_numbered, seen_numbered}
 
 -- a number written at a place is found there
 pub set_there : (xs : List ℕ) (i x : ℕ) → i < length xs → slice_get (set xs i x) i ≡ Some x
-set_there [] i x lt = absurd (omega (arith, lt))
-set_there (y ∷ ys) zero x lt = refl
-set_there (y ∷ ys) (suc i) x lt = set_there ys i x (omega (arith, lt))
+set_there xs i x lt =
+    slice_get-get_or (set xs i x) i x (omega (arith, lt, length-set xs i x)) ∙ ap Some (get_or-set_same xs i x x lt)
 
 -- a number written at a place leaves all other places as they are
 pub set_away : (xs : List ℕ) (i j x : ℕ) → j ≢ i → slice_get (set xs i x) j ≡ slice_get xs j
@@ -82,12 +82,9 @@ IsOfBoth P o q = MatchOption o (true ≡ false) (λ r. MatchOption q (true ≡ f
 
 module _ (s : Inside) (p : PagesValue) (seen_as : view_of s ≡ p) (place : ℕ) (first second : GuestPage)
     (may : IsOfBoth (MayPair (seen p) place) (row_at first p.rows) (row_at second p.rows)) where
-  row_is : (page : GuestPage) (o : Option Held) → held_at page s.rows.held ≡ o → row_at page p.rows ≡ option_map (λ h. h.row) o
-  row_is page o is = row_seen s p seen_as page ∙ ap (option_map (λ (h : Held). h.row)) is
-
   may_first : (o : Option Held) → held_at first s.rows.held ≡ o
       → IsOfBoth (MayPair (seen p) place) (option_map (λ h. h.row) o) (row_at second p.rows)
-  may_first o is = subst (λ r. IsOfBoth (MayPair (seen p) place) r (row_at second p.rows)) (row_is first o is) may
+  may_first o is = subst (λ r. IsOfBoth (MayPair (seen p) place) r (row_at second p.rows)) (row_seen s p seen_as first is) may
 
   -- the first of two pages that may pair is held
   pub first_there : held_at first s.rows.held ≡ None → true ≡ false
@@ -99,14 +96,14 @@ module _ (s : Inside) (p : PagesValue) (seen_as : view_of s ≡ p) (place : ℕ)
     where
       go : (o : Option Held) → held_at first s.rows.held ≡ o → true ≡ false
       go None is = first_there is
-      go (Some a) is = subst (IsOfBoth (MayPair (seen p) place) (Some a.row)) (row_is second None gone) (may_first (Some a) is)
+      go (Some a) is = subst (IsOfBoth (MayPair (seen p) place) (Some a.row)) (row_seen s p seen_as second gone) (may_first (Some a) is)
 
   -- and the rows may become items
   may_both : (a b : Held) → held_at first s.rows.held ≡ Some a → held_at second s.rows.held ≡ Some b
       → MayPair (seen (view_of s)) place a.row b.row
   may_both a b found also =
       subst (λ v. MayPair (seen v) place a.row b.row) (sym seen_as)
-      (subst (IsOfBoth (MayPair (seen p) place) (Some a.row)) (row_is second (Some b) also) (may_first (Some a) found))
+      (subst (IsOfBoth (MayPair (seen p) place) (Some a.row)) (row_seen s p seen_as second also) (may_first (Some a) found))
 
 -- the dups with a new one of two pages
 abbrev with_pair : DupRow → GuestPage → GuestPage → DupsState → DupsState
@@ -233,9 +230,7 @@ module _ {s : Inside} {p : PagesValue} {place : ℕ} {first second : GuestPage} 
 
     found_second : held_at b.row.page half ≡ Some b
     found_second =
-        found_changed a.row.page into (λ h. refl) b.row.page s.rows.held
-        ∙ ap (λ c. cond c (option_map into (held_at b.row.page s.rows.held)) (held_at b.row.page s.rows.held))
-        (same_page_sym b.row.page a.row.page ∙ may.apart)
+        find_changed_other (λ (h : Held). h.row.page) a.row.page into (λ h. refl) b.row.page s.rows.held may.apart
         ∙ ap (λ q. held_at q s.rows.held) (sym at_second) ∙ it.also
 
     half_rows : rows_of half ≡ change_row a.row.page item before
@@ -254,7 +249,7 @@ module _ {s : Inside} {p : PagesValue} {place : ℕ} {first second : GuestPage} 
     whole =
         both_rows
         ∙ changed_to b.row.page item (rows_of half) b.row half_order
-        (row_found b.row.page half ∙ ap (option_map (λ (h : Held). h.row)) found_second)
+        (row_told b.row.page half found_second)
         ∙ ap (change_row b.row.page (λ _. item b.row)) (half_rows ∙ changed_to a.row.page item before a.row are.order may.first_is)
 
     -- the pages are lawful once two of them became the items of a new dup
@@ -332,7 +327,5 @@ module _ {s : Inside} {p : PagesValue} {place : ℕ} {first second : GuestPage} 
     told_paired =
         let now = seen (view_of (record s { rows = rows; dups = later; frames = with_frame s.frames place frame })) in
         let is = told ∙ ap (λ v. paired place a.row b.row (seen v)) it.seen_as in
-        let row_is : (page : GuestPage) (h : Held) → held_at page s.rows.held ≡ Some h → Some h.row ≡ row_at page p.rows =
-        λ page h there. sym (row_seen s p it.seen_as page ∙ ap (option_map (λ (g : Held). g.row)) there) in
-        subst (λ o. IsOfBoth (λ r t. now ≡ paired place r t (seen p)) o (row_at second p.rows)) (row_is first a it.found)
-        (subst (IsOfBoth (λ r t. now ≡ paired place r t (seen p)) (Some a.row)) (row_is second b it.also) is)
+        subst (λ o. IsOfBoth (λ r t. now ≡ paired place r t (seen p)) o (row_at second p.rows)) (sym (row_seen s p it.seen_as first it.found))
+        (subst (IsOfBoth (λ r t. now ≡ paired place r t (seen p)) (Some a.row)) (sym (row_seen s p it.seen_as second it.also)) is)

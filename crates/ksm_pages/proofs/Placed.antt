@@ -1,7 +1,7 @@
 -- The run of a page among the runs: what comes before it and behind it, and what a change of it is for all pages.
 use Rattle.std.proofs.lemmas.List.Sums.{AllPass-from_list_all}
 use Rattle.std.proofs.Math.Seq.{take-suc}
-use Rattle.ksm_pages.proofs.Names.{[], add-one, All, All-append, All-drop, All-nil, All-set, AllWithin, ap, append-nil, AreAscending, AreRuns, arith, begins_behind, Bool, cases_lt, comes_before, drop, drop_all, drop_more, false, find, find-append, flat_map-append, get_or, GuestPage, inl, inr, is_of, IsRunOf, length, List, list_all, marked, Named, None, not, not-false, not-true, Option, option_or, pages_in, pages_ordered, refl, set, set_split, slice_get, subst, suc, sym, take, take-append-drop, true, with_named, without_named, ℕ, ◌++◌, ◌+◌, ◌-◌, ◌<◌, ◌∙◌, ◌∷◌, ◌≡◌, ◌≢◌, ◌≤◌}
+use Rattle.ksm_pages.proofs.Names.{[], add-one, All, All-append, All-drop, All-nil, All-set, AllWithin, ap, append-nil, AreAscending, AreRuns, arith, begins_behind, Bool, cases_lt, comes_before, drop, drop_all, drop_more, false, find, find-append, flat_map-append, get_or, GuestPage, inl, inr, is_of, IsRunOf, length, List, list_all, marked, Named, not, not-false, not-true, Option, option_or, pages_in, pages_ordered, refl, set, set_split, slice_get, subst, suc, sym, take, take-append-drop, true, with_named, without_named, ℕ, ◌++◌, ◌+◌, ◌-◌, ◌<◌, ◌∙◌, ◌∷◌, ◌≡◌, ◌≢◌, ◌≤◌, find_nothing}
 use Rattle.ksm_pages.proofs.Between.{all_behind, before_last, pairs_first, pairs_second}
 use Rattle.ksm_pages.proofs.Keyed.{changed_between, find_between, with_between}
 use Rattle.ksm_rmap.proofs.Ordered.{without_between}
@@ -98,14 +98,6 @@ pub find_first : {X : Type 0} (p : X → Bool) (xs : List X) → All (λ x. p x 
 find_first p [] all = refl
 find_first p (x ∷ xs) all = let here : p x ≡ true = all 0 x (omega arith) in grind (arith, here)
 
--- where none passes, none is found
-none_found : {X : Type 0} (p : X → Bool) (xs : List X) → All (λ x. p x ≡ false) xs → find p xs ≡ None
-none_found p [] none = refl
-none_found p (x ∷ xs) none =
-    let here : p x ≡ false = none 0 x (omega arith) in
-    let rest = none_found p xs (λ k d lt. none (suc k) d (omega arith)) in
-    grind (arith, here, rest)
-
 module _ (page : GuestPage) (runs : List (List Named)) (at : ℕ) (d : List Named) (place : IsRunOf page runs at) (within : at < length runs) where
   -- a search for a page among all pages finds what it finds in the run of the page
   pub find_in_run : find (is_of page) (pages_in runs) ≡ find (is_of page) (get_or runs at d)
@@ -122,7 +114,7 @@ module _ (page : GuestPage) (runs : List (List Named)) (at : ℕ) (d : List Name
       let ys = pages_in (drop (at + 1) runs) in
       ap (find behind) (pages_cut runs at d within)
       ∙ find-append behind xs (run ++ ys)
-      ∙ ap (λ found. option_or found (find behind (run ++ ys))) (none_found behind xs (λ k e lt. pages_ordered.asym (get_or xs k e).page page (place.ahead k e lt)))
+      ∙ ap (λ found. option_or found (find behind (run ++ ys))) (find_nothing behind xs (λ k e lt. pages_ordered.asym (get_or xs k e).page page (place.ahead k e lt)))
       ∙ find-append behind run ys
       ∙ ap (option_or (find behind run)) (find_first behind ys place.behind)
 

@@ -1,13 +1,9 @@
 -- What is read of the rows along their order.
 use Rattle.ksm_pages.proofs.Names.{after_cursor, Ahead, ahead_of, All, All-filter, ap, ap₂, AreAscending, AreFiled, At, Bool, comes_before, ComesTo, count_by, End, Entry, filter, find, find_all, get, get_or, GuestPage, Held, held_at, held_in, held_under, is_some, key_in, last_or, length, length-map, List, map, Named, None, Option, option_map, option_or, pages_ahead, passed_to, Reaches, refl, Row, rows_of, same_page, Slab, slice_get, slice_get-map, Some, subst, sym, ℕ, ◌&&◌, ◌-◌, ◌<◌, ◌∙◌, ◌≡◌}
+use Rattle.ksm_pages.proofs.Options.{some_mapped}
 use Rattle.ksm_pages.specs.Ordered.{last_or as last_named}
 use Rattle.ksm_tree.proofs.Alike.{count_mapped, filter_mapped, find_mapped, map_mapped}
 use Rattle.ksm_pages.proofs.Filing.{all_stand, flag_under, held_found, page_under}
-
--- an option is full once it is mapped exactly where it was full
-pub some_mapped : {X Y : Type 0} (f : X → Y) (o : Option X) → is_some (option_map f o) ≡ is_some o
-some_mapped f None = refl
-some_mapped f (Some x) = refl
 
 abbrev page_of : Named → GuestPage
 page_of n = n.page

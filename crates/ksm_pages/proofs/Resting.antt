@@ -1,7 +1,16 @@
 -- Rows that wait no more, and the row of a page that has one.
-use Rattle.ksm_pages.proofs.Names.{All, ap, bytes_eq, false, frame_seen, get_or, GuestPage, Held, held_at, Inside, is_some, IsKnown, let_go, List, map, Merged, merged_into, None, Option, option_map, PageState, PagesValue, Private, private_state, refl, Row, settled, settled_state, shared_state, Some, stored, sym, true, true≢false, unshared, Waiting, waiting_state, Zero, ℕ, ◌&&◌, ◌∙◌, ◌≡◌}
+use Rattle.ksm_pages.proofs.Names.{All, ap, bytes_eq, false, frame_seen, get_or, GuestPage, Held, held_at, Inside, IsKnown, let_go, List, map, Merged, merged_into, None, Option, PageState, PagesValue, Private, private_state, refl, Row, settled, settled_state, shared_state, Some, stored, sym, true, true≢false, unshared, Waiting, waiting_state, Zero, ℕ, ◌&&◌, ◌∙◌, ◌≡◌}
 use Rattle.ksm_tree.proofs.Alike.{map_alike}
-use Rattle.ksm_pages.proofs.Leaving.{row_seen, view_of}
+use Rattle.ksm_pages.proofs.Leaving.{known_there, view_of}
+
+-- two readings of a state, the first of it settled, agree where they do at each kind of state
+pub settled_by : {X : Type 0} (p q : PageState → X) → p Private ≡ q Private → p Private ≡ q Waiting → ((n : ℕ) → p (Merged n) ≡ q (Merged n))
+    → p Zero ≡ q Zero
+    → (s : PageState) → p (settled_state s) ≡ q s
+settled_by p q own waits merged zero_too Private = own
+settled_by p q own waits merged zero_too Waiting = waits
+settled_by p q own waits merged zero_too (Merged n) = merged n
+settled_by p q own waits merged zero_too Zero = zero_too
 
 -- a row with a frame of its own is Private once it is settled
 pub rests : (state : PageState) → shared_state state ≡ false → settled_state state ≡ Private
@@ -23,30 +32,18 @@ went r alone = λ i. record r { mergeable = false; unchanged = false; state = re
 -- where a page lies does not hang on whether it waits
 pub lies_settled : (of_dup : ℕ → Option ℕ) (state : PageState) (own : Option ℕ)
     → frame_seen of_dup (settled_state state) own ≡ frame_seen of_dup state own
-lies_settled of_dup Private own = refl
-lies_settled of_dup Waiting own = refl
-lies_settled of_dup (Merged n) own = refl
-lies_settled of_dup Zero own = refl
+lies_settled of_dup state own = settled_by (λ st. frame_seen of_dup st own) (λ st. frame_seen of_dup st own) refl refl (λ n. refl) refl state
 
 -- a state that is settled twice is the state settled once
 pub settled_again : (state : PageState) → settled_state (settled_state state) ≡ settled_state state
-settled_again Private = refl
-settled_again Waiting = refl
-settled_again (Merged n) = refl
-settled_again Zero = refl
+settled_again = settled_by settled_state settled_state refl refl (λ n. refl) refl
 
 -- a settled state is not Waiting
 pub settled_still : (state : PageState) → waiting_state (settled_state state) ≡ false
-settled_still Private = refl
-settled_still Waiting = refl
-settled_still (Merged n) = refl
-settled_still Zero = refl
+settled_still = settled_by waiting_state (λ s. false) refl refl (λ n. refl) refl
 
 settled_same : (number : ℕ) (state : PageState) → merged_into number (settled_state state) ≡ merged_into number state
-settled_same number Private = refl
-settled_same number Waiting = refl
-settled_same number (Merged n) = refl
-settled_same number Zero = refl
+settled_same number = settled_by (merged_into number) (merged_into number) refl refl (λ n. refl) refl
 
 -- two states that settle to one are merged into the same dups
 pub item_alike : (number : ℕ) (a b : PageState) → settled_state a ≡ settled_state b → merged_into number a ≡ merged_into number b
@@ -77,7 +74,5 @@ module _ (s : Inside) (p : PagesValue) (seen_as : view_of s ≡ p) (page : Guest
   known_row known = go (held_at page s.rows.held) refl
     where
       go : (o : Option Held) → held_at page s.rows.held ≡ o → (h : Held) × (held_at page s.rows.held ≡ Some h)
-      go None is =
-          absurd (true≢false (sym known ∙ ap is_some (row_seen s p seen_as page)
-          ∙ ap (λ o. is_some (option_map (λ (g : Held). g.row) o)) is))
+      go None is = absurd (true≢false (known_there s p seen_as page is known))
       go (Some h) is = (h, is)

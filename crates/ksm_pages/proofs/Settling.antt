@@ -1,9 +1,11 @@
 -- The rows once each entry was changed, or the next pass began.
-use Rattle.ksm_pages.proofs.Names.{[], ap, ap₂, AreFiled, AreListed, arith, Bool, CalledAt, cond, count_by, count_none, Entry, false, forgotten, get, get_or, has_item, Held, held_in, held_of, held_under, is_restless, IsRows, IsTally, Kind, List, Listing, map, Merged, merged_state, MutBor, Named, named_of, None, on_row, Option, option_map, PageState, Private, refl, RetainsFrom, rows_of, same_Some, settled, settled_state, Slab, Some, state_of, subst, suc, sym, Tally, true, Waiting, waiting_state, Zero, zero, zero_state, ℕ, ◌+◌, ◌==◌, ◌∙◌, ◌∷◌, ◌≡◌, ◌≢◌, ◌≤◌}
+use Rattle.ksm_pages.proofs.Names.{[], ap, ap₂, AreFiled, AreListed, arith, Bool, CalledAt, cond, count_by, count_none, Entry, false, forgotten, get, get_or, has_item, Held, held_in, held_of, held_under, is_restless, IsRows, IsTally, Kind, List, Listing, map, Merged, merged_state, MutBor, Named, named_of, None, on_row, Option, option_map, PageState, Private, refl, RetainsFrom, rows_of, same_Some, settled, settled_state, Slab, Some, state_of, subst, sym, Tally, true, Waiting, waiting_state, Zero, zero_state, ℕ, ◌+◌, ◌==◌, ◌∙◌, ◌∷◌, ◌≡◌, ◌≢◌, ◌≤◌, holds}
+use Rattle.std.proofs.Math.ListN.{get_or-map}
 use Rattle.ksm_pages.specs.declared.row.Kind.TheVariants as kinds
 use Rattle.ksm_tree.proofs.Alike.{count_mapped, map_mapped}
 use Rattle.ksm_pages.proofs.Filing.{all_stand, under_named}
 use Rattle.ksm_pages.proofs.Gathering.{own_either}
+use Rattle.ksm_pages.proofs.Resting.{settled_by}
 use Rattle.ksm_pages.proofs.Writing.{left_fits, rest_of, rests_apart}
 
 -- where each call of a retain keeps its value and changes it by g, all full slots are changed by g
@@ -17,26 +19,11 @@ retained_all step g says f key (Some old ∷ rest) kept (keep, new, next, called
     ∙ ap (λ b. cond b (Some new) None ∷ later) told.0
     ∙ ap₂ (λ x xs. Some x ∷ xs) told.1 (retained_all step g says next (key + 1) rest later r)
 
--- what stands at a place of slots that are all changed is what stood there, changed
-pub slot_mapped : {T : Type 0} (g : T → T) (slots : List (Option T)) (k : ℕ) → get_or (map (option_map g) slots) k None ≡ option_map g (get_or slots k None)
-slot_mapped g [] k = refl
-slot_mapped g (s ∷ rest) zero = refl
-slot_mapped g (s ∷ rest) (suc k) = slot_mapped g rest k
-
 -- an entry's state is settled where the number of an own page is not the pass, and any other number stays
 pub state_settled : (kind : Kind) (number left pass after : ℕ) → (kind ≡ kinds.Own → left ≢ after) → (kind ≢ kinds.Own → left ≡ number) → state_of kind left after ≡ settled_state (state_of kind number pass)
 state_settled kinds.Own number left pass after own other = rests_apart left after (own refl) ∙ sym (own_either (λ state. settled_state state ≡ Private) refl refl (number == pass))
 state_settled kinds.Merged number left pass after own other = ap Merged (other (λ is. cc))
 state_settled kinds.Zero number left pass after own other = refl
-
--- two readings of a state, the first of it settled, agree where they do at each kind of state
-settled_by : {X : Type 0} (p q : PageState → X) → p Private ≡ q Private → p Private ≡ q Waiting → ((n : ℕ) → p (Merged n) ≡ q (Merged n))
-    → p Zero ≡ q Zero
-    → (s : PageState) → p (settled_state s) ≡ q s
-settled_by p q own waits merged zero_too Private = own
-settled_by p q own waits merged zero_too Waiting = waits
-settled_by p q own waits merged zero_too (Merged n) = merged n
-settled_by p q own waits merged zero_too Zero = zero_too
 
 -- rows whose states are read alike before and after a change are counted alike
 counts_alike : (f : Held → Held) (p q : PageState → Bool) → ((h : Held) → p (f h).row.state ≡ q h.row.state) → (held : List Held)
@@ -158,7 +145,7 @@ module _ (slab : Slab Entry) (order : List Named) (restless : Listing) (tally : 
 
   module _ (later : Slab Entry) (slots : later.slots ≡ map (option_map forgotten) slab.slots) where
     forgot : (k : ℕ) → get later k ≡ option_map forgotten (get slab k)
-    forgot k = ap (λ xs. get_or xs k None) slots ∙ slot_mapped forgotten slab.slots k
+    forgot k = ap (λ xs. get_or xs k None) slots ∙ get_or-map (option_map forgotten) slab.slots k None
 
     settled_anew : (k : ℕ) (e : Entry) → get slab k ≡ Some e → held_of 1 (forgotten e) ≡ on_row settled (held_of pass e)
     settled_anew k e stands = ap (λ st. in_state st (held_of pass e)) (rest_of e.kind e.number pass 1 (omega arith))
@@ -180,7 +167,7 @@ module _ (slab : Slab Entry) (order : List Named) (restless : Listing) (tally : 
 
   module _ (later : Slab Entry) (slots : later.slots ≡ map (option_map plain) slab.slots) where
     made_plain : (k : ℕ) → get later k ≡ option_map plain (get slab k)
-    made_plain k = ap (λ xs. get_or xs k None) slots ∙ slot_mapped plain slab.slots k
+    made_plain k = ap (λ xs. get_or xs k None) slots ∙ get_or-map (option_map plain) slab.slots k None
 
     -- once no entry is unchanged any more, each row is seen as not unchanged, and else as it was
     pub plain_seen : held_in pass later order ≡ map (on_row (λ r. record r { unchanged = false })) (held_in pass slab order)

@@ -1,8 +1,9 @@
 -- Spots in the order of their pages: the pages of them, once one was put in, written or taken away.
-use Rattle.ksm_pages.proofs.Names.{[], and_parts, ap, ap₂, AreInOrder, arith, Bool, cases_Bool, comes_before, cond, Entry, filter, find, find_filter, find_passes, get, get_or, GuestPage, has_item, if◌then◌else◌, inl, inr, is_restless, is_some, is_useless, IsCalm, length, length-map, List, map, map-append, None, not, not-true, Option, pages_of, pages_ordered, refl, same_page, same_page_eq, Slab, Some, Spot, subst, sym, true, true≢false, with_found, with_item, ◌++◌, ◌∙◌, ◌∷◌, ◌≡◌, ◌⊎◌}
+use Rattle.ksm_pages.proofs.Names.{and_parts, ap, ap₂, AreInOrder, Bool, cases_Bool, comes_before, Entry, filter, find, find_filter, find_passes, get, get_or, GuestPage, has_item, if◌then◌else◌, inl, inr, is_restless, is_some, is_useless, IsCalm, length, length-map, List, map, map-append, None, not, not-true, Option, pages_of, pages_ordered, refl, same_page, same_page_eq, Slab, Some, Spot, subst, sym, true, true≢false, with_found, with_item, ◌++◌, ◌∙◌, ◌∷◌, ◌≡◌, ◌⊎◌, cond_both}
 use Rattle.ksm_rmap.specs.Items.{AreAscending}
-use Rattle.ksm_tree.proofs.Alike.{filter_mapped, map_mapped, pairs_mapped}
-use Rattle.ksm_rmap.proofs.Ordered.{with_rises}
+use Rattle.ksm_tree.proofs.Alike.{filter_mapped, find_mapped, map_mapped, pairs_mapped}
+use Rattle.ksm_rmap.proofs.Ordered.{any_found, with_rises}
+use Rattle.ksm_pages.proofs.Options.{some_mapped}
 
 -- the page of a spot
 abbrev pub page_of : Spot → GuestPage
@@ -22,13 +23,10 @@ many_kept test spots = sym (length-map (filter (λ (s : Spot). test s.page) spot
 
 -- a page is among the pages of spots exactly where a search finds a spot of that page
 pub listed_found : (page : GuestPage) (spots : List Spot) → has_item page (pages_of spots) ≡ is_some (find (λ s. same_page s.page page) spots)
-listed_found page [] = refl
-listed_found page (s ∷ ss) =
-    let rest = listed_found page ss in
-    elim (cases_Bool (same_page s.page page)) [
-      | inl same ↦ let e = same in grind (arith, e)
-      | inr differ ↦ let e = differ in grind (arith, e, rest)
-    ]
+listed_found page spots =
+    any_found (λ p. same_page p page) (pages_of spots)
+    ∙ ap is_some (find_mapped page_of (λ p. same_page p page) (λ s. same_page s.page page) spots (λ k d lt. refl))
+    ∙ some_mapped page_of (find (λ s. same_page s.page page) spots)
 
 module _ (spot : Spot) (spots : List Spot) (rise : AreInOrder spots) where
   abbrev before : Spot → Bool
@@ -54,10 +52,7 @@ module _ (spot : Spot) (spots : List Spot) (rise : AreInOrder spots) where
   same_pages = map_mapped page_of (λ s. if same_page s.page spot.page then spot else s) page_of spots (λ k d lt. here (get_or spots k d))
     where
       here : (s : Spot) → (if same_page s.page spot.page then spot else s).page ≡ s.page
-      here s = elim (cases_Bool (same_page s.page spot.page)) [
-        | inl same ↦ ap (λ b. (cond b spot s).page) same ∙ sym (same_page_eq s.page spot.page same)
-        | inr differ ↦ ap (λ b. (cond b spot s).page) differ
-      ]
+      here s = cond_both (same_page s.page spot.page) spot s (λ x. x.page ≡ s.page) (λ same. sym (same_page_eq s.page spot.page same)) (λ _. refl)
 
   -- with a spot written over the one of its page, the pages are those with the page of that spot
   pub written_pages : has_item spot.page (pages_of spots) ≡ true → pages_of written ≡ with_item spot.page (pages_of spots)

@@ -1,10 +1,6 @@
 -- The tally of rows once one came, went or changed.
 use Rattle.ksm_pages.proofs.Names.{ap, arith, Bool, CanMove, change_row, count_by, count_by-le-length, GuestPage, if◌then◌else◌, InPageOrder, IsMoved, IsTally, length, length-map, List, merged_state, None, one_if, Private, Row, row_at, same_page, Some, Tally, waiting_state, with_row, without_page, zero_state, ℕ, ◌+◌, ◌<◌, ◌^◌, ◌≡◌, ◌≤◌}
-use Rattle.ksm_pages.proofs.Found.{count_one_changed, count_one_gone, counted_once}
-use Rattle.ksm_pages.proofs.Keyed.{count_with}
-
-abbrev page_of : Row → GuestPage
-page_of r = r.page
+use Rattle.ksm_base.proofs.RowCounts.{count_change_row, count_with_row, count_without_page}
 
 module _ (rows : List Row) (rise : InPageOrder rows) (page : GuestPage) (old : Row) (found : row_at page rows ≡ Some old) (tally later : Tally) (are : IsTally rows tally) where
   -- the row of a page went to another state
@@ -13,7 +9,7 @@ module _ (rows : List Row) (rise : InPageOrder rows) (page : GuestPage) (old : R
     changed = change_row page (λ _. new) rows
 
     counts : (p : Row → Bool) → count_by p changed + one_if (p old) ≡ count_by p rows + one_if (p new)
-    counts p = count_one_changed page_of page p rows old rise found (λ _. new)
+    counts p = count_change_row p page (λ _. new) rows old rise found
 
     most : (p : Row → Bool) → count_by p changed ≤ length rows
     most p =
@@ -25,7 +21,7 @@ module _ (rows : List Row) (rise : InPageOrder rows) (page : GuestPage) (old : R
     room few p n is = let c = counts p in let m = most p in omega (arith, c, m, is, few)
 
     has : (p : Row → Bool) (n : ℕ) → n ≡ count_by p rows → one_if (p old) ≤ n
-    has p n is = let c = counted_once page_of page p rows old rise found in omega (arith, c, is)
+    has p n is = let c = count_without_page p page rows old rise found in omega (arith, c, is)
 
     -- a tally of the rows can take one row from its state to another
     pub can_move : length rows < 2 ^ 64 → CanMove old.state new.state tally
@@ -51,7 +47,7 @@ module _ (rows : List Row) (rise : InPageOrder rows) (page : GuestPage) (old : R
 
   -- the row of a page went
   left : (p : Row → Bool) (n m : ℕ) → n ≡ count_by p rows → m + one_if (p old) ≡ n + 0 → m ≡ count_by p (without_page page rows)
-  left p n m is moved = let c = count_one_gone page_of page p rows old rise found in omega (arith, c, is, moved)
+  left p n m is moved = let c = count_without_page p page rows old rise found in omega (arith, c, is, moved)
 
   -- a tally moved from a row's state to Private counts the rows without that row
   pub tally_gone : IsMoved old.state Private tally later → IsTally (without_page page rows) later
@@ -62,9 +58,9 @@ module _ (rows : List Row) (rise : InPageOrder rows) (page : GuestPage) (old : R
   }
 
 -- a Private row that comes leaves the tally as it is
-pub tally_put : (rows : List Row) (row : Row) (tally : Tally) → InPageOrder rows → row_at row.page rows ≡ None → row.state ≡ Private → IsTally rows tally → IsTally (with_row row rows) tally
-tally_put rows row tally rise absent alone are =
-    let more : (p : Row → Bool) → count_by p (with_row row rows) ≡ count_by p rows + one_if (p row) = λ p. count_with page_of row.page p row rows rise absent in
+pub tally_put : (rows : List Row) (row : Row) (tally : Tally) → row_at row.page rows ≡ None → row.state ≡ Private → IsTally rows tally → IsTally (with_row row rows) tally
+tally_put rows row tally absent alone are =
+    let more : (p : Row → Bool) → count_by p (with_row row rows) ≡ count_by p rows + one_if (p row) = λ p. count_with_row p row rows absent in
     record {
       merged = let m = more (λ r. merged_state r.state) in let n = ap (λ s. one_if (merged_state s)) alone in omega (arith, m, n, are.merged);
       waiting = let m = more (λ r. waiting_state r.state) in let n = ap (λ s. one_if (waiting_state s)) alone in omega (arith, m, n, are.waiting);

@@ -1,14 +1,16 @@
 -- What a visit finds of a row that it may change, and the pages once the row waits.
-use Rattle.ksm_pages.proofs.Names.{all_zero, ap, AreKept, AreTied, AreWaiting, Best, best_dup, best_found, best_of, Bool, change_held, change_row, Dup, DupRow, DupsState, Entry, false, Find, Finds, FindsAt, found_at, frame_seen, GuestPage, Held, held_at, held_of, Inside, is_for_zero, is_own, IsAdded, IsAlone, Kind, List, Listing, MatchOption, Merged, None, none-some, not, number_of, on_row, Option, option_map, own_state, PageState, PagesValue, PagesView, partner, Private, refl, Row, row_at, rows_of, RowsView, same_page, same_Some, seen, shared_state, Some, state_of, subst, sym, tied_counted, tied_left, tree_of, true, true≢false, unwrap_or, Waiting, waiting_page, Zero, ℕ, ◌&&◌, ◌==◌, ◌∙◌, ◌≡◌}
+use Rattle.ksm_pages.proofs.Names.{all_zero, ap, AreKept, AreTied, AreWaiting, Best, best_dup, best_found, best_of, Bool, change_held, change_row, Dup, DupRow, DupsState, Entry, false, Find, Finds, FindsAt, found_at, GuestPage, Held, held_at, held_of, Inside, is_for_zero, IsAdded, IsAlone, List, Listing, MatchOption, None, none-some, not, number_of, on_row, Option, option_map, PagesValue, PagesView, partner, Private, refl, Row, row_at, rows_of, RowsView, same_page, same_Some, seen, shared_state, Some, subst, sym, tied_counted, tied_left, tree_of, true, unwrap_or, Waiting, waiting_page, ℕ, ◌&&◌, ◌==◌, ◌∙◌, ◌≡◌, and_parts, not-true}
+use Rattle.ksm_pages.proofs.Options.{none_mapped}
 use Rattle.std.specs.Option.{is_some}
 use Rattle.ksm_tree.specs.Dups.{rows_of as dup_rows}
 use Rattle.ksm_pages.specs.declared.pages.Find.TheVariants as finds
-use Rattle.ksm_pages.specs.declared.row.Kind.TheVariants as kinds
 use Rattle.ksm_pages.specs.Held.{is_restless as is_restless_entry}
 use Rattle.ksm_pages.specs.Paged.{is_restless, visited}
+use Rattle.ksm_pages.proofs.Gathering.{restless_as}
 use Rattle.ksm_pages.proofs.Joined.{let_out_alone}
 use Rattle.ksm_pages.proofs.Leaving.{AreLawful, lawful_turned, of_dup, of_page, row_seen, row_there, told_still, view_of}
 use Rattle.ksm_pages.proofs.Meeting.{met_other, met_own, met_partner, met_waits}
+use Rattle.ksm_pages.proofs.Resting.{lies_alike, rests}
 
 -- ---------------------------------------------------------------- groups that got other numbers
 
@@ -25,43 +27,21 @@ module _ (s : Inside) (later : DupsState) (kept : later ≡ record s.dups { numb
 
 -- ---------------------------------------------------------------- one row
 
-own_by : (kind : Kind) (number pass : ℕ) → not (shared_state (state_of kind number pass)) ≡ is_own kind
-own_by kinds.Own number pass = go (number == pass)
-  where
-    go : (b : Bool) → not (shared_state (own_state b)) ≡ true
-    go true = refl
-    go false = refl
-own_by kinds.Merged number pass = refl
-own_by kinds.Zero number pass = refl
-
 not_shared : (a b : Bool) → (a && not b) ≡ true → b ≡ false
-not_shared a false is = refl
-not_shared true true is = absurd (true≢false (sym is))
-not_shared false true is = absurd (true≢false (sym is))
-
--- where a page lies with a frame of its own does not hang on whether it waits
-lies_waiting : (of : ℕ → Option ℕ) (state : PageState) (own : Option ℕ) → shared_state state ≡ false
-    → frame_seen of Waiting own ≡ frame_seen of state own
-lies_waiting of Private own alone = refl
-lies_waiting of Waiting own alone = refl
-lies_waiting of (Merged n) own alone = absurd (true≢false alone)
-lies_waiting of Zero own alone = absurd (true≢false alone)
+not_shared a b is = not-true b (and_parts a (not b) is).1
 
 -- a page without a row is found gone
 pub finds_none : (s : Inside) (p : PagesValue) → view_of s ≡ p → (page : GuestPage) → held_at page s.rows.held ≡ None
     → Finds (seen p) (seen p) page finds.Gone
 finds_none s p seen_as page gone =
     subst (λ o. MatchOption o ((finds.Gone ≡ finds.Gone) × (seen p ≡ seen p)) (λ r. FindsAt (seen p) (seen p) r finds.Gone))
-    (sym (row_seen s p seen_as page ∙ ap (option_map (λ (g : Held). g.row)) gone)) (refl, refl)
-
-restless_as : (pass : ℕ) (e : Entry) → is_restless (held_of pass e).row ≡ is_restless_entry e
-restless_as pass e = ap (λ b. e.mergeable && b) (own_by e.kind e.number pass)
+    (sym (row_seen s p seen_as page gone)) (refl, refl)
 
 finds_row : (s : Inside) (p : PagesValue) → view_of s ≡ p → (page : GuestPage) (h : Held) → held_at page s.rows.held ≡ Some h
     → (new : PagesView) (what : Find) → FindsAt (seen p) new h.row what → Finds (seen p) new page what
 finds_row s p seen_as page h found new what is =
     subst (λ o. MatchOption o ((what ≡ finds.Gone) × (new ≡ seen p)) (λ r. FindsAt (seen p) new r what))
-    (sym (row_seen s p seen_as page ∙ ap (option_map (λ (g : Held). g.row)) found)) is
+    (sym (row_seen s p seen_as page found)) is
 
 -- a row that no visit may change is found gone
 pub finds_gone : (s : Inside) (p : PagesValue) → view_of s ≡ p → (page : GuestPage) (e : Entry)
@@ -83,7 +63,7 @@ pub is_seen_restless : (s : Inside) {p : PagesValue} → view_of s ≡ p → (pa
     → is_restless_entry e ≡ true → MatchOption (row_at page p.rows) (true ≡ false) (λ r. is_restless r ≡ true)
 is_seen_restless s {p} seen_as page e found restless =
     subst (λ o. MatchOption o (true ≡ false) (λ (r : Row). is_restless r ≡ true))
-    (sym (row_seen s p seen_as page ∙ ap (option_map (λ (g : Held). g.row)) found)) (restless_as s.rows.pass e ∙ restless)
+    (sym (row_seen s p seen_as page found)) (restless_as s.rows.pass e ∙ restless)
 
 -- ---------------------------------------------------------------- a row whose group has a number
 
@@ -162,11 +142,8 @@ module _ {s : Inside} {p : PagesValue} {page : GuestPage} {e : Entry} {group : �
 
   module _ (none : IsOfGroup (λ tree bytes. None ≡ option_map found_at (best tree bytes))) where
     no_best : best_dup p.knobs p.rows p.dups row ≡ None
-    no_best = best_is ∙ go (best (tree_of s.knobs row) row.bytes) (none (tree_of s.knobs row) row.bytes it.numbered)
-      where
-        go : (o : Option Dup) → None ≡ option_map found_at o → option_map (λ d. d.row) o ≡ None
-        go None no_it = refl
-        go (Some d) that = absurd (none-some (found_at d) that)
+    no_best = best_is ∙ ap (option_map (λ d. d.row))
+        (none_mapped found_at (best (tree_of s.knobs row) row.bytes) (sym (none (tree_of s.knobs row) row.bytes it.numbered)))
 
     -- without a best dup, a row that was not unchanged is found changed, and is unchanged from then on
     pub finds_changed : e.unchanged ≡ false → (new : PagesView)
@@ -248,7 +225,7 @@ module _ {s : Inside} {p : PagesValue} {page : GuestPage} {e : Entry} {group : �
               let now =
               told_still s it.lawful page held it.found (on_row to) to (λ x. refl) (λ r. refl) rows held_now p it.seen_as later
               (ap (λ (d : DupsState). dup_rows d.dups) kept) (ap (λ (d : DupsState). d.next) kept) to refl
-              (lies_waiting (of_dup s) row.state held.frame alone)
+              (lies_alike (of_dup s) Waiting row.state held.frame (sym (rests row.state alone)))
               ∙ ap (λ (l : Listing). record (seen p) { rows = change_row page to p.rows; restless = l }) listed
               ∙ ap (λ q. visited q to (seen p)) (sym at_row) in
               finds_at (seen (view_of (record s { rows = rows; dups = later }))) finds.Waits

@@ -1,13 +1,13 @@
 -- What each change of one row, found under its key, leaves: rows still, and what is seen of them.
-use Rattle.ksm_pages.proofs.Names.{ap, ap₂, AreBegun, AreFiled, AreListed, arith, Bool, CanMove, change_held, Decides-eqb, Entry, false, find, forgotten, get, GuestPage, has_item, Held, held_at, held_in, held_of, held_under, IfSome, inl, InPageOrder, inr, is_of, is_own, is_restless, is_some, IsAddedTo, IsCalm, IsMoved, IsRows, IsTally, IsUnder, key_in, Kind, length, length-map, List, Listing, marked, Named, named_of, ne_eqb, None, number_left, on_row, option_map, own_state, pages_ordered, PageState, Private, refl, Row, row_at, rows_of, RowsView, same_page, same_page_refl, same_Some, settled, settled_state, shared_state, Slab, Some, state_of, subst, sym, Tally, true, true≢false, Updates-with_value, Waiting, with_held, with_item, with_named, with_value, without_held, without_item, without_named, ℕ, ◌&&◌, ◌<◌, ◌==◌, ◌^◌, ◌∙◌, ◌≡◌, ◌≢◌, ◌≤◌, ◌⊎◌}
+use Rattle.ksm_pages.proofs.Names.{ap, ap₂, AreBegun, AreFiled, AreListed, arith, Bool, CanMove, change_held, Decides-eqb, Entry, false, find, forgotten, get, GuestPage, has_item, Held, held_at, held_in, held_of, held_under, IfSome, inl, InPageOrder, inr, is_of, is_own, is_restless, is_some, IsAddedTo, IsCalm, IsMoved, IsRows, IsTally, IsUnder, key_in, Kind, length, length-map, List, Listing, marked, Named, named_of, ne_eqb, None, number_left, on_row, own_state, pages_ordered, PageState, Private, refl, Row, row_at, rows_of, RowsView, same_page, same_page_refl, same_Some, settled, settled_state, shared_state, Slab, Some, state_of, subst, sym, Tally, true, true≢false, Updates-with_value, Waiting, with_held, with_item, with_named, with_value, without_held, without_item, without_named, ℕ, ◌&&◌, ◌<◌, ◌==◌, ◌^◌, ◌∙◌, ◌≡◌, ◌≢◌, ◌≤◌, ◌⊎◌}
 use Rattle.slab.specs.Slab.{Updates as Fills}
 use Rattle.ksm_pages.specs.declared.row.Kind.TheVariants as kinds
 use Rattle.ksm_pages.specs.declared.rows.Rows.TheInside.{Inside}
-use Rattle.ksm_pages.proofs.Changing.{held_unchanged, marked_same, row_found, rows_changed, rows_with, rows_without}
+use Rattle.ksm_pages.proofs.Changing.{marked_same, row_told, rows_changed, rows_with, rows_without}
 use Rattle.ksm_tree.proofs.Numbering.{full}
 use Rattle.ksm_pages.proofs.Filing.{all_filled, elsewhere, filed_kept, filed_marked, filed_put, filed_taken, held_nowhere, held_there, key_nowhere, one_key, put, rows_rise, taken, written}
 use Rattle.ksm_pages.proofs.Gathering.{own_either}
-use Rattle.ksm_pages.proofs.Keyed.{write_rises}
+use Rattle.ksm_pages.proofs.Keyed.{absent_unchanged, write_rises}
 use Rattle.ksm_rmap.proofs.Ordered.{absent_kept, with_rises, without_rises}
 use Rattle.ksm_pages.proofs.Listings.{with_has, without_has}
 use Rattle.ksm_pages.proofs.Tallying.{can_move, tally_changed, tally_gone, tally_put}
@@ -61,7 +61,7 @@ pub nothing : (s : Inside) → AreRows s → (page : GuestPage) → None ≡ key
 nothing s are page told f v is =
     let absent = held_nowhere s.entries s.order are.ascending are.filed s.pass page (sym told) in
     sym is
-    ∙ ap (λ held. record { held = held; restless = s.restless; pass = s.pass }) (held_unchanged page f (held_in s.pass s.entries s.order) absent)
+    ∙ ap (λ held. record { held = held; restless = s.restless; pass = s.pass }) (absent_unchanged (λ (h : Held). h.row.page) page f (held_in s.pass s.entries s.order) absent)
     ∙ ap (λ (w : RowsView). record w { held = change_held page f w.held }) is
 
 -- what is listed later was listed before
@@ -85,7 +85,7 @@ module _ (s : Inside) (are : AreRows s) where
     row_there = held_there s.entries s.order are.ascending are.filed s.pass page key e stood of_page
 
     found_row : row_at page (rows_of held) ≡ Some (held_of s.pass e).row
-    found_row = row_found page held ∙ ap (option_map (λ (h : Held). h.row)) row_there
+    found_row = row_told page held row_there
 
     -- the entry of a page whose row is not shared is of the kind with frames of their own
     pub own_there : (v : RowsView) → view_of s ≡ v → IfSome (held_at page v.held) (λ h. shared_state h.row.state ≡ false)
@@ -341,7 +341,7 @@ module _ (s : Inside) (are : AreRows s) (v : RowsView) (seen_as : view_of s ≡ 
       | inr is ↦ absurd (true≢false (sym known ∙ ap (λ (l : Listing). l.known) is))
     ];
     counted = subst (λ rs. IsTally rs s.tally) (sym (ap rows_of held_put ∙ rows_with (held_of s.pass e) before))
-        (tally_put (rows_of before) (held_of s.pass e).row s.tally (rows_rise s.entries s.order are.ascending are.filed s.pass) (row_found e.page before ∙ ap (option_map (λ h. h.row)) held_absent) alone are.counted);
+        (tally_put (rows_of before) (held_of s.pass e).row s.tally (row_told e.page before held_absent) alone are.counted);
     begun = all_filled fills (λ k x. x.kind ≡ kinds.Own → x.number ≤ s.pass) (λ own. fits) (λ k f stands apart. are.begun k f stands);
     counting = are.counting;
   }

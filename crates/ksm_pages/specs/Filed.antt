@@ -1,5 +1,6 @@
 -- Entries in a slab, with the order of their pages, the pages that a visit may change, and a tally. (own)
-use Rattle.std.specs.Prelude.{◌≡◌, ◌↔◌, ℕ, ◌+◌, ◌≤◌, ◌<◌, ◌^◌, Bool, true, false, not, ◌&&◌, List, [], count_by, find, map, option_map, Option, None, Some, if◌then◌else◌}
+use Rattle.std.specs.Prelude.{◌≡◌, ◌↔◌, ℕ, ◌+◌, ◌≤◌, ◌<◌, ◌^◌, Bool, true, false, not, ◌&&◌, List, [], count_by, find}
+use Rattle.std.specs.Prelude.{map, option_map, Option, None, Some, if◌then◌else◌}
 use Rattle.ksm_base.specs.declared.page.GuestPage.{GuestPage}
 use Rattle.ksm_base.specs.declared.row.PageState.{PageState}
 use Rattle.ksm_base.specs.declared.row.PageState.TheVariants.{Private}
@@ -49,7 +50,8 @@ named_of key e = record { page = e.page; key = key; mergeable = e.mergeable }
 
 -- a page is named in the order exactly as the entry under its key says
 abbrev pub AreFiled : Slab Entry → List Named → Type 0
-AreFiled slab order = (n : Named) → (find (is_of n.page) order ≡ Some n) ↔ (option_map (named_of n.key) (get slab n.key) ≡ Some n)
+AreFiled slab order = (n : Named)
+    → (find (is_of n.page) order ≡ Some n) ↔ (option_map (named_of n.key) (get slab n.key) ≡ Some n)
 
 -- the key of a page, if it has one
 abbrev pub key_in : List Named → GuestPage → Option ℕ
@@ -63,7 +65,8 @@ pub record IsUnder (slab : Slab Entry) (page : GuestPage) (key : ℕ) : Type 0 w
 
 -- the page of each entry that a visit may change is listed
 abbrev pub AreListed : Slab Entry → List GuestPage → Type 0
-AreListed slab pages = (key : ℕ) (e : Entry) → get slab key ≡ Some e → is_restless e ≡ true → has_item e.page pages ≡ true
+AreListed slab pages = (key : ℕ) (e : Entry)
+    → get slab key ≡ Some e → is_restless e ≡ true → has_item e.page pages ≡ true
 
 -- it is certain that no visit changes the row of a spot: what stands under its key is of its page, and such
 abbrev pub is_useless : Spot → Option Entry → Bool
@@ -85,7 +88,14 @@ AreBegun slab pass = (key : ℕ) (e : Entry) → get slab key ≡ Some e → e.k
 -- the row of an entry that is not there
 abbrev pub no_held : Held
 no_held = record {
-  row = record { page = record { guest = 0; page = 0 }; home = 0; bytes = []; mergeable = false; unchanged = false; state = Private };
+  row = record {
+    page = record { guest = 0; page = 0 };
+    home = 0;
+    bytes = [];
+    mergeable = false;
+    unchanged = false;
+    state = Private;
+  };
   frame = None;
 }
 
@@ -100,7 +110,8 @@ held_in pass slab order = map (λ n. held_under pass (get slab n.key)) order
 
 -- the pages ascend, each is named as its entry says, those that a visit may change are listed if they are known,
 -- the tally is that of the rows, and no entry's pass is beyond the one that goes on
-pub record IsRows (slab : Slab Entry) (order : List Named) (restless : Listing) (tally : Tally) (pass : ℕ) : Type 0 where
+pub record IsRows (slab : Slab Entry) (order : List Named) (restless : Listing) (tally : Tally) (pass : ℕ)
+    : Type 0 where
   pub ascending : AreAscending order
   pub filed : AreFiled slab order
   pub listed : restless.known ≡ true → AreListed slab restless.pages

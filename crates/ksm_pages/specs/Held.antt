@@ -1,5 +1,6 @@
 -- Rows as they are kept, in the order of their pages, each with the frame of its own if it has one. (own)
-use Rattle.std.specs.Prelude.{◌≡◌, ◌⊎◌, ℕ, ◌<◌, ◌≤◌, ◌-◌, Bool, true, false, not, ◌&&◌, ◌==◌, All, AllPairs, List, ◌∷◌, ◌++◌, filter, find, length, map, slice_get, Option, None, Some, if◌then◌else◌}
+use Rattle.std.specs.Prelude.{◌≡◌, ◌⊎◌, ℕ, ◌<◌, ◌≤◌, ◌-◌, Bool, true, false, not, ◌&&◌, ◌==◌, All, AllPairs, List, ◌∷◌}
+use Rattle.std.specs.Prelude.{◌++◌, filter, find, length, map, slice_get, Option, None, Some, if◌then◌else◌}
 use Rattle.std.specs.Option.{option_or}
 use Rattle.ksm_base.specs.declared.page.GuestPage.{GuestPage}
 use Rattle.ksm_base.specs.declared.row.PageState.{PageState}
@@ -65,7 +66,14 @@ frame_of kinds.Zero at = None
 -- the row that an entry stands for in a pass, with its frame
 abbrev pub held_of : ℕ → Entry → Held
 held_of pass e = record {
-  row = record { page = e.page; home = e.home; bytes = e.bytes; mergeable = e.mergeable; unchanged = e.unchanged; state = state_of e.kind e.number pass };
+  row = record {
+    page = e.page;
+    home = e.home;
+    bytes = e.bytes;
+    mergeable = e.mergeable;
+    unchanged = e.unchanged;
+    state = state_of e.kind e.number pass;
+  };
   frame = frame_of e.kind e.at;
 }
 
@@ -105,7 +113,9 @@ rows_of held = map (λ h. h.row) held
 
 -- with one more at its place in the order
 abbrev pub with_held : Held → List Held → List Held
-with_held h held = filter (λ g. comes_before g.row.page h.row.page) held ++ h ∷ filter (λ g. comes_before h.row.page g.row.page) held
+with_held h held =
+    filter (λ g. comes_before g.row.page h.row.page) held
+    ++ h ∷ filter (λ g. comes_before h.row.page g.row.page) held
 
 -- the others, in their order
 abbrev pub without_held : GuestPage → List Held → List Held
@@ -136,6 +146,10 @@ AreAllListed rows pages = All (λ r. may_change r ≡ true → has_item r.page p
 -- the pages that a scan visits behind a cursor, in their order
 abbrev pub pages_ahead : Option GuestPage → List Row → List GuestPage
 pages_ahead cursor rows = map (λ r. r.page) (filter (λ r. r.mergeable && after_cursor cursor r.page) rows)
+
+-- those of them before a page
+abbrev pub pages_between : Option GuestPage → GuestPage → List Row → List GuestPage
+pages_between cursor page rows = filter (λ p. comes_before p page) (pages_ahead cursor rows)
 
 -- so many visits, one at least, come to this page as their last, and more are ahead; or the pass ends with so many
 abbrev pub Reaches : List GuestPage → ℕ → Ahead → Type 0

@@ -1,5 +1,7 @@
 -- Pages in order, each with the key of its row, and whether a scan visits it. (own)
-use Rattle.std.specs.Prelude.{◌≡◌, ◌≢◌, ℕ, ◌+◌, ◌-◌, ◌<◌, ◌≤◌, Bool, true, false, not, ◌&&◌, ◌==◌, List, [], ◌∷◌, ◌++◌, All, AllPairs, count_by, drop, filter, flat_map, length, map, slice_get, take, Option, Some, option_map, if◌then◌else◌}
+use Rattle.std.specs.Prelude.{◌≡◌, ◌≢◌, ℕ, ◌+◌, ◌-◌, ◌<◌, ◌≤◌, Bool, true, false, not, ◌&&◌, ◌==◌, List, [], ◌∷◌, ◌++◌}
+use Rattle.std.specs.Prelude.{All, AllPairs, count_by, drop, filter, flat_map, length, map, slice_get, slice_index_or}
+use Rattle.std.specs.Prelude.{take, Option, Some, option_map, if◌then◌else◌}
 use Rattle.std.specs.Option.{option_or}
 use Rattle.ksm_base.specs.declared.page.GuestPage.{GuestPage}
 use Rattle.ksm_base.specs.Rows.{comes_before, same_page}
@@ -18,7 +20,8 @@ is_of page n = same_page n.page page
 
 -- with a page at its place in the order
 abbrev pub with_named : Named → List Named → List Named
-with_named n named = filter (λ m. comes_before m.page n.page) named ++ n ∷ filter (λ m. comes_before n.page m.page) named
+with_named n named =
+    filter (λ m. comes_before m.page n.page) named ++ n ∷ filter (λ m. comes_before n.page m.page) named
 
 -- the other pages, in their order
 abbrev pub without_named : GuestPage → List Named → List Named
@@ -88,3 +91,9 @@ pub record IsOrder (runs : List (List Named)) (len : ℕ) (mergeable : ℕ) : Ty
 pub record IsRunOf (page : GuestPage) (runs : List (List Named)) (at : ℕ) : Type 0 where
   pub ahead : All (λ n. comes_before n.page page ≡ true) (pages_in (take at runs))
   pub behind : All (λ n. comes_before page n.page ≡ true) (pages_in (drop (at + 1) runs))
+
+-- one of the runs is the page's, and has room for one page more
+pub record HasRoomFor (page : GuestPage) (runs : List (List Named)) (at : ℕ) : Type 0 where
+  pub place : IsRunOf page runs at
+  pub within : at < length runs
+  pub room : length (slice_index_or runs at []) < 256

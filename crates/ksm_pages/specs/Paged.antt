@@ -1,5 +1,8 @@
--- The pages: the rows with the dups into which they are merged, the frame of each page, and the pages that wait; and what is seen of them (own).
-use Rattle.std.specs.Prelude.{◌≡◌, ℕ, ◌+◌, ◌<◌, ◌≤◌, ◌^◌, Bool, true, false, not, ◌&&◌, ◌||◌, ◌==◌, ◌-◌, List, [], ◌∷◌, slice_get, option_map, map, All, Contains, find, Option, Some, None, is_some, option_and_then, MatchOption, length, filter, if◌then◌else◌}
+-- The pages: the rows with the dups into which they are merged, the frame of each page, and the pages that wait; and
+-- what is seen of them (own).
+use Rattle.std.specs.Prelude.{◌≡◌, ℕ, ◌+◌, ◌<◌, ◌≤◌, ◌^◌, Bool, true, false, not, ◌&&◌, ◌||◌, ◌==◌, ◌-◌, List, [], ◌∷◌}
+use Rattle.std.specs.Prelude.{slice_get, option_map, map, All, Contains, find, Option, Some, None, is_some}
+use Rattle.std.specs.Prelude.{option_and_then, MatchOption, length, filter, if◌then◌else◌}
 use Rattle.ksm_base.specs.declared.page.GuestPage.{GuestPage}
 use Rattle.ksm_base.specs.declared.row.PageState.TheVariants.{Private, Waiting, Merged, Zero}
 use Rattle.ksm_base.specs.declared.row.Row.{Row}
@@ -7,7 +10,8 @@ use Rattle.ksm_base.specs.declared.row.DupRow.{DupRow}
 use Rattle.ksm_base.specs.declared.knobs.Knobs.{Knobs}
 use Rattle.ksm_base.specs.declared.shape.Shape.{Shape}
 use Rattle.ksm_base.specs.Values.{frames_of}
-use Rattle.ksm_base.specs.Rows.{comes_before, same_page, row_at, change_row, change_rows, shared_state, merged_into, item_count, with_dup}
+use Rattle.ksm_base.specs.Rows.{comes_before, same_page, row_at, change_row, change_rows, shared_state, merged_into}
+use Rattle.ksm_base.specs.Rows.{item_count, with_dup}
 use Rattle.ksm_base.specs.State.{tree_of}
 use Rattle.ksm_base.specs.Visit.{after_cursor, best_dup, is_for_zero, partner}
 use Rattle.ksm_base.specs.Answers.{every_row}
@@ -65,8 +69,8 @@ pub record PagesValue : Type 0 where
   pub next : ℕ
   pub restless : Listing
 
--- what is seen of the pages: the rows, where each page lies, the dups, the knobs, the number of the next dup, and the list of the
--- rows that a visit may change
+-- what is seen of the pages: the rows, where each page lies, the dups, the knobs, the number of the next dup, and the
+-- list of the rows that a visit may change
 pub record PagesView : Type 0 where
   pub shape : Shape
   pub rows : List Row
@@ -77,15 +81,27 @@ pub record PagesView : Type 0 where
   pub restless : Listing
 
 abbrev pub seen : PagesValue → PagesView
-seen p = record { shape = p.shape; rows = p.rows; frame = frame_of p.lodgings; dups = p.dups; knobs = p.knobs; next = p.next; restless = p.restless }
+seen p = record {
+  shape = p.shape;
+  rows = p.rows;
+  frame = frame_of p.lodgings;
+  dups = p.dups;
+  knobs = p.knobs;
+  next = p.next;
+  restless = p.restless;
+}
 
 -- a page has a row
 abbrev pub IsKnown : GuestPage → List Row → Type 0
 IsKnown page rows = is_some (row_at page rows) ≡ true
 
+-- a page has a row, of which this is true
+abbrev pub HasRow : GuestPage → List Row → (Row → Type 0) → Type 0
+HasRow page rows P = MatchOption (row_at page rows) (true ≡ false) P
+
 -- a page has a row, with a frame of its own
 abbrev pub IsAlone : GuestPage → List Row → Type 0
-IsAlone page rows = MatchOption (row_at page rows) (true ≡ false) (λ r. shared_state r.state ≡ false)
+IsAlone page rows = HasRow page rows (λ r. shared_state r.state ≡ false)
 
 -- what is told of the row of a page: its home, whether it is merged or Zero, and where it lies
 pub record IsHeld (p : PagesView) (page : GuestPage) (held : Held) : Type 0 where
@@ -95,6 +111,10 @@ pub record IsHeld (p : PagesView) (page : GuestPage) (held : Held) : Type 0 wher
   pub home : held.home ≡ row.home
   pub shared : held.shared ≡ shared_state row.state
   pub frame : held.frame ≡ p.frame page
+
+-- the items of the dup with a number lie on the frame
+abbrev pub ItemsLieOn : ℕ → ℕ → PagesView → Type 0
+ItemsLieOn number frame p = All (λ r. merged_into number r.state ≡ true → p.frame r.page ≡ Some frame) p.rows
 
 -- a row of the guest, or any row where no guest is given
 abbrev pub of_guest : Option ℕ → Row → Bool
@@ -123,7 +143,8 @@ HasRoom rows dups number = (d : DupRow) × Contains dups d × (d.number ≡ numb
 
 -- the dup that is made of a row, with a number and at a place
 abbrev pub dup_of_row : Knobs → ℕ → ℕ → Row → DupRow
-dup_of_row knobs number place row = record { number = number; place = place; tree = tree_of knobs row; bytes = row.bytes }
+dup_of_row knobs number place row =
+    record { number = number; place = place; tree = tree_of knobs row; bytes = row.bytes }
 
 -- two pages with frames of their own may become the items of a new dup at the place
 pub record MayPair (p : PagesView) (place : ℕ) (first second : Row) : Type 0 where
@@ -141,7 +162,8 @@ pub record MayPair (p : PagesView) (place : ℕ) (first second : Row) : Type 0 w
 abbrev pub paired : ℕ → Row → Row → PagesView → PagesView
 paired place first second p =
     record p {
-      rows = change_rows (λ r. same_page r.page first.page || same_page r.page second.page) (λ r. record r { state = Merged p.next }) p.rows;
+      rows = change_rows (λ r. same_page r.page first.page || same_page r.page second.page)
+          (λ r. record r { state = Merged p.next }) p.rows;
       frame = lies_on second.page (p.frame first.page) p.frame;
       dups = with_dup (dup_of_row p.knobs p.next place second) p.dups;
       next = p.next + 1;
@@ -163,22 +185,29 @@ visited page change p = record p { rows = change_row page change p.rows }
 abbrev pub FindsAt : PagesView → PagesView → Row → Find → Type 0
 FindsAt old new r finds.Gone = (is_restless r ≡ false) × (new ≡ old)
 FindsAt old new r (finds.Dup best) =
-    (is_restless r ≡ true) × MatchOption (best_dup old.knobs old.rows old.dups r) (true ≡ false) (λ d. (best.number ≡ d.number) × (best.place ≡ d.place)) × (new ≡ old)
+    (is_restless r ≡ true)
+    × MatchOption (best_dup old.knobs old.rows old.dups r) (true ≡ false)
+    (λ d. (best.number ≡ d.number) × (best.place ≡ d.place))
+    × (new ≡ old)
 FindsAt old new r finds.Changed =
     (is_restless r ≡ true) × (best_dup old.knobs old.rows old.dups r ≡ None) × (r.unchanged ≡ false)
     × (new ≡ visited r.page (λ r. record r { unchanged = true; state = Private }) old)
 FindsAt old new r finds.Zero =
-    (is_restless r ≡ true) × (best_dup old.knobs old.rows old.dups r ≡ None) × (r.unchanged ≡ true) × (is_for_zero old.knobs r ≡ true) × (new ≡ old)
+    (is_restless r ≡ true) × (best_dup old.knobs old.rows old.dups r ≡ None) × (r.unchanged ≡ true)
+    × (is_for_zero old.knobs r ≡ true) × (new ≡ old)
 FindsAt old new r (finds.Partner page) =
-    (is_restless r ≡ true) × (best_dup old.knobs old.rows old.dups r ≡ None) × (r.unchanged ≡ true) × (is_for_zero old.knobs r ≡ false)
+    (is_restless r ≡ true) × (best_dup old.knobs old.rows old.dups r ≡ None) × (r.unchanged ≡ true)
+    × (is_for_zero old.knobs r ≡ false)
     × MatchOption (partner old.knobs old.rows r) (true ≡ false) (λ w. page ≡ w.page) × (new ≡ old)
 FindsAt old new r finds.Waits =
-    (is_restless r ≡ true) × (best_dup old.knobs old.rows old.dups r ≡ None) × (r.unchanged ≡ true) × (is_for_zero old.knobs r ≡ false)
-    × (partner old.knobs old.rows r ≡ None) × (new ≡ visited r.page (λ r. record r { state = Waiting }) old)
+    (is_restless r ≡ true) × (best_dup old.knobs old.rows old.dups r ≡ None) × (r.unchanged ≡ true)
+    × (is_for_zero old.knobs r ≡ false) × (partner old.knobs old.rows r ≡ None)
+    × (new ≡ visited r.page (λ r. record r { state = Waiting }) old)
 
 -- what a visit of a page finds; a page without a row is found gone
 abbrev pub Finds : PagesView → PagesView → GuestPage → Find → Type 0
-Finds old new page found = MatchOption (row_at page old.rows) ((found ≡ finds.Gone) × (new ≡ old)) (λ r. FindsAt old new r found)
+Finds old new page found =
+    MatchOption (row_at page old.rows) ((found ≡ finds.Gone) × (new ≡ old)) (λ r. FindsAt old new r found)
 
 -- the rows that a scan visits after the cursor
 abbrev pub rows_ahead : Option GuestPage → List Row → List Row
@@ -186,7 +215,8 @@ rows_ahead cursor rows = filter (λ r. r.mergeable && after_cursor cursor r.page
 
 -- what so many visits of these rows come to: the page of the last, or the end of the pass with so many
 abbrev pub ComesTo : List Row → ℕ → Ahead → Type 0
-ComesTo rows visits (At page) = (visits < length rows) × (option_map (λ r. r.page) (slice_get rows (visits - 1)) ≡ Some page)
+ComesTo rows visits (At page) =
+    (visits < length rows) × (option_map (λ r. r.page) (slice_get rows (visits - 1)) ≡ Some page)
 ComesTo rows visits (End made) = (made ≡ length rows) × (made ≤ visits)
 
 -- the rows that a scan visits after the cursor and before a page

@@ -1,8 +1,10 @@
 //! All pages in order, in runs that know how many of their pages a scan visits: a page is found by two binary searches,
 //! and the visits between two pages are counted run by run.
-ghost use Rattle.std.specs.Prelude.{◌≡◌, ◌≤◌, ◌<◌, ◌-◌, [], true, None, IfErr, OnErr, OnOk, ◌&&◌, count_by, filter, find, length};
+ghost use Rattle.std.specs.Prelude.{◌≡◌, ◌≤◌, ◌<◌, ◌-◌, [], true, None, IfErr, OnErr, OnOk};
+ghost use Rattle.std.specs.Prelude.{◌&&◌, count_by, filter, find, length};
 ghost use Rattle.ksm_base.specs.Visit.{after_cursor};
-ghost use Rattle.ksm_pages.specs.Ordered.{ComesTo, ahead_of, is_of, last_or, marked, passed_to, with_named, without_named};
+ghost use Rattle.ksm_pages.specs.Ordered.{ComesTo, ahead_of, is_of, last_or};
+ghost use Rattle.ksm_pages.specs.Ordered.{marked, passed_to, with_named, without_named};
 
 use crate::ahead::Ahead;
 use crate::named::Named;

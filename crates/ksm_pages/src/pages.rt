@@ -1,16 +1,20 @@
-//! The pages: the rows, the dups into which rows are merged, each with its frame, the pages that wait, and the knobs. Each
-//! call tells a change to all of them.
+//! The pages: the rows, the dups into which rows are merged, each with its frame, the pages that wait, and the knobs.
+//! Each call tells a change to all of them.
 //!
 //! A page is named by a `Spot`, whose key is a guess that no contract reads; a change is told by the page.
 
-ghost use Rattle.std.specs.Prelude.{◌≡◌, ℕ, ◌<◌, ◌≤◌, ◌⊎◌, ⊤, not, [], true, false, None, Some, Err, All, count_by, filter, find, length, map, is_some, ◌==◌, ◌&&◌, option_map, option_and_then, MatchOption, IfOk, IfErr, IfSome, IsTrue, OnOk, OnErr, slice_get};
+ghost use Rattle.std.specs.Prelude.{◌≡◌, ℕ, ◌<◌, ◌≤◌, ◌⊎◌, ⊤, not, [], true, false, None, Some, Err, All, count_by};
+ghost use Rattle.std.specs.Prelude.{filter, find, length, map, is_some, ◌==◌, ◌&&◌, option_map, option_and_then};
+ghost use Rattle.std.specs.Prelude.{MatchOption, IfOk, IfErr, IfSome, IsTrue, OnOk, OnErr, slice_get};
 ghost use Rattle.std.specs.List.{list_any};
 ghost use Rattle.ksm_base.specs.declared.fault.Fault.TheVariants.{Memory};
 ghost use Rattle.ksm_base.specs.declared.row.PageState.TheVariants.{Merged, Private, Zero};
 ghost use Rattle.ksm_base.specs.Apply.{fresh_row, let_go as as_let_go, stored, unshared as as_unshared};
 ghost use Rattle.ksm_base.specs.Counting.{counters_from, mergeable_count, shared_count};
 ghost use Rattle.ksm_base.specs.Reading.{items_of, place_of};
-ghost use Rattle.ksm_base.specs.Rows.{InPageOrder, all_zero as has_only_zeroes, row_at, with_row, without_page, change_row, shared_state, private_state, merged_into, waiting_state, settled as as_settled, has_items, is_stale};
+ghost use Rattle.ksm_base.specs.Rows.{InPageOrder, all_zero as has_only_zeroes, row_at, with_row, without_page};
+ghost use Rattle.ksm_base.specs.Rows.{change_row, shared_state, private_state, merged_into, waiting_state};
+ghost use Rattle.ksm_base.specs.Rows.{settled as as_settled, has_items, is_stale};
 ghost use Rattle.ksm_base.specs.State.{default_knobs, place_count};
 ghost use Rattle.ksm_base.specs.Values.{IsShape};
 ghost use Rattle.ksm_base.specs.Visit.{after_cursor, new_place as a_new_place};
@@ -25,7 +29,10 @@ ghost use Rattle.ksm_tree.specs.Waits.{IsStopped};
 ghost use Rattle.ksm_pages.specs.Held.{held_at, held_of};
 ghost use Rattle.ksm_pages.specs.Left.{IsLeft};
 ghost use Rattle.ksm_pages.specs.declared.pages.Find.TheVariants as finds;
-ghost use Rattle.ksm_pages.specs.Paged.{frame_seen, lodging, AreListed, ComesTo, Finds, HasRoom, IsAlone, IsHeld, IsKnown, IsVacant, MayPair, elsewhere, is_restless, items_on, lies_on, nowhere, is_next, of_guest, last_page, on_its_own, paired as are_paired, rows_ahead, rows_between, seen, visited};
+ghost use Rattle.ksm_pages.specs.Paged.{frame_seen, lodging, AreListed, ComesTo, Finds, HasRoom, HasRow, IsAlone};
+ghost use Rattle.ksm_pages.specs.Paged.{IsHeld, IsKnown, IsVacant, ItemsLieOn, MayPair, elsewhere, is_restless};
+ghost use Rattle.ksm_pages.specs.Paged.{items_on, lies_on, nowhere, is_next, of_guest, last_page, on_its_own};
+ghost use Rattle.ksm_pages.specs.Paged.{paired as are_paired, rows_ahead, rows_between, seen, visited};
 
 use crate::ahead::Ahead;
 use crate::row::{Entry, Kind, Spot};
@@ -139,7 +146,8 @@ fn frame_at(frames: &[u32], place: Option<u32>) -> Option<u32>
 /// The frame on which the page of a row lies, if it does on one.
 #[inline(always)]
 fn frame_of(dups: &Dups, frames: &[u32], entry: &Entry, pass: u64) -> Option<u32>
-    ensures { result ≡ frame_seen (lodging (dup_rows dups.now.dups) frames.now) (held_of pass entry.now).row.state (held_of pass entry.now).frame }
+    ensures { let held = held_of pass entry.now in
+        result ≡ frame_seen (lodging (dup_rows dups.now.dups) frames.now) held.row.state held.frame }
 {
     match entry.kind {
         Kind::Own => Some(entry.at),
@@ -234,8 +242,10 @@ fn remember(rows: &mut Rows, spot: Spot, guess: u32, group: u32)
 
 /// The cursor behind which the rows of a guest begin, or go on.
 fn start_of(guest: Option<u16>, cursor: Option<GuestPage>) -> Option<GuestPage>
-    ensures same { (row : Row) → of_guest guest row ≡ true → after_cursor result row.page ≡ after_cursor cursor row.page }
-    ensures begun { (page : GuestPage) → page.page ≤ 4294967295 → after_cursor result page ≡ true → IfSome guest (λ g. g ≤ page.guest) }
+    ensures same { (row : Row) → of_guest guest row ≡ true
+        → after_cursor result row.page ≡ after_cursor cursor row.page }
+    ensures begun { (page : GuestPage) → page.page ≤ 4294967295 → after_cursor result page ≡ true
+        → IfSome guest (λ g. g ≤ page.guest) }
 {
     let before = match guest {
         Some(guest) if guest > 0 => GuestPage {
@@ -254,7 +264,15 @@ impl Pages {
     /// No rows and no dups, with room for a dup at each place. Refused for memory alone.
     pub fn open(alloc: Global, shape: Shape) -> Result<Pages, Fault>
         requires { IsShape shape }
-        ensures opened { IfOk result (λ p. seen p ≡ record { shape = shape; rows = []; frame = nowhere; dups = []; knobs = default_knobs; next = 0; restless = record { pages = []; known = true } }) }
+        ensures opened { IfOk result (λ p. seen p ≡ record {
+          shape = shape;
+          rows = [];
+          frame = nowhere;
+          dups = [];
+          knobs = default_knobs;
+          next = 0;
+          restless = record { pages = []; known = true };
+        }) }
         ensures fault { IfErr result (λ fault. fault ≡ Memory) }
     {
         let places = shape.frames();
@@ -293,7 +311,8 @@ impl Pages {
 
     /// Sets the knobs; `merge_across_nodes` changes only where no row waits.
     pub fn set_knobs(&mut self, knobs: Knobs)
-        requires { (knobs.merge_across_nodes ≡ self.old.knobs.merge_across_nodes) ⊎ All (λ r. waiting_state r.state ≡ false) self.old.rows }
+        requires { (knobs.merge_across_nodes ≡ self.old.knobs.merge_across_nodes)
+            ⊎ All (λ r. waiting_state r.state ≡ false) self.old.rows }
         ensures { seen self.new ≡ record (seen self.old) { knobs = knobs } }
     {
         self.dups.set_limit(knobs.max_page_sharing);
@@ -342,7 +361,8 @@ impl Pages {
 
     /// The pages merged into the dup at a place, ascending; none where no dup with items stands there.
     pub fn items_at(&self, place: u32) -> Option<&[GuestPage]>
-        ensures { MatchOption result (find (λ d. d.place == place && has_items self.now.rows d) self.now.dups ≡ None) (λ items. option_map (items_of self.now.rows) (find (λ d. d.place == place && has_items self.now.rows d) self.now.dups) ≡ Some items.now) }
+        ensures { let live = find (λ d. d.place == place && has_items self.now.rows d) self.now.dups in
+            MatchOption result (live ≡ None) (λ items. option_map (items_of self.now.rows) live ≡ Some items.now) }
     {
         // Called for its contract alone: one dup stands at a place.
         let _ = self.dups.at(place);
@@ -354,7 +374,9 @@ impl Pages {
 
     /// The first page after the cursor, of the guest where one is given: where it lies, and where it is at home.
     pub fn next(&self, guest: Option<u16>, cursor: Option<GuestPage>) -> Option<Held>
-        ensures { MatchOption result (find (is_next guest cursor) self.now.rows ≡ None) (λ held. (IsHeld (seen self.now) held.spot.page held) × (option_map (λ r. r.page) (find (is_next guest cursor) self.now.rows) ≡ Some held.spot.page)) }
+        ensures { let next = find (is_next guest cursor) self.now.rows in
+            MatchOption result (next ≡ None) (λ held. (IsHeld (seen self.now) held.spot.page held)
+            × (option_map (λ r. r.page) next ≡ Some held.spot.page)) }
     {
         let spot = self.rows.after(start_of(guest, cursor))?;
         match guest {
@@ -425,7 +447,8 @@ impl Pages {
 
     /// Where a new dup goes.
     pub fn new_place(&self) -> u32
-        requires room { a_new_place (place_count self.now.shape) self.now.rows self.now.dups < place_count self.now.shape }
+        requires room { a_new_place (place_count self.now.shape) self.now.rows self.now.dups
+            < place_count self.now.shape }
         ensures { result ≡ a_new_place (place_count self.now.shape) self.now.rows self.now.dups }
     {
         match self.dups.choose_place() {
@@ -436,7 +459,7 @@ impl Pages {
 
     /// The frame on which the items of the dup at a place lie.
     pub fn dup_frame(&self, place: u32) -> u32
-        ensures { All (λ d. d.place ≡ place → All (λ r. merged_into d.number r.state ≡ true → (seen self.now).frame r.page ≡ Some result) self.now.rows) self.now.dups }
+        ensures { All (λ d. d.place ≡ place → ItemsLieOn d.number result (seen self.now)) self.now.dups }
     {
         // Called for its contract alone: a dup is told by its number, and by its place.
         let _ = self.dups.at(place);
@@ -446,7 +469,9 @@ impl Pages {
     /// The items of the dup at a place go to another frame.
     pub fn set_dup_frame(&mut self, place: u32, frame: u32)
         requires { list_any (λ d. d.place == place) self.old.dups ≡ true }
-        ensures { All (λ d. d.place ≡ place → seen self.new ≡ record (seen self.old) { frame = items_on d.number frame self.old.rows (seen self.old).frame }) self.old.dups }
+        ensures { All (λ d. d.place ≡ place → seen self.new ≡ record (seen self.old) {
+          frame = items_on d.number frame self.old.rows (seen self.old).frame;
+        }) self.old.dups }
     {
         // Called for its contract alone: one dup stands at a place, and has a frame there.
         let _ = self.dups.at(place);
@@ -458,8 +483,13 @@ impl Pages {
     pub fn insert(&mut self, page: GuestPage, node: u32, bytes: &PageBytes) -> Result<Spot, Fault>
         requires { row_at page self.old.rows ≡ None }
         ensures spot { IfOk result (λ spot. spot.page ≡ page) }
-        ensures added { OnOk result (seen self.new ≡ record (seen self.old) { rows = with_row (fresh_row page node bytes.now) self.old.rows; frame = (seen self.new).frame; restless = self.new.restless }) }
-        ensures others { OnOk result ((seen self.new).frame ≡ lies_on page ((seen self.new).frame page) (seen self.old).frame) }
+        ensures added { OnOk result (seen self.new ≡ record (seen self.old) {
+          rows = with_row (fresh_row page node bytes.now) self.old.rows;
+          frame = (seen self.new).frame;
+          restless = self.new.restless;
+        }) }
+        ensures others { OnOk result ((seen self.new).frame
+            ≡ lies_on page ((seen self.new).frame page) (seen self.old).frame) }
         ensures nowhere { (seen self.old).frame page ≡ None }
         ensures refused { OnErr result (self.new ≡ self.old) }
         ensures fault { OnErr result (result ≡ Err Memory) }
@@ -467,13 +497,17 @@ impl Pages {
         self.rows.insert(page, node, *bytes, 0)
     }
 
-    /// The page gets a frame of its own in the stead of what it had: a merged one leaves its dup, one that waits does so
-    /// no more. Gives the frame where it lay, if it had one.
+    /// The page gets a frame of its own in the stead of what it had: a merged one leaves its dup, one that waits does
+    /// so no more. Gives the frame where it lay, if it had one.
     #[inline(always)]
     pub fn resettle(&mut self, spot: Spot, frame: u32) -> Option<u32>
         requires { IsKnown spot.page self.old.rows }
         ensures left { result ≡ (seen self.old).frame spot.page }
-        ensures settled { seen self.new ≡ record (seen self.old) { rows = change_row spot.page on_its_own self.old.rows; frame = lies_on spot.page (Some frame) (seen self.old).frame; restless = self.new.restless } }
+        ensures settled { seen self.new ≡ record (seen self.old) {
+          rows = change_row spot.page on_its_own self.old.rows;
+          frame = lies_on spot.page (Some frame) (seen self.old).frame;
+          restless = self.new.restless;
+        } }
     {
         let left = leave(&mut self.dups, &self.frames, &self.knobs, &self.rows, spot);
         self.rows.settle_on(spot, frame);
@@ -484,7 +518,11 @@ impl Pages {
     pub fn remove(&mut self, spot: Spot) -> Option<u32>
         requires { IsKnown spot.page self.old.rows }
         ensures left { result ≡ (seen self.old).frame spot.page }
-        ensures gone { seen self.new ≡ record (seen self.old) { rows = without_page spot.page self.old.rows; frame = lies_on spot.page None (seen self.old).frame; restless = self.new.restless } }
+        ensures gone { seen self.new ≡ record (seen self.old) {
+          rows = without_page spot.page self.old.rows;
+          frame = lies_on spot.page None (seen self.old).frame;
+          restless = self.new.restless;
+        } }
     {
         let left = leave(&mut self.dups, &self.frames, &self.knobs, &self.rows, spot);
         self.rows.remove(spot);
@@ -495,7 +533,10 @@ impl Pages {
     #[inline(always)]
     pub fn store(&mut self, spot: Spot, bytes: &PageBytes)
         requires { IsAlone spot.page self.old.rows }
-        ensures { seen self.new ≡ record (seen self.old) { rows = change_row spot.page (stored bytes.now) self.old.rows; restless = self.new.restless } }
+        ensures { seen self.new ≡ record (seen self.old) {
+          rows = change_row spot.page (stored bytes.now) self.old.rows;
+          restless = self.new.restless;
+        } }
     {
         let Some(entry) = self.rows.find(spot) else {
             return;
@@ -513,8 +554,11 @@ impl Pages {
 
     /// A Private page is at home on another node from now on.
     pub fn set_home(&mut self, spot: Spot, node: u32)
-        requires { MatchOption (row_at spot.page self.old.rows) (true ≡ false) (λ r. private_state r.state ≡ true) }
-        ensures { seen self.new ≡ record (seen self.old) { rows = change_row spot.page (λ r. record r { home = node }) self.old.rows; restless = self.new.restless } }
+        requires { HasRow spot.page self.old.rows (λ r. private_state r.state ≡ true) }
+        ensures { seen self.new ≡ record (seen self.old) {
+          rows = change_row spot.page (λ r. record r { home = node }) self.old.rows;
+          restless = self.new.restless;
+        } }
     {
         self.rows.set_home(spot, node);
     }
@@ -522,7 +566,10 @@ impl Pages {
     /// The page is not unchanged from now on.
     pub fn forget_unchanged(&mut self, spot: Spot)
         requires { IsKnown spot.page self.old.rows }
-        ensures { seen self.new ≡ record (seen self.old) { rows = change_row spot.page (λ r. record r { unchanged = false }) self.old.rows; restless = self.new.restless } }
+        ensures { seen self.new ≡ record (seen self.old) {
+          rows = change_row spot.page (λ r. record r { unchanged = false }) self.old.rows;
+          restless = self.new.restless;
+        } }
     {
         self.rows.forget_unchanged(spot);
     }
@@ -530,7 +577,10 @@ impl Pages {
     /// The scan visits the page from now on.
     pub fn make_mergeable(&mut self, spot: Spot)
         requires { IsKnown spot.page self.old.rows }
-        ensures { seen self.new ≡ record (seen self.old) { rows = change_row spot.page (λ r. record r { mergeable = true }) self.old.rows; restless = self.new.restless } }
+        ensures { seen self.new ≡ record (seen self.old) {
+          rows = change_row spot.page (λ r. record r { mergeable = true }) self.old.rows;
+          restless = self.new.restless;
+        } }
     {
         self.rows.set_mergeable(spot, true);
     }
@@ -538,7 +588,10 @@ impl Pages {
     /// A page with a frame of its own is Private and not unchanged, and the scan visits it no more.
     pub fn let_go(&mut self, spot: Spot)
         requires { IsAlone spot.page self.old.rows }
-        ensures { seen self.new ≡ record (seen self.old) { rows = change_row spot.page as_let_go self.old.rows; restless = self.new.restless } }
+        ensures { seen self.new ≡ record (seen self.old) {
+          rows = change_row spot.page as_let_go self.old.rows;
+          restless = self.new.restless;
+        } }
     {
         leave(&mut self.dups, &self.frames, &self.knobs, &self.rows, spot);
         self.rows.stop_waiting(spot);
@@ -557,7 +610,10 @@ impl Pages {
     /// Every page becomes Private and not unchanged, where none is merged or Zero.
     pub fn unshare_all(&mut self)
         requires { All (λ r. shared_state r.state ≡ false) self.old.rows }
-        ensures { seen self.new ≡ record (seen self.old) { rows = map as_unshared self.old.rows; restless = self.new.restless } }
+        ensures { seen self.new ≡ record (seen self.old) {
+          rows = map as_unshared self.old.rows;
+          restless = self.new.restless;
+        } }
     {
         self.rows.unshare_all();
         self.dups.clear_waiting();
@@ -606,7 +662,7 @@ impl Pages {
     pub fn visit(&mut self, spot: Spot) -> Result<Find, Fault>
         ensures found { IfOk result (Finds (seen self.old) (seen self.new) spot.page) }
         ensures refused { OnErr result (self.new ≡ self.old) }
-        ensures restless { OnErr result (MatchOption (row_at spot.page self.old.rows) (true ≡ false) (λ r. is_restless r ≡ true)) }
+        ensures restless { OnErr result (HasRow spot.page self.old.rows (λ r. is_restless r ≡ true)) }
         ensures fault { OnErr result (result ≡ Err Memory) }
     {
         let Some(entry) = self.rows.find(spot) else {
@@ -638,14 +694,19 @@ impl Pages {
         Ok(Find::Partner(other))
     }
 
-    /// A page with a frame of its own joins a dup that has an item, and lies where its items do. Gives the frame that it
-    /// leaves. Refused for memory alone, it changes nothing.
+    /// A page with a frame of its own joins a dup that has an item, and lies where its items do. Gives the frame that
+    /// it leaves. Refused for memory alone, it changes nothing.
     pub fn join(&mut self, spot: Spot, best: Best) -> Result<u32, Fault>
         requires alone { IsAlone spot.page self.old.rows }
         requires room { HasRoom self.old.rows self.old.dups best.number }
         ensures left { IfOk result (λ lone. (seen self.old).frame spot.page ≡ Some lone) }
-        ensures joined { OnOk result (seen self.new ≡ record (seen self.old) { rows = change_row spot.page (λ r. record r { state = Merged best.number }) self.old.rows; frame = (seen self.new).frame }) }
-        ensures frame { OnOk result (All (λ r. merged_into best.number r.state ≡ true → (seen self.new).frame ≡ lies_on spot.page ((seen self.old).frame r.page) (seen self.old).frame) self.old.rows) }
+        ensures joined { OnOk result (seen self.new ≡ record (seen self.old) {
+          rows = change_row spot.page (λ r. record r { state = Merged best.number }) self.old.rows;
+          frame = (seen self.new).frame;
+        }) }
+        ensures frame { let old = (seen self.old).frame in
+            OnOk result (All (λ r. merged_into best.number r.state ≡ true
+            → (seen self.new).frame ≡ lies_on spot.page (old r.page) old) self.old.rows) }
         ensures refused { OnErr result (self.new ≡ self.old) }
         ensures fault { OnErr result (result ≡ Err Memory) }
     {
@@ -668,10 +729,12 @@ impl Pages {
     /// Two pages with frames of their own become the items of a new dup at a place, on the frame of the first. A stale
     /// dup at the place goes. Gives the frames where they lay. Refused for memory alone, it changes nothing.
     pub fn pair(&mut self, place: u32, first: Spot, second: Spot) -> Result<(u32, u32), Fault>
-        requires first { MatchOption (row_at first.page self.old.rows) (true ≡ false) (λ r. MatchOption (row_at second.page self.old.rows) (true ≡ false) (MayPair (seen self.old) place r)) }
+        requires first { HasRow first.page self.old.rows (λ r.
+            HasRow second.page self.old.rows (MayPair (seen self.old) place r)) }
         ensures first { IfOk result (λ frames. (seen self.old).frame first.page ≡ Some frames.0) }
         ensures second { IfOk result (λ frames. (seen self.old).frame second.page ≡ Some frames.1) }
-        ensures paired { OnOk result (MatchOption (row_at first.page self.old.rows) (true ≡ false) (λ r. MatchOption (row_at second.page self.old.rows) (true ≡ false) (λ s. seen self.new ≡ are_paired place r s (seen self.old)))) }
+        ensures paired { OnOk result (HasRow first.page self.old.rows (λ r.
+            HasRow second.page self.old.rows (λ s. seen self.new ≡ are_paired place r s (seen self.old)))) }
         ensures refused { OnErr result (self.new ≡ self.old) }
         ensures fault { OnErr result (result ≡ Err Memory) }
     {
@@ -697,7 +760,10 @@ impl Pages {
     pub fn become_zero(&mut self, spot: Spot) -> Option<u32>
         requires { IsAlone spot.page self.old.rows }
         ensures left { result ≡ (seen self.old).frame spot.page }
-        ensures zero { seen self.new ≡ record (seen self.old) { rows = change_row spot.page (λ r. record r { state = Zero }) self.old.rows; frame = lies_on spot.page None (seen self.old).frame } }
+        ensures zero { seen self.new ≡ record (seen self.old) {
+          rows = change_row spot.page (λ r. record r { state = Zero }) self.old.rows;
+          frame = lies_on spot.page None (seen self.old).frame;
+        } }
     {
         let left = leave(&mut self.dups, &self.frames, &self.knobs, &self.rows, spot);
         self.rows.become_zero(spot);
@@ -712,8 +778,8 @@ impl Pages {
         self.rows.ahead(cursor, visits)
     }
 
-    /// How many visits behind the cursor come before a page, and the page of the last of them; the cursor where there is
-    /// none.
+    /// How many visits behind the cursor come before a page, and the page of the last of them; the cursor where there
+    /// is none.
     pub fn between(&self, cursor: Option<GuestPage>, page: GuestPage) -> (u64, Option<GuestPage>)
         ensures many { result.0 ≡ length (rows_between cursor page self.now.rows) }
         ensures last { result.1 ≡ last_page cursor (rows_between cursor page self.now.rows) }
@@ -762,7 +828,8 @@ impl Pages {
     // A page with a frame of its own is Private and unchanged from now on. The number of its group is remembered.
     fn become_unchanged(&mut self, spot: Spot, group: u32)
         requires { IsAlone spot.page self.old.rows }
-        ensures { seen self.new ≡ visited spot.page (λ r. record r { unchanged = true; state = Private }) (seen self.old) }
+        ensures { seen self.new
+            ≡ visited spot.page (λ r. record r { unchanged = true; state = Private }) (seen self.old) }
     {
         let Some(entry) = self.rows.find(spot) else {
             return;

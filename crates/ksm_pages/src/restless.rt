@@ -5,7 +5,8 @@
 //! listed until many may be so. Where memory for a page is refused, the list is no longer known to have all, and
 //! the next scan makes it anew: so no command is refused for it.
 
-ghost use Rattle.std.specs.Prelude.{◌≡◌, ◌⊎◌, ◌≤◌, [], true, false, filter, find, is_some, length, not, slice_get, slice_index_or, option_map, IsTrue, ◌<◌};
+ghost use Rattle.std.specs.Prelude.{◌≡◌, ◌⊎◌, ◌≤◌, [], true, false, filter, find, is_some, length, not, slice_get};
+ghost use Rattle.std.specs.Prelude.{slice_index_or, option_map, IsTrue, ◌<◌};
 ghost use Rattle.ksm_base.specs.declared.page.GuestPage.{GuestPage};
 ghost use Rattle.ksm_base.specs.Rows.{comes_before, same_page};
 ghost use Rattle.ksm_base.specs.Visit.{after_cursor};
@@ -173,7 +174,8 @@ impl Restless {
     /// Once many pages may be such that no visit changes their rows, those are not listed any more.
     pub fn sweep(&mut self, entries: &Slab<Entry>)
         ensures known { self.new.known ≡ self.old.known }
-        ensures kept { (page : GuestPage) → has_item page self.old.pages ≡ true → (has_item page self.new.pages ≡ true) ⊎ IsCalm entries.now page }
+        ensures kept { (page : GuestPage) → has_item page self.old.pages ≡ true
+            → (has_item page self.new.pages ≡ true) ⊎ IsCalm entries.now page }
     {
         if self.useless > self.spots.len() / 2 {
             self.spots.retain(|spot| !is_useless(entries, spot));

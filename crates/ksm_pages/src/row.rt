@@ -1,7 +1,8 @@
 //! A row as it is kept, and how it is found.
 //!
 //! The state of a row is kept as a kind and a number. A row with a frame of its own waits exactly where its number is
-//! that of the pass that goes on: so when a pass begins and none waits any more, one number grows, and no row is written.
+//! that of the pass that goes on: so when a pass begins and none waits any more, one number grows, and no row is
+//! written.
 
 ghost use Rattle.std.specs.Prelude.{◌≡◌, ◌&&◌, bytes_eq};
 ghost use Rattle.ksm_pages.specs.Held.{forgotten, frame_of, held_of, is_restless as is_a_restless, state_of};
@@ -95,7 +96,10 @@ impl Entry {
     /// The entry has these bytes. Where they are others than before, it is not unchanged.
     #[inline(always)]
     pub fn take_bytes(&mut self, bytes: &PageBytes)
-        ensures { self.new ≡ record self.old { bytes = bytes.now; unchanged = self.old.unchanged && bytes_eq self.old.bytes bytes.now } }
+        ensures { self.new ≡ record self.old {
+          bytes = bytes.now;
+          unchanged = self.old.unchanged && bytes_eq self.old.bytes bytes.now;
+        } }
     {
         if self.bytes != *bytes {
             self.bytes = *bytes;

@@ -1,11 +1,13 @@
 //! The rows: each in a slab under a key, with the order of their pages, those that a visit of the scan may change, and
 //! how many there are of each state.
 //!
-//! A key is told as a guess, or comes from a table of guesses by slots of pages (`slot.rt`). Where it is right no search is
-//! made; where it is wrong there are two binary searches: of the run in which the page is, and of the page in it.
-//! `settle_all` writes no row. `unshare_all` walks over all.
+//! A key is told as a guess, or comes from a table of guesses by slots of pages (`slot.rt`). Where it is right no
+//! search is made; where it is wrong there are two binary searches: of the run in which the page is, and of the page in
+//! it. `settle_all` writes no row. `unshare_all` walks over all.
 
-ghost use Rattle.std.specs.Prelude.{◌≡◌, ◌≤◌, true, false, [], None, Some, All, IfErr, IfOk, IfSome, MatchOption, OnErr, OnOk, ◌&&◌, bytes_eq, count_by, filter, find, is_some, length, map, not, option_map, slice_get};
+ghost use Rattle.std.specs.Prelude.{◌≡◌, ◌≤◌, true, false, [], None, Some, All, IfErr, IfOk, IfSome, MatchOption};
+ghost use Rattle.std.specs.Prelude.{OnErr, OnOk, ◌&&◌, bytes_eq, count_by, filter, find, is_some, length, map, not};
+ghost use Rattle.std.specs.Prelude.{option_map, slice_get};
 ghost use Rattle.ksm_base.specs.declared.page.GuestPage.{GuestPage};
 ghost use Rattle.ksm_base.specs.declared.row.PageState.TheVariants.{Private, Waiting, Merged, Zero};
 ghost use Rattle.ksm_base.specs.Apply.{fresh_row};
@@ -13,7 +15,8 @@ ghost use Rattle.ksm_base.specs.Rows.{InPageOrder, comes_before, settled, shared
 ghost use Rattle.ksm_base.specs.Visit.{after_cursor};
 ghost use Rattle.ksm_rmap.specs.Items.{AreAscending as AreRising};
 ghost use Rattle.ksm_pages.specs.Filed.{AreFiled, AreListed, IsTally, IsUnder, key_in};
-ghost use Rattle.ksm_pages.specs.Held.{AreAllListed, Reaches, change_held, held_at, held_of, last_or, mapped, on_row, pages_ahead, rows_of, with_held, without_held};
+ghost use Rattle.ksm_pages.specs.Held.{AreAllListed, Reaches, change_held, held_at, held_of, last_or, mapped, on_row};
+ghost use Rattle.ksm_pages.specs.Held.{pages_ahead, pages_between, rows_of, with_held, without_held};
 ghost use Rattle.ksm_pages.specs.Ordered.{AreAscending, is_of};
 
 use crate::ahead::Ahead;
@@ -116,12 +119,13 @@ impl Rows {
 
     // ------------------------------------------------------------ what is read
 
-    /// A law: the rows are in the order of their pages, those with frames of their own have them, and those that a visit
-    /// may change are listed, if all of them are known.
+    /// A law: the rows are in the order of their pages, those with frames of their own have them, and those that a
+    /// visit may change are listed, if all of them are known.
     pub fn are_lawful(&self)
         ensures rise { InPageOrder (rows_of self.now.held) }
         ensures framed { All (λ h. is_some h.frame ≡ not (shared_state h.row.state)) self.now.held }
-        ensures listed { self.now.restless.known ≡ true → AreAllListed (rows_of self.now.held) self.now.restless.pages }
+        ensures listed { self.now.restless.known ≡ true
+            → AreAllListed (rows_of self.now.held) self.now.restless.pages }
     {
         // A law is told of the fields where one of them is read.
         let _ = self.order.len();
@@ -141,7 +145,8 @@ impl Rows {
     /// What is kept of the row of a page, if it has one.
     #[inline(always)]
     pub fn find(&self, spot: Spot) -> Option<&Entry>
-        ensures { MatchOption result (held_at spot.page self.now.held ≡ None) (λ entry. held_at spot.page self.now.held ≡ Some (held_of self.now.pass entry.now)) }
+        ensures { MatchOption result (held_at spot.page self.now.held ≡ None)
+            (λ entry. held_at spot.page self.now.held ≡ Some (held_of self.now.pass entry.now)) }
     {
         let key = key_of(&self.entries, &self.order, spot)?;
         Some(&self.entries[key])
@@ -190,7 +195,8 @@ impl Rows {
 
     /// The first page behind a cursor.
     pub fn after(&self, cursor: Option<GuestPage>) -> Option<Spot>
-        ensures { option_map (λ s. s.page) result ≡ option_map (λ r. r.page) (find (λ r. after_cursor cursor r.page) (rows_of self.now.held)) }
+        ensures { option_map (λ s. s.page) result
+            ≡ option_map (λ r. r.page) (find (λ r. after_cursor cursor r.page) (rows_of self.now.held)) }
     {
         match self.order.after(cursor) {
             Some(named) => Some(Spot {
@@ -211,8 +217,8 @@ impl Rows {
 
     /// How many pages behind the cursor and before a page a scan visits, and the last of them, or else the cursor.
     pub fn between(&self, cursor: Option<GuestPage>, page: GuestPage) -> (u64, Option<GuestPage>)
-        ensures many { result.0 ≡ length (filter (λ p. comes_before p page) (pages_ahead cursor (rows_of self.now.held))) }
-        ensures last { result.1 ≡ last_or cursor (filter (λ p. comes_before p page) (pages_ahead cursor (rows_of self.now.held))) }
+        ensures many { result.0 ≡ length (pages_between cursor page (rows_of self.now.held)) }
+        ensures last { result.1 ≡ last_or cursor (pages_between cursor page (rows_of self.now.held)) }
     {
         self.order.between(cursor, page)
     }
@@ -228,7 +234,10 @@ impl Rows {
         frame: u32,
     ) -> Result<Spot, Fault>
         requires absent { held_at page self.old.held ≡ None }
-        ensures added { OnOk result (self.new ≡ record self.old { held = with_held (record { row = fresh_row page home bytes; frame = Some frame }) self.old.held; restless = self.new.restless }) }
+        ensures added { OnOk result (self.new ≡ record self.old {
+          held = with_held (record { row = fresh_row page home bytes; frame = Some frame }) self.old.held;
+          restless = self.new.restless;
+        }) }
         ensures spot { IfOk result (λ spot. spot.page ≡ page) }
         ensures kept { OnErr result (self.new ≡ self.old) }
         ensures memory { IfErr result (λ fault. fault ≡ Fault.Memory) }
@@ -260,7 +269,10 @@ impl Rows {
 
     /// The row of a page goes, if it has one.
     pub fn remove(&mut self, spot: Spot)
-        ensures { self.new ≡ record self.old { held = without_held spot.page self.old.held; restless = self.new.restless } }
+        ensures { self.new ≡ record self.old {
+          held = without_held spot.page self.old.held;
+          restless = self.new.restless;
+        } }
     {
         let Some(key) = key_of(&self.entries, &self.order, spot) else {
             return;
@@ -278,7 +290,10 @@ impl Rows {
     /// The page of a row gets a frame of its own in the stead of what it had, and is Private.
     #[inline(always)]
     pub fn settle_on(&mut self, spot: Spot, frame: u32)
-        ensures { self.new ≡ record self.old { held = change_held spot.page (mapped Private (Some frame)) self.old.held; restless = self.new.restless } }
+        ensures { self.new ≡ record self.old {
+          held = change_held spot.page (mapped Private (Some frame)) self.old.held;
+          restless = self.new.restless;
+        } }
     {
         let Some(key) = key_of(&self.entries, &self.order, spot) else {
             return;
@@ -303,7 +318,9 @@ impl Rows {
     /// The page of a row is mapped from the frame of the dup with a number, at a place that is a guess.
     #[inline(always)]
     pub fn merge(&mut self, spot: Spot, number: u64, place: u32)
-        ensures { self.new ≡ record self.old { held = change_held spot.page (mapped (Merged number) None) self.old.held } }
+        ensures { self.new ≡ record self.old {
+          held = change_held spot.page (mapped (Merged number) None) self.old.held;
+        } }
     {
         let Some(key) = key_of(&self.entries, &self.order, spot) else {
             return;
@@ -339,7 +356,9 @@ impl Rows {
     #[inline(always)]
     pub fn wait(&mut self, spot: Spot)
         requires own { IfSome (held_at spot.page self.old.held) (λ h. shared_state h.row.state ≡ false) }
-        ensures { self.new ≡ record self.old { held = change_held spot.page (on_row (λ r. record r { state = Waiting })) self.old.held } }
+        ensures { self.new ≡ record self.old {
+          held = change_held spot.page (on_row (λ r. record r { state = Waiting })) self.old.held;
+        } }
     {
         let Some(key) = key_of(&self.entries, &self.order, spot) else {
             return;
@@ -374,7 +393,12 @@ impl Rows {
     /// The row has these bytes. Where its bytes were others, it is not unchanged.
     #[inline(always)]
     pub fn store(&mut self, spot: Spot, bytes: &PageBytes)
-        ensures { self.new ≡ record self.old { held = change_held spot.page (on_row (λ r. record r { bytes = bytes.now; unchanged = r.unchanged && bytes_eq r.bytes bytes.now })) self.old.held } }
+        ensures { self.new ≡ record self.old {
+          held = change_held spot.page (on_row (λ r. record r {
+            bytes = bytes.now;
+            unchanged = r.unchanged && bytes_eq r.bytes bytes.now;
+          })) self.old.held;
+        } }
     {
         let Some(key) = key_of(&self.entries, &self.order, spot) else {
             return;
@@ -384,7 +408,9 @@ impl Rows {
 
     /// The row waits no more, and is unchanged. The number of the group in which it was found is remembered.
     pub fn become_unchanged(&mut self, spot: Spot, group: u32)
-        ensures { self.new ≡ record self.old { held = change_held spot.page (on_row (λ r. record (settled r) { unchanged = true })) self.old.held } }
+        ensures { self.new ≡ record self.old {
+          held = change_held spot.page (on_row (λ r. record (settled r) { unchanged = true })) self.old.held;
+        } }
     {
         let Some(key) = key_of(&self.entries, &self.order, spot) else {
             return;
@@ -403,7 +429,9 @@ impl Rows {
     /// The row is unchanged no more.
     #[inline(always)]
     pub fn forget_unchanged(&mut self, spot: Spot)
-        ensures { self.new ≡ record self.old { held = change_held spot.page (on_row (λ r. record r { unchanged = false })) self.old.held } }
+        ensures { self.new ≡ record self.old {
+          held = change_held spot.page (on_row (λ r. record r { unchanged = false })) self.old.held;
+        } }
     {
         let Some(key) = key_of(&self.entries, &self.order, spot) else {
             return;
@@ -413,7 +441,9 @@ impl Rows {
 
     /// The home of the row is another node.
     pub fn set_home(&mut self, spot: Spot, home: u32)
-        ensures { self.new ≡ record self.old { held = change_held spot.page (on_row (λ r. record r { home = home })) self.old.held } }
+        ensures { self.new ≡ record self.old {
+          held = change_held spot.page (on_row (λ r. record r { home = home })) self.old.held;
+        } }
     {
         let Some(key) = key_of(&self.entries, &self.order, spot) else {
             return;
@@ -423,7 +453,10 @@ impl Rows {
 
     /// A scan visits the row from now on, or does not.
     pub fn set_mergeable(&mut self, spot: Spot, mergeable: bool)
-        ensures { self.new ≡ record self.old { held = change_held spot.page (on_row (λ r. record r { mergeable = mergeable })) self.old.held; restless = self.new.restless } }
+        ensures { self.new ≡ record self.old {
+          held = change_held spot.page (on_row (λ r. record r { mergeable = mergeable })) self.old.held;
+          restless = self.new.restless;
+        } }
     {
         let Some(key) = key_of(&self.entries, &self.order, spot) else {
             return;
@@ -475,7 +508,10 @@ impl Rows {
 
     /// No row waits any more, and none is unchanged.
     pub fn unshare_all(&mut self)
-        ensures { self.new ≡ record self.old { held = map (on_row (λ r. record (settled r) { unchanged = false })) self.old.held; pass = self.new.pass } }
+        ensures { self.new ≡ record self.old {
+          held = map (on_row (λ r. record (settled r) { unchanged = false })) self.old.held;
+          pass = self.new.pass;
+        } }
     {
         self.entries.retain(|_, entry| {
             entry.unchanged = false;

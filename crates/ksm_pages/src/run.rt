@@ -1,8 +1,10 @@
 //! A run of pages in order, with how many of them a scan visits.
-ghost use Rattle.std.specs.Prelude.{◌≡◌, ℕ, ◌<◌, ◌≤◌, [], None, true, false, not, IfErr, IfOk, IsTrue, OnErr, OnOk, count_by, drop, filter, find, length, is_some, slice_get, slice_index_or, take};
+ghost use Rattle.std.specs.Prelude.{◌≡◌, ℕ, ◌<◌, ◌≤◌, [], None, true, false, not, IfErr, IfOk, IsTrue, OnErr, OnOk};
+ghost use Rattle.std.specs.Prelude.{count_by, drop, filter, find, length, is_some, slice_get, slice_index_or, take};
 ghost use Rattle.std.specs.List.{list_all};
 ghost use Rattle.ksm_base.specs.Rows.{comes_before};
-ghost use Rattle.ksm_pages.specs.Ordered.{AreAscending, begins_behind, begins_with, is_of, page_at, visited, with_named, without_named, marked};
+ghost use Rattle.ksm_pages.specs.Ordered.{AreAscending, begins_behind, begins_with, is_of, page_at, visited};
+ghost use Rattle.ksm_pages.specs.Ordered.{with_named, without_named, marked};
 
 use crate::named::Named;
 use ksm_base::{Fault, GuestPage};

@@ -1,7 +1,9 @@
 //! The runs beside each other: which of them a page is in, or would be, and what a change of one run is for all pages.
-ghost use Rattle.std.specs.Prelude.{◌≡◌, ◌+◌, ◌-◌, ◌<◌, ◌≤◌, [], ◌∷◌, ◌++◌, None, true, All, IfErr, IfOk, OnErr, OnOk, drop, find, length, slice_get, slice_index_or, take};
+ghost use Rattle.std.specs.Prelude.{◌≡◌, ◌+◌, ◌-◌, ◌<◌, ◌≤◌, [], ◌∷◌, ◌++◌, None, true, All};
+ghost use Rattle.std.specs.Prelude.{IfErr, IfOk, OnErr, OnOk, drop, find, length, slice_get, slice_index_or, take};
 ghost use Rattle.ksm_base.specs.Rows.{comes_before};
-ghost use Rattle.ksm_pages.specs.Ordered.{AreRuns, IsRunOf, is_of, marked, pages_in, with_named, without_named};
+ghost use Rattle.ksm_pages.specs.Ordered.{AreRuns, HasRoomFor, IsRunOf, is_of, marked, pages_in};
+ghost use Rattle.ksm_pages.specs.Ordered.{with_named, without_named};
 
 use crate::named::Named;
 use crate::run::Run;
@@ -96,9 +98,7 @@ fn make_room(runs: &mut Vec<Run>, at: usize, page: GuestPage) -> Result<usize, F
     requires full { 256 ≤ length (slice_index_or runs.old.items at []) }
     ensures runs { AreRuns runs.new.items }
     ensures pages { pages_in runs.new.items ≡ pages_in runs.old.items }
-    ensures place { IfOk result (λ into. IsRunOf page runs.new.items into) }
-    ensures within { IfOk result (λ into. into < length runs.new.items) }
-    ensures room { IfOk result (λ into. length (slice_index_or runs.new.items into []) < 256) }
+    ensures room { IfOk result (λ into. HasRoomFor page runs.new.items into) }
     ensures memory { IfErr result (λ fault. fault ≡ Fault.Memory) }
 {
     cut(runs, at)?;
@@ -109,9 +109,7 @@ fn make_room(runs: &mut Vec<Run>, at: usize, page: GuestPage) -> Result<usize, F
 /// Puts a page that is not there into its run, which is not full. The one fault is `Memory`, and then nothing changes.
 fn put_in(runs: &mut Vec<Run>, at: usize, named: Named) -> Result<(), Fault>
     requires runs { AreRuns runs.old.items }
-    requires place { IsRunOf named.page runs.old.items at }
-    requires within { at < length runs.old.items }
-    requires room { length (slice_index_or runs.old.items at []) < 256 }
+    requires room { HasRoomFor named.page runs.old.items at }
     requires absent { find (is_of named.page) (pages_in runs.old.items) ≡ None }
     ensures runs { AreRuns runs.new.items }
     ensures added { OnOk result (pages_in runs.new.items ≡ with_named named (pages_in runs.old.items)) }
@@ -154,7 +152,8 @@ pub fn put(runs: &mut Vec<Run>, alloc: Global, named: Named) -> Result<(), Fault
         return put_behind(runs, alloc, at, named);
     }
     let is_full = runs[at].len() >= LONGEST_RUN;
-    // Pages that come in order fill their runs, and those of another guest begin one: so mostly none is missing in a run.
+    // Pages that come in order fill their runs, and those of another guest begin one: so mostly no page is missing in
+    // a run.
     let begins_one = is_full || !runs[at].begins_with(named.page.guest);
     if begins_one && runs[at].begins_behind(named.page) {
         return put_behind(runs, alloc, at, named);

@@ -1,5 +1,6 @@
 //! Which pages a scan visits next, counted run by run: where it visits all pages of a run, none of them is looked at.
-ghost use Rattle.std.specs.Prelude.{◌≡◌, ◌+◌, ◌-◌, ◌^◌, ◌<◌, ◌≤◌, [], Some, not, nat_lt, if◌then◌else◌, count_by, drop, length, slice_index_or, take};
+ghost use Rattle.std.specs.Prelude.{◌≡◌, ◌+◌, ◌-◌, ◌^◌, ◌<◌, ◌≤◌, [], Some, not, nat_lt, if◌then◌else◌, count_by};
+ghost use Rattle.std.specs.Prelude.{drop, length, slice_index_or, take};
 ghost use Rattle.ksm_base.specs.Rows.{comes_before};
 ghost use Rattle.ksm_pages.specs.Ordered.{AreRuns, ComesTo, ahead_of, last_or, page_at, pages_in, passed_to, visited};
 

@@ -1,4 +1,4 @@
-use Rattle.ksm_pages.proofs.Names.{ap, Held, option_map, Row, true≢false, ◌∙◌}
+use Rattle.ksm_pages.proofs.Names.{ap, option_map, Row, true≢false}
 use Rattle.ksm_pages.proofs.Leaving.{known_there, row_seen}
 use Rattle.ksm_pages.proofs.pages.Pages.bytes.Goals as goal
 
@@ -7,4 +7,4 @@ unreachable-requires c = true≢false (known_there c.self.inside c.args.self.now
 
 pub returns : goal.returns
 returns c =
-    ap (option_map (λ (r : Row). r.bytes)) (row_seen c.self.inside c.args.self.now c.self.view_is c.args.spot.page ∙ ap (option_map (λ (h : Held). h.row)) c.in-Some.ensures)
+    ap (option_map (λ (r : Row). r.bytes)) (row_seen c.self.inside c.args.self.now c.self.view_is c.args.spot.page c.in-Some.ensures)

@@ -11,6 +11,3 @@ returns-in_err-spot c =
     none_of (row_at page c.args.self.now.rows)
     (sym (c.in_err-spot.ensures.known ∙ row_known page c.self.inside.rows.held ∙ ap (λ (v : PagesValue). is_some (row_at page v.rows)) c.self.view_is)) in
     subst (λ o. MatchOption o (row_at page c.args.self.now.rows ≡ None) (IsHeld (seen c.args.self.now) page)) (sym c.from_residual.ensures) gone
-
-pub returns : goal.returns
-returns c = subst (λ page. MatchOption c.told.result (row_at page c.args.self.now.rows ≡ None) (IsHeld (seen c.args.self.now) page)) c.in_ok-spot.ensures.page c.told.ensures

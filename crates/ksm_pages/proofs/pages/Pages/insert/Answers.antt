@@ -1,5 +1,7 @@
 use Rattle.ksm_pages.proofs.Names.{ap, fresh_row, Held, PagesValue, refl, row_at, RowsView, seen, Some, with_row, ◌∙◌}
-use Rattle.ksm_pages.proofs.Entering.{but_there, either_way, entered, err_then, lay_nowhere, nothing_held, ok_then}
+use Rattle.ksm_pages.proofs.Entering.{but_there, either_way, entered, lay_nowhere}
+use Rattle.std.proofs.lemmas.Result.{on_err_weaker, on_ok_weaker}
+use Rattle.ksm_pages.proofs.Changing.{nothing_held}
 use Rattle.ksm_pages.proofs.Leaving.{view_of}
 use Rattle.ksm_pages.proofs.Turning.{held_as}
 use Rattle.ksm_pages.proofs.pages.Pages.insert.Goals as goal
@@ -22,20 +24,22 @@ invariant_of-self c =
 
 pub returns-clause-added : goal.returns-clause-added
 returns-clause-added c =
-    ok_then c.insert.result c.insert.ensures.added
+    on_ok_weaker c.insert.result
     (λ put. (but_there _ (seen c.args.self.now) (with_row (fresh c).row c.args.self.now.rows) c.args.page (Some 0)
     (entered c.self.inside c.self.invariant c.self.view_is (fresh c) c.requires refl refl c.insert.new.self (held_as put)).told_as).0)
+    c.insert.ensures.added
 
 pub returns-clause-others : goal.returns-clause-others
 returns-clause-others c =
-    ok_then c.insert.result c.insert.ensures.added
+    on_ok_weaker c.insert.result
     (λ put. (but_there _ (seen c.args.self.now) (with_row (fresh c).row c.args.self.now.rows) c.args.page (Some 0)
     (entered c.self.inside c.self.invariant c.self.view_is (fresh c) c.requires refl refl c.insert.new.self (held_as put)).told_as).1)
+    c.insert.ensures.added
 
 pub returns-clause-nowhere : goal.returns-clause-nowhere
 returns-clause-nowhere c = lay_nowhere c.self.inside c.self.invariant c.self.view_is (fresh c) c.requires
 
 pub returns-clause-refused : goal.returns-clause-refused
 returns-clause-refused c =
-    err_then c.insert.result c.insert.ensures.kept
-    (λ kept. ap (λ (rows : RowsView). view_of (record c.self.inside { rows = rows })) kept ∙ c.self.view_is)
+    on_err_weaker c.insert.result
+    (λ kept. ap (λ (rows : RowsView). view_of (record c.self.inside { rows = rows })) kept ∙ c.self.view_is) c.insert.ensures.kept

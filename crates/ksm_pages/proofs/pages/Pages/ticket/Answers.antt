@@ -1,4 +1,4 @@
-use Rattle.ksm_pages.proofs.Names.{ap, Held, held_at, option_map, Own, place_of, Row, sym, ◌∙◌}
+use Rattle.ksm_pages.proofs.Names.{ap, held_at, Own, place_of, Row, sym, ◌∙◌}
 use Rattle.std.specs.Prelude.{option_and_then}
 use Rattle.ksm_tree.specs.Dups.{rows_of as dup_rows}
 use Rattle.ksm_pages.specs.declared.row.Kind.TheVariants.{Merged, Zero}
@@ -12,8 +12,7 @@ returns-in_err-spot c =
     let page = c.args.page in
     c.from_residual.ensures
     ∙ sym (ap (option_and_then (λ (r : Row). place_of r.state c.args.self.now.dups))
-    (row_seen c.self.inside c.args.self.now c.self.view_is page
-    ∙ ap (option_map (λ (h : Held). h.row)) (none_of (held_at page c.self.inside.rows.held) (sym c.in_err-spot.ensures.known))))
+    (row_seen c.self.inside c.args.self.now c.self.view_is page (none_of (held_at page c.self.inside.rows.held) (sym c.in_err-spot.ensures.known))))
 
 pub returns-in-Merged : goal.returns-in-Merged
 returns-in-Merged c =

@@ -2,13 +2,14 @@ use Rattle.ksm_pages.proofs.Names.{ap, ap₂, held_of, is_some, IsHeld, List, lo
 use Rattle.std.specs.Prelude.{MatchOption}
 use Rattle.ksm_tree.specs.Dups.{rows_of as dup_rows}
 use Rattle.ksm_pages.proofs.Lodgings.{frame_by, seat}
-use Rattle.ksm_pages.proofs.Paging.{row_gone, row_told, shared_by}
+use Rattle.ksm_pages.proofs.Changing.{row_told}
+use Rattle.ksm_pages.proofs.Paging.{shared_by}
 use Rattle.ksm_pages.proofs.pages.Pages.told.Goals as goal
 
 pub returns-in_err-entry : goal.returns-in_err-entry
 returns-in_err-entry c =
     let page = c.args.spot.page in
-    let gone : row_at page c.args.self.now.rows ≡ None = ap (λ (v : PagesValue). row_at page v.rows) (sym c.self.view_is) ∙ row_gone page c.self.inside.rows.held c.in_err-entry.ensures in
+    let gone : row_at page c.args.self.now.rows ≡ None = ap (λ (v : PagesValue). row_at page v.rows) (sym c.self.view_is) ∙ row_told page c.self.inside.rows.held c.in_err-entry.ensures in
     subst (λ o. MatchOption o (row_at page c.args.self.now.rows ≡ None) (IsHeld (seen c.args.self.now) page)) (sym c.from_residual.ensures) gone
 
 pub returns : goal.returns
@@ -21,7 +22,7 @@ returns c =
     subst (λ (v : PagesValue). IsHeld (seen v) page (record { spot = c.args.spot; home = e.home; shared = c.is_none.result; frame = c.frame_of.result })) c.self.view_is
     (record {
       row = h.row;
-      found = row_told page s.rows.held h c.in_ok-entry.ensures;
+      found = row_told page s.rows.held c.in_ok-entry.ensures;
       spot = refl;
       home = refl;
       shared = shared_by c.is_none.result e.kind e.number s.rows.pass e.at (sym c.is_none.ensures ∙ ap is_some c.own_frame.ensures);

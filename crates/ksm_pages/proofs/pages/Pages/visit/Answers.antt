@@ -1,4 +1,5 @@
-use Rattle.ksm_pages.proofs.Names.{Err, Ok, OnErr, Result, sym, ◌∙◌}
+use Rattle.ksm_pages.proofs.Names.{sym, ◌∙◌}
+use Rattle.ksm_tree.proofs.Numbers.{on_err}
 use Rattle.ksm_pages.proofs.Visiting.{asked, finds_changed, finds_dup, finds_gone, finds_none, finds_partner, finds_waits, finds_zero, is_alone, is_seen_restless, lawful_waits}
 use Rattle.ksm_pages.proofs.pages.Pages.visit.Goals as goal
 
@@ -58,11 +59,6 @@ returns-clause-found c =
     c.in_default-best_of.ensures c.if-not-entry.false
     (sym c.if-is_for_zero.ensures) c.meet-other.ensures.met c.meet-other.ensures.again (sym c.if-eq.ensures)
 
--- what holds holds where a call is refused
-refused : {T E P : Type 0} (r : Result T E) → P → OnErr r P
-refused (Ok x) holds = tt
-refused (Err e) holds = holds
-
 pub returns-in_err-group-clause-restless : goal.returns-in_err-group-clause-restless
 returns-in_err-group-clause-restless c =
-    refused c.from_residual.result (is_seen_restless c.self.inside c.self.view_is c.args.spot.page c.in-Some.entry.now c.in-Some.ensures (sym c.if-not-is_restless.ensures))
+    on_err c.from_residual.result (is_seen_restless c.self.inside c.self.view_is c.args.spot.page c.in-Some.entry.now c.in-Some.ensures (sym c.if-not-is_restless.ensures))

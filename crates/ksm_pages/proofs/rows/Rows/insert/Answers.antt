@@ -7,11 +7,6 @@ use Rattle.ksm_pages.proofs.rows.Rows.insert.Goals as goal
 pub insert-requires : goal.insert-requires
 insert-requires c = record { absent = no_name c.self.inside c.self.invariant c.args.page c.args.self.now c.self.view_is c.requires.absent }
 
-pub invariant_of-self-in_err-insert : goal.invariant_of-self-in_err-insert
-invariant_of-self-in_err-insert c =
-    let s = c.self.inside in
-    subst (λ order. IsRows c.reserve.new.self order s.restless s.tally s.pass) (sym c.in_err-insert.ensures.kept) (with_room s c.self.invariant c.reserve.new.self c.reserve.ensures.rest_kept)
-
 pub invariant_of-self-2 : goal.invariant_of-self-2
 invariant_of-self-2 c =
     let s = c.self.inside in

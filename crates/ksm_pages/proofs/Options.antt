@@ -1,0 +1,18 @@
+-- Options that are mapped.
+use Rattle.ksm_pages.proofs.Names.{None, none-some, Option, option_map, refl, Some, sym, ◌≡◌}
+use Rattle.std.specs.Option.{is_some}
+
+-- an option is full once it is mapped exactly where it was full
+pub some_mapped : {X Y : Type 0} (f : X → Y) (o : Option X) → is_some (option_map f o) ≡ is_some o
+some_mapped f None = refl
+some_mapped f (Some x) = refl
+
+-- an option that is empty once it is mapped was empty
+pub none_mapped : {X Y : Type 0} (f : X → Y) (o : Option X) → option_map f o ≡ None → o ≡ None
+none_mapped f None none = refl
+none_mapped f (Some x) none = absurd (none-some (f x) (sym none))
+
+-- two maps of an option, one after the other, are one map
+pub mapped_twice : {X Y Z : Type 0} (f : Y → Z) (g : X → Y) (o : Option X) → option_map f (option_map g o) ≡ option_map (λ x. f (g x)) o
+mapped_twice f g None = refl
+mapped_twice f g (Some x) = refl
