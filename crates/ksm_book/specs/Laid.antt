@@ -22,7 +22,15 @@ lying p k = record { frame = p.frame; keeper = k }
 
 -- the state of the book, by its pages, the cursor and the passes ended
 abbrev pub state_of : PagesView → Option GuestPage → ℕ → BookState
-state_of p cursor passes = record { shape = p.shape; rows = p.rows; dups = p.dups; knobs = p.knobs; cursor = cursor; passes = passes; next = p.next }
+state_of p cursor passes = record {
+  shape = p.shape;
+  rows = p.rows;
+  dups = p.dups;
+  knobs = p.knobs;
+  cursor = cursor;
+  passes = passes;
+  next = p.next;
+}
 
 -- rows and dups lie lawfully in the frames, and no more dups were made than lives were spent
 pub record IsLaid (p : PagesView) (k : KeeperView) : Type 0 where
@@ -34,15 +42,17 @@ pub record IsLaid (p : PagesView) (k : KeeperView) : Type 0 where
 -- by this change the row of a page is at home on a node, with these bytes and a frame of its own
 pub record Houses (change : Row → Row) (page : GuestPage) (node : ℕ) (bytes : List ℕ) (rows : List Row) : Type 0 where
   pub pages : (r : Row) → (change r).page ≡ r.page
-  pub row : MatchOption (row_at page rows) ⊥ (λ r. ((change r).state ≡ Private) × ((change r).home ≡ node) × ((change r).bytes ≡ bytes))
+  pub row : MatchOption (row_at page rows) ⊥
+      (λ r. ((change r).state ≡ Private) × ((change r).home ≡ node) × ((change r).bytes ≡ bytes))
 
--- a page got a frame of a node with these bytes, and its row has a frame of its own; once the row tells of home and bytes too, rows and
--- dups lie lawfully
+-- a page got a frame of a node with these bytes, and its row has a frame of its own; once the row tells of home and
+-- bytes too, rows and dups lie lawfully
 pub record Resettled (p q : PagesView) (k l : KeeperView) (page : GuestPage) (node : ℕ) (bytes : List ℕ) : Type 0 where
   pub pages : q ≡ record p { rows = change_row page on_its_own p.rows; frame = q.frame; restless = q.restless }
   pub resettles : Resettles (lying p k) (lying q l) page node bytes
   pub does : Does k l (node ∷ [])
-  pub placed : (change : Row → Row) → Houses change page node bytes p.rows → Placed p.shape p.knobs.merge_across_nodes l.ledger (change_row page change p.rows) q.frame p.dups None
+  pub placed : (change : Row → Row) → Houses change page node bytes p.rows
+      → Placed p.shape p.knobs.merge_across_nodes l.ledger (change_row page change p.rows) q.frame p.dups None
   pub spent : p.next ≤ spent l.ledger
 
 -- no frame of a node was left, and no page changed
@@ -53,7 +63,8 @@ pub record TurnedAway (p q : PagesView) (k l : KeeperView) (node : ℕ) : Type 0
   pub laid : IsLaid q l
 
 -- a dup moved to a frame of the node; or none was free; or a reader holds its frame
-abbrev pub MovesOr : {X : Type 0} → PagesView → PagesView → KeeperView → KeeperView → DupRow → ℕ → Result X Fault → Type 0
+abbrev pub MovesOr : {X : Type 0} → PagesView → PagesView → KeeperView → KeeperView → DupRow → ℕ → Result X Fault
+    → Type 0
 MovesOr p q k l dup node (Ok moved) = Moves (lying p k) (lying q l) p.rows dup node
 MovesOr p q k l dup node (Err (NoFrame n)) = TurnsAway (lying p k) (lying q l) n
 MovesOr p q k l dup node (Err InUse) = FindsHeld (lying p k) (lying q l) p.rows dup node

@@ -9,6 +9,7 @@ ghost use Rattle.frame_core.specs.Ledger.{frame_at, named_at, with_frame, IsLoos
 ghost use Rattle.frame_table.specs.Kept.{did};
 ghost use Rattle.frame_table.specs.Named.{KeeperView};
 ghost use Rattle.ksm_book.specs.Commands.{mounting};
+ghost use Rattle.ksm_book.specs.Keeping.{with_more};
 ghost use Rattle.ksm_book.specs.Steps.{Made};
 
 use crate::frame_keeper::FrameKeeper;
@@ -22,7 +23,8 @@ fn add_times(keeper: &mut FrameKeeper, table: &FrameTable, frame: u32, count: u6
     requires some { 1 ≤ (frame_at keeper.old.ledger frame).base }
     requires few { (frame_at keeper.old.ledger frame).base + count ≤ 1024 }
     ensures made { Made keeper.old keeper.new (replicate count (Add frame)) }
-    ensures ledger { keeper.new.ledger ≡ with_frame keeper.old.ledger frame (record (frame_at keeper.old.ledger frame) { base = (frame_at keeper.old.ledger frame).base + count }) }
+    ensures ledger { keeper.new.ledger ≡ with_frame keeper.old.ledger frame
+        (with_more (frame_at keeper.old.ledger frame) count) }
 {
     for done in 0..count {
         keeper.add(table, frame);
@@ -49,7 +51,8 @@ pub fn mount(
     requires some { 1 ≤ count }
     requires few { count ≤ 1024 }
     requires loose { IsLoose keeper.old.ledger (named_at keeper.old.ledger place) }
-    ensures made { Made keeper.old keeper.new (mounting left frame place count (frame_at keeper.old.ledger left).content) }
+    ensures made { Made keeper.old keeper.new
+        (mounting left frame place count (frame_at keeper.old.ledger left).content) }
     ensures published { (before : KeeperView) × (keeper.new ≡ did before (Publish place frame) 0) }
 {
     keeper.raise(table, frame);

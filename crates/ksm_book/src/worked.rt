@@ -3,11 +3,12 @@
 
 ghost use Rattle.std.specs.Prelude.{◌≡◌, [], ◌∷◌, None, Some, Ok, Err};
 ghost use Rattle.frame_core.specs.declared.event.KeeperStep.TheVariants.{Add, Sub, Publish, Withdraw};
-ghost use Rattle.ksm_base.specs.declared.command.Command.TheVariants.{Register, Store, Scan, Unmerge, MovePage, MoveDup, SetRun};
+ghost use Rattle.ksm_base.specs.declared.command.Command.TheVariants.{Register, Store, Scan, Unmerge, MovePage};
+ghost use Rattle.ksm_base.specs.declared.command.Command.TheVariants.{MoveDup, SetRun};
 ghost use Rattle.ksm_base.specs.declared.fault.Fault.TheVariants.{NoFrame};
 ghost use Rattle.ksm_base.specs.declared.reply.Reply.TheVariants.{Done, Scanned, Unmerged};
 ghost use Rattle.ksm_book.specs.Whole.{nodes_got};
-ghost use Rattle.ksm_book.specs.Worked.{apart, full, merged, page, stale, three, together};
+ghost use Rattle.ksm_book.specs.Worked.{alone, apart, full, merged, page, stale, three, together};
 ghost use Rattle.ksm_pages.specs.Paged.{lies_on, nowhere};
 ghost use Rattle.ksm_book.specs.Commands.{emptying, pruning, scanning};
 
@@ -16,15 +17,24 @@ ghost use Rattle.ksm_book.specs.Commands.{emptying, pruning, scanning};
 /// step.
 pub fn steps_of_visits()
     ensures waits { scanning 4 three apart ≡ record { steps = []; frame = apart } }
-    ensures makes { scanning 5 three apart ≡ record { steps = Publish 0 0 ∷ Add 0 ∷ Sub 1 ∷ []; frame = lies_on (page 1) (Some 0) apart } }
-    ensures joins { scanning 6 three apart ≡ record { steps = Publish 0 0 ∷ Add 0 ∷ Sub 1 ∷ Add 0 ∷ Sub 4 ∷ []; frame = together } }
+    ensures makes { scanning 5 three apart ≡ record {
+      steps = Publish 0 0 ∷ Add 0 ∷ Sub 1 ∷ [];
+      frame = lies_on (page 1) (Some 0) apart;
+    } }
+    ensures joins { scanning 6 three apart ≡ record {
+      steps = Publish 0 0 ∷ Add 0 ∷ Sub 1 ∷ Add 0 ∷ Sub 4 ∷ [];
+      frame = together;
+    } }
     ensures stays { scanning 3 merged together ≡ record { steps = []; frame = together } }
 {}
 
 /// A page that goes leaves its frame. A stale dup that is pruned is withdrawn from its place, one with items stays.
 pub fn steps_of_leaving()
-    ensures goes { emptying together (page 1) ≡ record { steps = Sub 0 ∷ []; frame = lies_on (page 0) (Some 0) (lies_on (page 2) (Some 0) nowhere) } }
-    ensures prunes { pruning stale.rows stale.dups (lies_on (page 0) (Some 1) (lies_on (page 1) (Some 2) nowhere)) ≡ record { steps = Withdraw 0 ∷ []; frame = lies_on (page 0) (Some 1) (lies_on (page 1) (Some 2) nowhere) } }
+    ensures goes { emptying together (page 1) ≡ record {
+      steps = Sub 0 ∷ [];
+      frame = lies_on (page 0) (Some 0) (lies_on (page 2) (Some 0) nowhere);
+    } }
+    ensures prunes { pruning stale.rows stale.dups alone ≡ record { steps = Withdraw 0 ∷ []; frame = alone } }
     ensures keeps { pruning merged.rows merged.dups together ≡ record { steps = []; frame = together } }
 {}
 
