@@ -14,7 +14,7 @@ use Rattle.ksm_base.specs.State.{BookState}
 use Rattle.ksm_rmap.specs.Items.{AreAscending, has_item}
 use Rattle.ksm_book.specs.Commands.{Deed, Performs, row_visiting, then_doing}
 use Rattle.ksm_book.specs.Whole.{BookValue, BookView, mapped, view_of}
-use Rattle.ksm_book.specs.Folded.{IsStill, begun, pages_ahead, restless_at, visits_beside}
+use Rattle.ksm_book.specs.Folded.{IsStill, begun, pages_ahead, pages_visited, restless_at, visits_beside}
 use Rattle.ksm_pages.specs.declared.ahead.Ahead.{Ahead}
 use Rattle.ksm_pages.specs.declared.ahead.Ahead.TheVariants.{At, End}
 use Rattle.ksm_book.specs.declared.visiting.Visited.{Visited}
@@ -57,6 +57,13 @@ IsForZero b r = HasStayed b true r
 -- it is to make a dup with this page
 abbrev pub MeetsPage : BookState → GuestPage → Row → Type 0
 MeetsPage b page r = HasStayed b false r × MatchOption (partner b.knobs b.rows r) (true ≡ false) (λ w. page ≡ w.page)
+
+-- these visits were made
+pub record HasVisited (old new : BookValue) (visits : BookState × Deed → BookState × Deed) (quiet : Bool) : Type 0 where
+  -- whatever was reached before, what they make of it is reached then
+  pub comes : Comes old new visits
+  -- where they are told to be quiet they change nothing but which rows wait
+  pub still : quiet ≡ true → StaysStill old visits
 
 -- the row of a page was visited
 abbrev pub VisitsPage : BookView → BookView → GuestPage → Type 0
@@ -125,9 +132,42 @@ is_over Changed = false
 is_over Shared = true
 is_over Gone = true
 
+-- the visits of the listed pages from one index up to another stopped at an index
+pub record StopsAt (old new : BookValue) (first end at : ℕ) : Type 0 where
+  -- it lies between the two
+  pub low : first ≤ at
+  pub high : at < end
+  -- the listed pages before it were visited
+  pub comes : Comes old new (λ s. pages_visited doing s (from_to first at old.restless.pages))
+  -- its page is one that a visit may change
+  pub restless : (page : GuestPage) → slice_get old.restless.pages at ≡ Some page
+      → restless_at page new.state.rows ≡ true
+
+-- the visits of the pages ahead up to the last one, or of all of them, stopped before a page
+pub record StopsBefore (old new : BookValue) (last : Option GuestPage) (page : GuestPage) : Type 0 where
+  -- it is one of them
+  pub within : up_to last page ≡ true
+  pub ahead : has_item page (pages_ahead old.state) ≡ true
+  -- those before it were visited
+  pub comes : Comes old new (λ s. pages_visited doing s (ahead_before page s.0))
+
+-- so many visits were made
+pub record GoesOn (old new : BookValue) (most made : ℕ) : Type 0 where
+  -- one at least, and no more than were wanted
+  pub some : 1 ≤ made
+  pub fit : made ≤ most
+  -- they did what the definitions say
+  pub comes : Comes old new (visits_beside doing made)
+
+-- memory stopped the visits once so many were made
+pub record StopsShort (old new : BookValue) (most made : ℕ) : Type 0 where
+  -- fewer than were wanted
+  pub fewer : made < most
+  -- and one more had begun
+  pub comes : Comes old new (λ s. begun (visits_beside doing made s))
+
 -- what a scan of so many visits replies: all were made; or memory stopped it as one more had begun
 abbrev pub HasScanned : BookValue → BookValue → ℕ → Reply → Type 0
 HasScanned old new count (Scanned made None) = (made ≡ count) × Comes old new (visits_beside doing made)
-HasScanned old new count (Scanned made (Some fault)) =
-    (fault ≡ Memory) × (made < count) × Comes old new (λ s. begun (visits_beside doing made s))
+HasScanned old new count (Scanned made (Some fault)) = (fault ≡ Memory) × StopsShort old new count made
 HasScanned old new count _ = ⊥

@@ -11,13 +11,11 @@ ghost use Rattle.ksm_base.specs.declared.page.GuestPage.{GuestPage};
 ghost use Rattle.ksm_base.specs.Rows.{InPageOrder};
 ghost use Rattle.ksm_base.specs.State.{with_none_waiting};
 ghost use Rattle.ksm_base.specs.Visit.{after_cursor, pass_begun, pass_ended_at_last};
-ghost use Rattle.ksm_rmap.specs.Items.{has_item};
 ghost use Rattle.ksm_book.specs.Carried.{CarriedOut};
-ghost use Rattle.ksm_book.specs.Folded.{begun, last_of, mergeable_pages, pages_ahead};
-ghost use Rattle.ksm_book.specs.Folded.{pages_visited, restless_at, visits_beside};
-ghost use Rattle.ksm_book.specs.Scanned.{Comes, EndsAt, HasScanned, ListsAll, StaysStill, ahead_before, ahead_up_to};
-ghost use Rattle.ksm_book.specs.Scanned.{doing, from_to, is_nowhere, is_over, is_quiet, last_visited};
-ghost use Rattle.ksm_book.specs.Scanned.{passes_ended, up_to};
+ghost use Rattle.ksm_book.specs.Folded.{begun, last_of, mergeable_pages, pages_ahead, pages_visited};
+ghost use Rattle.ksm_book.specs.Scanned.{Comes, EndsAt, GoesOn, HasScanned, HasVisited, ListsAll, StopsAt, StopsBefore};
+ghost use Rattle.ksm_book.specs.Scanned.{StopsShort, ahead_before, ahead_up_to, doing, from_to, is_nowhere, is_over};
+ghost use Rattle.ksm_book.specs.Scanned.{is_quiet, last_visited, passes_ended, up_to};
 ghost use Rattle.ksm_book.specs.Whole.{view_of};
 
 use crate::state::State;
@@ -178,16 +176,10 @@ impl State {
         requires own { self.old.keeper.table ≡ table.now }
         requires within { end ≤ length self.old.restless.pages }
         ensures own { self.new.keeper.table ≡ self.old.keeper.table }
-        ensures comes { OnOk result (Comes self.old self.new
-            (λ s. pages_visited doing s (from_to first end self.old.restless.pages))) }
-        ensures quiet { IfOk result (λ made. made.quiet ≡ true
-            → StaysStill self.old (λ s. pages_visited doing s (from_to first end self.old.restless.pages))) }
         ensures restless { self.new.restless ≡ self.old.restless }
-        ensures refused { IfErr result (λ at. (first ≤ at) × (at < end)) }
-        ensures refused_comes { IfErr result (λ at. Comes self.old self.new
-            (λ s. pages_visited doing s (from_to first at self.old.restless.pages))) }
-        ensures refused_page { IfErr result (λ at. (page : GuestPage) → slice_get self.old.restless.pages at ≡ Some page
-            → restless_at page self.new.state.rows ≡ true) }
+        ensures visited { IfOk result (λ made. HasVisited self.old self.new
+            (λ s. pages_visited doing s (from_to first end self.old.restless.pages)) made.quiet) }
+        ensures stopped { IfErr result (λ at. StopsAt self.old self.new first end at) }
     {
         let mut made = Made {
             quiet: true,
@@ -216,15 +208,10 @@ impl State {
         requires own { self.old.keeper.table ≡ table.now }
         requires known { self.old.restless.known ≡ true }
         ensures own { self.new.keeper.table ≡ self.old.keeper.table }
-        ensures comes { OnOk result (Comes self.old self.new
-            (λ s. pages_visited doing s (ahead_up_to last s.0))) }
-        ensures quiet { IfOk result (λ quiet. quiet ≡ true
-            → StaysStill self.old (λ s. pages_visited doing s (ahead_up_to last s.0))) }
         ensures known { self.new.restless.known ≡ true }
-        ensures refused_page { IfErr result
-            (λ page. (up_to last page ≡ true) × (has_item page (pages_ahead self.old.state) ≡ true)) }
-        ensures refused_comes { IfErr result (λ page. Comes self.old self.new
-            (λ s. pages_visited doing s (ahead_before page s.0))) }
+        ensures visited { IfOk result (λ quiet. HasVisited self.old self.new
+            (λ s. pages_visited doing s (ahead_up_to last s.0)) quiet) }
+        ensures stopped { IfErr result (λ page. StopsBefore self.old self.new last page) }
     {
         self.lies_in_order();
         let first = self.listed_up_to(self.cursor());
@@ -291,11 +278,8 @@ impl State {
         requires known { self.old.restless.known ≡ true }
         ensures own { self.new.keeper.table ≡ self.old.keeper.table }
         ensures known { self.new.restless.known ≡ true }
-        ensures some { IfOk result (λ v. 1 ≤ v) }
-        ensures most { IfOk result (λ v. v ≤ most) }
-        ensures comes { IfOk result (λ v. Comes self.old self.new (visits_beside doing v)) }
-        ensures fewer { IfErr result (λ v. v < most) }
-        ensures stopped { IfErr result (λ v. Comes self.old self.new (λ s. begun (visits_beside doing v s))) }
+        ensures made { IfOk result (λ made. GoesOn self.old self.new most made) }
+        ensures stopped { IfErr result (λ made. StopsShort self.old self.new most made) }
     {
         self.lies_in_order();
         let ahead = self.begin(most);

@@ -38,17 +38,22 @@ pub fn steps_of_leaving()
     ensures keeps { pruning merged.rows merged.dups together ≡ record { steps = []; frame = together } }
 {}
 
-/// A frame is got on the node where it is needed: a new page's, the home of a page that leaves its dup, the node moved
-/// to. None is where the page has one of its own, or stays at its home, or the command is refused.
-pub fn nodes_of_frames()
+/// A page gets a frame on the node where it needs one: a new page's, its home where it leaves its dup, the node that it
+/// moves to. It gets none where it has one of its own, or stays at its home, or the command is refused.
+pub fn nodes_of_a_page()
     ensures registered { nodes_got merged (Ok Done) (Register (page 3) 1 (full 0xbb)) ≡ 1 ∷ [] }
     ensures copied { nodes_got merged (Ok Done) (Store (page 2) (full 0xbb)) ≡ 1 ∷ [] }
     ensures in_place { nodes_got three (Ok Done) (Store (page 2) (full 0xbb)) ≡ [] }
     ensures moved { nodes_got merged (Ok Done) (MovePage (page 2) 0) ≡ 0 ∷ [] }
     ensures at_home { nodes_got merged (Ok Done) (MovePage (page 2) 1) ≡ [] }
-    ensures dup_moved { nodes_got merged (Ok Done) (MoveDup 0 1) ≡ 1 ∷ [] }
+    ensures refused { nodes_got merged (Err (NoFrame 1)) (Store (page 2) (full 0xbb)) ≡ [] }
+{}
+
+/// A dup that moves gets a frame on its new node. Pages that leave their dups get one each on their homes, up to the one
+/// that finds none. A scan gets none.
+pub fn nodes_of_dups()
+    ensures moved { nodes_got merged (Ok Done) (MoveDup 0 1) ≡ 1 ∷ [] }
     ensures unmerged { nodes_got merged (Ok (Unmerged 3 None)) (Unmerge 0) ≡ 0 ∷ 0 ∷ 1 ∷ [] }
     ensures stopped { nodes_got merged (Ok (Unmerged 1 (Some (NoFrame 0)))) (SetRun 2) ≡ 0 ∷ [] }
     ensures scanned { nodes_got three (Ok (Scanned 6 None)) (Scan 6) ≡ [] }
-    ensures refused { nodes_got merged (Err (NoFrame 1)) (Store (page 2) (full 0xbb)) ≡ [] }
 {}
