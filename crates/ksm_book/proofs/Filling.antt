@@ -159,7 +159,7 @@ module _ (v w : KeeperView) (node : ℕ) (bytes : List ℕ) (g : ℕ) (less : no
             let base = q.bases g in
             let left : (frame_at u.ledger g).generation < v.table.shape.last_generation = subst (λ (x : Kind). GenerationFits v.table.shape.last_generation x (frame_at u.ledger g).generation) free (q.lives g) in
             subst (λ (z : Ledger). Placed v.table.shape across z rows frame dups (Some g)) (sym taken_ledger)
-            (noted v.table.shape across u.ledger rows frame dups None q g (found_inside v u node g less l h.finds) own (Some g) (record {
+            (noted q g (found_inside v u node g less l h.finds) own (Some g) (record {
               wide = long;
               lived = (omega arith, omega (arith, left));
               base = omega (arith, one, none, base);

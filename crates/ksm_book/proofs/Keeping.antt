@@ -76,9 +76,9 @@ spent_kept k g fr le = by k.frames g le
 -- ---------------------------------------------------------------- a reference goes
 
 -- a frame in hand is one of the table, and has a reference
-pub held_inside : (sh : Shape) (across : ℕ) (k : Ledger) (rows : List Row) (frame : Frames) (dups : List DupRow) (g : ℕ) → Placed sh across k rows frame dups (Some g)
+pub held_inside : {sh : Shape} {across : ℕ} {k : Ledger} {rows : List Row} {frame : Frames} {dups : List DupRow} {g : ℕ} → Placed sh across k rows frame dups (Some g)
     → (g < frames_of sh) × (1 ≤ (frame_at k g).base)
-held_inside sh across k rows frame dups g p =
+held_inside {k = k} {g = g} p =
     let one = one_same g (Some g) refl in
     let base = p.bases g in
     let long = p.frames_long in
@@ -91,24 +91,24 @@ held_inside sh across k rows frame dups g p =
     )
 
 -- the frame in hand, if there is one, may be left
-pub may_leave : (v : KeeperView) (sh : Shape) → v.table.shape ≡ sh → (across : ℕ) (rows : List Row) (frame : Frames) (dups : List DupRow) (o : Option ℕ)
+pub may_leave : (v : KeeperView) {sh : Shape} → v.table.shape ≡ sh → {across : ℕ} {rows : List Row} {frame : Frames} {dups : List DupRow} (o : Option ℕ)
     → Placed sh across v.ledger rows frame dups o → IfSome o (λ f. May v (Sub f))
-may_leave v sh same across rows frame dups None p = tt
-may_leave v sh same across rows frame dups (Some g) p =
-    let held = held_inside sh across v.ledger rows frame dups g p in
+may_leave v same None p = tt
+may_leave v same (Some g) p =
+    let held = held_inside p in
     (subst (λ (s : Shape). g < frames_of s) (sym same) held.0, held.1)
 
 -- what was in hand was given back: rows and dups lie lawfully
-pub left_placed : (v w : KeeperView) (o : Option ℕ) → Made v w (leaving o) → (sh : Shape) (across : ℕ) (rows : List Row) (frame : Frames) (dups : List DupRow)
+pub left_placed : (v w : KeeperView) (o : Option ℕ) → Made v w (leaving o) → {sh : Shape} {across : ℕ} {rows : List Row} {frame : Frames} {dups : List DupRow}
     → Placed sh across v.ledger rows frame dups o → Placed sh across w.ledger rows frame dups None
-left_placed v w None m sh across rows frame dups p = subst (λ (z : KeeperView). Placed sh across z.ledger rows frame dups None) (sym (none_made v w m)) p
-left_placed v w (Some g) m sh across rows frame dups p =
+left_placed v w None m {sh} {across} {rows} {frame} {dups} p = subst (λ (z : KeeperView). Placed sh across z.ledger rows frame dups None) (sym (none_made v w m)) p
+left_placed v w (Some g) m {sh} {across} {rows} {frame} {dups} p =
     let old : Note = frame_at v.ledger g in
-    let in_hand = held_inside sh across v.ledger rows frame dups g p in
+    let in_hand = held_inside p in
     let one = one_same g (Some g) refl in
     let base = p.bases g in
     subst (λ (z : KeeperView). Placed sh across z.ledger rows frame dups None) (sym (step_made v w (Sub g) m).1)
-    (noted sh across v.ledger rows frame dups (Some g) p g in_hand.0 (lowered old) None (record {
+    (noted p g in_hand.0 (lowered old) None (record {
       wide = p.widths g;
       lived = lived_taken sh.last_generation old.generation old.base old.kind (old.base == 1) in_hand.1 (p.kinds g) (p.lives g);
       base = omega (arith, one, base);
@@ -129,15 +129,15 @@ left_spends v w (Some g) m =
 -- ---------------------------------------------------------------- a reference comes
 
 -- a reference came on a stable frame, and is in hand: rows and dups lie lawfully
-pub added_placed : (v w : KeeperView) (g : ℕ) → Made v w (Add g ∷ []) → (frame_at v.ledger g).kind ≡ Stable → (sh : Shape) (across : ℕ) (rows : List Row) (frame : Frames) (dups : List DupRow)
+pub added_placed : (v w : KeeperView) (g : ℕ) → Made v w (Add g ∷ []) → (frame_at v.ledger g).kind ≡ Stable → {sh : Shape} {across : ℕ} {rows : List Row} {frame : Frames} {dups : List DupRow}
     → g < frames_of sh → Placed sh across v.ledger rows frame dups None → Placed sh across w.ledger rows frame dups (Some g)
-added_placed v w g m stable sh across rows frame dups inside p =
+added_placed v w g m stable {sh} {across} {rows} {frame} {dups} inside p =
     let old : Note = frame_at v.ledger g in
     let one = one_same g (Some g) refl in
     let base : old.base ≡ uses g frame rows + 0 = p.bases g in
     let some : 1 ≤ old.base + 1 = omega arith in
     subst (λ (z : KeeperView). Placed sh across z.ledger rows frame dups (Some g)) (sym (step_made v w (Add g) m).1)
-    (noted sh across v.ledger rows frame dups None p g inside (added old) (Some g) (record {
+    (noted p g inside (added old) (Some g) (record {
       wide = p.widths g;
       lived = p.lives g;
       base = omega (arith, one, base);
@@ -192,7 +192,7 @@ module _ (sh : Shape) (k : Ledger) (g found : ℕ) where
     | true ↦
         let base = p.bases g in
         let none = left.1 in
-        noted sh across k rows frame dups hand p g left.0 (reaped sh.last_generation old) hand (record {
+        noted p g left.0 (reaped sh.last_generation old) hand (record {
           wide = p.widths g;
           lived = lived_reaped sh.last_generation old.generation old.kind (old.generation == sh.last_generation) refl (p.lives g);
           base = omega (arith, base, none);

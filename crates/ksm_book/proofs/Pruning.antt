@@ -163,7 +163,7 @@ module _ (p q : PagesView) (k l : KeeperView) (count : ℕ) (h : Drops p q k l c
 
   -- the place of the first stale dup names no frame that is Stable in the life named
   pub drop_loose : IsLoose l.ledger (named_at l.ledger place)
-  drop_loose = vacant_loose q.shape q.knobs.merge_across_nodes l.ledger q.rows q.frame q.dups place h.laid.placed drop_vacant
+  drop_loose = vacant_loose place h.laid.placed drop_vacant
 
   -- once the first stale dup goes, one dup less is stale
   pub drop_fewer : count_by (is_stale p.rows) (filter (elsewhere place) q.dups) + 1 ≡ count_by (is_stale p.rows) q.dups

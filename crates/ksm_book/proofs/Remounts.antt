@@ -100,7 +100,7 @@ module _ {v : PagesView} {k : KeeperView} {dup : DupRow} {node g : ℕ} (at : Le
 
   module _ {w : KeeperView} {f : ℕ} (to : Finds k w node f) where
     abbrev p : Placed sh across w.ledger v.rows v.frame dups None
-    p = kept sh across k v.rows v.frame dups None at.may.laid.same w None
+    p = kept k at.may.laid.same w None
         (λ a rows frame ds. searched_placed k w node (subst (λ (x : Shape). node < x.nodes) (sym at.may.laid.same) at.may.exists) to.reaped a
         rows frame ds None) at.may.laid.placed
 
@@ -114,7 +114,7 @@ module _ {v : PagesView} {k : KeeperView} {dup : DupRow} {node g : ℕ} (at : Le
     n = frame_at w.ledger g
 
     fits : Serves sh w.ledger dups item g
-    fits = subst (IsServed sh w.ledger dups item) item_lies (served_at sh across w.ledger v.rows v.frame dups None p item.page item
+    fits = subst (IsServed sh w.ledger dups item) item_lies (served_at p item.page item
         (find_all by_item (λ r. row_at r.page v.rows ≡ Some r) v.rows item first.1 (each_at_page v.rows at.may.sound.2.rows_rise)))
 
     on_frame : (g ≡ place_frame w.ledger dup.place) × IsInLife w.ledger dup.place
@@ -128,7 +128,7 @@ module _ {v : PagesView} {k : KeeperView} {dup : DupRow} {node g : ℕ} (at : Le
     on_it i r lt = ap (λ x. is_frame x (v.frame (get_or v.rows i r).page)) on_frame.0
         ∙ find_all test (λ d. IsInLife w.ledger d.place → is_frame (place_frame w.ledger d.place)
         (v.frame (get_or v.rows i r).page) ≡ merged_into d.number (get_or v.rows i r).state) dups dup at.may.live
-        (λ m d less. λ life. lies_as_item sh across w.ledger v.rows v.frame dups p m d less life i r lt) on_frame.1
+        (λ m d less. λ life. lies_as_item p m d less life i r lt) on_frame.1
 
     -- so they go from there
     items_go : (f' : ℕ) → items_on dup.number f' v.rows v.frame ≡ instead g f' v.frame
@@ -151,7 +151,7 @@ module _ {v : PagesView} {k : KeeperView} {dup : DupRow} {node g : ℕ} (at : Le
     base = ap (λ x. (frame_at w.ledger x).base) on_frame.0
         ∙ find_all test (λ d. IsInLife w.ledger d.place → (frame_at w.ledger (place_frame w.ledger d.place)).base ≡ item_count v.rows d)
         dups dup at.may.live
-        (λ i d lt. base_is_items sh across w.ledger v.rows v.frame dups p i d lt) on_frame.1
+        (λ i d lt. base_is_items p i d lt) on_frame.1
 
     bytes : n.content ≡ dup.bytes
     bytes = ap (λ x. (frame_at w.ledger x).content) on_frame.0
@@ -343,7 +343,7 @@ module _ {v : PagesView} {k : KeeperView} {dup : DupRow} {node g : ℕ} (at : Le
 
             laid_moved_dup : IsLaid q x
             laid_moved_dup =
-                let there = remounted sh across w.ledger v.rows v.frame dups p index.0 dup index.1 f inside lowest.free
+                let there = remounted p index.0 dup index.1 f inside lowest.free
                 (subst (λ (y : DupRow). IsInLife w.ledger y.place) (sym m_is) on_frame.1)
                 (ap (λ y. (frame_at w.ledger y).kind) (sym left_is) ∙ stable)
                 (λ z. on_node node sh.frames_per_node f lowest.low lowest.high ∙ at.may.home z

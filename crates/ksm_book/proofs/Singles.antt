@@ -78,7 +78,7 @@ alone_now rows page row found alone = subst (λ o. MatchOption o (true ≡ false
 pub may_read : (p : PagesView) (k : KeeperView) → IsLaid p k → (page : GuestPage) (row : Row) → row_at page p.rows ≡ Some row → (g : ℕ) → p.frame page ≡ Some g
     → (g < frames_of k.table.shape) × IsReadable (frame_at k.ledger g).kind × (length (frame_at k.ledger g).content ≡ PAGE_WORDS) × ((frame_at k.ledger g).content ≡ row.bytes)
 may_read p k h page row found g lies =
-    let served : IsServed p.shape k.ledger p.dups row (Some g) = subst (IsServed p.shape k.ledger p.dups row) lies (served_at p.shape p.knobs.merge_across_nodes k.ledger p.rows p.frame p.dups None h.placed page row found) in
+    let served : IsServed p.shape k.ledger p.dups row (Some g) = subst (IsServed p.shape k.ledger p.dups row) lies (served_at h.placed page row found) in
     (subst (λ (s : Shape). g < frames_of s) (sym h.same) served.0.frame, readable (frame_at k.ledger g).kind row.state served.0.mapped served.0.kind, h.placed.widths g, served.0.content)
 
 -- what is true anyway is true of each error of a result
@@ -107,7 +107,7 @@ private_resettled rows page row found now made =
 pub own_ready : (p : PagesView) (k : KeeperView) → IsLaid p k → (page : GuestPage) (row : Row) → row_at page p.rows ≡ Some row → shared_state row.state ≡ false → (g : ℕ) → p.frame page ≡ Some g
     → (g < frames_of k.table.shape) × (g < length k.ledger.frames) × IsWritable (frame_at k.ledger g).kind × (length (frame_at k.ledger g).content ≡ PAGE_WORDS)
 own_ready p k h page row found alone g lies =
-    let served : IsServed p.shape k.ledger p.dups row (Some g) = subst (IsServed p.shape k.ledger p.dups row) lies (served_at p.shape p.knobs.merge_across_nodes k.ledger p.rows p.frame p.dups None h.placed page row found) in
+    let served : IsServed p.shape k.ledger p.dups row (Some g) = subst (IsServed p.shape k.ledger p.dups row) lies (served_at h.placed page row found) in
     let inside = served.0.frame in
     let long : length k.ledger.frames ≡ frames_of p.shape = h.placed.frames_long in
     (subst (λ (s : Shape). g < frames_of s) (sym h.same) inside, omega (arith, inside, long), subst IsWritable (sym (served.0.kind ∙ own_kind row.state alone)) tt, h.placed.widths g)
@@ -230,12 +230,12 @@ module _ (p : PagesView) (k : KeeperView) (cursor : Option GuestPage) (passes : 
 
 module _ (p : PagesView) (k : KeeperView) (cursor : Option GuestPage) (passes : ℕ) (page : GuestPage) (row : Row) (rise : InPageOrder p.rows) (found : row_at page p.rows ≡ Some row) (h : IsLaid p k) (left : Option ℕ) (was : left ≡ p.frame page) where
   gone_hand : Placed p.shape p.knobs.merge_across_nodes k.ledger (without_page page p.rows) (lies_on page None p.frame) p.dups (p.frame page)
-  gone_hand = removed p.shape p.knobs.merge_across_nodes k.ledger p.rows p.frame p.dups page row rise found h.placed
+  gone_hand = removed page row rise found h.placed
 
   -- the frame of a page that goes, if it has one, may be left
   pub drop_may : IfSome left (λ f. May k (Sub f))
   drop_may = subst (λ o. IfSome o (λ f. May k (Sub f))) (sym was)
-      (may_leave k p.shape h.same p.knobs.merge_across_nodes (without_page page p.rows) (lies_on page None p.frame) p.dups (p.frame page) gone_hand)
+      (may_leave k h.same (p.frame page) gone_hand)
 
   -- `Drop` is carried out, and all lies lawfully, where the page has left its frame and its row is gone
   pub drop_gone : (q : PagesView) (l : KeeperView) → q ≡ record p { rows = without_page page p.rows; frame = lies_on page None p.frame; restless = q.restless } → Made k l (leaving left)
@@ -252,7 +252,7 @@ module _ (p : PagesView) (k : KeeperView) (cursor : Option GuestPage) (passes : 
           shown = tt;
         },
         subst (λ (x : PagesView). IsLaid x l) (sym goes) (laid_rows p k h (without_page page p.rows) (lies_on page None p.frame) q.restless l table (left_spends k l (p.frame page) leaves)
-            (left_placed k l (p.frame page) leaves p.shape p.knobs.merge_across_nodes (without_page page p.rows) (lies_on page None p.frame) p.dups gone_hand)),
+            (left_placed k l (p.frame page) leaves gone_hand)),
       )
 
 -- ---------------------------------------------------------------- a page that comes
@@ -311,7 +311,7 @@ module _ (p m : PagesView) (k l : KeeperView) (cursor : Option GuestPage) (passe
   pub register_come : (q : PagesView) (g : ℕ) → q ≡ record m { rows = change_row page on_its_own m.rows; frame = lies_on page (Some g) m.frame; restless = q.restless } → length bytes ≡ PAGE_WORDS → Provides k l node bytes g
       → CarriedOut (book p k cursor passes) (book q l cursor passes) (Register page node bytes) (Ok Done) × IsLaid q l
   register_come q g goes long provides =
-      let taken = took k l node bytes g (subst (λ (x : Shape). node < x.nodes) (sym h.same) less) (lawful p.shape p.knobs.merge_across_nodes k p.rows p.frame p.dups None h.same h.placed) long provides in
+      let taken = took k l node bytes g (subst (λ (x : Shape). node < x.nodes) (sym h.same) less) (lawful k h.same h.placed) long provides in
       let table = taken.does.1.table in
       let one = row_of_page page (with_row fresh p.rows) fresh (ordered_with fresh p.rows rise) found_fresh in
       let rows : change_row page on_its_own (with_row fresh p.rows) ≡ with_row fresh p.rows = change_still page on_its_own (with_row fresh p.rows) (λ i x lt of_page. subst (λ r. on_its_own r ≡ r) (sym (one i x lt of_page)) refl) in
@@ -327,7 +327,7 @@ module _ (p m : PagesView) (k l : KeeperView) (cursor : Option GuestPage) (passe
           shown = tt;
         },
         subst (λ (x : PagesView). IsLaid x l) (sym there) (laid_rows p k h (with_row fresh p.rows) (lies_on page (Some g) p.frame) q.restless l table taken.spent
-            (come_there p.shape p.knobs.merge_across_nodes k l p.rows p.frame p.dups h.same node bytes g taken h.placed fresh absent refl refl refl)),
+            (come_there h.same taken h.placed fresh absent refl refl refl)),
       )
 
   -- `Register` is refused, and all lies lawfully, where no frame of the node was left and the page went again

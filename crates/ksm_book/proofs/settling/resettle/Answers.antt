@@ -12,7 +12,7 @@ take_frame-requires-clause-checked c = subst IsShape (sym c.shape-shape.ensures)
 pub take_frame-requires-clause-lawful : goal.take_frame-requires-clause-lawful
 take_frame-requires-clause-lawful c =
     let p = seen c.args.pages.now in
-    lawful p.shape p.knobs.merge_across_nodes c.args.keeper.now p.rows p.frame p.dups None c.requires.laid.same c.requires.laid.placed
+    lawful c.args.keeper.now c.requires.laid.same c.requires.laid.placed
 
 pub returns-in_default-clause-turned : goal.returns-in_default-clause-turned
 returns-in_default-clause-turned c = (refl, turned (seen c.args.pages.now) c.args.keeper.now c.take_frame.new.keeper c.args.node c.requires.laid c.requires.node c.in_default.ensures)
