@@ -106,7 +106,7 @@ module _ {sh : Shape} {across : ℕ} {k : Ledger} {rows : List Row} {frame : Fra
   pub served_at : (page : GuestPage) (row : Row) → row_at page rows ≡ Some row → IsServed sh k dups row (frame page)
   served_at page row found = subst (λ q. IsServed sh k dups row (frame q)) (found_page page rows row found) (find_all (λ r. same_page r.page page) (λ r. IsServed sh k dups r (frame r.page)) rows row found p.each_row)
 
-module _ (p : PagesView) (k : KeeperView) (h : IsLaid p k) where
+module _ {p : PagesView} {k : KeeperView} (h : IsLaid p k) where
   abbrev across : ℕ
   across = p.knobs.merge_across_nodes
 
@@ -170,14 +170,14 @@ readable x Zero framed e = absurd (grind (arith, framed))
 readable x _ framed e = subst IsReadable (sym e) tt
 
 -- pages lie lawfully with other knobs, where merge_across_nodes stays as it is or there are no dups
-pub retuned : (p : PagesView) (tuned : Knobs) (k : KeeperView) → (tuned.merge_across_nodes ≡ p.knobs.merge_across_nodes) ⊎ (p.dups ≡ []) → IsLaid p k → IsLaid (record p { knobs = tuned }) k
-retuned p tuned k (inl same) h = record {
+pub retuned : {p : PagesView} (tuned : Knobs) {k : KeeperView} → (tuned.merge_across_nodes ≡ p.knobs.merge_across_nodes) ⊎ (p.dups ≡ []) → IsLaid p k → IsLaid (record p { knobs = tuned }) k
+retuned {p} tuned {k} (inl same) h = record {
   small = h.small;
   same = h.same;
   placed = subst (λ a. Placed p.shape a k.ledger p.rows p.frame p.dups None) (sym same) h.placed;
   spent = h.spent;
 }
-retuned p tuned k (inr none) h = record {
+retuned {p} tuned {k} (inr none) h = record {
   small = h.small;
   same = h.same;
   placed = (let q = h.placed in record {

@@ -29,10 +29,10 @@ pub leaves : {p : PagesView} {k : KeeperView} {dup : DupRow} {node g : ℕ} → 
 leaves may lie absent = record { may = may; lie = lie; absent = absent }
 
 -- where no frame of the node is left, the dup stays
-pub turned_away : {X : Type 0} (p : PagesView) (k l : KeeperView) (dup : DupRow) (node : ℕ) → MayMove p k dup node → FindsNone k l node
+pub turned_away : {X : Type 0} {p : PagesView} {k l : KeeperView} {dup : DupRow} {node : ℕ} → MayMove p k dup node → FindsNone k l node
     → HasRemounted {X = X} p p k l dup node (Err (NoFrame node))
-turned_away p k l dup node may none =
-    let away = turned p k l node may.laid may.exists none in
+turned_away {p = p} may none =
+    let away = turned may.laid may.exists none in
     record { rest = refl; laid = away.laid; shown = (refl, away.left); moves = away.turns }
 
 module _ {v : PagesView} {k : KeeperView} {dup : DupRow} {node g : ℕ} (at : Leaves v k dup node g) where
@@ -101,14 +101,14 @@ module _ {v : PagesView} {k : KeeperView} {dup : DupRow} {node g : ℕ} (at : Le
   module _ {w : KeeperView} {f : ℕ} (to : Finds k w node f) where
     abbrev p : Placed sh across w.ledger v.rows v.frame dups None
     p = kept k at.may.laid.same w None
-        (λ a rows frame ds. searched_placed k w node (subst (λ (x : Shape). node < x.nodes) (sym at.may.laid.same) at.may.exists) to.reaped a
+        (λ a rows frame ds. searched_placed node (subst (λ (x : Shape). node < x.nodes) (sym at.may.laid.same) at.may.exists) to.reaped a
         rows frame ds None) at.may.laid.placed
 
     table_is : w.table ≡ k.table
     table_is = ap (λ (z : KeeperView). z.table) to.reaped.after
 
     more_spent : spent k.ledger ≤ spent w.ledger
-    more_spent = searched_spends k w node to.reaped
+    more_spent = searched_spends node to.reaped
 
     abbrev n : Note
     n = frame_at w.ledger g

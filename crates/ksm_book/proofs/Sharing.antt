@@ -34,7 +34,7 @@ index_found t (y ∷ ys) x found = elim (cases_Bool (t y)) [
 ]
 
 -- a page joins the dup of an item
-module _ (p : PagesView) (k : KeeperView) (h : IsLaid p k) (rise : InPageOrder p.rows) (page : GuestPage) (row item : Row)
+module _ {p : PagesView} {k : KeeperView} (h : IsLaid p k) (rise : InPageOrder p.rows) (page : GuestPage) (row item : Row)
     (found : row_at page p.rows ≡ Some row) (found_item : row_at item.page p.rows ≡ Some item)
     (g : ℕ) (there : p.frame item.page ≡ Some g) (merged : merged_state item.state ≡ true) where
   abbrev across : ℕ
@@ -66,7 +66,7 @@ module _ (p : PagesView) (k : KeeperView) (h : IsLaid p k) (rise : InPageOrder p
     joined_hand : (w : KeeperView) → Made k w (Add g ∷ []) → Placed p.shape across w.ledger (change_row page c p.rows)
         (lies_on page (Some g) p.frame) p.dups (p.frame page)
     joined_hand w comes =
-        let q = added_placed k w g comes item_stable item_fits.0.frame h.placed in
+        let q = added_placed comes item_stable item_fits.0.frame h.placed in
         joined page row item g c rise found keeps
         (subst (IsServed p.shape w.ledger p.dups item) there
         (served_at q item.page item found_item)) state bytes
@@ -80,12 +80,12 @@ module _ (p : PagesView) (k : KeeperView) (h : IsLaid p k) (rise : InPageOrder p
     pub laid_joined : (u : KeeperView) (restless : Listing) → Made k u (Add g ∷ leaving (p.frame page))
         → IsLaid (record p { rows = change_row page c p.rows; frame = lies_on page (Some g) p.frame; restless = restless }) u
     laid_joined u restless m =
-        let parts = parts_made k u (Add g ∷ []) (leaving (p.frame page)) m in
-        let more = added_spends k parts.0 g parts.1 in
-        let more' = left_spends parts.0 u (p.frame page) parts.2 in
-        laid_rows p k h (change_row page c p.rows) (lies_on page (Some g) p.frame) restless u (ap (λ (z : KeeperView). z.table) m.after)
+        let parts = parts_made (Add g ∷ []) (leaving (p.frame page)) m in
+        let more = added_spends parts.1 in
+        let more' = left_spends (p.frame page) parts.2 in
+        laid_rows h (change_row page c p.rows) (lies_on page (Some g) p.frame) restless u (ap (λ (z : KeeperView). z.table) m.after)
         (omega (arith, more, more'))
-        (left_placed parts.0 u (p.frame page) parts.2
+        (left_placed (p.frame page) parts.2
         (joined_hand parts.0 parts.1))
 
 -- a place where no dup with items stands may be named anew, or not at all
@@ -122,7 +122,7 @@ vacant_loose {k = k} {dups = dups} place p vacant = elim (cases_Bool (list_any (
 ]
 
 -- what a vacant place names is withdrawn, and then it names nothing
-module _ (p : PagesView) (k w : KeeperView) (h : IsLaid p k) (place : ℕ) (inside : place < frames_of p.shape)
+module _ {p : PagesView} {k : KeeperView} (w : KeeperView) (h : IsLaid p k) (place : ℕ) (inside : place < frames_of p.shape)
     (vacant : IsVacant place p.rows p.dups) where
   -- what is named by a place where no dup with items stands may be withdrawn
   pub may_clear : May k (Withdraw place)
@@ -135,11 +135,11 @@ module _ (p : PagesView) (k w : KeeperView) (h : IsLaid p k) (place : ℕ) (insi
   pub cleared_ledger : Made k w (withdrawing p.dups place) → w.ledger ≡ record
       { frames = k.ledger.frames; places = set k.ledger.places place None }
   cleared_ledger m = elim (cases_Bool (list_any (λ d. d.place == place) p.dups)) [
-    | inl taken ↦ ap (λ (z : KeeperView). z.ledger) (step_made k w (Withdraw place)
+    | inl taken ↦ ap (λ (z : KeeperView). z.ledger) (step_made
         (subst (λ (b : Bool). Made k w (if b then Withdraw place ∷ [] else [])) taken m)).1
     | inr none ↦
         let empty = h.placed.empty place (has_none place p.dups none) in
-        ap (λ (z : KeeperView). z.ledger) (none_made k w (subst (λ (b : Bool). Made k w (if b then Withdraw place ∷ [] else [])) none m))
+        ap (λ (z : KeeperView). z.ledger) (none_made (subst (λ (b : Bool). Made k w (if b then Withdraw place ∷ [] else [])) none m))
         ∙ (λ t. record {
           frames = k.ledger.frames;
           places = sym
@@ -148,10 +148,10 @@ module _ (p : PagesView) (k w : KeeperView) (h : IsLaid p k) (place : ℕ) (insi
   ]
 
 -- pages lie lawfully where a place names nothing any more and the dup that stood there is gone
-pub laid_cleared : (p : PagesView) (k w : KeeperView) (place : ℕ) → IsLaid p k → place < frames_of p.shape → w.table ≡ k.table
+pub laid_cleared : {p : PagesView} {k : KeeperView} (w : KeeperView) (place : ℕ) → IsLaid p k → place < frames_of p.shape → w.table ≡ k.table
     → w.ledger ≡ record { frames = k.ledger.frames; places = set k.ledger.places place None }
     → IsLaid (record p { dups = filter (elsewhere place) p.dups }) w
-laid_cleared p k w place h inside e is = record {
+laid_cleared {p} {k} w place h inside e is = record {
   small = h.small;
   same = shape_same p.shape k w h.same e;
   placed = subst (λ (z : Ledger). Placed p.shape p.knobs.merge_across_nodes z p.rows p.frame (filter (elsewhere place) p.dups) None)
@@ -181,8 +181,8 @@ pub frames_few : (sh : Shape) → IsShape sh → frames_of sh ≤ 1024
 frames_few sh small = (let a = small.nodes_high in let b = small.frames_high in product_most sh.nodes sh.frames_per_node 4 256 a b)
 
 -- fewer than 2^50 dups were ever made, since each spent a life of a frame
-pub spent_most : (v : PagesView) (k : KeeperView) → IsLaid v k → v.next ≤ 2 ^ 50
-spent_most v k h =
+pub spent_most : {v : PagesView} {k : KeeperView} → IsLaid v k → v.next ≤ 2 ^ 50
+spent_most {v} {k} h =
     let sh : Shape = v.shape in
     let p = h.placed in
     let last : ℕ = sh.last_generation in
@@ -206,7 +206,7 @@ settled_lodges r = (refl, refl, by r.state)
     by _ = inl refl
 
 -- a new dup stands on the frame of a row, which is its first item
-module _ (p : PagesView) (k : KeeperView) (h : IsLaid p k) (rise : InPageOrder p.rows) (page : GuestPage) (row : Row) (f : ℕ)
+module _ {p : PagesView} {k : KeeperView} (h : IsLaid p k) (rise : InPageOrder p.rows) (page : GuestPage) (row : Row) (f : ℕ)
     (found : row_at page p.rows ≡ Some row) (lies : p.frame page ≡ Some f) (alone : shared_state row.state ≡ false)
     (d : DupRow) (number : d.number ≡ p.next) (inside : d.place < frames_of p.shape) (vacant : IsVacant d.place p.rows p.dups) where
   abbrev sh : Shape
@@ -231,7 +231,7 @@ module _ (p : PagesView) (k : KeeperView) (h : IsLaid p k) (rise : InPageOrder p
   -- once its place is cleared, a new dup may be published there on the frame of a row that is not shared
   pub may_found : (w : KeeperView) → Made k w (withdrawing p.dups d.place) → May w (Publish d.place f)
   may_found w m =
-      let empty = cleared_ledger p k w h d.place inside vacant m in
+      let empty = cleared_ledger w h d.place inside vacant m in
       let same = sym (ap (λ (z : KeeperView). z.table.shape) m.after ∙ h.same) in
       let long = h.placed.places_long in (
         subst (λ (s : Shape). d.place < frames_of s) same inside,
@@ -249,7 +249,7 @@ module _ (p : PagesView) (k : KeeperView) (h : IsLaid p k) (rise : InPageOrder p
       → All (λ r. merged_into p.next r.state ≡ false) p.rows
       → IsLaid (record p { rows = change_row page c p.rows; dups = with_dup d p.dups; next = p.next + 1; restless = restless }) w
   laid_found c w1 w restless keeps state same clears is bytes tree numbers fresh =
-      let empty = cleared_ledger p k w1 h d.place inside vacant clears in
+      let empty = cleared_ledger w1 h d.place inside vacant clears in
       let table = ap (λ (z : KeeperView). z.table) clears.after in
       let q : Placed sh p.knobs.merge_across_nodes cleared p.rows p.frame
       (filter (elsewhere d.place) p.dups) None = withdrawn d.place

@@ -133,8 +133,8 @@ finds_place {sh} {k = k} {rows} {frame} {dups} p rise row served alone =
             (sym (get_or-map of_dup dups n d0 f l'') ∙ same ∙ get_or-map of_dup dups m d0 f l'))
 
 -- beside each page with a frame of its own a new dup finds a place, in a sound book that lies lawfully
-pub finds_places : (p : PagesView) (k : KeeperView) (cursor : Option GuestPage) (passes : ℕ) → IsSound (state_of p cursor passes) → IsLaid p k → FindsPlace (state_of p cursor passes)
-finds_places p k cursor passes s h row in_rows alone =
+pub finds_places : {p : PagesView} {k : KeeperView} {cursor : Option GuestPage} {passes : ℕ} → IsSound (state_of p cursor passes) → IsLaid p k → FindsPlace (state_of p cursor passes)
+finds_places {p} {k} {cursor} {passes} s h row in_rows alone =
     finds_place h.placed s.dups_rise row
     (subst (λ r. IsServed p.shape k.ledger p.dups r (p.frame r.page)) in_rows.2 (h.placed.each_row in_rows.0 row in_rows.1)) alone
 

@@ -10,7 +10,7 @@ find_frame-requires-clause-checked c = subst IsShape (sym c.shape-shape.ensures)
 
 pub returns-in_default-clause-remounted : goal.returns-in_default-clause-remounted
 returns-in_default-clause-remounted c =
-    turned_away (seen c.args.pages.now) c.args.keeper.now c.find_frame.new.keeper c.args.dup c.args.node c.requires.may c.in_default.ensures
+    turned_away c.requires.may c.in_default.ensures
 
 pub freeze-requires-clause-may : goal.freeze-requires-clause-may
 freeze-requires-clause-may c =
